@@ -1,0 +1,5 @@
+pub mod Refusals
+pub mod Codes
+pub mod Names
+pub mod Padding
+pub mod Text

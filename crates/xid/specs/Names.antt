@@ -1,0 +1,24 @@
+-- What an XID is, after X/Open XA (C193), "Transaction branch identification": a format and two components.
+use Rattle.std.specs.Prelude.{ℕ, ◌<◌, ◌≤◌, ◌^◌, List, length, slice_index}
+
+-- each element is a byte
+abbrev pub IsBytes : List ℕ → Type 0
+IsBytes xs = (i : ℕ) → slice_index xs i < 256
+
+-- a gtrid or a bqual: 1 to 64 bytes
+pub record IsComponent (xs : List ℕ) : Type 0 where
+  pub some : 0 < length xs
+  pub few : length xs ≤ 64
+  pub bytes : IsBytes xs
+
+-- an XID as its parts; the code sees an `Xid` so
+pub record XidParts : Type 0 where
+  pub format : ℕ
+  pub gtrid : List ℕ
+  pub bqual : List ℕ
+
+-- the parts that an XID may have; -1, the null XID, and all else that is no format is left out
+pub record IsXid (x : XidParts) : Type 0 where
+  pub format : x.format < 2 ^ 31
+  pub gtrid : IsComponent x.gtrid
+  pub bqual : IsComponent x.bqual

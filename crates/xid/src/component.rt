@@ -1,0 +1,107 @@
+ghost use Rattle.std.specs.Prelude.{◌≡◌, ℕ, ◌≤◌, length, take, IsTrue, ◌==◌};
+ghost use Rattle.std.specs.Cmp.Lexicographic.{slice_cmp, slice_partial_cmp, pointwise};
+ghost use Rattle.std.specs.Cmp.{partial_order_from_own_ties};
+ghost use Rattle.std.specs.Cmp.Rules.{comparing, hashing};
+ghost use Rattle.std.specs.Ordering.{nat_cmp, as_partial_cmp};
+ghost use Rattle.std.specs.Hash as fed;
+ghost use Rattle.std.proofs.Common.{rules};
+
+use std::cmp::Ordering;
+use std::hash::{Hash, Hasher};
+use std::marker::Model;
+
+/// How many bytes a component may have.
+pub const MAX_COMPONENT: usize = 64;
+
+/// A gtrid or a bqual, with its bytes in place. What is past its length is zero.
+#[derive(Clone, Copy, Debug)]
+pub struct Component {
+    len: u8,
+    bytes: [u8; MAX_COMPONENT],
+}
+
+impl Model for Component {
+    ghost use Rattle.std.specs.Prelude.{List, ℕ, ◌++◌, ◌-◌, length, replicate, take};
+    ghost use Rattle.xid.specs.Padding.{Padded, padded, length-shown, padded-shown};
+
+    ghost Value = { List ℕ };
+
+    ghost view = { λ c. take c.len c.bytes };
+
+    ghost invariant = { λ c. Padded c.len c.bytes };
+
+    ghost inverse = { λ xs. record { len = length xs; bytes = padded xs } };
+
+    ghost inverse_ok = { λ c ok i. record { len = length-shown c.len c.bytes ok i; bytes = padded-shown c.len c.bytes ok i } };
+}
+
+impl Component {
+    /// The bytes as a component.
+    pub fn new(bytes: &[u8]) -> Component
+        requires { length bytes.now ≤ 64 }
+        ensures { result ≡ bytes.now }
+    {
+        let mut all = [0; MAX_COMPONENT];
+        all[..bytes.len()].copy_from_slice(bytes);
+        Component {
+            len: bytes.len() as u8,
+            bytes: all,
+        }
+    }
+
+    /// Its bytes.
+    pub fn as_bytes(&self) -> &[u8]
+        ensures bytes { result.now ≡ self.now }
+        ensures few { length self.now ≤ 64 }
+    {
+        &self.bytes[..self.len as usize]
+    }
+}
+
+impl PartialEq for Component {
+    ghost eq = { pointwise ◌==◌ };
+
+    ghost laws = { Prim.search (comparing, rules) };
+
+    fn eq(&self, other: &Component) -> bool {
+        self.as_bytes() == other.as_bytes()
+    }
+}
+
+impl Eq for Component {
+    ghost laws = { Prim.search (comparing, rules) };
+}
+
+impl Ord for Component {
+    ghost cmp = { slice_cmp nat_cmp };
+
+    ghost total = { Prim.search (comparing, rules) };
+
+    ghost matches_partial_cmp = { Prim.search (comparing, rules) };
+
+    ghost matches_eq = { Prim.search (comparing, rules) };
+
+    fn cmp(&self, other: &Component) -> Ordering {
+        self.as_bytes().cmp(other.as_bytes())
+    }
+}
+
+impl PartialOrd for Component {
+    ghost partial_cmp = { as_partial_cmp (slice_cmp nat_cmp) };
+
+    ghost laws = { partial_order_from_own_ties (Prim.search (comparing, rules)) (Prim.search (comparing, rules)) };
+
+    fn partial_cmp(&self, other: &Component) -> Option<Ordering> {
+        Some(self.cmp(other))
+    }
+}
+
+impl Hash for Component {
+    ghost hash_input = { fed.slice fed.u8 };
+
+    ghost respects_eq = { Prim.search (hashing, rules) };
+
+    fn hash<H: Hasher>(&self, state: &mut H) {
+        self.as_bytes().hash(state);
+    }
+}

@@ -1,0 +1,13 @@
+//! The names of X/Open XA: transaction branches and transactions, with one text for each, and the refusals that
+//! the whole system answers with.
+#![tactic(auto)]
+
+mod branch_id;
+mod codes;
+mod component;
+mod refusals;
+pub mod text;
+
+pub use branch_id::Xid;
+pub use codes::XaCode;
+pub use refusals::Refusal;

@@ -1,0 +1,81 @@
+//! Numbers and bytes as text. A text is read leniently and then compared with the one text of what was read, so that
+//! each value has one text.
+
+ghost use Rattle.std.specs.Prelude.{◌≡◌, ◌≢◌, ℕ, ◌+◌, ◌<◌, ◌^◌, List, ◌∷◌, ◌++◌, ◌≤◌, ◌↔◌, IsTrue, length, true, decimal, MatchOption};
+ghost use Rattle.xid.specs.Names.{IsBytes, IsComponent};
+ghost use Rattle.xid.specs.Text.{hex_text, lacks};
+
+use crate::component::{Component, MAX_COMPONENT};
+use itoa::Buffer;
+
+/// The number below 2^32 whose text this is: decimal digits, with no leading zero.
+pub fn number(text: &[u8]) -> Option<u32>
+    ensures { MatchOption result ((n : ℕ) → n < 2 ^ 32 → text.now ≢ decimal n) (λ n. text.now ≡ decimal n) }
+{
+    let Ok(digits) = str::from_utf8(text) else {
+        return None;
+    };
+    let Ok(number) = digits.parse::<u32>() else {
+        return None;
+    };
+    let mut again = Buffer::new();
+    if again.format(number).as_bytes() == text {
+        Some(number)
+    } else {
+        None
+    }
+}
+
+/// The text before the first mark, and the text after it.
+pub fn split_once(text: &[u8], mark: u8) -> Option<(&[u8], &[u8])>
+    ensures { MatchOption result (lacks mark text.now ≡ true)
+        (λ parts. (text.now ≡ parts.0.now ++ mark ∷ parts.1.now) × (lacks mark parts.0.now ≡ true)) }
+{
+    for (at, byte) in text.iter().enumerate() {
+        if *byte == mark {
+            return Some((&text[..at], &text[at + 1..]));
+        }
+    }
+    None
+}
+
+/// Whether the text is the one hex text of these bytes.
+fn is_hex_text(bytes: &[u8], text: &[u8]) -> bool
+    requires { length bytes.now ≤ 64 }
+    ensures { IsTrue result ↔ (text.now ≡ hex_text bytes.now) }
+{
+    let mut again = [0; 2 * MAX_COMPONENT];
+    let written = &mut again[..2 * bytes.len()];
+    let Ok(()) = hex::encode_to_slice(bytes, written) else {
+        unreachable!();
+    };
+    text == &written[..]
+}
+
+/// Decodes a hex text, in either case, into room of its size.
+fn decodes(text: &[u8], bytes: &mut [u8]) -> bool
+    ensures { (xs : List ℕ) → IsBytes xs → length xs ≡ length bytes.old → text.now ≡ hex_text xs
+        → IsTrue result × (bytes.new ≡ xs) }
+{
+    hex::decode_to_slice(text, bytes).is_ok()
+}
+
+/// The component whose hex text this is: 1 to 64 bytes, in lower case.
+pub(crate) fn component(text: &[u8]) -> Option<Component>
+    ensures { MatchOption result ((xs : List ℕ) → IsComponent xs → text.now ≢ hex_text xs)
+        (λ c. IsComponent c × (text.now ≡ hex_text c)) }
+{
+    let len = text.len() / 2;
+    if len == 0 || len > MAX_COMPONENT {
+        return None;
+    }
+    let mut bytes = [0; MAX_COMPONENT];
+    let shown = &mut bytes[..len];
+    if !decodes(text, shown) {
+        return None;
+    }
+    if !is_hex_text(shown, text) {
+        return None;
+    }
+    Some(Component::new(shown))
+}
