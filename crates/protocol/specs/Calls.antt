@@ -28,3 +28,8 @@ pub data Answer : Type 0 where
   -- what a recover lists
   Xids : (xids : List XidParts) → Answer
   Refused : (refusal : Refusal) → Answer
+
+-- a row of a table
+pub record Row : Type 0 where
+  pub key : List ℕ
+  pub value : List ℕ
