@@ -79,3 +79,113 @@ active_only test true None active nota proto inval d = absurd (cc)
 active_only test true (Some Active) active nota proto inval d = refl
 active_only test true (Some Idle) active nota proto inval d = absurd (cc)
 active_only test true (Some RollbackOnly) active nota proto inval d = absurd (cc)
+
+-- ---- a stretch of calls, and one more in front
+
+-- the branch that a stretch shows
+abbrev shown : List Answered → BranchView
+shown calls = record {
+  state = state_back calls;
+  touched = λ key. list_any (λ other. bytes_eq other key) (keys_touched calls);
+  count = length (distinct (keys_touched calls));
+  written = λ key. last_write (accepted_writes calls) key;
+}
+
+abbrev some_done_with : Bool → (Action → Bool) → Action → List Answered → Bool
+some_done_with done kind action calls = (kind action && done) || some_done kind calls
+
+abbrev state_from : Bool → Bool → Bool → Option BranchState
+state_from end_fail end start = if end_fail then Some RollbackOnly else if end then Some Idle else if start then Some Active else None
+
+-- the branch that a stretch shows with one more call in front, done or not
+abbrev shown_with : Bool → Action → List Answered → BranchView
+shown_with done action calls = record {
+  state = state_from (some_done_with done is_end_fail action calls) (some_done_with done is_end action calls) (some_done_with done is_start action calls);
+  touched = λ key. list_any (λ other. bytes_eq other key) (cons_option (if done then key_of action else None) (keys_touched calls));
+  count = length (distinct (cons_option (if done then key_of action else None) (keys_touched calls)));
+  written = λ key. last_write (cons_option (if done then write_of action else None) (accepted_writes calls)) key;
+}
+
+shown-cons : (call : Answered) (calls : List Answered) → shown (call ∷ calls) ≡ shown_with (was_done call) call.action calls
+shown-cons call calls = refl
+
+-- a call that was not done shows nothing
+shown_with-refused : (action : Action) (calls : List Answered) → shown_with false action calls ≡ shown calls
+shown_with-refused action calls = λ i. record {
+  state = state_from (unseen is_end_fail i) (unseen is_end i) (unseen is_start i);
+  touched = λ key. list_any (λ other. bytes_eq other key) (keys_touched calls);
+  count = length (distinct (keys_touched calls));
+  written = λ key. last_write (accepted_writes calls) key;
+}
+  where
+    unseen : (kind : Action → Bool) → some_done_with false kind action calls ≡ some_done kind calls
+    unseen kind = ap (λ (b : Bool). b || some_done kind calls) (and_right (kind action) false refl)
+
+-- the tests behind a state
+tests_none : (end_fail end start : Bool) → state_from end_fail end start ≡ None → (end_fail ≡ false) × (end ≡ false)
+tests_none true end start e = absurd (cc)
+tests_none false true start e = absurd (cc)
+tests_none false false start e = (refl, refl)
+
+tests_active : (end_fail end start : Bool) → state_from end_fail end start ≡ Some Active → end_fail ≡ false
+tests_active true end start e = absurd (cc)
+tests_active false end start e = refl
+
+-- ---- each call that is done
+
+started : (calls : List Answered) → IsPlain (shown calls) → state_back calls ≡ None → SameView (done_view (shown calls) Start) (shown_with true Start calls)
+started calls plain none =
+    let tests = tests_none (some_done is_end_fail calls) (some_done is_end calls) (some_done is_start calls) none in
+    record {
+      state = sym (ap (λ (b : Bool). state_from b (some_done is_end calls) true) tests.0 ∙ ap (λ (b : Bool). state_from false b true) tests.1);
+      touched = λ key. sym (plain.touched none key);
+      count = sym (plain.count none);
+      written = λ key. sym (plain.written none key);
+    }
+
+ended : (calls : List Answered) → state_back calls ≡ Some Active → SameView (done_view (shown calls) End) (shown_with true End calls)
+ended calls active =
+    let test = tests_active (some_done is_end_fail calls) (some_done is_end calls) (some_done is_start calls) active in
+    record { state = sym (ap (λ (b : Bool). state_from b true (some_done is_start calls)) test); touched = λ key. refl; count = refl; written = λ key. refl }
+
+ended_failed : (calls : List Answered) → SameView (done_view (shown calls) EndFail) (shown_with true EndFail calls)
+ended_failed calls = record { state = refl; touched = λ key. refl; count = refl; written = λ key. refl }
+
+-- the count goes up where the key is new
+counted : (old : Bool) (key : List ℕ) (keys : List (List ℕ)) → cond old (length keys) (length keys + 1) ≡ length (cond old keys (key ∷ keys))
+counted true key keys = refl
+counted false key keys = omega arith
+
+-- a write in front is the last of its key
+wrote : (same : Bool) (write : Write) (last : Option Write)
+    → cond same (Some write.value) (option_map (λ (w : Write). w.value) last) ≡ option_map (λ (w : Write). w.value) (cond same (Some write) last)
+wrote true write last = refl
+wrote false write last = refl
+
+either_same : {A : Type 0} (b : Bool) (x : A) → cond b x x ≡ x
+either_same true x = refl
+either_same false x = refl
+
+put_done : (calls : List Answered) (key value : List ℕ) → SameView (done_view (shown calls) (Put key value)) (shown_with true (Put key value) calls)
+put_done calls key value = record {
+  state = refl;
+  touched = λ other. refl;
+  count = counted (list_any (λ other. bytes_eq other key) (keys_touched calls)) key (distinct (keys_touched calls));
+  written = λ other. wrote (bytes_eq key other) (record { key = key; value = Some value }) (find (λ write. bytes_eq write.key other) (accepted_writes calls));
+}
+
+del_done : (calls : List Answered) (key : List ℕ) → SameView (done_view (shown calls) (Del key)) (shown_with true (Del key) calls)
+del_done calls key = record {
+  state = refl;
+  touched = λ other. refl;
+  count = counted (list_any (λ other. bytes_eq other key) (keys_touched calls)) key (distinct (keys_touched calls));
+  written = λ other. wrote (bytes_eq key other) (record { key = key; value = None }) (find (λ write. bytes_eq write.key other) (accepted_writes calls));
+}
+
+get_done : (calls : List Answered) (key : List ℕ) → SameView (done_view (shown calls) (Get key)) (shown_with true (Get key) calls)
+get_done calls key = record {
+  state = refl;
+  touched = λ other. refl;
+  count = counted (list_any (λ other. bytes_eq other key) (keys_touched calls)) key (distinct (keys_touched calls));
+  written = λ other. either_same (bytes_eq key other) (last_write (accepted_writes calls) other);
+}
