@@ -189,3 +189,83 @@ get_done calls key = record {
   count = counted (list_any (λ other. bytes_eq other key) (keys_touched calls)) key (distinct (keys_touched calls));
   written = λ other. either_same (bytes_eq key other) (last_write (accepted_writes calls) other);
 }
+
+done_shows : (rows : List Row) (calls : List Answered) (busy : Bool) (action : Action) (answer : Answer) → IsPlain (shown calls)
+    → answer ≡ answer_of rows (shown calls) busy action → is_done action answer ≡ true → is_rollback action ≡ false
+    → SameView (done_view (shown calls) action) (shown_with true action calls)
+done_shows rows calls busy Start answer plain e d r =
+    started calls plain (absent_only (state_back calls) (subst (λ (a : Answer). is_done Start a ≡ true) e d))
+done_shows rows calls busy (Put key value) answer plain e d r = put_done calls key value
+done_shows rows calls busy (Del key) answer plain e d r = del_done calls key
+done_shows rows calls busy (Get key) answer plain e d r = get_done calls key
+done_shows rows calls busy End answer plain e d r =
+    ended calls (active_only (λ a. is_done End a) true (state_back calls) (Code code.Ok) refl refl refl (subst (λ (a : Answer). is_done End a ≡ true) e d))
+done_shows rows calls busy EndFail answer plain e d r = ended_failed calls
+done_shows rows calls busy Rollback answer plain e d r = absurd (cc)
+
+-- ---- a call at a branch
+
+since_kept : (call : Answered) (calls : List Answered) → (is_rollback call.action && was_done call) ≡ false → since_rollback (call ∷ calls) ≡ call ∷ since_rollback calls
+since_kept call calls h =
+    take_while-cons (λ (call : Answered). not (is_rollback call.action && was_done call)) call calls ∙ ap (λ (b : Bool). cond (not b) (call ∷ since_rollback calls) []) h
+
+since_cut : (call : Answered) (calls : List Answered) → (is_rollback call.action && was_done call) ≡ true → since_rollback (call ∷ calls) ≡ []
+since_cut call calls h =
+    take_while-cons (λ (call : Answered). not (is_rollback call.action && was_done call)) call calls ∙ ap (λ (b : Bool). cond (not b) (call ∷ since_rollback calls) []) h
+
+rolled_back : (action : Action) (v : BranchView) → is_rollback action ≡ true → done_view v action ≡ no_branch
+rolled_back Rollback v r = refl
+rolled_back action v r = absurd (cc)
+
+after-done : (v : BranchView) (action : Action) (answer : Answer) (done : Bool) → is_done action answer ≡ done → after v action answer ≡ cond done (done_view v action) v
+after-done v action answer done d = ap (λ (b : Bool). cond b (done_view v action) v) d
+
+looked_call : (rows : List Row) (calls : List Answered) (busy : Bool) (action : Action) (answer : Answer) → IsPlain (looked_back calls)
+    → answer ≡ answer_of rows (looked_back calls) busy action
+    → after (looked_back calls) action answer ≡ looked_back (record { action = action; answer = answer } ∷ calls)
+looked_call rows calls busy action answer plain e = by_done (is_done action answer) (is_rollback action) refl refl
+  where
+    kept : (done : Bool) → is_done action answer ≡ done → (is_rollback action && done) ≡ false
+        → looked_back (record { action = action; answer = answer } ∷ calls) ≡ shown_with done action (since_rollback calls)
+    kept done d h =
+        ap shown (since_kept (record { action = action; answer = answer }) calls (ap (λ (b : Bool). is_rollback action && b) d ∙ h))
+        ∙ ap (λ (b : Bool). shown_with b action (since_rollback calls)) d
+    by_done : (done rollback : Bool) → is_done action answer ≡ done → is_rollback action ≡ rollback
+        → after (looked_back calls) action answer ≡ looked_back (record { action = action; answer = answer } ∷ calls)
+    by_done false rollback d r =
+        after-done (looked_back calls) action answer false d ∙ sym (kept false d (and_right (is_rollback action) false refl) ∙ shown_with-refused action (since_rollback calls))
+    by_done true false d r =
+        after-done (looked_back calls) action answer true d
+        ∙ view_is (done_view (looked_back calls) action) (shown_with true action (since_rollback calls)) (done_shows rows (since_rollback calls) busy action answer plain e d r)
+        ∙ sym (kept true d (and_left (is_rollback action) true r))
+    by_done true true d r =
+        after-done (looked_back calls) action answer true d ∙ rolled_back action (looked_back calls) r
+        ∙ sym (ap shown (since_cut (record { action = action; answer = answer }) calls (and_from (is_rollback action) (is_done action answer) r d)))
+
+-- a call that is answered as the branch shows leaves what looking back sees
+pub agrees_call : (rows : List Row) (v : BranchView) (calls : List Answered) (busy : Bool) (action : Action) (answer : Answer)
+    → SameView v (looked_back calls) → IsPlain v → answer ≡ answer_of rows v busy action
+    → SameView (after v action answer) (looked_back (record { action = action; answer = answer } ∷ calls))
+agrees_call rows v calls busy action answer same plain e =
+    shows_same (after v action answer) (looked_back (record { action = action; answer = answer } ∷ calls))
+    (ap (λ (u : BranchView). after u action answer) (view_is v (looked_back calls) same)
+    ∙ looked_call rows calls busy action answer (plain_if_same v (looked_back calls) same plain) (e ∙ answer_of-same rows v (looked_back calls) busy action same))
+
+-- a branch that doesn't exist is kept plain
+done_plain : (rows : List Row) (v : BranchView) (busy : Bool) (action : Action) → is_done action (answer_of rows v busy action) ≡ true → IsPlain (done_view v action)
+done_plain rows v busy Start d = plain_if_some (done_view v Start) Active refl
+done_plain rows v busy (Put key value) d = plain_if_some (done_view v (Put key value)) Active (active_only (λ a. is_done (Put key value) a) _ v.state _ refl refl refl d)
+done_plain rows v busy (Del key) d = plain_if_some (done_view v (Del key)) Active (active_only (λ a. is_done (Del key) a) _ v.state _ refl refl refl d)
+done_plain rows v busy (Get key) d = plain_if_some (done_view v (Get key)) Active (active_only (λ a. is_done (Get key) a) _ v.state _ refl refl refl d)
+done_plain rows v busy End d = plain_if_some (done_view v End) Idle refl
+done_plain rows v busy EndFail d = plain_if_some (done_view v EndFail) RollbackOnly refl
+done_plain rows v busy Rollback d = no_branch-plain
+
+pub plain_after : (rows : List Row) (v : BranchView) (busy : Bool) (action : Action) (answer : Answer) → IsPlain v
+    → answer ≡ answer_of rows v busy action → IsPlain (after v action answer)
+plain_after rows v busy action answer plain e = by_done (is_done action answer) refl
+  where
+    by_done : (done : Bool) → is_done action answer ≡ done → IsPlain (after v action answer)
+    by_done true d =
+        subst IsPlain (sym (after-done v action answer true d)) (done_plain rows v busy action (subst (λ (a : Answer). is_done action a ≡ true) e d))
+    by_done false d = subst IsPlain (sym (after-done v action answer false d)) plain
