@@ -6,6 +6,7 @@ use Rattle.std.specs.List.{list_any, find, cons_option, take_while}
 use Rattle.std.specs.Option.{option_map}
 use Rattle.std.specs.Str.{bytes_eq}
 use Rattle.std.proofs.lemmas.Bool.{and_from, and_left, and_right, ne_eqb}
+use Rattle.std.proofs.lemmas.Bool.Decides.{same_from_decides}
 use Rattle.std.proofs.lemmas.List.Sums.{take_while-cons}
 use Rattle.xid.specs.Names.{XidParts, xid_eq}
 use Rattle.xid.specs.declared.codes.XaCode.TheVariants as code
@@ -269,3 +270,89 @@ plain_after rows v busy action answer plain e = by_done (is_done action answer) 
     by_done true d =
         subst IsPlain (sym (after-done v action answer true d)) (done_plain rows v busy action (subst (λ (a : Answer). is_done action a ≡ true) e d))
     by_done false d = subst IsPlain (sym (after-done v action answer false d)) plain
+
+-- ---- a call, at all branches
+
+-- the branches show what looking back over the calls on each sees
+pub record ShowsBack (at : XidParts → BranchView) (calls : XidParts → List Answered) : Type 0 where
+  pub shows : (x : XidParts) → SameView (at x) (looked_back (calls x))
+
+-- the calls on a branch, with one more step in front
+calls_on-own : (rm : ℕ) (x y : XidParts) (action : Action) (answer : Answer) (history : List Happened) → xid_eq x y ≡ true
+    → calls_on rm y (record { event = Call rm x action; answer = answer } ∷ history) ≡ record { action = action; answer = answer } ∷ calls_on rm y history
+calls_on-own rm x y action answer history e =
+    ap (λ (b : Bool). cons_option (if b then Some (record { action = action; answer = answer }) else None) (calls_on rm y history))
+    (and_from (rm == rm) (xid_eq x y) (eq-eqb rm rm refl) e)
+
+calls_on-other : (rm : ℕ) (x y : XidParts) (action : Action) (answer : Answer) (history : List Happened) → xid_eq x y ≡ false
+    → calls_on rm y (record { event = Call rm x action; answer = answer } ∷ history) ≡ calls_on rm y history
+calls_on-other rm x y action answer history e =
+    ap (λ (b : Bool). cons_option (if b then Some (record { action = action; answer = answer }) else None) (calls_on rm y history))
+    (and_right (rm == rm) (xid_eq x y) e)
+
+-- a call at another manager, and a recover, leave all
+pub calls_on-elsewhere : (rm other : ℕ) (x y : XidParts) (action : Action) (answer : Answer) (history : List Happened) → other ≢ rm
+    → calls_on rm y (record { event = Call other x action; answer = answer } ∷ history) ≡ calls_on rm y history
+calls_on-elsewhere rm other x y action answer history apart =
+    ap (λ (b : Bool). cons_option (if b then Some (record { action = action; answer = answer }) else None) (calls_on rm y history))
+    (and_left (other == rm) (xid_eq x y) (ne_eqb other rm apart))
+
+pub branches_back-elsewhere : (rm other : ℕ) (x y : XidParts) (action : Action) (answer : Answer) (history : List Happened) → other ≢ rm
+    → branches_back (record { event = Call other x action; answer = answer } ∷ history) rm y ≡ branches_back history rm y
+branches_back-elsewhere rm other x y action answer history apart = ap looked_back (calls_on-elsewhere rm other x y action answer history apart)
+
+pub branches_back-recover : (rm other : ℕ) (y : XidParts) (answer : Answer) (history : List Happened)
+    → branches_back (record { event = Recover other; answer = answer } ∷ history) rm y ≡ branches_back history rm y
+branches_back-recover rm other y answer history = refl
+
+pub branches_back-none : (rm : ℕ) (y : XidParts) → branches_back [] rm y ≡ no_branch
+branches_back-none rm y = refl
+
+pub agrees_calls : (rows : List Row) (rm : ℕ) (at new : XidParts → BranchView) (x : XidParts) (action : Action) (answer : Answer) (history : List Happened)
+    → Answers rows at x action answer → Leaves at new x action answer
+    → ((y : XidParts) → SameView (at y) (branches_back history rm y)) → ((y : XidParts) → IsPlain (at y))
+    → (y : XidParts) → SameView (new y) (branches_back (record { event = Call rm x action; answer = answer } ∷ history) rm y)
+agrees_calls rows rm at new x action answer history answers leaves same plain y = by_test (xid_eq x y) refl
+  where
+    own : SameView (new x) (looked_back (record { action = action; answer = answer } ∷ calls_on rm x history))
+    own =
+        same_view_join (new x) (after (at x) action answer) (looked_back (record { action = action; answer = answer } ∷ calls_on rm x history)) leaves.own
+        (agrees_call rows (at x) (calls_on rm x history) answers.0 action answer (same x) (plain x) answers.2)
+    by_test : (test : Bool) → xid_eq x y ≡ test → SameView (new y) (branches_back (record { event = Call rm x action; answer = answer } ∷ history) rm y)
+    by_test true e =
+        subst (λ (calls : List Answered). SameView (new y) (looked_back calls)) (sym (calls_on-own rm x y action answer history e))
+        (subst (λ (z : XidParts). SameView (new z) (looked_back (record { action = action; answer = answer } ∷ calls_on rm z history))) (xid_eq-is x y e) own)
+    by_test false e =
+        subst (λ (calls : List Answered). SameView (new y) (looked_back calls)) (sym (calls_on-other rm x y action answer history e))
+        (same_view_join (new y) (at y) (branches_back history rm y) (leaves.others y (λ back. xid_eq-apart x y e (sym back))) (same y))
+
+pub plain_calls : (rows : List Row) (at new : XidParts → BranchView) (x : XidParts) (action : Action) (answer : Answer)
+    → Answers rows at x action answer → Leaves at new x action answer → ((y : XidParts) → IsPlain (at y)) → (y : XidParts) → IsPlain (new y)
+plain_calls rows at new x action answer answers leaves plain y = by_test (xid_eq x y) refl
+  where
+    own : IsPlain (new x)
+    own =
+        plain_if_same (after (at x) action answer) (new x) (same_view_flip (new x) (after (at x) action answer) leaves.own)
+        (plain_after rows (at x) answers.0 action answer (plain x) answers.2)
+    by_test : (test : Bool) → xid_eq x y ≡ test → IsPlain (new y)
+    by_test true e = subst (λ (z : XidParts). IsPlain (new z)) (xid_eq-is x y e) own
+    by_test false e =
+        let kept = leaves.others y (λ back. xid_eq-apart x y e (sym back)) in
+        plain_if_same (at y) (new y) (same_view_flip (new y) (at y) kept) (plain y)
+
+-- ---- answers, by looking back
+
+pub Answers-back : (rows : List Row) (rm : ℕ) (at : XidParts → BranchView) (x : XidParts) (action : Action) (answer : Answer) (history : List Happened)
+    → ((y : XidParts) → SameView (at y) (branches_back history rm y)) → Answers rows at x action answer → Answers rows (branches_back history rm) x action answer
+Answers-back rows rm at x action answer history same answers = Answers-same rows at (branches_back history rm) x action answer same answers
+
+pub Answers-from_back : (rows : List Row) (rm : ℕ) (at : XidParts → BranchView) (x : XidParts) (action : Action) (answer : Answer) (history : List Happened)
+    → ((y : XidParts) → SameView (at y) (branches_back history rm y)) → Answers rows (branches_back history rm) x action answer → Answers rows at x action answer
+Answers-from_back rows rm at x action answer history same answers =
+    Answers-same rows (branches_back history rm) at x action answer (λ y. same_view_flip (at y) (branches_back history rm y) (same y)) answers
+
+-- a call has one answer
+pub Answers-one : (rows : List Row) (at : XidParts → BranchView) (x : XidParts) (action : Action) (one two : Answer)
+    → Answers rows at x action one → Answers rows at x action two → one ≡ two
+Answers-one rows at x action one two first second =
+    first.2 ∙ ap (λ (busy : Bool). answer_of rows (at x) busy action) (same_from_decides first.0 second.0 first.1 second.1) ∙ sym second.2
