@@ -1,8 +1,7 @@
 -- Looking back over the calls agrees with the branches as they stand, one call at a time.
 use Rattle.std.proofs.Common.{◌≡◌, ◌≢◌, ◌∙◌, ℕ, ◌+◌, Bool, true, false, not, cond, ◌&&◌, ◌||◌, eq-eqb, List, [], ◌∷◌, length, Option, Some, None, refl, sym, ap, subst, arith}
 use Rattle.std.specs.Prelude.{if◌then◌else◌, is_none, ◌==◌}
-use Rattle.std.specs.Bool.{Decides}
-use Rattle.std.specs.List.{list_any, find, cons_option, take_while}
+use Rattle.std.specs.List.{list_any, find, cons_option}
 use Rattle.std.specs.Option.{option_map}
 use Rattle.std.specs.Str.{bytes_eq}
 use Rattle.std.proofs.lemmas.Bool.{and_from, and_left, and_right, ne_eqb}
@@ -13,9 +12,9 @@ use Rattle.xid.specs.declared.codes.XaCode.TheVariants as code
 use Rattle.xid.proofs.XidLaws.{xid_eq-is, xid_eq-apart}
 use Rattle.protocol.specs.declared.BranchState.{BranchState}
 use Rattle.protocol.specs.declared.BranchState.TheVariants.{Active, Idle, RollbackOnly}
-use Rattle.protocol.specs.Calls.{Action, Start, Put, Del, Get, End, EndFail, Rollback, Event, Call, Recover, Answer, Code, Happened, Row}
-use Rattle.protocol.specs.Branches.{BranchView, no_branch, SameView, key_of, by_state, answer_of, Answers, is_done, touch, done_view, after, Leaves}
-use Rattle.protocol.specs.LookingBack.{Answered, was_done, is_start, is_end, is_end_fail, is_rollback, some_done, since_rollback, state_back, keys_touched, distinct, Write, write_of, accepted_writes, last_write, looked_back, call_on, calls_on, branches_back}
+use Rattle.protocol.specs.Calls.{Action, Start, Put, Del, Get, End, EndFail, Rollback, Call, Recover, Answer, Code, Happened, Row}
+use Rattle.protocol.specs.Branches.{BranchView, no_branch, SameView, key_of, by_state, answer_of, Answers, is_done, done_view, after, Leaves}
+use Rattle.protocol.specs.LookingBack.{Answered, was_done, is_start, is_end, is_end_fail, is_rollback, some_done, since_rollback, state_back, keys_touched, distinct, Write, write_of, accepted_writes, last_write, looked_back, calls_on, branches_back}
 
 -- ---- views that show the same
 
@@ -231,6 +230,7 @@ looked_call rows calls busy action answer plain e = by_done (is_done action answ
     kept done d h =
         ap shown (since_kept (record { action = action; answer = answer }) calls (ap (λ (b : Bool). is_rollback action && b) d ∙ h))
         ∙ ap (λ (b : Bool). shown_with b action (since_rollback calls)) d
+
     by_done : (done rollback : Bool) → is_done action answer ≡ done → is_rollback action ≡ rollback
         → after (looked_back calls) action answer ≡ looked_back (record { action = action; answer = answer } ∷ calls)
     by_done false rollback d r =
@@ -318,6 +318,7 @@ agrees_calls rows rm at new x action answer history answers leaves same plain y 
     own =
         same_view_join (new x) (after (at x) action answer) (looked_back (record { action = action; answer = answer } ∷ calls_on rm x history)) leaves.own
         (agrees_call rows (at x) (calls_on rm x history) answers.0 action answer (same x) (plain x) answers.2)
+
     by_test : (test : Bool) → xid_eq x y ≡ test → SameView (new y) (branches_back (record { event = Call rm x action; answer = answer } ∷ history) rm y)
     by_test true e =
         subst (λ (calls : List Answered). SameView (new y) (looked_back calls)) (sym (calls_on-own rm x y action answer history e))
@@ -334,6 +335,7 @@ plain_calls rows at new x action answer answers leaves plain y = by_test (xid_eq
     own =
         plain_if_same (after (at x) action answer) (new x) (same_view_flip (new x) (after (at x) action answer) leaves.own)
         (plain_after rows (at x) answers.0 action answer (plain x) answers.2)
+
     by_test : (test : Bool) → xid_eq x y ≡ test → IsPlain (new y)
     by_test true e = subst (λ (z : XidParts). IsPlain (new z)) (xid_eq-is x y e) own
     by_test false e =
@@ -356,3 +358,23 @@ pub Answers-one : (rows : List Row) (at : XidParts → BranchView) (x : XidParts
     → Answers rows at x action one → Answers rows at x action two → one ≡ two
 Answers-one rows at x action one two first second =
     first.2 ∙ ap (λ (busy : Bool). answer_of rows (at x) busy action) (same_from_decides first.0 second.0 first.1 second.1) ∙ sym second.2
+
+-- both at once, as a step of a run
+pub ShowsBack-call : (rows : List Row) (rm : ℕ) (at new : XidParts → BranchView) (x : XidParts) (action : Action) (answer : Answer) (history : List Happened)
+    → Answers rows at x action answer → Leaves at new x action answer
+    → ShowsBack at (λ y. calls_on rm y history) → ((y : XidParts) → IsPlain (at y))
+    → ShowsBack new (λ y. calls_on rm y (record { event = Call rm x action; answer = answer } ∷ history))
+ShowsBack-call rows rm at new x action answer history answers leaves back plain =
+    record { shows = agrees_calls rows rm at new x action answer history answers leaves back.shows plain }
+
+pub ShowsBack-elsewhere : (rm other : ℕ) (at : XidParts → BranchView) (x : XidParts) (action : Action) (answer : Answer) (history : List Happened) → other ≢ rm
+    → ShowsBack at (λ y. calls_on rm y history) → ShowsBack at (λ y. calls_on rm y (record { event = Call other x action; answer = answer } ∷ history))
+ShowsBack-elsewhere rm other at x action answer history apart back =
+    record { shows = λ y. subst (λ (v : BranchView). SameView (at y) v) (sym (branches_back-elsewhere rm other x y action answer history apart)) (back.shows y) }
+
+pub ShowsBack-recover : (rm other : ℕ) (at : XidParts → BranchView) (answer : Answer) (history : List Happened)
+    → ShowsBack at (λ y. calls_on rm y history) → ShowsBack at (λ y. calls_on rm y (record { event = Recover other; answer = answer } ∷ history))
+ShowsBack-recover rm other at answer history back = record { shows = back.shows }
+
+pub ShowsBack-none : (rm : ℕ) → ShowsBack (λ y. no_branch) (λ y. calls_on rm y [])
+ShowsBack-none rm = record { shows = λ y. same_view no_branch }
