@@ -1,0 +1,11 @@
+//! Scripts and traces as text. A script says a cluster, its first tables and the events that happen to it; a trace says
+//! what each event was answered and what the tables hold at the end.
+#![tactic(auto)]
+
+mod args;
+mod items;
+mod tables;
+mod values;
+mod words;
+
+pub use values::{Action, Answer, Event, Row, Script, Sizes, Step, Table, Trace};
