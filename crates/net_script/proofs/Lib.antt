@@ -1,1 +1,3 @@
 pub mod WordLemmas
+pub mod TableLemmas
+pub mod ItemLemmas
