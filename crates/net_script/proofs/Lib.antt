@@ -1,3 +1,5 @@
 pub mod WordLemmas
 pub mod TableLemmas
 pub mod ItemLemmas
+pub mod ScriptLemmas
+pub mod LineLemmas

@@ -1,10 +1,13 @@
 -- Which texts spell a script, and which line of one that spells none is the first at fault.
-use Rattle.std.specs.Prelude.{◌≡◌, ◌≢◌, ℕ, suc, ◌+◌, ◌<◌, ◌⊎◌, List, [], ◌∷◌, ◌++◌, length, take, map, Bool, true, false, not, ◌==◌}
+use Rattle.std.specs.Prelude.{◌≡◌, ◌≢◌, ℕ, suc, ◌+◌, ◌<◌, ◌⊎◌, List, [], ◌∷◌, ◌++◌, length, take, map, Bool, true, false, not, ◌==◌, Option, Some, None, Result, Ok, Err}
 use Rattle.std.specs.List.{All, AllPairs, list_all, filter}
 use Rattle.protocol.specs.Calls as calls
-use Rattle.net_script.specs.Values.{TableParts, ScriptParts}
+use Rattle.xid.specs.declared.refusals.Refusal.{Refusal}
+use Rattle.xid.specs.declared.refusals.Refusal.TheVariants.{NoMemory, BadScript}
+use Rattle.net_script.specs.declared.values.Script.{Script}
+use Rattle.net_script.specs.Values.{TableParts, ScriptParts, script_of}
 use Rattle.net_script.specs.Words.{lines, words, is_plain}
-use Rattle.net_script.specs.Items.{ItemParts, Cluster, Contents, Do, IsSizes, IsTable, IsEvent, item_words}
+use Rattle.net_script.specs.Items.{ItemParts, Cluster, Contents, Do, IsSizes, IsTable, IsEvent, IsItem, item_words}
 
 -- a line of these words is passed over: it has none, or the first begins with `#`
 abbrev pub is_note : List (List ℕ) → Bool
@@ -52,3 +55,23 @@ pub record FailsAt (ls : List (List ℕ)) (n : ℕ) : Type 0 where
 -- the first line at fault, from 1; where no line says anything it is the one after the last
 abbrev pub IsFirstFault : List ℕ → ℕ → Type 0
 IsFirstFault bytes n = FailsAt (lines bytes) n ⊎ ((kept (lines bytes) ≡ []) × (n ≡ length (lines bytes) + 1))
+
+-- ---- for the reader of one line
+
+abbrev pub Says : List ℕ → ItemParts → Type 0
+Says line item = (list_all is_plain line ≡ true) × (words line ≡ item_words item)
+
+-- the items of a script that may have begun
+abbrev pub so_far : Option Script → List ItemParts
+so_far None = []
+so_far (Some s) = items_of (script_of s)
+
+-- what one more line makes of the items before it; nothing, where it says no item that may follow them
+abbrev pub ReadsLine : List ItemParts → List ℕ → Result (Option Script) Refusal → Type 0
+ReadsLine before line (Ok (Some s)) = IsScript (script_of s) × (item : ItemParts) × IsItem item × Says line item × (items_of (script_of s) ≡ before ++ item ∷ [])
+ReadsLine before line (Ok None) = (item : ItemParts) → IsItem item → Says line item → (s : ScriptParts) → IsScript s → items_of s ≢ before ++ item ∷ []
+ReadsLine before line (Err e) = e ≡ NoMemory
+
+-- why a script is refused
+abbrev pub Refuses : List ℕ → Refusal → Type 0
+Refuses bytes e = (e ≡ NoMemory) ⊎ ((line : ℕ) × (e ≡ BadScript line) × IsFirstFault bytes line)

@@ -4,8 +4,10 @@
 
 mod args;
 mod items;
+mod scripts;
 mod tables;
 mod values;
 mod words;
 
+pub use scripts::{one_reading, read_script};
 pub use values::{Action, Answer, Event, Row, Script, Sizes, Step, Table, Trace};
