@@ -3,3 +3,4 @@ pub mod TableLemmas
 pub mod ItemLemmas
 pub mod ScriptLemmas
 pub mod LineLemmas
+pub mod LawLemmas

@@ -1,7 +1,6 @@
 -- The lines of a text, as far as they were read.
 use Rattle.std.proofs.Common.{zero, suc, ◌≡◌, ℕ, ◌+◌, ◌-◌, ◌<◌, ◌≤◌, Bool, true, false, not, ◌&&◌, List, [], ◌∷◌, ◌++◌, length, take, drop, map, refl, sym, ap, subst, ◌∙◌, arith, ◌⊎◌, inl, inr, Option, Some, None, Result, Ok, cond}
 use Rattle.std.specs.List.{All, list_all, filter}
-use Rattle.std.specs.Option.{ForSome}
 use Rattle.std.proofs.lemmas.List.{append-nil, map-append, take-append-drop, length-append, length-drop, length-take, take_all, take_at, append_assoc, length_push}
 use Rattle.std.proofs.lemmas.List.Elements.{filter-append}
 use Rattle.xid.proofs.Texts.{first_true, second_true, both_true, list_all_join}
@@ -156,6 +155,8 @@ silent_at_end bytes rest number so none =
     let all = all_lines bytes rest number None so none in
     inr (ap kept (sym all) ∙ so.said, ap (λ (n : ℕ). n + 1) (sym so.counted ∙ ap length all))
 
-pub valid_so_far : (bytes rest : List ℕ) (number : ℕ) (script : Option Script) → Progress bytes rest number script → ForSome script (λ s. IsScript (script_of s))
-valid_so_far bytes rest number None so = tt
-valid_so_far bytes rest number (Some s) so = so.said.valid
+pub line_unread : (before : List ItemParts) (line : List ℕ) (o : Option Script) → o ≡ None → ReadsLine before line (Ok o) → ReadsLine before line (Ok None)
+line_unread before line o e read = subst (λ (p : Option Script). ReadsLine before line (Ok p)) e read
+
+pub line_read : (before : List ItemParts) (line : List ℕ) (o : Option Script) (s : Script) → o ≡ Some s → ReadsLine before line (Ok o) → ReadsLine before line (Ok (Some s))
+line_read before line o s e read = subst (λ (p : Option Script). ReadsLine before line (Ok p)) e read

@@ -1,6 +1,7 @@
 -- Items in their order, and the lines that say them.
 use Rattle.std.proofs.Common.{zero, suc, ◌≡◌, ℕ, ◌+◌, ◌-◌, ◌<◌, ◌≤◌, ◌^◌, Bool, true, false, not, ◌&&◌, eqb, List, [], ◌∷◌, ◌++◌, length, get_or, take, drop, map, refl, sym, ap, subst, ◌∙◌, arith, decimal, ◌⊎◌, inl, inr}
 use Rattle.std.specs.List.{All, AllPairs, list_all, filter}
+use Rattle.std.proofs.lemmas.Bool.Decides.{nat_tests}
 use Rattle.std.proofs.lemmas.Fmt.{decimal_injective}
 use Rattle.std.proofs.lemmas.List.{length-append, get_or_at, get_or_append_left, append_assoc, append-nil, map_push, map-append, get_or-take, length-take, get_or-map, length-map}
 use Rattle.std.proofs.lemmas.List.Elements.{All-head, All-tail, All-cons, All-append, All-map, All-push, All-take}
@@ -209,3 +210,12 @@ unmapped_rms f n xs h k d lt = subst (λ (t : TableParts). t.rm ≡ n → ⊥) (
 
 pub mapped_rms : {X : Type 0} (f : X → TableParts) (n : ℕ) (xs : List X) → All (λ (x : X). (f x).rm ≡ n → ⊥) xs → All (λ (t : TableParts). t.rm ≡ n → ⊥) (map f xs)
 mapped_rms f n xs h = All-map (λ (t : TableParts). t.rm ≡ n → ⊥) f xs h
+
+pub moved_rms : {X : Type 0} (f : X → TableParts) (n : ℕ) (xs ys : List X) → xs ≡ ys → All (λ (x : X). (f x).rm ≡ n → ⊥) xs → All (λ (x : X). (f x).rm ≡ n → ⊥) ys
+moved_rms {X = X} f n xs ys e all = subst (λ (zs : List X). All (λ (x : X). (f x).rm ≡ n → ⊥) zs) e all
+
+pub some_mapped : {A B : Type 0} (f : A → B) (xs : List A) (n : ℕ) (r : Bool) → r ≡ eqb n 0 → r ≡ false → n ≡ length xs → 0 < length (map f xs)
+some_mapped f xs n r is no' len = let m : length (map f xs) ≡ length xs = length-map xs f in grind (arith, nat_tests)
+
+pub none_mapped : {A B : Type 0} (f : A → B) (xs : List A) (n : ℕ) (r : Bool) → r ≡ eqb n 0 → r ≡ true → n ≡ length xs → length (map f xs) ≡ 0
+none_mapped f xs n r is said len = let m : length (map f xs) ≡ length xs = length-map xs f in grind (arith, nat_tests)
