@@ -4,10 +4,13 @@
 
 mod args;
 mod items;
+mod pieces;
 mod scripts;
 mod tables;
+mod traces;
 mod values;
 mod words;
 
 pub use scripts::{one_reading, read_script};
+pub use traces::write_trace;
 pub use values::{Action, Answer, Event, Row, Script, Sizes, Step, Table, Trace};
