@@ -4,3 +4,4 @@ pub mod ItemLemmas
 pub mod ScriptLemmas
 pub mod LineLemmas
 pub mod LawLemmas
+pub mod TraceLemmas

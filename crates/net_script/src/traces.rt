@@ -1,6 +1,6 @@
 //! Traces as text.
 
-ghost use Rattle.std.specs.Prelude.{◌≡◌, ◌++◌, ◌∷◌, map, codes, IfErr, IfOk, OnOk};
+ghost use Rattle.std.specs.Prelude.{◌≡◌, ◌++◌, [], ◌∷◌, map, codes, decimal, IfErr, IfOk, OnOk};
 ghost use Rattle.std.specs.List.{flat_map};
 ghost use Rattle.xid.specs.declared.refusals.Refusal.TheVariants.{NoMemory};
 ghost use Rattle.net_script.specs.Values.{action_of, event_of, answer_of, row_of, table_of, step_of, trace_of};
@@ -15,17 +15,25 @@ use itoa::Buffer;
 use std::alloc::Global;
 use xid::Refusal;
 
+/// A number under a name.
+fn put_field(out: &mut Vec<u8>, name: &[u8], number: u32) -> Result<(), Refusal>
+    ensures ok { OnOk result (out.new.items ≡ out.old.items ++ after (name.now ∷ decimal number ∷ [])) }
+    ensures err { IfErr result (λ e. e ≡ NoMemory) }
+{
+    put_word(out, name)?;
+    put_number(out, number)?;
+    Ok(())
+}
+
 /// The line of the cluster.
 fn put_sizes(out: &mut Vec<u8>, sizes: Sizes) -> Result<(), Refusal>
     ensures ok { OnOk result (out.new.items ≡ out.old.items ++ line_text (codes "cluster" ∷ sizes_words sizes)) }
     ensures err { IfErr result (λ e. e ≡ NoMemory) }
 {
-    out.extend_from_slice(b"cluster acceptors")?;
-    put_number(out, sizes.acceptors)?;
-    put_word(out, b"leaders")?;
-    put_number(out, sizes.leaders)?;
-    put_word(out, b"rms")?;
-    put_number(out, sizes.rms)?;
+    out.extend_from_slice(b"cluster")?;
+    put_field(out, b"acceptors", sizes.acceptors)?;
+    put_field(out, b"leaders", sizes.leaders)?;
+    put_field(out, b"rms", sizes.rms)?;
     out.push(b'\n')?;
     Ok(())
 }
