@@ -1,0 +1,7 @@
+//! A whole cluster, run from a script: at this stage its resource managers and their branches.
+#![tactic(auto)]
+
+mod managers;
+mod runs;
+
+pub use runs::run;

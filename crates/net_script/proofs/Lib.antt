@@ -1,0 +1,7 @@
+pub mod WordLemmas
+pub mod TableLemmas
+pub mod ItemLemmas
+pub mod ScriptLemmas
+pub mod LineLemmas
+pub mod LawLemmas
+pub mod TraceLemmas

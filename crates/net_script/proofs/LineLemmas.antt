@@ -1,0 +1,162 @@
+-- The lines of a text, as far as they were read.
+use Rattle.std.proofs.Common.{zero, suc, ◌≡◌, ℕ, ◌+◌, ◌-◌, ◌<◌, ◌≤◌, Bool, true, false, not, ◌&&◌, List, [], ◌∷◌, ◌++◌, length, take, drop, map, refl, sym, ap, subst, ◌∙◌, arith, ◌⊎◌, inl, inr, Option, Some, None, Result, Ok, cond}
+use Rattle.std.specs.List.{All, list_all, filter}
+use Rattle.std.proofs.lemmas.List.{append-nil, map-append, take-append-drop, length-append, length-drop, length-take, take_all, take_at, append_assoc, length_push}
+use Rattle.std.proofs.lemmas.List.Elements.{filter-append}
+use Rattle.xid.proofs.Texts.{first_true, second_true, both_true, list_all_join}
+use Rattle.std.proofs.lemmas.List.Folds.{list_all-append}
+use Rattle.net_script.specs.declared.values.Script.{Script}
+use Rattle.net_script.specs.Values.{ScriptParts, script_of}
+use Rattle.net_script.specs.Words.{lines, pieces, words, is_plain, IsFirstPiece}
+use Rattle.net_script.specs.Items.{ItemParts, IsItem, item_words}
+use Rattle.net_script.specs.Scripts.{is_note, kept, items_of, IsScript, SpelledBy, Spells, CanBegin, FailsAt, IsFirstFault, Says, so_far, ReadsLine}
+use Rattle.net_script.proofs.ScriptLemmas.{items_injective, items_split, items_valid}
+
+-- what lines say so far
+abbrev pub SoFar : List (List ℕ) → Option Script → Type 0
+SoFar seen None = kept seen ≡ []
+SoFar seen (Some s) = SpelledBy seen (script_of s)
+
+pub record Progress (bytes rest : List ℕ) (number : ℕ) (script : Option Script) : Type 0 where
+  pub left : lines bytes ≡ take number (lines bytes) ++ lines rest
+  pub counted : length (take number (lines bytes)) ≡ number
+  pub short : number + length rest ≤ length bytes
+  pub said : SoFar (take number (lines bytes)) script
+
+abbrev is_kept : List ℕ → Bool
+is_kept line = not (is_note (words line))
+
+-- ---- one line more
+
+kept_passed : (seen : List (List ℕ)) (line : List ℕ) → is_note (words line) ≡ true → kept (seen ++ line ∷ []) ≡ kept seen
+kept_passed seen line note =
+    filter-append is_kept seen (line ∷ []) ∙ ap (λ (b : Bool). kept seen ++ cond (not b) (line ∷ []) []) note ∙ append-nil (kept seen)
+
+kept_said : (seen : List (List ℕ)) (line : List ℕ) → is_note (words line) ≡ false → kept (seen ++ line ∷ []) ≡ kept seen ++ line ∷ []
+kept_said seen line note =
+    filter-append is_kept seen (line ∷ []) ∙ ap (λ (b : Bool). kept seen ++ cond (not b) (line ∷ []) []) note
+
+kept_same : (seen more : List (List ℕ)) (script : Option Script) → kept more ≡ kept seen → SoFar seen script → SoFar more script
+kept_same seen more None e said = e ∙ said
+kept_same seen more (Some s) e said = record {
+  plain = ap (list_all (list_all is_plain)) e ∙ said.plain;
+  says = ap (map words) e ∙ said.says;
+  valid = said.valid;
+}
+
+-- the words of the lines so far are those of the items so far
+so_far_says : (seen : List (List ℕ)) (script : Option Script) → SoFar seen script → map words (kept seen) ≡ map item_words (so_far script)
+so_far_says seen None said = ap (map words) said
+so_far_says seen (Some s) said = said.says
+
+so_far_plain : (seen : List (List ℕ)) (script : Option Script) → SoFar seen script → list_all (list_all is_plain) (kept seen) ≡ true
+so_far_plain seen None said = ap (list_all (list_all is_plain)) said
+so_far_plain seen (Some s) said = said.plain
+
+so_far_valid : (seen : List (List ℕ)) (script : Option Script) → SoFar seen script → All IsItem (so_far script)
+so_far_valid seen None said = λ k d lt. absurd (omega arith)
+so_far_valid seen (Some s) said = items_valid (script_of s) said.valid
+
+so_far_begins : (seen : List (List ℕ)) (script : Option Script) → SoFar seen script → CanBegin seen
+so_far_begins seen None said = inl said
+so_far_begins seen (Some s) said = inr (script_of s, said)
+
+said_more : (seen : List (List ℕ)) (line : List ℕ) (script : Option Script) (s : Script) → is_note (words line) ≡ false → SoFar seen script → ReadsLine (so_far script) line (Ok (Some s))
+    → SoFar (seen ++ line ∷ []) (Some s)
+said_more seen line script s note said read = record {
+  plain = ap (list_all (list_all is_plain)) (kept_said seen line note)
+      ∙ (list_all-append (list_all is_plain) (kept seen) (line ∷ []) ∙ both_true _ _ (so_far_plain seen script said) (both_true (list_all is_plain line) true read.3.0 refl));
+  says = ap (map words) (kept_said seen line note) ∙ (map-append words (kept seen) (line ∷ [])
+      ∙ (ap (λ (ws : List (List (List ℕ))). ws ++ words line ∷ []) (so_far_says seen script said)
+      ∙ (ap (λ (w : List (List ℕ)). map item_words (so_far script) ++ w ∷ []) read.3.1
+      ∙ (sym (map-append item_words (so_far script) (read.1 ∷ [])) ∙ ap (map item_words) (sym read.4)))));
+  valid = read.0;
+}
+
+nil_not_push : {X : Type 0} (xs : List X) (x : X) → xs ++ x ∷ [] ≡ [] → ⊥
+nil_not_push [] x e = absurd (cc)
+nil_not_push (y ∷ xs) x e = absurd (cc)
+
+fails_more : (seen : List (List ℕ)) (line : List ℕ) (script : Option Script) → is_note (words line) ≡ false → SoFar seen script → ReadsLine (so_far script) line (Ok None)
+    → CanBegin (seen ++ line ∷ []) → ⊥
+fails_more seen line script note said read (inl none) = nil_not_push (kept seen) line (sym (kept_said seen line note) ∙ none)
+fails_more seen line script note said read (inr (s, spelled)) =
+    let kept-is = kept_said seen line note in
+    let says : map item_words (so_far script) ++ words line ∷ [] ≡ map item_words (items_of s) =
+        ap (λ (ws : List (List (List ℕ))). ws ++ words line ∷ []) (sym (so_far_says seen script said)) ∙ (sym (map-append words (kept seen) (line ∷ [])) ∙ (ap (map words) (sym kept-is) ∙ spelled.says)) in
+    let found = items_split (so_far script) (items_of s) (words line) (so_far_valid seen script said) (items_valid s spelled.valid) says in
+    let plain : (list_all (list_all is_plain) (kept seen) && list_all (list_all is_plain) (line ∷ [])) ≡ true =
+        sym (list_all-append (list_all is_plain) (kept seen) (line ∷ [])) ∙ (ap (list_all (list_all is_plain)) (sym kept-is) ∙ spelled.plain) in
+    let own : list_all is_plain line ≡ true = first_true (list_all is_plain line) true (second_true (list_all (list_all is_plain) (kept seen)) (list_all (list_all is_plain) (line ∷ [])) plain) in
+    read found.0 found.1 (own, found.3) s spelled.valid found.2
+
+-- ---- the loop
+
+take_front : {X : Type 0} (all front back : List X) (n : ℕ) → all ≡ front ++ back → length front ≡ n → take n all ≡ front
+take_front all front back n e len = ap (take n) e ∙ take_at front back n len
+
+pub begun : (bytes : List ℕ) → Progress bytes bytes 0 None
+begun bytes = record { left = refl; counted = refl; short = omega arith; said = refl }
+
+-- the lines up to the next one
+next_lines : (bytes rest line after : List ℕ) (number : ℕ) (script : Option Script) → Progress bytes rest number script → IsFirstPiece 10 rest line after
+    → (take (number + 1) (lines bytes) ≡ take number (lines bytes) ++ line ∷ []) × (lines bytes ≡ take (number + 1) (lines bytes) ++ lines after) × (length (take (number + 1) (lines bytes)) ≡ number + 1)
+next_lines bytes rest line after number script so first =
+    let seen : List (List ℕ) = take number (lines bytes) in
+    let all : lines bytes ≡ (seen ++ line ∷ []) ++ lines after = so.left ∙ (ap (λ (l : List (List ℕ)). seen ++ l) first.cut ∙ sym (append_assoc seen (line ∷ []) (lines after))) in
+    let len : length (seen ++ line ∷ []) ≡ number + 1 = length_push seen line ∙ ap (λ (n : ℕ). n + 1) so.counted in
+    let front : take (number + 1) (lines bytes) ≡ seen ++ line ∷ [] = take_front (lines bytes) (seen ++ line ∷ []) (lines after) (number + 1) all len in
+    (front, all ∙ ap (λ (l : List (List ℕ)). l ++ lines after) (sym front), ap length front ∙ len)
+
+pub step_passed : (bytes rest line after : List ℕ) (number : ℕ) (script : Option Script) → Progress bytes rest number script → IsFirstPiece 10 rest line after → is_note (words line) ≡ true
+    → Progress bytes after (number + 1) script
+step_passed bytes rest line after number script so first note =
+    let next = next_lines bytes rest line after number script so first in
+    record {
+      left = next.1;
+      counted = next.2;
+      short = let a = so.short in let b = first.shorter in omega arith;
+      said = kept_same (take number (lines bytes)) (take (number + 1) (lines bytes)) script (ap kept next.0 ∙ kept_passed (take number (lines bytes)) line note) so.said;
+    }
+
+pub step_said : (bytes rest line after : List ℕ) (number : ℕ) (script : Option Script) (s : Script) → Progress bytes rest number script → IsFirstPiece 10 rest line after → is_note (words line) ≡ false
+    → ReadsLine (so_far script) line (Ok (Some s)) → Progress bytes after (number + 1) (Some s)
+step_said bytes rest line after number script s so first note read =
+    let next = next_lines bytes rest line after number script so first in
+    record {
+      left = next.1;
+      counted = next.2;
+      short = let a = so.short in let b = first.shorter in omega arith;
+      said = subst (λ (ls : List (List ℕ)). SpelledBy ls (script_of s)) (sym next.0) (said_more (take number (lines bytes)) line script s note so.said read);
+    }
+
+pub step_fails : (bytes rest line after : List ℕ) (number : ℕ) (script : Option Script) → Progress bytes rest number script → IsFirstPiece 10 rest line after → is_note (words line) ≡ false
+    → ReadsLine (so_far script) line (Ok None) → IsFirstFault bytes (number + 1)
+step_fails bytes rest line after number script so first note read =
+    let next = next_lines bytes rest line after number script so first in
+    inl (record {
+      before = number;
+      counted = omega arith;
+      within = omega (arith, ap length next.1, next.2, length-append (take (number + 1) (lines bytes)) (lines after));
+      can = so_far_begins (take number (lines bytes)) script so.said;
+      fails = λ can. fails_more (take number (lines bytes)) line script note so.said read (subst CanBegin next.0 can);
+    })
+
+-- ---- the end
+
+all_lines : (bytes rest : List ℕ) (number : ℕ) (script : Option Script) → Progress bytes rest number script → rest ≡ [] → take number (lines bytes) ≡ lines bytes
+all_lines bytes rest number script so none = sym (so.left ∙ (ap (λ (r : List ℕ). take number (lines bytes) ++ lines r) none ∙ append-nil (take number (lines bytes))))
+
+pub spelled_at_end : (bytes rest : List ℕ) (number : ℕ) (s : Script) → Progress bytes rest number (Some s) → rest ≡ [] → Spells bytes (script_of s)
+spelled_at_end bytes rest number s so none = subst (λ (ls : List (List ℕ)). SpelledBy ls (script_of s)) (all_lines bytes rest number (Some s) so none) so.said
+
+pub silent_at_end : (bytes rest : List ℕ) (number : ℕ) → Progress bytes rest number None → rest ≡ [] → IsFirstFault bytes (number + 1)
+silent_at_end bytes rest number so none =
+    let all = all_lines bytes rest number None so none in
+    inr (ap kept (sym all) ∙ so.said, ap (λ (n : ℕ). n + 1) (sym so.counted ∙ ap length all))
+
+pub line_unread : (before : List ItemParts) (line : List ℕ) (o : Option Script) → o ≡ None → ReadsLine before line (Ok o) → ReadsLine before line (Ok None)
+line_unread before line o e read = subst (λ (p : Option Script). ReadsLine before line (Ok p)) e read
+
+pub line_read : (before : List ItemParts) (line : List ℕ) (o : Option Script) (s : Script) → o ≡ Some s → ReadsLine before line (Ok o) → ReadsLine before line (Ok (Some s))
+line_read before line o s e read = subst (λ (p : Option Script). ReadsLine before line (Ok p)) e read

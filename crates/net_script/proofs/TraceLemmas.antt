@@ -1,0 +1,27 @@
+-- Lines one after another.
+use Rattle.std.proofs.Common.{zero, suc, ◌≡◌, ℕ, ◌+◌, ◌<◌, List, [], ◌∷◌, ◌++◌, length, get_or, take, map, refl, sym, ap, ◌∙◌, arith}
+use Rattle.std.proofs.lemmas.List.{append-nil, append_assoc, map_more, length-map, length-take}
+use Rattle.protocol.specs.Calls.{Row}
+use Rattle.net_script.specs.Traces.{final_line, final_lines}
+
+final_push : (n : ℕ) (xs : List (List Row)) (y : List Row) → final_lines n (xs ++ y ∷ []) ≡ final_lines n xs ++ final_line (n + length xs) y
+final_push n [] y =
+    let same : n ≡ n + 0 = omega arith in
+    append-nil (final_line n y) ∙ ap (λ (k : ℕ). final_line k y) same
+final_push n (x ∷ xs) y =
+    let same : suc n + length xs ≡ n + suc (length xs) = omega arith in
+    ap (λ (l : List ℕ). final_line n x ++ l) (final_push (suc n) xs y ∙ ap (λ (k : ℕ). final_lines (suc n) xs ++ final_line k y) same)
+    ∙ sym (append_assoc (final_line n x) (final_lines (suc n) xs) (final_line (n + suc (length xs)) y))
+
+-- one more line of last rows
+pub finals_more : {X : Type 0} (f : X → List Row) (xs : List X) (i : ℕ) (x : X) (rows : List Row) → i < length xs → x ≡ get_or xs i x → rows ≡ f x
+    → final_lines 0 (map f (take (i + 1) xs)) ≡ final_lines 0 (map f (take i xs)) ++ final_line i rows
+finals_more f xs i x rows lt at is =
+    let len : 0 + length (map f (take i xs)) ≡ i = omega (arith, length-map (take i xs) f, length-take i xs) in
+    ap (final_lines 0) (map_more f xs i x lt)
+    ∙ (final_push 0 (map f (take i xs)) (f (get_or xs i x))
+    ∙ (ap (λ (k : ℕ). final_lines 0 (map f (take i xs)) ++ final_line k (f (get_or xs i x))) len
+    ∙ ap (λ (r : List Row). final_lines 0 (map f (take i xs)) ++ final_line i r) (ap f (sym at) ∙ sym is)))
+
+pub appended : (new out old done line : List ℕ) → new ≡ out ++ line → out ≡ old ++ done → new ≡ old ++ (done ++ line)
+appended new out old done line e h = e ∙ ap (λ (l : List ℕ). l ++ line) h ∙ append_assoc old done line

@@ -1,0 +1,79 @@
+//! Words after the first of a line: numbers under a name, resource managers, branches and bytes.
+
+ghost use Rattle.std.specs.Prelude.{◌≡◌, ◌≢◌, ℕ, ◌<◌, ◌^◌, List, [], ◌∷◌, MatchOption, decimal};
+ghost use Rattle.xid.specs.Names.{XidParts, IsXid, IsBytes};
+ghost use Rattle.xid.specs.Text.{xid_text};
+ghost use Rattle.net_script.specs.Words.{Reads, words, bytes_text, node_text, letter_r};
+
+use crate::words::{bytes_word, is_over, next_word, node};
+use std::alloc::Global;
+use xid::text;
+use xid::{Refusal, Xid};
+
+/// The number after this word, and the rest.
+pub(crate) fn field<'a>(args: &'a [u8], name: &[u8]) -> Option<(u32, &'a [u8])>
+    ensures { MatchOption result
+        ((n : ℕ) (ws : List (List ℕ)) → n < 2 ^ 32 → words args.now ≢ name.now ∷ decimal n ∷ ws)
+        (λ found. words args.now ≡ name.now ∷ decimal found.0 ∷ words found.1.now) }
+{
+    let Some((word, rest)) = next_word(args) else {
+        return None;
+    };
+    if word != name {
+        return None;
+    }
+    let Some((digits, after)) = next_word(rest) else {
+        return None;
+    };
+    let Some(number) = text::number(digits) else {
+        return None;
+    };
+    Some((number, after))
+}
+
+/// The resource manager of the first word, and the rest.
+pub(crate) fn manager(args: &[u8]) -> Option<(u8, &[u8])>
+    ensures { MatchOption result
+        ((n : ℕ) (ws : List (List ℕ)) → n < 256 → words args.now ≢ node_text letter_r n ∷ ws)
+        (λ found. words args.now ≡ node_text letter_r found.0 ∷ words found.1.now) }
+{
+    let Some((word, rest)) = next_word(args) else {
+        return None;
+    };
+    let Some(rm) = node(word, b'r') else {
+        return None;
+    };
+    Some((rm, rest))
+}
+
+/// The branch of the first word, and the rest.
+pub(crate) fn branch(args: &[u8]) -> Option<(Xid, &[u8])>
+    ensures { MatchOption result
+        ((x : XidParts) (ws : List (List ℕ)) → IsXid x → words args.now ≢ xid_text x ∷ ws)
+        (λ found. IsXid found.0 × (words args.now ≡ xid_text found.0 ∷ words found.1.now)) }
+{
+    let Some((word, rest)) = next_word(args) else {
+        return None;
+    };
+    let Ok(xid) = Xid::read(word) else {
+        return None;
+    };
+    Some((xid, rest))
+}
+
+/// The bytes that are the only word.
+pub(crate) fn last_bytes(alloc: Global, args: &[u8]) -> Result<Option<Vec<u8>>, Refusal>
+    ensures { Reads (λ v. v.items) IsBytes (λ bytes. bytes_text bytes ∷ []) (words args.now) result }
+{
+    let Some((word, rest)) = next_word(args) else {
+        return Ok(None);
+    };
+    if !is_over(rest) {
+        return Ok(None);
+    }
+    let Some(bytes) = bytes_word(alloc, word)? else {
+        return Ok(None);
+    };
+    Ok(Some(bytes))
+}
+

@@ -1,0 +1,16 @@
+//! Scripts and traces as text. A script says a cluster, its first tables and the events that happen to it; a trace says
+//! what each event was answered and what the tables hold at the end.
+#![tactic(auto)]
+
+mod args;
+mod items;
+mod pieces;
+mod scripts;
+mod tables;
+mod traces;
+mod values;
+mod words;
+
+pub use scripts::{one_reading, read_script};
+pub use traces::write_trace;
+pub use values::{Action, Answer, Event, Row, Script, Sizes, Step, Table, Trace};

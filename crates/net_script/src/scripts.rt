@@ -1,0 +1,154 @@
+//! Whole scripts, line by line.
+
+ghost use Rattle.std.specs.Prelude.{◌≡◌, ◌≢◌, ℕ, ◌<◌, [], ◌∷◌, ◌++◌, ◌↔◌, List, IsTrue, IfOk, IfErr, MatchResult};
+ghost use Rattle.std.specs.List.{All, list_all};
+ghost use Rattle.std.specs.Option.{ForSome};
+ghost use Rattle.xid.specs.declared.refusals.Refusal.TheVariants.{NoMemory};
+ghost use Rattle.net_script.specs.Values.{ScriptParts, script_of, table_of, event_of};
+ghost use Rattle.net_script.specs.Words.{Reads, words, is_plain};
+ghost use Rattle.net_script.specs.Items.{item_of, IsItem, IsTable, IsEvent, Contents, Do};
+ghost use Rattle.net_script.specs.Scripts.{is_note, items_of, so_far, IsScript, ReadsLine, Spells, Refuses, IsFirstFault};
+
+use crate::items::{Item, read_item};
+use crate::values::{Event, Script, Table};
+use crate::words::{next_piece, next_word};
+use std::alloc::Global;
+use xid::Refusal;
+
+/// Whether a line is a comment, or has no word.
+fn is_passed_over(line: &[u8]) -> bool
+    ensures { result ≡ is_note (words line.now) }
+{
+    let Some((word, _rest)) = next_word(line) else {
+        return true;
+    };
+    let [first, ..] = word else {
+        return false;
+    };
+    *first == b'#'
+}
+
+/// Whether each byte is printed ASCII.
+fn has_plain_bytes(line: &[u8]) -> bool
+    ensures { result ≡ list_all is_plain line.now }
+{
+    line.iter().all(|byte| 32 <= *byte && *byte <= 126)
+}
+
+/// Whether no table is this resource manager's.
+fn is_free(tables: &[Table], rm: u8) -> bool
+    ensures { IsTrue result ↔ All (λ table. (table_of table).rm ≢ rm) tables.now }
+{
+    for table in tables {
+        if table.rm == rm {
+            return false;
+        }
+    }
+    true
+}
+
+/// The script with one more table, if it may stand there.
+fn with_table(script: Script, table: Table) -> Result<Option<Script>, Refusal>
+    requires valid { IsScript (script_of script) }
+    requires range { IsTable (table_of table) }
+    ensures { Reads script_of IsScript items_of (items_of (script_of script) ++ Contents (table_of table) ∷ []) result }
+{
+    let mut script = script;
+    if !script.events.is_empty() {
+        return Ok(None);
+    }
+    if u32::from(table.rm) >= script.sizes.rms {
+        return Ok(None);
+    }
+    if !is_free(&script.tables, table.rm) {
+        return Ok(None);
+    }
+    script.tables.push(table)?;
+    Ok(Some(script))
+}
+
+/// The script with one more event.
+fn with_event(script: Script, event: Event) -> Result<Script, Refusal>
+    requires valid { IsScript (script_of script) }
+    requires range { IsEvent (event_of event) }
+    ensures { MatchResult result
+        (λ s. IsScript (script_of s) × (items_of (script_of s) ≡ items_of (script_of script) ++ Do (event_of event) ∷ []))
+        (λ e. e ≡ NoMemory) }
+{
+    let mut script = script;
+    script.events.push(event)?;
+    Ok(script)
+}
+
+/// The script so far with one more item, if it may follow.
+fn with_item(alloc: Global, script: Option<Script>, item: Item) -> Result<Option<Script>, Refusal>
+    requires valid { ForSome script (λ s. IsScript (script_of s)) }
+    requires range { IsItem (item_of item) }
+    ensures { Reads script_of IsScript items_of (so_far script ++ item_of item ∷ []) result }
+{
+    let Some(script) = script else {
+        let Item::Cluster(sizes) = item else {
+            return Ok(None);
+        };
+        return Ok(Some(Script {
+            sizes,
+            tables: Vec::new(alloc),
+            events: Vec::new(alloc),
+        }));
+    };
+    match item {
+        Item::Cluster(_) => Ok(None),
+        Item::Contents(table) => with_table(script, table),
+        Item::Do(event) => Ok(Some(with_event(script, event)?)),
+    }
+}
+
+/// The script so far with what one more line says.
+fn read_line(alloc: Global, script: Option<Script>, line: &[u8]) -> Result<Option<Script>, Refusal>
+    requires valid { ForSome script (λ s. IsScript (script_of s)) }
+    ensures { ReadsLine (so_far script) line.now result }
+{
+    if !has_plain_bytes(line) {
+        return Ok(None);
+    }
+    let Some(item) = read_item(alloc, line)? else {
+        return Ok(None);
+    };
+    let Some(script) = with_item(alloc, script, item)? else {
+        return Ok(None);
+    };
+    Ok(Some(script))
+}
+
+/// The script that a text spells. Refused: `BadScript` with the first line at fault, counted from 1 (where no line says
+/// anything, the one after the last), and `NoMemory`.
+pub fn read_script(alloc: Global, bytes: &[u8]) -> Result<Script, Refusal>
+    ensures ok { IfOk result (λ s. Spells bytes.now (script_of s)) }
+    ensures err { IfErr result (λ e. Refuses bytes.now e) }
+{
+    let mut script = None;
+    let mut number = 0;
+    let mut rest = bytes;
+    while let Some((line, after)) = next_piece(rest, b'\n') {
+        number += 1;
+        if !is_passed_over(line) {
+            let Some(longer) = read_line(alloc, script, line)? else {
+                return Err(Refusal::BadScript { line: number });
+            };
+            script = Some(longer);
+        }
+        rest = after;
+    }
+    let Some(script) = script else {
+        return Err(Refusal::BadScript { line: number + 1 });
+    };
+    Ok(script)
+}
+
+/// A text spells at most one script; one with a first line at fault spells none, and has one such line.
+pub fn one_reading()
+    ensures one { (bytes : List ℕ) (s t : ScriptParts) → Spells bytes s → Spells bytes t → s ≡ t }
+    ensures apart { (bytes : List ℕ) (s : ScriptParts) (line : ℕ) → Spells bytes s → IsFirstFault bytes line → ⊥ }
+    ensures first { (bytes : List ℕ) (line other : ℕ) → IsFirstFault bytes line → IsFirstFault bytes other → line ≡ other }
+{
+}

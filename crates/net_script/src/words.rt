@@ -1,0 +1,103 @@
+//! Lines and words of a text, and words that are nodes and bytes.
+
+ghost use Rattle.std.specs.Prelude.{◌≡◌, ◌≢◌, ℕ, ◌<◌, [], ◌∷◌, ◌↔◌, IsTrue, MatchOption};
+ghost use Rattle.xid.specs.Names.{IsBytes};
+ghost use Rattle.xid.specs.Text.{hex_text};
+ghost use Rattle.net_script.specs.Words.{IsFirstPiece, IsFirstWord, IsSome, Reads, words, bytes_text, node_text};
+
+use hex::FromHexError;
+use std::alloc::Global;
+use xid::Refusal;
+use xid::text;
+
+/// The text up to its first mark, or all of it, and the text after that mark.
+pub(crate) fn next_piece(text: &[u8], mark: u8) -> Option<(&[u8], &[u8])>
+    ensures { MatchOption result (text.now ≡ []) (λ parts. IsFirstPiece mark text.now parts.0.now parts.1.now) }
+{
+    if text.is_empty() {
+        return None;
+    }
+    let Some((piece, rest)) = text::split_once(text, mark) else {
+        return Some((text, &[]));
+    };
+    Some((piece, rest))
+}
+
+/// The first word of a line, and the rest of the line.
+pub(crate) fn next_word(line: &[u8]) -> Option<(&[u8], &[u8])>
+    ensures { MatchOption result (words line.now ≡ []) (λ parts. IsFirstWord line.now parts.0.now parts.1.now) }
+{
+    let mut rest = line;
+    while let Some((piece, after)) = next_piece(rest, b' ') {
+        if !piece.is_empty() {
+            return Some((piece, after));
+        }
+        rest = after;
+    }
+    None
+}
+
+/// Whether no word is left.
+pub(crate) fn is_over(line: &[u8]) -> bool
+    ensures { IsTrue result ↔ (words line.now ≡ []) }
+{
+    let Some((_word, _rest)) = next_word(line) else {
+        return true;
+    };
+    false
+}
+
+/// The number of a node of the kind with this letter.
+pub(crate) fn node(word: &[u8], letter: u8) -> Option<u8>
+    ensures { MatchOption result ((n : ℕ) → n < 256 → word.now ≢ node_text letter n) (λ n. word.now ≡ node_text letter n) }
+{
+    let [first, digits @ ..] = word else {
+        return None;
+    };
+    if *first != letter {
+        return None;
+    }
+    let Some(number) = text::number(digits) else {
+        return None;
+    };
+    if number > 255 {
+        return None;
+    }
+    Some(number as u8)
+}
+
+/// The bytes whose hex text this is, at least one.
+pub(crate) fn hex_word(alloc: Global, word: &[u8]) -> Result<Option<Vec<u8>>, Refusal>
+    ensures { Reads (λ v. v.items) IsSome hex_text word.now result }
+{
+    if word.is_empty() {
+        return Ok(None);
+    }
+    let bytes = match hex::decode(alloc, word) {
+        Ok(bytes) => bytes,
+        Err(error) => {
+            return match error {
+                FromHexError::OutOfMemory => Err(Refusal::NoMemory),
+                _ => Ok(None),
+            };
+        }
+    };
+    let again = hex::encode(alloc, bytes.as_slice())?;
+    if again.as_bytes() != word {
+        return Ok(None);
+    }
+    Ok(Some(bytes))
+}
+
+/// The bytes of this word, `-` for none.
+pub(crate) fn bytes_word(alloc: Global, word: &[u8]) -> Result<Option<Vec<u8>>, Refusal>
+    ensures { Reads (λ v. v.items) IsBytes bytes_text word.now result }
+{
+    if word == b"-".as_slice() {
+        return Ok(Some(Vec::new(alloc)));
+    }
+    let Some(bytes) = hex_word(alloc, word)? else {
+        return Ok(None);
+    };
+    Ok(Some(bytes))
+}
