@@ -233,7 +233,8 @@ impl BranchTable {
 
     /// The XIDs of the prepared branches, ascending. No branch is prepared yet.
     pub fn recover(&self) -> Result<Vec<Xid>, Refusal>
-        ensures { IfOk result (λ xids. xids.items ≡ []) }
+        ensures ok { IfOk result (λ xids. xids.items ≡ []) }
+        ensures err { IfErr result (λ e. e ≡ NoMemory) }
     {
         Ok(Vec::new(self.alloc))
     }
