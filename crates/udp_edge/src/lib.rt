@@ -1,0 +1,11 @@
+//! The edge of the system: its command line, the files that it reads and what it prints.
+#![tactic(auto)]
+
+mod command;
+mod printing;
+
+pub use command::{Subcommand, Rejected, action};
+pub use printing::{answer_script, program};
+
+#[cfg(test)]
+mod tests;
