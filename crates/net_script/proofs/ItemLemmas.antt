@@ -1,16 +1,15 @@
 -- Lines and what they say.
-use Rattle.std.proofs.Common.{zero, suc, ◌≡◌, ℕ, ◌+◌, ◌<◌, ◌≤◌, ◌^◌, Bool, true, false, not, eqb, List, [], ◌∷◌, ◌++◌, length, map, refl, sym, ap, subst, ◌∙◌, arith, codes}
+use Rattle.std.proofs.Common.{◌≡◌, ℕ, true, false, List, ◌∷◌, refl, codes}
 use Rattle.std.specs.Str.{bytes_eq}
 use Rattle.std.proofs.lemmas.Slice.Eq.{bytes_eq-Decides}
-use Rattle.xid.specs.Names.{IsBytes, XidParts, IsXid}
+use Rattle.xid.specs.Names.{XidParts, IsXid}
 use Rattle.xid.specs.Text.{xid_text}
 use Rattle.protocol.specs.Calls as calls
 use Rattle.net_script.specs.declared.items.Verb.{Verb}
 use Rattle.net_script.specs.declared.items.Verb.TheVariants as verb
 use Rattle.net_script.specs.declared.values.Sizes.{Sizes}
 use Rattle.net_script.specs.Values.{TableParts}
-use Rattle.net_script.specs.Words.{node_text, letter_r}
-use Rattle.net_script.specs.Items.{ItemParts, Cluster, Contents, Do, IsSizes, IsTable, IsEvent, IsItem, IsCall, IsCallBy, verb_text, verb_of, action_words, event_word, event_args, sizes_words, contents_words, item_word, item_args, item_words}
+use Rattle.net_script.specs.Items.{ItemParts, Cluster, Contents, Do, IsCallBy, verb_text, action_words, event_args, item_word}
 
 -- a call whose XID can't be read
 pub branch_fails : (v : Verb) (args rest : List (List ℕ)) (rm : List ℕ) → args ≡ rm ∷ rest → ((x : XidParts) (ws : List (List ℕ)) → IsXid x → rest ≡ xid_text x ∷ ws → ⊥)

@@ -1,6 +1,6 @@
 -- One reading of a text, and one first fault.
-use Rattle.std.proofs.Common.{zero, suc, ◌≡◌, ℕ, ◌+◌, ◌-◌, ◌<◌, ◌≤◌, Bool, true, false, not, ◌&&◌, List, [], ◌∷◌, ◌++◌, length, get_or, take, drop, map, refl, sym, ap, subst, ◌∙◌, arith, ◌⊎◌, inl, inr}
-use Rattle.std.specs.List.{All, AllPairs, list_all, filter}
+use Rattle.std.proofs.Common.{zero, suc, ◌≡◌, ℕ, ◌+◌, ◌-◌, ◌<◌, ◌≤◌, true, not, ◌&&◌, List, [], ◌∷◌, ◌++◌, length, get_or, take, drop, map, refl, sym, ap, subst, ◌∙◌, arith, ◌⊎◌, inl, inr}
+use Rattle.std.specs.List.{AllPairs, list_all}
 use Rattle.std.proofs.lemmas.Bool.{cases_lt}
 use Rattle.std.proofs.lemmas.List.{map-append, take-append-drop, take-take, take_at, take-map, length-map, length-take, get_or-take}
 use Rattle.std.proofs.lemmas.List.Elements.{All-take, filter-append}
@@ -9,9 +9,9 @@ use Rattle.xid.proofs.Texts.{first_true}
 use Rattle.protocol.specs.Calls as calls
 use Rattle.net_script.specs.declared.values.Sizes.{Sizes}
 use Rattle.net_script.specs.Values.{TableParts, ScriptParts}
-use Rattle.net_script.specs.Words.{lines, words, is_plain}
+use Rattle.net_script.specs.Words.{words, is_plain}
 use Rattle.net_script.specs.Items.{ItemParts, Cluster, Contents, Do, IsTable, IsEvent, item_words}
-use Rattle.net_script.specs.Scripts.{is_note, kept, items_of, IsScript, SpelledBy, Spells, CanBegin, FailsAt, IsFirstFault}
+use Rattle.net_script.specs.Scripts.{is_note, kept, items_of, IsScript, SpelledBy, CanBegin, FailsAt}
 use Rattle.net_script.proofs.ScriptLemmas.{items_injective, items_valid}
 
 -- ---- one reading
@@ -40,9 +40,9 @@ scripts_same : (s t : ScriptParts) → items_of s ≡ items_of t → s ≡ t
 scripts_same s t e =
     let sizes : s.sizes ≡ t.sizes = cc in
     let parts = parts_same s.tables t.tables s.events t.events (cc) in
-    ap (λ (z : Sizes). record {sizes = z; tables = s.tables; events = s.events}) sizes
-    ∙ ap (λ (ts : List TableParts). record {sizes = t.sizes; tables = ts; events = s.events}) parts.0
-    ∙ ap (λ (es : List calls.Event). record {sizes = t.sizes; tables = t.tables; events = es}) parts.1
+    ap (λ (z : Sizes). record { sizes = z; tables = s.tables; events = s.events }) sizes
+    ∙ ap (λ (ts : List TableParts). record { sizes = t.sizes; tables = ts; events = s.events }) parts.0
+    ∙ ap (λ (es : List calls.Event). record { sizes = t.sizes; tables = t.tables; events = es }) parts.1
 
 pub one_script : (ls : List (List ℕ)) (s t : ScriptParts) → SpelledBy ls s → SpelledBy ls t → s ≡ t
 one_script ls s t p q = scripts_same s t (items_injective (items_of s) (items_of t) (items_valid s p.valid) (items_valid t q.valid) (sym p.says ∙ q.says))
@@ -90,9 +90,9 @@ front_says (k ∷ ks) more s is e =
     let head : words k ≡ item_words (Cluster s.sizes) = cc in
     let rest : map words (ks ++ more) ≡ map item_words (map Contents s.tables ++ map Do s.events) = ap (drop 1) e in
     let front : take n (map words (ks ++ more)) ≡ map words ks =
-        ap (take n) (map-append words ks more) ∙ take_at (map words ks) (map words more) n (length-map ks words) in
+    ap (take n) (map-append words ks more) ∙ take_at (map words ks) (map words more) n (length-map ks words) in
     let tail : map words ks ≡ map item_words (map Contents (take n s.tables) ++ map Do (take (n - length s.tables) s.events)) =
-        sym front ∙ (ap (take n) rest ∙ (take-map item_words n (map Contents s.tables ++ map Do s.events) ∙ ap (map item_words) (take_parts n s.tables s.events))) in
+    sym front ∙ (ap (take n) rest ∙ (take-map item_words n (map Contents s.tables ++ map Do s.events) ∙ ap (map item_words) (take_parts n s.tables s.events))) in
     inr (front_of n s, front_valid n s is, ap (λ (w : List (List ℕ)). w ∷ map words ks) head ∙ ap (λ (ws : List (List (List ℕ))). item_words (Cluster s.sizes) ∷ ws) tail)
 
 no_front : {X : Type 0} (xs ys : List X) → xs ++ ys ≡ [] → xs ≡ []
@@ -104,7 +104,7 @@ begins_front xs ys (inl none) = inl (no_front (kept xs) (kept ys) (sym (filter-a
 begins_front xs ys (inr (s, spelled)) =
     let parts : kept (xs ++ ys) ≡ kept xs ++ kept ys = filter-append (λ line. not (is_note (words line))) xs ys in
     let plain : (list_all (list_all is_plain) (kept xs) && list_all (list_all is_plain) (kept ys)) ≡ true =
-        sym (list_all-append (list_all is_plain) (kept xs) (kept ys)) ∙ (ap (list_all (list_all is_plain)) (sym parts) ∙ spelled.plain) in
+    sym (list_all-append (list_all is_plain) (kept xs) (kept ys)) ∙ (ap (list_all (list_all is_plain)) (sym parts) ∙ spelled.plain) in
     let own : list_all (list_all is_plain) (kept xs) ≡ true = first_true (list_all (list_all is_plain) (kept xs)) (list_all (list_all is_plain) (kept ys)) plain in
     elim (front_says (kept xs) (kept ys) s spelled.valid (ap (map words) (sym parts) ∙ spelled.says)) [
       | inl none ↦ inl none

@@ -1,16 +1,16 @@
 -- The lines of a text, as far as they were read.
-use Rattle.std.proofs.Common.{zero, suc, ◌≡◌, ℕ, ◌+◌, ◌-◌, ◌<◌, ◌≤◌, Bool, true, false, not, ◌&&◌, List, [], ◌∷◌, ◌++◌, length, take, drop, map, refl, sym, ap, subst, ◌∙◌, arith, ◌⊎◌, inl, inr, Option, Some, None, Result, Ok, cond}
-use Rattle.std.specs.List.{All, list_all, filter}
-use Rattle.std.proofs.lemmas.List.{append-nil, map-append, take-append-drop, length-append, length-drop, length-take, take_all, take_at, append_assoc, length_push}
+use Rattle.std.proofs.Common.{◌≡◌, ℕ, ◌+◌, ◌≤◌, Bool, true, false, not, ◌&&◌, List, [], ◌∷◌, ◌++◌, length, take, map, refl, sym, ap, subst, ◌∙◌, arith, inl, inr, Option, Some, None, Ok, cond}
+use Rattle.std.specs.List.{All, list_all}
+use Rattle.std.proofs.lemmas.List.{append-nil, map-append, length-append, take_at, append_assoc, length_push}
 use Rattle.std.proofs.lemmas.List.Elements.{filter-append}
-use Rattle.xid.proofs.Texts.{first_true, second_true, both_true, list_all_join}
+use Rattle.xid.proofs.Texts.{first_true, second_true, both_true}
 use Rattle.std.proofs.lemmas.List.Folds.{list_all-append}
 use Rattle.net_script.specs.declared.values.Script.{Script}
-use Rattle.net_script.specs.Values.{ScriptParts, script_of}
-use Rattle.net_script.specs.Words.{lines, pieces, words, is_plain, IsFirstPiece}
+use Rattle.net_script.specs.Values.{script_of}
+use Rattle.net_script.specs.Words.{lines, words, is_plain, IsFirstPiece}
 use Rattle.net_script.specs.Items.{ItemParts, IsItem, item_words}
-use Rattle.net_script.specs.Scripts.{is_note, kept, items_of, IsScript, SpelledBy, Spells, CanBegin, FailsAt, IsFirstFault, Says, so_far, ReadsLine}
-use Rattle.net_script.proofs.ScriptLemmas.{items_injective, items_split, items_valid}
+use Rattle.net_script.specs.Scripts.{is_note, kept, items_of, SpelledBy, Spells, CanBegin, IsFirstFault, so_far, ReadsLine}
+use Rattle.net_script.proofs.ScriptLemmas.{items_split, items_valid}
 
 -- what lines say so far
 abbrev pub SoFar : List (List ℕ) → Option Script → Type 0
@@ -83,10 +83,10 @@ fails_more seen line script note said read (inl none) = nil_not_push (kept seen)
 fails_more seen line script note said read (inr (s, spelled)) =
     let kept-is = kept_said seen line note in
     let says : map item_words (so_far script) ++ words line ∷ [] ≡ map item_words (items_of s) =
-        ap (λ (ws : List (List (List ℕ))). ws ++ words line ∷ []) (sym (so_far_says seen script said)) ∙ (sym (map-append words (kept seen) (line ∷ [])) ∙ (ap (map words) (sym kept-is) ∙ spelled.says)) in
+    ap (λ (ws : List (List (List ℕ))). ws ++ words line ∷ []) (sym (so_far_says seen script said)) ∙ (sym (map-append words (kept seen) (line ∷ [])) ∙ (ap (map words) (sym kept-is) ∙ spelled.says)) in
     let found = items_split (so_far script) (items_of s) (words line) (so_far_valid seen script said) (items_valid s spelled.valid) says in
     let plain : (list_all (list_all is_plain) (kept seen) && list_all (list_all is_plain) (line ∷ [])) ≡ true =
-        sym (list_all-append (list_all is_plain) (kept seen) (line ∷ [])) ∙ (ap (list_all (list_all is_plain)) (sym kept-is) ∙ spelled.plain) in
+    sym (list_all-append (list_all is_plain) (kept seen) (line ∷ [])) ∙ (ap (list_all (list_all is_plain)) (sym kept-is) ∙ spelled.plain) in
     let own : list_all is_plain line ≡ true = first_true (list_all is_plain line) true (second_true (list_all (list_all is_plain) (kept seen)) (list_all (list_all is_plain) (line ∷ [])) plain) in
     read found.0 found.1 (own, found.3) s spelled.valid found.2
 

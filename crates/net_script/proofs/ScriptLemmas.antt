@@ -1,24 +1,23 @@
 -- Items in their order, and the lines that say them.
-use Rattle.std.proofs.Common.{zero, suc, ◌≡◌, ℕ, ◌+◌, ◌-◌, ◌<◌, ◌≤◌, ◌^◌, Bool, true, false, not, ◌&&◌, eqb, List, [], ◌∷◌, ◌++◌, length, get_or, take, drop, map, refl, sym, ap, subst, ◌∙◌, arith, decimal, ◌⊎◌, inl, inr}
-use Rattle.std.specs.List.{All, AllPairs, list_all, filter}
+use Rattle.std.proofs.Common.{◌≡◌, ℕ, ◌<◌, Bool, true, false, eqb, List, [], ◌∷◌, ◌++◌, length, get_or, drop, map, refl, sym, ap, subst, ◌∙◌, arith, decimal}
+use Rattle.std.specs.List.{All, AllPairs}
 use Rattle.std.proofs.lemmas.Bool.Decides.{nat_tests}
 use Rattle.std.proofs.lemmas.Fmt.{decimal_injective}
-use Rattle.std.proofs.lemmas.List.{length-append, get_or_at, get_or_append_left, append_assoc, append-nil, map_push, map-append, get_or-take, length-take, get_or-map, length-map}
-use Rattle.std.proofs.lemmas.List.Elements.{All-head, All-tail, All-cons, All-append, All-map, All-push, All-take}
+use Rattle.std.proofs.lemmas.List.{length-append, get_or_at, get_or_append_left, append-nil, map_push, get_or-map, length-map}
+use Rattle.std.proofs.lemmas.List.Elements.{All-head, All-tail, All-cons, All-append, All-map, All-push}
 use Rattle.std.proofs.lemmas.List.Quantifiers.{all_pairs_push}
-use Rattle.xid.specs.Names.{IsBytes, IsComponent, XidParts, IsXid}
-use Rattle.xid.specs.Text.{hex_text, xid_text, lacks}
+use Rattle.xid.specs.Names.{XidParts, IsXid}
+use Rattle.xid.specs.Text.{hex_text, xid_text}
 use Rattle.xid.proofs.Texts.{cut_same, hex_lacks_colon, decimal_lacks_colon}
 use Rattle.protocol.specs.Calls as calls
 use Rattle.net_script.specs.declared.values.Sizes.{Sizes}
-use Rattle.net_script.specs.declared.items.Verb.{Verb}
 use Rattle.net_script.specs.Values.{TableParts, ScriptParts}
-use Rattle.net_script.specs.Words.{node_text, letter_r, bytes_text, row_text}
-use Rattle.net_script.specs.Items.{ItemParts, Cluster, Contents, Do, IsSizes, IsRow, AreRows, IsTable, IsAction, IsEvent, IsItem, IsCall, verb_text, verb_of, action_words, event_word, event_args, event_words, sizes_words, rows_words, contents_words, item_word, item_args, item_words}
+use Rattle.net_script.specs.Words.{node_text, letter_r}
+use Rattle.net_script.specs.Items.{ItemParts, Cluster, Contents, Do, IsSizes, IsTable, IsAction, IsEvent, IsItem, verb_of, action_words, event_word, event_words, sizes_words, contents_words, item_word, item_words}
 use Rattle.net_script.specs.Scripts.{items_of, IsScript}
 use Rattle.net_script.proofs.WordLemmas.{hex_injective, bytes_injective}
 use Rattle.net_script.proofs.TableLemmas.{rows_injective}
-use Rattle.net_script.proofs.ItemLemmas.{differ, cluster_line, table_line_is, recover_line, verb_injective}
+use Rattle.net_script.proofs.ItemLemmas.{cluster_line, table_line_is, recover_line, verb_injective}
 
 -- ---- one value for one list of words
 
@@ -28,14 +27,14 @@ node_injective m n p q e = decimal_injective m n (omega arith) (omega arith) (ap
 xid_injective : (x y : XidParts) → IsXid x → IsXid y → xid_text x ≡ xid_text y → x ≡ y
 xid_injective x y p q e =
     let front = cut_same 58 (decimal x.format) (hex_text x.gtrid ++ 58 ∷ hex_text x.bqual) (decimal y.format) (hex_text y.gtrid ++ 58 ∷ hex_text y.bqual)
-        (decimal_lacks_colon x.format (omega (arith, p.format))) (decimal_lacks_colon y.format (omega (arith, q.format))) e in
+    (decimal_lacks_colon x.format (omega (arith, p.format))) (decimal_lacks_colon y.format (omega (arith, q.format))) e in
     let back = cut_same 58 (hex_text x.gtrid) (hex_text x.bqual) (hex_text y.gtrid) (hex_text y.bqual) (hex_lacks_colon x.gtrid p.gtrid.bytes) (hex_lacks_colon y.gtrid q.gtrid.bytes) front.1 in
     let format : x.format ≡ y.format = decimal_injective x.format y.format (omega (arith, p.format)) (omega (arith, q.format)) front.0 in
     let gtrid : x.gtrid ≡ y.gtrid = hex_injective x.gtrid y.gtrid p.gtrid.bytes q.gtrid.bytes back.0 in
     let bqual : x.bqual ≡ y.bqual = hex_injective x.bqual y.bqual p.bqual.bytes q.bqual.bytes back.1 in
-    ap (λ (f : ℕ). record {format = f; gtrid = x.gtrid; bqual = x.bqual}) format
-    ∙ ap (λ (g : List ℕ). record {format = y.format; gtrid = g; bqual = x.bqual}) gtrid
-    ∙ ap (λ (b : List ℕ). record {format = y.format; gtrid = y.gtrid; bqual = b}) bqual
+    ap (λ (f : ℕ). record { format = f; gtrid = x.gtrid; bqual = x.bqual }) format
+    ∙ ap (λ (g : List ℕ). record { format = y.format; gtrid = g; bqual = x.bqual }) gtrid
+    ∙ ap (λ (b : List ℕ). record { format = y.format; gtrid = y.gtrid; bqual = b }) bqual
 
 action_injective : (a b : calls.Action) → IsAction a → IsAction b → verb_of a ≡ verb_of b → action_words a ≡ action_words b → a ≡ b
 action_injective calls.Start calls.Start p q v e = refl
@@ -68,15 +67,15 @@ sizes_injective s t p q e =
     let a : s.acceptors ≡ t.acceptors = decimal_injective s.acceptors t.acceptors (omega (arith, p.acceptors)) (omega (arith, q.acceptors)) (cc) in
     let l : s.leaders ≡ t.leaders = decimal_injective s.leaders t.leaders (omega (arith, p.leaders)) (omega (arith, q.leaders)) (cc) in
     let r : s.rms ≡ t.rms = decimal_injective s.rms t.rms (omega (arith, p.rms)) (omega (arith, q.rms)) (cc) in
-    ap (λ (n : ℕ). record {acceptors = n; leaders = s.leaders; rms = s.rms}) a
-    ∙ ap (λ (n : ℕ). record {acceptors = t.acceptors; leaders = n; rms = s.rms}) l
-    ∙ ap (λ (n : ℕ). record {acceptors = t.acceptors; leaders = t.leaders; rms = n}) r
+    ap (λ (n : ℕ). record { acceptors = n; leaders = s.leaders; rms = s.rms }) a
+    ∙ ap (λ (n : ℕ). record { acceptors = t.acceptors; leaders = n; rms = s.rms }) l
+    ∙ ap (λ (n : ℕ). record { acceptors = t.acceptors; leaders = t.leaders; rms = n }) r
 
 table_injective : (s t : TableParts) → IsTable s → IsTable t → contents_words s ≡ contents_words t → s ≡ t
 table_injective s t p q e =
     let rm : s.rm ≡ t.rm = node_injective s.rm t.rm p.rm q.rm (cc) in
     let rows : s.rows ≡ t.rows = rows_injective s.rows t.rows p.rows.each q.rows.each (cc) in
-    ap (λ (n : ℕ). record {rm = n; rows = s.rows}) rm ∙ ap (λ (r : List calls.Row). record {rm = t.rm; rows = r}) rows
+    ap (λ (n : ℕ). record { rm = n; rows = s.rows }) rm ∙ ap (λ (r : List calls.Row). record { rm = t.rm; rows = r }) rows
 
 pub item_injective : (a b : ItemParts) → IsItem a → IsItem b → item_words a ≡ item_words b → a ≡ b
 item_injective (Cluster s) (Cluster t) p q e = ap Cluster (sizes_injective s t p q (cc))
@@ -178,25 +177,27 @@ table_belongs z ts (x ∷ es) t r none is e = absurd (omega arith)
 table_belongs z ts [] t r none is e =
     let sizes : r.sizes ≡ z = cc in
     let rest : map Contents ts ++ Contents t ∷ [] ≡ map Contents r.tables ++ map Do r.events =
-        ap (λ (l : List ItemParts). l ++ Contents t ∷ []) (sym (append-nil (map Contents ts))) ∙ sym (ap (drop 1) e) in
+    ap (λ (l : List ItemParts). l ++ Contents t ∷ []) (sym (append-nil (map Contents ts))) ∙ sym (ap (drop 1) e) in
     let tables : r.tables ≡ ts ++ t ∷ [] = last_table ts r.tables r.events t rest in
     let managers = subst (λ (l : List TableParts). All (λ (u : TableParts). u.rm < r.sizes.rms) l) tables is.managers in
     let once = subst (λ (l : List TableParts). AllPairs (λ (a b : TableParts). a.rm ≡ b.rm → ⊥) l) tables is.once in
     let last : get_or (ts ++ t ∷ []) (length ts) t ≡ t = get_or_at ts t [] t (length ts) refl in
-    let below : t.rm < r.sizes.rms = subst (λ (u : TableParts). u.rm < r.sizes.rms) last (managers (length ts) t (omega (arith, length-append ts (t ∷ [])))) in
-    (subst (λ (y : Sizes). t.rm < y.rms) sizes below, λ k d lt same.
-        let at : get_or (ts ++ t ∷ []) k d ≡ get_or ts k d = get_or_append_left ts (t ∷ []) d k lt in
-        let here : get_or (ts ++ t ∷ []) (length ts) d ≡ t = get_or_at ts t [] d (length ts) refl in
-        once k (length ts) d lt (omega (arith, length-append ts (t ∷ []))) (ap (λ (x : TableParts). x.rm) at ∙ same ∙ ap (λ (x : TableParts). x.rm) (sym here)))
+    let below : t.rm < r.sizes.rms = subst (λ (u : TableParts). u.rm < r.sizes.rms) last (managers (length ts) t (omega (arith, length-append ts (t ∷ [])))) in (
+      subst (λ (y : Sizes). t.rm < y.rms) sizes below,
+      λ k d lt same.
+          let at : get_or (ts ++ t ∷ []) k d ≡ get_or ts k d = get_or_append_left ts (t ∷ []) d k lt in
+          let here : get_or (ts ++ t ∷ []) (length ts) d ≡ t = get_or_at ts t [] d (length ts) refl in
+          once k (length ts) d lt (omega (arith, length-append ts (t ∷ []))) (ap (λ (x : TableParts). x.rm) at ∙ same ∙ ap (λ (x : TableParts). x.rm) (sym here)),
+    )
 
 pub table_added : (z : Sizes) (ts : List TableParts) (es : List calls.Event) (t : TableParts) → length es ≡ 0
-    → items_of (record {sizes = z; tables = ts ++ t ∷ []; events = es}) ≡ (Cluster z ∷ (map Contents ts ++ map Do es)) ++ Contents t ∷ []
+    → items_of (record { sizes = z; tables = ts ++ t ∷ []; events = es }) ≡ (Cluster z ∷ (map Contents ts ++ map Do es)) ++ Contents t ∷ []
 table_added z ts (x ∷ es) t none = absurd (omega arith)
 table_added z ts [] t none =
     ap (λ (l : List ItemParts). Cluster z ∷ l) (append-nil (map Contents (ts ++ t ∷ [])) ∙ map_push Contents ts t ∙ ap (λ (l : List ItemParts). l ++ Contents t ∷ []) (sym (append-nil (map Contents ts))))
 
 pub table_valid : (s : ScriptParts) (t : TableParts) → IsScript s → IsTable t → t.rm < s.sizes.rms → All (λ (x : TableParts). x.rm ≡ t.rm → ⊥) s.tables
-    → IsScript (record {sizes = s.sizes; tables = s.tables ++ t ∷ []; events = s.events})
+    → IsScript (record { sizes = s.sizes; tables = s.tables ++ t ∷ []; events = s.events })
 table_valid s t is range below new = record {
   sizes = is.sizes;
   tables = All-push IsTable s.tables t is.tables range;

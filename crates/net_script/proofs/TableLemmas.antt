@@ -1,5 +1,5 @@
 -- Rows of a table's line.
-use Rattle.std.proofs.Common.{zero, suc, ◌≡◌, ℕ, ◌+◌, ◌<◌, ◌≤◌, ◌^◌, Bool, true, false, not, eqb, List, [], ◌∷◌, ◌++◌, length, get_or, map, refl, sym, ap, subst, ◌∙◌, arith}
+use Rattle.std.proofs.Common.{◌≡◌, ℕ, ◌<◌, Bool, true, false, not, eqb, List, [], ◌∷◌, ◌++◌, length, get_or, map, refl, sym, ap, subst, ◌∙◌, arith}
 use Rattle.std.specs.List.{All, AllPairs}
 use Rattle.std.proofs.lemmas.List.{length-append, get_or_at, get_or_append_left, get_or-map, length-map, append_assoc, map_push}
 use Rattle.std.proofs.lemmas.List.Elements.{All-head, All-tail, All-map, All-push}
@@ -45,7 +45,7 @@ row_injective a b is-a is-b e =
     let cut = cut_same 61 (hex_text a.key) (bytes_text a.value) (hex_text b.key) (bytes_text b.value) (hex_lacks_equals a.key is-a.key.bytes) (hex_lacks_equals b.key is-b.key.bytes) e in
     let key : a.key ≡ b.key = hex_injective a.key b.key is-a.key.bytes is-b.key.bytes cut.0 in
     let value : a.value ≡ b.value = bytes_injective a.value b.value is-a.value is-b.value cut.1 in
-    ap (λ (k : List ℕ). record {key = k; value = a.value}) key ∙ ap (λ (v : List ℕ). record {key = b.key; value = v}) value
+    ap (λ (k : List ℕ). record { key = k; value = a.value }) key ∙ ap (λ (v : List ℕ). record { key = b.key; value = v }) value
 
 -- rows of the same words are the same
 pub rows_injective : (xs ys : List Row) → All IsRow xs → All IsRow ys → map row_text xs ≡ map row_text ys → xs ≡ ys

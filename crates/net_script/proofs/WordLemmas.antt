@@ -1,6 +1,6 @@
 -- Pieces, lines and words of a text, and the texts of nodes and bytes.
-use Rattle.std.proofs.Common.{zero, suc, eq-eqb, ◌≡◌, ℕ, ◌+◌, ◌*◌, ◌<◌, ◌≤◌, ◌^◌, Bool, true, false, cond, not, ◌&&◌, ◌⊎◌, inl, inr, eqb, List, [], ◌∷◌, ◌++◌, length, drop, Result, Ok, Err, Option, None, Some, refl, sym, ap, subst, ◌∙◌, arith, decimal}
-use Rattle.std.proofs.lemmas.List.{length-append, append-nil}
+use Rattle.std.proofs.Common.{eq-eqb, ◌≡◌, ℕ, ◌*◌, ◌<◌, ◌≤◌, ◌^◌, Bool, true, false, cond, not, ◌⊎◌, inl, inr, eqb, List, [], ◌∷◌, ◌++◌, length, drop, Ok, Err, Option, None, Some, refl, sym, ap, subst, ◌∙◌, arith, decimal}
+use Rattle.std.proofs.lemmas.List.{length-append}
 use Rattle.std.specs.List.{filter, onto_first}
 use Rattle.std.specs.Str.{bytes_eq}
 use Rattle.std.proofs.lemmas.Slice.Eq.{bytes_eq-Decides}

@@ -12,7 +12,7 @@ use Rattle.net_script.specs.declared.items.Verb.TheVariants as verb
 use Rattle.net_script.specs.declared.items.Item.{Item}
 use Rattle.net_script.specs.declared.items.Item.TheVariants as item
 use Rattle.net_script.specs.Values.{TableParts, row_of, table_of, event_of}
-use Rattle.net_script.specs.Words.{words, is_plain, bytes_text, node_text, letter_r, row_text}
+use Rattle.net_script.specs.Words.{bytes_text, node_text, letter_r, row_text}
 
 pub data ItemParts : Type 0 where
   Cluster : (sizes : Sizes) → ItemParts

@@ -1,11 +1,10 @@
 -- Which texts spell a script, and which line of one that spells none is the first at fault.
 use Rattle.std.specs.Prelude.{◌≡◌, ◌≢◌, ℕ, suc, ◌+◌, ◌<◌, ◌⊎◌, List, [], ◌∷◌, ◌++◌, length, take, map, Bool, true, false, not, ◌==◌, Option, Some, None, Result, Ok, Err}
 use Rattle.std.specs.List.{All, AllPairs, list_all, filter}
-use Rattle.protocol.specs.Calls as calls
 use Rattle.xid.specs.declared.refusals.Refusal.{Refusal}
 use Rattle.xid.specs.declared.refusals.Refusal.TheVariants.{NoMemory, BadScript}
 use Rattle.net_script.specs.declared.values.Script.{Script}
-use Rattle.net_script.specs.Values.{TableParts, ScriptParts, script_of}
+use Rattle.net_script.specs.Values.{ScriptParts, script_of}
 use Rattle.net_script.specs.Words.{lines, words, is_plain}
 use Rattle.net_script.specs.Items.{ItemParts, Cluster, Contents, Do, IsSizes, IsTable, IsEvent, IsItem, item_words}
 

@@ -1,6 +1,6 @@
 -- Lines and words of a text, and the one text of each value that a word can have.
-use Rattle.std.specs.Prelude.{◌≡◌, ◌≢◌, ℕ, ◌<◌, ◌≤◌, List, [], ◌∷◌, ◌++◌, length, Bool, true, false, ◌==◌, ◌&&◌, nat_le, not, if◌then◌else◌, codes, decimal, Result, Ok, Err, Option, Some, None}
-use Rattle.std.specs.List.{filter, onto_first, flat_map}
+use Rattle.std.specs.Prelude.{◌≡◌, ◌≢◌, ℕ, ◌<◌, List, [], ◌∷◌, ◌++◌, length, Bool, true, false, ◌==◌, ◌&&◌, nat_le, if◌then◌else◌, codes, decimal, Result, Ok, Err, Option, Some, None}
+use Rattle.std.specs.List.{filter, onto_first}
 use Rattle.xid.specs.Names.{IsBytes}
 use Rattle.xid.specs.Text.{hex_text}
 use Rattle.xid.specs.declared.refusals.Refusal.{Refusal}

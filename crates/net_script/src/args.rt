@@ -7,8 +7,7 @@ ghost use Rattle.net_script.specs.Words.{Reads, words, bytes_text, node_text, le
 
 use crate::words::{bytes_word, is_over, next_word, node};
 use std::alloc::Global;
-use xid::text;
-use xid::{Refusal, Xid};
+use xid::{Refusal, Xid, text};
 
 /// The number after this word, and the rest.
 pub(crate) fn field<'a>(args: &'a [u8], name: &[u8]) -> Option<(u32, &'a [u8])>
@@ -76,4 +75,3 @@ pub(crate) fn last_bytes(alloc: Global, args: &[u8]) -> Result<Option<Vec<u8>>, 
     };
     Ok(Some(bytes))
 }
-

@@ -104,10 +104,7 @@ fn read_put(alloc: Global, args: &[u8]) -> Result<Option<Action>, Refusal>
     let Some(value) = last_bytes(alloc, rest)? else {
         return Ok(None);
     };
-    Ok(Some(Action::Put {
-        key,
-        value,
-    }))
+    Ok(Some(Action::Put { key, value }))
 }
 
 /// An end: with no word more, or with `fail`.
@@ -172,11 +169,7 @@ fn read_call(alloc: Global, verb: Verb, args: &[u8]) -> Result<Option<Event>, Re
     let Some(action) = read_action(alloc, verb, rest)? else {
         return Ok(None);
     };
-    Ok(Some(Event::Call {
-        rm,
-        xid,
-        action,
-    }))
+    Ok(Some(Event::Call { rm, xid, action }))
 }
 
 /// The resource manager that is the only word.

@@ -14,3 +14,6 @@ mod words;
 pub use scripts::{one_reading, read_script};
 pub use traces::write_trace;
 pub use values::{Action, Answer, Event, Row, Script, Sizes, Step, Table, Trace};
+
+#[cfg(test)]
+mod tests;

@@ -8,7 +8,6 @@ ghost use Rattle.net_script.specs.Words.{bytes_text, node_text, letter_r, row_te
 ghost use Rattle.net_script.specs.Items.{rows_words};
 ghost use Rattle.net_script.specs.Traces.{after};
 
-
 use crate::values::Row;
 use itoa::Buffer;
 use std::alloc::Global;

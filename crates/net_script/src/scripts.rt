@@ -150,5 +150,4 @@ pub fn one_reading()
     ensures one { (bytes : List ℕ) (s t : ScriptParts) → Spells bytes s → Spells bytes t → s ≡ t }
     ensures apart { (bytes : List ℕ) (s : ScriptParts) (line : ℕ) → Spells bytes s → IsFirstFault bytes line → ⊥ }
     ensures first { (bytes : List ℕ) (line other : ℕ) → IsFirstFault bytes line → IsFirstFault bytes other → line ≡ other }
-{
-}
+{}

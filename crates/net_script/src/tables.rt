@@ -10,8 +10,7 @@ use crate::args::manager;
 use crate::values::{Row, Table};
 use crate::words::{bytes_word, hex_word, next_word};
 use std::alloc::Global;
-use xid::Refusal;
-use xid::text;
+use xid::{Refusal, text};
 
 /// How many bytes a key of a first table may have.
 const MAX_KEY: usize = 64;
@@ -37,10 +36,7 @@ fn read_row(alloc: Global, word: &[u8]) -> Result<Option<Row>, Refusal>
     if value.len() > MAX_VALUE {
         return Ok(None);
     }
-    Ok(Some(Row {
-        key,
-        value,
-    }))
+    Ok(Some(Row { key, value }))
 }
 
 /// Whether no row has this key.

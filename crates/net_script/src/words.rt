@@ -7,8 +7,7 @@ ghost use Rattle.net_script.specs.Words.{IsFirstPiece, IsFirstWord, IsSome, Read
 
 use hex::FromHexError;
 use std::alloc::Global;
-use xid::Refusal;
-use xid::text;
+use xid::{Refusal, text};
 
 /// The text up to its first mark, or all of it, and the text after that mark.
 pub(crate) fn next_piece(text: &[u8], mark: u8) -> Option<(&[u8], &[u8])>

@@ -1,4 +1,4 @@
-use Rattle.std.proofs.Common.{◌≡◌, ◌∙◌, List, [], ◌∷◌, ◌++◌, Option, ap, sym}
+use Rattle.std.proofs.Common.{◌∙◌, [], ◌∷◌, ◌++◌, ap, sym}
 use Rattle.net_script.specs.Items.{ItemParts, item_of}
 use Rattle.net_script.specs.Scripts.{so_far}
 use Rattle.net_script.proofs.WordLemmas.{reads_none, reads_some}

@@ -7,8 +7,11 @@ pub returns-in_default-2-clause-err : goal.returns-in_default-2-clause-err
 returns-in_default-2-clause-err c =
     let note = sym c.is_passed_over.ensures ∙ c.if-not-is_passed_over.true in
     let read = line_unread (so_far c.loop-line.script) c.in-Some.line.now c.in_ok-longer.field-0 c.in_default-2.is c.in_ok-longer.ensures in
-    inr (c.loop-line.number + 1, refl,
-      step_fails c.args.bytes.now c.loop-line.rest.now c.in-Some.line.now c.in-Some.after.now c.loop-line.number c.loop-line.script c.loop-line.invariant c.in-Some.ensures note read)
+    inr (
+      c.loop-line.number + 1,
+      refl,
+      step_fails c.args.bytes.now c.loop-line.rest.now c.in-Some.line.now c.in-Some.after.now c.loop-line.number c.loop-line.script c.loop-line.invariant c.in-Some.ensures note read,
+    )
 
 pub loop-line-preserved-in-Some-2 : goal.loop-line-preserved-in-Some-2
 loop-line-preserved-in-Some-2 c =

@@ -1,4 +1,4 @@
-use Rattle.std.proofs.Common.{◌≡◌, length}
+use Rattle.std.proofs.Common.{length}
 use Rattle.net_script.proofs.LineLemmas.{Progress}
 use Rattle.net_script.proofs.scripts.read_script.Given as goal
 

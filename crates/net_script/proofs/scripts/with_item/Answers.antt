@@ -1,4 +1,4 @@
-use Rattle.std.proofs.Common.{◌≡◌, ◌∙◌, List, [], ◌∷◌, ◌++◌, Option, ap, sym}
+use Rattle.std.proofs.Common.{◌∙◌, [], ◌∷◌, ◌++◌, Option, ap, sym}
 use Rattle.net_script.specs.declared.values.Script.{Script}
 use Rattle.net_script.specs.declared.items.Item.{Item}
 use Rattle.net_script.specs.Values.{script_of}
@@ -11,4 +11,4 @@ pub returns-in-Cluster-item : goal.returns-in-Cluster-item
 returns-in-Cluster-item c = λ y is e.
     no_second_cluster (script_of c.in-Some.script) c.in-Cluster-item.field-0 y
     (sym e ∙ (ap (λ (o : Option Script). so_far o ++ item_of c.args.item ∷ []) c.in-Some.is
-      ∙ ap (λ (i : Item). items_of (script_of c.in-Some.script) ++ item_of i ∷ []) c.in-Cluster-item.is))
+    ∙ ap (λ (i : Item). items_of (script_of c.in-Some.script) ++ item_of i ∷ []) c.in-Cluster-item.is))

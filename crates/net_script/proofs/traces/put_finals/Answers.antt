@@ -1,8 +1,7 @@
-use Rattle.std.proofs.Common.{◌∙◌, ◌++◌, List, ℕ, ap, sym, map, take, arith, Vec}
+use Rattle.std.proofs.Common.{◌∙◌, ◌++◌, List, ℕ, ap, sym, map, arith, Vec}
 use Rattle.std.specs.declared.alloc.Global.{Global}
 use Rattle.net_script.specs.declared.values.Row.{Row}
 use Rattle.net_script.specs.Values.{row_of}
-use Rattle.net_script.specs.Traces.{final_line, final_lines}
 use Rattle.net_script.proofs.TraceLemmas.{finals_more, appended}
 use Rattle.net_script.proofs.traces.put_finals.Goals as goal
 

@@ -1,4 +1,4 @@
-use Rattle.std.proofs.Common.{◌≡◌, ◌∙◌, sym, List, [], ◌∷◌}
+use Rattle.std.proofs.Common.{◌≡◌, ◌∙◌, sym, [], ◌∷◌}
 use Rattle.net_script.proofs.WordLemmas.{bytes_are_hex, reads_none, texts_differ}
 use Rattle.net_script.proofs.words.bytes_word.Goals as goal
 
