@@ -1,0 +1,16 @@
+//! Ballots, slots and quorums of Paxos Commit: who owns a ballot, what an acceptor keeps of one instance, which value
+//! a take-over proposes, and when acceptors are a majority. Nothing here takes memory.
+#![tactic(auto)]
+
+mod ballots;
+mod choice;
+mod quorum;
+mod slot;
+
+pub use ballots::{next_owned, owner};
+pub use choice::choose;
+pub use quorum::{Quorum, MAX_ACCEPTORS};
+pub use slot::{Report, Slot};
+
+#[cfg(test)]
+mod tests;
