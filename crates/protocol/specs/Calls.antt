@@ -29,6 +29,11 @@ pub data Answer : Type 0 where
   Xids : (xids : List XidParts) → Answer
   Refused : (refusal : Refusal) → Answer
 
+-- an event and its answer
+pub record Happened : Type 0 where
+  pub event : Event
+  pub answer : Answer
+
 -- a row of a table
 pub record Row : Type 0 where
   pub key : List ℕ

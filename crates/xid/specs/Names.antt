@@ -1,5 +1,6 @@
 -- What an XID is, after X/Open XA (C193), "Transaction branch identification": a format and two components.
-use Rattle.std.specs.Prelude.{ℕ, ◌<◌, ◌≤◌, ◌^◌, List, length, slice_index}
+use Rattle.std.specs.Prelude.{ℕ, ◌<◌, ◌≤◌, ◌^◌, Bool, ◌&&◌, ◌==◌, List, length, slice_index}
+use Rattle.std.specs.Str.{bytes_eq}
 
 -- each element is a byte
 abbrev pub IsBytes : List ℕ → Type 0
@@ -22,3 +23,7 @@ pub record IsXid (x : XidParts) : Type 0 where
   pub format : x.format < 2 ^ 31
   pub gtrid : IsComponent x.gtrid
   pub bqual : IsComponent x.bqual
+
+-- whether two XIDs are the same
+abbrev pub xid_eq : XidParts → XidParts → Bool
+xid_eq x y = (x.format == y.format) && bytes_eq x.gtrid y.gtrid && bytes_eq x.bqual y.bqual

@@ -1,0 +1,2 @@
+//! What nodes store: facts.
+#![tactic(auto)]
