@@ -1,3 +1,5 @@
 pub mod Turns
-pub mod Laws
+pub mod Steps
 pub mod Next
+pub mod Majorities
+pub mod Picks

@@ -1,6 +1,6 @@
 -- The value that phase 2a takes from the reports of a majority.
 -- Gray and Lamport, "Consensus on Transaction Commit", ACM TODS 31(1), 2006, section 4.2.
-use Rattle.std.specs.Prelude.{◌≡◌, ◌≢◌, ◌⊎◌, ℕ, ◌≤◌, max, Bool, true, not, ◌&&◌, ◌||◌, ◌==◌, if◌then◌else◌, List, [], ◌∷◌, Option, Some, None, is_some, Contains}
+use Rattle.std.specs.Prelude.{◌≡◌, ◌⊎◌, ℕ, ◌≤◌, max, Bool, true, false, not, ◌&&◌, ◌||◌, ◌==◌, if◌then◌else◌, List, [], ◌∷◌, Option, Some, None, is_some}
 use Rattle.std.specs.List.{list_any, list_all}
 use Rattle.xid.specs.declared.transaction.Vote.{Vote}
 use Rattle.xid.specs.declared.transaction.Vote.TheVariants.{Prepared, Aborted}
@@ -18,7 +18,7 @@ top_of (Some last ∷ reports) = max last.0 (top_of reports)
 -- whether a vote is prepared
 abbrev pub is_prepared : Vote → Bool
 is_prepared Prepared = true
-is_prepared Aborted = not true
+is_prepared Aborted = false
 
 -- whether a report of this ballot, if it is one, says prepared
 abbrev pub says_prepared : ℕ → Report → Bool
@@ -29,15 +29,22 @@ says_prepared ballot (Some last) = not (last.0 == ballot) || is_prepared last.1
 abbrev pub pick : List Report → Vote
 pick reports = if list_any is_some reports && list_all (says_prepared (top_of reports)) reports then Prepared else Aborted
 
+-- a report is one of these
+abbrev pub IsIn : List Report → Report → Type 0
+IsIn [] report = ⊥
+IsIn (first ∷ reports) report = (first ≡ report) ⊎ IsIn reports report
+
 -- a ballot is the greatest that is reported
 pub record IsTop (reports : List Report) (top : ℕ) : Type 0 where
   pub value : Vote
-  pub reported : Contains reports (Some (top, value))
-  pub greatest : (last : ℕ × Vote) → Contains reports (Some last) → last.0 ≤ top
+  pub reported : IsIn reports (Some (top, value))
+  pub greatest : (last : ℕ × Vote) → IsIn reports (Some last) → last.0 ≤ top
 
 -- all reports of the greatest ballot say prepared, and there is one
-abbrev pub IsPreparedTop : List Report → Type 0
-IsPreparedTop reports = (top : ℕ) × IsTop reports top × ((v : Vote) → Contains reports (Some (top, v)) → v ≡ Prepared)
+pub record IsPreparedTop (reports : List Report) : Type 0 where
+  pub top : ℕ
+  pub is_top : IsTop reports top
+  pub prepared : (v : Vote) → IsIn reports (Some (top, v)) → v ≡ Prepared
 
 -- the value of phase 2a as the paper has it
 abbrev pub IsPick : List Report → Vote → Type 0

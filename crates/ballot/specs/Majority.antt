@@ -1,6 +1,6 @@
 -- Majorities of acceptors.
 -- Gray and Lamport, "Consensus on Transaction Commit", ACM TODS 31(1), 2006, section 4.1.
-use Rattle.std.specs.Prelude.{ℕ, zero, suc, ◌+◌, ◌*◌, ◌<◌, nat_lt, Bool, false, if◌then◌else◌, List}
+use Rattle.std.specs.Prelude.{ℕ, zero, suc, ◌+◌, ◌*◌, ◌<◌, nat_lt, Bool, IsTrue, false, if◌then◌else◌, List}
 use Rattle.std.specs.List.{slice_index_or}
 
 -- whether a set of acceptors, as a list of yes and no, has one
@@ -19,3 +19,10 @@ IsMajority n q = n < 2 * count n q
 -- the same as a test
 abbrev pub is_majority : ℕ → (ℕ → Bool) → Bool
 is_majority n q = nat_lt n (2 * count n q)
+
+-- two majorities have a member in common
+pub record IsShared (n : ℕ) (p q : ℕ → Bool) : Type 0 where
+  pub member : ℕ
+  pub below : member < n
+  pub of_first : IsTrue (p member)
+  pub of_second : IsTrue (q member)

@@ -4,6 +4,7 @@
 
 mod ballots;
 mod choice;
+pub mod laws;
 mod quorum;
 mod slot;
 
