@@ -2,7 +2,7 @@ ghost use Rattle.std.specs.Prelude.{◌≡◌, ℕ, ◌≤◌, ◌<◌, List, le
 ghost use Rattle.xid.specs.declared.refusals.Refusal.TheVariants.{BadTx};
 
 use crate::branch_id::{FORMATS, Xid, is_component};
-use crate::branches::{Branches, are_branches};
+use crate::branches::{Branches, RM_NUMBERS, are_branches};
 use crate::component::Component;
 use crate::refusals::Refusal;
 use std::marker::Model;
@@ -92,6 +92,7 @@ impl Tx {
         requires { i < length self.now.branches }
         ensures value { result ≡ slice_index (participants self.now) i }
         ensures branch { result ≡ (branch_at self.now i).rm }
+        ensures below { result < RM_NUMBERS }
         ensures valid { IsTx self.now }
     {
         self.branches.as_slice()[i].rm()
@@ -101,6 +102,7 @@ impl Tx {
     pub fn bqual(&self, i: usize) -> &[u8]
         requires { i < length self.now.branches }
         ensures value { result.now ≡ (branch_at self.now i).bqual }
+        ensures few { length result.now ≤ 64 }
         ensures valid { IsTx self.now }
     {
         self.branches.as_slice()[i].bqual()
