@@ -3,8 +3,10 @@
 
 mod grammar;
 mod message;
+mod reading;
 mod writing;
 
 pub use grammar::{MAX_DATAGRAM, MAX_MESSAGE_BYTES, MAX_TX_BYTES, VERSION};
 pub use message::{Kind, MAX_ACCEPTORS, Message, is_message};
+pub use reading::{decode, take_tx};
 pub use writing::{encode, put_tx};

@@ -13,5 +13,6 @@ mod transaction;
 pub use branch_id::Xid;
 pub use branches::{Branches, MAX_BRANCHES, RM_NUMBERS};
 pub use codes::XaCode;
+pub use component::MAX_COMPONENT;
 pub use refusals::Refusal;
 pub use transaction::{Tx, Vote};

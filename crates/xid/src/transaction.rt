@@ -45,13 +45,13 @@ impl Tx {
         let Some(branches) = Branches::of(branches) else {
             return Err(Refusal::BadTx);
         };
-        Tx::from_branches(format, gtrid, branches)
+        Tx::from_branches(format, gtrid, &branches)
     }
 
     /// The same of branches that stand in place.
-    pub fn from_branches(format: u32, gtrid: &[u8], branches: Branches) -> Result<Tx, Refusal>
-        ensures ok { IfOk result (λ tx. IsTx tx × (tx ≡ record { format = format; gtrid = gtrid.now; branches = branches })) }
-        ensures err { IfErr result (λ e. (e ≡ BadTx) × (IsTx (record { format = format; gtrid = gtrid.now; branches = branches }) → ⊥)) }
+    pub fn from_branches(format: u32, gtrid: &[u8], branches: &Branches) -> Result<Tx, Refusal>
+        ensures ok { IfOk result (λ tx. IsTx tx × (tx ≡ record { format = format; gtrid = gtrid.now; branches = branches.now })) }
+        ensures err { IfErr result (λ e. (e ≡ BadTx) × (IsTx (record { format = format; gtrid = gtrid.now; branches = branches.now }) → ⊥)) }
     {
         if format >= FORMATS || !is_component(gtrid) || !are_branches(branches.as_slice()) {
             return Err(Refusal::BadTx);
@@ -59,7 +59,7 @@ impl Tx {
         Ok(Tx {
             format,
             gtrid: Component::new(gtrid),
-            branches,
+            branches: *branches,
         })
     }
 
