@@ -6,6 +6,7 @@ use Rattle.xid.specs.Transactions.{TxParts}
 use Rattle.xid.specs.declared.refusals.Refusal.TheVariants.{NoMemory, Forged, NoSuch}
 use Rattle.wire.specs.declared.message.Kind.{Kind}
 use Rattle.wire.specs.Messages as messages
+use Rattle.wire.specs.Grammar.{spelling}
 use Rattle.stable_record.specs.Facts.{Fact}
 use Rattle.stable_record.specs.Facts as stored
 use Rattle.protocol.specs.Calls as calls
@@ -18,7 +19,6 @@ use Rattle.protocol.specs.Facts.{view}
 use Rattle.protocol.specs.Tables.{table}
 use Rattle.protocol.specs.Effects.{Config, Reply, Done, Refuses, Send, receivers}
 use Rattle.protocol.specs.Nodes.{NodeState, new_node, Input, CallOn, ListPrepared, AskView, AskCommit, AskStatus, TimeOut, Take, TakeNoise, Fate, Well, Fails, Unreached, Starved, Outcome, unchanged, node_step, restarted, first_rows}
-use Rattle.protocol.specs.Lengths.{message_length}
 
 -- a datagram that was sent; one that was handed over or lost is marked
 pub record Datagram : Type 0 where
@@ -174,7 +174,7 @@ loses world n (Some d) = refused (with_mark world n) Done
 -- the first k bytes handed over: they are fewer than all, and spell no message
 abbrev pub cuts : Config → World → ℕ → Fate → Option Datagram → Happening
 cuts config world k fate None = refused world (Refuses NoSuch)
-cuts config world k fate (Some d) = if nat_lt k (message_length d.message) then at_node config world d.receiver TakeNoise fate else refused world (Refuses NoSuch)
+cuts config world k fate (Some d) = if nat_lt k (length (spelling d.message)) then at_node config world d.receiver TakeNoise fate else refused world (Refuses NoSuch)
 
 -- bytes that nobody sent
 abbrev pub disturbs : Config → World → NodeId → (spells : Bool) → Fate → Happening
