@@ -10,7 +10,7 @@ use Rattle.protocol.specs.declared.Status.TheVariants as statuses
 use Rattle.protocol.specs.Calls.{Start, Get, End, EndFail, Rollback, Code, Xids, Refused, Recover}
 use Rattle.protocol.specs.Effects.{Config, Reply, Done, Called, Shows, Stands, Refuses}
 use Rattle.protocol.specs.Worlds.{Event, Client, ViewOf, CommitOf, StatusOf, Timeout, Deliver, Tear, Restart}
-use Rattle.protocol.proofs.RowWords.{x, y, z, two, one, other_one, row, cluster, cluster_with_row, then, replies, tables, deliveries, call, put, recover, sent_by, changes, ok, two_ended, one_ended}
+use Rattle.protocol.proofs.RowWords.{x, y, z, two, one, other_one, row, cluster, cluster_with_row, next, replies, tables, deliveries, call, put, recover, sent_by, changes, ok, two_ended, one_ended}
 
 abbrev c : Config
 c = cluster 1 1 1
@@ -23,8 +23,8 @@ pub answered : replies c (before ++ Deliver 1 ∷ call 0 x Start ∷ call 0 x Ro
     ∷ Called (Code codes.DupId) ∷ Called (Code codes.Nota) ∷ []
 answered = refl
 
-pub votes_aborted : (then c before (Deliver 1)).now ≡ changes 0 one views.Aborted
+pub votes_aborted : (next c before (Deliver 1)).now ≡ changes 0 one views.Aborted
 votes_aborted = refl
 
-pub sends_aborted : (then c before (Deliver 1)).sent ≡ sent_by (R 0) (A 0) (P2a one 0 0 votes.Aborted) ∷ []
+pub sends_aborted : (next c before (Deliver 1)).sent ≡ sent_by (R 0) (A 0) (P2a one 0 0 votes.Aborted) ∷ []
 sends_aborted = refl

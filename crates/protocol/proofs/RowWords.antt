@@ -53,8 +53,8 @@ abbrev pub run : Config → List Event → World
 run config events = world_after config (opening config) (map well events)
 
 -- what an event does that comes after others
-abbrev pub then : Config → List Event → Event → Happening
-then config events event = happens config (run config events) event Well
+abbrev pub next : Config → List Event → Event → Happening
+next config events event = happens config (run config events) event Well
 
 -- all replies, and the final tables
 abbrev pub replies : Config → List Event → List Reply

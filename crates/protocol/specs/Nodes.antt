@@ -83,14 +83,17 @@ abbrev pub is_message_inside : Config → Kind → Bool
 is_message_inside config message = is_inside config (tx_of message) && is_acceptor_inside config message
 
 -- the effect on a node of what its role makes of it
+abbrev pub in_memory : {M : Type 0} → (M → Memory) → Effect M → Effect Memory
+in_memory whole e = record { reply = e.reply; fact = e.fact; sends = e.sends; memory = whole e.memory }
+
 abbrev pub of_acceptor : Memory → Effect (Unit {0}) → Effect Memory
-of_acceptor memory e = record { reply = e.reply; fact = e.fact; sends = e.sends; memory = memory }
+of_acceptor memory = in_memory (λ none. memory)
 
 abbrev pub of_leader : Memory → Effect Leading → Effect Memory
-of_leader memory e = record { reply = e.reply; fact = e.fact; sends = e.sends; memory = record memory { leading = e.memory } }
+of_leader memory = in_memory (λ leading. record memory { leading = leading })
 
 abbrev pub of_manager : Memory → Effect (List Branch) → Effect Memory
-of_manager memory e = record { reply = e.reply; fact = e.fact; sends = e.sends; memory = record memory { branches = e.memory } }
+of_manager memory = in_memory (λ branches. record memory { branches = branches })
 
 -- what a node does on a message that names none but nodes of the cluster
 abbrev pub takes : Config → NodeId → List Fact → Memory → Kind → Effect Memory
