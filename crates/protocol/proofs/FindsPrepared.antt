@@ -1,16 +1,13 @@
 -- takeover_finds_prepared: a second leader finishes the commit.
-use Rattle.std.specs.Prelude.{◌≡◌, refl, ℕ, List, [], ◌∷◌, ◌++◌, Option, Some, None}
+use Rattle.std.specs.Prelude.{◌≡◌, refl, List, [], ◌∷◌, ◌++◌, Some}
 use Rattle.xid.specs.declared.transaction.Vote.TheVariants as votes
-use Rattle.xid.specs.declared.codes.XaCode.TheVariants as codes
-use Rattle.xid.specs.declared.refusals.Refusal.TheVariants.{RecordFault, Busy}
-use Rattle.wire.specs.declared.message.Kind.TheVariants.{Prepare, P1a, P1b, P2a, P2b, Commit, Abort, Ask}
+use Rattle.wire.specs.declared.message.Kind.TheVariants.{P1b, P2a, P2b, Commit}
 use Rattle.protocol.specs.declared.NodeId.TheVariants.{A, L, R}
 use Rattle.protocol.specs.declared.View.TheVariants as views
 use Rattle.protocol.specs.declared.Status.TheVariants as statuses
-use Rattle.protocol.specs.Calls.{Start, Get, End, EndFail, Rollback, Code, Xids, Refused, Recover}
-use Rattle.protocol.specs.Effects.{Config, Reply, Done, Called, Shows, Stands, Refuses}
-use Rattle.protocol.specs.Worlds.{Event, Client, ViewOf, CommitOf, StatusOf, Timeout, Deliver, Tear, Restart}
-use Rattle.protocol.proofs.RowWords.{x, y, z, two, one, other_one, row, cluster, cluster_with_row, next, replies, tables, deliveries, call, put, recover, sent_by, changes, ok, two_ended, one_ended}
+use Rattle.protocol.specs.Effects.{Config, Stands}
+use Rattle.protocol.specs.Worlds.{Event, StatusOf, Timeout, Deliver}
+use Rattle.protocol.proofs.RowWords.{two, row, cluster_with_row, next, tables, deliveries, sent_by, changes, two_ended}
 
 abbrev c : Config
 c = cluster_with_row 3 2 2
@@ -54,4 +51,3 @@ other_waits = refl
 
 pub final : tables c (told ++ deliveries 44 3) ≡ (row 0x6b 0x31 ∷ []) ∷ (row 0x6d 0x32 ∷ []) ∷ []
 final = refl
-

@@ -1,6 +1,5 @@
 -- Words for worked runs: the names and transactions in them, and what a run shows of itself.
-use Rattle.std.specs.Prelude.{ℕ, false, List, [], ◌∷◌, map, Option, Some, None, slice_get}
-use Rattle.std.specs.Option.{option_map}
+use Rattle.std.specs.Prelude.{ℕ, false, List, [], ◌∷◌, map, Option, Some}
 use Rattle.xid.specs.Names.{XidParts}
 use Rattle.xid.specs.Transactions.{TxParts}
 use Rattle.protocol.specs.declared.NodeId.{NodeId}

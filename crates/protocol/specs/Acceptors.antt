@@ -1,5 +1,5 @@
 -- The rules of an acceptor. Gray and Lamport, "Consensus on Transaction Commit", ACM TODS 31(1), 2006, section 4.1.
-use Rattle.std.specs.Prelude.{ℕ, Bool, true, false, ◌&&◌, ◌==◌, nat_lt, nat_le, if◌then◌else◌, List, [], ◌∷◌, Option, Some, None}
+use Rattle.std.specs.Prelude.{ℕ, Bool, false, ◌&&◌, ◌==◌, nat_lt, nat_le, if◌then◌else◌, List, [], ◌∷◌, Some, None}
 use Rattle.xid.specs.Transactions.{TxParts}
 use Rattle.xid.specs.declared.transaction.Vote.{Vote}
 use Rattle.wire.specs.declared.message.Kind.{Kind}

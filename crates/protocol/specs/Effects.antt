@@ -1,10 +1,9 @@
 -- What a rule answers: a reply, at most one fact to store, messages to send, and what it leaves in memory.
-use Rattle.std.specs.Prelude.{ℕ, ◌+◌, Bool, ◌&&◌, nat_lt, List, [], ◌∷◌, map, Option, Some, None}
+use Rattle.std.specs.Prelude.{ℕ, Bool, nat_lt, List, [], ◌∷◌, map, Option, Some, None}
 use Rattle.std.specs.List.{list_all, range_with_len}
 use Rattle.xid.specs.Transactions.{TxParts, participants}
 use Rattle.xid.specs.declared.refusals.Refusal.{Refusal}
 use Rattle.wire.specs.declared.message.Kind.{Kind}
-use Rattle.wire.specs.Messages.{tx_of}
 use Rattle.stable_record.specs.Facts.{Fact}
 use Rattle.protocol.specs.Calls.{Answer, Row}
 use Rattle.protocol.specs.declared.NodeId.{NodeId}

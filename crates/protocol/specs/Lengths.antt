@@ -1,5 +1,5 @@
 -- How many bytes a fact has where it is written, for torn appends.
-use Rattle.std.specs.Prelude.{ℕ, ◌+◌, List, length, map, sum, Option, Some, None}
+use Rattle.std.specs.Prelude.{ℕ, ◌+◌, List, length, map, sum, Option, Some}
 use Rattle.wire.specs.Grammar.{tx_spelling}
 use Rattle.stable_record.specs.Facts.{Fact, Touched}
 use Rattle.stable_record.specs.Facts as stored

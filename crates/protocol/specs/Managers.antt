@@ -1,6 +1,6 @@
 -- The rules of a resource manager: client calls after X/Open XA (C193), "Transaction branch states", and messages after Gray
 -- and Lamport, "Consensus on Transaction Commit", ACM TODS 31(1), 2006, section 4.2.
-use Rattle.std.specs.Prelude.{ℕ, Bool, true, false, not, ◌&&◌, ◌||◌, if◌then◌else◌, List, [], ◌∷◌, ◌++◌, length, map, Option, Some, None, filter, filter_map, find, is_some, fold}
+use Rattle.std.specs.Prelude.{ℕ, Bool, true, false, not, ◌&&◌, if◌then◌else◌, List, [], ◌∷◌, ◌++◌, length, map, Option, Some, None, filter, filter_map, find, is_some, fold}
 use Rattle.std.specs.List.{list_any}
 use Rattle.std.specs.Option.{option_map}
 use Rattle.std.specs.Str.{bytes_eq}
@@ -19,11 +19,9 @@ use Rattle.stable_record.specs.Facts.{Fact, Touched}
 use Rattle.stable_record.specs.Facts as stored
 use Rattle.protocol.specs.declared.BranchState.{BranchState}
 use Rattle.protocol.specs.declared.BranchState.TheVariants as states
-use Rattle.protocol.specs.declared.View.{View}
-use Rattle.protocol.specs.declared.View.TheVariants as views
 use Rattle.protocol.specs.Calls.{Action, Start, Put, Del, Get, End, EndFail, Rollback, Answer, Code, Xids, Row}
 use Rattle.protocol.specs.Branches.{BranchView, no_branch, answer_of, is_done, key_of}
-use Rattle.protocol.specs.Facts.{view, vote_in, is_ended, is_spent, is_xid, is_prepared_view, is_open_view, Bound, bound_in}
+use Rattle.protocol.specs.Facts.{view, vote_in, is_ended, is_spent, is_prepared_view, is_open_view, bound_in}
 use Rattle.protocol.specs.Tables.{bytes_before, table, is_less}
 use Rattle.protocol.specs.Effects.{Config, Effect, Called, Shows, Refuses, Send, ToAcceptors, ToLeaders, replies, no_effect, sends_only, stores, to, is_inside}
 
@@ -105,6 +103,7 @@ on_call rm first facts branches x action =
   where
     all : List Branch
     all = all_branches rm facts branches
+
     answer : Answer
     answer = call_answer (is_spent rm facts x) (table first facts) (branch_at all x) (is_held all x (key_of action)) action
 

@@ -1,7 +1,7 @@
 -- All nodes, and every datagram that was ever sent; and one event.
-use Rattle.std.specs.Prelude.{ℕ, zero, suc, ◌+◌, ◌-◌, ◌==◌, Bool, true, false, not, ◌&&◌, nat_lt, if◌then◌else◌, List, [], ◌∷◌, ◌++◌, length, map, replicate, Option, Some, None, is_some, slice_get}
+use Rattle.std.specs.Prelude.{ℕ, zero, suc, ◌+◌, ◌==◌, Bool, true, false, nat_lt, if◌then◌else◌, List, [], ◌∷◌, ◌++◌, length, map, replicate, Option, Some, None, is_some, slice_get}
 use Rattle.std.specs.List.{slice_set, flat_map, range_with_len}
-use Rattle.std.specs.Option.{option_and_then, option_map}
+use Rattle.std.specs.Option.{option_and_then}
 use Rattle.xid.specs.Transactions.{TxParts}
 use Rattle.xid.specs.declared.refusals.Refusal.TheVariants.{NoMemory, Forged, NoSuch}
 use Rattle.wire.specs.declared.message.Kind.{Kind}
@@ -18,7 +18,7 @@ use Rattle.protocol.specs.declared.View.TheVariants as views
 use Rattle.protocol.specs.Facts.{view}
 use Rattle.protocol.specs.Tables.{table}
 use Rattle.protocol.specs.Effects.{Config, Reply, Done, Refuses, Send, receivers}
-use Rattle.protocol.specs.Nodes.{NodeState, new_node, Input, CallOn, ListPrepared, AskView, AskCommit, AskStatus, TimeOut, Take, TakeNoise, Fate, Well, Fails, Unreached, Starved, Outcome, unchanged, node_step, restarted, first_rows}
+use Rattle.protocol.specs.Nodes.{NodeState, new_node, Input, CallOn, ListPrepared, AskView, AskCommit, AskStatus, TimeOut, Take, TakeNoise, Fate, Unreached, Outcome, node_step, restarted, first_rows}
 
 -- a datagram that was sent; one that was handed over or lost is marked
 pub record Datagram : Type 0 where
