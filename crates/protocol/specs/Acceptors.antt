@@ -13,6 +13,7 @@ use Rattle.protocol.specs.declared.NodeId.TheVariants.{L}
 use Rattle.protocol.specs.Facts.{slot, vote_eq}
 use Rattle.protocol.specs.Effects.{Config, Effect, Send, ToNode, ToLeaders, no_effect, sends_only, stores, to}
 
+-- whether a report is of this ballot and value
 abbrev pub is_report : Report → ℕ → Vote → Bool
 is_report None b v = false
 is_report (Some last) b v = (last.0 == b) && vote_eq last.1 v

@@ -36,6 +36,7 @@ pub data Address : Type 0 where
   ToLeaders : Address
   ToManagers : Address
 
+-- a message and whom it is for
 pub record Send : Type 0 where
   pub to : Address
   pub message : Kind
@@ -63,6 +64,7 @@ sends_only memory sends = record { reply = Done; fact = None; sends = sends; mem
 abbrev pub stores : {M : Type 0} → M → Fact → List Send → Effect M
 stores memory fact sends = record { reply = Done; fact = Some fact; sends = sends; memory = memory }
 
+-- a message to send
 abbrev pub to : Address → Kind → Send
 to address message = record { to = address; message = message }
 

@@ -66,6 +66,7 @@ abbrev pub on_status_call : Config → List Fact → Leading → TxParts → Eff
 on_status_call config facts leading tx =
     if is_inside config tx then replies leading (Stands (status_of config.acceptors facts leading tx)) else replies leading (Refuses BadTx)
 
+-- whether a ballot is the current one
 abbrev pub is_current : Option ℕ → ℕ → Bool
 is_current None b = false
 is_current (Some current) b = current == b

@@ -41,6 +41,7 @@ touch_key (first ∷ keys) key write =
     else if bytes_before key first.key then record { key = key; write = write } ∷ first ∷ keys
     else first ∷ touch_key keys key write
 
+-- whether a key is among those touched
 abbrev pub has_key : List ℕ → List Touched → Bool
 has_key key keys = list_any (λ touched. bytes_eq touched.key key) keys
 
@@ -122,7 +123,10 @@ insert_xid x (y ∷ xs) = if xid_before x y then x ∷ y ∷ xs else y ∷ inser
 
 -- the names of the prepared branches, ascending
 abbrev pub on_recover : ℕ → List Fact → List Branch → Effect (List Branch)
-on_recover rm facts branches = replies branches (Called (Xids (fold (λ xs x. insert_xid x xs) [] (filter_map (λ bound. xid_at bound.tx rm) (bound_in facts)))))
+on_recover rm facts branches = replies branches (Called (Xids (fold (λ xs x. insert_xid x xs) [] names_here)))
+  where
+    names_here : List XidParts
+    names_here = filter_map (λ bound. xid_at bound.tx rm) (bound_in facts)
 
 -- where this resource manager stands in a transaction that names it
 abbrev pub on_view_call : Config → ℕ → List Fact → List Branch → TxParts → Effect (List Branch)
@@ -147,8 +151,10 @@ idle_keys branches x = option_map (λ branch. branch.keys) (find (λ branch. xid
 -- the first vote on a transaction that has the name x here: prepared with the keys of an idle branch whose name isn't spent,
 -- else aborted; the branch isn't among the unprepared ones any more
 abbrev pub first_vote : ℕ → List Branch → TxParts → XidParts → (spent : Bool) → (idle : Option (List Touched)) → Effect (List Branch)
-first_vote rm branches tx x false (Some keys) = stores (without branches x) (stored.VotePrepared tx keys) (vote_sent rm tx (Some votes.Prepared))
-first_vote rm branches tx x spent idle = stores (without branches x) (stored.VoteAborted tx) (vote_sent rm tx (Some votes.Aborted))
+first_vote rm branches tx x false (Some keys) =
+    stores (without branches x) (stored.VotePrepared tx keys) (vote_sent rm tx (Some votes.Prepared))
+first_vote rm branches tx x spent idle =
+    stores (without branches x) (stored.VoteAborted tx) (vote_sent rm tx (Some votes.Aborted))
 
 -- Prepare: a vote that is stored is sent again; where an outcome is stored, nothing; else the first vote
 abbrev pub on_prepare : ℕ → List Fact → List Branch → TxParts → XidParts → Effect (List Branch)

@@ -11,6 +11,7 @@ use Rattle.stable_record.specs.Facts as stored
 use Rattle.protocol.specs.Calls.{Row}
 use Rattle.protocol.specs.Facts.{tx_eq}
 
+-- whether the first comes before the second
 abbrev pub is_less : Ordering → Bool
 is_less Less = true
 is_less Equal = false

@@ -73,9 +73,11 @@ place config (A a) = if nat_lt a config.acceptors then Some a else None
 place config (L l) = if nat_lt l config.leaders then Some (config.acceptors + l) else None
 place config (R rm) = if nat_lt rm config.managers then Some (config.acceptors + config.leaders + rm) else None
 
+-- the node of a name
 abbrev pub node_at : Config → World → NodeId → Option NodeState
 node_at config world who = option_and_then (λ at. slice_get world.nodes at) (place config who)
 
+-- the world with another node in its place
 abbrev pub set_node : Config → World → NodeId → NodeState → World
 set_node config world who node = record { nodes = set_at (place config who); net = world.net }
   where
@@ -94,6 +96,7 @@ abbrev pub posted : Config → NodeId → Send → List Datagram
 posted config who send = map (λ receiver. record { sender = who; receiver = receiver; message = send.message; marked = false })
     (receivers config send.to (messages.tx_of send.message))
 
+-- views by number, to compare them
 abbrev pub view_number : View → ℕ
 view_number views.Working = 0
 view_number views.Prepared = 1
@@ -144,22 +147,26 @@ tears config world who n =
 
 -- ---- datagrams by their numbers, from 1
 
+-- the datagram of a number
 abbrev pub datagram_at : List Datagram → ℕ → Option Datagram
 datagram_at net zero = None
 datagram_at net (suc n) = slice_get net n
 
+-- datagrams with the one of a number marked
 abbrev pub marked_at : List Datagram → ℕ → List Datagram
 marked_at [] n = []
 marked_at (d ∷ net) zero = d ∷ net
 marked_at (d ∷ net) (suc zero) = record d { marked = true } ∷ net
 marked_at (d ∷ net) (suc (suc n)) = d ∷ marked_at net (suc n)
 
+-- a world with a datagram marked
 abbrev pub with_mark : World → ℕ → World
 with_mark world n = record { nodes = world.nodes; net = marked_at world.net n }
 
 -- handed over, and marked
 abbrev pub delivers : Config → World → ℕ → Fate → Happening
-delivers config world n fate = where_found world (λ d. at_node config (with_mark world n) d.receiver (Take d.message) fate) (datagram_at world.net n)
+delivers config world n fate =
+    where_found world (λ d. at_node config (with_mark world n) d.receiver (Take d.message) fate) (datagram_at world.net n)
 
 -- marked without being handed over
 abbrev pub loses : World → ℕ → Happening
@@ -225,5 +232,6 @@ table_at config world rm = rows_of (node_at config world (R rm))
     rows_of None = []
     rows_of (Some node) = table (first_rows config rm) node.facts
 
+-- all tables
 abbrev pub tables_of : Config → World → List (List Row)
 tables_of config world = map (table_at config world) (range_with_len 0 config.managers)
