@@ -9,10 +9,10 @@ use Rattle.xid.specs.declared.codes.XaCode.TheVariants as code
 use Rattle.xid.specs.declared.refusals.Refusal.TheVariants.{Busy, Full}
 use Rattle.xid.proofs.XidLaws.{xid_eq-same}
 use Rattle.protocol.specs.declared.BranchState.{BranchState}
-use Rattle.protocol.specs.declared.BranchState.TheVariants.{Active, Idle, RollbackOnly}
+use Rattle.protocol.specs.declared.BranchState.TheVariants.{Active, Idle, RollbackOnly, Prepared}
 use Rattle.protocol.specs.Calls.{Action, Start, Put, Del, Get, End, EndFail, Rollback, Answer, Code, Refused, Row}
-use Rattle.protocol.specs.Branches.{BranchView, SameView, no_branch, key_of, answer_of, touch_answer, is_done, after, Leaves, by_state, touch, done_view, most_keys, found, read_of, over_table, row_at}
-use Rattle.branch_table.specs.Tables.{BranchParts, TableParts, branch_view, view_at, are_distinct, is_active, holds, has_key, written_in, Steps, done}
+use Rattle.protocol.specs.Branches.{BranchView, SameView, no_branch, key_of, answer_of, touch_answer, is_done, after, Leaves, by_state, rollback_answer, touch, done_view, most_keys, found, read_of, over_table, row_at}
+use Rattle.branch_table.specs.Tables.{BranchParts, TableParts, branch_view, view_at, are_distinct, is_active, is_ended, holds, has_key, written_in, Steps, done}
 use Rattle.branch_table.specs.declared.table.Ending.{Ending}
 use Rattle.branch_table.specs.declared.table.Ending.TheVariants as ending
 use Rattle.branch_table.specs.declared.table.Denied.TheVariants as denied
@@ -88,11 +88,13 @@ ended_answer : (s : BranchState) (a b c : Answer) → is_active s ≡ false → 
 ended_answer Active a b c e = absurd (cc)
 ended_answer Idle a b c e = refl
 ended_answer RollbackOnly a b c e = refl
+ended_answer Prepared a b c e = refl
 
 active_answer : (s : BranchState) (a b c : Answer) → is_active s ≡ true → by_state (Some s) a b c ≡ b
 active_answer Active a b c e = refl
 active_answer Idle a b c e = absurd (cc)
 active_answer RollbackOnly a b c e = absurd (cc)
+active_answer Prepared a b c e = absurd (cc)
 
 pub end_ended : (t : TableParts) (x : XidParts) (e : Ending) (at : ℕ) (b : BranchParts) → place_in t.branches x ≡ Some at → b ≡ get_or t.branches at b → is_active b.state ≡ false
     → Steps t t x (end_action e) (Code code.Proto)
@@ -147,21 +149,33 @@ end_distinct bs x at b new place read same-xid apart =
 
 -- ---- rollback
 
+unended_rollback : (s : BranchState) → is_ended s ≡ false → rollback_answer (Some s) ≡ Code code.Proto
+unended_rollback Active e = refl
+unended_rollback Idle e = absurd (cc)
+unended_rollback RollbackOnly e = absurd (cc)
+unended_rollback Prepared e = refl
+
+ended_rollback : (s : BranchState) → is_ended s ≡ true → rollback_answer (Some s) ≡ Code code.Ok
+ended_rollback Active e = absurd (cc)
+ended_rollback Idle e = refl
+ended_rollback RollbackOnly e = refl
+ended_rollback Prepared e = absurd (cc)
+
 pub rollback_absent : (t : TableParts) (x : XidParts) → place_in t.branches x ≡ None → Steps t t x Rollback (Code code.Nota)
 rollback_absent t x none = refused t x Rollback (Code code.Nota) refl (rw (unplaced t.branches x none) refl) refl
 
-pub rollback_active : (t : TableParts) (x : XidParts) (at : ℕ) (b : BranchParts) → place_in t.branches x ≡ Some at → b ≡ get_or t.branches at b → is_active b.state ≡ true
+pub rollback_unended : (t : TableParts) (x : XidParts) (at : ℕ) (b : BranchParts) → place_in t.branches x ≡ Some at → b ≡ get_or t.branches at b → is_ended b.state ≡ false
     → Steps t t x Rollback (Code code.Proto)
-rollback_active t x at b place read active =
+rollback_unended t x at b place read active =
     let shows : view_at t.branches x ≡ branch_view b = view_here t.branches x at b (placed t.branches x at b place) ∙ ap branch_view (sym read) in
-    refused t x Rollback (Code code.Proto) refl (rw shows (active_answer b.state (Code code.Nota) (Code code.Proto) (Code code.Ok) active)) refl
+    refused t x Rollback (Code code.Proto) refl (rw shows (unended_rollback b.state active)) refl
 
 pub rollback_done : (t : TableParts) (x : XidParts) (at : ℕ) (b : BranchParts) (bs : List BranchParts) → are_distinct t.branches ≡ true → place_in t.branches x ≡ Some at → b ≡ get_or t.branches at b
-    → is_active b.state ≡ false → bs ≡ remove t.branches at → Steps t (record { rows = t.rows; branches = bs }) x Rollback (Code code.Ok)
+    → is_ended b.state ≡ true → bs ≡ remove t.branches at → Steps t (record { rows = t.rows; branches = bs }) x Rollback (Code code.Ok)
 rollback_done t x at b bs apart place read ended bs-is =
     let is-place = placed t.branches x at b place in
     let shows : view_at t.branches x ≡ branch_view b = view_here t.branches x at b is-place ∙ ap branch_view (sym read) in
-    done_call t (record { rows = t.rows; branches = bs }) x Rollback (Code code.Ok) refl (rw shows (ended_answer b.state (Code code.Nota) (Code code.Proto) (Code code.Ok) ended)) refl
+    done_call t (record { rows = t.rows; branches = bs }) x Rollback (Code code.Ok) refl (rw shows (ended_rollback b.state ended)) refl
     (rw (bs-is, view_remove_own t.branches x at b apart is-place) (same no_branch))
     (λ other other-apart. rw bs-is (view_remove_other t.branches x other at b is-place other-apart))
 

@@ -5,7 +5,7 @@ use Rattle.std.specs.Str.{bytes_eq}
 use Rattle.xid.specs.Names.{XidParts, xid_eq}
 use Rattle.xid.specs.declared.refusals.Refusal.TheVariants.{NoMemory}
 use Rattle.protocol.specs.declared.BranchState.{BranchState}
-use Rattle.protocol.specs.declared.BranchState.TheVariants.{Active, Idle, RollbackOnly}
+use Rattle.protocol.specs.declared.BranchState.TheVariants.{Active, Idle, RollbackOnly, Prepared}
 use Rattle.protocol.specs.Calls.{Action, Answer, Refused, Row}
 use Rattle.protocol.specs.Branches.{BranchView, no_branch, Answers, Leaves}
 
@@ -35,6 +35,14 @@ abbrev pub is_active : BranchState → Bool
 is_active Active = true
 is_active Idle = false
 is_active RollbackOnly = false
+is_active Prepared = false
+
+-- ended, and not prepared: it may be rolled back
+abbrev pub is_ended : BranchState → Bool
+is_ended Active = false
+is_ended Idle = true
+is_ended RollbackOnly = true
+is_ended Prepared = false
 
 -- how a branch shows
 abbrev pub branch_view : BranchParts → BranchView

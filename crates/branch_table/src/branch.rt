@@ -3,7 +3,7 @@ ghost use Rattle.std.specs.List.{list_any, position};
 ghost use Rattle.std.specs.Str.{bytes_eq};
 ghost use Rattle.xid.specs.Names.{xid_eq};
 ghost use Rattle.xid.specs.declared.refusals.Refusal.TheVariants.{NoMemory};
-ghost use Rattle.branch_table.specs.Tables.{BranchParts, has_key, is_active, written_in};
+ghost use Rattle.branch_table.specs.Tables.{BranchParts, has_key, is_active, is_ended, written_in};
 ghost use Rattle.branch_table.specs.Touching.{write_of_act, newer, touch_in};
 
 use protocol::BranchState;
@@ -79,6 +79,13 @@ impl Branch {
         ensures { result ≡ is_active self.now.state }
     {
         matches!(self.state, BranchState::Active)
+    }
+
+    /// Whether it was ended, and isn't prepared.
+    pub fn is_ended(&self) -> bool
+        ensures { result ≡ is_ended self.now.state }
+    {
+        matches!(self.state, BranchState::Idle | BranchState::RollbackOnly)
     }
 
     /// The same branch in another state.

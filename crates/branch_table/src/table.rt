@@ -161,14 +161,14 @@ impl BranchTable {
     }
 
     /// Rolls back a branch that was ended (xa_rollback): it becomes non-existent, and its keys are free. `Nota` where there
-    /// is no such branch, `Proto` where it is active.
+    /// is no such branch, `Proto` where it is active or prepared.
     pub fn rollback(&mut self, xid: &Xid) -> XaCode
         ensures { Steps self.old self.new xid.now Rollback (Code result) }
     {
         let Some(at) = place_of(&self.branches, xid) else {
             return XaCode::Nota;
         };
-        if self.branches[at].is_active() {
+        if !self.branches[at].is_ended() {
             return XaCode::Proto;
         }
         self.branches.remove(at);

@@ -1,1 +1,16 @@
+pub mod RowWords
+pub mod PlainCommit
+pub mod Blocked
+pub mod TornVote
+pub mod BusyThenFree
+pub mod RollbackOnly
+pub mod TwoLists
+pub mod DroppedWrites
+pub mod BallotsAfterRestart
+pub mod BeforeVote
+pub mod FindsPrepared
+pub mod Same
+pub mod Standing
+pub mod ViewLaws
+pub mod SlotLaws
 pub mod Agreement

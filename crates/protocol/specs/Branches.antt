@@ -7,7 +7,7 @@ use Rattle.xid.specs.Names.{XidParts}
 use Rattle.xid.specs.declared.codes.XaCode.TheVariants as code
 use Rattle.xid.specs.declared.refusals.Refusal.TheVariants.{Busy, Full}
 use Rattle.protocol.specs.declared.BranchState.{BranchState}
-use Rattle.protocol.specs.declared.BranchState.TheVariants.{Active, Idle, RollbackOnly}
+use Rattle.protocol.specs.declared.BranchState.TheVariants.{Active, Idle, RollbackOnly, Prepared}
 use Rattle.protocol.specs.Calls.{Action, Start, Put, Del, Get, End, EndFail, Rollback, Answer, Code, Value, NoValue, Refused, Row}
 
 -- a branch as it shows: its state, if it exists; which keys it has touched, and how many; its own last write of a key, if it
@@ -84,6 +84,7 @@ by_state None absent active ended = absent
 by_state (Some Active) absent active ended = active
 by_state (Some Idle) absent active ended = ended
 by_state (Some RollbackOnly) absent active ended = ended
+by_state (Some Prepared) absent active ended = ended
 
 -- a call on a key: the branch, its state, the hold and the room are asked for in this order
 abbrev pub touch_answer : BranchView → Bool → List ℕ → Answer → Answer
@@ -91,6 +92,11 @@ touch_answer view busy key done =
     by_state view.state (Code code.Nota)
     (if busy then Refused Busy else if view.touched key || nat_lt view.count most_keys then done else Refused Full)
     (Code code.Proto)
+
+-- a rollback: of a branch that was ended, and isn't prepared
+abbrev pub rollback_answer : Option BranchState → Answer
+rollback_answer (Some Prepared) = Code code.Proto
+rollback_answer state = by_state state (Code code.Nota) (Code code.Proto) (Code code.Ok)
 
 -- the answer of a call on a branch that shows so; busy says whether its key is held
 abbrev pub answer_of : List Row → BranchView → Bool → Action → Answer
@@ -101,7 +107,7 @@ answer_of rows view busy (Del key) = if key_fits key then touch_answer view busy
 answer_of rows view busy (Get key) = if key_fits key then touch_answer view busy key (found (read_of rows view key)) else Code code.Inval
 answer_of rows view busy End = by_state view.state (Code code.Nota) (Code code.Ok) (Code code.Proto)
 answer_of rows view busy EndFail = by_state view.state (Code code.Nota) (Code code.RbRollback) (Code code.Proto)
-answer_of rows view busy Rollback = by_state view.state (Code code.Nota) (Code code.Proto) (Code code.Ok)
+answer_of rows view busy Rollback = rollback_answer view.state
 
 -- whether a call's key is held by another branch
 abbrev pub IsBusy : (XidParts → BranchView) → XidParts → Option (List ℕ) → Type 0

@@ -1,6 +1,8 @@
-//! The words of the specification, and its definitions: what clients see of branches, over any way to look at them.
-//! The definitions are in `specs/`; there is no code.
+//! The words of the specification, and its definitions: what clients see of branches, what each role does on each input,
+//! one event at one node, and the world of all nodes and all datagrams. The definitions are in `specs/`; there is no code.
 #![tactic(auto)]
+
+pub mod laws;
 
 /// How far a branch has come, after X/Open XA (C193), "Transaction branch states".
 #[derive(Clone, Copy, Debug, PartialEq, Eq)]
@@ -11,4 +13,43 @@ pub enum BranchState {
     Idle,
     /// It was ended as failed: it can only be rolled back.
     RollbackOnly,
+    /// Its resource manager voted prepared: it waits for the outcome of its transaction.
+    Prepared,
+}
+
+/// Where a resource manager stands in a transaction (Gray and Lamport, "Consensus on Transaction Commit", section 2).
+#[derive(Clone, Copy, Debug, PartialEq, Eq)]
+pub enum View {
+    /// It has not voted.
+    Working,
+    /// It voted prepared, and has learned no outcome.
+    Prepared,
+    /// It has learned that the transaction is committed.
+    Committed,
+    /// It voted aborted, or has learned that the transaction is aborted.
+    Aborted,
+}
+
+/// What a leader knows of a transaction.
+#[derive(Clone, Copy, Debug, PartialEq, Eq)]
+pub enum Status {
+    /// It has not heard of it.
+    Unknown,
+    /// It has heard of it, and knows no decision.
+    Undecided,
+    /// All instances have decided prepared.
+    Committed,
+    /// Some instance has decided aborted.
+    Aborted,
+}
+
+/// The name of a node: its kind, and its number among those.
+#[derive(Clone, Copy, Debug, PartialEq, Eq)]
+pub enum NodeId {
+    /// An acceptor.
+    A(u8),
+    /// A leader.
+    L(u8),
+    /// A resource manager.
+    R(u8),
 }

@@ -3,3 +3,5 @@ pub mod Codes
 pub mod Names
 pub mod Padding
 pub mod Text
+pub mod Transactions
+pub mod Rows

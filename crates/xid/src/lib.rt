@@ -3,11 +3,16 @@
 #![tactic(auto)]
 
 mod branch_id;
+mod branches;
 mod codes;
 mod component;
 mod refusals;
 pub mod text;
+mod transaction;
 
 pub use branch_id::Xid;
+pub use branches::{Branches, MAX_BRANCHES, RM_NUMBERS};
 pub use codes::XaCode;
+pub use component::MAX_COMPONENT;
 pub use refusals::Refusal;
+pub use transaction::{Tx, Vote};

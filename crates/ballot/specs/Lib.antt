@@ -1,0 +1,4 @@
+pub mod Ballots
+pub mod Slots
+pub mod Choice
+pub mod Majority

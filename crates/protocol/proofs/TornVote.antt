@@ -1,0 +1,52 @@
+-- torn_vote: the append of a vote is stopped, before its first byte and after its last.
+use Rattle.std.specs.Prelude.{◌≡◌, refl, ℕ, List, [], ◌∷◌, ◌++◌, None, drop}
+use Rattle.xid.specs.declared.transaction.Vote.TheVariants as votes
+use Rattle.xid.specs.declared.codes.XaCode.TheVariants as codes
+use Rattle.xid.specs.declared.refusals.Refusal.TheVariants.{RecordFault}
+use Rattle.wire.specs.declared.message.Kind.TheVariants.{P2a}
+use Rattle.protocol.specs.declared.NodeId.TheVariants.{A, R}
+use Rattle.protocol.specs.declared.View.TheVariants as views
+use Rattle.protocol.specs.Calls.{Code, Xids}
+use Rattle.protocol.specs.Effects.{Config, Reply, Done, Called, Refuses}
+use Rattle.protocol.specs.Worlds.{Event, Deliver, Tear, Restart}
+use Rattle.protocol.proofs.RowWords.{x, one, cluster, next, replies, recover, sent_by, changes, one_ended}
+
+abbrev c : Config
+c = cluster 1 1 1
+
+abbrev torn_at : ℕ → List Event
+torn_at n = one_ended ++ Tear (R 0) n ∷ []
+
+abbrev after_tear : List Event
+after_tear = Deliver 1 ∷ recover 0 ∷ Restart (R 0) ∷ recover 0 ∷ Deliver 1 ∷ []
+
+-- the answers to a tear and to what comes after it
+abbrev answers : ℕ → List Reply
+answers n = drop 4 (replies c (torn_at n ++ after_tear))
+
+pub nothing_kept : answers 0 ≡ Done ∷ Refuses RecordFault ∷ Called (Code codes.RmFail) ∷ Done ∷ Called (Xids []) ∷ Done ∷ []
+nothing_kept = refl
+
+pub one_byte_short : answers 22 ≡ Done ∷ Refuses RecordFault ∷ Called (Code codes.RmFail) ∷ Done ∷ Called (Xids []) ∷ Done ∷ []
+one_byte_short = refl
+
+pub all_kept : answers 23 ≡ Done ∷ Refuses RecordFault ∷ Called (Code codes.RmFail) ∷ Done ∷ Called (Xids (x ∷ [])) ∷ Done ∷ []
+all_kept = refl
+
+pub nothing_changed : (next c (torn_at 22) (Deliver 1)).now ≡ None
+nothing_changed = refl
+
+pub still_prepared : (next c (torn_at 23) (Deliver 1)).now ≡ changes 0 one views.Prepared
+still_prepared = refl
+
+pub nothing_sent : (next c (torn_at 23) (Deliver 1)).sent ≡ []
+nothing_sent = refl
+
+pub votes_aborted : (next c (torn_at 22 ++ Deliver 1 ∷ Restart (R 0) ∷ []) (Deliver 1)).now ≡ changes 0 one views.Aborted
+votes_aborted = refl
+
+pub sends_aborted : (next c (torn_at 22 ++ Deliver 1 ∷ Restart (R 0) ∷ []) (Deliver 1)).sent ≡ sent_by (R 0) (A 0) (P2a one 0 0 votes.Aborted) ∷ []
+sends_aborted = refl
+
+pub sends_again : (next c (torn_at 1000 ++ Deliver 1 ∷ Restart (R 0) ∷ []) (Deliver 1)).sent ≡ sent_by (R 0) (A 0) (P2a one 0 0 votes.Prepared) ∷ []
+sends_again = refl

@@ -1,0 +1,129 @@
+-- What a leader has since its last restart, and what follows from it.
+-- Gray and Lamport, "Consensus on Transaction Commit", ACM TODS 31(1), 2006, section 4.
+use Rattle.std.specs.Prelude.{ℕ, Bool, true, false, not, ◌&&◌, ◌||◌, ◌==◌, if◌then◌else◌, List, [], ◌∷◌, Option, Some, None, filter, filter_map, find}
+use Rattle.std.specs.List.{list_any, list_all}
+use Rattle.std.specs.Option.{option_map}
+use Rattle.xid.specs.Transactions.{TxParts, participants}
+use Rattle.xid.specs.declared.transaction.Vote.{Vote}
+use Rattle.xid.specs.declared.transaction.Vote.TheVariants as votes
+use Rattle.wire.specs.declared.message.Kind.{Kind}
+use Rattle.wire.specs.declared.message.Kind.TheVariants.{P1b, P2a, P2b}
+use Rattle.wire.specs.Messages.{tx_of}
+use Rattle.ballot.specs.Choice.{Report, pick}
+use Rattle.ballot.specs.Majority.{is_majority}
+use Rattle.stable_record.specs.Facts.{Fact}
+use Rattle.protocol.specs.Facts.{tx_eq, instance_eq, vote_eq, is_about}
+use Rattle.protocol.specs.declared.Status.{Status}
+use Rattle.protocol.specs.declared.Status.TheVariants as statuses
+
+-- a ballot begun for a transaction
+pub record Begun : Type 0 where
+  pub tx : TxParts
+  pub ballot : ℕ
+
+-- the phase 1b and 2b messages that count, the ballots that it began (newest first), the phase 2a messages that it sent in
+-- its current ballots, and the transactions that it met
+pub record Leading : Type 0 where
+  pub heard : List Kind
+  pub begun : List Begun
+  pub proposed : List Kind
+  pub met : List TxParts
+
+-- right after a restart
+abbrev pub nothing_heard : Leading
+nothing_heard = record { heard = []; begun = []; proposed = []; met = [] }
+
+-- the current ballot of a transaction: the last that was begun
+abbrev pub current : Leading → TxParts → Option ℕ
+current leading tx = option_map (λ begun. begun.ballot) (find (λ begun. tx_eq tx begun.tx) leading.begun)
+
+-- ---- phase 1b
+
+-- what a message reports in phase 1b of an instance and ballot
+abbrev pub reported_in : TxParts → ℕ → ℕ → Kind → Option Report
+reported_in tx i b (P1b other j c report a) = if (b == c) && instance_eq tx i other j then Some report else None
+reported_in tx i b message = None
+
+-- whether a message is acceptor a's in phase 1b of an instance and ballot
+abbrev pub is_report_of : TxParts → ℕ → ℕ → ℕ → Kind → Bool
+is_report_of tx i b a (P1b other j c report from) = (a == from) && (b == c) && instance_eq tx i other j
+is_report_of tx i b a message = false
+
+-- whether acceptor a has reported
+abbrev pub has_reported : List Kind → TxParts → ℕ → ℕ → ℕ → Bool
+has_reported heard tx i b a = list_any (is_report_of tx i b a) heard
+
+-- whether a majority of n acceptors has reported
+abbrev pub is_reported : ℕ → List Kind → TxParts → ℕ → ℕ → Bool
+is_reported n heard tx i b = is_majority n (has_reported heard tx i b)
+
+-- the value to propose after the reports heard
+abbrev pub picked : List Kind → TxParts → ℕ → ℕ → Vote
+picked heard tx i b = pick (filter_map (reported_in tx i b) heard)
+
+-- whether a value was proposed for an instance in the current ballot
+abbrev pub is_proposed : List Kind → TxParts → ℕ → ℕ → Bool
+is_proposed proposed tx i b = list_any is_proposal proposed
+  where
+    is_proposal : Kind → Bool
+    is_proposal (P2a other j c v) = (b == c) && instance_eq tx i other j
+    is_proposal message = false
+
+-- ---- phase 2b
+
+-- whether a message is acceptor a's in phase 2b of an instance, with a ballot and a value
+abbrev pub is_accept_of : TxParts → ℕ → ℕ → Vote → ℕ → Kind → Bool
+is_accept_of tx i b v a (P2b other j c w from) = (a == from) && (b == c) && vote_eq v w && instance_eq tx i other j
+is_accept_of tx i b v a message = false
+
+-- the ballot of a phase 2b message of an instance and a value
+abbrev pub ballot_told : TxParts → ℕ → Vote → Kind → Option ℕ
+ballot_told tx i v (P2b other j b w from) = if vote_eq v w && instance_eq tx i other j then Some b else None
+ballot_told tx i v message = None
+
+-- an instance has decided a value: a majority of n acceptors told of it in one ballot
+abbrev pub is_decided : ℕ → List Kind → TxParts → ℕ → Vote → Bool
+is_decided n heard tx i v =
+    list_any (λ b. is_majority n (λ a. list_any (is_accept_of tx i b v a) heard)) (filter_map (ballot_told tx i v) heard)
+
+-- ---- status
+
+-- a leader knows the transactions that it met, and those of its stored ballots
+abbrev pub is_known : List Fact → Leading → TxParts → Bool
+is_known facts leading tx = list_any (tx_eq tx) leading.met || list_any (is_about tx) facts
+
+-- aborted where some instance has decided aborted, committed where every instance has decided prepared
+abbrev pub status_of : ℕ → List Fact → Leading → TxParts → Status
+status_of n facts leading tx =
+    if list_any (λ i. is_decided n leading.heard tx i votes.Aborted) (participants tx) then statuses.Aborted
+    else if list_all (λ i. is_decided n leading.heard tx i votes.Prepared) (participants tx) then statuses.Committed
+    else if is_known facts leading tx then statuses.Undecided
+    else statuses.Unknown
+
+-- ---- what it does to what it has
+
+-- a transaction met
+abbrev pub meets : TxParts → Leading → Leading
+meets tx leading = if list_any (tx_eq tx) leading.met then leading else record leading { met = tx ∷ leading.met }
+
+-- a message heard
+abbrev pub hears : Kind → Leading → Leading
+hears message leading = record leading { heard = message ∷ leading.heard }
+
+-- whether a message is of phase 1b
+abbrev pub is_phase_1b : Kind → Bool
+is_phase_1b (P1b tx i b report a) = true
+is_phase_1b message = false
+
+-- a ballot begun: it is current, and what came before in phase 1b and was proposed doesn't count any more
+abbrev pub begins : TxParts → ℕ → Leading → Leading
+begins tx b leading = record {
+  heard = filter (λ message. not (is_phase_1b message && tx_eq tx (tx_of message))) leading.heard;
+  begun = record { tx = tx; ballot = b } ∷ leading.begun;
+  proposed = filter (λ message. not (tx_eq tx (tx_of message))) leading.proposed;
+  met = leading.met;
+}
+
+-- a value proposed
+abbrev pub proposes : Kind → Leading → Leading
+proposes message leading = record leading { proposed = message ∷ leading.proposed }
