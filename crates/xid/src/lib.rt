@@ -9,6 +9,7 @@ mod component;
 mod refusals;
 pub mod text;
 mod transaction;
+mod transaction_text;
 
 pub use branch_id::Xid;
 pub use branches::{Branches, MAX_BRANCHES, RM_NUMBERS};
