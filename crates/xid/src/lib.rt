@@ -17,3 +17,6 @@ pub use codes::XaCode;
 pub use component::MAX_COMPONENT;
 pub use refusals::Refusal;
 pub use transaction::{Tx, Vote};
+
+#[cfg(test)]
+mod transaction_tests;
