@@ -1,6 +1,6 @@
 -- Texts of transactions that are read and written: one branch's, and branches with commas between.
-use Rattle.std.proofs.Common.{◌≡◌, ℕ, suc, ◌+◌, ◌-◌, ◌<◌, ◌≤◌, ◌^◌, Bool, true, false, not, ◌&&◌, eqb, List, [], ◌∷◌, ◌++◌, length, get_or, drop, take, Result, Ok, refl, sym, ap, subst, ◌∙◌, append_assoc, add-one, length-drop, arith, decimal}
-use Rattle.std.specs.List.{flat_map, list_all, All}
+use Rattle.std.proofs.Common.{◌≡◌, ℕ, ◌+◌, ◌<◌, ◌≤◌, ◌^◌, true, not, eqb, List, [], ◌∷◌, ◌++◌, length, get_or, drop, take, Result, Ok, refl, sym, ap, subst, ◌∙◌, append_assoc, add-one, length-drop, arith, decimal}
+use Rattle.std.specs.List.{flat_map}
 use Rattle.std.proofs.lemmas.List.{append-nil, take_more, take_all}
 use Rattle.std.proofs.lemmas.List.Concat.{flat_map-cons, flat_map-append}
 use Rattle.std.proofs.Math.Seq.{drop-cons}
@@ -9,7 +9,7 @@ use Rattle.std.proofs.lemmas.Fmt.{decimal_injective}
 use Rattle.hex.proofs.HexLemmas.{decode_sized-encode_lower}
 use Rattle.hex.specs.Hex.{decode_sized}
 use Rattle.hex.specs.declared.error.FromHexError.{FromHexError}
-use Rattle.xid.specs.Names.{IsBytes, IsComponent}
+use Rattle.xid.specs.Names.{IsBytes}
 use Rattle.xid.specs.Text.{hex_text, lacks}
 use Rattle.xid.specs.Rows.{blank}
 use Rattle.xid.specs.Transactions.{BranchParts, TxParts, IsBranch, AreBranches, IsTx, branch_text, branches_text, tx_text}

@@ -1,13 +1,13 @@
 -- A list of branches in an array: the branches, then blank ones.
-use Rattle.std.specs.Prelude.{◌≡◌, ℕ, ◌+◌, ◌-◌, ◌<◌, ◌≤◌, ◌&&◌, ◌==◌, Bool, true, List, [], ◌∷◌, ◌++◌, length, take, drop, replicate}
+use Rattle.std.specs.Prelude.{◌≡◌, ℕ, ◌-◌, ◌≤◌, ◌&&◌, ◌==◌, Bool, true, List, [], ◌++◌, length, take, drop, replicate}
 use Rattle.std.specs.Bool.{Decides}
 use Rattle.std.specs.Cmp.{both_tied, unsigned_ties, unsigned_Decides, first_so, second_so}
 use Rattle.std.specs.Cmp.Lexicographic.{slice_cmp, pointwise, pointwise_decides, bytes_decides, texts_ties, lists_ties}
 use Rattle.std.specs.Ordering.{nat_cmp, on, then_cmp, eq_of_both, eq_by_cmp}
 use Rattle.std.specs.declared.cmp.Ordering.{Ordering}
 use Rattle.std.specs.Hash as fed
-use Rattle.std.proofs.Common.{ap, subst, ◌∙◌, arith, sym, refl, append_assoc}
-use Rattle.std.proofs.lemmas.List.{take-append-drop, length-take, length-append, length-drop, length-replicate, drop-replicate, drop_at, take_at}
+use Rattle.std.proofs.Common.{ap, subst, ◌∙◌, arith, sym, refl}
+use Rattle.std.proofs.lemmas.List.{take-append-drop, length-take}
 use Rattle.xid.specs.Transactions.{BranchParts}
 use Rattle.xid.specs.declared.branches.TheConstants.{MAX_BRANCHES}
 

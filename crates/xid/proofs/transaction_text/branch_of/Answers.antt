@@ -1,4 +1,4 @@
-use Rattle.std.proofs.Common.{◌≡◌, ◌∙◌, ℕ, ◌<◌, ◌^◌, sym, arith, decimal}
+use Rattle.std.proofs.Common.{◌∙◌, sym, arith}
 use Rattle.std.proofs.lemmas.Fmt.{decimal_injective}
 use Rattle.xid.proofs.TransactionTexts.{cut_branch, branch_same}
 use Rattle.xid.proofs.transaction_text.branch_of.Goals as goal

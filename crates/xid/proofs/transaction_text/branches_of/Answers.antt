@@ -1,8 +1,8 @@
 use Rattle.std.proofs.Common.{◌≡◌, ◌∙◌, ◌+◌, ◌++◌, ◌∷◌, [], List, ℕ, length, get_or, sym, ap, subst, arith}
 use Rattle.std.proofs.lemmas.List.{length-append}
-use Rattle.xid.specs.Transactions.{BranchParts, AreBranches, IsBranch, branch_text, branches_text}
+use Rattle.xid.specs.Transactions.{BranchParts}
 use Rattle.xid.specs.Rows.{blank}
-use Rattle.xid.proofs.TransactionTexts.{with_commas, Continues, at_comma, at_last, last_joined, with_commas-push}
+use Rattle.xid.proofs.TransactionTexts.{Continues, at_comma, at_last, last_joined, with_commas-push}
 use Rattle.xid.proofs.transaction_text.branches_of.Goals as goal
 
 pub returns-in_default-branch_of : goal.returns-in_default-branch_of

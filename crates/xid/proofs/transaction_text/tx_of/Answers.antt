@@ -1,6 +1,5 @@
-use Rattle.std.proofs.Common.{◌≡◌, ◌∙◌, ℕ, List, ◌<◌, ◌^◌, sym, ap, subst, arith, decimal}
+use Rattle.std.proofs.Common.{◌∙◌, sym, arith}
 use Rattle.std.proofs.lemmas.Fmt.{decimal_injective}
-use Rattle.xid.specs.Transactions.{TxParts, IsTx}
 use Rattle.xid.proofs.TransactionTexts.{cut_tx, cut_gtrid, has_slash, hex_same}
 use Rattle.xid.proofs.transaction_text.tx_of.Goals as goal
 
