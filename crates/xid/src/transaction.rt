@@ -1,4 +1,4 @@
-ghost use Rattle.std.specs.Prelude.{◌≡◌, ◌≢◌, ◌++◌, OnOk, ℕ, ◌≤◌, ◌<◌, List, length, map, slice_index, IfOk, IfErr, MatchOption, pos};
+ghost use Rattle.std.specs.Prelude.{◌≡◌, ◌↔◌, IsTrue, ◌≢◌, ◌++◌, OnOk, ℕ, ◌≤◌, ◌<◌, List, length, map, slice_index, IfOk, IfErr, MatchOption, pos};
 ghost use Rattle.xid.specs.declared.refusals.Refusal.TheVariants.{BadTx, NoMemory};
 
 use crate::branch_id::{FORMATS, Xid, is_component};
@@ -133,6 +133,13 @@ impl Tx {
             .as_slice()
             .iter()
             .any(|branch| branch.rm() == rm)
+    }
+
+    /// Whether two are the same transaction, which is what `==` answers.
+    pub fn is_same(&self, other: &Tx) -> bool
+        ensures { IsTrue result ↔ (self.now ≡ other.now) }
+    {
+        *self == *other
     }
 
     /// The transaction whose text this is, as `1:7431/0=6231,1=6232`. Every other text is refused (`BadTx`).
