@@ -1,5 +1,5 @@
 -- What is spelled is taken again: each field from the front of bytes, whatever follows it.
-use Rattle.std.proofs.Common.{◌≡◌, ℕ, suc, ◌+◌, ◌^◌, ◌<◌, ◌≤◌, Bool, true, false, cond, ltb, List, [], ◌∷◌, ◌++◌, length, take, drop, Option, Some, None, refl, sym, ap, ◌∙◌, append_assoc, arith}
+use Rattle.std.proofs.Common.{◌≡◌, ℕ, suc, ◌^◌, ◌<◌, ◌≤◌, false, ltb, List, [], ◌∷◌, ◌++◌, length, Option, Some, None, refl, sym, ap, ◌∙◌, append_assoc, arith}
 use Rattle.std.specs.List.{flat_map, All}
 use Rattle.std.proofs.lemmas.Bool.{le-ltb}
 use Rattle.std.proofs.lemmas.List.{take_at, drop_at, length-append}
@@ -14,7 +14,7 @@ use Rattle.wire.specs.declared.message.Kind.TheVariants.{Prepare, P1a, P1b, P2a,
 use Rattle.wire.specs.Messages.{IsMessage, IsReport, tx_of}
 use Rattle.wire.specs.Grammar.{number_spelling, component_spelling, branch_spelling, branches_spelling, tx_spelling, vote_byte, report_spelling, kind_byte, rest_spelling, spelling}
 use Rattle.wire.specs.declared.grammar.TheConstants.{VERSION}
-use Rattle.wire.specs.Reading.{◌>>=◌, byte_at, number_at, component_at, branch_at, branches_at, tx_at, vote_at, report_at, instance_at, p1a_at, p1b_at, p2a_at, p2b_at, ask_at, kind_at}
+use Rattle.wire.specs.Reading.{byte_at, number_at, component_at, branch_at, branches_at, tx_at, vote_at, report_at, instance_at, p1a_at, p1b_at, p2a_at, p2b_at, ask_at, kind_at}
 
 pub number_again : (n : ℕ) (rest : List ℕ) → n < 2 ^ 32 → number_at (number_spelling n ++ rest) ≡ Some (n, rest)
 number_again n rest lt =

@@ -1,5 +1,5 @@
 -- The number of an instance is a resource manager's number.
-use Rattle.std.proofs.Common.{◌≡◌, ℕ, suc, ◌<◌, ◌==◌, ◌||◌, Bool, true, false, eqb, List, [], ◌∷◌, length, refl, sym, subst, arith, eqb-true}
+use Rattle.std.proofs.Common.{◌≡◌, ℕ, suc, ◌<◌, ◌||◌, Bool, true, false, eqb, List, [], ◌∷◌, refl, subst, arith, eqb-true}
 use Rattle.std.specs.List.{All, list_any}
 use Rattle.xid.specs.Transactions.{TxParts, BranchParts, IsBranch, is_at}
 use Rattle.xid.specs.declared.branches.TheConstants.{RM_NUMBERS}

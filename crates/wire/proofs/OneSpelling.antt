@@ -1,12 +1,11 @@
 -- The laws of the grammar: no spelling begins another, and a spelling has one message.
-use Rattle.std.proofs.Common.{◌≡◌, ℕ, ◌+◌, Bool, cond, ◌==◌, List, [], ◌∷◌, ◌++◌, length, Option, Some, None, refl, sym, ap, subst, ◌∙◌, append_assoc, arith, length-append}
+use Rattle.std.proofs.Common.{◌≡◌, ℕ, cond, ◌==◌, List, [], ◌∷◌, ◌++◌, length, Some, None, refl, sym, ap, ◌∙◌, append_assoc, arith, length-append}
 use Rattle.std.proofs.lemmas.List.{append-nil, nil_from_length}
-use Rattle.xid.specs.Transactions.{TxParts, IsTx}
 use Rattle.wire.specs.declared.message.Kind.{Kind}
 use Rattle.wire.specs.declared.message.Kind.TheVariants.{Prepare, P1a, P1b, P2a, P2b, Commit, Abort, Ask}
 use Rattle.wire.specs.Messages.{IsMessage, tx_of}
 use Rattle.wire.specs.Grammar.{Spells, spelling, tx_spelling, kind_byte, rest_spelling}
-use Rattle.wire.specs.Reading.{tx_at, kind_at}
+use Rattle.wire.specs.Reading.{kind_at}
 use Rattle.wire.proofs.Fields.{tx_again, kind_again, tx_valid, same_taken}
 
 -- how many bytes follow the transaction, by the number of the kind

@@ -1,5 +1,5 @@
 -- How fields are taken from the front of bytes: leniently, since what was read is compared with its one spelling.
-use Rattle.std.specs.Prelude.{ℕ, zero, suc, ◌==◌, cond, nat_lt, Bool, List, [], ◌∷◌, length, take, drop, Option, Some, None}
+use Rattle.std.specs.Prelude.{ℕ, zero, suc, ◌==◌, cond, nat_lt, List, [], ◌∷◌, length, take, drop, Option, Some, None}
 use Rattle.std.specs.Borrow.{Bor}
 use Rattle.byteorder.specs.Endian.{big_number}
 use Rattle.xid.specs.Transactions.{TxParts, BranchParts}

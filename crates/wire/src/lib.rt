@@ -12,3 +12,6 @@ pub use laws::spelling_laws;
 pub use message::{Kind, MAX_ACCEPTORS, Message, is_message};
 pub use reading::{decode, take_tx};
 pub use writing::{encode, put_tx};
+
+#[cfg(test)]
+mod tests;

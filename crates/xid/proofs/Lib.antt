@@ -1,3 +1,4 @@
 pub mod Texts
 pub mod GivenBranches
 pub mod XidLaws
+pub mod TransactionTexts

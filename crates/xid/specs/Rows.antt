@@ -1,14 +1,14 @@
 -- A list of branches in an array: the branches, then blank ones.
-use Rattle.std.specs.Prelude.{◌≡◌, ℕ, ◌+◌, ◌-◌, ◌<◌, ◌≤◌, ◌&&◌, ◌==◌, Bool, true, List, [], ◌∷◌, ◌++◌, length, take, drop, replicate}
+use Rattle.std.specs.Prelude.{◌≡◌, ℕ, ◌-◌, ◌≤◌, ◌&&◌, ◌==◌, Bool, true, List, [], ◌++◌, length, take, drop, replicate}
 use Rattle.std.specs.Bool.{Decides}
 use Rattle.std.specs.Cmp.{both_tied, unsigned_ties, unsigned_Decides, first_so, second_so}
 use Rattle.std.specs.Cmp.Lexicographic.{slice_cmp, pointwise, pointwise_decides, bytes_decides, texts_ties, lists_ties}
 use Rattle.std.specs.Ordering.{nat_cmp, on, then_cmp, eq_of_both, eq_by_cmp}
 use Rattle.std.specs.declared.cmp.Ordering.{Ordering}
 use Rattle.std.specs.Hash as fed
-use Rattle.std.proofs.Common.{ap, subst, ◌∙◌, arith, sym, refl, append_assoc}
-use Rattle.std.proofs.lemmas.List.{take-append-drop, length-take, length-append, length-drop, length-replicate, drop-replicate, drop_at, take_at}
-use Rattle.xid.specs.Transactions.{BranchParts}
+use Rattle.std.proofs.Common.{ap, subst, ◌∙◌, arith, sym, refl}
+use Rattle.std.proofs.lemmas.List.{take-append-drop, length-take}
+use Rattle.xid.specs.Transactions.{TxParts, BranchParts}
 use Rattle.xid.specs.declared.branches.TheConstants.{MAX_BRANCHES}
 
 -- what stands where no branch is
@@ -84,3 +84,28 @@ branch_Decides a b = (
 
 pub branches_Decide : (xs ys : List BranchParts) → Decides (pointwise branch_eq xs ys) (xs ≡ ys)
 branches_Decide = pointwise_decides branch_Decides
+
+-- ---- comparing transactions
+
+-- transactions are equal by their parts
+abbrev pub tx_eq : TxParts → TxParts → Bool
+tx_eq a b = (a.format == b.format) && (pointwise ◌==◌ a.gtrid b.gtrid && pointwise branch_eq a.branches b.branches)
+
+tx_self : (a : TxParts) → tx_eq a a ≡ true
+tx_self a =
+    let formats : (a.format == a.format) ≡ true = (unsigned_Decides a.format a.format).1 refl in
+    let gtrids : pointwise ◌==◌ a.gtrid a.gtrid ≡ true = (bytes_decides a.gtrid a.gtrid).1 refl in
+    let branches : pointwise branch_eq a.branches a.branches ≡ true = (branches_Decide a.branches a.branches).1 refl in
+    λ i. formats i && (gtrids i && branches i)
+
+-- transactions that are found equal are one and the same
+pub tx_Decides : (a b : TxParts) → Decides (tx_eq a b) (a ≡ b)
+tx_Decides a b = (
+  λ h.
+      let rest = second_so (a.format == b.format) (pointwise ◌==◌ a.gtrid b.gtrid && pointwise branch_eq a.branches b.branches) h in
+      let formats : a.format ≡ b.format = (unsigned_Decides a.format b.format).0 (first_so (a.format == b.format) (pointwise ◌==◌ a.gtrid b.gtrid && pointwise branch_eq a.branches b.branches) h) in
+      let gtrids : a.gtrid ≡ b.gtrid = (bytes_decides a.gtrid b.gtrid).0 (first_so (pointwise ◌==◌ a.gtrid b.gtrid) (pointwise branch_eq a.branches b.branches) rest) in
+      let branches : a.branches ≡ b.branches = (branches_Decide a.branches b.branches).0 (second_so (pointwise ◌==◌ a.gtrid b.gtrid) (pointwise branch_eq a.branches b.branches) rest) in
+      λ i. record { format = formats i; gtrid = gtrids i; branches = branches i },
+  λ e. subst (λ (x : TxParts). tx_eq a x ≡ true) e (tx_self a),
+)

@@ -2,7 +2,7 @@
 -- The list is part of the name (this system's own): two lists make two transactions.
 use Rattle.std.specs.Prelude.{ℕ, ◌<◌, ◌≤◌, ◌^◌, ◌==◌, ◌++◌, ◌∷◌, Bool, List, [], Option, length, map, decimal}
 use Rattle.std.specs.Borrow.{Bor}
-use Rattle.std.specs.List.{slice_index_or, All, find, list_any, join_with_byte}
+use Rattle.std.specs.List.{slice_index_or, All, find, list_any, join_by}
 use Rattle.std.specs.List.Sorted.{IsStrictlyIncreasing}
 use Rattle.std.specs.Option.{option_map}
 use Rattle.xid.specs.Names.{IsComponent, XidParts}
@@ -74,6 +74,10 @@ xid_at tx rm = option_map (xid_of tx) (find (is_at rm) tx.branches)
 abbrev pub branch_text : BranchParts → List ℕ
 branch_text b = decimal b.rm ++ 61 ∷ hex_text b.bqual
 
--- the one text of a transaction: format : gtrid / branches with commas between
+-- branches with commas between
+abbrev pub branches_text : List BranchParts → List ℕ
+branches_text bs = join_by branch_text (44 ∷ []) bs
+
+-- the one text of a transaction: format : gtrid / branches
 abbrev pub tx_text : TxParts → List ℕ
-tx_text tx = decimal tx.format ++ 58 ∷ (hex_text tx.gtrid ++ 47 ∷ join_with_byte 44 (map branch_text tx.branches))
+tx_text tx = decimal tx.format ++ 58 ∷ (hex_text tx.gtrid ++ 47 ∷ branches_text tx.branches)

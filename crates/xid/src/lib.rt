@@ -9,6 +9,7 @@ mod component;
 mod refusals;
 pub mod text;
 mod transaction;
+mod transaction_text;
 
 pub use branch_id::Xid;
 pub use branches::{Branches, MAX_BRANCHES, RM_NUMBERS};
@@ -16,3 +17,6 @@ pub use codes::XaCode;
 pub use component::MAX_COMPONENT;
 pub use refusals::Refusal;
 pub use transaction::{Tx, Vote};
+
+#[cfg(test)]
+mod transaction_tests;

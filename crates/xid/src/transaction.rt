@@ -1,10 +1,13 @@
-ghost use Rattle.std.specs.Prelude.{◌≡◌, ℕ, ◌≤◌, ◌<◌, List, length, map, slice_index, IfOk, IfErr, MatchOption, pos};
-ghost use Rattle.xid.specs.declared.refusals.Refusal.TheVariants.{BadTx};
+ghost use Rattle.std.specs.Prelude.{◌≡◌, ◌↔◌, IsTrue, ◌≢◌, ◌++◌, OnOk, ℕ, ◌≤◌, ◌<◌, List, length, map, slice_index, IfOk, IfErr, MatchOption, pos};
+ghost use Rattle.xid.specs.declared.refusals.Refusal.TheVariants.{BadTx, NoMemory};
 
 use crate::branch_id::{FORMATS, Xid, is_component};
 use crate::branches::{Branches, RM_NUMBERS, are_branches};
 use crate::component::Component;
 use crate::refusals::Refusal;
+use crate::transaction_text::{tx_of, write_branches};
+use itoa::Buffer;
+use std::alloc::Global;
 use std::marker::Model;
 
 /// The name of a transaction: a format, a gtrid, and for each resource manager that takes part the bqual of its
@@ -29,7 +32,7 @@ impl Model for Tx {
 }
 
 impl Tx {
-    ghost use Rattle.xid.specs.Transactions.{TxParts, BranchParts, IsTx, branch_at, branch_of, names, participants, xid_at};
+    ghost use Rattle.xid.specs.Transactions.{TxParts, BranchParts, IsTx, branch_at, branch_of, names, participants, xid_at, tx_text};
 
     /// The transaction of these parts, each branch by its resource manager's number and its bqual. Refused (`BadTx`): no branch
     /// or more than 8, a number above 7, numbers that don't ascend strictly, and a format or a length that no XID has.
@@ -130,6 +133,38 @@ impl Tx {
             .as_slice()
             .iter()
             .any(|branch| branch.rm() == rm)
+    }
+
+    /// Whether two are the same transaction, which is what `==` answers.
+    pub fn is_same(&self, other: &Tx) -> bool
+        ensures { IsTrue result ↔ (self.now ≡ other.now) }
+    {
+        *self == *other
+    }
+
+    /// The transaction whose text this is, as `1:7431/0=6231,1=6232`. Every other text is refused (`BadTx`).
+    pub fn read(text: &[u8]) -> Result<Tx, Refusal>
+        ensures ok { IfOk result (λ tx. IsTx tx × (text.now ≡ tx_text tx)) }
+        ensures err { IfErr result (λ e. (e ≡ BadTx) × ((tx : TxParts) → IsTx tx → text.now ≢ tx_text tx)) }
+    {
+        tx_of(text).ok_or(Refusal::BadTx)
+    }
+
+    /// Writes its text at the end. At `NoMemory`, the only refusal, the content is as it was.
+    pub fn write(&self, alloc: Global, out: &mut Vec<u8>) -> Result<(), Refusal>
+        ensures valid { IsTx self.now }
+        ensures ok { OnOk result (out.new.items ≡ out.old.items ++ tx_text self.now) }
+        ensures err { IfErr result (λ e. (e ≡ NoMemory) × (out.new.items ≡ out.old.items)) }
+    {
+        let mut format = Buffer::new();
+        let mut text = Vec::new(alloc);
+        text.extend_from_slice(format.format(self.format).as_bytes())?;
+        text.push(b':')?;
+        text.extend_from_slice(hex::encode(alloc, self.gtrid.as_bytes())?.as_bytes())?;
+        text.push(b'/')?;
+        write_branches(alloc, self.branches.as_slice(), &mut text)?;
+        out.extend_from_slice(&text)?;
+        Ok(())
     }
 }
 

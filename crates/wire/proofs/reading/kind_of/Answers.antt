@@ -1,4 +1,4 @@
-use Rattle.std.proofs.Common.{◌≡◌, ◌∙◌, List, ℕ, sym, ap, Some}
+use Rattle.std.proofs.Common.{◌∙◌}
 use Rattle.wire.specs.Grammar.{rest_spelling}
 use Rattle.wire.specs.Messages.{tx_of}
 use Rattle.wire.proofs.Fields.{tx_valid, kind_again, heads_taken}

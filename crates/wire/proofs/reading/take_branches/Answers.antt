@@ -1,4 +1,4 @@
-use Rattle.std.proofs.Common.{◌≡◌, ◌∙◌, ◌-◌, ◌+◌, ◌++◌, ◌∷◌, [], length, sym, arith}
+use Rattle.std.proofs.Common.{◌∷◌, [], sym, arith}
 use Rattle.std.proofs.lemmas.List.{length-append}
 use Rattle.xid.specs.Transactions.{BranchParts}
 use Rattle.wire.specs.Reading.{branches_at}

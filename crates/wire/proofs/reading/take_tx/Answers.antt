@@ -1,6 +1,5 @@
-use Rattle.std.proofs.Common.{◌≡◌, ◌∙◌, List, ℕ, sym, ap, subst, Some, None}
+use Rattle.std.proofs.Common.{◌∙◌, sym, subst}
 use Rattle.xid.specs.Transactions.{TxParts, IsTx}
-use Rattle.wire.specs.Reading.{tx_at}
 use Rattle.wire.proofs.Fields.{tx_taken, same_taken}
 use Rattle.wire.proofs.reading.take_tx.Goals as goal
 

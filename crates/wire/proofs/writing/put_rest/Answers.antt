@@ -1,4 +1,4 @@
-use Rattle.std.proofs.Common.{◌<◌, arith, subst}
+use Rattle.std.proofs.Common.{arith, subst}
 use Rattle.wire.specs.declared.message.Kind.{Kind}
 use Rattle.wire.specs.Messages.{IsMessage}
 use Rattle.wire.proofs.Instances.{instance_below}

@@ -1,6 +1,6 @@
-use Rattle.std.proofs.Common.{◌≡◌, ◌<◌, ◌≤◌, ◌==◌, ◌∙◌, ℕ, refl, sym, ap, false, true, IsTrue, length, get_or, arith}
+use Rattle.std.proofs.Common.{◌≡◌, ◌≤◌, ◌==◌, ◌∙◌, refl, sym, ap, false, IsTrue, length, arith}
 use Rattle.std.proofs.lemmas.Bool.Decides.{nat_tests}
-use Rattle.xid.specs.Transactions.{BranchParts, AreBranches}
+use Rattle.xid.specs.Transactions.{BranchParts}
 use Rattle.xid.proofs.GivenBranches.{ascend, ascends_at}
 use Rattle.xid.proofs.branches.are_branches.Goals as goal
 

@@ -1,4 +1,4 @@
-use Rattle.std.proofs.Common.{◌≡◌, ◌<◌, ◌+◌, ℕ, map, take}
+use Rattle.std.proofs.Common.{◌<◌, ◌+◌, ℕ}
 use Rattle.std.specs.List.{slice_index_or}
 use Rattle.xid.specs.Transactions.{BranchParts, IsBranch}
 use Rattle.xid.proofs.branches.are_branches.Given as goal
