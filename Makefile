@@ -20,13 +20,15 @@ bin/pcommit: crates.txt $(shell find crates -name out -prune -o -type f -print)
 try:
 	@cd crates/pcommit && rt try --data script=$(abspath $(SCRIPT)) -- run script
 
-# everything: each proof from nothing, the must-fail edits, the tests, the program as two compilers build it, the golden scripts
+# everything: each proof from nothing, the must-fail edits, the tests, the program as two compilers build it, the golden scripts,
+# and a run with each block of memory refused in turn
 test:
 	rt ci
 	$(MAKE) golden
 
 golden: build
 	tests/run.sh bin/pcommit
+	tests/memory.sh bin/pcommit
 
 install: build
 	install -D bin/pcommit $(DESTDIR)$(PREFIX)/bin/pcommit

@@ -4,10 +4,18 @@
 use std::env;
 use std::io;
 use std::process::ExitCode;
-use udp_edge::program;
+use udp_edge::{program, refuse};
+use xid::Refusal;
 
-fn main(rt: HostRuntime) -> io::Result<ExitCode> {
-    let words: Vec<String> = env::args(&rt)?.collect(rt.alloc())?;
-    let status = program(&rt, words.as_slice(), &mut rt.stdout(), &mut rt.stderr());
-    Ok(ExitCode::from(status))
+fn main(rt: HostRuntime) -> ExitCode {
+    let status = match words(&rt) {
+        Ok(words) => program(&rt, words.as_slice(), &mut rt.stdout(), &mut rt.stderr()),
+        Err(_) => refuse(Refusal::NoMemory, &mut rt.stderr()),
+    };
+    ExitCode::from(status)
+}
+
+/// The words of the command line, the program's own name first. Only want of memory is in the way.
+fn words(rt: &HostRuntime) -> io::Result<Vec<String>> {
+    Ok(env::args(rt)?.collect(rt.alloc())?)
 }

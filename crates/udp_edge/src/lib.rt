@@ -5,7 +5,7 @@ mod command;
 mod printing;
 
 pub use command::{Subcommand, Rejected, action};
-pub use printing::{answer_script, program};
+pub use printing::{answer_script, program, refuse};
 
 #[cfg(test)]
 mod tests;

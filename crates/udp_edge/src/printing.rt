@@ -32,11 +32,16 @@ pub fn program<R: Files + Alloc<A = Global>, S: AsStr, W: Write, E: Write>(
     };
     match outcome {
         Ok(()) => 0,
-        Err(refusal) => {
-            let _ = writeln!(err, "pcommit: {refusal}");
-            3
-        }
+        Err(refusal) => refuse(refusal, err),
     }
+}
+
+/// Writes the line of a refusal, as `pcommit: refused 16`, and gives its exit status, 3.
+pub fn refuse<E: Write>(refusal: Refusal, err: &mut E) -> u8
+    ensures { result ≡ 3 }
+{
+    let _ = writeln!(err, "pcommit: {refusal}");
+    3
 }
 
 /// Prints the trace of a script that a file has.
