@@ -1,4 +1,4 @@
-/* Loaded before the C library: refuses the allocation that REFUSE counts from 1, and says on exit whether it came to that. */
+/* Loaded before the C library: refuses the allocation that REFUSE counts from 1, and marks each one by a byte on descriptor 9. */
 #define _GNU_SOURCE
 #include <dlfcn.h>
 #include <stdlib.h>
@@ -12,6 +12,8 @@ static int refuse(void)
         const char *number = getenv("REFUSE");
         refused = number ? atol(number) : 0;
     }
+    if (write(9, ".", 1) < 0)
+        _exit(99);
     return ++calls == refused;
 }
 
