@@ -1,0 +1,10 @@
+pub mod Majorities
+pub mod Kept
+pub mod Agreement
+pub mod Views
+pub mod Additions
+pub mod Events
+pub mod CommitStepLemmas
+pub mod Slots
+pub mod Examples
+pub mod Actions

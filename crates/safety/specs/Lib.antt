@@ -1,0 +1,3 @@
+pub mod CommitSteps
+pub mod Items
+pub mod Invariant
