@@ -1,40 +1,4 @@
--- What a transaction commit protocol may do, seen from all its participants at once: the specification.
--- Gray and Lamport, "Consensus on Transaction Commit", ACM TODS 31(1), 2006, section 2.
-use Rattle.std.specs.Prelude.{◌≡◌, ◌≢◌, ◌⊎◌, ℕ, Bool, IsTrue}
-
--- where a resource manager stands in a transaction (section 2)
-pub data View : Type 0 where
-  working : View
-  prepared : View
-  committed : View
-  aborted : View
-
--- prepared or committed
-abbrev pub IsReady : View → Type 0
-IsReady prepared = Unit {0}
-IsReady committed = Unit {0}
-IsReady _ = ⊥
-
--- one resource manager's change in the state s of a transaction's participants (section 2): it prepares; it commits,
--- all being prepared or committed; it aborts, none being committed
-abbrev pub IsCommitMove : (participant : ℕ → Bool) (s : ℕ → View) → View → View → Type 0
-IsCommitMove participant s working prepared = Unit {0}
-IsCommitMove participant s prepared committed = (r : ℕ) → IsTrue (participant r) → IsReady (s r)
-IsCommitMove participant s working aborted = (r : ℕ) → IsTrue (participant r) → s r ≢ committed
-IsCommitMove participant s prepared aborted = (r : ℕ) → IsTrue (participant r) → s r ≢ committed
-IsCommitMove participant s _ _ = ⊥
-
--- two states differ at one participant only, by such a change
-pub record IsOneMove (participant : ℕ → Bool) (s t : ℕ → View) : Type 0 where
-  pub mover : ℕ
-  pub named : IsTrue (participant mover)
-  pub moves : IsCommitMove participant s (s mover) (t mover)
-  pub others : (r : ℕ) → IsTrue (participant r) → r ≢ mover → t r ≡ s r
-
--- a step of the machine of section 2: nothing changes, or one participant does
-abbrev pub IsCommitStep : (participant : ℕ → Bool) (s t : ℕ → View) → Type 0
-IsCommitStep participant s t = ((r : ℕ) → IsTrue (participant r) → t r ≡ s r) ⊎ IsOneMove participant s t
-
--- no participant is committed while another is aborted (section 2)
-abbrev pub IsConsistent : (participant : ℕ → Bool) (s : ℕ → View) → Type 0
-IsConsistent participant s = (r q : ℕ) → IsTrue (participant r) → IsTrue (participant q) → s r ≡ committed → s q ≢ aborted
+-- The specification's machine, under the words of this crate.
+pub use Rattle.protocol.specs.declared.View.{View}
+pub use Rattle.protocol.specs.declared.View.TheVariants.{Working as working, Prepared as prepared, Committed as committed, Aborted as aborted}
+pub use Rattle.protocol.specs.Views.{IsReady, IsCommitMove, IsOneMove, IsCommitStep, IsConsistent}

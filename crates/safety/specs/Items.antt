@@ -1,33 +1,11 @@
 -- What stands in a run of Paxos Commit: stored facts and messages, and what allows each.
 -- Gray and Lamport, "Consensus on Transaction Commit", ACM TODS 31(1), 2006, section 4 (Paxos Commit).
 use Rattle.std.specs.Prelude.{◌≡◌, ◌⊎◌, ℕ, zero, suc, ◌+◌, ◌*◌, ◌<◌, ◌≤◌, Bool, if◌then◌else◌, IsTrue, Option, Some, None}
+pub use Rattle.ballot.specs.Majority.{count, IsMajority}
+pub use Rattle.xid.specs.declared.transaction.Vote.{Vote}
+pub use Rattle.xid.specs.declared.transaction.Vote.TheVariants.{Prepared, Aborted}
+pub use Rattle.protocol.specs.StandsFor.{Item, Promised, Accepted, Began, Voted, Committed, Dropped, P1b, P2a, P2b, Commit, Abort}
 use Rattle.safety.specs.CommitSteps.{View, working, prepared, committed, aborted}
-
--- a resource manager's vote, and the value of its instance of consensus (section 4.2)
-pub data Vote : Type 0 where
-  Prepared : Vote
-  Aborted : Vote
-
--- what a node stores, and the messages of section 4.2. `a`, `l` and `r` number acceptors, leaders and resource
--- managers, `i` is an instance: the number of its resource manager, `b` is a ballot
-pub data Item (Tx : Type 0) : Type 0 where
-  -- stored by acceptor a: it promised ballot b; it accepted v in ballot b
-  Promised : (a : ℕ) (tx : Tx) (i b : ℕ) → Item Tx
-  Accepted : (a : ℕ) (tx : Tx) (i b : ℕ) (v : Vote) → Item Tx
-  -- stored by leader l: it began ballot b
-  Began : (l : ℕ) (tx : Tx) (b : ℕ) → Item Tx
-  -- stored by resource manager r: its vote; that it committed; that it was told to abort
-  Voted : (r : ℕ) (tx : Tx) (v : Vote) → Item Tx
-  Committed : (r : ℕ) (tx : Tx) → Item Tx
-  Dropped : (r : ℕ) (tx : Tx) → Item Tx
-  -- phase 1b by acceptor a: the last ballot and value that it accepted, if any
-  P1b : (tx : Tx) (i b : ℕ) (report : Option (ℕ × Vote)) (a : ℕ) → Item Tx
-  -- phase 2a: the value v is proposed in ballot b
-  P2a : (tx : Tx) (i b : ℕ) (v : Vote) → Item Tx
-  -- phase 2b by acceptor a: it accepted v in ballot b
-  P2b : (tx : Tx) (i b : ℕ) (v : Vote) (a : ℕ) → Item Tx
-  Commit : (tx : Tx) → Item Tx
-  Abort : (tx : Tx) → Item Tx
 
 -- what is fixed for all time: the number of acceptors, the leader that owns a ballot above 0, and whether a
 -- transaction names a resource manager, that is, has it among its participants
@@ -35,15 +13,6 @@ pub record Setting (Tx : Type 0) : Type 0 where
   pub acceptors : ℕ
   pub owner : ℕ → ℕ
   pub names : Tx → ℕ → Bool
-
--- how many numbers below n pass
-abbrev pub count : ℕ → (ℕ → Bool) → ℕ
-count zero q = 0
-count (suc n) q = (if q n then 1 else 0) + count n q
-
--- a majority of the acceptors below n (section 4.1)
-abbrev pub IsMajority : ℕ → (ℕ → Bool) → Type 0
-IsMajority n q = n < 2 * count n q
 
 -- a majority sent phase 2b with v in ballot b (section 4.1)
 pub record IsDecidedIn {Tx : Type 0} (n : ℕ) (Has : Item Tx → Type 0) (tx : Tx) (i b : ℕ) (v : Vote) : Type 0 where

@@ -1,3 +1,4 @@
 pub mod CommitSteps
 pub mod Items
 pub mod Invariant
+pub mod Standing
