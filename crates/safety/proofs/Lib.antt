@@ -8,3 +8,4 @@ pub mod CommitStepLemmas
 pub mod Slots
 pub mod Examples
 pub mod Actions
+pub mod Lists
