@@ -9,3 +9,7 @@ pub mod DroppedWrites
 pub mod BallotsAfterRestart
 pub mod BeforeVote
 pub mod FindsPrepared
+pub mod Same
+pub mod Standing
+pub mod ViewLaws
+pub mod SlotLaws

@@ -1,6 +1,6 @@
 -- What the facts of a record say of acceptors' slots, leaders' ballots and resource managers' views. A list of facts has the
 -- oldest first, as they were stored.
-use Rattle.std.specs.Prelude.{ℕ, max, Bool, true, false, not, ◌&&◌, ◌||◌, ◌==◌, if◌then◌else◌, List, [], ◌∷◌, Option, Some, None, is_none, filter, filter_map, slice_get}
+use Rattle.std.specs.Prelude.{ℕ, max, Bool, true, false, not, ◌&&◌, ◌||◌, ◌==◌, if◌then◌else◌, List, [], ◌∷◌, Option, Some, None, filter, filter_map}
 use Rattle.std.specs.List.{list_any, last_or}
 use Rattle.std.specs.Str.{bytes_eq}
 use Rattle.std.specs.Cmp.Lexicographic.{pointwise}
@@ -69,15 +69,18 @@ is_about tx fact = tx_eq tx (tx_of fact)
 
 -- ---- resource managers (section 4.2)
 
--- the vote on a transaction that a fact stores
-abbrev pub vote_by : TxParts → Fact → Option Vote
-vote_by tx (stored.VotePrepared other keys) = if tx_eq tx other then Some votes.Prepared else None
-vote_by tx (stored.VoteAborted other) = if tx_eq tx other then Some votes.Aborted else None
-vote_by tx fact = None
+-- whether a fact stores a vote on a transaction
+abbrev pub casts : TxParts → Vote → Fact → Bool
+casts tx votes.Prepared (stored.VotePrepared other keys) = tx_eq tx other
+casts tx votes.Aborted (stored.VoteAborted other) = tx_eq tx other
+casts tx vote fact = false
 
 -- the stored vote on a transaction
 abbrev pub vote_in : List Fact → TxParts → Option Vote
-vote_in facts tx = slice_get (filter_map (vote_by tx) facts) 0
+vote_in facts tx =
+    if list_any (casts tx votes.Prepared) facts then Some votes.Prepared
+    else if list_any (casts tx votes.Aborted) facts then Some votes.Aborted
+    else None
 
 -- whether a fact stores that a transaction is committed
 abbrev pub commits : TxParts → Fact → Bool
@@ -93,18 +96,14 @@ aborts tx fact = false
 abbrev pub is_ended : List Fact → TxParts → Bool
 is_ended facts tx = list_any (commits tx) facts || list_any (aborts tx) facts
 
--- the view by the stored vote, and by whether Committed and Aborted are stored
-abbrev pub view_by : Option Vote → (committed aborted : Bool) → View
-view_by vote committed true = views.Aborted
-view_by (Some votes.Aborted) committed false = views.Aborted
-view_by (Some votes.Prepared) true false = views.Committed
-view_by (Some votes.Prepared) false false = views.Prepared
-view_by None true false = views.Committed
-view_by None false false = views.Working
-
--- where the resource manager stands in a transaction
+-- where the resource manager stands in a transaction: aborted where a vote aborted or Aborted stands, committed where Committed
+-- stands, prepared where a vote prepared stands, else working
 abbrev pub view : List Fact → TxParts → View
-view facts tx = view_by (vote_in facts tx) (list_any (commits tx) facts) (list_any (aborts tx) facts)
+view facts tx =
+    if list_any (casts tx votes.Aborted) facts || list_any (aborts tx) facts then views.Aborted
+    else if list_any (commits tx) facts then views.Committed
+    else if list_any (casts tx votes.Prepared) facts then views.Prepared
+    else views.Working
 
 abbrev pub is_prepared_view : View → Bool
 is_prepared_view views.Prepared = true
