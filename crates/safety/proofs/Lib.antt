@@ -9,3 +9,5 @@ pub mod Slots
 pub mod Examples
 pub mod Actions
 pub mod Lists
+pub mod LeadersWords
+pub mod Leaders
