@@ -10,4 +10,5 @@ pub mod Examples
 pub mod Actions
 pub mod Lists
 pub mod LeadersWords
+pub mod LeadersHeard
 pub mod Leaders
