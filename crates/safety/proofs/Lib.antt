@@ -12,3 +12,6 @@ pub mod Lists
 pub mod Growth
 pub mod Steps
 pub mod Acceptors
+pub mod LeadersWords
+pub mod LeadersHeard
+pub mod Leaders
