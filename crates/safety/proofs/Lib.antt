@@ -15,3 +15,4 @@ pub mod Acceptors
 pub mod LeadersWords
 pub mod LeadersHeard
 pub mod Leaders
+pub mod Places
