@@ -16,3 +16,6 @@ pub mod LeadersWords
 pub mod LeadersHeard
 pub mod Leaders
 pub mod Places
+pub mod Safe
+pub mod NodeSteps
+pub mod Rules
