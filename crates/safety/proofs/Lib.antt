@@ -11,4 +11,5 @@ pub mod Actions
 pub mod Lists
 pub mod LeadersWords
 pub mod LeadersHeard
+pub mod LeadersKept
 pub mod Leaders
