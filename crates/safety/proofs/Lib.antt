@@ -9,7 +9,11 @@ pub mod Slots
 pub mod Examples
 pub mod Actions
 pub mod Lists
+pub mod Growth
+pub mod Steps
+pub mod Acceptors
 pub mod LeadersWords
 pub mod LeadersHeard
 pub mod LeadersKept
 pub mod Leaders
+pub mod Places
