@@ -1,8 +1,8 @@
 -- Each rule of a leader keeps its memory in order, and stores and sends only what it may.
-use Rattle.std.proofs.Common.{◌≡◌, ◌⊎◌, inl, inr, ℕ, ◌^◌, ◌<◌, Bool, true, false, not, ◌||◌, ◌&&◌, ◌==◌, nat_lt, if◌then◌else◌, List, [], ◌∷◌, ◌++◌, map, Option, Some, None, refl, sym, ap, ◌∙◌, subst, arith}
+use Rattle.std.proofs.Common.{◌≡◌, ◌⊎◌, inl, inr, ℕ, ◌^◌, ◌<◌, Bool, true, false, not, ◌||◌, ◌&&◌, ◌==◌, nat_lt, IsTrue, if◌then◌else◌, List, [], ◌∷◌, ◌++◌, map, Option, Some, None, refl, sym, ap, ◌∙◌, subst, arith}
 use Rattle.std.specs.List.{list_any}
 use Rattle.std.proofs.lemmas.Bool.{both_ways, and_from, and_parts, or_parts, lt-ltb, ltb-true, eqb-true, eq-eqb, cond_both}
-use Rattle.xid.specs.Transactions.{TxParts, participants}
+use Rattle.xid.specs.Transactions.{TxParts, participants, names}
 use Rattle.xid.specs.declared.transaction.Vote.{Vote}
 use Rattle.xid.specs.declared.refusals.Refusal.TheVariants.{BadTx, NoBallot}
 use Rattle.wire.specs.declared.message.Kind.{Kind}
@@ -25,8 +25,9 @@ use Rattle.protocol.specs.Playing.{plays_at_leader}
 use Rattle.safety.specs.Standing.{Among}
 use Rattle.safety.proofs.Lists.{IsMapped, Among-mapped}
 use Rattle.safety.proofs.LeadersWords.{IsBegun, IsKept, IsBacked, IsSentBy, IsSentMore, IsNewBallot, IsFreshProposal, MaySend, IsLeaderStep}
-use Rattle.safety.proofs.LeadersHeard.{picked_is, committed_is, aborted_is}
-use Rattle.safety.proofs.LeadersKept.{kept_while, kept_meets, kept_hears, kept_proposes, kept_begins, current_begun}
+use Rattle.safety.proofs.LeadersHeard.{naming, picked_is, committed_is, aborted_is}
+pub use Rattle.safety.proofs.LeadersKept.{kept_at_start, kept_while}
+use Rattle.safety.proofs.LeadersKept.{kept_meets, kept_hears, kept_proposes, kept_begins, current_begun}
 
 -- no proposal
 abbrev IsNoProposal : Kind → Type 0
@@ -52,7 +53,7 @@ module _ (config : Config) (l : ℕ) (facts : List Fact) (Sent Now : Kind → Ty
     begins = λ x e. absurd (cc (e));
     may_send = λ m h. (may m h).0;
     agree = λ tx i b v w h k. absurd (may (P2a tx i b v) h).1;
-    kept = kept_while config l facts Sent after Now grown.kept
+    kept = kept_while config l facts after Sent Now grown.kept
         (λ tx i b v h owned. elim (grown.only (P2a tx i b v) h) [ inl old ↦ old | inr new ↦ absurd (may (P2a tx i b v) new).1 ])
         kept;
   }
@@ -106,10 +107,10 @@ module _ (config : Config) (l : ℕ) (facts : List Fact) (Sent Now : Kind → Ty
 
   -- ---- a take-over
 
-  asked : (tx : TxParts) (b : ℕ) (m : Kind) → IsSentBy (map (λ i. to ToAcceptors (P1a tx i b)) (participants tx)) m → (i : ℕ) × (P1a tx i b ≡ m)
+  asked : (tx : TxParts) (b : ℕ) (m : Kind) → IsSentBy (map (λ i. to ToAcceptors (P1a tx i b)) (participants tx)) m → (i : ℕ) × IsTrue (names tx i) × (P1a tx i b ≡ m)
   asked tx b m h =
       let at = Among-mapped (λ (i : ℕ). to ToAcceptors (P1a tx i b)) (participants tx) h.0 h.1 in
-      (at.source, ap (λ (y : Send). y.message) at.maps ∙ h.2)
+      (at.source, naming tx at.source at.among, ap (λ (y : Send). y.message) at.maps ∙ h.2)
 
   -- its own ballot, greater than every one before
   begins_step : (leading : Leading) (tx : TxParts) (b : ℕ) → IsKept config l facts leading Sent → IsBacked config.leaders l facts Sent
@@ -119,7 +120,7 @@ module _ (config : Config) (l : ℕ) (facts : List Fact) (Sent Now : Kind → Ty
   begins_step leading tx b kept backed owned up fits grown =
       let after = kept_begins config l facts Sent tx b leading kept owned up backed in
       let none : (ux : TxParts) (i c : ℕ) (v : Vote) → IsSentBy (map (λ i. to ToAcceptors (P1a tx i b)) (participants tx)) (P2a ux i c v) → ⊥
-        = λ ux i c v h. let at = asked tx b (P2a ux i c v) h in absurd (cc (at.1)) in
+        = λ ux i c v h. let at = asked tx b (P2a ux i c v) h in absurd (cc (at.2)) in
       record {
         begins = λ x e.
           let is : stored.Ballot tx b ≡ x = cc (e) in
@@ -135,9 +136,9 @@ module _ (config : Config) (l : ℕ) (facts : List Fact) (Sent Now : Kind → Ty
           });
         may_send = λ m h.
           let at = asked tx b m h in
-          subst (MaySend config l (facts ++ stored.Ballot tx b ∷ []) Sent) at.1 (after.begun tx b (current_begun tx b leading));
+          subst (MaySend config l (facts ++ stored.Ballot tx b ∷ []) Sent) at.2 (at.1, after.begun tx b (current_begun tx b leading));
         agree = λ ux i c v w h k. absurd (none ux i c v h);
-        kept = kept_while config l (facts ++ stored.Ballot tx b ∷ []) Sent (begins tx b leading) Now grown.kept
+        kept = kept_while config l (facts ++ stored.Ballot tx b ∷ []) (begins tx b leading) Sent Now grown.kept
             (λ ux i c v h own. elim (grown.only (P2a ux i c v) h) [ inl old ↦ old | inr new ↦ absurd (none ux i c v new) ])
             after;
       }
@@ -257,24 +258,24 @@ abbrev pub IsTakenSent : (Sent : Kind → Type 0) → Input → Type 0
 IsTakenSent Sent (Take message) = Sent message
 IsTakenSent Sent input = Unit {0}
 
-module _ (config : Config) (l : ℕ) (facts : List Fact) (memory : Memory) (Sent Now : Kind → Type 0)
-    (few : l < config.leaders) (backed : IsBacked config.leaders l facts Sent) (kept : IsKept config l facts memory.leading Sent) where
-  abbrev IsGoodEffect : Effect Memory → Type 0
-  IsGoodEffect e = IsSentMore Sent e.sends Now → IsLeaderEffect config l facts Sent e Now
+abbrev IsGoodEffect : Config → (l : ℕ) → List Fact → (Sent Now : Kind → Type 0) → Effect Memory → Type 0
+IsGoodEffect config l facts Sent Now e = IsSentMore Sent e.sends Now → IsLeaderEffect config l facts Sent e Now
 
-  -- each input that a leader meets while it is up
-  pub leader_effect : (input : Input) → IsTakenSent Sent input
-      → IsSentMore Sent (effect_of config (L l) facts memory input).sends Now
-      → IsLeaderEffect config l facts Sent (effect_of config (L l) facts memory input) Now
-  leader_effect (Take message) sent grown =
-      cond_both (is_message_inside config message) (of_leader memory (leader_takes config facts memory.leading message)) (no_effect memory) IsGoodEffect
-      (λ e more. good_takes config l facts Sent Now memory.leading message sent
-        (and_parts (is_inside config (tx_of message)) (is_acceptor_inside config message) e).1 kept more)
-      (λ e more. quiet config l facts Sent Now memory.leading kept more) grown
-  leader_effect TakeNoise sent grown = quiet config l facts Sent Now memory.leading kept grown
-  leader_effect (AskCommit tx) sent grown = good_commit_call config l facts Sent Now memory.leading tx kept grown
-  leader_effect (AskStatus tx) sent grown = good_status_call config l facts Sent Now memory.leading tx kept grown
-  leader_effect (TimeOut tx) sent grown = good_timeout config l facts Sent Now memory.leading tx few kept backed grown
-  leader_effect (CallOn x action) sent grown = quiet config l facts Sent Now memory.leading kept grown
-  leader_effect ListPrepared sent grown = quiet config l facts Sent Now memory.leading kept grown
-  leader_effect (AskView tx) sent grown = quiet config l facts Sent Now memory.leading kept grown
+-- each input that a leader meets while it is up
+pub leader_effect : (config : Config) (l : ℕ) (facts : List Fact) (memory : Memory) (Sent Now : Kind → Type 0) (input : Input)
+    → l < config.leaders → IsBacked config.leaders l facts Sent → IsTakenSent Sent input → IsKept config l facts memory.leading Sent
+    → IsSentMore Sent (effect_of config (L l) facts memory input).sends Now
+    → IsLeaderEffect config l facts Sent (effect_of config (L l) facts memory input) Now
+leader_effect config l facts memory Sent Now (Take message) few backed sent kept grown =
+    cond_both (is_message_inside config message) (of_leader memory (leader_takes config facts memory.leading message)) (no_effect memory)
+    (IsGoodEffect config l facts Sent Now)
+    (λ e more. good_takes config l facts Sent Now memory.leading message sent
+      (and_parts (is_inside config (tx_of message)) (is_acceptor_inside config message) e).1 kept more)
+    (λ e more. quiet config l facts Sent Now memory.leading kept more) grown
+leader_effect config l facts memory Sent Now TakeNoise few backed sent kept grown = quiet config l facts Sent Now memory.leading kept grown
+leader_effect config l facts memory Sent Now (AskCommit tx) few backed sent kept grown = good_commit_call config l facts Sent Now memory.leading tx kept grown
+leader_effect config l facts memory Sent Now (AskStatus tx) few backed sent kept grown = good_status_call config l facts Sent Now memory.leading tx kept grown
+leader_effect config l facts memory Sent Now (TimeOut tx) few backed sent kept grown = good_timeout config l facts Sent Now memory.leading tx few kept backed grown
+leader_effect config l facts memory Sent Now (CallOn x action) few backed sent kept grown = quiet config l facts Sent Now memory.leading kept grown
+leader_effect config l facts memory Sent Now ListPrepared few backed sent kept grown = quiet config l facts Sent Now memory.leading kept grown
+leader_effect config l facts memory Sent Now (AskView tx) few backed sent kept grown = quiet config l facts Sent Now memory.leading kept grown

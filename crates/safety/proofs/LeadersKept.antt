@@ -74,19 +74,19 @@ kept_at_start config l facts Sent = record {
   noted = λ tx i b v e h. absurd (cc (e));
 }
 
-module _ (config : Config) (l : ℕ) (facts : List Fact) (Sent : Kind → Type 0) where
-  -- more is sent, and nothing more is proposed in this leader's ballots
-  pub kept_while : (leading : Leading) (Now : Kind → Type 0) → ((m : Kind) → Sent m → Now m)
-      → ((tx : TxParts) (i b : ℕ) (v : Vote) → Now (P2a tx i b v) → IsOwned config.leaders l b → Sent (P2a tx i b v))
-      → IsKept config l facts leading Sent → IsKept config l facts leading Now
-  kept_while leading Now more no_more kept = record {
-    heard = λ m h. more m (kept.heard m h);
-    inside = kept.inside;
-    once = kept.once;
-    begun = kept.begun;
-    noted = λ tx i b v e h. kept.noted tx i b v e (no_more tx i b v h (kept.begun tx b e).owned);
-  }
+-- more is sent, and nothing more is proposed in this leader's ballots
+pub kept_while : (config : Config) (l : ℕ) (facts : List Fact) (leading : Leading) (Sent Now : Kind → Type 0) → ((m : Kind) → Sent m → Now m)
+    → ((tx : TxParts) (i b : ℕ) (v : Vote) → Now (P2a tx i b v) → IsOwned config.leaders l b → Sent (P2a tx i b v))
+    → IsKept config l facts leading Sent → IsKept config l facts leading Now
+kept_while config l facts leading Sent Now more no_more kept = record {
+  heard = λ m h. more m (kept.heard m h);
+  inside = kept.inside;
+  once = kept.once;
+  begun = kept.begun;
+  noted = λ tx i b v e h. kept.noted tx i b v e (no_more tx i b v h (kept.begun tx b e).owned);
+}
 
+module _ (config : Config) (l : ℕ) (facts : List Fact) (Sent : Kind → Type 0) where
   pub kept_meets : (tx : TxParts) (leading : Leading) → IsKept config l facts leading Sent → IsKept config l facts (meets tx leading) Sent
   kept_meets tx leading kept =
       cond_both (list_any (tx_eq tx) leading.met) leading (record leading { met = tx ∷ leading.met }) (λ (x : Leading). IsKept config l facts x Sent)

@@ -16,4 +16,5 @@ pub mod LeadersWords
 pub mod LeadersHeard
 pub mod LeadersKept
 pub mod Leaders
+pub mod LeadersGood
 pub mod Places
