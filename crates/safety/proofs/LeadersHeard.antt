@@ -311,7 +311,7 @@ named tx r h =
     let at = any_found (is_at r) tx.branches h in
     subst (λ (x : ℕ). Among (participants tx) x) (eqb-true at.element.rm r at.passes) (Among-map (λ (b : BranchParts). b.rm) tx.branches at.element at.among)
 
-naming : (tx : TxParts) (r : ℕ) → Among (participants tx) r → IsTrue (names tx r)
+pub naming : (tx : TxParts) (r : ℕ) → Among (participants tx) r → IsTrue (names tx r)
 naming tx r h =
     let at = Among-mapped (λ (b : BranchParts). b.rm) tx.branches r h in
     found_any (is_at r) tx.branches at.source at.among (eq-eqb at.source.rm r at.maps)

@@ -83,7 +83,7 @@ pub record IsFreshProposal (config : Config) (l : ℕ) (facts : List Fact) (Sent
 -- what a leader may send, the facts being those after the event, and Sent what was sent before it
 abbrev pub MaySend : Config → (l : ℕ) → List Fact → (Sent : Kind → Type 0) → Kind → Type 0
 MaySend config l facts Sent (kinds.Prepare tx) = Unit {0}
-MaySend config l facts Sent (kinds.P1a tx i b) = IsBegun config.leaders l facts tx b
+MaySend config l facts Sent (kinds.P1a tx i b) = IsTrue (names tx i) × IsBegun config.leaders l facts tx b
 MaySend config l facts Sent (kinds.P2a tx i b v) = IsFreshProposal config l facts Sent tx i b v
 MaySend config l facts Sent (kinds.Commit tx) = (r : ℕ) → IsTrue (names tx r) → IsDecided config.acceptors (Told Sent) tx r Prepared
 MaySend config l facts Sent (kinds.Abort tx) = (r : ℕ) × IsTrue (names tx r) × IsDecided config.acceptors (Told Sent) tx r Aborted

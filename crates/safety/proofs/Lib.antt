@@ -14,7 +14,9 @@ pub mod Steps
 pub mod Acceptors
 pub mod LeadersWords
 pub mod LeadersHeard
+pub mod LeadersKept
 pub mod Leaders
+pub mod LeadersGood
 pub mod Places
 pub mod Safe
 pub mod NodeSteps
