@@ -9,3 +9,4 @@ pub mod Slots
 pub mod Examples
 pub mod Actions
 pub mod Lists
+pub mod ViewFacts
