@@ -10,3 +10,4 @@ pub mod Examples
 pub mod Actions
 pub mod Lists
 pub mod ViewFacts
+pub mod Growth

@@ -1,7 +1,7 @@
 -- What is among a list.
 use Rattle.std.proofs.Common.{◌≡◌, ◌⊎◌, inl, inr, ◌∙◌, ℕ, ◌≤◌, Bool, true, false, ◌||◌, List, [], ◌∷◌, ◌++◌, Option, Some, None, refl, sym, ap, subst, arith}
 use Rattle.std.specs.Prelude.{map, Contains}
-use Rattle.std.specs.List.{list_any, list_all}
+use Rattle.std.specs.List.{list_any, list_all, flat_map}
 use Rattle.std.proofs.lemmas.Bool.{or_cases, or_left, or_right, both_ways, and_parts}
 use Rattle.safety.specs.Standing.{Among}
 use Rattle.safety.proofs.Additions.{Contains-head, Contains-tail, Contains-cases}
@@ -84,3 +84,21 @@ Contains-among (y ∷ xs) x (inr h) = Contains-tail y xs x (Contains-among xs x 
 pub Among-contains : {X : Type 0} (xs : List X) (x : X) → Contains xs x → Among xs x
 Among-contains [] x h = absurd (omega (arith, h.1))
 Among-contains (y ∷ xs) x h = elim (Contains-cases y xs x h) [ inl e ↦ inl e | inr there ↦ inr (Among-contains xs x there) ]
+
+-- what stands among lists joined end to end stands in one of them
+pub record IsJoined {X Y : Type 0} (f : X → List Y) (xs : List X) (y : Y) : Type 0 where
+  pub source : X
+  pub among : Among xs source
+  pub inside : Among (f source) y
+
+pub Among-joined : {X Y : Type 0} (f : X → List Y) (xs : List X) (y : Y) → Among (flat_map f xs) y → IsJoined f xs y
+Among-joined f [] y h = absurd h
+Among-joined f (x ∷ xs) y h = elim (Among-append (f x) (flat_map f xs) y h) [
+  | inl here ↦ record { source = x; among = inl refl; inside = here }
+  | inr there ↦ let rest = Among-joined f xs y there in record { source = rest.source; among = inr rest.among; inside = rest.inside }
+]
+
+pub Among-join : {X Y : Type 0} (f : X → List Y) (xs : List X) (x : X) (y : Y) → Among xs x → Among (f x) y → Among (flat_map f xs) y
+Among-join f [] x y h k = absurd h
+Among-join f (z ∷ xs) x y (inl e) k = Among-before (f z) (flat_map f xs) y (subst (λ w. Among (f w) y) (sym e) k)
+Among-join f (z ∷ xs) x y (inr h) k = Among-after (f z) (flat_map f xs) y (Among-join f xs x y h k)
