@@ -11,3 +11,4 @@ pub mod Actions
 pub mod Lists
 pub mod ViewFacts
 pub mod Growth
+pub mod Managers
