@@ -12,3 +12,4 @@ pub mod Lists
 pub mod ViewFacts
 pub mod Growth
 pub mod Managers
+pub mod Steps
