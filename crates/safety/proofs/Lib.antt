@@ -13,3 +13,4 @@ pub mod ViewFacts
 pub mod Growth
 pub mod Managers
 pub mod Steps
+pub mod ManagerEvents

@@ -20,9 +20,9 @@ use Rattle.protocol.specs.Calls.{Action, Answer}
 use Rattle.protocol.specs.Effects.{Config, Effect, Reply, Called, Shows, Refuses, Send, ToAcceptors, ToLeaders, replies, no_effect, sends_only, stores, to, is_inside}
 use Rattle.protocol.specs.Managers.{Branch, without, idle_keys, vote_sent, first_vote, on_prepare, on_commit, on_abort, on_message, manager_takes, on_manager_timeout}
 use Rattle.protocol.specs.Nodes.{Memory, Input, CallOn, ListPrepared, AskView, AskCommit, AskStatus, TimeOut, Take, TakeNoise, effect_of, is_message_inside, takes, of_manager}
-use Rattle.safety.specs.Standing.{Among, HasVote}
-use Rattle.safety.proofs.Lists.{Among-append, Among-before, Among-last}
-use Rattle.safety.proofs.ViewFacts.{HasVote-kept, vote_in_stands, unvoted, unended, IsUnended, IsShown, prepared_shows, open_shows}
+use Rattle.safety.specs.Standing.{Among}
+use Rattle.safety.proofs.Lists.{Among-append}
+use Rattle.safety.proofs.ViewFacts.{unvoted, vote_in_after_prepared, vote_in_after_aborted}
 
 -- ---- what is handed over
 
@@ -65,8 +65,8 @@ IsManagerFact rm facts branches input fact = ⊥
 -- its vote in ballot 0, which is stored
 pub record IsVoteSent (rm : ℕ) (facts : List Fact) (tx : TxParts) (i b : ℕ) (v : Vote) : Type 0 where
   pub own : i ≡ rm
-  pub zero : b ≡ 0
-  pub stored : HasVote facts tx v
+  pub first : b ≡ 0
+  pub vote : vote_in facts tx ≡ Some v
 
 -- what a message that is sent has, by the facts after the effect: it is a stored vote, or asks for an outcome
 abbrev pub IsManagerSend : ℕ → List Fact → Kind → Type 0
@@ -108,34 +108,29 @@ module _ (rm : ℕ) (facts : List Fact) (branches : List Branch) (input : Input)
   nothing = record { fact_is = tt; sends_are = λ send h. absurd h }
 
   -- a stored vote
-  vote_is : (now : List Fact) (tx : TxParts) (o : Option Vote) → ((v : Vote) → o ≡ Some v → HasVote now tx v)
+  vote_is : (now : List Fact) (tx : TxParts) (o : Option Vote) → vote_in now tx ≡ o
       → (send : Send) → Among (vote_sent rm tx o) send → IsManagerSend rm now send.message
-  vote_is now tx None has send h = absurd h
-  vote_is now tx (Some v) has send (inl e) =
-      subst (λ (s : Send). IsManagerSend rm now s.message) e (record { own = refl; zero = refl; stored = has v refl })
-  vote_is now tx (Some v) has send (inr none) = absurd none
-
-  same_vote : (now : List Fact) (tx : TxParts) (v w : Vote) → HasVote now tx v → Some v ≡ Some w → HasVote now tx w
-  same_vote now tx v w h e = subst (HasVote now tx) (ap (λ o. unwrap_or o v) e) h
+  vote_is now tx None is send h = absurd h
+  vote_is now tx (Some v) is send (inl e) =
+      subst (λ (s : Send). IsManagerSend rm now s.message) e (record { own = refl; first = refl; vote = is })
+  vote_is now tx (Some v) is send (inr none) = absurd none
 
   first_is : (tx : TxParts) (x : XidParts) (spent : Bool) (idle : Option (List Touched)) → IsFirst rm facts tx x
       → is_spent rm facts x ≡ spent → idle_keys branches x ≡ idle → IsRightEffect rm facts branches input (first_vote rm branches tx x spent idle)
   first_is tx x false (Some keys) first unspent idle = record {
     fact_is = (x, record { first = first; unspent = unspent; idle = idle });
-    sends_are = vote_is (facts ++ stored.VotePrepared tx keys ∷ []) tx (Some votes.Prepared)
-        (λ v e. same_vote (facts ++ stored.VotePrepared tx keys ∷ []) tx votes.Prepared v (keys, Among-last facts (stored.VotePrepared tx keys)) e);
+    sends_are = vote_is (facts ++ stored.VotePrepared tx keys ∷ []) tx (Some votes.Prepared) (vote_in_after_prepared facts tx keys);
   }
   first_is tx x spent idle first unspent is_idle = record {
     fact_is = (x, first);
-    sends_are = vote_is (facts ++ stored.VoteAborted tx ∷ []) tx (Some votes.Aborted)
-        (λ v e. same_vote (facts ++ stored.VoteAborted tx ∷ []) tx votes.Aborted v (Among-last facts (stored.VoteAborted tx)) e);
+    sends_are = vote_is (facts ++ stored.VoteAborted tx ∷ []) tx (Some votes.Aborted) (vote_in_after_aborted facts tx (unvoted facts tx first.new votes.Prepared));
   }
 
   prepare_is : (tx : TxParts) (x : XidParts) → xid_at tx rm ≡ Some x → IsRightEffect rm facts branches input (on_prepare rm facts branches tx x)
   prepare_is tx x name = cond_both (is_some (vote_in facts tx)) (sends_only branches (vote_sent rm tx (vote_in facts tx)))
       (if is_ended facts tx then no_effect branches else first_vote rm branches tx x (is_spent rm facts x) (idle_keys branches x))
       (λ (e : Effect (List Branch)). IsRightEffect rm facts branches input e)
-      (λ some. record { fact_is = tt; sends_are = vote_is facts tx (vote_in facts tx) (vote_in_stands facts tx) })
+      (λ some. record { fact_is = tt; sends_are = vote_is facts tx (vote_in facts tx) refl })
       (λ new. cond_both (is_ended facts tx) (no_effect branches) (first_vote rm branches tx x (is_spent rm facts x) (idle_keys branches x))
         (λ (e : Effect (List Branch)). IsRightEffect rm facts branches input e)
         (λ ended. nothing)
@@ -175,7 +170,7 @@ module _ (rm : ℕ) (facts : List Fact) (branches : List Branch) (input : Input)
       (λ inside. record {
         fact_is = tt;
         sends_are = λ send h. elim (Among-append (vote_sent rm tx (vote_in facts tx)) (if is_prepared_view (view facts tx) then to ToLeaders (kinds.Ask tx rm) ∷ [] else []) send h) [
-          | inl vote ↦ vote_is facts tx (vote_in facts tx) (vote_in_stands facts tx) send vote
+          | inl vote ↦ vote_is facts tx (vote_in facts tx) refl send vote
           | inr ask ↦ asked_is facts tx (is_prepared_view (view facts tx)) send ask
         ];
       })

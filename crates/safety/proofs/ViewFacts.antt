@@ -3,12 +3,10 @@ use Rattle.std.proofs.Common.{◌≡◌, ◌⊎◌, ℕ, Bool, true, false, not,
 use Rattle.std.proofs.Common.{inl, inr, refl, sym, ap, ◌∙◌, subst, arith}
 use Rattle.std.specs.Bool.{Decides}
 use Rattle.std.specs.List.{list_any}
-use Rattle.std.proofs.lemmas.Bool.{both_ways, or_parts}
-use Rattle.std.proofs.lemmas.List.Folds.{list_any-append}
+use Rattle.std.proofs.lemmas.Bool.{both_ways, or_parts, false_from_ne_true}
 use Rattle.xid.specs.Transactions.{TxParts}
 use Rattle.xid.specs.declared.transaction.Vote.{Vote}
 use Rattle.xid.specs.declared.transaction.Vote.TheVariants as votes
-use Rattle.ballot.specs.Choice.{is_prepared}
 use Rattle.stable_record.specs.Facts.{Fact, Touched}
 use Rattle.stable_record.specs.Facts as stored
 use Rattle.protocol.specs.declared.View.{View}
@@ -17,7 +15,7 @@ use Rattle.protocol.specs.Facts.{tx_eq, instance_eq, vote_eq, casts, vote_in, co
 use Rattle.protocol.proofs.Same.{tx_eq-same, tx_eq-is, instance_eq-same, instance_eq-is}
 use Rattle.safety.specs.Items.{Item, Voted, Committed, Dropped, IsView}
 use Rattle.safety.specs.Standing.{Among, HasVote}
-use Rattle.safety.proofs.Lists.{any_found, found_any}
+use Rattle.safety.proofs.Lists.{any_found, found_any, Among-push, Among-last}
 
 -- ---- what is compared whole
 
@@ -107,6 +105,29 @@ some_by (Some v) e = absurd (cc (e))
 -- whether a vote is stored
 pub unvoted : (facts : List Fact) (tx : TxParts) → is_some (vote_in facts tx) ≡ false → (v : Vote) → ¬ HasVote facts tx v
 unvoted facts tx e = vote_in_none facts tx (some_by (vote_in facts tx) e)
+
+vote_is_prepared : (facts : List Fact) (tx : TxParts) → list_any (casts tx votes.Prepared) facts ≡ true → vote_in facts tx ≡ Some votes.Prepared
+vote_is_prepared facts tx p = ap (λ (b : Bool). vote_of b (list_any (casts tx votes.Aborted) facts)) p
+
+vote_is_aborted : (facts : List Fact) (tx : TxParts) → list_any (casts tx votes.Prepared) facts ≡ false → list_any (casts tx votes.Aborted) facts ≡ true
+    → vote_in facts tx ≡ Some votes.Aborted
+vote_is_aborted facts tx p q = ap (λ (b : Bool). vote_of b (list_any (casts tx votes.Aborted) facts)) p ∙ ap (vote_of false) q
+
+pub vote_in_prepared : (facts : List Fact) (tx : TxParts) → HasVote facts tx votes.Prepared → vote_in facts tx ≡ Some votes.Prepared
+vote_in_prepared facts tx h = vote_is_prepared facts tx (vote_passes facts tx votes.Prepared h)
+
+-- a first vote is the one that is looked up then
+pub vote_in_after_prepared : (facts : List Fact) (tx : TxParts) (keys : List Touched) → vote_in (facts ++ stored.VotePrepared tx keys ∷ []) tx ≡ Some votes.Prepared
+vote_in_after_prepared facts tx keys =
+    vote_in_prepared (facts ++ stored.VotePrepared tx keys ∷ []) tx (keys, Among-last facts (stored.VotePrepared tx keys))
+
+pub vote_in_after_aborted : (facts : List Fact) (tx : TxParts) → ¬ HasVote facts tx votes.Prepared → vote_in (facts ++ stored.VoteAborted tx ∷ []) tx ≡ Some votes.Aborted
+vote_in_after_aborted facts tx none =
+    vote_is_aborted (facts ++ stored.VoteAborted tx ∷ []) tx
+    (false_from_ne_true (list_any (casts tx votes.Prepared) (facts ++ stored.VoteAborted tx ∷ []))
+      (λ e. let h = (casts_decides (facts ++ stored.VoteAborted tx ∷ []) tx votes.Prepared).0 e in
+        elim (Among-push facts (stored.VoteAborted tx) (stored.VotePrepared tx h.0) h.1) [ inl old ↦ none (h.0, old) | inr same ↦ absurd (cc (same)) ]))
+    (vote_passes (facts ++ stored.VoteAborted tx ∷ []) tx votes.Aborted (Among-last facts (stored.VoteAborted tx)))
 
 -- ---- outcomes
 
