@@ -14,3 +14,4 @@ pub mod Growth
 pub mod Managers
 pub mod Steps
 pub mod ManagerEvents
+pub mod ManagerKeys
