@@ -15,3 +15,5 @@ pub mod Managers
 pub mod Steps
 pub mod ManagerEvents
 pub mod ManagerKeys
+pub mod Played
+pub mod ManagerApart

@@ -2,7 +2,6 @@
 use Rattle.std.proofs.Common.{◌≡◌, ◌⊎◌, ℕ, zero, Bool, true, false, ◌&&◌, IsTrue, List, [], ◌∷◌, ◌++◌, Option, Some, None, unwrap_or, not}
 use Rattle.std.proofs.Common.{inl, inr, ⊎_elim, refl, sym, ap, ◌∙◌, subst, arith}
 use Rattle.std.specs.Prelude.{map, Contains, IfSome}
-use Rattle.std.proofs.lemmas.Bool.{and_parts}
 use Rattle.xid.specs.Names.{XidParts}
 use Rattle.xid.specs.Transactions.{TxParts, names}
 use Rattle.xid.specs.declared.transaction.Vote.{Vote}
@@ -17,7 +16,7 @@ use Rattle.protocol.specs.Effects.{Config, Effect, Send}
 use Rattle.protocol.specs.Facts.{view}
 use Rattle.protocol.specs.Managers.{Branch}
 use Rattle.protocol.specs.Nodes.{Memory, Input, Take, effect_of}
-use Rattle.protocol.specs.Playing.{plays, all_play, is_new, is_name_spent, is_some_held}
+use Rattle.protocol.specs.Playing.{all_play}
 use Rattle.protocol.specs.StandsFor.{stands_for, comes_to}
 use Rattle.safety.specs.Items.{Item, Voted, Committed, Dropped, P2a, Allowed, IsView}
 use Rattle.safety.specs.Standing.{Among, StandsBy, HasVote, setting}
@@ -27,36 +26,8 @@ use Rattle.safety.proofs.Lists.{Among-push, Among-mapped}
 use Rattle.safety.proofs.Growth.{items_of}
 use Rattle.safety.proofs.Steps.{IsNamed, IsFrom, IsGood}
 use Rattle.safety.proofs.ViewFacts.{vote_in_stands, unvoted, unended, prepared_shows, AreOf, view_is}
+use Rattle.safety.proofs.Played.{voted_named}
 use Rattle.safety.proofs.Managers.{facts_after, IsFirst, IsManagerFact, IsManagerSend, IsRight, name_names, manager_is_right}
-
--- ---- what facts that played have
-
--- a fact played after some facts
-pub record IsPlayed (config : Config) (who : NodeId) (fact : Fact) : Type 0 where
-  pub before : List Fact
-  pub played : plays config who before fact ≡ true
-
-pub each_played : (config : Config) (who : NodeId) (before facts : List Fact) → all_play config who before facts ≡ true
-    → (fact : Fact) → Among facts fact → IsPlayed config who fact
-each_played config who before [] h fact k = absurd k
-each_played config who before (first ∷ facts) h fact (inl e) =
-    let parts = and_parts (plays config who before first) (all_play config who (before ++ first ∷ []) facts) h in
-    record { before = before; played = subst (λ (f : Fact). plays config who before f ≡ true) e parts.0 }
-each_played config who before (first ∷ facts) h fact (inr k) =
-    let parts = and_parts (plays config who before first) (all_play config who (before ++ first ∷ []) facts) h in
-    each_played config who (before ++ first ∷ []) facts parts.1 fact k
-
--- a stored vote is on a transaction that names this resource manager
-pub voted_named : (config : Config) (rm : ℕ) (facts : List Fact) → all_play config (R rm) [] facts ≡ true
-    → (tx : TxParts) (v : Vote) → HasVote facts tx v → names tx rm ≡ true
-voted_named config rm facts play tx votes.Prepared h =
-    let is = each_played config (R rm) [] facts play (stored.VotePrepared tx h.0) h.1 in
-    (and_parts (names tx rm) (is_new is.before tx)
-    (and_parts (names tx rm && is_new is.before tx) (not (is_name_spent rm is.before tx))
-    (and_parts (names tx rm && is_new is.before tx && not (is_name_spent rm is.before tx)) (not (is_some_held is.before h.0)) is.played).0).0).0
-voted_named config rm facts play tx votes.Aborted h =
-    let is = each_played config (R rm) [] facts play (stored.VoteAborted tx) h in
-    (and_parts (names tx rm) (is_new is.before tx) is.played).0
 
 -- ---- as items
 

@@ -15,7 +15,7 @@ use Rattle.protocol.specs.Facts.{tx_eq, instance_eq, vote_eq, casts, vote_in, co
 use Rattle.protocol.proofs.Same.{tx_eq-same, tx_eq-is, instance_eq-same, instance_eq-is}
 use Rattle.safety.specs.Items.{Item, Voted, Committed, Dropped, IsView}
 use Rattle.safety.specs.Standing.{Among, HasVote}
-use Rattle.safety.proofs.Lists.{any_found, found_any, Among-push, Among-last}
+use Rattle.safety.proofs.Lists.{any_found, found_any, Among-before, Among-push, Among-last}
 
 -- ---- what is compared whole
 
@@ -216,6 +216,34 @@ open_by facts tx views.Aborted h e = absurd (cc (e))
 -- working or prepared: no outcome is stored, nor the vote aborted
 pub open_shows : (facts : List Fact) (tx : TxParts) → is_open_view (view facts tx) ≡ true → IsUnended facts tx × ¬ HasVote facts tx votes.Aborted
 open_shows facts tx e = open_by facts tx (view facts tx) (view_shows facts tx) e
+
+prepared_at : (a b c d : Bool) → a ≡ false → b ≡ false → c ≡ false → d ≡ true → view_of a b c d ≡ views.Prepared
+prepared_at true b c d p q r s = absurd (cc (p))
+prepared_at false true c d p q r s = absurd (cc (q))
+prepared_at false false true d p q r s = absurd (cc (r))
+prepared_at false false false true p q r s = refl
+prepared_at false false false false p q r s = absurd (cc (s))
+
+-- and the other way round
+pub shows_prepared : (facts : List Fact) (tx : TxParts) → IsShown facts tx views.Prepared → view facts tx ≡ views.Prepared
+shows_prepared facts tx h = prepared_at (list_any (casts tx votes.Aborted) facts) (list_any (aborts tx) facts) (list_any (commits tx) facts)
+    (list_any (casts tx votes.Prepared) facts)
+    (false_from_ne_true (list_any (casts tx votes.Aborted) facts) (λ e. h.2 ((casts_decides facts tx votes.Aborted).0 e)))
+    (false_from_ne_true (list_any (aborts tx) facts) (λ e. h.1.undropped ((aborts_decides facts tx).0 e)))
+    (false_from_ne_true (list_any (commits tx) facts) (λ e. h.1.uncommitted ((commits_decides facts tx).0 e)))
+    ((casts_decides facts tx votes.Prepared).1 h.0)
+
+-- where a vote prepared was stored, a view that is prepared was so before the last fact
+pub prepared_before : (facts : List Fact) (fact : Fact) (tx : TxParts) → HasVote facts tx votes.Prepared
+    → is_prepared_view (view (facts ++ fact ∷ []) tx) ≡ true → is_prepared_view (view facts tx) ≡ true
+prepared_before facts fact tx voted e =
+    let h = prepared_shows (facts ++ fact ∷ []) tx e in
+    let kept : (f : Fact) → Among facts f → Among (facts ++ fact ∷ []) f = λ f. Among-before facts (fact ∷ []) f in
+    ap is_prepared_view (shows_prepared facts tx (
+      voted,
+      record { uncommitted = λ k. h.1.uncommitted (kept (stored.Committed tx) k); undropped = λ k. h.1.undropped (kept (stored.Aborted tx) k) },
+      λ k. h.2 (HasVote-kept facts (facts ++ fact ∷ []) tx votes.Aborted kept k),
+    ))
 
 -- ---- items
 
