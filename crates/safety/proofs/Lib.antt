@@ -22,8 +22,10 @@ pub mod LeadersGood
 pub mod Places
 pub mod Safe
 pub mod NodeSteps
+pub mod Needed
 pub mod Rules
 pub mod ManagerEvents
 pub mod ManagerKeys
 pub mod Played
 pub mod ManagerApart
+pub mod Worlds

@@ -21,6 +21,7 @@ use Rattle.safety.proofs.Growth.{IsMore}
 use Rattle.safety.proofs.Leaders.{kept_at_start}
 use Rattle.safety.proofs.LeadersWords.{IsKept, IsSentBy, IsSentMore, with_fact}
 use Rattle.safety.proofs.Lists.{IsMapped, IsJoined, Among-map, Among-mapped, Among-joined, Among-append, Among-before}
+use Rattle.safety.proofs.ManagerApart.{AreApart, none_apart}
 use Rattle.safety.proofs.Places.{node_there, node_elsewhere}
 use Rattle.safety.proofs.Safe.{facts_by, IsSafeBy, IsSafe, IsMoved, IsNextBy, next_after_move}
 use Rattle.safety.proofs.Steps.{IsGood, nothing_is_good}
@@ -119,9 +120,10 @@ map-append (x ∷ xs) ys = ap (λ (rest : List Kind). x.message ∷ rest) (map-a
 -- what the rule of an input hands over, by the facts of the node
 pub record IsRule (config : Config) (who : NodeId) (nodes : NodeId → Option NodeState) (sent : List Kind) (facts : List Fact) (e : Effect Memory) : Type 0 where
   pub good : IsGood config who (facts_by nodes) sent e.fact (messages_of e.sends)
-  pub met : (a : ℕ) (f : Fact) → who ≡ A a → e.fact ≡ Some f → plays config (A a) (facts_by nodes (A a)) f ≡ true
+  pub met : (f : Fact) → e.fact ≡ Some f → plays config who (facts_by nodes who) f ≡ true
   pub leads : (l : ℕ) (now : List Kind) → who ≡ L l → IsSentMore (Among sent) e.sends (Among now)
       → IsKept config l (with_fact facts e.fact) e.memory.leading (Among now)
+  pub holds : (rm : ℕ) → who ≡ R rm → AreApart rm (with_fact facts e.fact) e.memory.branches
 
 with_fact_is : (facts : List Fact) (fact : Option Fact) → with_fact facts fact ≡ facts ++ option_to_list fact
 with_fact_is facts None = sym (append-nil facts)
@@ -161,6 +163,19 @@ module _ (config : Config) (world : World) (who : NodeId) (node : NodeState) (le
       subst (λ (m : Memory). IsKept config l left.node.facts m.leading (Among (sent_in after))) (sym memory)
       (kept_at_start config l left.node.facts (Among (sent_in after)))
 
+  dropped : (rm : ℕ) → left.node.memory ≡ empty_memory → AreApart rm left.node.facts left.node.memory.branches
+  dropped rm memory =
+      subst (λ (m : Memory). AreApart rm left.node.facts m.branches) (sym memory) (none_apart rm left.node.facts)
+
+  still_holds : IsStill node left → (rm : ℕ) → who ≡ R rm → AreApart rm left.node.facts left.node.memory.branches
+  still_holds still rm e = elim still.memory [
+    | inl same ↦
+        subst (λ (m : Memory). AreApart rm left.node.facts m.branches) (sym same)
+        (subst (λ (xs : List Fact). AreApart rm xs node.memory.branches) (sym still.facts)
+        (safe.apart rm node (subst (λ (n : NodeId). node_at config world n ≡ Some node) e stands)))
+    | inr gone ↦ dropped rm gone
+  ]
+
   still_leads : IsStill node left → (l : ℕ) → who ≡ L l → IsKept config l left.node.facts left.node.memory.leading (Among (sent_in after))
   still_leads still l e = elim still.memory [
     | inl same ↦
@@ -176,14 +191,14 @@ module _ (config : Config) (world : World) (who : NodeId) (node : NodeState) (le
   next_still still =
       next_after_move config (node_at config world) (node_at config after) (sent_in world) (sent_in after) who node left.node None [] more safe
       (nothing_is_good config who (facts_by (node_at config world)) (sent_in world)) (none_sent still.silent)
-      (moved None (still.facts ∙ sym (append-nil node.facts))) (λ a f e is. absurd (cc (is))) (still_leads still)
+      (moved None (still.facts ∙ sym (append-nil node.facts))) (λ f is. absurd (cc (is))) (still_leads still) (still_holds still)
 
   module _ (e : Effect Memory) (rule : IsRule config who (node_at config world) (sent_in world) node.facts e) where
     next_torn : IsTorn node e left → IsNextBy config (node_at config world) (node_at config after) (sent_in after)
     next_torn torn =
         next_after_move config (node_at config world) (node_at config after) (sent_in world) (sent_in after) who node left.node e.fact
         (messages_of e.sends) more safe rule.good (λ m h. absurd (none_sent torn.silent m h)) (moved e.fact torn.facts) rule.met
-        (λ l is. lost l torn.memory)
+        (λ l is. lost l torn.memory) (λ rm is. dropped rm torn.memory)
 
     done_sent : IsDone node e left → (m : Kind) → Among more m → IsSentBy e.sends m
     done_sent done m h = subst (λ (sends : List Send). IsSentBy sends m) done.sends (posted_message config who left.sends m h)
@@ -207,6 +222,9 @@ module _ (config : Config) (world : World) (who : NodeId) (node : NodeState) (le
           subst (λ (m : Memory). IsKept config l left.node.facts m.leading (Among (sent_in after))) (sym done.memory)
           (subst (λ (xs : List Fact). IsKept config l xs e.memory.leading (Among (sent_in after))) (with_fact_is node.facts e.fact ∙ sym done.facts)
           (rule.leads l (sent_in after) is (done_more done))))
+        (λ rm is.
+          subst (λ (m : Memory). AreApart rm left.node.facts m.branches) (sym done.memory)
+          (subst (λ (xs : List Fact). AreApart rm xs e.memory.branches) (with_fact_is node.facts e.fact ∙ sym done.facts) (rule.holds rm is)))
 
     pub next_left : IsLeft node e left → IsNextBy config (node_at config world) (node_at config after) (sent_in after)
     next_left h = elim h [

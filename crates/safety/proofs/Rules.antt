@@ -1,45 +1,29 @@
 -- What the rules of each kind of node hand over, in a world that is safe.
-use Rattle.std.proofs.Common.{◌≡◌, ◌⊎◌, inl, inr, ⊎_elim, ◌∙◌, ℕ, zero, suc, ◌<◌, Bool, true, false, if◌then◌else◌, IsTrue, List, [], ◌∷◌, ◌++◌, Option, Some, None, refl, sym, ap, subst, arith}
-use Rattle.std.specs.Prelude.{map, Contains}
-use Rattle.std.specs.Option.{option_to_list}
+use Rattle.std.proofs.Common.{◌≡◌, ◌⊎◌, inl, inr, ◌∙◌, ℕ, ◌<◌, Bool, true, List, [], ◌++◌, Option, Some, None, refl, sym, ap, subst}
+use Rattle.std.specs.Prelude.{map}
 use Rattle.std.proofs.lemmas.Bool.{cond_both}
-use Rattle.xid.specs.Transactions.{TxParts, names}
-use Rattle.xid.specs.declared.transaction.Vote.{Vote}
-use Rattle.xid.specs.declared.transaction.Vote.TheVariants as votes
 use Rattle.wire.specs.declared.message.Kind.{Kind}
-use Rattle.wire.specs.declared.message.Kind.TheVariants as kinds
-use Rattle.ballot.specs.Ballots.{owner_of, IsOwned}
 use Rattle.stable_record.specs.Facts.{Fact}
-use Rattle.stable_record.specs.Facts as stored
 use Rattle.protocol.specs.declared.NodeId.{NodeId}
 use Rattle.protocol.specs.declared.NodeId.TheVariants.{A, L, R}
-use Rattle.protocol.specs.Acceptors.{acceptor_takes}
-use Rattle.protocol.specs.Effects.{Config, Effect, Send, Reply, no_effect, replies}
-use Rattle.protocol.specs.Nodes.{Memory, NodeState, Input, CallOn, ListPrepared, AskView, AskCommit, AskStatus, TimeOut, Take, TakeNoise, effect_of, takes, of_acceptor, is_message_inside}
-use Rattle.protocol.specs.Playing.{plays, plays_at_acceptor}
-use Rattle.protocol.specs.StandsFor.{stands_for, comes_to}
-use Rattle.safety.specs.Items.{Item, Promised, Accepted, Began, Voted, Committed, Dropped, P1b, P2a, P2b, Commit, Abort}
-use Rattle.safety.specs.Items.{Setting, Allowed, IsDecided, IsPick, IsMajority}
-use Rattle.safety.specs.Invariant.{Invariant}
-use Rattle.safety.specs.Standing.{Among, StandsBy, HasVote, setting, facts_of}
-use Rattle.safety.proofs.Majorities.{majorities_meet}
-use Rattle.safety.proofs.Kept.{IsDecided-kept, IsPick-kept}
-use Rattle.safety.proofs.Additions.{AreAllowed, Contains-head, Contains-one}
-use Rattle.safety.proofs.Events.{with_items}
-use Rattle.safety.proofs.Actions.{proposal_is_allowed}
-use Rattle.safety.proofs.Acceptors.{messages_of, IsAcceptorGood, acceptor_is_good}
-use Rattle.safety.proofs.Growth.{items_of}
+use Rattle.protocol.specs.Effects.{Config, Effect, Send, Reply, replies}
+use Rattle.protocol.specs.Nodes.{Memory, NodeState, Input, CallOn, ListPrepared, AskView, AskCommit, AskStatus, TimeOut, Take, TakeNoise, effect_of, takes, is_message_inside}
+use Rattle.protocol.specs.Playing.{plays, plays_at_acceptor, plays_at_leader}
+use Rattle.safety.specs.Standing.{Among, facts_of}
+use Rattle.safety.proofs.Acceptors.{messages_of, acceptor_is_good}
 use Rattle.safety.proofs.Leaders.{IsTakenSent, leader_effect}
-use Rattle.safety.proofs.LeadersWords.{Told, IsKept, IsBacked, IsBegun, IsSentBy, IsSentMore, with_fact, IsFreshProposal, MaySend, IsLeaderStep}
-use Rattle.safety.proofs.Lists.{Among-push}
-use Rattle.safety.proofs.NodeSteps.{IsRule, sent_by}
+use Rattle.safety.proofs.LeadersGood.{leader_is_good, backed_by}
+use Rattle.safety.proofs.LeadersWords.{IsKept, IsSentMore, with_fact}
+use Rattle.safety.proofs.ManagerApart.{AreApart}
+use Rattle.safety.proofs.ManagerEvents.{manager_is_good}
+use Rattle.safety.proofs.Needed.{manager_effect}
+use Rattle.safety.proofs.NodeSteps.{IsRule}
 use Rattle.safety.proofs.Safe.{facts_by, IsSafeBy}
-use Rattle.safety.proofs.Steps.{IsNamed, IsFrom, IsGood, nothing_is_good}
+use Rattle.safety.proofs.Steps.{IsGood, nothing_is_good}
 
 -- what is handed over as a datagram was sent
 abbrev pub IsFromNet : (sent : List Kind) → Input → Type 0
-IsFromNet sent (Take message) = Among sent message
-IsFromNet sent input = Unit {0}
+IsFromNet sent input = IsTakenSent (Among sent) input
 
 -- ---- acceptors
 
@@ -54,7 +38,7 @@ module _ (config : Config) (a : ℕ) (nodes : NodeId → Option NodeState) (sent
 
   acceptor_takes_well : (m : Kind) → Among sent m → IsAcceptorRule config a (facts_by nodes) sent (takes config (A a) (facts_by nodes (A a)) memory m)
   acceptor_takes_well m h =
-      let is = acceptor_is_good config a (facts_by nodes) sent (safe.played a) m h (safe.named m h) in
+      let is = acceptor_is_good config a (facts_by nodes) sent (safe.played (A a)) m h (safe.named m h) in
       record { good = is.good; met = is.plays }
 
   acceptor_effect : (input : Input) → IsFromNet sent input → IsAcceptorRule config a (facts_by nodes) sent (effect_of config (A a) (facts_by nodes (A a)) memory input)
@@ -75,7 +59,68 @@ module _ (config : Config) (a : ℕ) (nodes : NodeId → Option NodeState) (sent
       let is = acceptor_effect input h in
       record {
         good = is.good;
-        met = λ b f same fact. let e : a ≡ b = cc (same) in
-            subst (λ (n : ℕ). plays config (A n) (facts_by nodes (A n)) f ≡ true) e (is.met f fact);
+        met = is.met;
         leads = λ l now same. absurd (cc (same));
+        holds = λ rm same. absurd (cc (same));
       }
+
+-- ---- leaders
+
+leader_rule : (config : Config) (l : ℕ) (nodes : NodeId → Option NodeState) (sent : List Kind) (safe : IsSafeBy config nodes sent) (memory : Memory)
+    (input : Input) → l < config.leaders → IsFromNet sent input → IsKept config l (facts_by nodes (L l)) memory.leading (Among sent)
+    → IsRule config (L l) nodes sent (facts_by nodes (L l)) (effect_of config (L l) (facts_by nodes (L l)) memory input)
+leader_rule config l nodes sent safe memory input few came kept =
+    let e : Effect Memory = effect_of config (L l) (facts_by nodes (L l)) memory input in
+    let is = leader_is_good config l (facts_by nodes) memory sent (sent ++ messages_of e.sends) (messages_of e.sends) input few safe.invariant safe.named
+        came kept (λ m h. h) refl in
+    record {
+      good = is.good;
+      met = is.plays;
+      leads = λ k now same more.
+          let own : l ≡ k = cc (same) in
+          let step = leader_effect config l (facts_by nodes (L l)) memory (Among sent) (Among now) input few
+              (backed_by config l (facts_by nodes) sent safe.invariant) came kept more in
+          subst (λ (n : ℕ). IsKept config n (with_fact (facts_by nodes (L l)) e.fact) e.memory.leading (Among now)) own step.kept;
+      holds = λ rm same. absurd (cc (same));
+    }
+
+-- ---- resource managers
+
+taken_from : (sent : List Kind) (input : Input) → IsFromNet sent input → (m : Kind) → input ≡ Take m → Among sent m
+taken_from sent input came m e = subst (IsFromNet sent) e came
+
+manager_rule : (config : Config) (rm : ℕ) (nodes : NodeId → Option NodeState) (sent : List Kind) (safe : IsSafeBy config nodes sent) (memory : Memory)
+    (input : Input) → IsFromNet sent input → AreApart rm (facts_by nodes (R rm)) memory.branches
+    → IsRule config (R rm) nodes sent (facts_by nodes (R rm)) (effect_of config (R rm) (facts_by nodes (R rm)) memory input)
+manager_rule config rm nodes sent safe memory input came apart =
+    let e : Effect Memory = effect_of config (R rm) (facts_by nodes (R rm)) memory input in
+    let is = manager_effect config rm (facts_by nodes (R rm)) memory input (safe.played (R rm)) apart in
+    record {
+      good = manager_is_good config rm (facts_by nodes) sent memory input (safe.played (R rm)) (taken_from sent input came);
+      met = is.plays;
+      leads = λ l now same. absurd (cc (same));
+      holds = λ n same.
+          let own : rm ≡ n = cc (same) in
+          subst (λ (k : ℕ). AreApart k (with_fact (facts_by nodes (R rm)) e.fact) e.memory.branches) own is.apart;
+    }
+
+-- ---- any node
+
+rule_by : (config : Config) (who : NodeId) (nodes : NodeId → Option NodeState) (sent : List Kind) (safe : IsSafeBy config nodes sent) (node : NodeState)
+    (input : Input) → nodes who ≡ Some node → ((l : ℕ) → who ≡ L l → l < config.leaders) → IsFromNet sent input
+    → IsRule config who nodes sent (facts_by nodes who) (effect_of config who (facts_by nodes who) node.memory input)
+rule_by config (A a) nodes sent safe node input stands few came = acceptor_rule config a nodes sent safe node.memory input came
+rule_by config (L l) nodes sent safe node input stands few came =
+    leader_rule config l nodes sent safe node.memory input (few l refl) came
+    (subst (λ (xs : List Fact). IsKept config l xs node.memory.leading (Among sent)) (sym (ap facts_of stands)) (safe.kept l node stands))
+rule_by config (R rm) nodes sent safe node input stands few came =
+    manager_rule config rm nodes sent safe node.memory input came
+    (subst (λ (xs : List Fact). AreApart rm xs node.memory.branches) (sym (ap facts_of stands)) (safe.apart rm node stands))
+
+-- the rule of an input hands over what it must, at whatever node
+pub rule_is : (config : Config) (who : NodeId) (nodes : NodeId → Option NodeState) (sent : List Kind) (safe : IsSafeBy config nodes sent) (node : NodeState)
+    (input : Input) → nodes who ≡ Some node → ((l : ℕ) → who ≡ L l → l < config.leaders) → IsFromNet sent input
+    → IsRule config who nodes sent node.facts (effect_of config who node.facts node.memory input)
+rule_is config who nodes sent safe node input stands few came =
+    subst (λ (xs : List Fact). IsRule config who nodes sent xs (effect_of config who xs node.memory input)) (ap facts_of stands)
+    (rule_by config who nodes sent safe node input stands few came)

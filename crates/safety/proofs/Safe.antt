@@ -1,9 +1,8 @@
 -- What holds of a world at each moment of a run, and that it lasts while one node takes a step.
-use Rattle.std.proofs.Common.{◌≡◌, ◌⊎◌, inl, inr, ⊎_elim, ◌∙◌, ℕ, zero, suc, ◌<◌, Bool, true, false, ◌&&◌, IsTrue, List, [], ◌∷◌, ◌++◌, Option, Some, None, refl, sym, ap, subst, append_assoc, arith}
+use Rattle.std.proofs.Common.{◌≡◌, ◌⊎◌, inl, inr, ⊎_elim, ◌∙◌, ℕ, zero, suc, ◌<◌, Bool, true, false, ◌&&◌, IsTrue, List, [], ◌∷◌, ◌++◌, Option, Some, None, refl, sym, ap, subst, arith}
 use Rattle.std.specs.Prelude.{map, Contains}
 use Rattle.std.specs.List.{flat_map}
 use Rattle.std.specs.Option.{option_to_list}
-use Rattle.std.proofs.lemmas.Bool.{and_from, and_parts}
 use Rattle.std.proofs.lemmas.List.{append-nil}
 use Rattle.std.proofs.lemmas.Option.{same_Some}
 use Rattle.xid.specs.Transactions.{TxParts, names}
@@ -34,6 +33,8 @@ use Rattle.safety.proofs.Growth.{items_of, IsMore, same_node}
 use Rattle.safety.proofs.Lists.{Among-append, Among-before}
 use Rattle.safety.proofs.LeadersWords.{IsKept}
 use Rattle.safety.proofs.Leaders.{kept_while}
+use Rattle.safety.proofs.ManagerApart.{AreApart}
+use Rattle.safety.proofs.Played.{all_play_then}
 use Rattle.safety.proofs.Steps.{IsNamed, IsFrom, IsGood, event_of_rule}
 
 -- the facts of nodes
@@ -44,12 +45,13 @@ facts_by nodes who = facts_of (nodes who)
 pub record IsSafeBy (config : Config) (nodes : NodeId → Option NodeState) (sent : List Kind) : Type 0 where
   -- what stands
   pub invariant : Invariant (setting config) (StandsBy (facts_by nodes) sent)
-  -- what each acceptor stored met its condition
-  pub played : (a : ℕ) → all_play config (A a) [] (facts_by nodes (A a)) ≡ true
+  -- each fact met its condition when it was stored
+  pub played : (who : NodeId) → all_play config who [] (facts_by nodes who) ≡ true
   -- instances are participants'
   pub named : (m : Kind) → Among sent m → IsNamed m
-  -- the memory of each leader is in order
+  -- the memory of each leader is in order, and the branches of each resource manager are apart
   pub kept : (l : ℕ) (node : NodeState) → nodes (L l) ≡ Some node → IsKept config l node.facts node.memory.leading (Among sent)
+  pub apart : (rm : ℕ) (node : NodeState) → nodes (R rm) ≡ Some node → AreApart rm node.facts node.memory.branches
 
 abbrev pub IsSafe : Config → World → Type 0
 IsSafe config world = IsSafeBy config (node_at config world) (sent_in world)
@@ -89,21 +91,11 @@ state_stands config nodes sent tx r named =
 
 -- ---- facts that play
 
-all_play-push : (config : Config) (who : NodeId) (before facts : List Fact) (fact : Fact) → all_play config who before facts ≡ true
-    → plays config who (before ++ facts) fact ≡ true → all_play config who before (facts ++ fact ∷ []) ≡ true
-all_play-push config who before [] fact h k =
-    and_from (plays config who before fact) true (subst (λ (xs : List Fact). plays config who xs fact ≡ true) (append-nil before) k) refl
-all_play-push config who before (first ∷ facts) fact h k =
-    let parts = and_parts (plays config who before first) (all_play config who (before ++ first ∷ []) facts) h in
-    and_from (plays config who before first) (all_play config who (before ++ first ∷ []) (facts ++ fact ∷ [])) parts.0
-    (all_play-push config who (before ++ first ∷ []) facts fact parts.1
-    (subst (λ (xs : List Fact). plays config who xs fact ≡ true) (sym (append_assoc before (first ∷ []) facts)) k))
-
 -- facts that play still do with one more that plays, or with none
 pub plays_on : (config : Config) (who : NodeId) (facts : List Fact) (fact : Option Fact) → all_play config who [] facts ≡ true
     → ((f : Fact) → fact ≡ Some f → plays config who facts f ≡ true) → all_play config who [] (facts ++ option_to_list fact) ≡ true
 plays_on config who facts None h k = subst (λ (xs : List Fact). all_play config who [] xs ≡ true) (sym (append-nil facts)) h
-plays_on config who facts (Some f) h k = all_play-push config who [] facts f h (k f refl)
+plays_on config who facts (Some f) h k = all_play_then config who [] facts f h (k f refl)
 
 -- ---- one node takes a step
 
@@ -116,8 +108,9 @@ owner_sent config who l tx i (suc b) v from owned = from ∙ ap L owned.1
 module _ (config : Config) (nodes nodes_after : NodeId → Option NodeState) (sent sent_after : List Kind) (who : NodeId) (node new : NodeState)
     (fact : Option Fact) (sends more : List Kind) (safe : IsSafeBy config nodes sent) (good : IsGood config who (facts_by nodes) sent fact sends)
     (some : (m : Kind) → Among more m → Among sends m) (moved : IsMoved nodes nodes_after sent sent_after who node new fact more)
-    (met : (a : ℕ) (f : Fact) → who ≡ A a → fact ≡ Some f → plays config (A a) (facts_by nodes (A a)) f ≡ true)
-    (leads : (l : ℕ) → who ≡ L l → IsKept config l new.facts new.memory.leading (Among sent_after)) where
+    (met : (f : Fact) → fact ≡ Some f → plays config who (facts_by nodes who) f ≡ true)
+    (leads : (l : ℕ) → who ≡ L l → IsKept config l new.facts new.memory.leading (Among sent_after))
+    (holds : (rm : ℕ) → who ≡ R rm → AreApart rm new.facts new.memory.branches) where
   grows : IsMore who fact more (facts_by nodes) (facts_by nodes_after) sent sent_after
   grows = record {
     own = ap facts_of moved.is ∙ moved.grows ∙ ap (λ (xs : List Fact). xs ++ option_to_list fact) (sym (ap facts_of moved.was));
@@ -143,12 +136,19 @@ module _ (config : Config) (nodes nodes_after : NodeId → Option NodeState) (se
   named_still : (m : Kind) → Among sent_after m → IsNamed m
   named_still m h = elim (message_new m h) [ inl old ↦ safe.named m old | inr new ↦ good.named m (some m new) ]
 
-  played_at : (a : ℕ) → (A a ≡ who) ⊎ (A a ≡ who → ⊥) → all_play config (A a) [] (facts_by nodes_after (A a)) ≡ true
-  played_at a (inl e) =
-      subst (λ (xs : List Fact). all_play config (A a) [] xs ≡ true)
-      (sym (ap (facts_by nodes_after) e ∙ grows.own ∙ ap (λ (n : NodeId). facts_by nodes n ++ option_to_list fact) (sym e)))
-      (plays_on config (A a) (facts_by nodes (A a)) fact (safe.played a) (λ f is. met a f (sym e) is))
-  played_at a (inr apart) = subst (λ (xs : List Fact). all_play config (A a) [] xs ≡ true) (sym (grows.others (A a) apart)) (safe.played a)
+  played_at : (n : NodeId) → (n ≡ who) ⊎ (n ≡ who → ⊥) → all_play config n [] (facts_by nodes_after n) ≡ true
+  played_at n (inl e) =
+      subst (λ (m : NodeId). all_play config m [] (facts_by nodes_after m) ≡ true) (sym e)
+      (subst (λ (xs : List Fact). all_play config who [] xs ≡ true) (sym grows.own)
+      (plays_on config who (facts_by nodes who) fact (safe.played who) met))
+  played_at n (inr apart) = subst (λ (xs : List Fact). all_play config n [] xs ≡ true) (sym (grows.others n apart)) (safe.played n)
+
+  apart_at : (rm : ℕ) (other : NodeState) → nodes_after (R rm) ≡ Some other → (R rm ≡ who) ⊎ (R rm ≡ who → ⊥)
+      → AreApart rm other.facts other.memory.branches
+  apart_at rm other h (inl e) =
+      let same : new ≡ other = same_Some new other (sym moved.is ∙ sym (ap nodes_after e) ∙ h) in
+      subst (λ (x : NodeState). AreApart rm x.facts x.memory.branches) same (holds rm (sym e))
+  apart_at rm other h (inr apart) = safe.apart rm other (sym (moved.others (R rm) apart) ∙ h)
 
   kept_at : (l : ℕ) (other : NodeState) → nodes_after (L l) ≡ Some other → (L l ≡ who) ⊎ (L l ≡ who → ⊥)
       → IsKept config l other.facts other.memory.leading (Among sent_after)
@@ -167,9 +167,10 @@ module _ (config : Config) (nodes nodes_after : NodeId → Option NodeState) (se
   next_after_move = record {
     safe = record {
       invariant = event_keeps_invariant (setting config) Before After (items_of who fact) (flat_map stands_for more) safe.invariant event;
-      played = λ a. played_at a (same_node (A a) who);
+      played = λ n. played_at n (same_node n who);
       named = named_still;
       kept = λ l other h. kept_at l other h (same_node (L l) who);
+      apart = λ rm other h. apart_at rm other h (same_node (R rm) who);
     };
     step = λ tx. event_moves_one_step (setting config) Before After (items_of who fact) (flat_map stands_for more) safe.invariant event tx
         (views_by nodes tx) (views_by nodes_after tx) (state_stands config nodes sent tx) (state_stands config nodes_after sent_after tx);
