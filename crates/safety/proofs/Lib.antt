@@ -9,7 +9,9 @@ pub mod Slots
 pub mod Examples
 pub mod Actions
 pub mod Lists
+pub mod ViewFacts
 pub mod Growth
+pub mod Managers
 pub mod Steps
 pub mod Acceptors
 pub mod LeadersWords
@@ -18,3 +20,10 @@ pub mod LeadersKept
 pub mod Leaders
 pub mod LeadersGood
 pub mod Places
+pub mod Safe
+pub mod NodeSteps
+pub mod Rules
+pub mod ManagerEvents
+pub mod ManagerKeys
+pub mod Played
+pub mod ManagerApart
