@@ -1,5 +1,5 @@
 -- What a leader's effect hands over to the world: its items are allowed, and its memory stays in order.
-use Rattle.std.proofs.Common.{◌≡◌, inl, inr, ℕ, zero, suc, ◌<◌, true, IsTrue, List, [], Option, Some, None, refl, sym, ap, subst, arith}
+use Rattle.std.proofs.Common.{◌≡◌, inl, inr, ℕ, zero, suc, ◌<◌, true, IsTrue, List, [], ◌++◌, Option, Some, None, refl, sym, ap, subst, arith}
 use Rattle.std.specs.Prelude.{Contains}
 use Rattle.xid.specs.Transactions.{TxParts, names}
 use Rattle.xid.specs.declared.transaction.Vote.{Vote}
@@ -10,8 +10,8 @@ use Rattle.stable_record.specs.Facts.{Fact}
 use Rattle.stable_record.specs.Facts as stored
 use Rattle.protocol.specs.declared.NodeId.{NodeId}
 use Rattle.protocol.specs.declared.NodeId.TheVariants.{L}
-use Rattle.protocol.specs.Effects.{Config, Effect}
-use Rattle.protocol.specs.Nodes.{Memory, NodeState, Input, effect_of}
+use Rattle.protocol.specs.Effects.{Config, Effect, Send}
+use Rattle.protocol.specs.Nodes.{Memory, Input, effect_of}
 use Rattle.protocol.specs.Playing.{plays_at_leader}
 use Rattle.protocol.specs.StandsFor.{stands_for}
 use Rattle.safety.specs.Items.{Item, Began, P1b, P2a, P2b, Commit, Abort}
@@ -23,13 +23,21 @@ use Rattle.safety.proofs.Kept.{IsDecided-kept, IsPick-kept}
 use Rattle.safety.proofs.Additions.{AreAllowed, Contains-one, Contains-head}
 use Rattle.safety.proofs.Events.{with_items}
 use Rattle.safety.proofs.Actions.{proposal_is_allowed}
-use Rattle.safety.proofs.Lists.{Among-push}
+use Rattle.safety.proofs.Lists.{Among-append, Among-before, Among-push, Among-mapped}
 use Rattle.safety.proofs.Growth.{items_of}
-use Rattle.safety.proofs.Steps.{IsNamed, IsFrom}
-use Rattle.safety.proofs.Safe.{facts_by, IsSafeBy}
-use Rattle.safety.proofs.NodeSteps.{IsRule, sent_by}
-use Rattle.safety.proofs.LeadersWords.{Told, IsKept, IsBacked, IsSentMore, with_fact, IsNewBallot, MaySend}
+use Rattle.safety.proofs.Steps.{IsNamed, IsFrom, IsGood}
+use Rattle.safety.proofs.Acceptors.{messages_of}
+use Rattle.safety.proofs.LeadersWords.{Told, IsKept, IsBacked, IsSentBy, with_fact, IsNewBallot, MaySend}
 use Rattle.safety.proofs.Leaders.{IsLeaderEffect, IsTakenSent, leader_effect}
+
+-- what a leader's effect hands over; its fact plays, and its memory is in order after it
+pub record IsLeaderGood (config : Config) (l : ℕ) (facts : NodeId → List Fact) (sent sent_after : List Kind) (e : Effect Memory) : Type 0 where
+  pub good : IsGood config (L l) facts sent e.fact (messages_of e.sends)
+  pub plays : (fact : Fact) → e.fact ≡ Some fact → plays_at_leader config.leaders l (facts (L l)) fact ≡ true
+  pub kept : IsKept config l (with_fact (facts (L l)) e.fact) e.memory.leading (Among sent_after)
+
+sent_by : (sends : List Send) (m : Kind) → Among (messages_of sends) m → IsSentBy sends m
+sent_by sends m h = let at = Among-mapped (λ (s : Send). s.message) sends m h in (at.source, at.among, at.maps)
 
 -- what was proposed in a leader's ballots, its record has begun
 backed_by : (config : Config) (l : ℕ) (facts : NodeId → List Fact) (sent : List Kind)
@@ -110,37 +118,30 @@ module _ (config : Config) (l : ℕ) (facts : NodeId → List Fact) (sent : List
   fact_is_allowed (Some x) e = let new = begins x e in
       subst (λ (f : Fact). AreAllowed (setting config) (StandsBy facts sent) (items_of (L l) (Some f))) (sym new.is) (tt, tt)
 
--- an input at a leader, in a world that is safe
-module _ (config : Config) (l : ℕ) (nodes : NodeId → Option NodeState) (sent : List Kind) (memory : Memory) (input : Input)
-    (safe : IsSafeBy config nodes sent) (few : l < config.leaders) (taken : IsTakenSent (Among sent) input)
-    (kept : IsKept config l (facts_by nodes (L l)) memory.leading (Among sent)) where
-  abbrev Made : Effect Memory
-  Made = effect_of config (L l) (facts_by nodes (L l)) memory input
-
-  leader_steps : (now : List Kind) → IsSentMore (Among sent) Made.sends (Among now)
-      → IsLeaderEffect config l (facts_by nodes (L l)) (Among sent) Made (Among now)
-  leader_steps now grown =
-      leader_effect config l (facts_by nodes (L l)) memory (Among sent) (Among now) input few
-      (backed_by config l (facts_by nodes) sent safe.invariant) taken kept grown
-
-  pub leader_rule : IsRule config (L l) nodes sent (facts_by nodes (L l)) Made
-  leader_rule =
-      let step : IsLeaderEffect config l (facts_by nodes (L l)) (Among sent) Made (Among sent) =
-        leader_steps sent (record { kept = λ m h. h; only = λ m h. inl h }) in
-      record {
-        good = record {
-          fact_allowed = fact_is_allowed config l (facts_by nodes) sent Made.fact step.begins safe.named Made.fact refl;
-          sends_allowed = λ m h. may_send_allowed config l (facts_by nodes) sent Made.fact step.begins safe.named m (step.may_send m (sent_by Made.sends m h));
-          agree = λ tx i b v w h k. step.agree tx i b v w (sent_by Made.sends (kinds.P2a tx i b v) h) (sent_by Made.sends (kinds.P2a tx i b w) k);
-          named = λ m h. may_send_named config l (facts_by nodes) sent Made.fact step.begins safe.named m (step.may_send m (sent_by Made.sends m h));
-          from = λ m h. may_send_from config l (facts_by nodes) sent Made.fact step.begins safe.named m (step.may_send m (sent_by Made.sends m h));
-        };
-        met = λ a f same is. absurd (cc (same));
-        leads = λ k now same grown.
-            let e : l ≡ k = cc (same) in
-            subst (λ (n : ℕ). IsKept config n (with_fact (facts_by nodes (L l)) Made.fact) Made.memory.leading (Among now)) e (leader_steps now grown).kept;
-      }
-
-  -- its fact plays
-  pub leader_plays : (fact : Fact) → Made.fact ≡ Some fact → plays_at_leader config.leaders l (facts_by nodes (L l)) fact ≡ true
-  leader_plays fact is = ((leader_steps sent (record { kept = λ m h. h; only = λ m h. inl h })).begins fact is).plays
+-- an input at a leader, of whose messages some part goes out
+pub leader_is_good : (config : Config) (l : ℕ) (facts : NodeId → List Fact) (memory : Memory) (sent sent_after more : List Kind) (input : Input)
+    → l < config.leaders → Invariant (setting config) (StandsBy facts sent) → ((m : Kind) → Among sent m → IsNamed m)
+    → IsTakenSent (Among sent) input → IsKept config l (facts (L l)) memory.leading (Among sent)
+    → ((m : Kind) → Among more m → Among (messages_of (effect_of config (L l) (facts (L l)) memory input).sends) m) → sent_after ≡ sent ++ more
+    → IsLeaderGood config l facts sent sent_after (effect_of config (L l) (facts (L l)) memory input)
+leader_is_good config l facts memory sent sent_after more input few inv named taken kept part grows =
+    let e : Effect Memory = effect_of config (L l) (facts (L l)) memory input in
+    let step : IsLeaderEffect config l (facts (L l)) (Among sent) (effect_of config (L l) (facts (L l)) memory input) (Among sent_after) =
+    leader_effect config l (facts (L l)) memory (Among sent) (Among sent_after) input few (backed_by config l facts sent inv) taken kept (record {
+      kept = λ m h. subst (λ (xs : List Kind). Among xs m) (sym grows) (Among-before sent more m h);
+      only = λ m h. elim (Among-append sent more m (subst (λ (xs : List Kind). Among xs m) grows h)) [
+        | inl old ↦ inl old
+        | inr new ↦ inr (sent_by (effect_of config (L l) (facts (L l)) memory input).sends m (part m new))
+      ];
+    }) in
+    record {
+      good = record {
+        fact_allowed = fact_is_allowed config l facts sent e.fact step.begins named e.fact refl;
+        sends_allowed = λ m h. may_send_allowed config l facts sent e.fact step.begins named m (step.may_send m (sent_by e.sends m h));
+        agree = λ tx i b v w h k. step.agree tx i b v w (sent_by e.sends (kinds.P2a tx i b v) h) (sent_by e.sends (kinds.P2a tx i b w) k);
+        named = λ m h. may_send_named config l facts sent e.fact step.begins named m (step.may_send m (sent_by e.sends m h));
+        from = λ m h. may_send_from config l facts sent e.fact step.begins named m (step.may_send m (sent_by e.sends m h));
+      };
+      plays = λ x f. (step.begins x f).plays;
+      kept = step.kept;
+    }
