@@ -40,7 +40,7 @@ sent_by : (sends : List Send) (m : Kind) → Among (messages_of sends) m → IsS
 sent_by sends m h = let at = Among-mapped (λ (s : Send). s.message) sends m h in (at.source, at.among, at.maps)
 
 -- what was proposed in a leader's ballots, its record has begun
-backed_by : (config : Config) (l : ℕ) (facts : NodeId → List Fact) (sent : List Kind)
+pub backed_by : (config : Config) (l : ℕ) (facts : NodeId → List Fact) (sent : List Kind)
     → Invariant (setting config) (StandsBy facts sent) → IsBacked config.leaders l (facts (L l)) (Among sent)
 backed_by config l facts sent inv = record {
   backed = λ tx i b v h own.
