@@ -10,6 +10,7 @@ use Rattle.wire.specs.declared.message.Kind.TheVariants.{P1b, P2b}
 use Rattle.ballot.specs.Choice.{Report, IsIn, pick, top_of, says_prepared, is_prepared}
 use Rattle.stable_record.specs.Facts.{Fact}
 use Rattle.protocol.specs.Facts.{instance_eq, vote_eq}
+use Rattle.protocol.specs.declared.Status.{Status}
 use Rattle.protocol.specs.declared.Status.TheVariants as statuses
 use Rattle.protocol.specs.Leading.{Leading, reported_in, is_report_of, has_reported, is_reported, picked, is_accept_of, ballot_told, is_decided, is_known, status_of}
 use Rattle.protocol.proofs.Same.{instance_eq-is, instance_eq-same}
@@ -248,13 +249,17 @@ naming tx r h =
     let at = Among-mapped (λ (b : BranchParts). b.rm) tx.branches r h in
     found_any (is_at r) tx.branches at.source at.among (eq-eqb at.source.rm r at.maps)
 
-committed_by : (x y z : Bool) → (if x then statuses.Aborted else if y then statuses.Committed else if z then statuses.Undecided else statuses.Unknown) ≡ statuses.Committed → y ≡ true
+-- the status by its three tests
+abbrev status_by : Bool → Bool → Bool → Status
+status_by x y z = if x then statuses.Aborted else if y then statuses.Committed else if z then statuses.Undecided else statuses.Unknown
+
+committed_by : (x y z : Bool) → status_by x y z ≡ statuses.Committed → y ≡ true
 committed_by true y z e = absurd (cc (e))
 committed_by false true z e = refl
 committed_by false false true e = absurd (cc (e))
 committed_by false false false e = absurd (cc (e))
 
-aborted_by : (x y z : Bool) → (if x then statuses.Aborted else if y then statuses.Committed else if z then statuses.Undecided else statuses.Unknown) ≡ statuses.Aborted → x ≡ true
+aborted_by : (x y z : Bool) → status_by x y z ≡ statuses.Aborted → x ≡ true
 aborted_by true y z e = refl
 aborted_by false true z e = absurd (cc (e))
 aborted_by false false true e = absurd (cc (e))

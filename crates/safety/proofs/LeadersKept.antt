@@ -63,6 +63,11 @@ ballot_below (fact ∷ facts) tx b (inr h) =
     let up = rest_below (ballot_begun tx fact) (filter_map (ballot_begun tx) facts) in
     omega arith
 
+-- what was ever proposed in a leader's own ballots is at most the greatest that it stored, also once it has restarted
+pub proposed_below : (leaders l : ℕ) (facts : List Fact) (Sent : Kind → Type 0) (tx : TxParts) (i b : ℕ) (v : Vote)
+    → IsBacked leaders l facts Sent → Sent (P2a tx i b v) → IsOwned leaders l b → b ≤ last_ballot facts tx
+proposed_below leaders l facts Sent tx i b v backed sent owned = ballot_below facts tx b (backed.backed tx i b v sent owned)
+
 -- ---- at the start, and while others send
 
 -- right after a restart, and while the node is down
@@ -216,7 +221,8 @@ module _ (config : Config) (l : ℕ) (facts : List Fact) (Sent : Kind → Type 0
         (λ same e h.
         let eb : b ≡ c = cc (e) in
         let et = tx_eq-is ux tx same in
-        let low : b ≤ last_ballot facts ux = ballot_below facts ux b (backed.backed ux i b v (subst (λ (k : ℕ). Sent (P2a ux i k v)) (sym eb) h) owned) in
+        let sent : Sent (P2a ux i b v) = subst (λ (k : ℕ). Sent (P2a ux i k v)) (sym eb) h in
+        let low : b ≤ last_ballot facts ux = proposed_below config.leaders l facts Sent ux i b v backed sent owned in
         let at : last_ballot facts ux ≡ last_ballot facts tx = ap (last_ballot facts) et in
         absurd (omega arith))
         (λ apart e h. still_proposed tx ux i c apart leading.proposed (kept.noted ux i c v e h));
