@@ -1,5 +1,5 @@
 -- Each rule of a leader keeps its memory in order, and stores and sends only what it may.
-use Rattle.std.proofs.Common.{◌≡◌, ◌⊎◌, inl, inr, ℕ, ◌^◌, ◌<◌, Bool, true, false, not, ◌||◌, ◌&&◌, ◌==◌, nat_lt, IsTrue, if◌then◌else◌, List, [], ◌∷◌, ◌++◌, map, Option, Some, None, refl, sym, ap, ◌∙◌, subst, arith}
+use Rattle.std.proofs.Common.{◌≡◌, inl, inr, ℕ, ◌^◌, ◌<◌, Bool, true, false, not, ◌||◌, ◌&&◌, ◌==◌, nat_lt, IsTrue, if◌then◌else◌, List, [], ◌∷◌, ◌++◌, map, Option, Some, None, refl, sym, ap, ◌∙◌, subst}
 use Rattle.std.specs.List.{list_any}
 use Rattle.std.proofs.lemmas.Bool.{both_ways, and_from, and_parts, or_parts, lt-ltb, ltb-true, eqb-true, eq-eqb, cond_both}
 use Rattle.xid.specs.Transactions.{TxParts, participants, names}
@@ -8,7 +8,7 @@ use Rattle.xid.specs.declared.refusals.Refusal.TheVariants.{BadTx, NoBallot}
 use Rattle.wire.specs.declared.message.Kind.{Kind}
 use Rattle.wire.specs.declared.message.Kind.TheVariants.{Prepare, P1a, P1b, P2a, P2b, Commit, Abort, Ask}
 use Rattle.wire.specs.Messages.{tx_of}
-use Rattle.ballot.specs.Ballots.{IsOwned, IsNextOwned, owner_of, next_of}
+use Rattle.ballot.specs.Ballots.{IsOwned, owner_of, next_of}
 use Rattle.ballot.proofs.Turns.{next_is}
 use Rattle.ballot.specs.Choice.{Report}
 use Rattle.stable_record.specs.Facts.{Fact}
@@ -17,14 +17,12 @@ use Rattle.protocol.specs.declared.NodeId.TheVariants.{L, R}
 use Rattle.protocol.specs.declared.Status.{Status}
 use Rattle.protocol.specs.declared.Status.TheVariants as statuses
 use Rattle.protocol.specs.Facts.{last_ballot}
-use Rattle.protocol.specs.Effects.{Config, Effect, Reply, Stands, Refuses, Send, Address, ToNode, ToAcceptors, ToManagers, to, is_inside, replies, no_effect, sends_only, stores}
+use Rattle.protocol.specs.Effects.{Config, Effect, Stands, Refuses, Send, Address, ToNode, ToAcceptors, ToManagers, to, is_inside, replies, no_effect, sends_only, stores}
 use Rattle.protocol.specs.Leading.{Leading, current, has_reported, is_reported, picked, is_proposed, status_of, meets, hears, begins, proposes, is_accept_of}
 use Rattle.protocol.specs.Leaders.{outcome, is_final, on_commit_call, takes_over, on_leader_timeout, on_status_call, is_current, after_report, on_1b, after_accept, on_2b, on_ask, leader_takes}
 use Rattle.protocol.specs.Nodes.{Memory, Input, CallOn, ListPrepared, AskView, AskCommit, AskStatus, TimeOut, Take, TakeNoise, of_leader, effect_of, is_acceptor_inside, is_message_inside}
-use Rattle.protocol.specs.Playing.{plays_at_leader}
-use Rattle.safety.specs.Standing.{Among}
-use Rattle.safety.proofs.Lists.{IsMapped, Among-mapped}
-use Rattle.safety.proofs.LeadersWords.{IsBegun, IsKept, IsBacked, IsSentBy, IsSentMore, IsNewBallot, IsFreshProposal, MaySend, IsLeaderStep}
+use Rattle.safety.proofs.Lists.{Among-mapped}
+use Rattle.safety.proofs.LeadersWords.{IsKept, IsBacked, IsSentBy, IsSentMore, IsNewBallot, MaySend, IsLeaderStep}
 use Rattle.safety.proofs.LeadersHeard.{naming, picked_is, committed_is, aborted_is}
 pub use Rattle.safety.proofs.LeadersKept.{kept_at_start, kept_while}
 use Rattle.safety.proofs.LeadersKept.{kept_meets, kept_hears, kept_proposes, kept_begins, current_begun}
@@ -88,10 +86,10 @@ module _ (config : Config) (l : ℕ) (facts : List Fact) (Sent Now : Kind → Ty
       })
       (replies leading (Refuses BadTx)) IsGood
       (λ e grown. told (meets tx leading) (if is_final status then outcome status tx ToManagers else to ToManagers (Prepare tx) ∷ [])
-        (cond_both (is_final status) (outcome status tx ToManagers) (to ToManagers (Prepare tx) ∷ []) IsTold
-        (λ f. outcome_told tx (meets tx leading) ToManagers status refl known)
-        (λ f m h. subst (λ (x : Kind). MaySend config l facts Sent x × IsNoProposal x) (one_sent ToManagers (Prepare tx) m h) (tt, tt)))
-        known grown)
+      (cond_both (is_final status) (outcome status tx ToManagers) (to ToManagers (Prepare tx) ∷ []) IsTold
+      (λ f. outcome_told tx (meets tx leading) ToManagers status refl known)
+      (λ f m h. subst (λ (x : Kind). MaySend config l facts Sent x × IsNoProposal x) (one_sent ToManagers (Prepare tx) m h) (tt, tt)))
+      known grown)
       (λ e grown. quiet leading kept grown)
 
   good_status_call : (leading : Leading) (tx : TxParts) → IsKept config l facts leading Sent → IsGood (on_status_call config facts leading tx)
@@ -120,23 +118,23 @@ module _ (config : Config) (l : ℕ) (facts : List Fact) (Sent Now : Kind → Ty
   begins_step leading tx b kept backed owned up fits grown =
       let after = kept_begins config l facts Sent tx b leading kept owned up backed in
       let none : (ux : TxParts) (i c : ℕ) (v : Vote) → IsSentBy (map (λ i. to ToAcceptors (P1a tx i b)) (participants tx)) (P2a ux i c v) → ⊥
-        = λ ux i c v h. let at = asked tx b (P2a ux i c v) h in absurd (cc (at.2)) in
+      = λ ux i c v h. let at = asked tx b (P2a ux i c v) h in absurd (cc (at.2)) in
       record {
         begins = λ x e.
-          let is : stored.Ballot tx b ≡ x = cc (e) in
-          subst (IsNewBallot config.leaders l facts) is (record {
-            tx = tx;
-            ballot = b;
-            is = refl;
-            owned = owned;
-            greater = up;
-            fits = fits;
-            plays = and_from (nat_lt (last_ballot facts tx) b) (owner_of config.leaders b == l) (lt-ltb (last_ballot facts tx) b up)
-                (eq-eqb (owner_of config.leaders b) l owned.1);
-          });
+            let is : stored.Ballot tx b ≡ x = cc (e) in
+            subst (IsNewBallot config.leaders l facts) is (record {
+              tx = tx;
+              ballot = b;
+              is = refl;
+              owned = owned;
+              greater = up;
+              fits = fits;
+              plays = and_from (nat_lt (last_ballot facts tx) b) (owner_of config.leaders b == l) (lt-ltb (last_ballot facts tx) b up)
+                  (eq-eqb (owner_of config.leaders b) l owned.1);
+            });
         may_send = λ m h.
-          let at = asked tx b m h in
-          subst (MaySend config l (facts ++ stored.Ballot tx b ∷ []) Sent) at.2 (at.1, after.begun tx b (current_begun tx b leading));
+            let at = asked tx b m h in
+            subst (MaySend config l (facts ++ stored.Ballot tx b ∷ []) Sent) at.2 (at.1, after.begun tx b (current_begun tx b leading));
         agree = λ ux i c v w h k. absurd (none ux i c v h);
         kept = kept_while config l (facts ++ stored.Ballot tx b ∷ []) (begins tx b leading) Sent Now grown.kept
             (λ ux i c v h own. elim (grown.only (P2a ux i c v) h) [ inl old ↦ old | inr new ↦ absurd (none ux i c v new) ])
@@ -163,9 +161,9 @@ module _ (config : Config) (l : ℕ) (facts : List Fact) (Sent Now : Kind → Ty
       cond_both (not (is_inside config tx)) (replies leading (Refuses BadTx)) (if is_final status then told_again else over) IsGood
       (λ e grown. quiet leading kept grown)
       (λ e. cond_both (is_final status) told_again over IsGood
-        (λ f grown. told (meets tx leading) (outcome status tx ToManagers) (outcome_told tx leading ToManagers status refl kept)
-          (kept_meets config l facts Sent tx leading kept) grown)
-        (λ f. good_takes_over leading tx few kept backed))
+      (λ f grown. told (meets tx leading) (outcome status tx ToManagers) (outcome_told tx leading ToManagers status refl kept)
+      (kept_meets config l facts Sent tx leading kept) grown)
+      (λ f. good_takes_over leading tx few kept backed))
 
   -- ---- phases 1b and 2b
 
@@ -180,23 +178,23 @@ module _ (config : Config) (l : ℕ) (facts : List Fact) (Sent Now : Kind → Ty
       cond_both (is_reported config.acceptors leading.heard tx i b && not (is_proposed leading.proposed tx i b))
       (sends_only (proposes (P2a tx i b v) leading) (to ToAcceptors (P2a tx i b v) ∷ [])) (no_effect leading) IsGood
       (λ e grown.
-        let parts = and_parts (is_reported config.acceptors leading.heard tx i b) (not (is_proposed leading.proposed tx i b)) e in
-        record {
-          begins = λ x f. absurd (cc (f));
-          may_send = λ m h. subst (MaySend config l facts Sent) (one_sent ToAcceptors (P2a tx i b v) m h) (record {
-            owned = (kept.begun tx b now).owned;
-            begun = (kept.begun tx b now).begun;
-            picked = picked_is config.acceptors leading.heard tx i b Sent kept.heard (λ report a. kept.inside tx i b report a)
-                (λ x y a. kept.once tx i b x y a) parts.0;
-            first = λ w h. absurd (both_ways (not (is_proposed leading.proposed tx i b)) (ap not (kept.noted tx i b w now h)) parts.1);
-          });
-          agree = λ ux j c x y h k.
+      let parts = and_parts (is_reported config.acceptors leading.heard tx i b) (not (is_proposed leading.proposed tx i b)) e in
+      record {
+        begins = λ x f. absurd (cc (f));
+        may_send = λ m h. subst (MaySend config l facts Sent) (one_sent ToAcceptors (P2a tx i b v) m h) (record {
+          owned = (kept.begun tx b now).owned;
+          begun = (kept.begun tx b now).begun;
+          picked = picked_is config.acceptors leading.heard tx i b Sent kept.heard (λ report a. kept.inside tx i b report a)
+              (λ x y a. kept.once tx i b x y a) parts.0;
+          first = λ w h. absurd (both_ways (not (is_proposed leading.proposed tx i b)) (ap not (kept.noted tx i b w now h)) parts.1);
+        });
+        agree = λ ux j c x y h k.
             let f = one_sent ToAcceptors (P2a tx i b v) (P2a ux j c x) h in
             let g = one_sent ToAcceptors (P2a tx i b v) (P2a ux j c y) k in
             let both : P2a ux j c x ≡ P2a ux j c y = sym f ∙ g in cc;
-          kept = kept_proposes config l facts Sent tx i b v leading Now grown.kept
-              (λ m h. elim (grown.only m h) [ inl old ↦ inl old | inr new ↦ inr (one_sent ToAcceptors (P2a tx i b v) m new) ]) kept;
-        })
+        kept = kept_proposes config l facts Sent tx i b v leading Now grown.kept
+            (λ m h. elim (grown.only m h) [ inl old ↦ inl old | inr new ↦ inr (one_sent ToAcceptors (P2a tx i b v) m new) ]) kept;
+      })
       (λ e grown. quiet leading kept grown)
 
   good_1b : (leading : Leading) (tx : TxParts) (i b : ℕ) (report : Report) (a : ℕ) → Sent (P1b tx i b report a) → a < config.acceptors
@@ -208,20 +206,20 @@ module _ (config : Config) (l : ℕ) (facts : List Fact) (Sent Now : Kind → Ty
       cond_both (final || other || twice) (no_effect leading) (after_report config (hears (P1b tx i b report a) leading) tx i b) IsGood
       (λ e grown. quiet leading kept grown)
       (λ e.
-        let parts = or_parts (final || other) twice e in
-        let more = or_parts final other parts.0 in
-        good_report (hears (P1b tx i b report a) leading) tx i b (is_current_now (current leading tx) b (not_false (is_current (current leading tx) b) more.1))
-        (kept_hears config l facts Sent (P1b tx i b report a) leading sent
-        (λ ux j c x d f.
-          let ea : a ≡ d = cc (f) in
-          let et : tx ≡ ux = cc (f) in
-          let ei : i ≡ j = cc (f) in
-          let eb : b ≡ c = cc (f) in
-          let apart : has_reported leading.heard ux j c d ≡ false = ap (λ (y : TxParts). has_reported leading.heard y j c d) (sym et)
-            ∙ ap (λ (k : ℕ). has_reported leading.heard tx k c d) (sym ei) ∙ ap (λ (k : ℕ). has_reported leading.heard tx i k d) (sym eb)
-            ∙ ap (λ (k : ℕ). has_reported leading.heard tx i b k) (sym ea) ∙ parts.1 in
-          (subst (λ (k : ℕ). k < config.acceptors) ea few, apart))
-        kept))
+      let parts = or_parts (final || other) twice e in
+      let more = or_parts final other parts.0 in
+      good_report (hears (P1b tx i b report a) leading) tx i b (is_current_now (current leading tx) b (not_false (is_current (current leading tx) b) more.1))
+      (kept_hears config l facts Sent (P1b tx i b report a) leading sent
+      (λ ux j c x d f.
+      let ea : a ≡ d = cc (f) in
+      let et : tx ≡ ux = cc (f) in
+      let ei : i ≡ j = cc (f) in
+      let eb : b ≡ c = cc (f) in
+      let apart : has_reported leading.heard ux j c d ≡ false = ap (λ (y : TxParts). has_reported leading.heard y j c d) (sym et)
+      ∙ ap (λ (k : ℕ). has_reported leading.heard tx k c d) (sym ei) ∙ ap (λ (k : ℕ). has_reported leading.heard tx i k d) (sym eb)
+      ∙ ap (λ (k : ℕ). has_reported leading.heard tx i b k) (sym ea) ∙ parts.1 in
+      (subst (λ (k : ℕ). k < config.acceptors) ea few, apart))
+      kept))
     where
       not_false : (x : Bool) → not x ≡ false → x ≡ true
       not_false true h = refl
@@ -270,7 +268,7 @@ leader_effect config l facts memory Sent Now (Take message) few backed sent kept
     cond_both (is_message_inside config message) (of_leader memory (leader_takes config facts memory.leading message)) (no_effect memory)
     (IsGoodEffect config l facts Sent Now)
     (λ e more. good_takes config l facts Sent Now memory.leading message sent
-      (and_parts (is_inside config (tx_of message)) (is_acceptor_inside config message) e).1 kept more)
+    (and_parts (is_inside config (tx_of message)) (is_acceptor_inside config message) e).1 kept more)
     (λ e more. quiet config l facts Sent Now memory.leading kept more) grown
 leader_effect config l facts memory Sent Now TakeNoise few backed sent kept grown = quiet config l facts Sent Now memory.leading kept grown
 leader_effect config l facts memory Sent Now (AskCommit tx) few backed sent kept grown = good_commit_call config l facts Sent Now memory.leading tx kept grown

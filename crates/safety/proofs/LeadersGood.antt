@@ -1,11 +1,11 @@
 -- What a leader's effect hands over to the world: its items are allowed, and its memory stays in order.
-use Rattle.std.proofs.Common.{◌≡◌, ◌⊎◌, inl, inr, ⊎_elim, ◌∙◌, ℕ, zero, suc, ◌<◌, Bool, true, IsTrue, List, [], ◌∷◌, ◌++◌, Option, Some, None, refl, sym, ap, subst, arith}
-use Rattle.std.specs.Prelude.{map, Contains}
+use Rattle.std.proofs.Common.{◌≡◌, inl, inr, ℕ, zero, suc, ◌<◌, true, IsTrue, List, [], ◌++◌, Option, Some, None, refl, sym, ap, subst, arith}
+use Rattle.std.specs.Prelude.{Contains}
 use Rattle.xid.specs.Transactions.{TxParts, names}
 use Rattle.xid.specs.declared.transaction.Vote.{Vote}
 use Rattle.wire.specs.declared.message.Kind.{Kind}
 use Rattle.wire.specs.declared.message.Kind.TheVariants as kinds
-use Rattle.ballot.specs.Ballots.{IsOwned, owner_of}
+use Rattle.ballot.specs.Ballots.{owner_of}
 use Rattle.stable_record.specs.Facts.{Fact}
 use Rattle.stable_record.specs.Facts as stored
 use Rattle.protocol.specs.declared.NodeId.{NodeId}
@@ -14,8 +14,8 @@ use Rattle.protocol.specs.Effects.{Config, Effect, Send}
 use Rattle.protocol.specs.Nodes.{Memory, Input, effect_of}
 use Rattle.protocol.specs.Playing.{plays_at_leader}
 use Rattle.protocol.specs.StandsFor.{stands_for}
-use Rattle.safety.specs.Items.{Item, Promised, Accepted, Began, Voted, Committed, Dropped, P1b, P2a, P2b, Commit, Abort}
-use Rattle.safety.specs.Items.{Setting, Allowed, IsPick}
+use Rattle.safety.specs.Items.{Item, Began, P1b, P2a, P2b, Commit, Abort}
+use Rattle.safety.specs.Items.{Allowed, IsPick}
 use Rattle.safety.specs.Invariant.{Invariant}
 use Rattle.safety.specs.Standing.{Among, StandsBy, setting}
 use Rattle.safety.proofs.Majorities.{majorities_meet}
@@ -23,11 +23,11 @@ use Rattle.safety.proofs.Kept.{IsDecided-kept, IsPick-kept}
 use Rattle.safety.proofs.Additions.{AreAllowed, Contains-one, Contains-head}
 use Rattle.safety.proofs.Events.{with_items}
 use Rattle.safety.proofs.Actions.{proposal_is_allowed}
-use Rattle.safety.proofs.Lists.{Among-append, Among-before, Among-push, IsMapped, Among-mapped}
+use Rattle.safety.proofs.Lists.{Among-append, Among-before, Among-push, Among-mapped}
 use Rattle.safety.proofs.Growth.{items_of}
 use Rattle.safety.proofs.Steps.{IsNamed, IsFrom, IsGood}
 use Rattle.safety.proofs.Acceptors.{messages_of}
-use Rattle.safety.proofs.LeadersWords.{Told, IsKept, IsBacked, IsSentBy, IsSentMore, with_fact, IsNewBallot, IsFreshProposal, MaySend, IsLeaderStep}
+use Rattle.safety.proofs.LeadersWords.{Told, IsKept, IsBacked, IsSentBy, with_fact, IsNewBallot, MaySend}
 use Rattle.safety.proofs.Leaders.{IsLeaderEffect, IsTakenSent, leader_effect}
 
 -- what a leader's effect hands over; its fact plays, and its memory is in order after it
@@ -44,8 +44,8 @@ pub backed_by : (config : Config) (l : ℕ) (facts : NodeId → List Fact) (sent
     → Invariant (setting config) (StandsBy facts sent) → IsBacked config.leaders l (facts (L l)) (Among sent)
 backed_by config l facts sent inv = record {
   backed = λ tx i b v h own.
-    let began : StandsBy facts sent (Began (owner_of config.leaders b) tx b) = inv.owned {tx = tx} {i = i} {b = b} {v = v} h own.0 in
-    subst (λ (k : ℕ). Among (facts (L k)) (stored.Ballot tx b)) own.1 began;
+      let began : StandsBy facts sent (Began (owner_of config.leaders b) tx b) = inv.owned {tx = tx} {i = i} {b = b} {v = v} h own.0 in
+      subst (λ (k : ℕ). Among (facts (L k)) (stored.Ballot tx b)) own.1 began;
 }
 
 module _ (config : Config) (l : ℕ) (facts : NodeId → List Fact) (sent : List Kind) (fact : Option Fact)
@@ -127,13 +127,13 @@ pub leader_is_good : (config : Config) (l : ℕ) (facts : NodeId → List Fact) 
 leader_is_good config l facts memory sent sent_after more input few inv named taken kept part grows =
     let e : Effect Memory = effect_of config (L l) (facts (L l)) memory input in
     let step : IsLeaderEffect config l (facts (L l)) (Among sent) (effect_of config (L l) (facts (L l)) memory input) (Among sent_after) =
-      leader_effect config l (facts (L l)) memory (Among sent) (Among sent_after) input few (backed_by config l facts sent inv) taken kept (record {
-        kept = λ m h. subst (λ (xs : List Kind). Among xs m) (sym grows) (Among-before sent more m h);
-        only = λ m h. elim (Among-append sent more m (subst (λ (xs : List Kind). Among xs m) grows h)) [
-          | inl old ↦ inl old
-          | inr new ↦ inr (sent_by (effect_of config (L l) (facts (L l)) memory input).sends m (part m new))
-        ];
-      }) in
+    leader_effect config l (facts (L l)) memory (Among sent) (Among sent_after) input few (backed_by config l facts sent inv) taken kept (record {
+      kept = λ m h. subst (λ (xs : List Kind). Among xs m) (sym grows) (Among-before sent more m h);
+      only = λ m h. elim (Among-append sent more m (subst (λ (xs : List Kind). Among xs m) grows h)) [
+        | inl old ↦ inl old
+        | inr new ↦ inr (sent_by (effect_of config (L l) (facts (L l)) memory input).sends m (part m new))
+      ];
+    }) in
     record {
       good = record {
         fact_allowed = fact_is_allowed config l facts sent e.fact step.begins named e.fact refl;

@@ -1,50 +1,24 @@
 -- What a leader's tests say of what it heard: who reported, which value is picked, what is decided.
-use Rattle.std.proofs.Common.{◌≡◌, ◌⊎◌, inl, inr, ⊎_elim, ℕ, ◌+◌, ◌*◌, ◌<◌, ◌≤◌, max, Bool, true, false, cond, not, ◌||◌, ◌&&◌, if◌then◌else◌, ◌==◌, IsTrue, List, [], ◌∷◌, Option, Some, None, is_some, map, filter_map, refl, sym, ap, ◌∙◌, subst, arith}
-use Rattle.std.specs.Bool.{Decides}
+use Rattle.std.proofs.Common.{◌≡◌, ◌⊎◌, inl, inr, ℕ, ◌<◌, ◌≤◌, Bool, true, false, not, ◌||◌, ◌&&◌, if◌then◌else◌, ◌==◌, IsTrue, List, [], ◌∷◌, Option, Some, None, is_some, filter_map, refl, sym, ap, ◌∙◌, subst}
 use Rattle.std.specs.List.{list_any, list_all, cons_option}
-use Rattle.std.specs.Cmp.{unsigned_Decides}
-use Rattle.std.specs.Cmp.Lexicographic.{pointwise, bytes_decides}
-use Rattle.std.proofs.lemmas.Bool.{cases_lt, both_ways, and_from, and_parts, and_cases, or_cases, or_right, or_left, or_parts, not-true, cases_eq, eq-eqb, eqb-true, ltb-true, cases_Bool, cond_both, cond-true}
+use Rattle.std.proofs.lemmas.Bool.{both_ways, and_from, and_parts, and_cases, or_cases, or_parts, eq-eqb, eqb-true, ltb-true, cond_both, cond-true}
 use Rattle.xid.specs.Transactions.{TxParts, BranchParts, participants, names, is_at}
-use Rattle.xid.specs.Rows.{branch_eq, branches_Decide}
 use Rattle.xid.specs.declared.transaction.Vote.{Vote}
 use Rattle.xid.specs.declared.transaction.Vote.TheVariants.{Prepared, Aborted}
 use Rattle.wire.specs.declared.message.Kind.{Kind}
-use Rattle.wire.specs.declared.message.Kind.TheVariants.{P1b, P2a, P2b}
+use Rattle.wire.specs.declared.message.Kind.TheVariants.{P1b, P2b}
 use Rattle.ballot.specs.Choice.{Report, IsIn, pick, top_of, says_prepared, is_prepared}
 use Rattle.stable_record.specs.Facts.{Fact}
-use Rattle.protocol.specs.Facts.{tx_eq, instance_eq, vote_eq}
+use Rattle.protocol.specs.Facts.{instance_eq, vote_eq}
 use Rattle.protocol.specs.declared.Status.{Status}
 use Rattle.protocol.specs.declared.Status.TheVariants as statuses
-use Rattle.protocol.specs.Leading.{Leading, reported_in, is_report_of, has_reported, is_reported, picked, is_accept_of, ballot_told, is_decided, is_known, status_of, is_proposed}
-use Rattle.safety.specs.Items.{IsPick, IsDecided, IsDecidedIn, IsAtMost}
+use Rattle.protocol.specs.Leading.{Leading, reported_in, is_report_of, has_reported, is_reported, picked, is_accept_of, ballot_told, is_decided, is_known, status_of}
+use Rattle.protocol.proofs.Same.{instance_eq-is, instance_eq-same}
+use Rattle.ballot.proofs.Picks.{below_top, some_in, top_in, says_top, says_each}
+use Rattle.safety.specs.Items.{IsPick, IsDecided, IsAtMost}
 use Rattle.safety.specs.Standing.{Among}
-use Rattle.safety.proofs.Lists.{IsFound, any_found, found_any, all_found, IsMapped, Among-mapped, Among-map}
+use Rattle.safety.proofs.Lists.{any_found, found_any, all_found, Among-mapped, Among-map}
 use Rattle.safety.proofs.LeadersWords.{Told}
-
--- ---- transactions are compared whole
-
-same_parts : (x y : TxParts) → x.format ≡ y.format → x.gtrid ≡ y.gtrid → x.branches ≡ y.branches → x ≡ y
-same_parts x y formats gtrids branches = λ i. record { format = formats i; gtrid = gtrids i; branches = branches i }
-
-pub tx_same : (x : TxParts) → tx_eq x x ≡ true
-tx_same x =
-    and_from ((x.format == x.format) && pointwise ◌==◌ x.gtrid x.gtrid) (pointwise branch_eq x.branches x.branches)
-    (and_from (x.format == x.format) (pointwise ◌==◌ x.gtrid x.gtrid) ((unsigned_Decides x.format x.format).1 refl) ((bytes_decides x.gtrid x.gtrid).1 refl))
-    ((branches_Decide x.branches x.branches).1 refl)
-
-pub same_tx : (x y : TxParts) → tx_eq x y ≡ true → x ≡ y
-same_tx x y h =
-    let parts = and_parts ((x.format == y.format) && pointwise ◌==◌ x.gtrid y.gtrid) (pointwise branch_eq x.branches y.branches) h in
-    let more = and_parts (x.format == y.format) (pointwise ◌==◌ x.gtrid y.gtrid) parts.0 in
-    same_parts x y ((unsigned_Decides x.format y.format).0 more.0) ((bytes_decides x.gtrid y.gtrid).0 more.1)
-    ((branches_Decide x.branches y.branches).0 parts.1)
-
-pub same_instance : (tx : TxParts) (i : ℕ) (other : TxParts) (j : ℕ) → instance_eq tx i other j ≡ true → (i ≡ j) × (tx ≡ other)
-same_instance tx i other j h = let parts = and_parts (i == j) (tx_eq tx other) h in (eqb-true i j parts.0, same_tx tx other parts.1)
-
-pub instance_same : (tx : TxParts) (i : ℕ) → instance_eq tx i tx i ≡ true
-instance_same tx i = and_from (i == i) (tx_eq tx tx) (eq-eqb i i refl) (tx_same tx)
 
 same_vote : (v w : Vote) → vote_eq v w ≡ true → v ≡ w
 same_vote Prepared Prepared h = refl
@@ -62,17 +36,17 @@ report_is : (tx : TxParts) (i b a : ℕ) (m : Kind) → is_report_of tx i b a m 
 report_is tx i b a (P1b other j c report from) h =
     let one = and_parts ((a == from) && (b == c)) (instance_eq tx i other j) h in
     let two = and_parts (a == from) (b == c) one.0 in
-    let same = same_instance tx i other j one.1 in
+    let same = instance_eq-is tx other i j one.1 in
     let ea : a ≡ from = eqb-true a from two.0 in
     let eb : b ≡ c = eqb-true b c two.1 in
-    let ei : i ≡ j = same.0 in
-    let et : tx ≡ other = same.1 in
+    let ei : i ≡ j = same.1 in
+    let et : tx ≡ other = same.0 in
     cc
 report_is tx i b a _ h = absurd (cc (h))
 
 is_report : (tx : TxParts) (i b a : ℕ) (report : Report) → is_report_of tx i b a (P1b tx i b report a) ≡ true
 is_report tx i b a report =
-    and_from ((a == a) && (b == b)) (instance_eq tx i tx i) (and_from (a == a) (b == b) (eq-eqb a a refl) (eq-eqb b b refl)) (instance_same tx i)
+    and_from ((a == a) && (b == b)) (instance_eq tx i tx i) (and_from (a == a) (b == b) (eq-eqb a a refl) (eq-eqb b b refl)) (instance_eq-same tx i)
 
 pub reported_from : (heard : List Kind) (tx : TxParts) (i b a : ℕ) (report : Report)
     → Among heard (P1b tx i b report a) → has_reported heard tx i b a ≡ true
@@ -105,19 +79,19 @@ reported_is : (tx : TxParts) (i b : ℕ) (m : Kind) (r : Report) → reported_in
 reported_is tx i b (P1b other j c report from) r =
     cond_both ((b == c) && instance_eq tx i other j) (Some report) None (λ (o : Option Report). o ≡ Some r → (a : ℕ) × (P1b other j c report from ≡ P1b tx i b r a))
     (λ e f.
-      let two = and_parts (b == c) (instance_eq tx i other j) e in
-      let same = same_instance tx i other j two.1 in
-      let eb : b ≡ c = eqb-true b c two.0 in
-      let ei : i ≡ j = same.0 in
-      let et : tx ≡ other = same.1 in
-      let er : report ≡ r = cc (f) in
-      (from, (let e : P1b other j c report from ≡ P1b tx i b r from = cc in e)))
+    let two = and_parts (b == c) (instance_eq tx i other j) e in
+    let same = instance_eq-is tx other i j two.1 in
+    let eb : b ≡ c = eqb-true b c two.0 in
+    let ei : i ≡ j = same.1 in
+    let et : tx ≡ other = same.0 in
+    let er : report ≡ r = cc (f) in
+    (from, (let e : P1b other j c report from ≡ P1b tx i b r from = cc in e)))
     (λ e f. absurd (cc (f)))
 reported_is tx i b _ r = λ h. absurd (cc (h))
 
 is_reported_in : (tx : TxParts) (i b a : ℕ) (r : Report) → reported_in tx i b (P1b tx i b r a) ≡ Some r
 is_reported_in tx i b a r =
-    cond-true ((b == b) && instance_eq tx i tx i) (Some r) None (and_from (b == b) (instance_eq tx i tx i) (eq-eqb b b refl) (instance_same tx i))
+    cond-true ((b == b) && instance_eq tx i tx i) (Some r) None (and_from (b == b) (instance_eq tx i tx i) (eq-eqb b b refl) (instance_eq-same tx i))
 
 module _ (tx : TxParts) (i b : ℕ) where
   reports : List Kind → List Report
@@ -148,55 +122,9 @@ module _ (tx : TxParts) (i b : ℕ) where
 
 -- ---- the value picked
 
-below_top : (rs : List Report) (last : ℕ × Vote) → IsIn rs (Some last) → last.0 ≤ top_of rs
-below_top [] last h = absurd h
-below_top (None ∷ rs) last (inl e) = absurd (cc (e))
-below_top (None ∷ rs) last (inr h) = below_top rs last h
-below_top (Some first ∷ rs) last (inl e) = let same : first ≡ last = cc (e) in let at : first.0 ≡ last.0 = ap (λ (x : ℕ × Vote). x.0) same in omega (arith, at)
-below_top (Some first ∷ rs) last (inr h) = omega (arith, below_top rs last h)
-
-some_above : (rs : List Report) → 0 < top_of rs → list_any is_some rs ≡ true
-some_above [] h = absurd (omega (arith, h))
-some_above (None ∷ rs) h = some_above rs h
-some_above (Some first ∷ rs) h = refl
-
-some_in : (rs : List Report) (last : ℕ × Vote) → IsIn rs (Some last) → list_any is_some rs ≡ true
-some_in [] last h = absurd h
-some_in (None ∷ rs) last (inl e) = absurd (cc (e))
-some_in (None ∷ rs) last (inr h) = some_in rs last h
-some_in (Some first ∷ rs) last h = refl
-
-top_in : (rs : List Report) → list_any is_some rs ≡ true → (v : Vote) × IsIn rs (Some (top_of rs, v))
-top_in [] h = absurd (cc (h))
-top_in (None ∷ rs) h = let rest = top_in rs h in (rest.0, inr rest.1)
-top_in (Some first ∷ rs) h = ⊎_elim
-    (λ (above : first.0 < top_of rs).
-      let rest = top_in rs (some_above rs (omega (arith, above))) in
-      let same : top_of rs ≡ max first.0 (top_of rs) = omega (arith, above) in
-      (rest.0, inr (subst (λ (t : ℕ). IsIn rs (Some (t, rest.0))) same rest.1)))
-    (λ (below : top_of rs ≤ first.0).
-      let same : first.0 ≡ max first.0 (top_of rs) = omega (arith, below) in
-      (first.1, inl (λ i. Some (same i, first.1))))
-    (cases_lt first.0 (top_of rs))
-
-each_says : (t : ℕ) (rs : List Report) → list_all (says_prepared t) rs ≡ true → (r : Report) → IsIn rs r → says_prepared t r ≡ true
-each_says t [] h r is = absurd is
-each_says t (first ∷ rs) h r (inl e) = subst (λ (s : Report). says_prepared t s ≡ true) e (and_parts (says_prepared t first) (list_all (says_prepared t) rs) h).0
-each_says t (first ∷ rs) h r (inr is) = each_says t rs (and_parts (says_prepared t first) (list_all (says_prepared t) rs) h).1 r is
-
-prepared_from : (v : Vote) → is_prepared v ≡ true → v ≡ Prepared
-prepared_from Prepared h = refl
-prepared_from Aborted h = absurd (cc (h))
-
 aborted_from : (v : Vote) → is_prepared v ≡ false → v ≡ Aborted
 aborted_from Prepared h = absurd (cc (h))
 aborted_from Aborted h = refl
-
-says_top : (t : ℕ) (v : Vote) → says_prepared t (Some (t, v)) ≡ true → v ≡ Prepared
-says_top t v h = ⊎_elim
-    (λ (e : not (t == t) ≡ true). absurd (both_ways (t == t) (not-true (t == t) e) (eq-eqb t t refl)))
-    (λ (e : is_prepared v ≡ true). prepared_from v e)
-    (or_cases (not (t == t)) (is_prepared v) h)
 
 not_not : (x : Bool) → not x ≡ false → x ≡ true
 not_not true h = refl
@@ -234,7 +162,7 @@ picked_by : (rs : List Report) (x y : Bool) → list_any is_some rs ≡ x → li
     → IsPicked rs (if x && y then Prepared else Aborted)
 picked_by rs true true e f =
     let at = top_in rs e in
-    let is : at.0 ≡ Prepared = says_top (top_of rs) at.0 (each_says (top_of rs) rs f (Some (top_of rs, at.0)) at.1) in
+    let is : at.0 ≡ Prepared = says_top (top_of rs) at.0 (says_each (top_of rs) rs f (Some (top_of rs, at.0)) at.1) in
     inr (record { top = top_of rs; reported = subst (λ (v : Vote). IsIn rs (Some (top_of rs, v))) is at.1; greatest = below_top rs })
 picked_by rs true false e f = inr (record { top = top_of rs; reported = some_says_other (top_of rs) rs f; greatest = below_top rs })
 picked_by rs false y e f = inl (refl, none_of rs e)
@@ -258,8 +186,11 @@ picked_is n heard tx i b Sent sent inside once h = record {
   report = report_by heard tx i b;
   heard = λ a l is. sent (P1b tx i b (report_by heard tx i b a) a) (report_by_heard heard tx i b a is);
   value = elim (pick_is_picked (filter_map (reported_in tx i b) heard)) [
-    | inl silent ↦ inl (silent.0, λ a l is.
-        silent.1 (report_by heard tx i b a) (in_reports tx i b heard (report_by heard tx i b a) a (report_by_heard heard tx i b a is)))
+    | inl silent ↦ inl (
+      silent.0,
+      λ a l is.
+          silent.1 (report_by heard tx i b a) (in_reports tx i b heard (report_by heard tx i b a) a (report_by_heard heard tx i b a is)),
+    )
     | inr at ↦
         let w = reporter_of tx i b heard (Some (at.top, picked heard tx i b)) at.reported in
         let is_in : has_reported heard tx i b w.acceptor ≡ true = reported_from heard tx i b w.acceptor (Some (at.top, picked heard tx i b)) w.among in
@@ -270,8 +201,8 @@ picked_is n heard tx i b Sent sent inside once h = record {
           is_in = is_in;
           says = once (report_by heard tx i b w.acceptor) (Some (at.top, picked heard tx i b)) w.acceptor (report_by_heard heard tx i b w.acceptor is_in) w.among;
           greatest = λ a l is. at_most (report_by heard tx i b a) at.top (λ last e. at.greatest last
-            (subst (λ (r : Report). IsIn (filter_map (reported_in tx i b) heard) r) e
-            (in_reports tx i b heard (report_by heard tx i b a) a (report_by_heard heard tx i b a is))));
+              (subst (λ (r : Report). IsIn (filter_map (reported_in tx i b) heard) r) e
+              (in_reports tx i b heard (report_by heard tx i b a) a (report_by_heard heard tx i b a is))));
         })
   ];
 }
@@ -283,26 +214,28 @@ accept_is tx i b v a (P2b other j c w from) h =
     let one = and_parts ((a == from) && (b == c) && vote_eq v w) (instance_eq tx i other j) h in
     let two = and_parts ((a == from) && (b == c)) (vote_eq v w) one.0 in
     let three = and_parts (a == from) (b == c) two.0 in
-    let same = same_instance tx i other j one.1 in
+    let same = instance_eq-is tx other i j one.1 in
     let ea : a ≡ from = eqb-true a from three.0 in
     let eb : b ≡ c = eqb-true b c three.1 in
     let ev : v ≡ w = same_vote v w two.1 in
-    let ei : i ≡ j = same.0 in
-    let et : tx ≡ other = same.1 in
+    let ei : i ≡ j = same.1 in
+    let et : tx ≡ other = same.0 in
     cc
 accept_is tx i b v a _ h = absurd (cc (h))
 
 pub decided_is : (n : ℕ) (heard : List Kind) (tx : TxParts) (i : ℕ) (v : Vote) (Sent : Kind → Type 0)
     → ((m : Kind) → Among heard m → Sent m) → is_decided n heard tx i v ≡ true → IsDecided n (Told Sent) tx i v
 decided_is n heard tx i v Sent sent h =
-    let at = any_found {X = ℕ} _ (filter_map (ballot_told tx i v) heard) h in
-    (at.element, record {
-      members = λ a. list_any (is_accept_of tx i at.element v a) heard;
-      majority = ltb-true n _ at.passes;
-      accepted = λ a l is.
-        let m = any_found (is_accept_of tx i at.element v a) heard is in
-        subst Sent (accept_is tx i at.element v a m.element m.passes) (sent m.element m.among);
-    })
+    let at = any_found {X = ℕ} _ (filter_map (ballot_told tx i v) heard) h in (
+      at.element,
+      record {
+        members = λ a. list_any (is_accept_of tx i at.element v a) heard;
+        majority = ltb-true n _ at.passes;
+        accepted = λ a l is.
+            let m = any_found (is_accept_of tx i at.element v a) heard is in
+            subst Sent (accept_is tx i at.element v a m.element m.passes) (sent m.element m.among);
+      },
+    )
 
 -- ---- the status
 
@@ -316,13 +249,17 @@ naming tx r h =
     let at = Among-mapped (λ (b : BranchParts). b.rm) tx.branches r h in
     found_any (is_at r) tx.branches at.source at.among (eq-eqb at.source.rm r at.maps)
 
-committed_by : (x y z : Bool) → (if x then statuses.Aborted else if y then statuses.Committed else if z then statuses.Undecided else statuses.Unknown) ≡ statuses.Committed → y ≡ true
+-- the status by its three tests
+abbrev status_by : Bool → Bool → Bool → Status
+status_by x y z = if x then statuses.Aborted else if y then statuses.Committed else if z then statuses.Undecided else statuses.Unknown
+
+committed_by : (x y z : Bool) → status_by x y z ≡ statuses.Committed → y ≡ true
 committed_by true y z e = absurd (cc (e))
 committed_by false true z e = refl
 committed_by false false true e = absurd (cc (e))
 committed_by false false false e = absurd (cc (e))
 
-aborted_by : (x y z : Bool) → (if x then statuses.Aborted else if y then statuses.Committed else if z then statuses.Undecided else statuses.Unknown) ≡ statuses.Aborted → x ≡ true
+aborted_by : (x y z : Bool) → status_by x y z ≡ statuses.Aborted → x ≡ true
 aborted_by true y z e = refl
 aborted_by false true z e = absurd (cc (e))
 aborted_by false false true e = absurd (cc (e))
@@ -337,5 +274,5 @@ module _ (n : ℕ) (facts : List Fact) (leading : Leading) (tx : TxParts) (Sent 
   pub aborted_is : status_of n facts leading tx ≡ statuses.Aborted → (r : ℕ) × IsTrue (names tx r) × IsDecided n (Told Sent) tx r Aborted
   aborted_is e =
       let at = any_found (λ (i : ℕ). is_decided n leading.heard tx i Aborted) (participants tx)
-        (aborted_by _ (list_all (λ (i : ℕ). is_decided n leading.heard tx i Prepared) (participants tx)) (is_known facts leading tx) e) in
+      (aborted_by _ (list_all (λ (i : ℕ). is_decided n leading.heard tx i Prepared) (participants tx)) (is_known facts leading tx) e) in
       (at.element, naming tx at.element at.among, decided_is n leading.heard tx at.element Aborted Sent sent at.passes)

@@ -1,7 +1,7 @@
 -- What a leader keeps in order stays so: by what it hears, proposes and begins, and while others send.
-use Rattle.std.proofs.Common.{◌≡◌, ◌⊎◌, inl, inr, ℕ, ◌<◌, ◌≤◌, max, Bool, true, false, not, ◌||◌, ◌&&◌, if◌then◌else◌, ◌==◌, List, [], ◌∷◌, ◌++◌, Option, Some, None, filter, filter_map, find, option_map, refl, sym, ap, ◌∙◌, subst, arith}
+use Rattle.std.proofs.Common.{◌≡◌, ◌⊎◌, inl, inr, ℕ, ◌<◌, ◌≤◌, max, Bool, true, false, not, ◌&&◌, ◌==◌, List, [], ◌∷◌, ◌++◌, Option, Some, None, filter, filter_map, find, option_map, refl, sym, ap, ◌∙◌, subst, arith}
 use Rattle.std.specs.List.{list_any, cons_option}
-use Rattle.std.proofs.lemmas.Bool.{both_ways, and_from, and_parts, or_cases, or_right, or_left, not_from_true, eq-eqb, cases_Bool, cond_both, cond-true, cond-false}
+use Rattle.std.proofs.lemmas.Bool.{both_ways, and_from, and_parts, or_cases, or_right, or_left, eq-eqb, cases_Bool, cond_both, cond-true, cond-false}
 use Rattle.std.proofs.lemmas.List.Elements.{filter_map-append}
 use Rattle.xid.specs.Transactions.{TxParts}
 use Rattle.xid.specs.declared.transaction.Vote.{Vote}
@@ -13,12 +13,13 @@ use Rattle.ballot.specs.Choice.{Report}
 use Rattle.stable_record.specs.Facts.{Fact}
 use Rattle.stable_record.specs.Facts as stored
 use Rattle.protocol.specs.Facts.{tx_eq, instance_eq, greatest, ballot_begun, last_ballot}
-use Rattle.protocol.specs.Effects.{Config, Send}
+use Rattle.protocol.specs.Effects.{Config}
 use Rattle.protocol.specs.Leading.{Leading, Begun, nothing_heard, current, has_reported, is_proposed, meets, hears, begins, proposes}
 use Rattle.safety.specs.Standing.{Among}
 use Rattle.safety.proofs.Lists.{Among-before, Among-last}
 use Rattle.safety.proofs.LeadersWords.{IsBegun, IsKept, IsBacked}
-use Rattle.safety.proofs.LeadersHeard.{tx_same, same_tx, same_instance, instance_same, reported_from}
+use Rattle.protocol.proofs.Same.{tx_eq-same, tx_eq-is, instance_eq-is, instance_eq-same}
+use Rattle.safety.proofs.LeadersHeard.{reported_from}
 
 -- ---- the greatest ballot stored
 
@@ -34,9 +35,9 @@ last_ballot-push facts fact tx =
 
 last_ballot-of_new : (facts : List Fact) (tx : TxParts) (b : ℕ) → last_ballot facts tx < b → last_ballot (facts ++ stored.Ballot tx b ∷ []) tx ≡ b
 last_ballot-of_new facts tx b up =
-    let same : ballot_begun tx (stored.Ballot tx b) ≡ Some b = cond-true (tx_eq tx tx) (Some b) None (tx_same tx) in
+    let same : ballot_begun tx (stored.Ballot tx b) ≡ Some b = cond-true (tx_eq tx tx) (Some b) None (tx_eq-same tx) in
     let step : last_ballot (facts ++ stored.Ballot tx b ∷ []) tx ≡ max (last_ballot facts tx) (greatest (b ∷ [])) =
-      last_ballot-push facts (stored.Ballot tx b) tx ∙ ap (λ (o : Option ℕ). max (last_ballot facts tx) (greatest (cons_option o []))) same in
+    last_ballot-push facts (stored.Ballot tx b) tx ∙ ap (λ (o : Option ℕ). max (last_ballot facts tx) (greatest (cons_option o []))) same in
     omega arith
 
 last_ballot-of_other : (facts : List Fact) (tx other : TxParts) (b : ℕ) → tx_eq tx other ≡ false
@@ -44,7 +45,7 @@ last_ballot-of_other : (facts : List Fact) (tx other : TxParts) (b : ℕ) → tx
 last_ballot-of_other facts tx other b apart =
     let same : ballot_begun tx (stored.Ballot other b) ≡ None = cond-false (tx_eq tx other) (Some b) None apart in
     let step : last_ballot (facts ++ stored.Ballot other b ∷ []) tx ≡ max (last_ballot facts tx) (greatest []) =
-      last_ballot-push facts (stored.Ballot other b) tx ∙ ap (λ (o : Option ℕ). max (last_ballot facts tx) (greatest (cons_option o []))) same in
+    last_ballot-push facts (stored.Ballot other b) tx ∙ ap (λ (o : Option ℕ). max (last_ballot facts tx) (greatest (cons_option o []))) same in
     omega arith
 
 rest_below : (o : Option ℕ) (ns : List ℕ) → greatest ns ≤ greatest (cons_option o ns)
@@ -55,12 +56,17 @@ rest_below (Some n) ns = omega arith
 pub ballot_below : (facts : List Fact) (tx : TxParts) (b : ℕ) → Among facts (stored.Ballot tx b) → b ≤ last_ballot facts tx
 ballot_below [] tx b h = absurd h
 ballot_below (fact ∷ facts) tx b (inl e) =
-    let is : Some b ≡ ballot_begun tx fact = sym (ap (ballot_begun tx) e ∙ cond-true (tx_eq tx tx) (Some b) None (tx_same tx)) in
+    let is : Some b ≡ ballot_begun tx fact = sym (ap (ballot_begun tx) e ∙ cond-true (tx_eq tx tx) (Some b) None (tx_eq-same tx)) in
     subst (λ (o : Option ℕ). b ≤ greatest (cons_option o (filter_map (ballot_begun tx) facts))) is (omega arith)
 ballot_below (fact ∷ facts) tx b (inr h) =
     let low = ballot_below facts tx b h in
     let up = rest_below (ballot_begun tx fact) (filter_map (ballot_begun tx) facts) in
     omega arith
+
+-- what was ever proposed in a leader's own ballots is at most the greatest that it stored, also once it has restarted
+pub proposed_below : (leaders l : ℕ) (facts : List Fact) (Sent : Kind → Type 0) (tx : TxParts) (i b : ℕ) (v : Vote)
+    → IsBacked leaders l facts Sent → Sent (P2a tx i b v) → IsOwned leaders l b → b ≤ last_ballot facts tx
+proposed_below leaders l facts Sent tx i b v backed sent owned = ballot_below facts tx b (backed.backed tx i b v sent owned)
 
 -- ---- at the start, and while others send
 
@@ -129,7 +135,7 @@ module _ (config : Config) (l : ℕ) (facts : List Fact) (Sent : Kind → Type 0
           let et : ux ≡ tx = cc (new) in
           let ei : j ≡ i = cc (new) in
           let eb : c ≡ b = cc (new) in
-          let itself : ((b == b) && instance_eq tx i tx i) ≡ true = and_from (b == b) (instance_eq tx i tx i) (eq-eqb b b refl) (instance_same tx i) in
+          let itself : ((b == b) && instance_eq tx i tx i) ≡ true = and_from (b == b) (instance_eq tx i tx i) (eq-eqb b b refl) (instance_eq-same tx i) in
           or_left ((c == b) && instance_eq ux j tx i) (is_proposed leading.proposed ux j c)
           (ap (λ (k : ℕ). (k == b) && instance_eq ux j tx i) eb
           ∙ ap (λ (k : ℕ). (b == b) && instance_eq ux k tx i) ei
@@ -151,7 +157,7 @@ is_of_other tx message = not (tx_eq tx (tx_of message))
 
 of_other : (tx ux : TxParts) → tx_eq ux tx ≡ false → not (tx_eq tx ux) ≡ true
 of_other tx ux apart = elim (cases_Bool (tx_eq tx ux)) [
-  | inl e ↦ absurd (both_ways (tx_eq ux tx) apart (subst (λ (y : TxParts). tx_eq ux y ≡ true) (sym (same_tx tx ux e)) (tx_same ux)))
+  | inl e ↦ absurd (both_ways (tx_eq ux tx) apart (subst (λ (y : TxParts). tx_eq ux y ≡ true) (sym (tx_eq-is tx ux e)) (tx_eq-same ux)))
   | inr e ↦ ap not e
 ]
 
@@ -168,7 +174,7 @@ still_proposed tx ux i b apart (P2a other j d v ∷ proposed) h =
     ])
     (λ e. elim (or_cases ((b == d) && instance_eq ux i other j) (is_proposed proposed ux i b) h) [
       | inl here ↦
-          let same = (same_instance ux i other j (and_parts (b == d) (instance_eq ux i other j) here).1).1 in
+          let same = (instance_eq-is ux other i j (and_parts (b == d) (instance_eq ux i other j) here).1).0 in
           absurd (both_ways (not (tx_eq tx other)) e (subst (λ (y : TxParts). not (tx_eq tx y) ≡ true) same (of_other tx ux apart)))
       | inr there ↦ still_proposed tx ux i b apart proposed there
     ])
@@ -185,7 +191,7 @@ ballot_of found = option_map (λ (begun : Begun). begun.ballot) found
 -- the ballot that was begun is the current one
 pub current_begun : (tx : TxParts) (b : ℕ) (leading : Leading) → current (begins tx b leading) tx ≡ Some b
 current_begun tx b leading = ap ballot_of
-    (cond-true (tx_eq tx tx) (Some (record { tx = tx; ballot = b })) (find (λ (begun : Begun). tx_eq tx begun.tx) leading.begun) (tx_same tx))
+    (cond-true (tx_eq tx tx) (Some (record { tx = tx; ballot = b })) (find (λ (begun : Begun). tx_eq tx begun.tx) leading.begun) (tx_eq-same tx))
 
 module _ (config : Config) (l : ℕ) (facts : List Fact) (Sent : Kind → Type 0) (tx : TxParts) (b : ℕ) (leading : Leading)
     (kept : IsKept config l facts leading Sent) (owned : IsOwned config.leaders l b) (up : last_ballot facts tx < b) where
@@ -208,15 +214,16 @@ module _ (config : Config) (l : ℕ) (facts : List Fact) (Sent : Kind → Type 0
     once = λ ux i c x y a h k. kept.once ux i c x y a (among_filter _ leading.heard (P1b ux i c x a) h) (among_filter _ leading.heard (P1b ux i c y a) k);
     begun = λ ux c. cond_both (tx_eq ux tx) (Some (record { tx = tx; ballot = b })) (find (λ (begun : Begun). tx_eq ux begun.tx) leading.begun)
         (λ (o : Option Begun). ballot_of o ≡ Some c → IsBegun config.leaders l (facts ++ stored.Ballot tx b ∷ []) ux c)
-        (λ same e. let eb : b ≡ c = cc (e) in subst (IsBegun config.leaders l (facts ++ stored.Ballot tx b ∷ []) ux) eb (begun_new ux (same_tx ux tx same)))
+        (λ same e. let eb : b ≡ c = cc (e) in subst (IsBegun config.leaders l (facts ++ stored.Ballot tx b ∷ []) ux) eb (begun_new ux (tx_eq-is ux tx same)))
         (λ apart e. begun_old ux c apart (kept.begun ux c e));
     noted = λ ux i c v. cond_both (tx_eq ux tx) (Some (record { tx = tx; ballot = b })) (find (λ (begun : Begun). tx_eq ux begun.tx) leading.begun)
         (λ (o : Option Begun). ballot_of o ≡ Some c → Sent (P2a ux i c v) → is_proposed (begins tx b leading).proposed ux i c ≡ true)
         (λ same e h.
-          let eb : b ≡ c = cc (e) in
-          let et = same_tx ux tx same in
-          let low : b ≤ last_ballot facts ux = ballot_below facts ux b (backed.backed ux i b v (subst (λ (k : ℕ). Sent (P2a ux i k v)) (sym eb) h) owned) in
-          let at : last_ballot facts ux ≡ last_ballot facts tx = ap (last_ballot facts) et in
-          absurd (omega arith))
+        let eb : b ≡ c = cc (e) in
+        let et = tx_eq-is ux tx same in
+        let sent : Sent (P2a ux i b v) = subst (λ (k : ℕ). Sent (P2a ux i k v)) (sym eb) h in
+        let low : b ≤ last_ballot facts ux = proposed_below config.leaders l facts Sent ux i b v backed sent owned in
+        let at : last_ballot facts ux ≡ last_ballot facts tx = ap (last_ballot facts) et in
+        absurd (omega arith))
         (λ apart e h. still_proposed tx ux i c apart leading.proposed (kept.noted ux i c v e h));
   }

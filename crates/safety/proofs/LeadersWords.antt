@@ -1,5 +1,5 @@
 -- What a leader keeps in order, and what each of its rules hands over.
-use Rattle.std.specs.Prelude.{◌≡◌, ◌⊎◌, ℕ, ◌<◌, ◌^◌, Bool, true, IsTrue, List, [], ◌∷◌, ◌++◌, Option, Some, None}
+use Rattle.std.specs.Prelude.{◌≡◌, ◌⊎◌, ℕ, ◌<◌, ◌^◌, true, IsTrue, List, [], ◌∷◌, ◌++◌, Option, Some, None}
 use Rattle.xid.specs.Transactions.{TxParts, names}
 use Rattle.xid.specs.declared.transaction.Vote.{Vote}
 use Rattle.xid.specs.declared.transaction.Vote.TheVariants.{Prepared, Aborted}
@@ -10,7 +10,7 @@ use Rattle.ballot.specs.Choice.{Report}
 use Rattle.stable_record.specs.Facts.{Fact}
 use Rattle.stable_record.specs.Facts as stored
 use Rattle.protocol.specs.Facts.{last_ballot}
-use Rattle.protocol.specs.Effects.{Config, Effect, Send}
+use Rattle.protocol.specs.Effects.{Config, Send}
 use Rattle.protocol.specs.Leading.{Leading, current, is_proposed}
 use Rattle.protocol.specs.Playing.{plays_at_leader}
 use Rattle.safety.specs.Items.{Item, P1b, P2a, P2b, Commit, Abort, IsDecided, IsPick}
