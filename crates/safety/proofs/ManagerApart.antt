@@ -110,5 +110,116 @@ module _ (rm : ℕ) (facts : List Fact) (fact : Fact) (branches fewer : List Bra
 abbrev pub IsApartAfter : ℕ → List Fact → Effect (List Branch) → Type 0
 IsApartAfter rm facts e = AreApart rm (facts_after facts e.fact) e.memory
 
-idle_branch : (branches : List Branch) (x : XidParts) (keys : List Touched) → idle_keys branches x ≡ Some keys → (b : Branch) × Among branches b × (b.xid ≡ x) × (b.keys ≡ keys)
-idle_branch branches x keys e = ?
+-- a branch of a name with these keys
+pub record IsHolding (branches : List Branch) (x : XidParts) (keys : List Touched) : Type 0 where
+  pub branch : Branch
+  pub among : Among branches branch
+  pub name : branch.xid ≡ x
+  pub holds : branch.keys ≡ keys
+
+idle_at : (p : Branch → Bool) (branches : List Branch) (x : XidParts) (keys : List Touched) (o : Option Branch) → ((b : Branch) → p b ≡ true → b.xid ≡ x)
+    → find p branches ≡ o → option_map (λ (branch : Branch). branch.keys) o ≡ Some keys → IsHolding branches x keys
+idle_at p branches x keys None names_it f e = absurd (cc (e))
+idle_at p branches x keys (Some b) names_it f e =
+    let found = found_among p branches b f in
+    record { branch = b; among = found.0; name = names_it b found.1; holds = ap (λ o. unwrap_or o b.keys) e }
+
+idle_branch : (branches : List Branch) (x : XidParts) (keys : List Touched) → idle_keys branches x ≡ Some keys → IsHolding branches x keys
+idle_branch branches x keys e = idle_at _ branches x keys _ (λ b h. (xid_decides b.xid x).0 (and_parts (xid_eq b.xid x) _ h).0) refl e
+
+name_of : (o : Option XidParts) (x y : XidParts) → o ≡ Some x → o ≡ Some y → x ≡ y
+name_of o x y e f = ap (λ q. unwrap_or q x) (sym e ∙ f)
+
+module _ (rm : ℕ) (facts : List Fact) (branches : List Branch) (are : AreApart rm facts branches) where
+  -- the branch of a fact's name goes
+  gone : (fact : Fact) (x : XidParts) → xid_at (tx_of fact) rm ≡ Some x
+      → ((bound : Bound) → fact ≡ stored.VotePrepared bound.tx bound.keys → (b : Branch) → Among (without branches x) b → AreDisjoint b.keys bound.keys)
+      → AreApart rm (facts ++ fact ∷ []) (without branches x)
+  gone fact x name new = apart_after rm facts fact branches (without branches x) are (without_some branches x)
+      (λ b h e. without_name branches x b h (name_of (xid_at (tx_of fact) rm) b.xid x e name)) new
+
+  -- the keys of a first vote
+  voted_apart : (tx : TxParts) (x : XidParts) (keys : List Touched) → idle_keys branches x ≡ Some keys
+      → (bound : Bound) → stored.VotePrepared tx keys ≡ stored.VotePrepared bound.tx bound.keys → (b : Branch) → Among (without branches x) b → AreDisjoint b.keys bound.keys
+  voted_apart tx x keys idle bound e b h =
+      let held = idle_branch branches x keys idle in
+      let same : keys ≡ bound.keys = ap keys_of e in
+      subst (AreDisjoint b.keys) (held.holds ∙ same)
+      (are.apart b held.branch (without_some branches x b h) held.among (λ f. without_name branches x b h (f ∙ held.name)))
+    where
+      keys_of : Fact → List Touched
+      keys_of (stored.VotePrepared t ks) = ks
+      keys_of fact = []
+
+  first_apart : (tx : TxParts) (x : XidParts) (spent : Bool) (idle : Option (List Touched)) → xid_at tx rm ≡ Some x → idle_keys branches x ≡ idle
+      → IsApartAfter rm facts (first_vote rm branches tx x spent idle)
+  first_apart tx x false (Some keys) name idle = gone (stored.VotePrepared tx keys) x name (voted_apart tx x keys idle)
+  first_apart tx x spent idle name is_idle = gone (stored.VoteAborted tx) x name (λ bound e. absurd (cc (e)))
+
+  prepare_apart : (tx : TxParts) (x : XidParts) → xid_at tx rm ≡ Some x → IsApartAfter rm facts (on_prepare rm facts branches tx x)
+  prepare_apart tx x name = cond_both (is_some (vote_in facts tx)) (sends_only branches (vote_sent rm tx (vote_in facts tx)))
+      (if is_ended facts tx then no_effect branches else first_vote rm branches tx x (is_spent rm facts x) (idle_keys branches x))
+      (IsApartAfter rm facts) (λ some. are)
+      (λ new. cond_both (is_ended facts tx) (no_effect branches) (first_vote rm branches tx x (is_spent rm facts x) (idle_keys branches x))
+        (IsApartAfter rm facts) (λ ended. are) (λ unended. first_apart tx x (is_spent rm facts x) (idle_keys branches x) name refl))
+
+  commit_apart : (tx : TxParts) → IsApartAfter rm facts (on_commit facts branches tx)
+  commit_apart tx = cond_both (is_prepared_view (view facts tx)) (stores branches (stored.Committed tx) []) (no_effect branches) (IsApartAfter rm facts)
+      (λ prepared. apart_after rm facts (stored.Committed tx) branches branches are (λ b h. h)
+        (λ b h e. let vote = (prepared_shows facts tx prepared).0 in
+          both_ways (is_spent rm facts b.xid) (are.unspent b h) (spent_by rm facts (stored.VotePrepared tx vote.0) b.xid vote.1 e))
+        (λ bound e. absurd (cc (e))))
+      (λ other. are)
+
+  abort_apart : (tx : TxParts) (x : XidParts) → xid_at tx rm ≡ Some x → IsApartAfter rm facts (on_abort facts branches tx x)
+  abort_apart tx x name = cond_both (is_open_view (view facts tx)) (stores (without branches x) (stored.Aborted tx) []) (no_effect branches) (IsApartAfter rm facts)
+      (λ opens. gone (stored.Aborted tx) x name (λ bound e. absurd (cc (e))))
+      (λ other. are)
+
+  message_apart : (x : XidParts) (m : Kind) → xid_at (messages.tx_of m) rm ≡ Some x → IsApartAfter rm facts (on_message rm facts branches x m)
+  message_apart x (kinds.Prepare tx) name = prepare_apart tx x name
+  message_apart x (kinds.Commit tx) name = commit_apart tx
+  message_apart x (kinds.Abort tx) name = abort_apart tx x name
+  message_apart x m name = are
+
+  takes_apart : (m : Kind) (o : Option XidParts) → xid_at (messages.tx_of m) rm ≡ o → IsApartAfter rm facts (manager_takes rm facts branches o m)
+  takes_apart m None name = are
+  takes_apart m (Some x) name = message_apart x m name
+
+  timeout_apart : (config : Config) (tx : TxParts) → IsApartAfter rm facts (on_manager_timeout config rm facts branches tx)
+  timeout_apart config tx = cond_both (is_inside config tx)
+      (sends_only branches (vote_sent rm tx (vote_in facts tx) ++ (if is_prepared_view (view facts tx) then to ToLeaders (kinds.Ask tx rm) ∷ [] else [])))
+      (replies branches (Refuses BadTx)) (IsApartAfter rm facts) (λ inside. are) (λ outside. are)
+
+-- ---- client calls
+
+start_unspent : (spent : Bool) (rows : List Row) (shows : BranchView) (busy : Bool) → is_done Start (call_answer spent rows shows busy Start) ≡ true → spent ≡ false
+start_unspent true rows shows busy h = absurd (cc (h))
+start_unspent false rows shows busy h = refl
+
+-- a call on a key that another branch holds isn't done
+put_held : (key value : List ℕ) (fits : Bool) (state : Option BranchState)
+    → is_done (Put key value) (if fits then by_state state (Code codes.Nota) (Refused Busy) (Code codes.Proto) else Code codes.Inval) ≡ false
+put_held key value true (Some states.Active) = refl
+put_held key value fits state = refl
+
+del_held : (key : List ℕ) (fits : Bool) (state : Option BranchState)
+    → is_done (Del key) (if fits then by_state state (Code codes.Nota) (Refused Busy) (Code codes.Proto) else Code codes.Inval) ≡ false
+del_held key true (Some states.Active) = refl
+del_held key fits state = refl
+
+get_held : (key : List ℕ) (fits : Bool) (state : Option BranchState)
+    → is_done (Get key) (if fits then by_state state (Code codes.Nota) (Refused Busy) (Code codes.Proto) else Code codes.Inval) ≡ false
+get_held key true (Some states.Active) = refl
+get_held key fits state = refl
+
+not_busy : (action : Action) (spent : Bool) (rows : List Row) (shows : BranchView) (busy : Bool) (key : List ℕ) → key_of action ≡ Some key
+    → is_done action (call_answer spent rows shows busy action) ≡ true → busy ≡ false
+not_busy action spent rows shows false key e done = refl
+not_busy (Put k value) true rows shows true key e done = absurd (both_ways _ (put_held k value _ shows.state) done)
+not_busy (Put k value) false rows shows true key e done = absurd (both_ways _ (put_held k value _ shows.state) done)
+not_busy (Del k) true rows shows true key e done = absurd (both_ways _ (del_held k _ shows.state) done)
+not_busy (Del k) false rows shows true key e done = absurd (both_ways _ (del_held k _ shows.state) done)
+not_busy (Get k) true rows shows true key e done = absurd (both_ways _ (get_held k _ shows.state) done)
+not_busy (Get k) false rows shows true key e done = absurd (both_ways _ (get_held k _ shows.state) done)
+not_busy action spent rows shows true key e done = absurd (cc (e))
