@@ -24,7 +24,7 @@ use Rattle.protocol.specs.Effects.{Config, Effect, Refuses, Send, ToLeaders, rep
 use Rattle.protocol.specs.Facts.{vote_in, is_ended, is_spent, is_prepared_view, is_open_view, view, Bound, bound_by, bound_in}
 use Rattle.protocol.specs.Managers.{Branch, has_key, all_branches, branch_at, is_held, changed, without, after_call, call_answer, on_call, idle_keys, vote_sent, first_vote, on_prepare, on_commit, on_abort, on_message, manager_takes, on_manager_timeout}
 use Rattle.protocol.specs.Nodes.{Memory, Input, CallOn, ListPrepared, AskView, AskCommit, AskStatus, TimeOut, Take, TakeNoise, effect_of, is_message_inside, takes, first_rows}
-use Rattle.protocol.specs.Playing.{plays_at_manager, all_play, is_new, is_name_spent, is_some_held}
+use Rattle.protocol.specs.Playing.{plays, plays_at_manager, all_play, is_new, is_name_spent, is_some_held}
 use Rattle.protocol.specs.Tables.{table}
 use Rattle.safety.specs.Standing.{Among, HasVote}
 use Rattle.safety.proofs.Lists.{any_found, found_any, none_found, Among-append, Among-before, Among-after, Among-push, Among-last, Among-map, Among-mapped}
@@ -387,7 +387,7 @@ is_new_from facts tx new unended = and_from (is_none (vote_in facts tx)) (not (i
     (not_from_false (is_some (vote_in facts tx)) new) (not_from_false (is_ended facts tx) unended)
 
 -- a fact that a rule stores plays, where the branches are apart
-fact_plays : (rm : ℕ) (facts : List Fact) (branches : List Branch) (input : Input) (fact : Fact) → AreApart rm facts branches
+pub fact_plays : (rm : ℕ) (facts : List Fact) (branches : List Branch) (input : Input) (fact : Fact) → AreApart rm facts branches
     → IsManagerFact rm facts branches input fact → plays_at_manager rm facts fact ≡ true
 fact_plays rm facts branches input (stored.VotePrepared tx keys) are is =
     and_from (names tx rm && is_new facts tx && not (is_name_spent rm facts tx)) (not (is_some_held facts keys))
@@ -402,6 +402,13 @@ fact_plays rm facts branches input (stored.Aborted tx) are is =
     and_from (names tx rm) (is_open_view (view facts tx)) (name_names tx rm is.0 is.1.name) is.1.opens
 fact_plays rm facts branches input fact are is = absurd is
 
+-- the fact of a resource manager's effect plays
+pub manager_met : (config : Config) (rm : ℕ) (facts : List Fact) (memory : Memory) (input : Input) → AreApart rm facts memory.branches
+    → (fact : Fact) → (effect_of config (R rm) facts memory input).fact ≡ Some fact → plays config (R rm) facts fact ≡ true
+manager_met config rm facts memory input are fact e =
+    fact_plays rm facts memory.branches input fact are
+    (subst (λ (o : Option Fact). IfSome o (IsManagerFact rm facts memory.branches input)) e (manager_is_right config rm facts memory input).fact_is)
+
 still_plays : (config : Config) (rm : ℕ) (facts : List Fact) (branches : List Branch) (input : Input) (o : Option Fact) → all_play config (R rm) [] facts ≡ true
     → AreApart rm facts branches → IfSome o (IsManagerFact rm facts branches input) → all_play config (R rm) [] (facts_after facts o) ≡ true
 still_plays config rm facts branches input None play are is = play
@@ -414,3 +421,9 @@ pub manager_plays : (config : Config) (rm : ℕ) (facts : List Fact) (memory : M
     → all_play config (R rm) [] (facts_after facts (effect_of config (R rm) facts memory input).fact) ≡ true
 manager_plays config rm facts memory input play are =
     still_plays config rm facts memory.branches input (effect_of config (R rm) facts memory input).fact play are (manager_is_right config rm facts memory input).fact_is
+
+-- ---- prepared branches
+
+-- no key is held by two prepared branches
+abbrev pub AreBoundApart : List Fact → Type 0
+AreBoundApart facts = (bound other : Bound) → Among (bound_in facts) bound → Among (bound_in facts) other → bound.tx ≢ other.tx → AreDisjoint bound.keys other.keys
