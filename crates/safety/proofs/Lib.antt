@@ -17,3 +17,4 @@ pub mod ManagerEvents
 pub mod ManagerKeys
 pub mod Played
 pub mod ManagerApart
+pub mod ManagerHolds

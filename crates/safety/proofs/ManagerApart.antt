@@ -127,7 +127,7 @@ idle_at p branches x keys (Some b) names_it f e =
 idle_branch : (branches : List Branch) (x : XidParts) (keys : List Touched) → idle_keys branches x ≡ Some keys → IsHolding branches x keys
 idle_branch branches x keys e = idle_at _ branches x keys _ (λ b h. (xid_decides b.xid x).0 (and_parts (xid_eq b.xid x) _ h).0) refl e
 
-name_of : (o : Option XidParts) (x y : XidParts) → o ≡ Some x → o ≡ Some y → x ≡ y
+pub name_of : (o : Option XidParts) (x y : XidParts) → o ≡ Some x → o ≡ Some y → x ≡ y
 name_of o x y e f = ap (λ q. unwrap_or q x) (sym e ∙ f)
 
 module _ (rm : ℕ) (facts : List Fact) (branches : List Branch) (are : AreApart rm facts branches) where
@@ -225,7 +225,7 @@ not_busy (Get k) false rows shows true key e done = absurd (both_ways _ (get_hel
 not_busy action spent rows shows true key e done = absurd (cc (e))
 
 -- a prepared branch, as it is among all
-abbrev named_so : List Touched → XidParts → Branch
+abbrev pub named_so : List Touched → XidParts → Branch
 named_so keys x = record { xid = x; state = states.Prepared; keys = keys }
 
 module _ (rm : ℕ) (facts : List Fact) (branches : List Branch) (x : XidParts) (are : AreApart rm facts branches)
@@ -347,7 +347,7 @@ module _ (rm : ℕ) (facts : List Fact) (branches : List Branch) (x : XidParts) 
 -- ---- every input
 
 -- facts that played: a prepared branch's transaction names this resource manager
-bound_named : (config : Config) (rm : ℕ) (facts : List Fact) → all_play config (R rm) [] facts ≡ true
+pub bound_named : (config : Config) (rm : ℕ) (facts : List Fact) → all_play config (R rm) [] facts ≡ true
     → (bound : Bound) → Among (bound_in facts) bound → names bound.tx rm ≡ true
 bound_named config rm facts play bound h = voted_named config rm facts play bound.tx votes.Prepared (bound.keys, (bound_stored facts bound h).voted)
 
@@ -421,9 +421,3 @@ pub manager_plays : (config : Config) (rm : ℕ) (facts : List Fact) (memory : M
     → all_play config (R rm) [] (facts_after facts (effect_of config (R rm) facts memory input).fact) ≡ true
 manager_plays config rm facts memory input play are =
     still_plays config rm facts memory.branches input (effect_of config (R rm) facts memory input).fact play are (manager_is_right config rm facts memory input).fact_is
-
--- ---- prepared branches
-
--- no key is held by two prepared branches
-abbrev pub AreBoundApart : List Fact → Type 0
-AreBoundApart facts = (bound other : Bound) → Among (bound_in facts) bound → Among (bound_in facts) other → bound.tx ≢ other.tx → AreDisjoint bound.keys other.keys
