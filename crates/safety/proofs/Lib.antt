@@ -29,3 +29,4 @@ pub mod ManagerKeys
 pub mod Played
 pub mod ManagerApart
 pub mod Worlds
+pub mod ManagerHolds

@@ -1,7 +1,8 @@
 -- What each rule of a resource manager stores and sends.
 use Rattle.std.proofs.Common.{◌≡◌, ◌⊎◌, ℕ, Bool, true, false, not, ◌&&◌, ◌||◌, ◌==◌, IsTrue, if◌then◌else◌, cond, List, [], ◌∷◌, ◌++◌, Option, Some, None, is_some, unwrap_or}
 use Rattle.std.proofs.Common.{inl, inr, ⊎_elim, refl, sym, ap, ◌∙◌, subst, arith}
-use Rattle.std.specs.Prelude.{IfSome, find, option_map}
+use Rattle.std.specs.Prelude.{IfSome, find, option_map, option_to_list}
+use Rattle.std.proofs.lemmas.List.{append-nil}
 use Rattle.std.specs.List.{list_any}
 use Rattle.std.proofs.lemmas.Bool.{cond_both, or_right, or_left, not-true}
 use Rattle.xid.specs.Names.{XidParts}
@@ -30,6 +31,10 @@ use Rattle.safety.proofs.ViewFacts.{unvoted, vote_in_after_prepared, vote_in_aft
 abbrev pub facts_after : List Fact → Option Fact → List Fact
 facts_after facts None = facts
 facts_after facts (Some fact) = facts ++ fact ∷ []
+
+pub facts_after_is : (facts : List Fact) (o : Option Fact) → facts_after facts o ≡ facts ++ option_to_list o
+facts_after_is facts None = sym (append-nil facts)
+facts_after_is facts (Some fact) = refl
 
 -- a first vote: the transaction has a name here, and neither a vote nor an outcome of it is stored
 pub record IsFirst (rm : ℕ) (facts : List Fact) (tx : TxParts) (x : XidParts) : Type 0 where
