@@ -2,3 +2,4 @@ pub mod CommitSteps
 pub mod Items
 pub mod Invariant
 pub mod Standing
+pub mod Runs
