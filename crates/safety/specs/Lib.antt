@@ -3,3 +3,4 @@ pub mod Items
 pub mod Invariant
 pub mod Standing
 pub mod Runs
+pub mod Senders

@@ -12,8 +12,7 @@ ghost use Rattle.protocol.specs.Playing.{all_play};
 ghost use Rattle.protocol.specs.Views.{IsReady, IsCommitStep, IsConsistent};
 ghost use Rattle.protocol.specs.Worlds.{Fated, Restart, node_at, happens};
 ghost use Rattle.safety.specs.Items.{Voted, Committed, Commit};
-ghost use Rattle.safety.specs.Runs.{reached, reached_next, views_in};
-ghost use Rattle.safety.specs.Standing.{Stands, facts_at};
+ghost use Rattle.safety.specs.Runs.{reached, reached_next, views_in, facts_after, StandsAfter};
 
 /// In whatever world the events before have come to, the next event, whatever its fate, moves each transaction by at most one
 /// step of the specification: the paper's transaction commit, which looks at all participants at once.
@@ -33,11 +32,11 @@ pub fn consistent()
 /// vote prepared, and is prepared or committed; and an event that makes a view committed finds each participant so.
 pub fn commit_finds_prepared()
     ensures stored { (config : Config) (events : List Fated) (tx : TxParts) (r q : ℕ) → IsTrue (names tx q)
-        → Stands config (reached config events) (Committed r tx) → Stands config (reached config events) (Voted q tx votes.Prepared) }
+        → StandsAfter config events (Committed r tx) → StandsAfter config events (Voted q tx votes.Prepared) }
     ensures sent { (config : Config) (events : List Fated) (tx : TxParts) (q : ℕ) → IsTrue (names tx q)
-        → Stands config (reached config events) (Commit tx) → Stands config (reached config events) (Voted q tx votes.Prepared) }
+        → StandsAfter config events (Commit tx) → StandsAfter config events (Voted q tx votes.Prepared) }
     ensures ready { (config : Config) (events : List Fated) (tx : TxParts) (q : ℕ) → IsTrue (names tx q)
-        → Stands config (reached config events) (Commit tx) → IsReady (views_in config (reached config events) tx q) }
+        → StandsAfter config events (Commit tx) → IsReady (views_in config (reached config events) tx q) }
     ensures moved { (config : Config) (events : List Fated) (next : Fated) (tx : TxParts) (r q : ℕ) → IsTrue (names tx r) → IsTrue (names tx q)
         → views_in config (reached config events) tx r ≢ views.Committed → views_in config (reached_next config events next) tx r ≡ views.Committed
         → IsReady (views_in config (reached config events) tx q) }
@@ -47,7 +46,7 @@ pub fn commit_finds_prepared()
 /// No restart is refused: the facts of every node play, so that a restart of one that stands in the cluster is done, and in no
 /// fate is its record damaged.
 pub fn restarts_play()
-    ensures play { (config : Config) (events : List Fated) (who : NodeId) → all_play config who [] (facts_at config (reached config events) who) ≡ true }
+    ensures play { (config : Config) (events : List Fated) (who : NodeId) → all_play config who [] (facts_after config events who) ≡ true }
     ensures done { (config : Config) (events : List Fated) (who : NodeId) (node : NodeState) → node_at config (reached config events) who ≡ Some node
         → (happens config (reached config events) (Restart who) Well).reply ≡ Done }
     ensures undamaged { (config : Config) (events : List Fated) (who : NodeId) (fate : Fate)

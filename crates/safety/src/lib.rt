@@ -3,3 +3,4 @@
 #![tactic(auto)]
 
 pub mod headline;
+pub mod parts;

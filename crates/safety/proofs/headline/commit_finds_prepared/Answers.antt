@@ -1,13 +1,13 @@
 use Rattle.xid.specs.Transactions.{names}
 use Rattle.safety.specs.Runs.{reached, reached_next, views_in}
-use Rattle.safety.proofs.Ever.{stored, sent, ready, steps, moves_find_ready}
+use Rattle.safety.proofs.Ever.{committed_finds, sent_finds, ready, steps, moves_find_ready}
 use Rattle.safety.proofs.headline.commit_finds_prepared.Goals as goal
 
 pub returns-clause-stored : goal.returns-clause-stored
-returns-clause-stored c = stored
+returns-clause-stored c = committed_finds
 
 pub returns-clause-sent : goal.returns-clause-sent
-returns-clause-sent c = sent
+returns-clause-sent c = sent_finds
 
 pub returns-clause-ready : goal.returns-clause-ready
 returns-clause-ready c = ready
