@@ -1,6 +1,6 @@
 -- What a resource manager stores and sends, as items that may come to stand.
-use Rattle.std.proofs.Common.{◌≡◌, ◌⊎◌, ℕ, zero, Bool, true, false, ◌&&◌, IsTrue, List, [], ◌∷◌, ◌++◌, Option, Some, None, unwrap_or, not}
-use Rattle.std.proofs.Common.{inl, inr, ⊎_elim, refl, sym, ap, ◌∙◌, subst, arith}
+use Rattle.std.proofs.Common.{◌≡◌, ◌⊎◌, ℕ, true, IsTrue, List, [], ◌∷◌, Option, Some, None, unwrap_or}
+use Rattle.std.proofs.Common.{inl, inr, sym, ap, ◌∙◌, subst, arith}
 use Rattle.std.specs.Prelude.{map, Contains, IfSome}
 use Rattle.xid.specs.Names.{XidParts}
 use Rattle.xid.specs.Transactions.{TxParts, names}
@@ -11,8 +11,8 @@ use Rattle.wire.specs.declared.message.Kind.TheVariants as kinds
 use Rattle.stable_record.specs.Facts.{Fact, Touched}
 use Rattle.stable_record.specs.Facts as stored
 use Rattle.protocol.specs.declared.NodeId.{NodeId}
-use Rattle.protocol.specs.declared.NodeId.TheVariants.{A, L, R}
-use Rattle.protocol.specs.Effects.{Config, Effect, Send}
+use Rattle.protocol.specs.declared.NodeId.TheVariants.{R}
+use Rattle.protocol.specs.Effects.{Config, Send}
 use Rattle.protocol.specs.Facts.{view}
 use Rattle.protocol.specs.Managers.{Branch}
 use Rattle.protocol.specs.Nodes.{Memory, Input, Take, effect_of}
@@ -141,7 +141,7 @@ module _ (config : Config) (rm : ℕ) (facts : NodeId → List Fact) (sent : Lis
 pub manager_is_good : (config : Config) (rm : ℕ) (facts : NodeId → List Fact) (sent : List Kind) (memory : Memory) (input : Input)
     → all_play config (R rm) [] (facts (R rm)) ≡ true → ((m : Kind) → input ≡ Take m → Among sent m)
     → IsGood config (R rm) facts sent (effect_of config (R rm) (facts (R rm)) memory input).fact
-        (map (λ send. send.message) (effect_of config (R rm) (facts (R rm)) memory input).sends)
+    (map (λ send. send.message) (effect_of config (R rm) (facts (R rm)) memory input).sends)
 manager_is_good config rm facts sent memory input play came =
     right_is_good config rm facts sent memory.branches input play came (effect_of config (R rm) (facts (R rm)) memory input).fact
     (effect_of config (R rm) (facts (R rm)) memory input).sends (manager_is_right config rm (facts (R rm)) memory input)

@@ -1,5 +1,5 @@
 -- No key is touched by two branches of a resource manager, prepared ones included.
-use Rattle.std.proofs.Common.{◌≡◌, ◌≢◌, ◌⊎◌, ℕ, Bool, true, false, not, ◌&&◌, List, [], ◌∷◌, ◌++◌, Option, Some, None, is_some, unwrap_or}
+use Rattle.std.proofs.Common.{◌≡◌, ◌≢◌, ◌⊎◌, ℕ, true, false, not, ◌&&◌, List, [], ◌∷◌, ◌++◌, Option, Some, None, is_some, unwrap_or}
 use Rattle.std.proofs.Common.{inl, inr, refl, sym, ap, ◌∙◌, subst, append_assoc, append-nil}
 use Rattle.std.specs.Prelude.{filter_map, option_map}
 use Rattle.std.specs.List.{list_any}
@@ -11,8 +11,7 @@ use Rattle.xid.specs.Transactions.{TxParts, names, xid_at}
 use Rattle.xid.specs.declared.transaction.Vote.TheVariants as votes
 use Rattle.stable_record.specs.Facts.{Fact, Touched}
 use Rattle.stable_record.specs.Facts as stored
-use Rattle.protocol.specs.declared.BranchState.TheVariants as states
-use Rattle.protocol.specs.declared.NodeId.TheVariants.{A, L, R}
+use Rattle.protocol.specs.declared.NodeId.TheVariants.{R}
 use Rattle.protocol.specs.Effects.{Config}
 use Rattle.protocol.specs.Facts.{vote_in, is_ended, Bound, bound_in}
 use Rattle.protocol.specs.Managers.{Branch, has_key, all_branches}
@@ -20,8 +19,8 @@ use Rattle.protocol.specs.Playing.{plays, plays_at_manager, all_play, is_new, is
 use Rattle.safety.specs.Standing.{Among, HasVote}
 use Rattle.safety.proofs.Lists.{any_found, found_any, Among-append, Among-push}
 use Rattle.safety.proofs.ViewFacts.{prepared_before, unvoted}
-use Rattle.safety.proofs.ManagerKeys.{filter_map_given, names_name, AreDisjoint}
-use Rattle.safety.proofs.ManagerApart.{AreApart, IsBound, bound_stored, stored_bound, bound_named, named_so}
+use Rattle.safety.proofs.ManagerKeys.{filter_map_given, AreDisjoint}
+use Rattle.safety.proofs.ManagerApart.{AreApart, bound_stored, stored_bound, named_so}
 
 -- prepared branches: one for each transaction, and no key in two of them
 pub record AreBoundApart (facts : List Fact) : Type 0 where
@@ -48,8 +47,8 @@ free_of facts keys bound free h key p q =
     let same : found.element.key ≡ key = (bytes_decides found.element.key key).0 found.passes in
     both_ways (is_some_held facts keys) free
     (found_any (λ (b : Bound). list_any (λ (touched : Touched). has_key touched.key b.keys) keys) (bound_in facts) bound h
-      (found_any (λ (touched : Touched). has_key touched.key bound.keys) keys found.element found.among
-        (subst (λ (k : List ℕ). has_key k bound.keys ≡ true) (sym same) q)))
+    (found_any (λ (touched : Touched). has_key touched.key bound.keys) keys found.element found.among
+    (subst (λ (k : List ℕ). has_key k bound.keys ≡ true) (sym same) q)))
 
 abbrev tx_in : Fact → TxParts → TxParts
 tx_in (stored.VotePrepared tx keys) other = tx
@@ -124,8 +123,8 @@ pub prepared_or_not : (rm : ℕ) (facts : List Fact) (branches : List Branch) (b
     → IsPreparedAs rm facts b ⊎ Among branches b
 prepared_or_not rm facts branches b h = elim (Among-append (filter_map _ (bound_in facts)) branches b h) [
   | inl of_bound ↦
-    let given = filter_map_given _ (bound_in facts) b of_bound in
-    inl (prepared_from rm facts given.source b (xid_at given.source.tx rm) given.among refl given.gives)
+      let given = filter_map_given _ (bound_in facts) b of_bound in
+      inl (prepared_from rm facts given.source b (xid_at given.source.tx rm) given.among refl given.gives)
   | inr other ↦ inr other
 ]
 

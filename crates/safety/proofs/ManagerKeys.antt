@@ -1,31 +1,23 @@
 -- The branches of a resource manager: no key is touched by two of them, prepared ones included, and a first vote's keys are free.
-use Rattle.std.proofs.Common.{◌≡◌, ◌≢◌, ◌⊎◌, ℕ, Bool, true, false, not, ◌&&◌, ◌||◌, ◌==◌, IsTrue, if◌then◌else◌, cond, List, [], ◌∷◌, ◌++◌, map, Option, Some, None, is_some, unwrap_or}
-use Rattle.std.proofs.Common.{inl, inr, ⊎_elim, refl, sym, ap, ◌∙◌, subst, arith}
-use Rattle.std.specs.Prelude.{IfSome, find, filter, filter_map, option_map}
+use Rattle.std.proofs.Common.{◌≡◌, ◌⊎◌, ℕ, Bool, true, false, ◌&&◌, ◌||◌, ◌==◌, if◌then◌else◌, cond, List, [], ◌∷◌, ◌++◌, Option, Some, None, is_some, unwrap_or}
+use Rattle.std.proofs.Common.{inl, inr, refl, sym, ap, ◌∙◌, subst}
+use Rattle.std.specs.Prelude.{find, filter, filter_map, option_map}
 use Rattle.std.specs.Bool.{Decides}
 use Rattle.std.specs.List.{list_any, cons_option}
 use Rattle.std.specs.Str.{bytes_eq}
 use Rattle.std.specs.Cmp.{unsigned_Decides}
 use Rattle.std.specs.Cmp.Lexicographic.{bytes_decides}
-use Rattle.std.proofs.lemmas.Bool.{cond_both, and_parts, and_from, or_cases, or_left, or_right, both_ways, false_from_ne_true, not_from_false}
+use Rattle.std.proofs.lemmas.Bool.{cond_both, and_parts, and_from, or_cases, or_left, or_right, false_from_ne_true}
 use Rattle.xid.specs.Names.{XidParts, xid_eq}
-use Rattle.xid.specs.Transactions.{TxParts, BranchParts, names, is_at, xid_of, xid_at}
-use Rattle.xid.specs.declared.codes.XaCode.TheVariants as codes
-use Rattle.xid.specs.declared.transaction.Vote.{Vote}
-use Rattle.xid.specs.declared.transaction.Vote.TheVariants as votes
-use Rattle.xid.specs.declared.refusals.Refusal.TheVariants.{Busy, Full}
+use Rattle.xid.specs.Transactions.{TxParts, names, is_at, xid_of, xid_at}
 use Rattle.stable_record.specs.Facts.{Fact, Touched, tx_of}
-use Rattle.stable_record.specs.Facts as stored
-use Rattle.protocol.specs.declared.BranchState.{BranchState}
-use Rattle.protocol.specs.declared.BranchState.TheVariants as states
-use Rattle.protocol.specs.Calls.{Action, Start, Put, Del, Get, End, EndFail, Rollback, Answer, Code, Refused, Row}
-use Rattle.protocol.specs.Branches.{BranchView, is_done, key_of, by_state}
-use Rattle.protocol.specs.Facts.{is_spent, is_xid, is_prepared_view, view, Bound, bound_by, bound_in}
-use Rattle.protocol.specs.Managers.{Branch, touch_key, has_key, all_branches, branch_at, is_held, changed, without, after_call, call_answer, idle_keys}
+use Rattle.protocol.specs.Calls.{Action, Put, Del, Get, End, EndFail}
+use Rattle.protocol.specs.Branches.{key_of}
+use Rattle.protocol.specs.Facts.{is_spent, is_xid}
+use Rattle.protocol.specs.Managers.{Branch, touch_key, has_key, changed}
 use Rattle.protocol.specs.Tables.{bytes_before}
-use Rattle.safety.specs.Standing.{Among, HasVote}
-use Rattle.safety.proofs.Lists.{any_found, found_any, none_found, Among-append, Among-before, Among-after, Among-push, Among-last, Among-map, Among-mapped}
-use Rattle.safety.proofs.ViewFacts.{prepared_shows}
+use Rattle.safety.specs.Standing.{Among}
+use Rattle.safety.proofs.Lists.{any_found, found_any, none_found, Among-push}
 
 -- ---- lists
 
@@ -40,6 +32,7 @@ xid_decides x y = (told, λ e. subst (λ (z : XidParts). xid_eq x z ≡ true) e 
         let gtrids = (bytes_decides x.gtrid y.gtrid).0 more.1 in
         let bquals = (bytes_decides x.bqual y.bqual).0 parts.1 in
         λ i. record { format = formats i; gtrid = gtrids i; bqual = bquals i }
+
     same : xid_eq x x ≡ true
     same = and_from ((x.format == x.format) && bytes_eq x.gtrid x.gtrid) (bytes_eq x.bqual x.bqual)
         (and_from (x.format == x.format) (bytes_eq x.gtrid x.gtrid) ((unsigned_Decides x.format x.format).1 refl) ((bytes_decides x.gtrid x.gtrid).1 refl))
@@ -137,10 +130,10 @@ pub still_unspent : (rm : ℕ) (facts : List Fact) (fact : Fact) (x : XidParts) 
     → is_spent rm (facts ++ fact ∷ []) x ≡ false
 still_unspent rm facts fact x unspent apart = false_from_ne_true (is_spent rm (facts ++ fact ∷ []) x)
     (λ h. let found = any_found (λ f. is_xid x (xid_at (tx_of f) rm)) (facts ++ fact ∷ []) h in
-      elim (Among-push facts fact found.element found.among) [
-        | inl old ↦ none_found (λ f. is_xid x (xid_at (tx_of f) rm)) facts unspent found.element old found.passes
-        | inr e ↦ apart (is_xid_same x (xid_at (tx_of fact) rm) (ap (λ (f : Fact). is_xid x (xid_at (tx_of f) rm)) e ∙ found.passes))
-      ])
+    elim (Among-push facts fact found.element found.among) [
+      | inl old ↦ none_found (λ f. is_xid x (xid_at (tx_of f) rm)) facts unspent found.element old found.passes
+      | inr e ↦ apart (is_xid_same x (xid_at (tx_of fact) rm) (ap (λ (f : Fact). is_xid x (xid_at (tx_of f) rm)) e ∙ found.passes))
+    ])
 
 -- ---- keys
 
@@ -157,16 +150,16 @@ touched_before : (keys : List Touched) (key : List ℕ) (write : Option (Option 
 touched_before [] key write k h = elim (or_cases (bytes_eq key k) false h) [ inl e ↦ inr ((bytes_decides key k).0 e) | inr none ↦ absurd (cc (none)) ]
 touched_before (first ∷ keys) key write k h =
     (cond_both (bytes_eq first.key key) (record { key = key; write = if is_some write then write else first.write } ∷ keys)
-      (if bytes_before key first.key then record { key = key; write = write } ∷ first ∷ keys else first ∷ touch_key keys key write)
-      (λ (after : List Touched). has_key k after ≡ true → (has_key k (first ∷ keys) ≡ true) ⊎ (key ≡ k))
-      (λ same h. elim (or_cases (bytes_eq key k) (has_key k keys) h) [ inl e ↦ inr ((bytes_decides key k).0 e) | inr e ↦ inl (or_right (bytes_eq first.key k) (has_key k keys) e) ])
-      (λ other. cond_both (bytes_before key first.key) (record { key = key; write = write } ∷ first ∷ keys) (first ∷ touch_key keys key write)
-        (λ (after : List Touched). has_key k after ≡ true → (has_key k (first ∷ keys) ≡ true) ⊎ (key ≡ k))
-        (λ here h. elim (or_cases (bytes_eq key k) (has_key k (first ∷ keys)) h) [ inl e ↦ inr ((bytes_decides key k).0 e) | inr e ↦ inl e ])
-        (λ there h. elim (or_cases (bytes_eq first.key k) (has_key k (touch_key keys key write)) h) [
-          | inl e ↦ inl (or_left (bytes_eq first.key k) (has_key k keys) e)
-          | inr e ↦ elim (touched_before keys key write k e) [ inl old ↦ inl (or_right (bytes_eq first.key k) (has_key k keys) old) | inr new ↦ inr new ]
-        ])))
+    (if bytes_before key first.key then record { key = key; write = write } ∷ first ∷ keys else first ∷ touch_key keys key write)
+    (λ (after : List Touched). has_key k after ≡ true → (has_key k (first ∷ keys) ≡ true) ⊎ (key ≡ k))
+    (λ same h. elim (or_cases (bytes_eq key k) (has_key k keys) h) [ inl e ↦ inr ((bytes_decides key k).0 e) | inr e ↦ inl (or_right (bytes_eq first.key k) (has_key k keys) e) ])
+    (λ other. cond_both (bytes_before key first.key) (record { key = key; write = write } ∷ first ∷ keys) (first ∷ touch_key keys key write)
+    (λ (after : List Touched). has_key k after ≡ true → (has_key k (first ∷ keys) ≡ true) ⊎ (key ≡ k))
+    (λ here h. elim (or_cases (bytes_eq key k) (has_key k (first ∷ keys)) h) [ inl e ↦ inr ((bytes_decides key k).0 e) | inr e ↦ inl e ])
+    (λ there h. elim (or_cases (bytes_eq first.key k) (has_key k (touch_key keys key write)) h) [
+      | inl e ↦ inl (or_left (bytes_eq first.key k) (has_key k keys) e)
+      | inr e ↦ elim (touched_before keys key write k e) [ inl old ↦ inl (or_right (bytes_eq first.key k) (has_key k keys) old) | inr new ↦ inr new ]
+    ])))
     h
 
 pub changed_name : (action : Action) (b : Branch) → (changed action b).xid ≡ b.xid

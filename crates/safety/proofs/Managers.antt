@@ -1,26 +1,25 @@
 -- What each rule of a resource manager stores and sends.
-use Rattle.std.proofs.Common.{◌≡◌, ◌⊎◌, ℕ, Bool, true, false, not, ◌&&◌, ◌||◌, ◌==◌, IsTrue, if◌then◌else◌, cond, List, [], ◌∷◌, ◌++◌, Option, Some, None, is_some, unwrap_or}
-use Rattle.std.proofs.Common.{inl, inr, ⊎_elim, refl, sym, ap, ◌∙◌, subst, arith}
+use Rattle.std.proofs.Common.{◌≡◌, ℕ, Bool, true, false, ◌||◌, if◌then◌else◌, cond, List, [], ◌∷◌, ◌++◌, Option, Some, None, is_some}
+use Rattle.std.proofs.Common.{inl, inr, refl, sym, subst}
 use Rattle.std.specs.Prelude.{IfSome, find, option_map, option_to_list}
 use Rattle.std.proofs.lemmas.List.{append-nil}
 use Rattle.std.specs.List.{list_any}
-use Rattle.std.proofs.lemmas.Bool.{cond_both, or_right, or_left, not-true}
+use Rattle.std.proofs.lemmas.Bool.{cond_both}
 use Rattle.xid.specs.Names.{XidParts}
 use Rattle.xid.specs.Transactions.{TxParts, BranchParts, names, is_at, xid_of, xid_at}
 use Rattle.xid.specs.declared.transaction.Vote.{Vote}
 use Rattle.xid.specs.declared.transaction.Vote.TheVariants as votes
-use Rattle.xid.specs.declared.refusals.Refusal.TheVariants.{BadTx, BadMessage, NoSuch}
+use Rattle.xid.specs.declared.refusals.Refusal.TheVariants.{BadTx}
 use Rattle.wire.specs.declared.message.Kind.{Kind}
 use Rattle.wire.specs.declared.message.Kind.TheVariants as kinds
 use Rattle.wire.specs.Messages.{tx_of}
 use Rattle.stable_record.specs.Facts.{Fact, Touched}
 use Rattle.stable_record.specs.Facts as stored
-use Rattle.protocol.specs.declared.NodeId.TheVariants.{A, L, R}
+use Rattle.protocol.specs.declared.NodeId.TheVariants.{R}
 use Rattle.protocol.specs.Facts.{vote_in, is_ended, is_spent, view, is_prepared_view, is_open_view}
-use Rattle.protocol.specs.Calls.{Action, Answer}
-use Rattle.protocol.specs.Effects.{Config, Effect, Reply, Called, Shows, Refuses, Send, ToAcceptors, ToLeaders, replies, no_effect, sends_only, stores, to, is_inside}
+use Rattle.protocol.specs.Effects.{Config, Effect, Refuses, Send, ToLeaders, replies, no_effect, sends_only, stores, to, is_inside}
 use Rattle.protocol.specs.Managers.{Branch, without, idle_keys, vote_sent, first_vote, on_prepare, on_commit, on_abort, on_message, manager_takes, on_manager_timeout}
-use Rattle.protocol.specs.Nodes.{Memory, Input, CallOn, ListPrepared, AskView, AskCommit, AskStatus, TimeOut, Take, TakeNoise, effect_of, is_message_inside, takes, of_manager}
+use Rattle.protocol.specs.Nodes.{Memory, Input, CallOn, ListPrepared, AskView, AskCommit, AskStatus, TimeOut, Take, TakeNoise, effect_of, is_message_inside, takes}
 use Rattle.safety.specs.Standing.{Among}
 use Rattle.safety.proofs.Lists.{Among-append}
 use Rattle.safety.proofs.ViewFacts.{unvoted, vote_in_after_prepared, vote_in_after_aborted}
@@ -137,9 +136,9 @@ module _ (rm : ℕ) (facts : List Fact) (branches : List Branch) (input : Input)
       (λ (e : Effect (List Branch)). IsRightEffect rm facts branches input e)
       (λ some. record { fact_is = tt; sends_are = vote_is facts tx (vote_in facts tx) refl })
       (λ new. cond_both (is_ended facts tx) (no_effect branches) (first_vote rm branches tx x (is_spent rm facts x) (idle_keys branches x))
-        (λ (e : Effect (List Branch)). IsRightEffect rm facts branches input e)
-        (λ ended. nothing)
-        (λ unended. first_is tx x (is_spent rm facts x) (idle_keys branches x) (record { name = name; new = new; unended = unended }) refl refl))
+      (λ (e : Effect (List Branch)). IsRightEffect rm facts branches input e)
+      (λ ended. nothing)
+      (λ unended. first_is tx x (is_spent rm facts x) (idle_keys branches x) (record { name = name; new = new; unended = unended }) refl refl))
 
   commit_is : (tx : TxParts) → input ≡ Take (kinds.Commit tx) → IsRightEffect rm facts branches input (on_commit facts branches tx)
   commit_is tx came = cond_both (is_prepared_view (view facts tx)) (stores branches (stored.Committed tx) []) (no_effect branches)

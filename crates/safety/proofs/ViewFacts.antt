@@ -1,6 +1,6 @@
 -- What the tests and look-ups of a resource manager's facts say: each by the facts that are among them.
-use Rattle.std.proofs.Common.{◌≡◌, ◌⊎◌, ℕ, Bool, true, false, not, ◌&&◌, ◌||◌, IsTrue, if◌then◌else◌, List, [], ◌∷◌, ◌++◌, Option, Some, None, is_none, is_some}
-use Rattle.std.proofs.Common.{inl, inr, refl, sym, ap, ◌∙◌, subst, arith}
+use Rattle.std.proofs.Common.{◌≡◌, ◌⊎◌, ℕ, Bool, true, false, ◌||◌, if◌then◌else◌, List, [], ◌∷◌, ◌++◌, Option, Some, None, is_some}
+use Rattle.std.proofs.Common.{inl, inr, refl, sym, ap, ◌∙◌, subst}
 use Rattle.std.specs.Bool.{Decides}
 use Rattle.std.specs.List.{list_any}
 use Rattle.std.proofs.lemmas.Bool.{both_ways, or_parts, false_from_ne_true}
@@ -125,8 +125,8 @@ pub vote_in_after_aborted : (facts : List Fact) (tx : TxParts) → ¬ HasVote fa
 vote_in_after_aborted facts tx none =
     vote_is_aborted (facts ++ stored.VoteAborted tx ∷ []) tx
     (false_from_ne_true (list_any (casts tx votes.Prepared) (facts ++ stored.VoteAborted tx ∷ []))
-      (λ e. let h = (casts_decides (facts ++ stored.VoteAborted tx ∷ []) tx votes.Prepared).0 e in
-        elim (Among-push facts (stored.VoteAborted tx) (stored.VotePrepared tx h.0) h.1) [ inl old ↦ none (h.0, old) | inr same ↦ absurd (cc (same)) ]))
+    (λ e. let h = (casts_decides (facts ++ stored.VoteAborted tx ∷ []) tx votes.Prepared).0 e in
+    elim (Among-push facts (stored.VoteAborted tx) (stored.VotePrepared tx h.0) h.1) [ inl old ↦ none (h.0, old) | inr same ↦ absurd (cc (same)) ]))
     (vote_passes (facts ++ stored.VoteAborted tx ∷ []) tx votes.Aborted (Among-last facts (stored.VoteAborted tx)))
 
 -- ---- outcomes
