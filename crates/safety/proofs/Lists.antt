@@ -102,3 +102,8 @@ pub Among-join : {X Y : Type 0} (f : X → List Y) (xs : List X) (x : X) (y : Y)
 Among-join f [] x y h k = absurd h
 Among-join f (z ∷ xs) x y (inl e) k = Among-before (f z) (flat_map f xs) y (subst (λ w. Among (f w) y) (sym e) k)
 Among-join f (z ∷ xs) x y (inr h) k = Among-after (f z) (flat_map f xs) y (Among-join f xs x y h k)
+
+-- what holds of the only one
+pub only_one : {X : Type 0} (P : X → Type 0) (first : X) → P first → (x : X) → Among (first ∷ []) x → P x
+only_one P first h x (inl e) = subst P e h
+only_one P first h x (inr none) = absurd none

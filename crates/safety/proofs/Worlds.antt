@@ -1,0 +1,197 @@
+-- Every event keeps a world safe, and moves each transaction by at most one step.
+use Rattle.std.proofs.Common.{◌≡◌, ◌⊎◌, inl, inr, ◌∙◌, ℕ, zero, suc, ◌<◌, Bool, true, false, if◌then◌else◌, IsTrue, List, [], ◌∷◌, ◌++◌, Option, Some, None, refl, sym, ap, subst, nat_lt, is_some}
+use Rattle.std.specs.Prelude.{map, slice_get}
+use Rattle.std.proofs.lemmas.Bool.{cond_both}
+use Rattle.std.proofs.lemmas.List.{append-nil}
+use Rattle.xid.specs.Transactions.{TxParts, names}
+use Rattle.wire.specs.declared.message.Kind.{Kind}
+use Rattle.stable_record.specs.Facts.{Fact}
+use Rattle.xid.specs.declared.refusals.Refusal.TheVariants.{NoSuch}
+use Rattle.protocol.specs.Calls as calls
+use Rattle.protocol.specs.declared.NodeId.{NodeId}
+use Rattle.protocol.specs.declared.NodeId.TheVariants.{A, L, R}
+use Rattle.protocol.specs.Effects.{Config, Done, Refuses}
+use Rattle.protocol.specs.Lengths.{message_length}
+use Rattle.protocol.specs.Nodes.{empty_memory, new_node, NodeState, Input, CallOn, ListPrepared, AskView, AskCommit, AskStatus, TimeOut, Take, TakeNoise, Fate, Well, Fails, Unreached, Starved, Outcome, node_step, restarted}
+use Rattle.protocol.specs.Playing.{all_play}
+use Rattle.protocol.specs.Worlds.{World, Datagram, opening, Event, Client, ViewOf, CommitOf, StatusOf, Timeout, Deliver, Lose, Cut, Noise, Tear, Restart, Happening, Fated, node_at, set_node, refused, joined, at_node, restarts, tears, datagram_at, marked_at, with_mark, delivers, loses, cuts, disturbs, does, happens, world_after}
+use Rattle.xid.specs.declared.transaction.Vote.TheVariants as votes
+use Rattle.safety.specs.Items.{Item, Promised, Accepted, Began, Voted, Committed, Dropped, P1b, P2a, P2b, Commit, Abort}
+use Rattle.safety.specs.Invariant.{Invariant}
+use Rattle.safety.specs.Standing.{Among, StandsBy, setting, facts_of, sent_in}
+use Rattle.safety.proofs.Kept.{invariant_at_start}
+use Rattle.safety.proofs.Leaders.{kept_at_start}
+use Rattle.safety.proofs.LeadersWords.{IsKept}
+use Rattle.safety.proofs.Lists.{Among-map}
+use Rattle.safety.proofs.ManagerApart.{AreApart, none_apart}
+use Rattle.safety.proofs.NodeSteps.{IsStill, next_still, next_step}
+use Rattle.safety.proofs.Places.{node_there, node_elsewhere, opening_node, leader_inside, marked_messages}
+use Rattle.safety.proofs.Rules.{IsFromNet, rule_is}
+use Rattle.safety.proofs.Safe.{facts_by, IsSafeBy, IsSafe, IsNextBy, next_same}
+
+-- the next moment of a world
+abbrev pub IsNext : Config → (before after : World) → Type 0
+IsNext config before after = IsNextBy config (node_at config before) (node_at config after) (sent_in after)
+
+module _ (config : Config) (world : World) (safe : IsSafe config world) where
+  -- nothing changes
+  same : IsNext config world world
+  same = next_same config (node_at config world) (node_at config world) (sent_in world) (sent_in world) safe (λ n. refl) refl
+
+  -- a mark
+  marked : (n : ℕ) → IsNext config world (with_mark world n)
+  marked n =
+      next_same config (node_at config world) (node_at config (with_mark world n)) (sent_in world) (sent_in (with_mark world n)) safe (λ who. refl)
+      (marked_messages world.net n)
+
+  few : (who : NodeId) (node : NodeState) → node_at config world who ≡ Some node → (l : ℕ) → who ≡ L l → l < config.leaders
+  few who node stands l e = leader_inside config world l node (subst (λ (n : NodeId). node_at config world n ≡ Some node) e stands)
+
+  -- ---- an input at a node
+
+  abbrev handed : NodeId → Input → Fate → Option NodeState → Happening
+  handed who input fate None = refused world (Refuses NoSuch)
+  handed who input fate (Some node) = joined config world who node.facts (node_step config who node input fate)
+
+  handed_next : (who : NodeId) (input : Input) (fate : Fate) → IsFromNet (sent_in world) input → (o : Option NodeState) → node_at config world who ≡ o
+      → IsNext config world (handed who input fate o).world
+  handed_next who input fate came None is = same
+  handed_next who input fate came (Some node) is =
+      next_step config world who node input fate safe is
+      (rule_is config who (node_at config world) (sent_in world) safe node input is (few who node is) came)
+
+  at_node_next : (who : NodeId) (input : Input) (fate : Fate) → IsFromNet (sent_in world) input → IsNext config world (at_node config world who input fate).world
+  at_node_next who input fate came = handed_next who input fate came (node_at config world who) refl
+
+  -- ---- restarts and tears
+
+  restarted_is : (who : NodeId) (node : NodeState) (fate : Fate) → IsStill node (restarted config who node fate)
+  restarted_is who node Starved = record { facts = refl; silent = refl; memory = inr refl }
+  restarted_is who node (Fails whole) = record { facts = refl; silent = refl; memory = inr refl }
+  restarted_is who node Well = cond_both (all_play config who [] node.facts) _ _ (IsStill node)
+      (λ plays. record { facts = refl; silent = refl; memory = inr refl })
+      (λ damaged. record { facts = refl; silent = refl; memory = inr refl })
+  restarted_is who node Unreached = cond_both (all_play config who [] node.facts) _ _ (IsStill node)
+      (λ plays. record { facts = refl; silent = refl; memory = inr refl })
+      (λ damaged. record { facts = refl; silent = refl; memory = inr refl })
+
+  abbrev tried : NodeId → Fate → Option NodeState → Happening
+  tried who fate None = refused world (Refuses NoSuch)
+  tried who fate (Some node) = joined config world who node.facts (restarted config who node fate)
+
+  tried_next : (who : NodeId) (fate : Fate) (o : Option NodeState) → node_at config world who ≡ o → IsNext config world (tried who fate o).world
+  tried_next who fate None is = same
+  tried_next who fate (Some node) is = next_still config world who node (restarted config who node fate) safe is (restarted_is who node fate)
+
+  abbrev armed : NodeId → ℕ → Option NodeState → Happening
+  armed who n None = refused world (Refuses NoSuch)
+  armed who n (Some node) = refused (set_node config world who (record node { tear = Some n })) Done
+
+  armed_next : (who : NodeId) (n : ℕ) (o : Option NodeState) → node_at config world who ≡ o → IsNext config world (armed who n o).world
+  armed_next who n None is = same
+  armed_next who n (Some node) is =
+      let left : Outcome = record { node = record node { tear = Some n }; reply = Done; sends = [] } in
+      subst (λ (xs : List Kind). IsNextBy config (node_at config world) (node_at config (armed who n (Some node)).world) xs)
+      (ap (map (λ datagram. datagram.message)) (append-nil world.net))
+      (next_still config world who node left safe is (record { facts = refl; silent = refl; memory = inl refl }))
+
+  -- ---- datagrams
+
+  loses_next : (n : ℕ) (o : Option Datagram) → IsNext config world (loses world n o).world
+  loses_next n None = same
+  loses_next n (Some d) = marked n
+
+  cuts_next : (k : ℕ) (fate : Fate) (o : Option Datagram) → IsNext config world (cuts config world k fate o).world
+  cuts_next k fate None = same
+  cuts_next k fate (Some d) =
+      cond_both (nat_lt k (message_length d.message)) (at_node config world d.receiver TakeNoise fate) (refused world (Refuses NoSuch))
+      (λ happening. IsNext config world happening.world)
+      (λ fewer. at_node_next d.receiver TakeNoise fate tt) (λ all. same)
+
+  disturbs_next : (who : NodeId) (spells : Bool) (fate : Fate) → IsNext config world (disturbs config world who spells fate).world
+  disturbs_next who false fate = at_node_next who TakeNoise fate tt
+  disturbs_next who true fate = same
+
+-- a datagram of the net has a message that was sent
+slice_among : {X : Type 0} (xs : List X) (n : ℕ) (x : X) → slice_get xs n ≡ Some x → Among xs x
+slice_among [] n x h = absurd (cc (h))
+slice_among (y ∷ xs) zero x h = inl (cc (h))
+slice_among (y ∷ xs) (suc n) x h = inr (slice_among xs n x h)
+
+datagram_among : (net : List Datagram) (n : ℕ) (d : Datagram) → datagram_at net n ≡ Some d → Among net d
+datagram_among net zero d h = absurd (cc (h))
+datagram_among net (suc n) d h = slice_among net n d h
+
+module _ (config : Config) (world : World) (safe : IsSafe config world) where
+  delivers_next : (n : ℕ) (fate : Fate) (o : Option Datagram) → datagram_at world.net n ≡ o → IsNext config world (delivers config world n fate o).world
+  delivers_next n fate None is = same config world safe
+  delivers_next n fate (Some d) is =
+      at_node_next config (with_mark world n) (marked config world safe n).safe d.receiver (Take d.message) fate
+      (subst (λ (xs : List Kind). Among xs d.message) (sym (marked_messages world.net n))
+      (Among-map (λ (datagram : Datagram). datagram.message) world.net d (datagram_among world.net n d is)))
+
+  -- an event that reaches its node, if it has one
+  does_next : (event : Event) (fate : Fate) → IsNext config world (does config world event fate).world
+  does_next (Client (calls.Call rm x action)) fate = at_node_next config world safe (R rm) (CallOn x action) fate tt
+  does_next (Client (calls.Recover rm)) fate = at_node_next config world safe (R rm) ListPrepared fate tt
+  does_next (ViewOf rm tx) fate = at_node_next config world safe (R rm) (AskView tx) fate tt
+  does_next (CommitOf l tx) fate = at_node_next config world safe (L l) (AskCommit tx) fate tt
+  does_next (StatusOf l tx) fate = at_node_next config world safe (L l) (AskStatus tx) fate tt
+  does_next (Timeout who tx) fate = at_node_next config world safe who (TimeOut tx) fate tt
+  does_next (Deliver n) fate = delivers_next n fate (datagram_at world.net n) refl
+  does_next (Lose n) fate = loses_next config world safe n (datagram_at world.net n)
+  does_next (Cut n k) fate = cuts_next config world safe k fate (datagram_at world.net n)
+  does_next (Noise who spells) fate = disturbs_next config world safe who spells fate
+  does_next (Tear who n) fate = armed_next config world safe who n (node_at config world who) refl
+  does_next (Restart who) fate = tried_next config world safe who fate (node_at config world who) refl
+
+  -- every event
+  pub happens_next : (event : Event) (fate : Fate) → IsNext config world (happens config world event fate).world
+  happens_next event Unreached = same config world safe
+  happens_next event Well = does_next event Well
+  happens_next event (Fails whole) = does_next event (Fails whole)
+  happens_next event Starved = does_next event Starved
+
+-- ---- lists of events
+
+-- no facts at first
+nothing_stored : (config : Config) (who : NodeId) (o : Option NodeState) → node_at config (opening config) who ≡ o → facts_of o ≡ []
+nothing_stored config who None is = refl
+nothing_stored config who (Some node) is = ap (λ (n : NodeState). n.facts) (sym (opening_node config who node is))
+
+none_stored : (config : Config) → facts_by (node_at config (opening config)) ≡ (λ who. [])
+none_stored config = λ i who. nothing_stored config who (node_at config (opening config) who) refl i
+
+none_stands : (y : Item TxParts) → ¬ StandsBy (λ who. []) [] y
+none_stands (Promised a tx i b) h = h
+none_stands (Accepted a tx i b v) h = h
+none_stands (Began l tx b) h = h
+none_stands (Voted r tx votes.Prepared) h = h.1
+none_stands (Voted r tx votes.Aborted) h = h
+none_stands (Committed r tx) h = h
+none_stands (Dropped r tx) h = h
+none_stands (P1b tx i b report a) h = h
+none_stands (P2a tx i b v) h = h
+none_stands (P2b tx i b v a) h = h
+none_stands (Commit tx) h = h
+none_stands (Abort tx) h = h
+
+pub opening_is_safe : (config : Config) → IsSafe config (opening config)
+opening_is_safe config = record {
+  invariant = subst (λ (f : NodeId → List Fact). Invariant (setting config) (StandsBy f [])) (sym (none_stored config))
+      (invariant_at_start (setting config) (StandsBy (λ who. []) []) none_stands);
+  played = λ who. subst (λ (f : NodeId → List Fact). all_play config who [] (f who) ≡ true) (sym (none_stored config)) refl;
+  named = λ m h. absurd h;
+  kept = λ l node is. subst (λ (n : NodeState). IsKept config l n.facts n.memory.leading (Among [])) (opening_node config (L l) node is)
+      (kept_at_start config l [] (Among []));
+  apart = λ rm node is. subst (λ (n : NodeState). AreApart rm n.facts n.memory.branches) (opening_node config (R rm) node is) (none_apart rm []);
+}
+
+-- whatever happens
+pub safe_after : (config : Config) (world : World) (events : List Fated) → IsSafe config world → IsSafe config (world_after config world events)
+safe_after config world [] safe = safe
+safe_after config world (first ∷ rest) safe =
+    safe_after config (happens config world first.event first.fate).world rest (happens_next config world safe first.event first.fate).safe
+
+pub safe_ever : (config : Config) (events : List Fated) → IsSafe config (world_after config (opening config) events)
+safe_ever config events = safe_after config (opening config) events (opening_is_safe config)
