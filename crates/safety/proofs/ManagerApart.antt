@@ -116,7 +116,8 @@ pub record IsHolding (branches : List Branch) (x : XidParts) (keys : List Touche
   pub name : branch.xid ≡ x
   pub holds : branch.keys ≡ keys
 
-idle_at : (p : Branch → Bool) (branches : List Branch) (x : XidParts) (keys : List Touched) (o : Option Branch) → ((b : Branch) → p b ≡ true → b.xid ≡ x)
+idle_at : (p : Branch → Bool) (branches : List Branch) (x : XidParts) (keys : List Touched) (o : Option Branch)
+    → ((b : Branch) → p b ≡ true → b.xid ≡ x)
     → find p branches ≡ o → option_map (λ (branch : Branch). branch.keys) o ≡ Some keys → IsHolding branches x keys
 idle_at p branches x keys None names_it f e = absurd (cc (e))
 idle_at p branches x keys (Some b) names_it f e =
@@ -139,7 +140,8 @@ module _ (rm : ℕ) (facts : List Fact) (branches : List Branch) (are : AreApart
 
   -- the keys of a first vote
   voted_apart : (tx : TxParts) (x : XidParts) (keys : List Touched) → idle_keys branches x ≡ Some keys
-      → (bound : Bound) → stored.VotePrepared tx keys ≡ stored.VotePrepared bound.tx bound.keys → (b : Branch) → Among (without branches x) b → AreDisjoint b.keys bound.keys
+      → (bound : Bound) → stored.VotePrepared tx keys ≡ stored.VotePrepared bound.tx bound.keys → (b : Branch)
+      → Among (without branches x) b → AreDisjoint b.keys bound.keys
   voted_apart tx x keys idle bound e b h =
       let held = idle_branch branches x keys idle in
       let same : keys ≡ bound.keys = ap keys_of e in
@@ -150,7 +152,8 @@ module _ (rm : ℕ) (facts : List Fact) (branches : List Branch) (are : AreApart
       keys_of (stored.VotePrepared t ks) = ks
       keys_of fact = []
 
-  first_apart : (tx : TxParts) (x : XidParts) (spent : Bool) (idle : Option (List Touched)) → xid_at tx rm ≡ Some x → idle_keys branches x ≡ idle
+  first_apart : (tx : TxParts) (x : XidParts) (spent : Bool) (idle : Option (List Touched)) → xid_at tx rm ≡ Some x
+      → idle_keys branches x ≡ idle
       → IsApartAfter rm facts (first_vote rm branches tx x spent idle)
   first_apart tx x false (Some keys) name idle = gone (stored.VotePrepared tx keys) x name (voted_apart tx x keys idle)
   first_apart tx x spent idle name is_idle = gone (stored.VoteAborted tx) x name (λ bound e. absurd (cc (e)))
@@ -175,13 +178,15 @@ module _ (rm : ℕ) (facts : List Fact) (branches : List Branch) (are : AreApart
       (λ opens. gone (stored.Aborted tx) x name (λ bound e. absurd (cc (e))))
       (λ other. are)
 
-  message_apart : (x : XidParts) (m : Kind) → xid_at (messages.tx_of m) rm ≡ Some x → IsApartAfter rm facts (on_message rm facts branches x m)
+  message_apart : (x : XidParts) (m : Kind) → xid_at (messages.tx_of m) rm ≡ Some x
+      → IsApartAfter rm facts (on_message rm facts branches x m)
   message_apart x (kinds.Prepare tx) name = prepare_apart tx x name
   message_apart x (kinds.Commit tx) name = commit_apart tx
   message_apart x (kinds.Abort tx) name = abort_apart tx x name
   message_apart x m name = are
 
-  takes_apart : (m : Kind) (o : Option XidParts) → xid_at (messages.tx_of m) rm ≡ o → IsApartAfter rm facts (manager_takes rm facts branches o m)
+  takes_apart : (m : Kind) (o : Option XidParts) → xid_at (messages.tx_of m) rm ≡ o
+      → IsApartAfter rm facts (manager_takes rm facts branches o m)
   takes_apart m None name = are
   takes_apart m (Some x) name = message_apart x m name
 
@@ -192,7 +197,8 @@ module _ (rm : ℕ) (facts : List Fact) (branches : List Branch) (are : AreApart
 
 -- ---- client calls
 
-start_unspent : (spent : Bool) (rows : List Row) (shows : BranchView) (busy : Bool) → is_done Start (call_answer spent rows shows busy Start) ≡ true → spent ≡ false
+start_unspent : (spent : Bool) (rows : List Row) (shows : BranchView) (busy : Bool)
+    → is_done Start (call_answer spent rows shows busy Start) ≡ true → spent ≡ false
 start_unspent true rows shows busy h = absurd (cc (h))
 start_unspent false rows shows busy h = refl
 
@@ -257,7 +263,8 @@ module _ (rm : ℕ) (facts : List Fact) (branches : List Branch) (x : XidParts) 
     step_name : (b : Branch) → (step b).xid ≡ b.xid
     step_name b = cond_both (xid_eq b.xid x) (changed action b) b (λ (c : Branch). c.xid ≡ b.xid) (λ same. changed_name action b) (λ other. refl)
 
-    step_keys : (b : Branch) (key : List ℕ) → has_key key (step b).keys ≡ true → (has_key key b.keys ≡ true) ⊎ ((b.xid ≡ x) × (key_of action ≡ Some key))
+    step_keys : (b : Branch) (key : List ℕ) → has_key key (step b).keys ≡ true
+        → (has_key key b.keys ≡ true) ⊎ ((b.xid ≡ x) × (key_of action ≡ Some key))
     step_keys b key = cond_both (xid_eq b.xid x) (changed action b) b
         (λ (c : Branch). has_key key c.keys ≡ true → (has_key key b.keys ≡ true) ⊎ ((b.xid ≡ x) × (key_of action ≡ Some key)))
         (λ same h. elim (changed_keys action b key h) [ inl old ↦ inl old | inr new ↦ inr ((xid_decides b.xid x).0 same, new) ])
@@ -325,7 +332,8 @@ module _ (rm : ℕ) (facts : List Fact) (branches : List Branch) (x : XidParts) 
       }
 
   after_apart : (action : Action) (spent : Bool) (rows : List Row) (shows : BranchView) → is_spent rm facts x ≡ spent
-      → is_done action (call_answer spent rows shows (is_held all x (key_of action)) action) ≡ true → AreApart rm facts (after_call branches x action)
+      → is_done action (call_answer spent rows shows (is_held all x (key_of action)) action) ≡ true
+      → AreApart rm facts (after_call branches x action)
   after_apart Start spent rows shows e done = started_apart (e ∙ start_unspent spent rows shows false done)
   after_apart Rollback spent rows shows e done = fewer_apart rm facts branches (without branches x) (without_some branches x) are
   after_apart (Put key value) spent rows shows e done = mapped_apart (Put key value)
@@ -368,7 +376,8 @@ manager_stays_apart config rm facts memory (TimeOut tx) play are = timeout_apart
 
 -- ---- facts play
 
-unspent_at : (rm : ℕ) (facts : List Fact) (tx : TxParts) (x : XidParts) → xid_at tx rm ≡ Some x → is_spent rm facts x ≡ false → is_name_spent rm facts tx ≡ false
+unspent_at : (rm : ℕ) (facts : List Fact) (tx : TxParts) (x : XidParts) → xid_at tx rm ≡ Some x → is_spent rm facts x ≡ false
+    → is_name_spent rm facts tx ≡ false
 unspent_at rm facts tx x name unspent = rw name unspent
 
 unheld_keys : (rm : ℕ) (facts : List Fact) (branches : List Branch) (x : XidParts) (keys : List Touched) → AreApart rm facts branches
@@ -408,7 +417,8 @@ manager_met config rm facts memory input are fact e =
     fact_plays rm facts memory.branches input fact are
     (subst (λ (o : Option Fact). IfSome o (IsManagerFact rm facts memory.branches input)) e (manager_is_right config rm facts memory input).fact_is)
 
-still_plays : (config : Config) (rm : ℕ) (facts : List Fact) (branches : List Branch) (input : Input) (o : Option Fact) → all_play config (R rm) [] facts ≡ true
+still_plays : (config : Config) (rm : ℕ) (facts : List Fact) (branches : List Branch) (input : Input) (o : Option Fact)
+    → all_play config (R rm) [] facts ≡ true
     → AreApart rm facts branches → IfSome o (IsManagerFact rm facts branches input) → all_play config (R rm) [] (facts_after facts o) ≡ true
 still_plays config rm facts branches input None play are is = play
 still_plays config rm facts branches input (Some fact) play are is =

@@ -49,7 +49,8 @@ module _ (config : Config) (rm : ℕ) (facts : NodeId → List Fact) (sent : Lis
   abbrev Has : Item TxParts → Type 0
   Has = StandsBy facts sent
 
-  first_allowed : (tx : TxParts) (v : Vote) → ((x : XidParts) × IsFirst rm (facts (R rm)) tx x) → Allowed (setting config) Has (Voted rm tx v)
+  first_allowed : (tx : TxParts) (v : Vote) → ((x : XidParts) × IsFirst rm (facts (R rm)) tx x)
+      → Allowed (setting config) Has (Voted rm tx v)
   first_allowed tx v first =
       let free = unended (facts (R rm)) tx first.1.unended in
       record {
@@ -59,7 +60,8 @@ module _ (config : Config) (rm : ℕ) (facts : NodeId → List Fact) (sent : Lis
         undropped = free.undropped;
       }
 
-  fact_allowed : (o : Option Fact) → IfSome o (IsManagerFact rm (facts (R rm)) branches input) → AreAllowed (setting config) Has (items_of (R rm) o)
+  fact_allowed : (o : Option Fact) → IfSome o (IsManagerFact rm (facts (R rm)) branches input)
+      → AreAllowed (setting config) Has (items_of (R rm) o)
   fact_allowed None h = tt
   fact_allowed (Some (stored.VotePrepared tx keys)) h = (first_allowed tx votes.Prepared (h.0, h.1.first), tt)
   fact_allowed (Some (stored.VoteAborted tx)) h = (first_allowed tx votes.Aborted h, tt)
@@ -73,7 +75,8 @@ module _ (config : Config) (rm : ℕ) (facts : NodeId → List Fact) (sent : Lis
   one_allowed x y h ok = subst (Allowed (setting config) Has) (Contains-one x y h) ok
 
   -- the item of a fact
-  item_allowed : (o : Option Fact) → AreAllowed (setting config) Has (items_of (R rm) o) → (y : Item TxParts) → Contains (items_of (R rm) o) y
+  item_allowed : (o : Option Fact) → AreAllowed (setting config) Has (items_of (R rm) o) → (y : Item TxParts)
+      → Contains (items_of (R rm) o) y
       → Allowed (setting config) Has y
   item_allowed None ok y h = absurd (omega (arith, h.1))
   item_allowed (Some (stored.VotePrepared tx keys)) ok y h = one_allowed (Voted rm tx votes.Prepared) y h ok.0
@@ -160,5 +163,6 @@ facts_are facts sent rm = record {
 }
 
 -- the view of the facts is the view by what stands
-pub manager_view : (facts : NodeId → List Fact) (sent : List Kind) (rm : ℕ) (tx : TxParts) → IsView (StandsBy facts sent) tx rm (view (facts (R rm)) tx)
+pub manager_view : (facts : NodeId → List Fact) (sent : List Kind) (rm : ℕ) (tx : TxParts)
+    → IsView (StandsBy facts sent) tx rm (view (facts (R rm)) tx)
 manager_view facts sent rm tx = view_is (StandsBy facts sent) rm (facts (R rm)) tx (facts_are facts sent rm)

@@ -24,15 +24,18 @@ use Rattle.safety.proofs.ManagerApart.{AreApart, bound_stored, stored_bound, nam
 
 -- prepared branches: one for each transaction, and no key in two of them
 pub record AreBoundApart (facts : List Fact) : Type 0 where
-  pub once : (bound other : Bound) → Among (bound_in facts) bound → Among (bound_in facts) other → bound.tx ≡ other.tx → bound.keys ≡ other.keys
-  pub apart : (bound other : Bound) → Among (bound_in facts) bound → Among (bound_in facts) other → bound.tx ≢ other.tx → AreDisjoint bound.keys other.keys
+  pub once : (bound other : Bound) → Among (bound_in facts) bound → Among (bound_in facts) other → bound.tx ≡ other.tx
+      → bound.keys ≡ other.keys
+  pub apart : (bound other : Bound) → Among (bound_in facts) bound → Among (bound_in facts) other → bound.tx ≢ other.tx
+      → AreDisjoint bound.keys other.keys
 
 -- a prepared vote plays where no vote on the transaction is stored, and none of its keys is held
 pub record IsFreshVote (facts : List Fact) (tx : TxParts) (keys : List Touched) : Type 0 where
   pub new : ¬ HasVote facts tx votes.Prepared
   pub free : is_some_held facts keys ≡ false
 
-fresh_vote : (rm : ℕ) (facts : List Fact) (tx : TxParts) (keys : List Touched) → plays_at_manager rm facts (stored.VotePrepared tx keys) ≡ true → IsFreshVote facts tx keys
+fresh_vote : (rm : ℕ) (facts : List Fact) (tx : TxParts) (keys : List Touched)
+    → plays_at_manager rm facts (stored.VotePrepared tx keys) ≡ true → IsFreshVote facts tx keys
 fresh_vote rm facts tx keys e =
     let all = and_parts (names tx rm && is_new facts tx && not (is_name_spent rm facts tx)) (not (is_some_held facts keys)) e in
     let most = and_parts (names tx rm && is_new facts tx) (not (is_name_spent rm facts tx)) all.0 in
@@ -41,7 +44,8 @@ fresh_vote rm facts tx keys e =
     record { new = unvoted facts tx (not-true (is_some (vote_in facts tx)) new.0) votes.Prepared; free = not-true (is_some_held facts keys) all.1 }
 
 -- keys that are free of prepared branches are in none
-free_of : (facts : List Fact) (keys : List Touched) (bound : Bound) → is_some_held facts keys ≡ false → Among (bound_in facts) bound → AreDisjoint keys bound.keys
+free_of : (facts : List Fact) (keys : List Touched) (bound : Bound) → is_some_held facts keys ≡ false → Among (bound_in facts) bound
+    → AreDisjoint keys bound.keys
 free_of facts keys bound free h key p q =
     let found = any_found (λ (touched : Touched). bytes_eq touched.key key) keys p in
     let same : found.element.key ≡ key = (bytes_decides found.element.key key).0 found.passes in
@@ -92,7 +96,8 @@ module _ (rm : ℕ) (facts : List Fact) (fact : Fact) (are : AreBoundApart facts
     ];
   }
 
-bound_apart_through : (config : Config) (rm : ℕ) (before facts : List Fact) → AreBoundApart before → all_play config (R rm) before facts ≡ true → AreBoundApart (before ++ facts)
+bound_apart_through : (config : Config) (rm : ℕ) (before facts : List Fact) → AreBoundApart before
+    → all_play config (R rm) before facts ≡ true → AreBoundApart (before ++ facts)
 bound_apart_through config rm before [] are play = subst AreBoundApart (sym (append-nil before)) are
 bound_apart_through config rm before (fact ∷ facts) are play =
     let parts = and_parts (plays config (R rm) before fact) (all_play config (R rm) (before ++ fact ∷ []) facts) play in
@@ -112,7 +117,8 @@ pub record IsPreparedAs (rm : ℕ) (facts : List Fact) (b : Branch) : Type 0 whe
   pub name : xid_at bound.tx rm ≡ Some b.xid
   pub keys : b.keys ≡ bound.keys
 
-prepared_from : (rm : ℕ) (facts : List Fact) (bound : Bound) (b : Branch) (o : Option XidParts) → Among (bound_in facts) bound → xid_at bound.tx rm ≡ o
+prepared_from : (rm : ℕ) (facts : List Fact) (bound : Bound) (b : Branch) (o : Option XidParts) → Among (bound_in facts) bound
+    → xid_at bound.tx rm ≡ o
     → option_map (named_so bound.keys) o ≡ Some b → IsPreparedAs rm facts b
 prepared_from rm facts bound b None h name e = absurd (cc (e))
 prepared_from rm facts bound b (Some x) h name e =
@@ -129,8 +135,10 @@ prepared_or_not rm facts branches b h = elim (Among-append (filter_map _ (bound_
 ]
 
 -- no key is touched by two branches
-pub keys_held_once : (config : Config) (rm : ℕ) (facts : List Fact) (branches : List Branch) → all_play config (R rm) [] facts ≡ true → AreApart rm facts branches
-    → (b c : Branch) → Among (all_branches rm facts branches) b → Among (all_branches rm facts branches) c → b.xid ≢ c.xid → AreDisjoint b.keys c.keys
+pub keys_held_once : (config : Config) (rm : ℕ) (facts : List Fact) (branches : List Branch) → all_play config (R rm) [] facts ≡ true
+    → AreApart rm facts branches
+    → (b c : Branch) → Among (all_branches rm facts branches) b → Among (all_branches rm facts branches) c → b.xid ≢ c.xid
+    → AreDisjoint b.keys c.keys
 keys_held_once config rm facts branches play are b c h k apart key p q = elim (prepared_or_not rm facts branches b h) [
   | inl one ↦ elim (prepared_or_not rm facts branches c k) [
     | inl two ↦ (bound_apart config rm facts play).apart one.bound two.bound one.among two.among

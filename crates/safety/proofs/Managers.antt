@@ -97,7 +97,8 @@ find_any : {X : Type 0} (p : X → Bool) (y : X) (xs : List X) → find p xs ≡
 find_any p y [] e = absurd (cc (e))
 find_any p y (x ∷ xs) e = either p x y xs (p x) (find_any p y xs) e
 
-at_by : (tx : TxParts) (rm : ℕ) (x : XidParts) (o : Option BranchParts) → find (is_at rm) tx.branches ≡ o → option_map (xid_of tx) o ≡ Some x → names tx rm ≡ true
+at_by : (tx : TxParts) (rm : ℕ) (x : XidParts) (o : Option BranchParts) → find (is_at rm) tx.branches ≡ o
+    → option_map (xid_of tx) o ≡ Some x → names tx rm ≡ true
 at_by tx rm x None q e = absurd (cc (e))
 at_by tx rm x (Some branch) q e = find_any (is_at rm) branch tx.branches q
 
@@ -120,7 +121,8 @@ module _ (rm : ℕ) (facts : List Fact) (branches : List Branch) (input : Input)
   vote_is now tx (Some v) is send (inr none) = absurd none
 
   first_is : (tx : TxParts) (x : XidParts) (spent : Bool) (idle : Option (List Touched)) → IsFirst rm facts tx x
-      → is_spent rm facts x ≡ spent → idle_keys branches x ≡ idle → IsRightEffect rm facts branches input (first_vote rm branches tx x spent idle)
+      → is_spent rm facts x ≡ spent → idle_keys branches x ≡ idle
+      → IsRightEffect rm facts branches input (first_vote rm branches tx x spent idle)
   first_is tx x false (Some keys) first unspent idle = record {
     fact_is = (x, record { first = first; unspent = unspent; idle = idle });
     sends_are = vote_is (facts ++ stored.VotePrepared tx keys ∷ []) tx (Some votes.Prepared) (vote_in_after_prepared facts tx keys);
@@ -130,7 +132,8 @@ module _ (rm : ℕ) (facts : List Fact) (branches : List Branch) (input : Input)
     sends_are = vote_is (facts ++ stored.VoteAborted tx ∷ []) tx (Some votes.Aborted) (vote_in_after_aborted facts tx (unvoted facts tx first.new votes.Prepared));
   }
 
-  prepare_is : (tx : TxParts) (x : XidParts) → xid_at tx rm ≡ Some x → IsRightEffect rm facts branches input (on_prepare rm facts branches tx x)
+  prepare_is : (tx : TxParts) (x : XidParts) → xid_at tx rm ≡ Some x
+      → IsRightEffect rm facts branches input (on_prepare rm facts branches tx x)
   prepare_is tx x name = cond_both (is_some (vote_in facts tx)) (sends_only branches (vote_sent rm tx (vote_in facts tx)))
       (if is_ended facts tx then no_effect branches else first_vote rm branches tx x (is_spent rm facts x) (idle_keys branches x))
       (λ (e : Effect (List Branch)). IsRightEffect rm facts branches input e)
@@ -146,23 +149,27 @@ module _ (rm : ℕ) (facts : List Fact) (branches : List Branch) (input : Input)
       (λ prepared. record { fact_is = record { came = came; prepared = prepared }; sends_are = λ send h. absurd h })
       (λ other. nothing)
 
-  abort_is : (tx : TxParts) (x : XidParts) → xid_at tx rm ≡ Some x → input ≡ Take (kinds.Abort tx) → IsRightEffect rm facts branches input (on_abort facts branches tx x)
+  abort_is : (tx : TxParts) (x : XidParts) → xid_at tx rm ≡ Some x → input ≡ Take (kinds.Abort tx)
+      → IsRightEffect rm facts branches input (on_abort facts branches tx x)
   abort_is tx x name came = cond_both (is_open_view (view facts tx)) (stores (without branches x) (stored.Aborted tx) []) (no_effect branches)
       (λ (e : Effect (List Branch)). IsRightEffect rm facts branches input e)
       (λ opens. record { fact_is = (x, record { came = came; name = name; opens = opens }); sends_are = λ send h. absurd h })
       (λ other. nothing)
 
-  message_is : (x : XidParts) (m : Kind) → xid_at (tx_of m) rm ≡ Some x → input ≡ Take m → IsRightEffect rm facts branches input (on_message rm facts branches x m)
+  message_is : (x : XidParts) (m : Kind) → xid_at (tx_of m) rm ≡ Some x → input ≡ Take m
+      → IsRightEffect rm facts branches input (on_message rm facts branches x m)
   message_is x (kinds.Prepare tx) name came = prepare_is tx x name
   message_is x (kinds.Commit tx) name came = commit_is tx came
   message_is x (kinds.Abort tx) name came = abort_is tx x name came
   message_is x m name came = nothing
 
-  takes_is : (m : Kind) (o : Option XidParts) → xid_at (tx_of m) rm ≡ o → input ≡ Take m → IsRightEffect rm facts branches input (manager_takes rm facts branches o m)
+  takes_is : (m : Kind) (o : Option XidParts) → xid_at (tx_of m) rm ≡ o → input ≡ Take m
+      → IsRightEffect rm facts branches input (manager_takes rm facts branches o m)
   takes_is m None name came = nothing
   takes_is m (Some x) name came = message_is x m name came
 
-  asked_is : (now : List Fact) (tx : TxParts) (b : Bool) (send : Send) → Among (if b then to ToLeaders (kinds.Ask tx rm) ∷ [] else []) send → IsManagerSend rm now send.message
+  asked_is : (now : List Fact) (tx : TxParts) (b : Bool) (send : Send)
+      → Among (if b then to ToLeaders (kinds.Ask tx rm) ∷ [] else []) send → IsManagerSend rm now send.message
   asked_is now tx true send (inl e) = subst (λ (s : Send). IsManagerSend rm now s.message) e refl
   asked_is now tx true send (inr none) = absurd none
   asked_is now tx false send h = absurd h
