@@ -1,4 +1,5 @@
 -- What each rule of a resource manager stores and sends.
+pub use Rattle.safety.proofs.LeadersWords.{with_fact as facts_after}
 use Rattle.std.proofs.Common.{◌≡◌, ℕ, Bool, true, false, ◌||◌, if◌then◌else◌, cond, List, [], ◌∷◌, ◌++◌, Option, Some, None, is_some}
 use Rattle.std.proofs.Common.{inl, inr, refl, sym, subst}
 use Rattle.std.specs.Prelude.{IfSome, find, option_map, option_to_list}
@@ -25,11 +26,6 @@ use Rattle.safety.proofs.Lists.{Among-append}
 use Rattle.safety.proofs.ViewFacts.{unvoted, vote_in_after_prepared, vote_in_after_aborted}
 
 -- ---- what is handed over
-
--- the facts once an effect's fact is stored, if it has one
-abbrev pub facts_after : List Fact → Option Fact → List Fact
-facts_after facts None = facts
-facts_after facts (Some fact) = facts ++ fact ∷ []
 
 pub facts_after_is : (facts : List Fact) (o : Option Fact) → facts_after facts o ≡ facts ++ option_to_list o
 facts_after_is facts None = sym (append-nil facts)

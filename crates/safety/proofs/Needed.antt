@@ -6,7 +6,7 @@ use Rattle.protocol.specs.Effects.{Config, Effect}
 use Rattle.protocol.specs.Nodes.{Memory, Input, effect_of}
 use Rattle.protocol.specs.Playing.{all_play, plays_at_manager}
 use Rattle.safety.proofs.LeadersWords.{with_fact}
-use Rattle.safety.proofs.ManagerApart.{AreApart}
+use Rattle.safety.proofs.ManagerApart.{AreApart, manager_met, manager_stays_apart}
 
 -- the fact of an effect plays, and the branches stay apart
 pub record IsManagerKept (rm : ℕ) (facts : List Fact) (e : Effect Memory) : Type 0 where
@@ -15,4 +15,7 @@ pub record IsManagerKept (rm : ℕ) (facts : List Fact) (e : Effect Memory) : Ty
 
 pub manager_effect : (config : Config) (rm : ℕ) (facts : List Fact) (memory : Memory) (input : Input) → all_play config (R rm) [] facts ≡ true
     → AreApart rm facts memory.branches → IsManagerKept rm facts (effect_of config (R rm) facts memory input)
-manager_effect config rm facts memory input play apart = ?
+manager_effect config rm facts memory input play apart = record {
+  plays = manager_met config rm facts memory input apart;
+  apart = manager_stays_apart config rm facts memory input play apart;
+}
