@@ -1,15 +1,14 @@
 -- Branches stay apart, and the fact of each rule of a resource manager plays.
-use Rattle.std.proofs.Common.{◌≡◌, ◌≢◌, ◌⊎◌, ℕ, Bool, true, false, not, ◌&&◌, ◌||◌, IsTrue, if◌then◌else◌, cond, List, [], ◌∷◌, ◌++◌, map, Option, Some, None, is_some, is_none, unwrap_or}
-use Rattle.std.proofs.Common.{inl, inr, refl, sym, ap, ◌∙◌, subst, arith}
-use Rattle.std.specs.Prelude.{IfSome, find, filter, filter_map, option_map}
+use Rattle.std.proofs.Common.{◌≡◌, ◌≢◌, ◌⊎◌, ℕ, Bool, true, false, not, ◌&&◌, if◌then◌else◌, List, [], ◌∷◌, ◌++◌, map, Option, Some, None, is_some, is_none, unwrap_or}
+use Rattle.std.proofs.Common.{inl, inr, refl, sym, ap, ◌∙◌, subst}
+use Rattle.std.specs.Prelude.{IfSome, find, filter_map, option_map}
 use Rattle.std.specs.List.{list_any}
 use Rattle.std.proofs.lemmas.Bool.{cond_both, and_parts, and_from, both_ways, not-true, false_from_ne_true, not_from_false}
 use Rattle.xid.specs.Names.{XidParts, xid_eq}
 use Rattle.xid.specs.Transactions.{TxParts, names, xid_at}
 use Rattle.xid.specs.declared.codes.XaCode.TheVariants as codes
-use Rattle.xid.specs.declared.transaction.Vote.{Vote}
 use Rattle.xid.specs.declared.transaction.Vote.TheVariants as votes
-use Rattle.xid.specs.declared.refusals.Refusal.TheVariants.{Busy, Full, BadTx}
+use Rattle.xid.specs.declared.refusals.Refusal.TheVariants.{Busy, BadTx}
 use Rattle.wire.specs.declared.message.Kind.{Kind}
 use Rattle.wire.specs.declared.message.Kind.TheVariants as kinds
 use Rattle.wire.specs.Messages as messages
@@ -17,20 +16,20 @@ use Rattle.stable_record.specs.Facts.{Fact, Touched, tx_of}
 use Rattle.stable_record.specs.Facts as stored
 use Rattle.protocol.specs.declared.BranchState.{BranchState}
 use Rattle.protocol.specs.declared.BranchState.TheVariants as states
-use Rattle.protocol.specs.declared.NodeId.TheVariants.{A, L, R}
-use Rattle.protocol.specs.Calls.{Action, Start, Put, Del, Get, End, EndFail, Rollback, Answer, Code, Refused, Row}
+use Rattle.protocol.specs.declared.NodeId.TheVariants.{R}
+use Rattle.protocol.specs.Calls.{Action, Start, Put, Del, Get, End, EndFail, Rollback, Code, Refused, Row}
 use Rattle.protocol.specs.Branches.{BranchView, is_done, key_of, by_state}
-use Rattle.protocol.specs.Effects.{Config, Effect, Refuses, Send, ToLeaders, replies, no_effect, sends_only, stores, to, is_inside}
+use Rattle.protocol.specs.Effects.{Config, Effect, Refuses, ToLeaders, replies, no_effect, sends_only, stores, to, is_inside}
 use Rattle.protocol.specs.Facts.{vote_in, is_ended, is_spent, is_prepared_view, is_open_view, view, Bound, bound_by, bound_in}
 use Rattle.protocol.specs.Managers.{Branch, has_key, all_branches, branch_at, is_held, changed, without, after_call, call_answer, on_call, idle_keys, vote_sent, first_vote, on_prepare, on_commit, on_abort, on_message, manager_takes, on_manager_timeout}
 use Rattle.protocol.specs.Nodes.{Memory, Input, CallOn, ListPrepared, AskView, AskCommit, AskStatus, TimeOut, Take, TakeNoise, effect_of, is_message_inside, takes, first_rows}
 use Rattle.protocol.specs.Playing.{plays, plays_at_manager, all_play, is_new, is_name_spent, is_some_held}
 use Rattle.protocol.specs.Tables.{table}
-use Rattle.safety.specs.Standing.{Among, HasVote}
-use Rattle.safety.proofs.Lists.{any_found, found_any, none_found, Among-append, Among-before, Among-after, Among-push, Among-last, Among-map, Among-mapped}
+use Rattle.safety.specs.Standing.{Among}
+use Rattle.safety.proofs.Lists.{any_found, none_found, Among-before, Among-after, Among-push, Among-mapped}
 use Rattle.safety.proofs.ViewFacts.{prepared_shows, prepared_before}
 use Rattle.safety.proofs.Played.{voted_named, all_play_then}
-use Rattle.safety.proofs.Managers.{facts_after, IsFirst, IsPreparing, IsManagerFact, name_names, manager_is_right}
+use Rattle.safety.proofs.Managers.{facts_after, IsManagerFact, name_names, manager_is_right}
 use Rattle.safety.proofs.ManagerKeys.{xid_decides, filter_kept, filter_keeps, filter_map_given, filter_map_gives, found_among, names_name, spent_by, still_unspent, AreDisjoint, key_in, changed_name, changed_keys}
 
 -- the branches that aren't prepared: their names aren't spent, and no key is in two of them, nor in one and a prepared one
@@ -117,7 +116,8 @@ pub record IsHolding (branches : List Branch) (x : XidParts) (keys : List Touche
   pub name : branch.xid ≡ x
   pub holds : branch.keys ≡ keys
 
-idle_at : (p : Branch → Bool) (branches : List Branch) (x : XidParts) (keys : List Touched) (o : Option Branch) → ((b : Branch) → p b ≡ true → b.xid ≡ x)
+idle_at : (p : Branch → Bool) (branches : List Branch) (x : XidParts) (keys : List Touched) (o : Option Branch)
+    → ((b : Branch) → p b ≡ true → b.xid ≡ x)
     → find p branches ≡ o → option_map (λ (branch : Branch). branch.keys) o ≡ Some keys → IsHolding branches x keys
 idle_at p branches x keys None names_it f e = absurd (cc (e))
 idle_at p branches x keys (Some b) names_it f e =
@@ -140,7 +140,8 @@ module _ (rm : ℕ) (facts : List Fact) (branches : List Branch) (are : AreApart
 
   -- the keys of a first vote
   voted_apart : (tx : TxParts) (x : XidParts) (keys : List Touched) → idle_keys branches x ≡ Some keys
-      → (bound : Bound) → stored.VotePrepared tx keys ≡ stored.VotePrepared bound.tx bound.keys → (b : Branch) → Among (without branches x) b → AreDisjoint b.keys bound.keys
+      → (bound : Bound) → stored.VotePrepared tx keys ≡ stored.VotePrepared bound.tx bound.keys → (b : Branch)
+      → Among (without branches x) b → AreDisjoint b.keys bound.keys
   voted_apart tx x keys idle bound e b h =
       let held = idle_branch branches x keys idle in
       let same : keys ≡ bound.keys = ap keys_of e in
@@ -151,7 +152,8 @@ module _ (rm : ℕ) (facts : List Fact) (branches : List Branch) (are : AreApart
       keys_of (stored.VotePrepared t ks) = ks
       keys_of fact = []
 
-  first_apart : (tx : TxParts) (x : XidParts) (spent : Bool) (idle : Option (List Touched)) → xid_at tx rm ≡ Some x → idle_keys branches x ≡ idle
+  first_apart : (tx : TxParts) (x : XidParts) (spent : Bool) (idle : Option (List Touched)) → xid_at tx rm ≡ Some x
+      → idle_keys branches x ≡ idle
       → IsApartAfter rm facts (first_vote rm branches tx x spent idle)
   first_apart tx x false (Some keys) name idle = gone (stored.VotePrepared tx keys) x name (voted_apart tx x keys idle)
   first_apart tx x spent idle name is_idle = gone (stored.VoteAborted tx) x name (λ bound e. absurd (cc (e)))
@@ -161,14 +163,14 @@ module _ (rm : ℕ) (facts : List Fact) (branches : List Branch) (are : AreApart
       (if is_ended facts tx then no_effect branches else first_vote rm branches tx x (is_spent rm facts x) (idle_keys branches x))
       (IsApartAfter rm facts) (λ some. are)
       (λ new. cond_both (is_ended facts tx) (no_effect branches) (first_vote rm branches tx x (is_spent rm facts x) (idle_keys branches x))
-        (IsApartAfter rm facts) (λ ended. are) (λ unended. first_apart tx x (is_spent rm facts x) (idle_keys branches x) name refl))
+      (IsApartAfter rm facts) (λ ended. are) (λ unended. first_apart tx x (is_spent rm facts x) (idle_keys branches x) name refl))
 
   commit_apart : (tx : TxParts) → IsApartAfter rm facts (on_commit facts branches tx)
   commit_apart tx = cond_both (is_prepared_view (view facts tx)) (stores branches (stored.Committed tx) []) (no_effect branches) (IsApartAfter rm facts)
       (λ prepared. apart_after rm facts (stored.Committed tx) branches branches are (λ b h. h)
-        (λ b h e. let vote = (prepared_shows facts tx prepared).0 in
-          both_ways (is_spent rm facts b.xid) (are.unspent b h) (spent_by rm facts (stored.VotePrepared tx vote.0) b.xid vote.1 e))
-        (λ bound e. absurd (cc (e))))
+      (λ b h e. let vote = (prepared_shows facts tx prepared).0 in
+      both_ways (is_spent rm facts b.xid) (are.unspent b h) (spent_by rm facts (stored.VotePrepared tx vote.0) b.xid vote.1 e))
+      (λ bound e. absurd (cc (e))))
       (λ other. are)
 
   abort_apart : (tx : TxParts) (x : XidParts) → xid_at tx rm ≡ Some x → IsApartAfter rm facts (on_abort facts branches tx x)
@@ -176,13 +178,15 @@ module _ (rm : ℕ) (facts : List Fact) (branches : List Branch) (are : AreApart
       (λ opens. gone (stored.Aborted tx) x name (λ bound e. absurd (cc (e))))
       (λ other. are)
 
-  message_apart : (x : XidParts) (m : Kind) → xid_at (messages.tx_of m) rm ≡ Some x → IsApartAfter rm facts (on_message rm facts branches x m)
+  message_apart : (x : XidParts) (m : Kind) → xid_at (messages.tx_of m) rm ≡ Some x
+      → IsApartAfter rm facts (on_message rm facts branches x m)
   message_apart x (kinds.Prepare tx) name = prepare_apart tx x name
   message_apart x (kinds.Commit tx) name = commit_apart tx
   message_apart x (kinds.Abort tx) name = abort_apart tx x name
   message_apart x m name = are
 
-  takes_apart : (m : Kind) (o : Option XidParts) → xid_at (messages.tx_of m) rm ≡ o → IsApartAfter rm facts (manager_takes rm facts branches o m)
+  takes_apart : (m : Kind) (o : Option XidParts) → xid_at (messages.tx_of m) rm ≡ o
+      → IsApartAfter rm facts (manager_takes rm facts branches o m)
   takes_apart m None name = are
   takes_apart m (Some x) name = message_apart x m name
 
@@ -193,7 +197,8 @@ module _ (rm : ℕ) (facts : List Fact) (branches : List Branch) (are : AreApart
 
 -- ---- client calls
 
-start_unspent : (spent : Bool) (rows : List Row) (shows : BranchView) (busy : Bool) → is_done Start (call_answer spent rows shows busy Start) ≡ true → spent ≡ false
+start_unspent : (spent : Bool) (rows : List Row) (shows : BranchView) (busy : Bool)
+    → is_done Start (call_answer spent rows shows busy Start) ≡ true → spent ≡ false
 start_unspent true rows shows busy h = absurd (cc (h))
 start_unspent false rows shows busy h = refl
 
@@ -240,7 +245,7 @@ module _ (rm : ℕ) (facts : List Fact) (branches : List Branch) (x : XidParts) 
       let b : Branch = named_so bound.keys y in
       Among-before (filter_map _ (bound_in facts)) branches b
       (filter_map_gives _ (bound_in facts) bound b h
-        (ap (λ (o : Option XidParts). option_map (named_so bound.keys) o) e))
+      (ap (λ (o : Option XidParts). option_map (named_so bound.keys) o) e))
 
   all_own : (b : Branch) → Among branches b → Among all b
   all_own b h = Among-after (filter_map _ (bound_in facts)) branches b h
@@ -249,7 +254,7 @@ module _ (rm : ℕ) (facts : List Fact) (branches : List Branch) (x : XidParts) 
   unheld : (key : List ℕ) → is_held all x (Some key) ≡ false → (b : Branch) → Among all b → b.xid ≢ x → has_key key b.keys ≡ true → ⊥
   unheld key free b h apart k = none_found (λ (branch : Branch). not (xid_eq branch.xid x) && has_key key branch.keys) all free b h
       (and_from (not (xid_eq b.xid x)) (has_key key b.keys)
-        (not_from_false (xid_eq b.xid x) (false_from_ne_true (xid_eq b.xid x) (λ e. apart ((xid_decides b.xid x).0 e)))) k)
+      (not_from_false (xid_eq b.xid x) (false_from_ne_true (xid_eq b.xid x) (λ e. apart ((xid_decides b.xid x).0 e)))) k)
 
   module _ (action : Action) (free : (key : List ℕ) → key_of action ≡ Some key → is_held all x (Some key) ≡ false) where
     abbrev step : Branch → Branch
@@ -258,7 +263,8 @@ module _ (rm : ℕ) (facts : List Fact) (branches : List Branch) (x : XidParts) 
     step_name : (b : Branch) → (step b).xid ≡ b.xid
     step_name b = cond_both (xid_eq b.xid x) (changed action b) b (λ (c : Branch). c.xid ≡ b.xid) (λ same. changed_name action b) (λ other. refl)
 
-    step_keys : (b : Branch) (key : List ℕ) → has_key key (step b).keys ≡ true → (has_key key b.keys ≡ true) ⊎ ((b.xid ≡ x) × (key_of action ≡ Some key))
+    step_keys : (b : Branch) (key : List ℕ) → has_key key (step b).keys ≡ true
+        → (has_key key b.keys ≡ true) ⊎ ((b.xid ≡ x) × (key_of action ≡ Some key))
     step_keys b key = cond_both (xid_eq b.xid x) (changed action b) b
         (λ (c : Branch). has_key key c.keys ≡ true → (has_key key b.keys ≡ true) ⊎ ((b.xid ≡ x) × (key_of action ≡ Some key)))
         (λ same h. elim (changed_keys action b key h) [ inl old ↦ inl old | inr new ↦ inr ((xid_decides b.xid x).0 same, new) ])
@@ -280,9 +286,9 @@ module _ (rm : ℕ) (facts : List Fact) (branches : List Branch) (x : XidParts) 
     step_free b bound h k key p q = elim (step_keys b key p) [
       | inl old ↦ are.free b bound h k key old q
       | inr new ↦
-        let name = names_name bound.tx rm (named bound k) in
-        unheld key (free key new.1) (named_so bound.keys name.0) (all_bound bound k name.0 name.1)
-        (λ e. both_ways (is_spent rm facts b.xid) (are.unspent b h)
+          let name = names_name bound.tx rm (named bound k) in
+          unheld key (free key new.1) (named_so bound.keys name.0) (all_bound bound k name.0 name.1)
+          (λ e. both_ways (is_spent rm facts b.xid) (are.unspent b h)
           (spent_by rm facts (stored.VotePrepared bound.tx bound.keys) b.xid (bound_stored facts bound k).voted (name.1 ∙ ap Some (e ∙ sym new.0)))) q
     ]
 
@@ -297,7 +303,7 @@ module _ (rm : ℕ) (facts : List Fact) (branches : List Branch) (x : XidParts) 
           let two = Among-mapped step branches c k in
           subst (λ (d : Branch). AreDisjoint d.keys c.keys) one.maps (subst (λ (d : Branch). AreDisjoint (step one.source).keys d.keys) two.maps
           (step_apart one.source two.source one.among two.among
-            (λ e. apart (ap (λ (d : Branch). d.xid) (sym one.maps) ∙ step_name one.source ∙ e ∙ sym (step_name two.source) ∙ ap (λ (d : Branch). d.xid) two.maps))));
+          (λ e. apart (ap (λ (d : Branch). d.xid) (sym one.maps) ∙ step_name one.source ∙ e ∙ sym (step_name two.source) ∙ ap (λ (d : Branch). d.xid) two.maps))));
       free = λ b bound h k.
           let from = Among-mapped step branches b h in
           subst (λ (d : Branch). AreDisjoint d.keys bound.keys) from.maps (step_free from.source bound from.among k);
@@ -326,7 +332,8 @@ module _ (rm : ℕ) (facts : List Fact) (branches : List Branch) (x : XidParts) 
       }
 
   after_apart : (action : Action) (spent : Bool) (rows : List Row) (shows : BranchView) → is_spent rm facts x ≡ spent
-      → is_done action (call_answer spent rows shows (is_held all x (key_of action)) action) ≡ true → AreApart rm facts (after_call branches x action)
+      → is_done action (call_answer spent rows shows (is_held all x (key_of action)) action) ≡ true
+      → AreApart rm facts (after_call branches x action)
   after_apart Start spent rows shows e done = started_apart (e ∙ start_unspent spent rows shows false done)
   after_apart Rollback spent rows shows e done = fewer_apart rm facts branches (without branches x) (without_some branches x) are
   after_apart (Put key value) spent rows shows e done = mapped_apart (Put key value)
@@ -369,18 +376,19 @@ manager_stays_apart config rm facts memory (TimeOut tx) play are = timeout_apart
 
 -- ---- facts play
 
-unspent_at : (rm : ℕ) (facts : List Fact) (tx : TxParts) (x : XidParts) → xid_at tx rm ≡ Some x → is_spent rm facts x ≡ false → is_name_spent rm facts tx ≡ false
+unspent_at : (rm : ℕ) (facts : List Fact) (tx : TxParts) (x : XidParts) → xid_at tx rm ≡ Some x → is_spent rm facts x ≡ false
+    → is_name_spent rm facts tx ≡ false
 unspent_at rm facts tx x name unspent = rw name unspent
 
 unheld_keys : (rm : ℕ) (facts : List Fact) (branches : List Branch) (x : XidParts) (keys : List Touched) → AreApart rm facts branches
     → idle_keys branches x ≡ Some keys → is_some_held facts keys ≡ false
 unheld_keys rm facts branches x keys are idle = false_from_ne_true (is_some_held facts keys)
     (λ h.
-      let outer = any_found (λ (bound : Bound). list_any (λ (touched : Touched). has_key touched.key bound.keys) keys) (bound_in facts) h in
-      let inner = any_found (λ (touched : Touched). has_key touched.key outer.element.keys) keys outer.passes in
-      let held = idle_branch branches x keys idle in
-      are.free held.branch outer.element held.among outer.among inner.element.key
-      (subst (λ (ks : List Touched). has_key inner.element.key ks ≡ true) (sym held.holds) (key_in keys inner.element inner.among)) inner.passes)
+    let outer = any_found (λ (bound : Bound). list_any (λ (touched : Touched). has_key touched.key bound.keys) keys) (bound_in facts) h in
+    let inner = any_found (λ (touched : Touched). has_key touched.key outer.element.keys) keys outer.passes in
+    let held = idle_branch branches x keys idle in
+    are.free held.branch outer.element held.among outer.among inner.element.key
+    (subst (λ (ks : List Touched). has_key inner.element.key ks ≡ true) (sym held.holds) (key_in keys inner.element inner.among)) inner.passes)
 
 is_new_from : (facts : List Fact) (tx : TxParts) → is_some (vote_in facts tx) ≡ false → is_ended facts tx ≡ false → is_new facts tx ≡ true
 is_new_from facts tx new unended = and_from (is_none (vote_in facts tx)) (not (is_ended facts tx))
@@ -392,8 +400,8 @@ pub fact_plays : (rm : ℕ) (facts : List Fact) (branches : List Branch) (input 
 fact_plays rm facts branches input (stored.VotePrepared tx keys) are is =
     and_from (names tx rm && is_new facts tx && not (is_name_spent rm facts tx)) (not (is_some_held facts keys))
     (and_from (names tx rm && is_new facts tx) (not (is_name_spent rm facts tx))
-      (and_from (names tx rm) (is_new facts tx) (name_names tx rm is.0 is.1.first.name) (is_new_from facts tx is.1.first.new is.1.first.unended))
-      (not_from_false (is_name_spent rm facts tx) (unspent_at rm facts tx is.0 is.1.first.name is.1.unspent)))
+    (and_from (names tx rm) (is_new facts tx) (name_names tx rm is.0 is.1.first.name) (is_new_from facts tx is.1.first.new is.1.first.unended))
+    (not_from_false (is_name_spent rm facts tx) (unspent_at rm facts tx is.0 is.1.first.name is.1.unspent)))
     (not_from_false (is_some_held facts keys) (unheld_keys rm facts branches is.0 keys are is.1.idle))
 fact_plays rm facts branches input (stored.VoteAborted tx) are is =
     and_from (names tx rm) (is_new facts tx) (name_names tx rm is.0 is.1.name) (is_new_from facts tx is.1.new is.1.unended)
@@ -409,7 +417,8 @@ manager_met config rm facts memory input are fact e =
     fact_plays rm facts memory.branches input fact are
     (subst (λ (o : Option Fact). IfSome o (IsManagerFact rm facts memory.branches input)) e (manager_is_right config rm facts memory input).fact_is)
 
-still_plays : (config : Config) (rm : ℕ) (facts : List Fact) (branches : List Branch) (input : Input) (o : Option Fact) → all_play config (R rm) [] facts ≡ true
+still_plays : (config : Config) (rm : ℕ) (facts : List Fact) (branches : List Branch) (input : Input) (o : Option Fact)
+    → all_play config (R rm) [] facts ≡ true
     → AreApart rm facts branches → IfSome o (IsManagerFact rm facts branches input) → all_play config (R rm) [] (facts_after facts o) ≡ true
 still_plays config rm facts branches input None play are is = play
 still_plays config rm facts branches input (Some fact) play are is =

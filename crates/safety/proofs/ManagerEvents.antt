@@ -1,6 +1,6 @@
 -- What a resource manager stores and sends, as items that may come to stand.
-use Rattle.std.proofs.Common.{◌≡◌, ◌⊎◌, ℕ, zero, Bool, true, false, ◌&&◌, IsTrue, List, [], ◌∷◌, ◌++◌, Option, Some, None, unwrap_or, not}
-use Rattle.std.proofs.Common.{inl, inr, ⊎_elim, refl, sym, ap, ◌∙◌, subst, arith}
+use Rattle.std.proofs.Common.{◌≡◌, ◌⊎◌, ℕ, true, IsTrue, List, [], ◌∷◌, Option, Some, None, unwrap_or}
+use Rattle.std.proofs.Common.{inl, inr, sym, ap, ◌∙◌, subst, arith}
 use Rattle.std.specs.Prelude.{map, Contains, IfSome}
 use Rattle.xid.specs.Names.{XidParts}
 use Rattle.xid.specs.Transactions.{TxParts, names}
@@ -11,8 +11,8 @@ use Rattle.wire.specs.declared.message.Kind.TheVariants as kinds
 use Rattle.stable_record.specs.Facts.{Fact, Touched}
 use Rattle.stable_record.specs.Facts as stored
 use Rattle.protocol.specs.declared.NodeId.{NodeId}
-use Rattle.protocol.specs.declared.NodeId.TheVariants.{A, L, R}
-use Rattle.protocol.specs.Effects.{Config, Effect, Send}
+use Rattle.protocol.specs.declared.NodeId.TheVariants.{R}
+use Rattle.protocol.specs.Effects.{Config, Send}
 use Rattle.protocol.specs.Facts.{view}
 use Rattle.protocol.specs.Managers.{Branch}
 use Rattle.protocol.specs.Nodes.{Memory, Input, Take, effect_of}
@@ -50,7 +50,8 @@ module _ (config : Config) (rm : ℕ) (facts : NodeId → List Fact) (sent : Lis
   abbrev Has : Item TxParts → Type 0
   Has = StandsBy facts sent
 
-  first_allowed : (tx : TxParts) (v : Vote) → ((x : XidParts) × IsFirst rm (facts (R rm)) tx x) → Allowed (setting config) Has (Voted rm tx v)
+  first_allowed : (tx : TxParts) (v : Vote) → ((x : XidParts) × IsFirst rm (facts (R rm)) tx x)
+      → Allowed (setting config) Has (Voted rm tx v)
   first_allowed tx v first =
       let free = unended (facts (R rm)) tx first.1.unended in
       record {
@@ -60,7 +61,8 @@ module _ (config : Config) (rm : ℕ) (facts : NodeId → List Fact) (sent : Lis
         undropped = free.undropped;
       }
 
-  fact_allowed : (o : Option Fact) → IfSome o (IsManagerFact rm (facts (R rm)) branches input) → AreAllowed (setting config) Has (items_of (R rm) o)
+  fact_allowed : (o : Option Fact) → IfSome o (IsManagerFact rm (facts (R rm)) branches input)
+      → AreAllowed (setting config) Has (items_of (R rm) o)
   fact_allowed None h = tt
   fact_allowed (Some (stored.VotePrepared tx keys)) h = (first_allowed tx votes.Prepared (h.0, h.1.first), tt)
   fact_allowed (Some (stored.VoteAborted tx)) h = (first_allowed tx votes.Aborted h, tt)
@@ -74,7 +76,8 @@ module _ (config : Config) (rm : ℕ) (facts : NodeId → List Fact) (sent : Lis
   one_allowed x y h ok = subst (Allowed (setting config) Has) (Contains-one x y h) ok
 
   -- the item of a fact
-  item_allowed : (o : Option Fact) → AreAllowed (setting config) Has (items_of (R rm) o) → (y : Item TxParts) → Contains (items_of (R rm) o) y
+  item_allowed : (o : Option Fact) → AreAllowed (setting config) Has (items_of (R rm) o) → (y : Item TxParts)
+      → Contains (items_of (R rm) o) y
       → Allowed (setting config) Has y
   item_allowed None ok y h = absurd (omega (arith, h.1))
   item_allowed (Some (stored.VotePrepared tx keys)) ok y h = one_allowed (Voted rm tx votes.Prepared) y h ok.0
@@ -143,7 +146,7 @@ module _ (config : Config) (rm : ℕ) (facts : NodeId → List Fact) (sent : Lis
 pub manager_is_good : (config : Config) (rm : ℕ) (facts : NodeId → List Fact) (sent : List Kind) (memory : Memory) (input : Input)
     → all_play config (R rm) [] (facts (R rm)) ≡ true → ((m : Kind) → input ≡ Take m → Among sent m)
     → IsGood config (R rm) facts sent (effect_of config (R rm) (facts (R rm)) memory input).fact
-        (map (λ send. send.message) (effect_of config (R rm) (facts (R rm)) memory input).sends)
+    (map (λ send. send.message) (effect_of config (R rm) (facts (R rm)) memory input).sends)
 manager_is_good config rm facts sent memory input play came =
     right_is_good config rm facts sent memory.branches input play came (effect_of config (R rm) (facts (R rm)) memory input).fact
     (effect_of config (R rm) (facts (R rm)) memory input).sends (manager_is_right config rm (facts (R rm)) memory input)
@@ -162,5 +165,6 @@ facts_are facts sent rm = record {
 }
 
 -- the view of the facts is the view by what stands
-pub manager_view : (facts : NodeId → List Fact) (sent : List Kind) (rm : ℕ) (tx : TxParts) → IsView (StandsBy facts sent) tx rm (view (facts (R rm)) tx)
+pub manager_view : (facts : NodeId → List Fact) (sent : List Kind) (rm : ℕ) (tx : TxParts)
+    → IsView (StandsBy facts sent) tx rm (view (facts (R rm)) tx)
 manager_view facts sent rm tx = view_is (StandsBy facts sent) rm (facts (R rm)) tx (facts_are facts sent rm)

@@ -1,5 +1,5 @@
 -- No key is touched by two branches of a resource manager, prepared ones included.
-use Rattle.std.proofs.Common.{◌≡◌, ◌≢◌, ◌⊎◌, ℕ, Bool, true, false, not, ◌&&◌, List, [], ◌∷◌, ◌++◌, Option, Some, None, is_some, unwrap_or}
+use Rattle.std.proofs.Common.{◌≡◌, ◌≢◌, ◌⊎◌, ℕ, true, false, not, ◌&&◌, List, [], ◌∷◌, ◌++◌, Option, Some, None, is_some, unwrap_or}
 use Rattle.std.proofs.Common.{inl, inr, refl, sym, ap, ◌∙◌, subst, append_assoc, append-nil}
 use Rattle.std.specs.Prelude.{filter_map, option_map}
 use Rattle.std.specs.List.{list_any}
@@ -11,8 +11,7 @@ use Rattle.xid.specs.Transactions.{TxParts, names, xid_at}
 use Rattle.xid.specs.declared.transaction.Vote.TheVariants as votes
 use Rattle.stable_record.specs.Facts.{Fact, Touched}
 use Rattle.stable_record.specs.Facts as stored
-use Rattle.protocol.specs.declared.BranchState.TheVariants as states
-use Rattle.protocol.specs.declared.NodeId.TheVariants.{A, L, R}
+use Rattle.protocol.specs.declared.NodeId.TheVariants.{R}
 use Rattle.protocol.specs.Effects.{Config}
 use Rattle.protocol.specs.Facts.{vote_in, is_ended, Bound, bound_in}
 use Rattle.protocol.specs.Managers.{Branch, has_key, all_branches}
@@ -20,20 +19,23 @@ use Rattle.protocol.specs.Playing.{plays, plays_at_manager, all_play, is_new, is
 use Rattle.safety.specs.Standing.{Among, HasVote}
 use Rattle.safety.proofs.Lists.{any_found, found_any, Among-append, Among-push}
 use Rattle.safety.proofs.ViewFacts.{prepared_before, unvoted}
-use Rattle.safety.proofs.ManagerKeys.{filter_map_given, names_name, AreDisjoint}
-use Rattle.safety.proofs.ManagerApart.{AreApart, IsBound, bound_stored, stored_bound, bound_named, named_so}
+use Rattle.safety.proofs.ManagerKeys.{filter_map_given, AreDisjoint}
+use Rattle.safety.proofs.ManagerApart.{AreApart, bound_stored, stored_bound, named_so}
 
 -- prepared branches: one for each transaction, and no key in two of them
 pub record AreBoundApart (facts : List Fact) : Type 0 where
-  pub once : (bound other : Bound) → Among (bound_in facts) bound → Among (bound_in facts) other → bound.tx ≡ other.tx → bound.keys ≡ other.keys
-  pub apart : (bound other : Bound) → Among (bound_in facts) bound → Among (bound_in facts) other → bound.tx ≢ other.tx → AreDisjoint bound.keys other.keys
+  pub once : (bound other : Bound) → Among (bound_in facts) bound → Among (bound_in facts) other → bound.tx ≡ other.tx
+      → bound.keys ≡ other.keys
+  pub apart : (bound other : Bound) → Among (bound_in facts) bound → Among (bound_in facts) other → bound.tx ≢ other.tx
+      → AreDisjoint bound.keys other.keys
 
 -- a prepared vote plays where no vote on the transaction is stored, and none of its keys is held
 pub record IsFreshVote (facts : List Fact) (tx : TxParts) (keys : List Touched) : Type 0 where
   pub new : ¬ HasVote facts tx votes.Prepared
   pub free : is_some_held facts keys ≡ false
 
-fresh_vote : (rm : ℕ) (facts : List Fact) (tx : TxParts) (keys : List Touched) → plays_at_manager rm facts (stored.VotePrepared tx keys) ≡ true → IsFreshVote facts tx keys
+fresh_vote : (rm : ℕ) (facts : List Fact) (tx : TxParts) (keys : List Touched)
+    → plays_at_manager rm facts (stored.VotePrepared tx keys) ≡ true → IsFreshVote facts tx keys
 fresh_vote rm facts tx keys e =
     let all = and_parts (names tx rm && is_new facts tx && not (is_name_spent rm facts tx)) (not (is_some_held facts keys)) e in
     let most = and_parts (names tx rm && is_new facts tx) (not (is_name_spent rm facts tx)) all.0 in
@@ -42,14 +44,15 @@ fresh_vote rm facts tx keys e =
     record { new = unvoted facts tx (not-true (is_some (vote_in facts tx)) new.0) votes.Prepared; free = not-true (is_some_held facts keys) all.1 }
 
 -- keys that are free of prepared branches are in none
-free_of : (facts : List Fact) (keys : List Touched) (bound : Bound) → is_some_held facts keys ≡ false → Among (bound_in facts) bound → AreDisjoint keys bound.keys
+free_of : (facts : List Fact) (keys : List Touched) (bound : Bound) → is_some_held facts keys ≡ false → Among (bound_in facts) bound
+    → AreDisjoint keys bound.keys
 free_of facts keys bound free h key p q =
     let found = any_found (λ (touched : Touched). bytes_eq touched.key key) keys p in
     let same : found.element.key ≡ key = (bytes_decides found.element.key key).0 found.passes in
     both_ways (is_some_held facts keys) free
     (found_any (λ (b : Bound). list_any (λ (touched : Touched). has_key touched.key b.keys) keys) (bound_in facts) bound h
-      (found_any (λ (touched : Touched). has_key touched.key bound.keys) keys found.element found.among
-        (subst (λ (k : List ℕ). has_key k bound.keys ≡ true) (sym same) q)))
+    (found_any (λ (touched : Touched). has_key touched.key bound.keys) keys found.element found.among
+    (subst (λ (k : List ℕ). has_key k bound.keys ≡ true) (sym same) q)))
 
 abbrev tx_in : Fact → TxParts → TxParts
 tx_in (stored.VotePrepared tx keys) other = tx
@@ -93,7 +96,8 @@ module _ (rm : ℕ) (facts : List Fact) (fact : Fact) (are : AreBoundApart facts
     ];
   }
 
-bound_apart_through : (config : Config) (rm : ℕ) (before facts : List Fact) → AreBoundApart before → all_play config (R rm) before facts ≡ true → AreBoundApart (before ++ facts)
+bound_apart_through : (config : Config) (rm : ℕ) (before facts : List Fact) → AreBoundApart before
+    → all_play config (R rm) before facts ≡ true → AreBoundApart (before ++ facts)
 bound_apart_through config rm before [] are play = subst AreBoundApart (sym (append-nil before)) are
 bound_apart_through config rm before (fact ∷ facts) are play =
     let parts = and_parts (plays config (R rm) before fact) (all_play config (R rm) (before ++ fact ∷ []) facts) play in
@@ -113,7 +117,8 @@ pub record IsPreparedAs (rm : ℕ) (facts : List Fact) (b : Branch) : Type 0 whe
   pub name : xid_at bound.tx rm ≡ Some b.xid
   pub keys : b.keys ≡ bound.keys
 
-prepared_from : (rm : ℕ) (facts : List Fact) (bound : Bound) (b : Branch) (o : Option XidParts) → Among (bound_in facts) bound → xid_at bound.tx rm ≡ o
+prepared_from : (rm : ℕ) (facts : List Fact) (bound : Bound) (b : Branch) (o : Option XidParts) → Among (bound_in facts) bound
+    → xid_at bound.tx rm ≡ o
     → option_map (named_so bound.keys) o ≡ Some b → IsPreparedAs rm facts b
 prepared_from rm facts bound b None h name e = absurd (cc (e))
 prepared_from rm facts bound b (Some x) h name e =
@@ -124,14 +129,16 @@ pub prepared_or_not : (rm : ℕ) (facts : List Fact) (branches : List Branch) (b
     → IsPreparedAs rm facts b ⊎ Among branches b
 prepared_or_not rm facts branches b h = elim (Among-append (filter_map _ (bound_in facts)) branches b h) [
   | inl of_bound ↦
-    let given = filter_map_given _ (bound_in facts) b of_bound in
-    inl (prepared_from rm facts given.source b (xid_at given.source.tx rm) given.among refl given.gives)
+      let given = filter_map_given _ (bound_in facts) b of_bound in
+      inl (prepared_from rm facts given.source b (xid_at given.source.tx rm) given.among refl given.gives)
   | inr other ↦ inr other
 ]
 
 -- no key is touched by two branches
-pub keys_held_once : (config : Config) (rm : ℕ) (facts : List Fact) (branches : List Branch) → all_play config (R rm) [] facts ≡ true → AreApart rm facts branches
-    → (b c : Branch) → Among (all_branches rm facts branches) b → Among (all_branches rm facts branches) c → b.xid ≢ c.xid → AreDisjoint b.keys c.keys
+pub keys_held_once : (config : Config) (rm : ℕ) (facts : List Fact) (branches : List Branch) → all_play config (R rm) [] facts ≡ true
+    → AreApart rm facts branches
+    → (b c : Branch) → Among (all_branches rm facts branches) b → Among (all_branches rm facts branches) c → b.xid ≢ c.xid
+    → AreDisjoint b.keys c.keys
 keys_held_once config rm facts branches play are b c h k apart key p q = elim (prepared_or_not rm facts branches b h) [
   | inl one ↦ elim (prepared_or_not rm facts branches c k) [
     | inl two ↦ (bound_apart config rm facts play).apart one.bound two.bound one.among two.among

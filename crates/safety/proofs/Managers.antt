@@ -1,36 +1,31 @@
 -- What each rule of a resource manager stores and sends.
-use Rattle.std.proofs.Common.{◌≡◌, ◌⊎◌, ℕ, Bool, true, false, not, ◌&&◌, ◌||◌, ◌==◌, IsTrue, if◌then◌else◌, cond, List, [], ◌∷◌, ◌++◌, Option, Some, None, is_some, unwrap_or}
-use Rattle.std.proofs.Common.{inl, inr, ⊎_elim, refl, sym, ap, ◌∙◌, subst, arith}
+pub use Rattle.safety.proofs.LeadersWords.{with_fact as facts_after}
+use Rattle.std.proofs.Common.{◌≡◌, ℕ, Bool, true, false, ◌||◌, if◌then◌else◌, cond, List, [], ◌∷◌, ◌++◌, Option, Some, None, is_some}
+use Rattle.std.proofs.Common.{inl, inr, refl, sym, subst}
 use Rattle.std.specs.Prelude.{IfSome, find, option_map, option_to_list}
 use Rattle.std.proofs.lemmas.List.{append-nil}
 use Rattle.std.specs.List.{list_any}
-use Rattle.std.proofs.lemmas.Bool.{cond_both, or_right, or_left, not-true}
+use Rattle.std.proofs.lemmas.Bool.{cond_both}
 use Rattle.xid.specs.Names.{XidParts}
 use Rattle.xid.specs.Transactions.{TxParts, BranchParts, names, is_at, xid_of, xid_at}
 use Rattle.xid.specs.declared.transaction.Vote.{Vote}
 use Rattle.xid.specs.declared.transaction.Vote.TheVariants as votes
-use Rattle.xid.specs.declared.refusals.Refusal.TheVariants.{BadTx, BadMessage, NoSuch}
+use Rattle.xid.specs.declared.refusals.Refusal.TheVariants.{BadTx}
 use Rattle.wire.specs.declared.message.Kind.{Kind}
 use Rattle.wire.specs.declared.message.Kind.TheVariants as kinds
 use Rattle.wire.specs.Messages.{tx_of}
 use Rattle.stable_record.specs.Facts.{Fact, Touched}
 use Rattle.stable_record.specs.Facts as stored
-use Rattle.protocol.specs.declared.NodeId.TheVariants.{A, L, R}
+use Rattle.protocol.specs.declared.NodeId.TheVariants.{R}
 use Rattle.protocol.specs.Facts.{vote_in, is_ended, is_spent, view, is_prepared_view, is_open_view}
-use Rattle.protocol.specs.Calls.{Action, Answer}
-use Rattle.protocol.specs.Effects.{Config, Effect, Reply, Called, Shows, Refuses, Send, ToAcceptors, ToLeaders, replies, no_effect, sends_only, stores, to, is_inside}
+use Rattle.protocol.specs.Effects.{Config, Effect, Refuses, Send, ToLeaders, replies, no_effect, sends_only, stores, to, is_inside}
 use Rattle.protocol.specs.Managers.{Branch, without, idle_keys, vote_sent, first_vote, on_prepare, on_commit, on_abort, on_message, manager_takes, on_manager_timeout}
-use Rattle.protocol.specs.Nodes.{Memory, Input, CallOn, ListPrepared, AskView, AskCommit, AskStatus, TimeOut, Take, TakeNoise, effect_of, is_message_inside, takes, of_manager}
+use Rattle.protocol.specs.Nodes.{Memory, Input, CallOn, ListPrepared, AskView, AskCommit, AskStatus, TimeOut, Take, TakeNoise, effect_of, is_message_inside, takes}
 use Rattle.safety.specs.Standing.{Among}
 use Rattle.safety.proofs.Lists.{Among-append}
 use Rattle.safety.proofs.ViewFacts.{unvoted, vote_in_after_prepared, vote_in_after_aborted}
 
 -- ---- what is handed over
-
--- the facts once an effect's fact is stored, if it has one
-abbrev pub facts_after : List Fact → Option Fact → List Fact
-facts_after facts None = facts
-facts_after facts (Some fact) = facts ++ fact ∷ []
 
 pub facts_after_is : (facts : List Fact) (o : Option Fact) → facts_after facts o ≡ facts ++ option_to_list o
 facts_after_is facts None = sym (append-nil facts)
@@ -98,7 +93,8 @@ find_any : {X : Type 0} (p : X → Bool) (y : X) (xs : List X) → find p xs ≡
 find_any p y [] e = absurd (cc (e))
 find_any p y (x ∷ xs) e = either p x y xs (p x) (find_any p y xs) e
 
-at_by : (tx : TxParts) (rm : ℕ) (x : XidParts) (o : Option BranchParts) → find (is_at rm) tx.branches ≡ o → option_map (xid_of tx) o ≡ Some x → names tx rm ≡ true
+at_by : (tx : TxParts) (rm : ℕ) (x : XidParts) (o : Option BranchParts) → find (is_at rm) tx.branches ≡ o
+    → option_map (xid_of tx) o ≡ Some x → names tx rm ≡ true
 at_by tx rm x None q e = absurd (cc (e))
 at_by tx rm x (Some branch) q e = find_any (is_at rm) branch tx.branches q
 
@@ -121,7 +117,8 @@ module _ (rm : ℕ) (facts : List Fact) (branches : List Branch) (input : Input)
   vote_is now tx (Some v) is send (inr none) = absurd none
 
   first_is : (tx : TxParts) (x : XidParts) (spent : Bool) (idle : Option (List Touched)) → IsFirst rm facts tx x
-      → is_spent rm facts x ≡ spent → idle_keys branches x ≡ idle → IsRightEffect rm facts branches input (first_vote rm branches tx x spent idle)
+      → is_spent rm facts x ≡ spent → idle_keys branches x ≡ idle
+      → IsRightEffect rm facts branches input (first_vote rm branches tx x spent idle)
   first_is tx x false (Some keys) first unspent idle = record {
     fact_is = (x, record { first = first; unspent = unspent; idle = idle });
     sends_are = vote_is (facts ++ stored.VotePrepared tx keys ∷ []) tx (Some votes.Prepared) (vote_in_after_prepared facts tx keys);
@@ -131,15 +128,16 @@ module _ (rm : ℕ) (facts : List Fact) (branches : List Branch) (input : Input)
     sends_are = vote_is (facts ++ stored.VoteAborted tx ∷ []) tx (Some votes.Aborted) (vote_in_after_aborted facts tx (unvoted facts tx first.new votes.Prepared));
   }
 
-  prepare_is : (tx : TxParts) (x : XidParts) → xid_at tx rm ≡ Some x → IsRightEffect rm facts branches input (on_prepare rm facts branches tx x)
+  prepare_is : (tx : TxParts) (x : XidParts) → xid_at tx rm ≡ Some x
+      → IsRightEffect rm facts branches input (on_prepare rm facts branches tx x)
   prepare_is tx x name = cond_both (is_some (vote_in facts tx)) (sends_only branches (vote_sent rm tx (vote_in facts tx)))
       (if is_ended facts tx then no_effect branches else first_vote rm branches tx x (is_spent rm facts x) (idle_keys branches x))
       (λ (e : Effect (List Branch)). IsRightEffect rm facts branches input e)
       (λ some. record { fact_is = tt; sends_are = vote_is facts tx (vote_in facts tx) refl })
       (λ new. cond_both (is_ended facts tx) (no_effect branches) (first_vote rm branches tx x (is_spent rm facts x) (idle_keys branches x))
-        (λ (e : Effect (List Branch)). IsRightEffect rm facts branches input e)
-        (λ ended. nothing)
-        (λ unended. first_is tx x (is_spent rm facts x) (idle_keys branches x) (record { name = name; new = new; unended = unended }) refl refl))
+      (λ (e : Effect (List Branch)). IsRightEffect rm facts branches input e)
+      (λ ended. nothing)
+      (λ unended. first_is tx x (is_spent rm facts x) (idle_keys branches x) (record { name = name; new = new; unended = unended }) refl refl))
 
   commit_is : (tx : TxParts) → input ≡ Take (kinds.Commit tx) → IsRightEffect rm facts branches input (on_commit facts branches tx)
   commit_is tx came = cond_both (is_prepared_view (view facts tx)) (stores branches (stored.Committed tx) []) (no_effect branches)
@@ -147,23 +145,27 @@ module _ (rm : ℕ) (facts : List Fact) (branches : List Branch) (input : Input)
       (λ prepared. record { fact_is = record { came = came; prepared = prepared }; sends_are = λ send h. absurd h })
       (λ other. nothing)
 
-  abort_is : (tx : TxParts) (x : XidParts) → xid_at tx rm ≡ Some x → input ≡ Take (kinds.Abort tx) → IsRightEffect rm facts branches input (on_abort facts branches tx x)
+  abort_is : (tx : TxParts) (x : XidParts) → xid_at tx rm ≡ Some x → input ≡ Take (kinds.Abort tx)
+      → IsRightEffect rm facts branches input (on_abort facts branches tx x)
   abort_is tx x name came = cond_both (is_open_view (view facts tx)) (stores (without branches x) (stored.Aborted tx) []) (no_effect branches)
       (λ (e : Effect (List Branch)). IsRightEffect rm facts branches input e)
       (λ opens. record { fact_is = (x, record { came = came; name = name; opens = opens }); sends_are = λ send h. absurd h })
       (λ other. nothing)
 
-  message_is : (x : XidParts) (m : Kind) → xid_at (tx_of m) rm ≡ Some x → input ≡ Take m → IsRightEffect rm facts branches input (on_message rm facts branches x m)
+  message_is : (x : XidParts) (m : Kind) → xid_at (tx_of m) rm ≡ Some x → input ≡ Take m
+      → IsRightEffect rm facts branches input (on_message rm facts branches x m)
   message_is x (kinds.Prepare tx) name came = prepare_is tx x name
   message_is x (kinds.Commit tx) name came = commit_is tx came
   message_is x (kinds.Abort tx) name came = abort_is tx x name came
   message_is x m name came = nothing
 
-  takes_is : (m : Kind) (o : Option XidParts) → xid_at (tx_of m) rm ≡ o → input ≡ Take m → IsRightEffect rm facts branches input (manager_takes rm facts branches o m)
+  takes_is : (m : Kind) (o : Option XidParts) → xid_at (tx_of m) rm ≡ o → input ≡ Take m
+      → IsRightEffect rm facts branches input (manager_takes rm facts branches o m)
   takes_is m None name came = nothing
   takes_is m (Some x) name came = message_is x m name came
 
-  asked_is : (now : List Fact) (tx : TxParts) (b : Bool) (send : Send) → Among (if b then to ToLeaders (kinds.Ask tx rm) ∷ [] else []) send → IsManagerSend rm now send.message
+  asked_is : (now : List Fact) (tx : TxParts) (b : Bool) (send : Send)
+      → Among (if b then to ToLeaders (kinds.Ask tx rm) ∷ [] else []) send → IsManagerSend rm now send.message
   asked_is now tx true send (inl e) = subst (λ (s : Send). IsManagerSend rm now s.message) e refl
   asked_is now tx true send (inr none) = absurd none
   asked_is now tx false send h = absurd h

@@ -1,5 +1,5 @@
 -- Facts that played, one after the other.
-use Rattle.std.proofs.Common.{◌≡◌, ◌⊎◌, ℕ, Bool, true, false, ◌&&◌, not, List, [], ◌∷◌, ◌++◌, inl, inr, refl, sym, ap, ◌∙◌, subst, append_assoc, append-nil}
+use Rattle.std.proofs.Common.{◌≡◌, ℕ, true, ◌&&◌, not, List, [], ◌∷◌, ◌++◌, inl, inr, refl, sym, subst, append_assoc, append-nil}
 use Rattle.std.proofs.lemmas.Bool.{and_parts, and_from}
 use Rattle.xid.specs.Transactions.{TxParts, names}
 use Rattle.xid.specs.declared.transaction.Vote.{Vote}
@@ -7,7 +7,7 @@ use Rattle.xid.specs.declared.transaction.Vote.TheVariants as votes
 use Rattle.stable_record.specs.Facts.{Fact, Touched}
 use Rattle.stable_record.specs.Facts as stored
 use Rattle.protocol.specs.declared.NodeId.{NodeId}
-use Rattle.protocol.specs.declared.NodeId.TheVariants.{A, L, R}
+use Rattle.protocol.specs.declared.NodeId.TheVariants.{R}
 use Rattle.protocol.specs.Effects.{Config}
 use Rattle.protocol.specs.Playing.{plays, all_play, is_new, is_name_spent, is_some_held}
 use Rattle.safety.specs.Standing.{Among, HasVote}
@@ -48,4 +48,4 @@ all_play_then config who before (first ∷ facts) fact h e =
     let parts = and_parts (plays config who before first) (all_play config who (before ++ first ∷ []) facts) h in
     and_from (plays config who before first) (all_play config who (before ++ first ∷ []) (facts ++ fact ∷ [])) parts.0
     (all_play_then config who (before ++ first ∷ []) facts fact parts.1
-      (subst (λ (fs : List Fact). plays config who fs fact ≡ true) (sym (append_assoc before (first ∷ []) facts)) e))
+    (subst (λ (fs : List Fact). plays config who fs fact ≡ true) (sym (append_assoc before (first ∷ []) facts)) e))

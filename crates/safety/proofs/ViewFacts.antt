@@ -1,6 +1,6 @@
 -- What the tests and look-ups of a resource manager's facts say: each by the facts that are among them.
-use Rattle.std.proofs.Common.{◌≡◌, ◌⊎◌, ℕ, Bool, true, false, not, ◌&&◌, ◌||◌, IsTrue, if◌then◌else◌, List, [], ◌∷◌, ◌++◌, Option, Some, None, is_none, is_some}
-use Rattle.std.proofs.Common.{inl, inr, refl, sym, ap, ◌∙◌, subst, arith}
+use Rattle.std.proofs.Common.{◌≡◌, ◌⊎◌, ℕ, Bool, true, false, ◌||◌, if◌then◌else◌, List, [], ◌∷◌, ◌++◌, Option, Some, None, is_some}
+use Rattle.std.proofs.Common.{inl, inr, refl, sym, ap, ◌∙◌, subst}
 use Rattle.std.specs.Bool.{Decides}
 use Rattle.std.specs.List.{list_any}
 use Rattle.std.proofs.lemmas.Bool.{both_ways, or_parts, false_from_ne_true}
@@ -58,14 +58,16 @@ pub not_cast : (facts : List Fact) (tx : TxParts) (v : Vote) → list_any (casts
 not_cast facts tx v e h = both_ways (list_any (casts tx v) facts) e ((casts_decides facts tx v).1 h)
 
 -- more facts keep what is stored
-pub HasVote-kept : (facts now : List Fact) (tx : TxParts) (v : Vote) → ((f : Fact) → Among facts f → Among now f) → HasVote facts tx v → HasVote now tx v
+pub HasVote-kept : (facts now : List Fact) (tx : TxParts) (v : Vote) → ((f : Fact) → Among facts f → Among now f) → HasVote facts tx v
+    → HasVote now tx v
 HasVote-kept facts now tx votes.Prepared kept h = (h.0, kept _ h.1)
 HasVote-kept facts now tx votes.Aborted kept h = kept _ h
 
 abbrev vote_of : (prepared aborted : Bool) → Option Vote
 vote_of p a = if p then Some votes.Prepared else if a then Some votes.Aborted else None
 
-vote_by : (facts : List Fact) (tx : TxParts) (v : Vote) (p a : Bool) → list_any (casts tx votes.Prepared) facts ≡ p → list_any (casts tx votes.Aborted) facts ≡ a
+vote_by : (facts : List Fact) (tx : TxParts) (v : Vote) (p a : Bool) → list_any (casts tx votes.Prepared) facts ≡ p
+    → list_any (casts tx votes.Aborted) facts ≡ a
     → vote_of p a ≡ Some v → HasVote facts tx v
 vote_by facts tx votes.Prepared true a p q e = (casts_decides facts tx votes.Prepared).0 p
 vote_by facts tx votes.Prepared false true p q e = absurd (cc (e))
@@ -78,7 +80,8 @@ vote_by facts tx votes.Aborted false false p q e = absurd (cc (e))
 pub vote_in_stands : (facts : List Fact) (tx : TxParts) (v : Vote) → vote_in facts tx ≡ Some v → HasVote facts tx v
 vote_in_stands facts tx v e = vote_by facts tx v (list_any (casts tx votes.Prepared) facts) (list_any (casts tx votes.Aborted) facts) refl refl e
 
-none_by : (facts : List Fact) (tx : TxParts) (p a : Bool) → list_any (casts tx votes.Prepared) facts ≡ p → list_any (casts tx votes.Aborted) facts ≡ a
+none_by : (facts : List Fact) (tx : TxParts) (p a : Bool) → list_any (casts tx votes.Prepared) facts ≡ p
+    → list_any (casts tx votes.Aborted) facts ≡ a
     → vote_of p a ≡ None → (v : Vote) → ¬ HasVote facts tx v
 none_by facts tx true a p q e v = absurd (cc (e))
 none_by facts tx false true p q e v = absurd (cc (e))
@@ -89,7 +92,8 @@ none_by facts tx false false p q e votes.Aborted = not_cast facts tx votes.Abort
 pub vote_in_none : (facts : List Fact) (tx : TxParts) → vote_in facts tx ≡ None → (v : Vote) → ¬ HasVote facts tx v
 vote_in_none facts tx e = none_by facts tx (list_any (casts tx votes.Prepared) facts) (list_any (casts tx votes.Aborted) facts) refl refl e
 
-none_back : (facts : List Fact) (tx : TxParts) (p a : Bool) → list_any (casts tx votes.Prepared) facts ≡ p → list_any (casts tx votes.Aborted) facts ≡ a
+none_back : (facts : List Fact) (tx : TxParts) (p a : Bool) → list_any (casts tx votes.Prepared) facts ≡ p
+    → list_any (casts tx votes.Aborted) facts ≡ a
     → ((v : Vote) → ¬ HasVote facts tx v) → vote_of p a ≡ None
 none_back facts tx true a p q none = absurd (none votes.Prepared ((casts_decides facts tx votes.Prepared).0 p))
 none_back facts tx false true p q none = absurd (none votes.Aborted ((casts_decides facts tx votes.Aborted).0 q))
@@ -106,10 +110,12 @@ some_by (Some v) e = absurd (cc (e))
 pub unvoted : (facts : List Fact) (tx : TxParts) → is_some (vote_in facts tx) ≡ false → (v : Vote) → ¬ HasVote facts tx v
 unvoted facts tx e = vote_in_none facts tx (some_by (vote_in facts tx) e)
 
-vote_is_prepared : (facts : List Fact) (tx : TxParts) → list_any (casts tx votes.Prepared) facts ≡ true → vote_in facts tx ≡ Some votes.Prepared
+vote_is_prepared : (facts : List Fact) (tx : TxParts) → list_any (casts tx votes.Prepared) facts ≡ true
+    → vote_in facts tx ≡ Some votes.Prepared
 vote_is_prepared facts tx p = ap (λ (b : Bool). vote_of b (list_any (casts tx votes.Aborted) facts)) p
 
-vote_is_aborted : (facts : List Fact) (tx : TxParts) → list_any (casts tx votes.Prepared) facts ≡ false → list_any (casts tx votes.Aborted) facts ≡ true
+vote_is_aborted : (facts : List Fact) (tx : TxParts) → list_any (casts tx votes.Prepared) facts ≡ false
+    → list_any (casts tx votes.Aborted) facts ≡ true
     → vote_in facts tx ≡ Some votes.Aborted
 vote_is_aborted facts tx p q = ap (λ (b : Bool). vote_of b (list_any (casts tx votes.Aborted) facts)) p ∙ ap (vote_of false) q
 
@@ -117,16 +123,18 @@ pub vote_in_prepared : (facts : List Fact) (tx : TxParts) → HasVote facts tx v
 vote_in_prepared facts tx h = vote_is_prepared facts tx (vote_passes facts tx votes.Prepared h)
 
 -- a first vote is the one that is looked up then
-pub vote_in_after_prepared : (facts : List Fact) (tx : TxParts) (keys : List Touched) → vote_in (facts ++ stored.VotePrepared tx keys ∷ []) tx ≡ Some votes.Prepared
+pub vote_in_after_prepared : (facts : List Fact) (tx : TxParts) (keys : List Touched)
+    → vote_in (facts ++ stored.VotePrepared tx keys ∷ []) tx ≡ Some votes.Prepared
 vote_in_after_prepared facts tx keys =
     vote_in_prepared (facts ++ stored.VotePrepared tx keys ∷ []) tx (keys, Among-last facts (stored.VotePrepared tx keys))
 
-pub vote_in_after_aborted : (facts : List Fact) (tx : TxParts) → ¬ HasVote facts tx votes.Prepared → vote_in (facts ++ stored.VoteAborted tx ∷ []) tx ≡ Some votes.Aborted
+pub vote_in_after_aborted : (facts : List Fact) (tx : TxParts) → ¬ HasVote facts tx votes.Prepared
+    → vote_in (facts ++ stored.VoteAborted tx ∷ []) tx ≡ Some votes.Aborted
 vote_in_after_aborted facts tx none =
     vote_is_aborted (facts ++ stored.VoteAborted tx ∷ []) tx
     (false_from_ne_true (list_any (casts tx votes.Prepared) (facts ++ stored.VoteAborted tx ∷ []))
-      (λ e. let h = (casts_decides (facts ++ stored.VoteAborted tx ∷ []) tx votes.Prepared).0 e in
-        elim (Among-push facts (stored.VoteAborted tx) (stored.VotePrepared tx h.0) h.1) [ inl old ↦ none (h.0, old) | inr same ↦ absurd (cc (same)) ]))
+    (λ e. let h = (casts_decides (facts ++ stored.VoteAborted tx ∷ []) tx votes.Prepared).0 e in
+    elim (Among-push facts (stored.VoteAborted tx) (stored.VotePrepared tx h.0) h.1) [ inl old ↦ none (h.0, old) | inr same ↦ absurd (cc (same)) ]))
     (vote_passes (facts ++ stored.VoteAborted tx ∷ []) tx votes.Aborted (Among-last facts (stored.VoteAborted tx)))
 
 -- ---- outcomes
@@ -179,7 +187,8 @@ IsShown facts tx views.Aborted = HasVote facts tx votes.Aborted ⊎ Among facts 
 abbrev view_of : (voted_aborted dropped committed voted_prepared : Bool) → View
 view_of a b c d = if a || b then views.Aborted else if c then views.Committed else if d then views.Prepared else views.Working
 
-shown_by : (facts : List Fact) (tx : TxParts) (a b c d : Bool) → list_any (casts tx votes.Aborted) facts ≡ a → list_any (aborts tx) facts ≡ b
+shown_by : (facts : List Fact) (tx : TxParts) (a b c d : Bool) → list_any (casts tx votes.Aborted) facts ≡ a
+    → list_any (aborts tx) facts ≡ b
     → list_any (commits tx) facts ≡ c → list_any (casts tx votes.Prepared) facts ≡ d → IsShown facts tx (view_of a b c d)
 shown_by facts tx true b c d p q r s = inl ((casts_decides facts tx votes.Aborted).0 p)
 shown_by facts tx false true c d p q r s = inr ((aborts_decides facts tx).0 q)
@@ -199,7 +208,8 @@ pub view_shows : (facts : List Fact) (tx : TxParts) → IsShown facts tx (view f
 view_shows facts tx = shown_by facts tx (list_any (casts tx votes.Aborted) facts) (list_any (aborts tx) facts) (list_any (commits tx) facts)
     (list_any (casts tx votes.Prepared) facts) refl refl refl refl
 
-prepared_by : (facts : List Fact) (tx : TxParts) (v : View) → IsShown facts tx v → is_prepared_view v ≡ true → IsShown facts tx views.Prepared
+prepared_by : (facts : List Fact) (tx : TxParts) (v : View) → IsShown facts tx v → is_prepared_view v ≡ true
+    → IsShown facts tx views.Prepared
 prepared_by facts tx views.Prepared h e = h
 prepared_by facts tx other h e = absurd (cc (e))
 
@@ -207,14 +217,16 @@ prepared_by facts tx other h e = absurd (cc (e))
 pub prepared_shows : (facts : List Fact) (tx : TxParts) → is_prepared_view (view facts tx) ≡ true → IsShown facts tx views.Prepared
 prepared_shows facts tx e = prepared_by facts tx (view facts tx) (view_shows facts tx) e
 
-open_by : (facts : List Fact) (tx : TxParts) (v : View) → IsShown facts tx v → is_open_view v ≡ true → IsUnended facts tx × ¬ HasVote facts tx votes.Aborted
+open_by : (facts : List Fact) (tx : TxParts) (v : View) → IsShown facts tx v → is_open_view v ≡ true
+    → IsUnended facts tx × ¬ HasVote facts tx votes.Aborted
 open_by facts tx views.Working h e = (h.1, h.0 votes.Aborted)
 open_by facts tx views.Prepared h e = (h.1, h.2)
 open_by facts tx views.Committed h e = absurd (cc (e))
 open_by facts tx views.Aborted h e = absurd (cc (e))
 
 -- working or prepared: no outcome is stored, nor the vote aborted
-pub open_shows : (facts : List Fact) (tx : TxParts) → is_open_view (view facts tx) ≡ true → IsUnended facts tx × ¬ HasVote facts tx votes.Aborted
+pub open_shows : (facts : List Fact) (tx : TxParts) → is_open_view (view facts tx) ≡ true
+    → IsUnended facts tx × ¬ HasVote facts tx votes.Aborted
 open_shows facts tx e = open_by facts tx (view facts tx) (view_shows facts tx) e
 
 prepared_at : (a b c d : Bool) → a ≡ false → b ≡ false → c ≡ false → d ≡ true → view_of a b c d ≡ views.Prepared
@@ -256,7 +268,8 @@ pub record AreOf (Has : Item TxParts → Type 0) (r : ℕ) (facts : List Fact) :
   pub drops_are : (tx : TxParts) → Has (Dropped r tx) → Among facts (stored.Aborted tx)
   pub drops_stand : (tx : TxParts) → Among facts (stored.Aborted tx) → Has (Dropped r tx)
 
-view_by : (Has : Item TxParts → Type 0) (r : ℕ) (facts : List Fact) (tx : TxParts) (v : View) → AreOf Has r facts → IsShown facts tx v → IsView Has tx r v
+view_by : (Has : Item TxParts → Type 0) (r : ℕ) (facts : List Fact) (tx : TxParts) (v : View) → AreOf Has r facts → IsShown facts tx v
+    → IsView Has tx r v
 view_by Has r facts tx views.Working are h =
     ((λ v k. h.0 v (are.votes_are tx v k)), (λ k. h.1.uncommitted (are.commits_are tx k)), (λ k. h.1.undropped (are.drops_are tx k)))
 view_by Has r facts tx views.Prepared are h =
