@@ -12,7 +12,7 @@ reported other (Some last) = last
 
 -- ---- the top is the greatest ballot reported
 
-below_top : (reports : List Report) (last : ℕ × Vote) → IsIn reports (Some last) → last.0 ≤ top_of reports
+pub below_top : (reports : List Report) (last : ℕ × Vote) → IsIn reports (Some last) → last.0 ≤ top_of reports
 below_top [] last h = absurd h
 below_top (None ∷ reports) last (inl e) = absurd (cc (e))
 below_top (None ∷ reports) last (inr h) = below_top reports last h
@@ -25,13 +25,13 @@ some_above [] h = absurd (omega (arith, h))
 some_above (None ∷ reports) h = some_above reports h
 some_above (Some first ∷ reports) h = refl
 
-some_in : (reports : List Report) (last : ℕ × Vote) → IsIn reports (Some last) → list_any is_some reports ≡ true
+pub some_in : (reports : List Report) (last : ℕ × Vote) → IsIn reports (Some last) → list_any is_some reports ≡ true
 some_in [] last h = absurd h
 some_in (None ∷ reports) last (inl e) = absurd (cc (e))
 some_in (None ∷ reports) last (inr h) = some_in reports last h
 some_in (Some first ∷ reports) last h = refl
 
-top_in : (reports : List Report) → list_any is_some reports ≡ true → (v : Vote) × IsIn reports (Some (top_of reports, v))
+pub top_in : (reports : List Report) → list_any is_some reports ≡ true → (v : Vote) × IsIn reports (Some (top_of reports, v))
 top_in [] h = absurd (cc (h))
 top_in (None ∷ reports) h = let rest = top_in reports h in (rest.0, inr rest.1)
 top_in (Some first ∷ reports) h = ⊎_elim
@@ -50,7 +50,7 @@ prepared_from : (v : Vote) → is_prepared v ≡ true → v ≡ Prepared
 prepared_from Prepared h = refl
 prepared_from Aborted h = absurd (cc (h))
 
-says_top : (t : ℕ) (v : Vote) → says_prepared t (Some (t, v)) ≡ true → v ≡ Prepared
+pub says_top : (t : ℕ) (v : Vote) → says_prepared t (Some (t, v)) ≡ true → v ≡ Prepared
 says_top t v h = ⊎_elim
     (λ (e : not (t == t) ≡ true). absurd (both_ways (t == t) (not-true (t == t) e) (eq-eqb t t refl)))
     (λ (e : is_prepared v ≡ true). prepared_from v e)
@@ -62,7 +62,7 @@ says_from t last h = ⊎_elim
     (λ (n : last.0 ≡ t → ⊥). or_left (not (last.0 == t)) (is_prepared last.1) (not_from_false (last.0 == t) (ne_eqb last.0 t n)))
     (cases_eq last.0 t)
 
-says_each : (t : ℕ) (reports : List Report) → list_all (says_prepared t) reports ≡ true → (r : Report) → IsIn reports r → says_prepared t r ≡ true
+pub says_each : (t : ℕ) (reports : List Report) → list_all (says_prepared t) reports ≡ true → (r : Report) → IsIn reports r → says_prepared t r ≡ true
 says_each t [] h r is = absurd is
 says_each t (first ∷ reports) h r (inl e) = subst (λ (s : Report). says_prepared t s ≡ true) e (and_parts (says_prepared t first) (list_all (says_prepared t) reports) h).0
 says_each t (first ∷ reports) h r (inr is) = says_each t reports (and_parts (says_prepared t first) (list_all (says_prepared t) reports) h).1 r is

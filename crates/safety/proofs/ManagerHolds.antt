@@ -1,0 +1,153 @@
+-- No key is touched by two branches of a resource manager, prepared ones included.
+use Rattle.std.proofs.Common.{◌≡◌, ◌≢◌, ◌⊎◌, ℕ, true, false, not, ◌&&◌, List, [], ◌∷◌, ◌++◌, Option, Some, None, is_some, unwrap_or}
+use Rattle.std.proofs.Common.{inl, inr, refl, sym, ap, ◌∙◌, subst, append_assoc, append-nil}
+use Rattle.std.specs.Prelude.{filter_map, option_map}
+use Rattle.std.specs.List.{list_any}
+use Rattle.std.specs.Str.{bytes_eq}
+use Rattle.std.specs.Cmp.Lexicographic.{bytes_decides}
+use Rattle.std.proofs.lemmas.Bool.{and_parts, both_ways, not-true}
+use Rattle.xid.specs.Names.{XidParts}
+use Rattle.xid.specs.Transactions.{TxParts, names, xid_at}
+use Rattle.xid.specs.declared.transaction.Vote.TheVariants as votes
+use Rattle.stable_record.specs.Facts.{Fact, Touched}
+use Rattle.stable_record.specs.Facts as stored
+use Rattle.protocol.specs.declared.NodeId.TheVariants.{R}
+use Rattle.protocol.specs.Effects.{Config}
+use Rattle.protocol.specs.Facts.{vote_in, is_ended, Bound, bound_in}
+use Rattle.protocol.specs.Managers.{Branch, has_key, all_branches}
+use Rattle.protocol.specs.Playing.{plays, plays_at_manager, all_play, is_new, is_name_spent, is_some_held}
+use Rattle.safety.specs.Standing.{Among, HasVote}
+use Rattle.safety.proofs.Lists.{any_found, found_any, Among-append, Among-push}
+use Rattle.safety.proofs.ViewFacts.{prepared_before, unvoted}
+use Rattle.safety.proofs.ManagerKeys.{filter_map_given, AreDisjoint}
+use Rattle.safety.proofs.ManagerApart.{AreApart, bound_stored, stored_bound, named_so}
+
+-- prepared branches: one for each transaction, and no key in two of them
+pub record AreBoundApart (facts : List Fact) : Type 0 where
+  pub once : (bound other : Bound) → Among (bound_in facts) bound → Among (bound_in facts) other → bound.tx ≡ other.tx
+      → bound.keys ≡ other.keys
+  pub apart : (bound other : Bound) → Among (bound_in facts) bound → Among (bound_in facts) other → bound.tx ≢ other.tx
+      → AreDisjoint bound.keys other.keys
+
+-- a prepared vote plays where no vote on the transaction is stored, and none of its keys is held
+pub record IsFreshVote (facts : List Fact) (tx : TxParts) (keys : List Touched) : Type 0 where
+  pub new : ¬ HasVote facts tx votes.Prepared
+  pub free : is_some_held facts keys ≡ false
+
+fresh_vote : (rm : ℕ) (facts : List Fact) (tx : TxParts) (keys : List Touched)
+    → plays_at_manager rm facts (stored.VotePrepared tx keys) ≡ true → IsFreshVote facts tx keys
+fresh_vote rm facts tx keys e =
+    let all = and_parts (names tx rm && is_new facts tx && not (is_name_spent rm facts tx)) (not (is_some_held facts keys)) e in
+    let most = and_parts (names tx rm && is_new facts tx) (not (is_name_spent rm facts tx)) all.0 in
+    let some = and_parts (names tx rm) (is_new facts tx) most.0 in
+    let new = and_parts (not (is_some (vote_in facts tx))) (not (is_ended facts tx)) some.1 in
+    record { new = unvoted facts tx (not-true (is_some (vote_in facts tx)) new.0) votes.Prepared; free = not-true (is_some_held facts keys) all.1 }
+
+-- keys that are free of prepared branches are in none
+free_of : (facts : List Fact) (keys : List Touched) (bound : Bound) → is_some_held facts keys ≡ false → Among (bound_in facts) bound
+    → AreDisjoint keys bound.keys
+free_of facts keys bound free h key p q =
+    let found = any_found (λ (touched : Touched). bytes_eq touched.key key) keys p in
+    let same : found.element.key ≡ key = (bytes_decides found.element.key key).0 found.passes in
+    both_ways (is_some_held facts keys) free
+    (found_any (λ (b : Bound). list_any (λ (touched : Touched). has_key touched.key b.keys) keys) (bound_in facts) bound h
+    (found_any (λ (touched : Touched). has_key touched.key bound.keys) keys found.element found.among
+    (subst (λ (k : List ℕ). has_key k bound.keys ≡ true) (sym same) q)))
+
+abbrev tx_in : Fact → TxParts → TxParts
+tx_in (stored.VotePrepared tx keys) other = tx
+tx_in fact other = other
+
+abbrev keys_in : Fact → List Touched
+keys_in (stored.VotePrepared tx keys) = keys
+keys_in fact = []
+
+module _ (rm : ℕ) (facts : List Fact) (fact : Fact) (are : AreBoundApart facts) (play : plays_at_manager rm facts fact ≡ true) where
+  -- a prepared branch was one before, or the fact made it
+  was_or_new : (bound : Bound) → Among (bound_in (facts ++ fact ∷ [])) bound
+      → Among (bound_in facts) bound ⊎ ((fact ≡ stored.VotePrepared bound.tx bound.keys) × IsFreshVote facts bound.tx bound.keys)
+  was_or_new bound h =
+      let is = bound_stored (facts ++ fact ∷ []) bound h in
+      elim (Among-push facts fact (stored.VotePrepared bound.tx bound.keys) is.voted) [
+        | inl old ↦ inl (stored_bound facts bound (record { voted = old; prepared = prepared_before facts fact bound.tx (bound.keys, old) is.prepared }))
+        | inr e ↦ inr (e, fresh_vote rm facts bound.tx bound.keys (subst (λ (f : Fact). plays_at_manager rm facts f ≡ true) e play))
+      ]
+
+  -- none of a fresh vote's transaction was prepared
+  not_old : (bound other : Bound) → Among (bound_in facts) bound → IsFreshVote facts other.tx other.keys → bound.tx ≡ other.tx → ⊥
+  not_old bound other h fresh e =
+      fresh.new (bound.keys, subst (λ (t : TxParts). Among facts (stored.VotePrepared t bound.keys)) e (bound_stored facts bound h).voted)
+
+  bound_apart_after : AreBoundApart (facts ++ fact ∷ [])
+  bound_apart_after = record {
+    once = λ bound other h k e. elim (was_or_new bound h) [
+      | inl old ↦ elim (was_or_new other k) [ inl also ↦ are.once bound other old also e | inr new ↦ absurd (not_old bound other old new.1 e) ]
+      | inr new ↦ elim (was_or_new other k) [ inl also ↦ absurd (not_old other bound also new.1 (sym e)) | inr both ↦ ap keys_in (sym new.0 ∙ both.0) ]
+    ];
+    apart = λ bound other h k e. elim (was_or_new bound h) [
+      | inl old ↦ elim (was_or_new other k) [
+        | inl also ↦ are.apart bound other old also e
+        | inr new ↦ λ key p q. free_of facts other.keys bound new.1.free old key q p
+      ]
+      | inr new ↦ elim (was_or_new other k) [
+        | inl also ↦ free_of facts bound.keys other new.1.free also
+        | inr both ↦ absurd (e (ap (λ (f : Fact). tx_in f bound.tx) (sym new.0 ∙ both.0)))
+      ]
+    ];
+  }
+
+bound_apart_through : (config : Config) (rm : ℕ) (before facts : List Fact) → AreBoundApart before
+    → all_play config (R rm) before facts ≡ true → AreBoundApart (before ++ facts)
+bound_apart_through config rm before [] are play = subst AreBoundApart (sym (append-nil before)) are
+bound_apart_through config rm before (fact ∷ facts) are play =
+    let parts = and_parts (plays config (R rm) before fact) (all_play config (R rm) (before ++ fact ∷ []) facts) play in
+    subst AreBoundApart (append_assoc before (fact ∷ []) facts)
+    (bound_apart_through config rm (before ++ fact ∷ []) facts (bound_apart_after rm before fact are parts.0) parts.1)
+
+-- where facts played, prepared branches are apart
+pub bound_apart : (config : Config) (rm : ℕ) (facts : List Fact) → all_play config (R rm) [] facts ≡ true → AreBoundApart facts
+bound_apart config rm facts play = bound_apart_through config rm [] facts (record { once = λ b o h. absurd h; apart = λ b o h. absurd h }) play
+
+-- ---- all branches
+
+-- a branch among all: prepared, by its transaction, or another
+pub record IsPreparedAs (rm : ℕ) (facts : List Fact) (b : Branch) : Type 0 where
+  pub bound : Bound
+  pub among : Among (bound_in facts) bound
+  pub name : xid_at bound.tx rm ≡ Some b.xid
+  pub keys : b.keys ≡ bound.keys
+
+prepared_from : (rm : ℕ) (facts : List Fact) (bound : Bound) (b : Branch) (o : Option XidParts) → Among (bound_in facts) bound
+    → xid_at bound.tx rm ≡ o
+    → option_map (named_so bound.keys) o ≡ Some b → IsPreparedAs rm facts b
+prepared_from rm facts bound b None h name e = absurd (cc (e))
+prepared_from rm facts bound b (Some x) h name e =
+    let same : named_so bound.keys x ≡ b = ap (λ o. unwrap_or o b) e in
+    record { bound = bound; among = h; name = name ∙ ap (λ (c : Branch). Some c.xid) same; keys = ap (λ (c : Branch). c.keys) (sym same) }
+
+pub prepared_or_not : (rm : ℕ) (facts : List Fact) (branches : List Branch) (b : Branch) → Among (all_branches rm facts branches) b
+    → IsPreparedAs rm facts b ⊎ Among branches b
+prepared_or_not rm facts branches b h = elim (Among-append (filter_map _ (bound_in facts)) branches b h) [
+  | inl of_bound ↦
+      let given = filter_map_given _ (bound_in facts) b of_bound in
+      inl (prepared_from rm facts given.source b (xid_at given.source.tx rm) given.among refl given.gives)
+  | inr other ↦ inr other
+]
+
+-- no key is touched by two branches
+pub keys_held_once : (config : Config) (rm : ℕ) (facts : List Fact) (branches : List Branch) → all_play config (R rm) [] facts ≡ true
+    → AreApart rm facts branches
+    → (b c : Branch) → Among (all_branches rm facts branches) b → Among (all_branches rm facts branches) c → b.xid ≢ c.xid
+    → AreDisjoint b.keys c.keys
+keys_held_once config rm facts branches play are b c h k apart key p q = elim (prepared_or_not rm facts branches b h) [
+  | inl one ↦ elim (prepared_or_not rm facts branches c k) [
+    | inl two ↦ (bound_apart config rm facts play).apart one.bound two.bound one.among two.among
+        (λ e. apart (ap (λ o. unwrap_or o b.xid) (sym one.name ∙ ap (λ (t : TxParts). xid_at t rm) e ∙ two.name))) key
+        (subst (λ (ks : List Touched). has_key key ks ≡ true) one.keys p) (subst (λ (ks : List Touched). has_key key ks ≡ true) two.keys q)
+    | inr two ↦ are.free c one.bound two one.among key q (subst (λ (ks : List Touched). has_key key ks ≡ true) one.keys p)
+  ]
+  | inr one ↦ elim (prepared_or_not rm facts branches c k) [
+    | inl two ↦ are.free b two.bound one two.among key p (subst (λ (ks : List Touched). has_key key ks ≡ true) two.keys q)
+    | inr two ↦ are.apart b c one two apart key p q
+  ]
+]
