@@ -1,5 +1,6 @@
 -- What holds in every world that events come to.
-use Rattle.std.proofs.Common.{◌≡◌, ◌≢◌, ◌⊎◌, inl, inr, ◌∙◌, ℕ, ◌≤◌, Bool, true, false, IsTrue, if◌then◌else◌, List, [], ◌∷◌, Option, Some, None, refl, sym, ap, subst}
+use Rattle.std.proofs.Common.{◌≡◌, ◌≢◌, ◌⊎◌, inl, inr, ◌∙◌, ℕ, ◌≤◌, Bool, true, false, IsTrue, if◌then◌else◌, List, [], ◌∷◌}
+use Rattle.std.proofs.Common.{Option, Some, None, refl, sym, ap, subst}
 use Rattle.std.proofs.lemmas.Bool.{cases_eq}
 use Rattle.xid.specs.Transactions.{TxParts, names}
 use Rattle.xid.specs.declared.transaction.Vote.{Vote}
@@ -43,15 +44,18 @@ module _ (config : Config) (events : List Fated) where
   steps next tx = (happens_next config (reached config events) (safe_ever config events) next.event next.fate).next.step tx
 
   pub consistent : (tx : TxParts) → IsConsistent (names tx) (views_in config (reached config events) tx)
-  consistent tx = all.consistent (setting config) (Stands config (reached config events)) invariant tx (views_in config (reached config events) tx) (state tx)
+  consistent tx = all.consistent (setting config) (Stands config (reached config events)) invariant tx
+      (views_in config (reached config events) tx) (state tx)
 
   pub committed_finds : (tx : TxParts) (r q : ℕ) → IsTrue (names tx q) → Stands config (reached config events) (Committed r tx)
       → Stands config (reached config events) (Voted q tx votes.Prepared)
-  committed_finds tx r q named h = agreement.committed_finds_prepared (setting config) (Stands config (reached config events)) invariant {tx = tx} {r = r} h q named
+  committed_finds tx r q named h = agreement.committed_finds_prepared (setting config)
+      (Stands config (reached config events)) invariant {tx = tx} {r = r} h q named
 
   pub sent_finds : (tx : TxParts) (q : ℕ) → IsTrue (names tx q) → Stands config (reached config events) (Commit tx)
       → Stands config (reached config events) (Voted q tx votes.Prepared)
-  sent_finds tx q named h = agreement.commit_finds_prepared (setting config) (Stands config (reached config events)) invariant {tx = tx} h q named
+  sent_finds tx q named h = agreement.commit_finds_prepared (setting config) (Stands config (reached config events)) invariant
+      {tx = tx} h q named
 
   pub ready : (tx : TxParts) (q : ℕ) → IsTrue (names tx q) → Stands config (reached config events) (Commit tx)
       → IsReady (views_in config (reached config events) tx q)
@@ -64,7 +68,8 @@ module _ (config : Config) (events : List Fated) where
 -- ---- slots and ballots
 
 module _ (config : Config) (events : List Fated) where
-  slot_ever : (a : ℕ) (tx : TxParts) (i : ℕ) → laws.IsSlot (facts_after config events (A a)) tx i (slot (facts_after config events (A a)) tx i)
+  slot_ever : (a : ℕ) (tx : TxParts) (i : ℕ)
+      → laws.IsSlot (facts_after config events (A a)) tx i (slot (facts_after config events (A a)) tx i)
   slot_ever a tx i = slot_is config a (facts_after config events (A a)) (play config events (A a)) tx i
 
   -- what a slot holds was accepted
@@ -80,7 +85,8 @@ module _ (config : Config) (events : List Fated) where
   accept_covered a tx i b v h =
       accepts_are (facts_after config events) a tx i (slot (facts_after config events (A a)) tx i).report (slot_ever a tx i).last b v h
 
-  pub promise_below : (a : ℕ) (tx : TxParts) (i b : ℕ) → StandsAfter config events (Promised a tx i b) → b ≤ (slot (facts_after config events (A a)) tx i).mbal
+  pub promise_below : (a : ℕ) (tx : TxParts) (i b : ℕ) → StandsAfter config events (Promised a tx i b)
+      → b ≤ (slot (facts_after config events (A a)) tx i).mbal
   promise_below a tx i b h = (slot_ever a tx i).promised b h
 
 -- a ballot that was begun is at most the greatest
@@ -91,7 +97,8 @@ begun_below facts tx b h =
 -- ---- moves
 
 -- a step that makes a view committed finds all ready
-to_committed : (participant : ℕ → Bool) (s : ℕ → View) (x y : View) → x ≢ views.Committed → y ≡ views.Committed → IsCommitMove participant s x y
+to_committed : (participant : ℕ → Bool) (s : ℕ → View) (x y : View) → x ≢ views.Committed → y ≡ views.Committed
+    → IsCommitMove participant s x y
     → (q : ℕ) → IsTrue (participant q) → IsReady (s q)
 to_committed participant s views.Prepared views.Committed x y move q named = move q named
 to_committed participant s views.Working views.Prepared x y move q named = absurd (cc (y))

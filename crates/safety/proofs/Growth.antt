@@ -16,7 +16,8 @@ use Rattle.protocol.specs.StandsFor.{stands_for, comes_to}
 use Rattle.safety.specs.Items.{Item, Promised, Accepted, Began, Voted, Committed, Dropped, P1b, P2a, P2b, Commit, Abort}
 use Rattle.safety.specs.Standing.{Among, StandsBy}
 use Rattle.safety.proofs.Additions.{IsGrownBy}
-use Rattle.safety.proofs.Lists.{Among-append, Among-before, Among-after, Among-push, Among-last, Among-join, Among-joined, Contains-among, Among-contains}
+use Rattle.safety.proofs.Lists.{Among-append, Among-before, Among-after, Among-push, Among-last, Among-join, Among-joined}
+use Rattle.safety.proofs.Lists.{Contains-among, Among-contains}
 
 pub same_node : (n who : NodeId) → (n ≡ who) ⊎ (n ≡ who → ⊥)
 same_node (A a) (A b) = elim (cases_eq a b) [ inl e ↦ inl (ap A e) | inr apart ↦ inr (λ e. apart (cc (e))) ]
@@ -35,7 +36,8 @@ items_of who None = []
 items_of who (Some fact) = comes_to who fact
 
 -- the facts of one node grow by at most one, what was sent by more
-pub record IsMore (who : NodeId) (fact : Option Fact) (more : List Kind) (before after : NodeId → List Fact) (sent sent_after : List Kind) : Type 0 where
+pub record IsMore (who : NodeId) (fact : Option Fact) (more : List Kind) (before after : NodeId → List Fact)
+    (sent sent_after : List Kind) : Type 0 where
   pub own : after who ≡ before who ++ option_to_list fact
   pub others : (n : NodeId) → (n ≡ who → ⊥) → after n ≡ before n
   pub messages : sent_after ≡ sent ++ more

@@ -1,5 +1,6 @@
 -- What holds of a world at each moment of a run, and that it lasts while one node takes a step.
-use Rattle.std.proofs.Common.{◌≡◌, ◌⊎◌, inl, inr, ⊎_elim, ◌∙◌, ℕ, zero, suc, ◌<◌, Bool, true, false, ◌&&◌, IsTrue, List, [], ◌∷◌, ◌++◌, Option, Some, None, refl, sym, ap, subst, arith}
+use Rattle.std.proofs.Common.{◌≡◌, ◌⊎◌, inl, inr, ⊎_elim, ◌∙◌, ℕ, zero, suc, ◌<◌, Bool, true, false, ◌&&◌, IsTrue, List, [], ◌∷◌}
+use Rattle.std.proofs.Common.{◌++◌, Option, Some, None, refl, sym, ap, subst, arith}
 use Rattle.std.specs.Prelude.{map, Contains}
 use Rattle.std.specs.List.{flat_map}
 use Rattle.std.specs.Option.{option_to_list}
@@ -106,8 +107,10 @@ owner_sent : (config : Config) (who : NodeId) (l : ℕ) (tx : TxParts) (i b : �
 owner_sent config who l tx i zero v from owned = absurd (omega (arith, owned.0))
 owner_sent config who l tx i (suc b) v from owned = from ∙ ap L owned.1
 
-module _ (config : Config) (nodes nodes_after : NodeId → Option NodeState) (sent sent_after : List Kind) (who : NodeId) (node new : NodeState)
-    (fact : Option Fact) (sends more : List Kind) (safe : IsSafeBy config nodes sent) (good : IsGood config who (facts_by nodes) sent fact sends)
+module _ (config : Config) (nodes nodes_after : NodeId → Option NodeState) (sent sent_after : List Kind) (who : NodeId)
+    (node new : NodeState)
+    (fact : Option Fact) (sends more : List Kind) (safe : IsSafeBy config nodes sent)
+    (good : IsGood config who (facts_by nodes) sent fact sends)
     (some : (m : Kind) → Among more m → Among sends m) (moved : IsMoved nodes nodes_after sent sent_after who node new fact more)
     (met : (f : Fact) → fact ≡ Some f → plays config who (facts_by nodes who) f ≡ true)
     (leads : (l : ℕ) → who ≡ L l → IsKept config l new.facts new.memory.leading (Among sent_after))
@@ -160,7 +163,8 @@ module _ (config : Config) (nodes nodes_after : NodeId → Option NodeState) (se
       kept_while config l other.facts other.memory.leading (Among sent) (Among sent_after) message_kept
       (λ tx i b v k owned. elim (message_new (kinds.P2a tx i b v) k) [
         | inl old ↦ old
-        | inr fresh ↦ absurd (apart (sym (owner_sent config who l tx i b v (good.from (kinds.P2a tx i b v) (some (kinds.P2a tx i b v) fresh)) owned)))
+        | inr fresh ↦ absurd (apart (sym (owner_sent config who l tx i b v
+            (good.from (kinds.P2a tx i b v) (some (kinds.P2a tx i b v) fresh)) owned)))
       ])
       (safe.kept l other (sym (moved.others (L l) apart) ∙ h))
 
