@@ -10,7 +10,8 @@ ghost use Rattle.protocol.specs.declared.NodeId.TheVariants.{A, L};
 ghost use Rattle.protocol.specs.Effects.{Config};
 ghost use Rattle.protocol.specs.Facts.{slot, last_ballot};
 ghost use Rattle.protocol.specs.Worlds.{Fated};
-ghost use Rattle.safety.specs.Items.{Accepted, Began, Voted, Committed, Dropped, P1b, P2a, P2b, Commit, Abort, IsDecidedIn, IsDecided, IsPick, IsCovered};
+ghost use Rattle.safety.specs.Items.{Accepted, Began, Voted, Committed, Dropped, P1b, P2a, P2b, Commit, Abort};
+ghost use Rattle.safety.specs.Items.{IsDecidedIn, IsDecided, IsPick, IsCovered};
 ghost use Rattle.safety.specs.Runs.{reached, facts_after, StandsAfter};
 ghost use Rattle.safety.specs.Senders.{AreFrom};
 
@@ -38,7 +39,8 @@ pub fn ballots_are_owned()
     ensures begun { (config : Config) (events : List Fated) (tx : TxParts) (i b : ℕ) (v : Vote)
         → StandsAfter config events (P2a tx i b v) → 0 < b → StandsAfter config events (Began (owner_of config.leaders b) tx b) }
     ensures at_most { (config : Config) (events : List Fated) (tx : TxParts) (i b : ℕ) (v : Vote)
-        → StandsAfter config events (P2a tx i b v) → 0 < b → b ≤ last_ballot (facts_after config events (L (owner_of config.leaders b))) tx }
+        → StandsAfter config events (P2a tx i b v) → 0 < b
+        → b ≤ last_ballot (facts_after config events (L (owner_of config.leaders b))) tx }
     ensures one_value { (config : Config) (events : List Fated) (tx : TxParts) (i b : ℕ) (v w : Vote)
         → StandsAfter config events (P2a tx i b v) → StandsAfter config events (P2a tx i b w) → v ≡ w }
     ensures picked { (config : Config) (events : List Fated) (tx : TxParts) (i b : ℕ) (v : Vote)
@@ -78,7 +80,8 @@ pub fn decisions_last()
     ensures later { (config : Config) (events : List Fated) (tx : TxParts) (i b d : ℕ) (v w : Vote)
         → IsDecidedIn config.acceptors (StandsAfter config events) tx i b v → StandsAfter config events (P2a tx i d w) → b < d → w ≡ v }
     ensures one { (config : Config) (events : List Fated) (tx : TxParts) (i : ℕ) (v w : Vote)
-        → IsDecided config.acceptors (StandsAfter config events) tx i v → IsDecided config.acceptors (StandsAfter config events) tx i w → v ≡ w }
+        → IsDecided config.acceptors (StandsAfter config events) tx i v
+        → IsDecided config.acceptors (StandsAfter config events) tx i w → v ≡ w }
 {
 }
 
