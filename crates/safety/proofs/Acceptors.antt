@@ -23,13 +23,14 @@ use Rattle.protocol.specs.Laws as laws
 use Rattle.protocol.proofs.SlotLaws.{slot_is}
 use Rattle.safety.specs.Items.{Item, Promised, Accepted, Began, Voted, Committed, Dropped, P1b, P2a, P2b, Commit, Abort}
 use Rattle.safety.specs.Items.{Setting, Allowed, IsCovered}
+use Rattle.safety.specs.Senders.{IsFrom}
 use Rattle.safety.specs.Standing.{Among, StandsBy, setting}
 use Rattle.safety.proofs.Slots.{IsSlot, IsHeld, slot_may_accept, slot_may_be_reported}
 use Rattle.safety.proofs.Additions.{AreAllowed, Contains-one, Contains-head}
 use Rattle.safety.proofs.Events.{with_items}
 use Rattle.safety.proofs.Lists.{only_one}
 use Rattle.safety.proofs.Growth.{items_of}
-use Rattle.safety.proofs.Steps.{IsNamed, IsFrom, IsGood, nothing_is_good}
+use Rattle.safety.proofs.Steps.{IsNamed, IsGood, nothing_is_good}
 
 -- the messages of an effect
 abbrev pub messages_of : List Send → List Kind
@@ -46,7 +47,7 @@ held_is : (facts : NodeId → List Fact) (sent : List Kind) (a : ℕ) (tx : TxPa
 held_is facts sent a tx i mbal None below h = tt
 held_is facts sent a tx i mbal (Some last) below h = (below last.0 last.1 h.0, h.0)
 
-accepts_are : (facts : NodeId → List Fact) (a : ℕ) (tx : TxParts) (i : ℕ) (r : Report)
+pub accepts_are : (facts : NodeId → List Fact) (a : ℕ) (tx : TxParts) (i : ℕ) (r : Report)
     → laws.IsGreatestAccept (facts (A a)) tx i r → (b : ℕ) (v : Vote) → Among (facts (A a)) (stored.Accept tx i b v) → IsCovered r b
 accepts_are facts a tx i None h b v k = absurd (h b v k)
 accepts_are facts a tx i (Some last) h b v k = h.1 b v k
@@ -103,7 +104,7 @@ module _ (config : Config) (a : ℕ) (facts : NodeId → List Fact) (sent : List
               (λ (new : Contains (x ∷ []) (Accepted a tx i d v)). let e : x ≡ Accepted a tx i d v = Contains-one x (Accepted a tx i d v) new in absurd (cc (e))) h)));
         agree = λ ux j d v w h k. absurd (only_one (λ m. m ≡ kinds.P2a ux j d v → ⊥) (kinds.P1b tx i b s.report a) (λ e. absurd (cc (e))) (kinds.P2a ux j d v) h refl);
         named = only_one IsNamed (kinds.P1b tx i b s.report a) named;
-        from = only_one (IsFrom config (A a)) (kinds.P1b tx i b s.report a) tt;
+        from = only_one (IsFrom config (A a)) (kinds.P1b tx i b s.report a) refl;
       }
 
   on_1a_good : (tx : TxParts) (i b : ℕ) → IsTrue (names tx i) → IsAcceptorGood config a facts sent (on_1a config a (facts (A a)) tx i b)
@@ -127,7 +128,7 @@ module _ (config : Config) (a : ℕ) (facts : NodeId → List Fact) (sent : List
         (only_one (Allowed (setting config) (with_items Has (items_of (A a) fact))) (P2b tx i b v a) stands);
     agree = λ ux j d w x h k. absurd (only_one (λ m. m ≡ kinds.P2a ux j d w → ⊥) (kinds.P2b tx i b v a) (λ e. absurd (cc (e))) (kinds.P2a ux j d w) h refl);
     named = only_one IsNamed (kinds.P2b tx i b v a) named;
-    from = only_one (IsFrom config (A a)) (kinds.P2b tx i b v a) tt;
+    from = only_one (IsFrom config (A a)) (kinds.P2b tx i b v a) refl;
   }
 
   on_2a_good : (tx : TxParts) (i b : ℕ) (v : Vote) → IsTrue (names tx i) → Among sent (kinds.P2a tx i b v)

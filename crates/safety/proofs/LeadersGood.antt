@@ -17,6 +17,7 @@ use Rattle.protocol.specs.StandsFor.{stands_for}
 use Rattle.safety.specs.Items.{Item, Began, P1b, P2a, P2b, Commit, Abort}
 use Rattle.safety.specs.Items.{Allowed, IsPick}
 use Rattle.safety.specs.Invariant.{Invariant}
+use Rattle.safety.specs.Senders.{IsFrom}
 use Rattle.safety.specs.Standing.{Among, StandsBy, setting}
 use Rattle.safety.proofs.Majorities.{majorities_meet}
 use Rattle.safety.proofs.Kept.{IsDecided-kept, IsPick-kept}
@@ -25,7 +26,7 @@ use Rattle.safety.proofs.Events.{with_items}
 use Rattle.safety.proofs.Actions.{proposal_is_allowed}
 use Rattle.safety.proofs.Lists.{Among-append, Among-before, Among-push, Among-mapped}
 use Rattle.safety.proofs.Growth.{items_of}
-use Rattle.safety.proofs.Steps.{IsNamed, IsFrom, IsGood}
+use Rattle.safety.proofs.Steps.{IsNamed, IsGood}
 use Rattle.safety.proofs.Acceptors.{messages_of}
 use Rattle.safety.proofs.LeadersWords.{Told, IsKept, IsBacked, IsSentBy, with_fact, IsNewBallot, MaySend}
 use Rattle.safety.proofs.Leaders.{IsLeaderEffect, IsTakenSent, leader_effect}
@@ -109,9 +110,13 @@ module _ (config : Config) (l : ℕ) (facts : NodeId → List Fact) (sent : List
   may_send_named _ may = tt
 
   may_send_from : (m : Kind) → MaySend config l (with_fact (facts (L l)) fact) (Among sent) m → IsFrom config (L l) m
-  may_send_from (kinds.P2a tx i zero v) may = tt
+  may_send_from (kinds.Prepare tx) may = (l, refl)
+  may_send_from (kinds.P1a tx i b) may = ap L (sym may.1.owned.1)
+  may_send_from (kinds.P2a tx i zero v) may = let positive : 0 < 0 = may.owned.0 in absurd (omega (arith, positive))
   may_send_from (kinds.P2a tx i (suc b) v) may = ap L (sym may.owned.1)
-  may_send_from _ may = tt
+  may_send_from (kinds.Commit tx) may = (l, refl)
+  may_send_from (kinds.Abort tx) may = (l, refl)
+  may_send_from _ may = absurd may
 
   fact_is_allowed : (o : Option Fact) → fact ≡ o → AreAllowed (setting config) (StandsBy facts sent) (items_of (L l) o)
   fact_is_allowed None e = tt

@@ -22,7 +22,6 @@ pub mod LeadersGood
 pub mod Places
 pub mod Safe
 pub mod NodeSteps
-pub mod Needed
 pub mod Rules
 pub mod ManagerEvents
 pub mod ManagerKeys
@@ -30,3 +29,4 @@ pub mod Played
 pub mod ManagerApart
 pub mod Worlds
 pub mod ManagerHolds
+pub mod Ever

@@ -19,12 +19,13 @@ use Rattle.protocol.specs.Nodes.{Memory, Input, Take, effect_of}
 use Rattle.protocol.specs.Playing.{all_play}
 use Rattle.protocol.specs.StandsFor.{stands_for, comes_to}
 use Rattle.safety.specs.Items.{Item, Voted, Committed, Dropped, P2a, Allowed, IsView}
+use Rattle.safety.specs.Senders.{IsFrom}
 use Rattle.safety.specs.Standing.{Among, StandsBy, HasVote, setting}
 use Rattle.safety.proofs.Additions.{AreAllowed, Contains-one, Contains-head}
 use Rattle.safety.proofs.Events.{with_items}
 use Rattle.safety.proofs.Lists.{Among-push, Among-mapped}
 use Rattle.safety.proofs.Growth.{items_of}
-use Rattle.safety.proofs.Steps.{IsNamed, IsFrom, IsGood}
+use Rattle.safety.proofs.Steps.{IsNamed, IsGood}
 use Rattle.safety.proofs.ViewFacts.{vote_in_stands, unvoted, unended, prepared_shows, AreOf, view_is}
 use Rattle.safety.proofs.Played.{voted_named}
 use Rattle.safety.proofs.Managers.{facts_after, IsFirst, IsManagerFact, IsManagerSend, IsRight, name_names, manager_is_right}
@@ -123,8 +124,9 @@ module _ (config : Config) (rm : ℕ) (facts : NodeId → List Fact) (sent : Lis
     send_named m is = absurd is
 
     send_from : (m : Kind) → IsManagerSend rm (facts_after (facts (R rm)) o) m → IsFrom config (R rm) m
-    send_from (kinds.P2a tx i b v) is = subst (λ (n : ℕ). IsFrom config (R rm) (kinds.P2a tx i n v)) (sym is.first) tt
-    send_from (kinds.Ask tx r) is = tt
+    send_from (kinds.P2a tx i b v) is =
+        subst (λ (n : ℕ). IsFrom config (R rm) (kinds.P2a tx i n v)) (sym is.first) (ap R (sym is.own))
+    send_from (kinds.Ask tx r) is = ap R (sym is)
     send_from m is = absurd is
 
     send_agrees : (tx : TxParts) (i b : ℕ) (v w : Vote) → IsManagerSend rm (facts_after (facts (R rm)) o) (kinds.P2a tx i b v)

@@ -15,6 +15,7 @@ use Rattle.protocol.specs.Lengths.{frame_length}
 use Rattle.protocol.specs.Nodes.{Memory, empty_memory, NodeState, Input, Fate, Well, Fails, Unreached, Starved, Outcome, is_taken, effect_of, unchanged, fallen, stopped, followed, settled, down_reply, node_step}
 use Rattle.protocol.specs.Playing.{plays}
 use Rattle.protocol.specs.Worlds.{World, Datagram, Happening, node_at, set_node, posted, joined}
+use Rattle.safety.specs.Senders.{IsFrom, AreFrom}
 use Rattle.safety.specs.Standing.{Among, sent_in}
 use Rattle.safety.proofs.Acceptors.{messages_of}
 use Rattle.safety.proofs.Growth.{IsMore}
@@ -241,3 +242,48 @@ pub next_step : (config : Config) (world : World) (who : NodeId) (node : NodeSta
 next_step config world who node input fate safe stands rule =
     next_left config world who node (node_step config who node input fate) safe stands (effect_of config who node.facts node.memory input) rule
     (step_is config who node input fate)
+
+-- ---- senders
+
+-- a datagram that is sent is a send of its sender
+record IsPosted (who : NodeId) (sends : List Send) (d : Datagram) : Type 0 where
+  message : Among (messages_of sends) d.message
+  sender : who ≡ d.sender
+
+posted_is : (config : Config) (who : NodeId) (sends : List Send) (d : Datagram) → Among (flat_map (posted config who) sends) d → IsPosted who sends d
+posted_is config who sends d h =
+    let from = Among-joined (posted config who) sends d h in
+    let to = Among-mapped (λ (receiver : NodeId). record { sender = who; receiver = receiver; message = from.source.message; marked = false })
+        (receivers config from.source.to (messages.tx_of from.source.message)) d from.inside in
+    record {
+      message = subst (λ (m : Kind). Among (messages_of sends) m) (ap (λ (x : Datagram). x.message) to.maps)
+          (Among-map (λ (s : Send). s.message) sends from.source from.among);
+      sender = ap (λ (x : Datagram). x.sender) to.maps;
+    }
+
+-- what an outcome sends is from its node
+left_from : (config : Config) (who : NodeId) (node : NodeState) (e : Effect Memory) (left : Outcome) → ((m : Kind) → Among (messages_of e.sends) m → IsFrom config who m)
+    → IsLeft node e left → (m : Kind) → Among (messages_of left.sends) m → IsFrom config who m
+left_from config who node e left from (inl still) m h =
+    absurd (subst (λ (sends : List Send). Among (messages_of sends) m) still.silent h)
+left_from config who node e left from (inr (inl torn)) m h =
+    absurd (subst (λ (sends : List Send). Among (messages_of sends) m) torn.silent h)
+left_from config who node e left from (inr (inr done)) m h =
+    from m (subst (λ (sends : List Send). Among (messages_of sends) m) done.sends h)
+
+pub joined_from : (config : Config) (world : World) (who : NodeId) (facts : List Fact) (left : Outcome) → AreFrom config world.net
+    → ((m : Kind) → Among (messages_of left.sends) m → IsFrom config who m) → AreFrom config (joined config world who facts left).world.net
+joined_from config world who facts left are from d h = elim (Among-append world.net (flat_map (posted config who) left.sends) d h) [
+  | inl old ↦ are d old
+  | inr new ↦
+      let is = posted_is config who left.sends d new in
+      subst (λ (n : NodeId). IsFrom config n d.message) is.sender (from d.message is.message)
+]
+
+pub step_from : (config : Config) (world : World) (who : NodeId) (node : NodeState) (input : Input) (fate : Fate)
+    → IsRule config who (node_at config world) (sent_in world) node.facts (effect_of config who node.facts node.memory input)
+    → AreFrom config world.net → AreFrom config (joined config world who node.facts (node_step config who node input fate)).world.net
+step_from config world who node input fate rule are =
+    joined_from config world who node.facts (node_step config who node input fate) are
+    (left_from config who node (effect_of config who node.facts node.memory input) (node_step config who node input fate) rule.good.from
+    (step_is config who node input fate))

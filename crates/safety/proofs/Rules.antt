@@ -14,9 +14,8 @@ use Rattle.safety.proofs.Acceptors.{messages_of, acceptor_is_good}
 use Rattle.safety.proofs.Leaders.{IsTakenSent, leader_effect}
 use Rattle.safety.proofs.LeadersGood.{leader_is_good, backed_by}
 use Rattle.safety.proofs.LeadersWords.{IsKept, IsSentMore, with_fact}
-use Rattle.safety.proofs.ManagerApart.{AreApart}
+use Rattle.safety.proofs.ManagerApart.{AreApart, manager_met, manager_stays_apart}
 use Rattle.safety.proofs.ManagerEvents.{manager_is_good}
-use Rattle.safety.proofs.Needed.{manager_effect}
 use Rattle.safety.proofs.NodeSteps.{IsRule}
 use Rattle.safety.proofs.Safe.{facts_by, IsSafeBy}
 use Rattle.safety.proofs.Steps.{IsGood, nothing_is_good}
@@ -94,14 +93,14 @@ manager_rule : (config : Config) (rm : ℕ) (nodes : NodeId → Option NodeState
     → IsRule config (R rm) nodes sent (facts_by nodes (R rm)) (effect_of config (R rm) (facts_by nodes (R rm)) memory input)
 manager_rule config rm nodes sent safe memory input came apart =
     let e : Effect Memory = effect_of config (R rm) (facts_by nodes (R rm)) memory input in
-    let is = manager_effect config rm (facts_by nodes (R rm)) memory input (safe.played (R rm)) apart in
+    let is = manager_stays_apart config rm (facts_by nodes (R rm)) memory input (safe.played (R rm)) apart in
     record {
       good = manager_is_good config rm (facts_by nodes) sent memory input (safe.played (R rm)) (taken_from sent input came);
-      met = is.plays;
+      met = manager_met config rm (facts_by nodes (R rm)) memory input apart;
       leads = λ l now same. absurd (cc (same));
       holds = λ n same.
           let own : rm ≡ n = cc (same) in
-          subst (λ (k : ℕ). AreApart k (with_fact (facts_by nodes (R rm)) e.fact) e.memory.branches) own is.apart;
+          subst (λ (k : ℕ). AreApart k (with_fact (facts_by nodes (R rm)) e.fact) e.memory.branches) own is;
     }
 
 -- ---- any node

@@ -27,6 +27,7 @@ use Rattle.protocol.specs.Laws as laws
 use Rattle.protocol.proofs.ViewLaws as protocol
 use Rattle.safety.specs.Items.{Item, Setting, IsView, IsState}
 use Rattle.safety.specs.Invariant.{Invariant}
+use Rattle.safety.specs.Senders.{IsFrom}
 use Rattle.safety.specs.Standing.{Among, StandsBy, setting, facts_of, facts_at, sent_in, Stands}
 use Rattle.safety.proofs.Events.{IsEvent, event_keeps_invariant, event_moves_one_step}
 use Rattle.safety.proofs.Growth.{items_of, IsMore, same_node}
@@ -35,7 +36,7 @@ use Rattle.safety.proofs.LeadersWords.{IsKept}
 use Rattle.safety.proofs.Leaders.{kept_while}
 use Rattle.safety.proofs.ManagerApart.{AreApart}
 use Rattle.safety.proofs.Played.{all_play_then}
-use Rattle.safety.proofs.Steps.{IsNamed, IsFrom, IsGood, event_of_rule}
+use Rattle.safety.proofs.Steps.{IsNamed, IsGood, event_of_rule}
 
 -- the facts of nodes
 abbrev pub facts_by : (NodeId → Option NodeState) → NodeId → List Fact

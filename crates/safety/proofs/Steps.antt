@@ -6,7 +6,6 @@ use Rattle.xid.specs.Transactions.{TxParts, names}
 use Rattle.xid.specs.declared.transaction.Vote.{Vote}
 use Rattle.wire.specs.declared.message.Kind.{Kind}
 use Rattle.wire.specs.declared.message.Kind.TheVariants as kinds
-use Rattle.ballot.specs.Ballots.{owner_of}
 use Rattle.stable_record.specs.Facts.{Fact}
 use Rattle.stable_record.specs.Facts as stored
 use Rattle.protocol.specs.declared.NodeId.{NodeId}
@@ -15,6 +14,7 @@ use Rattle.protocol.specs.Effects.{Config}
 use Rattle.protocol.specs.StandsFor.{stands_for, comes_to}
 use Rattle.safety.specs.Items.{Item, Promised, Accepted, Began, Voted, Committed, Dropped, P1b, P2a, P2b, Commit, Abort}
 use Rattle.safety.specs.Items.{Setting, Allowed}
+use Rattle.safety.specs.Senders.{IsFrom}
 use Rattle.safety.specs.Standing.{Among, StandsBy, setting}
 use Rattle.safety.proofs.Additions.{AreAllowed, AreQuietAfterFirst, IsGrownBy}
 use Rattle.safety.proofs.Events.{IsEvent, IsMessage, with_items}
@@ -28,12 +28,6 @@ IsNamed (kinds.P1b tx i b report a) = IsTrue (names tx i)
 IsNamed (kinds.P2a tx i b v) = IsTrue (names tx i)
 IsNamed (kinds.P2b tx i b v a) = IsTrue (names tx i)
 IsNamed message = Unit {0}
-
--- a proposal above ballot 0 is from the ballot's owner
-abbrev pub IsFrom : Config → NodeId → Kind → Type 0
-IsFrom config who (kinds.P2a tx i zero v) = Unit {0}
-IsFrom config who (kinds.P2a tx i (suc b) v) = who ≡ L (owner_of config.leaders (suc b))
-IsFrom config who message = Unit {0}
 
 -- the fact may be stored, and then each message sent
 pub record IsGood (config : Config) (who : NodeId) (facts : NodeId → List Fact) (sent : List Kind) (fact : Option Fact) (sends : List Kind) : Type 0 where

@@ -10,7 +10,7 @@ use Rattle.xid.specs.declared.refusals.Refusal.TheVariants.{NoSuch}
 use Rattle.protocol.specs.Calls as calls
 use Rattle.protocol.specs.declared.NodeId.{NodeId}
 use Rattle.protocol.specs.declared.NodeId.TheVariants.{A, L, R}
-use Rattle.protocol.specs.Effects.{Config, Done, Refuses}
+use Rattle.protocol.specs.Effects.{Config, Send, Done, Refuses}
 use Rattle.protocol.specs.Lengths.{message_length}
 use Rattle.protocol.specs.Nodes.{empty_memory, new_node, NodeState, Input, CallOn, ListPrepared, AskView, AskCommit, AskStatus, TimeOut, Take, TakeNoise, Fate, Well, Fails, Unreached, Starved, Outcome, node_step, restarted}
 use Rattle.protocol.specs.Playing.{all_play}
@@ -18,31 +18,48 @@ use Rattle.protocol.specs.Worlds.{World, Datagram, opening, Event, Client, ViewO
 use Rattle.xid.specs.declared.transaction.Vote.TheVariants as votes
 use Rattle.safety.specs.Items.{Item, Promised, Accepted, Began, Voted, Committed, Dropped, P1b, P2a, P2b, Commit, Abort}
 use Rattle.safety.specs.Invariant.{Invariant}
+use Rattle.safety.specs.Senders.{IsFrom, AreFrom}
 use Rattle.safety.specs.Standing.{Among, StandsBy, setting, facts_of, sent_in}
+use Rattle.safety.proofs.Acceptors.{messages_of}
 use Rattle.safety.proofs.Kept.{invariant_at_start}
 use Rattle.safety.proofs.Leaders.{kept_at_start}
 use Rattle.safety.proofs.LeadersWords.{IsKept}
 use Rattle.safety.proofs.Lists.{Among-map}
 use Rattle.safety.proofs.ManagerApart.{AreApart, none_apart}
-use Rattle.safety.proofs.NodeSteps.{IsStill, next_still, next_step}
+use Rattle.safety.proofs.NodeSteps.{IsStill, next_still, next_step, joined_from, step_from}
 use Rattle.safety.proofs.Places.{node_there, node_elsewhere, opening_node, leader_inside, marked_messages}
 use Rattle.safety.proofs.Rules.{IsFromNet, rule_is}
 use Rattle.safety.proofs.Safe.{facts_by, IsSafeBy, IsSafe, IsNextBy, next_same}
 
 -- the next moment of a world
-abbrev pub IsNext : Config → (before after : World) → Type 0
-IsNext config before after = IsNextBy config (node_at config before) (node_at config after) (sent_in after)
+pub record IsNext (config : Config) (before after : World) : Type 0 where
+  pub next : IsNextBy config (node_at config before) (node_at config after) (sent_in after)
+  pub from : AreFrom config before.net → AreFrom config after.net
+
+-- a mark changes no sender and no message
+marked_from : (config : Config) (net : List Datagram) (n : ℕ) → AreFrom config net → AreFrom config (marked_at net n)
+marked_from config [] n are x h = are x h
+marked_from config (d ∷ net) zero are x h = are x h
+marked_from config (d ∷ net) (suc zero) are x (inl e) = subst (λ (y : Datagram). IsFrom config y.sender y.message) e (are d (inl refl))
+marked_from config (d ∷ net) (suc zero) are x (inr h) = are x (inr h)
+marked_from config (d ∷ net) (suc (suc n)) are x (inl e) = are x (inl e)
+marked_from config (d ∷ net) (suc (suc n)) are x (inr h) = marked_from config net (suc n) (λ y k. are y (inr k)) x h
 
 module _ (config : Config) (world : World) (safe : IsSafe config world) where
   -- nothing changes
   same : IsNext config world world
-  same = next_same config (node_at config world) (node_at config world) (sent_in world) (sent_in world) safe (λ n. refl) refl
+  same = record {
+    next = next_same config (node_at config world) (node_at config world) (sent_in world) (sent_in world) safe (λ n. refl) refl;
+    from = λ are. are;
+  }
 
   -- a mark
   marked : (n : ℕ) → IsNext config world (with_mark world n)
-  marked n =
-      next_same config (node_at config world) (node_at config (with_mark world n)) (sent_in world) (sent_in (with_mark world n)) safe (λ who. refl)
-      (marked_messages world.net n)
+  marked n = record {
+    next = next_same config (node_at config world) (node_at config (with_mark world n)) (sent_in world) (sent_in (with_mark world n)) safe (λ who. refl)
+        (marked_messages world.net n);
+    from = marked_from config world.net n;
+  }
 
   few : (who : NodeId) (node : NodeState) → node_at config world who ≡ Some node → (l : ℕ) → who ≡ L l → l < config.leaders
   few who node stands l e = leader_inside config world l node (subst (λ (n : NodeId). node_at config world n ≡ Some node) e stands)
@@ -57,8 +74,8 @@ module _ (config : Config) (world : World) (safe : IsSafe config world) where
       → IsNext config world (handed who input fate o).world
   handed_next who input fate came None is = same
   handed_next who input fate came (Some node) is =
-      next_step config world who node input fate safe is
-      (rule_is config who (node_at config world) (sent_in world) safe node input is (few who node is) came)
+      let rule = rule_is config who (node_at config world) (sent_in world) safe node input is (few who node is) came in
+      record { next = next_step config world who node input fate safe is rule; from = step_from config world who node input fate rule }
 
   at_node_next : (who : NodeId) (input : Input) (fate : Fate) → IsFromNet (sent_in world) input → IsNext config world (at_node config world who input fate).world
   at_node_next who input fate came = handed_next who input fate came (node_at config world who) refl
@@ -81,7 +98,13 @@ module _ (config : Config) (world : World) (safe : IsSafe config world) where
 
   tried_next : (who : NodeId) (fate : Fate) (o : Option NodeState) → node_at config world who ≡ o → IsNext config world (tried who fate o).world
   tried_next who fate None is = same
-  tried_next who fate (Some node) is = next_still config world who node (restarted config who node fate) safe is (restarted_is who node fate)
+  tried_next who fate (Some node) is =
+      let still = restarted_is who node fate in
+      record {
+        next = next_still config world who node (restarted config who node fate) safe is still;
+        from = λ are. joined_from config world who node.facts (restarted config who node fate) are
+            (λ m h. absurd (subst (λ (sends : List Send). Among (messages_of sends) m) still.silent h));
+      }
 
   abbrev armed : NodeId → ℕ → Option NodeState → Happening
   armed who n None = refused world (Refuses NoSuch)
@@ -91,9 +114,12 @@ module _ (config : Config) (world : World) (safe : IsSafe config world) where
   armed_next who n None is = same
   armed_next who n (Some node) is =
       let left : Outcome = record { node = record node { tear = Some n }; reply = Done; sends = [] } in
-      subst (λ (xs : List Kind). IsNextBy config (node_at config world) (node_at config (armed who n (Some node)).world) xs)
-      (ap (map (λ datagram. datagram.message)) (append-nil world.net))
-      (next_still config world who node left safe is (record { facts = refl; silent = refl; memory = inl refl }))
+      record {
+        next = subst (λ (xs : List Kind). IsNextBy config (node_at config world) (node_at config (armed who n (Some node)).world) xs)
+            (ap (map (λ datagram. datagram.message)) (append-nil world.net))
+            (next_still config world who node left safe is (record { facts = refl; silent = refl; memory = inl refl }));
+        from = λ are. are;
+      }
 
   -- ---- datagrams
 
@@ -126,9 +152,11 @@ module _ (config : Config) (world : World) (safe : IsSafe config world) where
   delivers_next : (n : ℕ) (fate : Fate) (o : Option Datagram) → datagram_at world.net n ≡ o → IsNext config world (delivers config world n fate o).world
   delivers_next n fate None is = same config world safe
   delivers_next n fate (Some d) is =
-      at_node_next config (with_mark world n) (marked config world safe n).safe d.receiver (Take d.message) fate
-      (subst (λ (xs : List Kind). Among xs d.message) (sym (marked_messages world.net n))
-      (Among-map (λ (datagram : Datagram). datagram.message) world.net d (datagram_among world.net n d is)))
+      let first = marked config world safe n in
+      let second = at_node_next config (with_mark world n) first.next.safe d.receiver (Take d.message) fate
+          (subst (λ (xs : List Kind). Among xs d.message) (sym (marked_messages world.net n))
+          (Among-map (λ (datagram : Datagram). datagram.message) world.net d (datagram_among world.net n d is))) in
+      record { next = second.next; from = λ are. second.from (first.from are) }
 
   -- an event that reaches its node, if it has one
   does_next : (event : Event) (fate : Fate) → IsNext config world (does config world event fate).world
@@ -191,7 +219,18 @@ opening_is_safe config = record {
 pub safe_after : (config : Config) (world : World) (events : List Fated) → IsSafe config world → IsSafe config (world_after config world events)
 safe_after config world [] safe = safe
 safe_after config world (first ∷ rest) safe =
-    safe_after config (happens config world first.event first.fate).world rest (happens_next config world safe first.event first.fate).safe
+    safe_after config (happens config world first.event first.fate).world rest (happens_next config world safe first.event first.fate).next.safe
 
 pub safe_ever : (config : Config) (events : List Fated) → IsSafe config (world_after config (opening config) events)
 safe_ever config events = safe_after config (opening config) events (opening_is_safe config)
+
+pub from_after : (config : Config) (world : World) (events : List Fated) → IsSafe config world → AreFrom config world.net
+    → AreFrom config (world_after config world events).net
+from_after config world [] safe are = are
+from_after config world (first ∷ rest) safe are =
+    let next = happens_next config world safe first.event first.fate in
+    from_after config (happens config world first.event first.fate).world rest next.next.safe (next.from are)
+
+-- each datagram is from the node that it says
+pub from_ever : (config : Config) (events : List Fated) → AreFrom config (world_after config (opening config) events).net
+from_ever config events = from_after config (opening config) events (opening_is_safe config) (λ d h. absurd h)

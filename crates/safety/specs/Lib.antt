@@ -2,3 +2,5 @@ pub mod CommitSteps
 pub mod Items
 pub mod Invariant
 pub mod Standing
+pub mod Runs
+pub mod Senders

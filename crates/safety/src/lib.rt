@@ -1,11 +1,6 @@
-// The safety argument of Paxos Commit: definitions in `specs/`, proofs in `proofs/`.
+//! Paxos Commit is safe (Gray and Lamport, "Consensus on Transaction Commit"): on the definitions of `protocol`, for all
+//! configurations and all lists of events. The functions have empty bodies; their clauses are the theorems.
 #![tactic(auto)]
 
-ghost use Rattle.std.specs.Prelude.{◌≡◌, ◌*◌};
-
-// Twice a number that is small.
-pub fn twice(x: u32) -> u64
-    ensures { result ≡ 2 * x }
-{
-    2 * x as u64
-}
+pub mod headline;
+pub mod parts;

@@ -1,0 +1,5 @@
+use Rattle.safety.proofs.Ever.{consistent}
+use Rattle.safety.proofs.headline.consistent.Goals as goal
+
+pub returns : goal.returns
+returns c = consistent
