@@ -1,10 +1,10 @@
 -- The value that is computed from reports is the one that the paper takes.
-use Rattle.std.proofs.Common.{◌≡◌, ◌⊎◌, inl, inr, ⊎_elim, ℕ, ◌<◌, ◌≤◌, max, Bool, true, false, not, ◌||◌, ◌&&◌, if◌then◌else◌, ◌==◌, List, [], ◌∷◌, Option, Some, None, is_some, refl, sym, ap, ◌∙◌, subst, arith}
+use Rattle.std.proofs.Common.{◌≡◌, inl, inr, ⊎_elim, ℕ, ◌<◌, ◌≤◌, max, Bool, true, false, not, ◌&&◌, if◌then◌else◌, ◌==◌, List, [], ◌∷◌, Some, None, is_some, refl, sym, ap, ◌∙◌, subst, arith}
 use Rattle.std.specs.List.{list_any, list_all}
 use Rattle.std.proofs.lemmas.Bool.{cases_lt, both_ways, and_from, and_parts, or_cases, or_right, or_left, not-true, cases_eq, eq-eqb, ne_eqb, not_from_false}
 use Rattle.xid.specs.declared.transaction.Vote.{Vote}
 use Rattle.xid.specs.declared.transaction.Vote.TheVariants.{Prepared, Aborted}
-use Rattle.ballot.specs.Choice.{Report, IsIn, IsTop, IsPreparedTop, IsPick, pick, top_of, says_prepared, is_prepared}
+use Rattle.ballot.specs.Choice.{Report, IsIn, IsPreparedTop, IsPick, pick, top_of, says_prepared, is_prepared}
 
 abbrev reported : (ℕ × Vote) → Report → ℕ × Vote
 reported other None = other
@@ -36,12 +36,12 @@ top_in [] h = absurd (cc (h))
 top_in (None ∷ reports) h = let rest = top_in reports h in (rest.0, inr rest.1)
 top_in (Some first ∷ reports) h = ⊎_elim
     (λ (above : first.0 < top_of reports).
-      let rest = top_in reports (some_above reports (omega (arith, above))) in
-      let same : top_of reports ≡ max first.0 (top_of reports) = omega (arith, above) in
-      (rest.0, inr (subst (λ (t : ℕ). IsIn reports (Some (t, rest.0))) same rest.1)))
+    let rest = top_in reports (some_above reports (omega (arith, above))) in
+    let same : top_of reports ≡ max first.0 (top_of reports) = omega (arith, above) in
+    (rest.0, inr (subst (λ (t : ℕ). IsIn reports (Some (t, rest.0))) same rest.1)))
     (λ (below : top_of reports ≤ first.0).
-      let same : first.0 ≡ max first.0 (top_of reports) = omega (arith, below) in
-      (first.1, inl (λ i. Some (same i, first.1))))
+    let same : first.0 ≡ max first.0 (top_of reports) = omega (arith, below) in
+    (first.1, inl (λ i. Some (same i, first.1))))
     (cases_lt first.0 (top_of reports))
 
 -- ---- what the reports of the top say

@@ -1,5 +1,5 @@
 -- Steps over lists.
-use Rattle.std.proofs.Common.{◌≡◌, ℕ, zero, suc, ◌+◌, ◌<◌, max, Bool, if◌then◌else◌, List, ◌∷◌, Option, Some, None, refl, arith, ap, ◌∙◌}
+use Rattle.std.proofs.Common.{◌≡◌, ℕ, suc, ◌+◌, max, Bool, if◌then◌else◌, List, ◌∷◌, Some, None, refl, arith, ap}
 use Rattle.ballot.specs.Choice.{Report, top_of}
 use Rattle.ballot.specs.Majority.{count}
 

@@ -10,7 +10,7 @@ mod slot;
 
 pub use ballots::{next_owned, owner};
 pub use choice::choose;
-pub use quorum::{Quorum, MAX_ACCEPTORS};
+pub use quorum::{MAX_ACCEPTORS, Quorum};
 pub use slot::{Report, Slot};
 
 #[cfg(test)]

@@ -1,4 +1,4 @@
-use crate::{choose, next_owned, owner, Quorum, Slot};
+use crate::{Quorum, Slot, choose, next_owned, owner};
 use xid::{Refusal, Vote};
 
 #[test]
@@ -29,8 +29,14 @@ fn a_slot_takes_no_part_below_its_ballot(rt: HostRuntime) {
 fn the_greatest_report_is_chosen(rt: HostRuntime) {
     assert_eq!(rt; choose(&[None, None]), Vote::Aborted);
     assert_eq!(rt; choose(&[None, Some((0, Vote::Prepared))]), Vote::Prepared);
-    assert_eq!(rt; choose(&[Some((0, Vote::Prepared)), Some((3, Vote::Aborted))]), Vote::Aborted);
-    assert_eq!(rt; choose(&[Some((1, Vote::Prepared)), Some((1, Vote::Aborted))]), Vote::Aborted);
+    assert_eq!(rt;
+        choose(&[Some((0, Vote::Prepared)), Some((3, Vote::Aborted))]),
+        Vote::Aborted
+    );
+    assert_eq!(rt;
+        choose(&[Some((1, Vote::Prepared)), Some((1, Vote::Aborted))]),
+        Vote::Aborted
+    );
 }
 
 #[test]

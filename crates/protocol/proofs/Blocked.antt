@@ -1,16 +1,15 @@
 -- blocked: one datagram never comes, and the branch stays prepared.
-use Rattle.std.specs.Prelude.{◌≡◌, refl, ℕ, List, [], ◌∷◌, ◌++◌, Option, Some, None}
+use Rattle.std.specs.Prelude.{◌≡◌, refl, List, [], ◌∷◌, ◌++◌}
 use Rattle.xid.specs.declared.transaction.Vote.TheVariants as votes
 use Rattle.xid.specs.declared.codes.XaCode.TheVariants as codes
-use Rattle.xid.specs.declared.refusals.Refusal.TheVariants.{RecordFault, Busy}
-use Rattle.wire.specs.declared.message.Kind.TheVariants.{Prepare, P1a, P1b, P2a, P2b, Commit, Abort, Ask}
+use Rattle.wire.specs.declared.message.Kind.TheVariants.{P2a, P2b, Ask}
 use Rattle.protocol.specs.declared.NodeId.TheVariants.{A, L, R}
 use Rattle.protocol.specs.declared.View.TheVariants as views
 use Rattle.protocol.specs.declared.Status.TheVariants as statuses
-use Rattle.protocol.specs.Calls.{Start, Get, End, EndFail, Rollback, Code, Xids, Refused, Recover}
-use Rattle.protocol.specs.Effects.{Config, Reply, Done, Called, Shows, Stands, Refuses}
-use Rattle.protocol.specs.Worlds.{Event, Client, ViewOf, CommitOf, StatusOf, Timeout, Deliver, Tear, Restart}
-use Rattle.protocol.proofs.RowWords.{x, y, z, two, one, other_one, row, cluster, cluster_with_row, then, replies, tables, deliveries, call, put, recover, sent_by, changes, ok, two_ended, one_ended}
+use Rattle.protocol.specs.Calls.{Rollback, Code, Xids}
+use Rattle.protocol.specs.Effects.{Config, Done, Called, Shows, Stands}
+use Rattle.protocol.specs.Worlds.{Event, ViewOf, StatusOf, Timeout, Deliver}
+use Rattle.protocol.proofs.RowWords.{x, one, cluster, next, replies, tables, deliveries, call, recover, sent_by, ok, one_ended}
 
 abbrev c : Config
 c = cluster 1 1 1
@@ -22,10 +21,10 @@ pub answered : replies c events ≡ ok ∷ ok ∷ ok ∷ Stands statuses.Undecid
     ∷ Called (Code codes.Proto) ∷ Shows views.Prepared ∷ Done ∷ Done ∷ []
 answered = refl
 
-pub told : (then c (one_ended ++ deliveries 1 1) (Deliver 2)).sent ≡ sent_by (A 0) (L 0) (P2b one 0 0 votes.Prepared 0) ∷ []
+pub told : (next c (one_ended ++ deliveries 1 1) (Deliver 2)).sent ≡ sent_by (A 0) (L 0) (P2b one 0 0 votes.Prepared 0) ∷ []
 told = refl
 
-pub asks : (then c (one_ended ++ deliveries 1 2) (Timeout (R 0) one)).sent ≡ sent_by (R 0) (A 0) (P2a one 0 0 votes.Prepared) ∷ sent_by (R 0) (L 0) (Ask one 0) ∷ []
+pub asks : (next c (one_ended ++ deliveries 1 2) (Timeout (R 0) one)).sent ≡ sent_by (R 0) (A 0) (P2a one 0 0 votes.Prepared) ∷ sent_by (R 0) (L 0) (Ask one 0) ∷ []
 asks = refl
 
 pub final : tables c events ≡ [] ∷ []

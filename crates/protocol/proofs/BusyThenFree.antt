@@ -1,16 +1,15 @@
 -- busy_then_free: a held key is refused, and free after the abort.
-use Rattle.std.specs.Prelude.{◌≡◌, refl, ℕ, List, [], ◌∷◌, ◌++◌, Option, Some, None}
+use Rattle.std.specs.Prelude.{◌≡◌, refl, List, [], ◌∷◌, ◌++◌}
 use Rattle.xid.specs.declared.transaction.Vote.TheVariants as votes
-use Rattle.xid.specs.declared.codes.XaCode.TheVariants as codes
-use Rattle.xid.specs.declared.refusals.Refusal.TheVariants.{RecordFault, Busy}
-use Rattle.wire.specs.declared.message.Kind.TheVariants.{Prepare, P1a, P1b, P2a, P2b, Commit, Abort, Ask}
-use Rattle.protocol.specs.declared.NodeId.TheVariants.{A, L, R}
+use Rattle.xid.specs.declared.refusals.Refusal.TheVariants.{Busy}
+use Rattle.wire.specs.declared.message.Kind.TheVariants.{P2a}
+use Rattle.protocol.specs.declared.NodeId.TheVariants.{A, R}
 use Rattle.protocol.specs.declared.View.TheVariants as views
 use Rattle.protocol.specs.declared.Status.TheVariants as statuses
-use Rattle.protocol.specs.Calls.{Start, Get, End, EndFail, Rollback, Code, Xids, Refused, Recover}
-use Rattle.protocol.specs.Effects.{Config, Reply, Done, Called, Shows, Stands, Refuses}
-use Rattle.protocol.specs.Worlds.{Event, Client, ViewOf, CommitOf, StatusOf, Timeout, Deliver, Tear, Restart}
-use Rattle.protocol.proofs.RowWords.{x, y, z, two, one, other_one, row, cluster, cluster_with_row, then, replies, tables, deliveries, call, put, recover, sent_by, changes, ok, two_ended, one_ended}
+use Rattle.protocol.specs.Calls.{Start, Get, Refused}
+use Rattle.protocol.specs.Effects.{Config, Done, Called, Stands}
+use Rattle.protocol.specs.Worlds.{Event, CommitOf, Deliver}
+use Rattle.protocol.proofs.RowWords.{x, z, one, cluster, next, replies, tables, call, put, sent_by, changes, ok}
 
 abbrev c : Config
 c = cluster 1 1 1
@@ -22,10 +21,10 @@ pub answered : replies c (before ++ Deliver 1 ∷ call 0 z (put 0x6b 0x32) ∷ [
     ≡ ok ∷ ok ∷ ok ∷ Called (Refused Busy) ∷ Called (Refused Busy) ∷ Stands statuses.Undecided ∷ Done ∷ ok ∷ []
 answered = refl
 
-pub votes_aborted : (then c before (Deliver 1)).now ≡ changes 0 one views.Aborted
+pub votes_aborted : (next c before (Deliver 1)).now ≡ changes 0 one views.Aborted
 votes_aborted = refl
 
-pub sends_aborted : (then c before (Deliver 1)).sent ≡ sent_by (R 0) (A 0) (P2a one 0 0 votes.Aborted) ∷ []
+pub sends_aborted : (next c before (Deliver 1)).sent ≡ sent_by (R 0) (A 0) (P2a one 0 0 votes.Aborted) ∷ []
 sends_aborted = refl
 
 pub final : tables c (before ++ Deliver 1 ∷ call 0 z (put 0x6b 0x32) ∷ []) ≡ [] ∷ []

@@ -1,16 +1,13 @@
 -- takeover_finds_prepared: a second leader finishes the commit.
-use Rattle.std.specs.Prelude.{◌≡◌, refl, ℕ, List, [], ◌∷◌, ◌++◌, Option, Some, None}
+use Rattle.std.specs.Prelude.{◌≡◌, refl, List, [], ◌∷◌, ◌++◌, Some}
 use Rattle.xid.specs.declared.transaction.Vote.TheVariants as votes
-use Rattle.xid.specs.declared.codes.XaCode.TheVariants as codes
-use Rattle.xid.specs.declared.refusals.Refusal.TheVariants.{RecordFault, Busy}
-use Rattle.wire.specs.declared.message.Kind.TheVariants.{Prepare, P1a, P1b, P2a, P2b, Commit, Abort, Ask}
+use Rattle.wire.specs.declared.message.Kind.TheVariants.{P1b, P2a, P2b, Commit}
 use Rattle.protocol.specs.declared.NodeId.TheVariants.{A, L, R}
 use Rattle.protocol.specs.declared.View.TheVariants as views
 use Rattle.protocol.specs.declared.Status.TheVariants as statuses
-use Rattle.protocol.specs.Calls.{Start, Get, End, EndFail, Rollback, Code, Xids, Refused, Recover}
-use Rattle.protocol.specs.Effects.{Config, Reply, Done, Called, Shows, Stands, Refuses}
-use Rattle.protocol.specs.Worlds.{Event, Client, ViewOf, CommitOf, StatusOf, Timeout, Deliver, Tear, Restart}
-use Rattle.protocol.proofs.RowWords.{x, y, z, two, one, other_one, row, cluster, cluster_with_row, then, replies, tables, deliveries, call, put, recover, sent_by, changes, ok, two_ended, one_ended}
+use Rattle.protocol.specs.Effects.{Config, Stands}
+use Rattle.protocol.specs.Worlds.{Event, StatusOf, Timeout, Deliver}
+use Rattle.protocol.proofs.RowWords.{two, row, cluster_with_row, next, tables, deliveries, sent_by, changes, two_ended}
 
 abbrev c : Config
 c = cluster_with_row 3 2 2
@@ -27,31 +24,30 @@ proposed = taken_over ++ deliveries 27 4
 abbrev told : List Event
 told = proposed ++ Deliver 31 ∷ Deliver 32 ∷ Deliver 34 ∷ Deliver 35 ∷ Deliver 38 ∷ Deliver 40 ∷ Deliver 42 ∷ []
 
-pub to_both : (then c (two_ended ++ deliveries 1 7) (Deliver 8)).sent ≡ sent_by (A 2) (L 0) (P2b two 1 0 votes.Prepared 2) ∷ sent_by (A 2) (L 1) (P2b two 1 0 votes.Prepared 2) ∷ []
+pub to_both : (next c (two_ended ++ deliveries 1 7) (Deliver 8)).sent ≡ sent_by (A 2) (L 0) (P2b two 1 0 votes.Prepared 2) ∷ sent_by (A 2) (L 1) (P2b two 1 0 votes.Prepared 2) ∷ []
 to_both = refl
 
-pub its_own_ballot : (then c (voted ++ Timeout (L 1) two ∷ []) (Deliver 21)).sent ≡ sent_by (A 0) (L 1) (P1b two 0 2 (Some (0, votes.Prepared)) 0) ∷ []
+pub its_own_ballot : (next c (voted ++ Timeout (L 1) two ∷ []) (Deliver 21)).sent ≡ sent_by (A 0) (L 1) (P1b two 0 2 (Some (0, votes.Prepared)) 0) ∷ []
 its_own_ballot = refl
 
-pub picks_prepared : (then c (taken_over ++ deliveries 27 1) (Deliver 28)).sent
+pub picks_prepared : (next c (taken_over ++ deliveries 27 1) (Deliver 28)).sent
     ≡ sent_by (L 1) (A 0) (P2a two 0 2 votes.Prepared) ∷ sent_by (L 1) (A 1) (P2a two 0 2 votes.Prepared) ∷ sent_by (L 1) (A 2) (P2a two 0 2 votes.Prepared) ∷ []
 picks_prepared = refl
 
-pub waits_for_both : (then c (proposed ++ Deliver 31 ∷ Deliver 32 ∷ Deliver 34 ∷ Deliver 35 ∷ Deliver 38 ∷ []) (Deliver 40)).sent ≡ []
+pub waits_for_both : (next c (proposed ++ Deliver 31 ∷ Deliver 32 ∷ Deliver 34 ∷ Deliver 35 ∷ Deliver 38 ∷ []) (Deliver 40)).sent ≡ []
 waits_for_both = refl
 
-pub decided : (then c told (Deliver 44)).sent ≡ sent_by (L 1) (R 0) (Commit two) ∷ sent_by (L 1) (R 1) (Commit two) ∷ []
+pub decided : (next c told (Deliver 44)).sent ≡ sent_by (L 1) (R 0) (Commit two) ∷ sent_by (L 1) (R 1) (Commit two) ∷ []
 decided = refl
 
-pub commits : (then c (told ++ Deliver 44 ∷ Deliver 45 ∷ []) (Deliver 46)).now ≡ changes 1 two views.Committed
+pub commits : (next c (told ++ Deliver 44 ∷ Deliver 45 ∷ []) (Deliver 46)).now ≡ changes 1 two views.Committed
 commits = refl
 
-pub one_knows : (then c (told ++ deliveries 44 3) (StatusOf 1 two)).reply ≡ Stands statuses.Committed
+pub one_knows : (next c (told ++ deliveries 44 3) (StatusOf 1 two)).reply ≡ Stands statuses.Committed
 one_knows = refl
 
-pub other_waits : (then c (told ++ deliveries 44 3) (StatusOf 0 two)).reply ≡ Stands statuses.Undecided
+pub other_waits : (next c (told ++ deliveries 44 3) (StatusOf 0 two)).reply ≡ Stands statuses.Undecided
 other_waits = refl
 
 pub final : tables c (told ++ deliveries 44 3) ≡ (row 0x6b 0x31 ∷ []) ∷ (row 0x6d 0x32 ∷ []) ∷ []
 final = refl
-

@@ -13,3 +13,4 @@ pub mod Same
 pub mod Standing
 pub mod ViewLaws
 pub mod SlotLaws
+pub mod Agreement

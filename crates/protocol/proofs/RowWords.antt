@@ -1,6 +1,5 @@
 -- Words for worked runs: the names and transactions in them, and what a run shows of itself.
-use Rattle.std.specs.Prelude.{ℕ, false, List, [], ◌∷◌, map, Option, Some, None, slice_get}
-use Rattle.std.specs.Option.{option_map}
+use Rattle.std.specs.Prelude.{ℕ, false, List, [], ◌∷◌, map, Option, Some}
 use Rattle.xid.specs.Names.{XidParts}
 use Rattle.xid.specs.Transactions.{TxParts}
 use Rattle.protocol.specs.declared.NodeId.{NodeId}
@@ -53,8 +52,8 @@ abbrev pub run : Config → List Event → World
 run config events = world_after config (opening config) (map well events)
 
 -- what an event does that comes after others
-abbrev pub then : Config → List Event → Event → Happening
-then config events event = happens config (run config events) event Well
+abbrev pub next : Config → List Event → Event → Happening
+next config events event = happens config (run config events) event Well
 
 -- all replies, and the final tables
 abbrev pub replies : Config → List Event → List Reply

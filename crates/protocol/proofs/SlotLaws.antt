@@ -1,5 +1,5 @@
 -- A slot is what the facts of an acceptor say.
-use Rattle.std.proofs.Common.{◌≡◌, ◌⊎◌, inl, inr, ⊎_elim, ◌∙◌, ℕ, ◌≤◌, Bool, true, false, ◌&&◌, not, if◌then◌else◌, List, [], ◌∷◌, ◌++◌, Option, Some, None, refl, sym, ap, subst, arith, append_assoc, nat_le}
+use Rattle.std.proofs.Common.{◌≡◌, ◌⊎◌, inl, inr, ⊎_elim, ◌∙◌, ℕ, ◌≤◌, Bool, true, false, ◌&&◌, not, if◌then◌else◌, List, [], ◌∷◌, ◌++◌, Some, None, refl, sym, ap, subst, arith, append_assoc, nat_le}
 use Rattle.std.specs.Prelude.{filter_map}
 use Rattle.std.specs.List.{last_or, cons_option}
 use Rattle.std.proofs.lemmas.Bool.{and_parts, leb-true}
@@ -90,16 +90,17 @@ old_or_new facts fact tx i b v h = ⊎_elim (λ old. inl old) (λ new. inr (told
 
 kept : (facts : List Fact) (fact : Fact) (tx : TxParts) (i : ℕ) (r : Report) → accepted_by tx i fact ≡ None → IsGreatestAccept facts tx i r → IsGreatestAccept (facts ++ fact ∷ []) tx i r
 kept facts fact tx i None none h = λ b v is. ⊎_elim (λ old. h b v old) (λ new. absurd (cc (none, new))) (old_or_new facts fact tx i b v is)
-kept facts fact tx i (Some last) none h =
-    (Stands-before facts (fact ∷ []) (stored.Accept tx i last.0 last.1) h.0,
-     λ b v is. ⊎_elim (λ old. h.1 b v old) (λ new. absurd (cc (none, new))) (old_or_new facts fact tx i b v is))
+kept facts fact tx i (Some last) none h = (
+  Stands-before facts (fact ∷ []) (stored.Accept tx i last.0 last.1) h.0,
+  λ b v is. ⊎_elim (λ old. h.1 b v old) (λ new. absurd (cc (none, new))) (old_or_new facts fact tx i b v is),
+)
 
 -- an accept plays no lower than any ballot before
 plays_above : (facts : List Fact) (tx : TxParts) (i b : ℕ) (v : Vote) → plays_at_acceptor facts (stored.Accept tx i b v) ≡ true → (slot facts tx i).mbal ≤ b
 plays_above facts tx i b v h =
     leb-true (slot facts tx i).mbal b
     (and_parts (names tx i) (nat_le (slot facts tx i).mbal b)
-      (and_parts (names tx i && nat_le (slot facts tx i).mbal b) (not (is_accepted (slot facts tx i) b v)) h).0).1
+    (and_parts (names tx i && nat_le (slot facts tx i).mbal b) (not (is_accepted (slot facts tx i) b v)) h).0).1
 
 ballot_same : (b : ℕ) (v : Vote) (last : ℕ × Vote) → Some last ≡ Some (b, v) → b ≤ last.0
 ballot_same b v last e = let same : last.0 ≡ b = ap (λ (r : Report). ballot_of r) e in omega (arith, same)
@@ -112,12 +113,13 @@ added : (facts : List Fact) (fact : Fact) (tx : TxParts) (i : ℕ) (last : ℕ �
     → IsGreatestAccept (facts ++ fact ∷ []) tx i (Some last)
 added facts fact tx i last e h =
     let is : fact ≡ stored.Accept tx i last.0 last.1 = accept_is tx i fact last e in
-    let above = plays_above facts tx i last.0 last.1 (subst (λ (f : Fact). plays_at_acceptor facts f ≡ true) is h) in
-    (subst (λ (f : Fact). Stands (facts ++ fact ∷ []) f) is (Stands-last facts fact),
-     λ b v at. ⊎_elim
-       (λ old. let low = accepted_below facts tx i b v old in omega (arith, low, above))
-       (λ new. ballot_same b v last (sym e ∙ new))
-       (old_or_new facts fact tx i b v at))
+    let above = plays_above facts tx i last.0 last.1 (subst (λ (f : Fact). plays_at_acceptor facts f ≡ true) is h) in (
+      subst (λ (f : Fact). Stands (facts ++ fact ∷ []) f) is (Stands-last facts fact),
+      λ b v at. ⊎_elim
+          (λ old. let low = accepted_below facts tx i b v old in omega (arith, low, above))
+          (λ new. ballot_same b v last (sym e ∙ new))
+          (old_or_new facts fact tx i b v at),
+    )
 
 stepped : (facts : List Fact) (fact : Fact) (tx : TxParts) (i : ℕ) (o : Report) → accepted_by tx i fact ≡ o → plays_at_acceptor facts fact ≡ true
     → IsGreatestAccept facts tx i (report_in facts tx i) → IsGreatestAccept (facts ++ fact ∷ []) tx i (later o (report_in facts tx i))
@@ -130,7 +132,7 @@ after config a tx i before [] is h = subst (λ (fs : List Fact). IsGreatestAccep
 after config a tx i before (fact ∷ facts) is h =
     let parts = and_parts (plays_at_acceptor before fact) (all_play config (A a) (before ++ fact ∷ []) facts) h in
     let next = subst (λ (r : Report). IsGreatestAccept (before ++ fact ∷ []) tx i r) (sym (report-next before tx i fact))
-          (stepped before fact tx i (accepted_by tx i fact) refl parts.0 is) in
+    (stepped before fact tx i (accepted_by tx i fact) refl parts.0 is) in
     subst (λ (fs : List Fact). IsGreatestAccept fs tx i (report_in fs tx i)) (append_assoc before (fact ∷ []) facts) (after config a tx i (before ++ fact ∷ []) facts next parts.1)
 
 pub slot_is : (config : Config) (a : ℕ) (facts : List Fact) → all_play config (A a) [] facts ≡ true → (tx : TxParts) (i : ℕ) → IsSlot facts tx i (slot facts tx i)

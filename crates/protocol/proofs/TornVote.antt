@@ -1,16 +1,15 @@
 -- torn_vote: the append of a vote is stopped, before its first byte and after its last.
-use Rattle.std.specs.Prelude.{◌≡◌, refl, ℕ, List, [], ◌∷◌, ◌++◌, Option, Some, None, drop}
+use Rattle.std.specs.Prelude.{◌≡◌, refl, ℕ, List, [], ◌∷◌, ◌++◌, None, drop}
 use Rattle.xid.specs.declared.transaction.Vote.TheVariants as votes
 use Rattle.xid.specs.declared.codes.XaCode.TheVariants as codes
-use Rattle.xid.specs.declared.refusals.Refusal.TheVariants.{RecordFault, Busy}
-use Rattle.wire.specs.declared.message.Kind.TheVariants.{Prepare, P1a, P1b, P2a, P2b, Commit, Abort, Ask}
-use Rattle.protocol.specs.declared.NodeId.TheVariants.{A, L, R}
+use Rattle.xid.specs.declared.refusals.Refusal.TheVariants.{RecordFault}
+use Rattle.wire.specs.declared.message.Kind.TheVariants.{P2a}
+use Rattle.protocol.specs.declared.NodeId.TheVariants.{A, R}
 use Rattle.protocol.specs.declared.View.TheVariants as views
-use Rattle.protocol.specs.declared.Status.TheVariants as statuses
-use Rattle.protocol.specs.Calls.{Start, Get, End, EndFail, Rollback, Code, Xids, Refused, Recover}
-use Rattle.protocol.specs.Effects.{Config, Reply, Done, Called, Shows, Stands, Refuses}
-use Rattle.protocol.specs.Worlds.{Event, Client, ViewOf, CommitOf, StatusOf, Timeout, Deliver, Tear, Restart}
-use Rattle.protocol.proofs.RowWords.{x, y, z, two, one, other_one, row, cluster, cluster_with_row, then, replies, tables, deliveries, call, put, recover, sent_by, changes, ok, two_ended, one_ended}
+use Rattle.protocol.specs.Calls.{Code, Xids}
+use Rattle.protocol.specs.Effects.{Config, Reply, Done, Called, Refuses}
+use Rattle.protocol.specs.Worlds.{Event, Deliver, Tear, Restart}
+use Rattle.protocol.proofs.RowWords.{x, one, cluster, next, replies, recover, sent_by, changes, one_ended}
 
 abbrev c : Config
 c = cluster 1 1 1
@@ -34,20 +33,20 @@ one_byte_short = refl
 pub all_kept : answers 23 ≡ Done ∷ Refuses RecordFault ∷ Called (Code codes.RmFail) ∷ Done ∷ Called (Xids (x ∷ [])) ∷ Done ∷ []
 all_kept = refl
 
-pub nothing_changed : (then c (torn_at 22) (Deliver 1)).now ≡ None
+pub nothing_changed : (next c (torn_at 22) (Deliver 1)).now ≡ None
 nothing_changed = refl
 
-pub still_prepared : (then c (torn_at 23) (Deliver 1)).now ≡ changes 0 one views.Prepared
+pub still_prepared : (next c (torn_at 23) (Deliver 1)).now ≡ changes 0 one views.Prepared
 still_prepared = refl
 
-pub nothing_sent : (then c (torn_at 23) (Deliver 1)).sent ≡ []
+pub nothing_sent : (next c (torn_at 23) (Deliver 1)).sent ≡ []
 nothing_sent = refl
 
-pub votes_aborted : (then c (torn_at 22 ++ Deliver 1 ∷ Restart (R 0) ∷ []) (Deliver 1)).now ≡ changes 0 one views.Aborted
+pub votes_aborted : (next c (torn_at 22 ++ Deliver 1 ∷ Restart (R 0) ∷ []) (Deliver 1)).now ≡ changes 0 one views.Aborted
 votes_aborted = refl
 
-pub sends_aborted : (then c (torn_at 22 ++ Deliver 1 ∷ Restart (R 0) ∷ []) (Deliver 1)).sent ≡ sent_by (R 0) (A 0) (P2a one 0 0 votes.Aborted) ∷ []
+pub sends_aborted : (next c (torn_at 22 ++ Deliver 1 ∷ Restart (R 0) ∷ []) (Deliver 1)).sent ≡ sent_by (R 0) (A 0) (P2a one 0 0 votes.Aborted) ∷ []
 sends_aborted = refl
 
-pub sends_again : (then c (torn_at 1000 ++ Deliver 1 ∷ Restart (R 0) ∷ []) (Deliver 1)).sent ≡ sent_by (R 0) (A 0) (P2a one 0 0 votes.Prepared) ∷ []
+pub sends_again : (next c (torn_at 1000 ++ Deliver 1 ∷ Restart (R 0) ∷ []) (Deliver 1)).sent ≡ sent_by (R 0) (A 0) (P2a one 0 0 votes.Prepared) ∷ []
 sends_again = refl

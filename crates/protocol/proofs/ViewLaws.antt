@@ -1,5 +1,5 @@
 -- A view is one of four by what stands.
-use Rattle.std.proofs.Common.{◌≡◌, inl, inr, ℕ, Bool, true, false, ◌||◌, if◌then◌else◌, List, refl, sym, subst}
+use Rattle.std.proofs.Common.{◌≡◌, inl, inr, Bool, true, false, ◌||◌, if◌then◌else◌, List, refl, sym, subst}
 use Rattle.std.specs.List.{list_any}
 use Rattle.xid.specs.Transactions.{TxParts}
 use Rattle.xid.specs.declared.transaction.Vote.{Vote}
@@ -7,7 +7,7 @@ use Rattle.xid.specs.declared.transaction.Vote.TheVariants as votes
 use Rattle.stable_record.specs.Facts.{Fact}
 use Rattle.stable_record.specs.Facts as stored
 use Rattle.protocol.specs.declared.View.TheVariants as views
-use Rattle.protocol.specs.Facts.{tx_eq, casts, commits, aborts, view}
+use Rattle.protocol.specs.Facts.{casts, commits, aborts, view}
 use Rattle.protocol.specs.Laws.{Stands, IsCast, IsViewOf}
 use Rattle.protocol.proofs.Same.{tx_eq-same, tx_eq-is}
 use Rattle.protocol.proofs.Standing.{any_found, none_found}

@@ -1,5 +1,5 @@
 -- The rules of an acceptor. Gray and Lamport, "Consensus on Transaction Commit", ACM TODS 31(1), 2006, section 4.1.
-use Rattle.std.specs.Prelude.{ℕ, Bool, true, false, ◌&&◌, ◌==◌, nat_lt, nat_le, if◌then◌else◌, List, [], ◌∷◌, Option, Some, None}
+use Rattle.std.specs.Prelude.{ℕ, Bool, false, ◌&&◌, ◌==◌, nat_lt, nat_le, if◌then◌else◌, List, [], ◌∷◌, Some, None}
 use Rattle.xid.specs.Transactions.{TxParts}
 use Rattle.xid.specs.declared.transaction.Vote.{Vote}
 use Rattle.wire.specs.declared.message.Kind.{Kind}
@@ -13,6 +13,7 @@ use Rattle.protocol.specs.declared.NodeId.TheVariants.{L}
 use Rattle.protocol.specs.Facts.{slot, vote_eq}
 use Rattle.protocol.specs.Effects.{Config, Effect, Send, ToNode, ToLeaders, no_effect, sends_only, stores, to}
 
+-- whether a report is of this ballot and value
 abbrev pub is_report : Report → ℕ → Vote → Bool
 is_report None b v = false
 is_report (Some last) b v = (last.0 == b) && vote_eq last.1 v

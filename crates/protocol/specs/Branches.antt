@@ -1,6 +1,6 @@
 -- The table of client calls: which answer each gets and what it leaves, over any way to look at branches. States and codes are
 -- those of X/Open XA (C193), "Transaction branch states"; keys, holds and tables are this project's own.
-use Rattle.std.specs.Prelude.{◌≡◌, ◌≢◌, ℕ, ◌+◌, ◌<◌, Bool, true, false, not, ◌&&◌, ◌||◌, if◌then◌else◌, nat_le, nat_lt, List, [], ◌∷◌, length, Option, Some, None, is_some, is_none}
+use Rattle.std.specs.Prelude.{◌≡◌, ◌≢◌, ℕ, ◌+◌, Bool, true, false, ◌&&◌, ◌||◌, if◌then◌else◌, nat_le, nat_lt, List, [], ◌∷◌, length, Option, Some, None, is_some, is_none}
 use Rattle.std.specs.Bool.{Decides}
 use Rattle.std.specs.Str.{bytes_eq}
 use Rattle.xid.specs.Names.{XidParts}
@@ -8,7 +8,7 @@ use Rattle.xid.specs.declared.codes.XaCode.TheVariants as code
 use Rattle.xid.specs.declared.refusals.Refusal.TheVariants.{Busy, Full}
 use Rattle.protocol.specs.declared.BranchState.{BranchState}
 use Rattle.protocol.specs.declared.BranchState.TheVariants.{Active, Idle, RollbackOnly, Prepared}
-use Rattle.protocol.specs.Calls.{Action, Start, Put, Del, Get, End, EndFail, Rollback, Answer, Code, Value, NoValue, Xids, Refused, Row}
+use Rattle.protocol.specs.Calls.{Action, Start, Put, Del, Get, End, EndFail, Rollback, Answer, Code, Value, NoValue, Refused, Row}
 
 -- a branch as it shows: its state, if it exists; which keys it has touched, and how many; its own last write of a key, if it
 -- has one: the value that was put, or none where the key was deleted

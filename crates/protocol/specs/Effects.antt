@@ -1,10 +1,9 @@
 -- What a rule answers: a reply, at most one fact to store, messages to send, and what it leaves in memory.
-use Rattle.std.specs.Prelude.{ℕ, ◌+◌, Bool, ◌&&◌, nat_lt, List, [], ◌∷◌, map, Option, Some, None}
+use Rattle.std.specs.Prelude.{ℕ, Bool, nat_lt, List, [], ◌∷◌, map, Option, Some, None}
 use Rattle.std.specs.List.{list_all, range_with_len}
 use Rattle.xid.specs.Transactions.{TxParts, participants}
 use Rattle.xid.specs.declared.refusals.Refusal.{Refusal}
 use Rattle.wire.specs.declared.message.Kind.{Kind}
-use Rattle.wire.specs.Messages.{tx_of}
 use Rattle.stable_record.specs.Facts.{Fact}
 use Rattle.protocol.specs.Calls.{Answer, Row}
 use Rattle.protocol.specs.declared.NodeId.{NodeId}
@@ -37,6 +36,7 @@ pub data Address : Type 0 where
   ToLeaders : Address
   ToManagers : Address
 
+-- a message and whom it is for
 pub record Send : Type 0 where
   pub to : Address
   pub message : Kind
@@ -64,6 +64,7 @@ sends_only memory sends = record { reply = Done; fact = None; sends = sends; mem
 abbrev pub stores : {M : Type 0} → M → Fact → List Send → Effect M
 stores memory fact sends = record { reply = Done; fact = Some fact; sends = sends; memory = memory }
 
+-- a message to send
 abbrev pub to : Address → Kind → Send
 to address message = record { to = address; message = message }
 

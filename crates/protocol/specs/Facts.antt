@@ -24,6 +24,7 @@ tx_eq x y = (x.format == y.format) && bytes_eq x.gtrid y.gtrid && pointwise bran
 abbrev pub instance_eq : TxParts → ℕ → TxParts → ℕ → Bool
 instance_eq tx i other j = (i == j) && tx_eq tx other
 
+-- the greatest of some numbers, 0 where there is none
 abbrev pub greatest : List ℕ → ℕ
 greatest [] = 0
 greatest (n ∷ ns) = max n (greatest ns)
@@ -48,6 +49,7 @@ slot facts tx i = record {
   report = last_or None (filter_map (accepted_by tx i) facts);
 }
 
+-- whether two votes are the same
 abbrev pub vote_eq : Vote → Vote → Bool
 vote_eq votes.Prepared v = is_prepared v
 vote_eq votes.Aborted v = not (is_prepared v)
@@ -105,6 +107,7 @@ view facts tx =
     else if list_any (casts tx votes.Prepared) facts then views.Prepared
     else views.Working
 
+-- whether a view is prepared
 abbrev pub is_prepared_view : View → Bool
 is_prepared_view views.Prepared = true
 is_prepared_view other = false
@@ -115,6 +118,7 @@ is_open_view views.Working = true
 is_open_view views.Prepared = true
 is_open_view other = false
 
+-- whether a name is there, and is this one
 abbrev pub is_xid : XidParts → Option XidParts → Bool
 is_xid x None = false
 is_xid x (Some y) = xid_eq x y
@@ -128,6 +132,7 @@ pub record Bound : Type 0 where
   pub tx : TxParts
   pub keys : List Touched
 
+-- the branch that a prepared vote binds
 abbrev pub bound_by : Fact → Option Bound
 bound_by (stored.VotePrepared tx keys) = Some (record { tx = tx; keys = keys })
 bound_by fact = None

@@ -13,7 +13,7 @@ use Rattle.protocol.specs.declared.Status.{Status}
 use Rattle.protocol.specs.declared.Status.TheVariants as statuses
 use Rattle.protocol.specs.Facts.{last_ballot}
 use Rattle.protocol.specs.Leading.{Leading, current, has_reported, is_reported, picked, is_proposed, status_of, meets, hears, begins, proposes, is_accept_of}
-use Rattle.protocol.specs.Effects.{Config, Effect, Reply, Stands, Refuses, Send, Address, ToNode, ToAcceptors, ToManagers, replies, no_effect, sends_only, stores, to, is_inside}
+use Rattle.protocol.specs.Effects.{Config, Effect, Stands, Refuses, Send, Address, ToNode, ToAcceptors, ToManagers, replies, no_effect, sends_only, stores, to, is_inside}
 use Rattle.std.specs.List.{list_any}
 
 -- the message of a decision
@@ -40,6 +40,7 @@ on_commit_call config facts leading tx =
   where
     known : Leading
     known = meets tx leading
+
     status : Status
     status = status_of config.acceptors facts known tx
 
@@ -65,6 +66,7 @@ abbrev pub on_status_call : Config → List Fact → Leading → TxParts → Eff
 on_status_call config facts leading tx =
     if is_inside config tx then replies leading (Stands (status_of config.acceptors facts leading tx)) else replies leading (Refuses BadTx)
 
+-- whether a ballot is the current one
 abbrev pub is_current : Option ℕ → ℕ → Bool
 is_current None b = false
 is_current (Some current) b = current == b

@@ -83,7 +83,8 @@ ballot_told tx i v message = None
 
 -- an instance has decided a value: a majority of n acceptors told of it in one ballot
 abbrev pub is_decided : ℕ → List Kind → TxParts → ℕ → Vote → Bool
-is_decided n heard tx i v = list_any (λ b. is_majority n (λ a. list_any (is_accept_of tx i b v a) heard)) (filter_map (ballot_told tx i v) heard)
+is_decided n heard tx i v =
+    list_any (λ b. is_majority n (λ a. list_any (is_accept_of tx i b v a) heard)) (filter_map (ballot_told tx i v) heard)
 
 -- ---- status
 
@@ -109,6 +110,7 @@ meets tx leading = if list_any (tx_eq tx) leading.met then leading else record l
 abbrev pub hears : Kind → Leading → Leading
 hears message leading = record leading { heard = message ∷ leading.heard }
 
+-- whether a message is of phase 1b
 abbrev pub is_phase_1b : Kind → Bool
 is_phase_1b (P1b tx i b report a) = true
 is_phase_1b message = false

@@ -1,6 +1,6 @@
 -- The rules of a resource manager: client calls after X/Open XA (C193), "Transaction branch states", and messages after Gray
 -- and Lamport, "Consensus on Transaction Commit", ACM TODS 31(1), 2006, section 4.2.
-use Rattle.std.specs.Prelude.{ℕ, Bool, true, false, not, ◌&&◌, ◌||◌, if◌then◌else◌, List, [], ◌∷◌, ◌++◌, length, map, Option, Some, None, filter, filter_map, find, is_some, fold}
+use Rattle.std.specs.Prelude.{ℕ, Bool, true, false, not, ◌&&◌, if◌then◌else◌, List, [], ◌∷◌, ◌++◌, length, map, Option, Some, None, filter, filter_map, find, is_some, fold}
 use Rattle.std.specs.List.{list_any}
 use Rattle.std.specs.Option.{option_map}
 use Rattle.std.specs.Str.{bytes_eq}
@@ -19,11 +19,9 @@ use Rattle.stable_record.specs.Facts.{Fact, Touched}
 use Rattle.stable_record.specs.Facts as stored
 use Rattle.protocol.specs.declared.BranchState.{BranchState}
 use Rattle.protocol.specs.declared.BranchState.TheVariants as states
-use Rattle.protocol.specs.declared.View.{View}
-use Rattle.protocol.specs.declared.View.TheVariants as views
 use Rattle.protocol.specs.Calls.{Action, Start, Put, Del, Get, End, EndFail, Rollback, Answer, Code, Xids, Row}
 use Rattle.protocol.specs.Branches.{BranchView, no_branch, answer_of, is_done, key_of}
-use Rattle.protocol.specs.Facts.{view, vote_in, is_ended, is_spent, is_xid, is_prepared_view, is_open_view, Bound, bound_in}
+use Rattle.protocol.specs.Facts.{view, vote_in, is_ended, is_spent, is_prepared_view, is_open_view, bound_in}
 use Rattle.protocol.specs.Tables.{bytes_before, table, is_less}
 use Rattle.protocol.specs.Effects.{Config, Effect, Called, Shows, Refuses, Send, ToAcceptors, ToLeaders, replies, no_effect, sends_only, stores, to, is_inside}
 
@@ -43,6 +41,7 @@ touch_key (first ∷ keys) key write =
     else if bytes_before key first.key then record { key = key; write = write } ∷ first ∷ keys
     else first ∷ touch_key keys key write
 
+-- whether a key is among those touched
 abbrev pub has_key : List ℕ → List Touched → Bool
 has_key key keys = list_any (λ touched. bytes_eq touched.key key) keys
 
@@ -105,6 +104,7 @@ on_call rm first facts branches x action =
   where
     all : List Branch
     all = all_branches rm facts branches
+
     answer : Answer
     answer = call_answer (is_spent rm facts x) (table first facts) (branch_at all x) (is_held all x (key_of action)) action
 
@@ -123,7 +123,10 @@ insert_xid x (y ∷ xs) = if xid_before x y then x ∷ y ∷ xs else y ∷ inser
 
 -- the names of the prepared branches, ascending
 abbrev pub on_recover : ℕ → List Fact → List Branch → Effect (List Branch)
-on_recover rm facts branches = replies branches (Called (Xids (fold (λ xs x. insert_xid x xs) [] (filter_map (λ bound. xid_at bound.tx rm) (bound_in facts)))))
+on_recover rm facts branches = replies branches (Called (Xids (fold (λ xs x. insert_xid x xs) [] names_here)))
+  where
+    names_here : List XidParts
+    names_here = filter_map (λ bound. xid_at bound.tx rm) (bound_in facts)
 
 -- where this resource manager stands in a transaction that names it
 abbrev pub on_view_call : Config → ℕ → List Fact → List Branch → TxParts → Effect (List Branch)
@@ -148,8 +151,10 @@ idle_keys branches x = option_map (λ branch. branch.keys) (find (λ branch. xid
 -- the first vote on a transaction that has the name x here: prepared with the keys of an idle branch whose name isn't spent,
 -- else aborted; the branch isn't among the unprepared ones any more
 abbrev pub first_vote : ℕ → List Branch → TxParts → XidParts → (spent : Bool) → (idle : Option (List Touched)) → Effect (List Branch)
-first_vote rm branches tx x false (Some keys) = stores (without branches x) (stored.VotePrepared tx keys) (vote_sent rm tx (Some votes.Prepared))
-first_vote rm branches tx x spent idle = stores (without branches x) (stored.VoteAborted tx) (vote_sent rm tx (Some votes.Aborted))
+first_vote rm branches tx x false (Some keys) =
+    stores (without branches x) (stored.VotePrepared tx keys) (vote_sent rm tx (Some votes.Prepared))
+first_vote rm branches tx x spent idle =
+    stores (without branches x) (stored.VoteAborted tx) (vote_sent rm tx (Some votes.Aborted))
 
 -- Prepare: a vote that is stored is sent again; where an outcome is stored, nothing; else the first vote
 abbrev pub on_prepare : ℕ → List Fact → List Branch → TxParts → XidParts → Effect (List Branch)

@@ -24,6 +24,7 @@ pub record Memory : Type 0 where
   pub leading : Leading
   pub branches : List Branch
 
+-- right after a restart
 abbrev pub empty_memory : Memory
 empty_memory = record { leading = nothing_heard; branches = [] }
 
@@ -83,14 +84,20 @@ abbrev pub is_message_inside : Config → Kind → Bool
 is_message_inside config message = is_inside config (tx_of message) && is_acceptor_inside config message
 
 -- the effect on a node of what its role makes of it
+abbrev pub in_memory : {M : Type 0} → (M → Memory) → Effect M → Effect Memory
+in_memory whole e = record { reply = e.reply; fact = e.fact; sends = e.sends; memory = whole e.memory }
+
+-- an acceptor keeps nothing in memory
 abbrev pub of_acceptor : Memory → Effect (Unit {0}) → Effect Memory
-of_acceptor memory e = record { reply = e.reply; fact = e.fact; sends = e.sends; memory = memory }
+of_acceptor memory = in_memory (λ none. memory)
 
+-- a leader keeps what it has since its restart
 abbrev pub of_leader : Memory → Effect Leading → Effect Memory
-of_leader memory e = record { reply = e.reply; fact = e.fact; sends = e.sends; memory = record memory { leading = e.memory } }
+of_leader memory = in_memory (λ leading. record memory { leading = leading })
 
+-- a resource manager keeps the branches that aren't prepared
 abbrev pub of_manager : Memory → Effect (List Branch) → Effect Memory
-of_manager memory e = record { reply = e.reply; fact = e.fact; sends = e.sends; memory = record memory { branches = e.memory } }
+of_manager memory = in_memory (λ branches. record memory { branches = branches })
 
 -- what a node does on a message that names none but nodes of the cluster
 abbrev pub takes : Config → NodeId → List Fact → Memory → Kind → Effect Memory
@@ -104,7 +111,8 @@ first_rows config rm = unwrap_or (slice_get config.tables rm) []
 
 -- what a node that is up does on an input that it takes
 abbrev pub effect_of : Config → NodeId → List Fact → Memory → Input → Effect Memory
-effect_of config who facts memory (Take message) = if is_message_inside config message then takes config who facts memory message else no_effect memory
+effect_of config who facts memory (Take message) =
+    if is_message_inside config message then takes config who facts memory message else no_effect memory
 effect_of config who facts memory TakeNoise = replies memory (Refuses BadMessage)
 effect_of config (L l) facts memory (AskCommit tx) = of_leader memory (on_commit_call config facts memory.leading tx)
 effect_of config (L l) facts memory (AskStatus tx) = of_leader memory (on_status_call config facts memory.leading tx)
@@ -145,7 +153,11 @@ stopped node fact whole = record {
 
 -- a fact appended, or none to append
 abbrev pub followed : NodeState → Effect Memory → List Fact → Outcome
-followed node e facts = record { node = record { facts = facts; up = true; tear = node.tear; memory = e.memory }; reply = e.reply; sends = e.sends }
+followed node e facts = record {
+  node = record { facts = facts; up = true; tear = node.tear; memory = e.memory };
+  reply = e.reply;
+  sends = e.sends;
+}
 
 -- an effect, by its fact, the armed tear and the fate
 abbrev pub settled : NodeState → Effect Memory → Option Fact → Option ℕ → Fate → Outcome

@@ -42,7 +42,8 @@ is_some_held facts keys = list_any (λ bound. list_any (λ touched. has_key touc
 
 -- at resource manager rm
 abbrev pub plays_at_manager : (rm : ℕ) → List Fact → Fact → Bool
-plays_at_manager rm facts (stored.VotePrepared tx keys) = names tx rm && is_new facts tx && not (is_name_spent rm facts tx) && not (is_some_held facts keys)
+plays_at_manager rm facts (stored.VotePrepared tx keys) =
+    names tx rm && is_new facts tx && not (is_name_spent rm facts tx) && not (is_some_held facts keys)
 plays_at_manager rm facts (stored.VoteAborted tx) = names tx rm && is_new facts tx
 plays_at_manager rm facts (stored.Committed tx) = is_prepared_view (view facts tx)
 plays_at_manager rm facts (stored.Aborted tx) = names tx rm && is_open_view (view facts tx)

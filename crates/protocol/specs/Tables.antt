@@ -9,8 +9,9 @@ use Rattle.xid.specs.Transactions.{TxParts}
 use Rattle.stable_record.specs.Facts.{Fact, Touched}
 use Rattle.stable_record.specs.Facts as stored
 use Rattle.protocol.specs.Calls.{Row}
-use Rattle.protocol.specs.Facts.{tx_eq, Bound, bound_by}
+use Rattle.protocol.specs.Facts.{tx_eq}
 
+-- whether the first comes before the second
 abbrev pub is_less : Ordering → Bool
 is_less Less = true
 is_less Equal = false

@@ -1,11 +1,12 @@
 -- All nodes, and every datagram that was ever sent; and one event.
-use Rattle.std.specs.Prelude.{ℕ, zero, suc, ◌+◌, ◌-◌, ◌==◌, Bool, true, false, not, ◌&&◌, nat_lt, if◌then◌else◌, List, [], ◌∷◌, ◌++◌, length, map, replicate, Option, Some, None, is_some, slice_get}
+use Rattle.std.specs.Prelude.{ℕ, zero, suc, ◌+◌, ◌==◌, Bool, true, false, nat_lt, if◌then◌else◌, List, [], ◌∷◌, ◌++◌, length, map, replicate, Option, Some, None, is_some, slice_get}
 use Rattle.std.specs.List.{slice_set, flat_map, range_with_len}
-use Rattle.std.specs.Option.{option_and_then, option_map}
+use Rattle.std.specs.Option.{option_and_then}
 use Rattle.xid.specs.Transactions.{TxParts}
 use Rattle.xid.specs.declared.refusals.Refusal.TheVariants.{NoMemory, Forged, NoSuch}
 use Rattle.wire.specs.declared.message.Kind.{Kind}
 use Rattle.wire.specs.Messages as messages
+use Rattle.wire.specs.Grammar.{spelling}
 use Rattle.stable_record.specs.Facts.{Fact}
 use Rattle.stable_record.specs.Facts as stored
 use Rattle.protocol.specs.Calls as calls
@@ -17,8 +18,7 @@ use Rattle.protocol.specs.declared.View.TheVariants as views
 use Rattle.protocol.specs.Facts.{view}
 use Rattle.protocol.specs.Tables.{table}
 use Rattle.protocol.specs.Effects.{Config, Reply, Done, Refuses, Send, receivers}
-use Rattle.protocol.specs.Nodes.{NodeState, new_node, Input, CallOn, ListPrepared, AskView, AskCommit, AskStatus, TimeOut, Take, TakeNoise, Fate, Well, Fails, Unreached, Starved, Outcome, unchanged, node_step, restarted, first_rows}
-use Rattle.protocol.specs.Lengths.{message_length}
+use Rattle.protocol.specs.Nodes.{NodeState, new_node, Input, CallOn, ListPrepared, AskView, AskCommit, AskStatus, TimeOut, Take, TakeNoise, Fate, Unreached, Outcome, node_step, restarted, first_rows}
 
 -- a datagram that was sent; one that was handed over or lost is marked
 pub record Datagram : Type 0 where
@@ -73,9 +73,11 @@ place config (A a) = if nat_lt a config.acceptors then Some a else None
 place config (L l) = if nat_lt l config.leaders then Some (config.acceptors + l) else None
 place config (R rm) = if nat_lt rm config.managers then Some (config.acceptors + config.leaders + rm) else None
 
+-- the node of a name
 abbrev pub node_at : Config → World → NodeId → Option NodeState
 node_at config world who = option_and_then (λ at. slice_get world.nodes at) (place config who)
 
+-- the world with another node in its place
 abbrev pub set_node : Config → World → NodeId → NodeState → World
 set_node config world who node = record { nodes = set_at (place config who); net = world.net }
   where
@@ -94,6 +96,7 @@ abbrev pub posted : Config → NodeId → Send → List Datagram
 posted config who send = map (λ receiver. record { sender = who; receiver = receiver; message = send.message; marked = false })
     (receivers config send.to (messages.tx_of send.message))
 
+-- views by number, to compare them
 abbrev pub view_number : View → ℕ
 view_number views.Working = 0
 view_number views.Prepared = 1
@@ -113,7 +116,7 @@ change_of who before after = None
 -- a node's outcome in the world
 abbrev pub joined : Config → World → NodeId → List Fact → Outcome → Happening
 joined config world who before outcome = record {
-  world = record { nodes = (set_node config world who outcome.node).nodes; net = world.net ++ sent };
+  world = record (set_node config world who outcome.node) { net = world.net ++ sent };
   reply = outcome.reply;
   now = change_of who before outcome.node.facts;
   sent = sent;
@@ -122,59 +125,59 @@ joined config world who before outcome = record {
     sent : List Datagram
     sent = flat_map (posted config who) outcome.sends
 
+-- what happens with something that is there; without it the event is refused
+abbrev pub where_found : {X : Type 0} → World → (X → Happening) → Option X → Happening
+where_found world continue None = refused world (Refuses NoSuch)
+where_found world continue (Some x) = continue x
+
 -- an input at a node
 abbrev pub at_node : Config → World → NodeId → Input → Fate → Happening
-at_node config world who input fate = handed (node_at config world who)
-  where
-    handed : Option NodeState → Happening
-    handed None = refused world (Refuses NoSuch)
-    handed (Some node) = joined config world who node.facts (node_step config who node input fate)
+at_node config world who input fate =
+    where_found world (λ node. joined config world who node.facts (node_step config who node input fate)) (node_at config world who)
 
 -- a node restarted
 abbrev pub restarts : Config → World → NodeId → Fate → Happening
-restarts config world who fate = tried (node_at config world who)
-  where
-    tried : Option NodeState → Happening
-    tried None = refused world (Refuses NoSuch)
-    tried (Some node) = joined config world who node.facts (restarted config who node fate)
+restarts config world who fate =
+    where_found world (λ node. joined config world who node.facts (restarted config who node fate)) (node_at config world who)
 
 -- a tear armed in place of the one before
 abbrev pub tears : Config → World → NodeId → ℕ → Happening
-tears config world who n = armed (node_at config world who)
-  where
-    armed : Option NodeState → Happening
-    armed None = refused world (Refuses NoSuch)
-    armed (Some node) = refused (set_node config world who (record node { tear = Some n })) Done
+tears config world who n =
+    where_found world (λ node. refused (set_node config world who (record node { tear = Some n })) Done) (node_at config world who)
 
 -- ---- datagrams by their numbers, from 1
 
+-- the datagram of a number
 abbrev pub datagram_at : List Datagram → ℕ → Option Datagram
 datagram_at net zero = None
 datagram_at net (suc n) = slice_get net n
 
+-- datagrams with the one of a number marked
 abbrev pub marked_at : List Datagram → ℕ → List Datagram
 marked_at [] n = []
 marked_at (d ∷ net) zero = d ∷ net
 marked_at (d ∷ net) (suc zero) = record d { marked = true } ∷ net
 marked_at (d ∷ net) (suc (suc n)) = d ∷ marked_at net (suc n)
 
+-- a world with a datagram marked
 abbrev pub with_mark : World → ℕ → World
 with_mark world n = record { nodes = world.nodes; net = marked_at world.net n }
 
 -- handed over, and marked
-abbrev pub delivers : Config → World → ℕ → Fate → Option Datagram → Happening
-delivers config world n fate None = refused world (Refuses NoSuch)
-delivers config world n fate (Some d) = at_node config (with_mark world n) d.receiver (Take d.message) fate
+abbrev pub delivers : Config → World → ℕ → Fate → Happening
+delivers config world n fate =
+    where_found world (λ d. at_node config (with_mark world n) d.receiver (Take d.message) fate) (datagram_at world.net n)
 
 -- marked without being handed over
-abbrev pub loses : World → ℕ → Option Datagram → Happening
-loses world n None = refused world (Refuses NoSuch)
-loses world n (Some d) = refused (with_mark world n) Done
+abbrev pub loses : World → ℕ → Happening
+loses world n = where_found world (λ d. refused (with_mark world n) Done) (datagram_at world.net n)
 
 -- the first k bytes handed over: they are fewer than all, and spell no message
-abbrev pub cuts : Config → World → ℕ → Fate → Option Datagram → Happening
-cuts config world k fate None = refused world (Refuses NoSuch)
-cuts config world k fate (Some d) = if nat_lt k (message_length d.message) then at_node config world d.receiver TakeNoise fate else refused world (Refuses NoSuch)
+abbrev pub cuts : Config → World → ℕ → ℕ → Fate → Happening
+cuts config world n k fate = where_found world handed (datagram_at world.net n)
+  where
+    handed : Datagram → Happening
+    handed d = if nat_lt k (length (spelling d.message)) then at_node config world d.receiver TakeNoise fate else refused world (Refuses NoSuch)
 
 -- bytes that nobody sent
 abbrev pub disturbs : Config → World → NodeId → (spells : Bool) → Fate → Happening
@@ -191,9 +194,9 @@ does config world (ViewOf rm tx) fate = at_node config world (R rm) (AskView tx)
 does config world (CommitOf l tx) fate = at_node config world (L l) (AskCommit tx) fate
 does config world (StatusOf l tx) fate = at_node config world (L l) (AskStatus tx) fate
 does config world (Timeout who tx) fate = at_node config world who (TimeOut tx) fate
-does config world (Deliver n) fate = delivers config world n fate (datagram_at world.net n)
-does config world (Lose n) fate = loses world n (datagram_at world.net n)
-does config world (Cut n k) fate = cuts config world k fate (datagram_at world.net n)
+does config world (Deliver n) fate = delivers config world n fate
+does config world (Lose n) fate = loses world n
+does config world (Cut n k) fate = cuts config world n k fate
 does config world (Noise who spells) fate = disturbs config world who spells fate
 does config world (Tear who n) fate = tears config world who n
 does config world (Restart who) fate = restarts config world who fate
@@ -229,5 +232,6 @@ table_at config world rm = rows_of (node_at config world (R rm))
     rows_of None = []
     rows_of (Some node) = table (first_rows config rm) node.facts
 
+-- all tables
 abbrev pub tables_of : Config → World → List (List Row)
 tables_of config world = map (table_at config world) (range_with_len 0 config.managers)

@@ -1,6 +1,6 @@
 -- Every event keeps a world safe, and moves each transaction by at most one step.
 use Rattle.std.proofs.Common.{◌≡◌, ◌⊎◌, inl, inr, ◌∙◌, ℕ, zero, suc, ◌<◌, Bool, true, false, if◌then◌else◌, IsTrue, List, [], ◌∷◌, ◌++◌, Option, Some, None, refl, sym, ap, subst, nat_lt, is_some}
-use Rattle.std.specs.Prelude.{map, slice_get}
+use Rattle.std.specs.Prelude.{map, slice_get, length}
 use Rattle.std.proofs.lemmas.Bool.{cond_both}
 use Rattle.std.proofs.lemmas.List.{append-nil}
 use Rattle.xid.specs.Transactions.{TxParts, names}
@@ -11,10 +11,10 @@ use Rattle.protocol.specs.Calls as calls
 use Rattle.protocol.specs.declared.NodeId.{NodeId}
 use Rattle.protocol.specs.declared.NodeId.TheVariants.{A, L, R}
 use Rattle.protocol.specs.Effects.{Config, Send, Done, Refuses}
-use Rattle.protocol.specs.Lengths.{message_length}
+use Rattle.wire.specs.Grammar.{spelling}
 use Rattle.protocol.specs.Nodes.{empty_memory, new_node, NodeState, Input, CallOn, ListPrepared, AskView, AskCommit, AskStatus, TimeOut, Take, TakeNoise, Fate, Well, Fails, Unreached, Starved, Outcome, node_step, restarted}
 use Rattle.protocol.specs.Playing.{all_play}
-use Rattle.protocol.specs.Worlds.{World, Datagram, opening, Event, Client, ViewOf, CommitOf, StatusOf, Timeout, Deliver, Lose, Cut, Noise, Tear, Restart, Happening, Fated, node_at, set_node, refused, joined, at_node, restarts, tears, datagram_at, marked_at, with_mark, delivers, loses, cuts, disturbs, does, happens, world_after}
+use Rattle.protocol.specs.Worlds.{World, Datagram, opening, Event, Client, ViewOf, CommitOf, StatusOf, Timeout, Deliver, Lose, Cut, Noise, Tear, Restart, Happening, Fated, where_found, node_at, set_node, refused, joined, at_node, restarts, tears, datagram_at, marked_at, with_mark, delivers, loses, cuts, disturbs, does, happens, world_after}
 use Rattle.xid.specs.declared.transaction.Vote.TheVariants as votes
 use Rattle.safety.specs.Items.{Item, Promised, Accepted, Began, Voted, Committed, Dropped, P1b, P2a, P2b, Commit, Abort}
 use Rattle.safety.specs.Invariant.{Invariant}
@@ -64,21 +64,23 @@ module _ (config : Config) (world : World) (safe : IsSafe config world) where
   few : (who : NodeId) (node : NodeState) → node_at config world who ≡ Some node → (l : ℕ) → who ≡ L l → l < config.leaders
   few who node stands l e = leader_inside config world l node (subst (λ (n : NodeId). node_at config world n ≡ Some node) e stands)
 
+  -- where there is such a node or datagram, what happens to it; else nothing
+  found_next : {X : Type 0} (o : Option X) (f : X → Happening) → ((x : X) → o ≡ Some x → IsNext config world (f x).world)
+      → IsNext config world (where_found world f o).world
+  found_next None f next = same
+  found_next (Some x) f next = next x refl
+
   -- ---- an input at a node
 
-  abbrev handed : NodeId → Input → Fate → Option NodeState → Happening
-  handed who input fate None = refused world (Refuses NoSuch)
-  handed who input fate (Some node) = joined config world who node.facts (node_step config who node input fate)
-
-  handed_next : (who : NodeId) (input : Input) (fate : Fate) → IsFromNet (sent_in world) input → (o : Option NodeState) → node_at config world who ≡ o
-      → IsNext config world (handed who input fate o).world
-  handed_next who input fate came None is = same
-  handed_next who input fate came (Some node) is =
+  handed_next : (who : NodeId) (input : Input) (fate : Fate) → IsFromNet (sent_in world) input → (node : NodeState) → node_at config world who ≡ Some node
+      → IsNext config world (joined config world who node.facts (node_step config who node input fate)).world
+  handed_next who input fate came node is =
       let rule = rule_is config who (node_at config world) (sent_in world) safe node input is (few who node is) came in
       record { next = next_step config world who node input fate safe is rule; from = step_from config world who node input fate rule }
 
   at_node_next : (who : NodeId) (input : Input) (fate : Fate) → IsFromNet (sent_in world) input → IsNext config world (at_node config world who input fate).world
-  at_node_next who input fate came = handed_next who input fate came (node_at config world who) refl
+  at_node_next who input fate came = found_next (node_at config world who)
+      (λ node. joined config world who node.facts (node_step config who node input fate)) (handed_next who input fate came)
 
   -- ---- restarts and tears
 
@@ -92,47 +94,39 @@ module _ (config : Config) (world : World) (safe : IsSafe config world) where
       (λ plays. record { facts = refl; silent = refl; memory = inr refl })
       (λ damaged. record { facts = refl; silent = refl; memory = inr refl })
 
-  abbrev tried : NodeId → Fate → Option NodeState → Happening
-  tried who fate None = refused world (Refuses NoSuch)
-  tried who fate (Some node) = joined config world who node.facts (restarted config who node fate)
-
-  tried_next : (who : NodeId) (fate : Fate) (o : Option NodeState) → node_at config world who ≡ o → IsNext config world (tried who fate o).world
-  tried_next who fate None is = same
-  tried_next who fate (Some node) is =
-      let still = restarted_is who node fate in
-      record {
+  restarts_next : (who : NodeId) (fate : Fate) → IsNext config world (restarts config world who fate).world
+  restarts_next who fate = found_next (node_at config world who) (λ node. joined config world who node.facts (restarted config who node fate))
+      (λ node is. let still = restarted_is who node fate in record {
         next = next_still config world who node (restarted config who node fate) safe is still;
         from = λ are. joined_from config world who node.facts (restarted config who node fate) are
             (λ m h. absurd (subst (λ (sends : List Send). Among (messages_of sends) m) still.silent h));
-      }
+      })
 
-  abbrev armed : NodeId → ℕ → Option NodeState → Happening
-  armed who n None = refused world (Refuses NoSuch)
-  armed who n (Some node) = refused (set_node config world who (record node { tear = Some n })) Done
-
-  armed_next : (who : NodeId) (n : ℕ) (o : Option NodeState) → node_at config world who ≡ o → IsNext config world (armed who n o).world
-  armed_next who n None is = same
-  armed_next who n (Some node) is =
+  armed_next : (who : NodeId) (n : ℕ) (node : NodeState) → node_at config world who ≡ Some node
+      → IsNext config world (refused (set_node config world who (record node { tear = Some n })) Done).world
+  armed_next who n node is =
       let left : Outcome = record { node = record node { tear = Some n }; reply = Done; sends = [] } in
       record {
-        next = subst (λ (xs : List Kind). IsNextBy config (node_at config world) (node_at config (armed who n (Some node)).world) xs)
+        next = subst (IsNextBy config (node_at config world) (node_at config (set_node config world who (record node { tear = Some n }))))
             (ap (map (λ datagram. datagram.message)) (append-nil world.net))
             (next_still config world who node left safe is (record { facts = refl; silent = refl; memory = inl refl }));
         from = λ are. are;
       }
 
+  tears_next : (who : NodeId) (n : ℕ) → IsNext config world (tears config world who n).world
+  tears_next who n = found_next (node_at config world who) (λ node. refused (set_node config world who (record node { tear = Some n })) Done) (armed_next who n)
+
   -- ---- datagrams
 
-  loses_next : (n : ℕ) (o : Option Datagram) → IsNext config world (loses world n o).world
-  loses_next n None = same
-  loses_next n (Some d) = marked n
+  loses_next : (n : ℕ) → IsNext config world (loses world n).world
+  loses_next n = found_next (datagram_at world.net n) (λ d. refused (with_mark world n) Done) (λ d is. marked n)
 
-  cuts_next : (k : ℕ) (fate : Fate) (o : Option Datagram) → IsNext config world (cuts config world k fate o).world
-  cuts_next k fate None = same
-  cuts_next k fate (Some d) =
-      cond_both (nat_lt k (message_length d.message)) (at_node config world d.receiver TakeNoise fate) (refused world (Refuses NoSuch))
-      (λ happening. IsNext config world happening.world)
-      (λ fewer. at_node_next d.receiver TakeNoise fate tt) (λ all. same)
+  cuts_next : (n k : ℕ) (fate : Fate) → IsNext config world (cuts config world n k fate).world
+  cuts_next n k fate = found_next (datagram_at world.net n)
+      (λ d. if nat_lt k (length (spelling d.message)) then at_node config world d.receiver TakeNoise fate else refused world (Refuses NoSuch))
+      (λ d is. cond_both (nat_lt k (length (spelling d.message))) (at_node config world d.receiver TakeNoise fate) (refused world (Refuses NoSuch))
+        (λ happening. IsNext config world happening.world)
+        (λ fewer. at_node_next d.receiver TakeNoise fate tt) (λ all. same))
 
   disturbs_next : (who : NodeId) (spells : Bool) (fate : Fate) → IsNext config world (disturbs config world who spells fate).world
   disturbs_next who false fate = at_node_next who TakeNoise fate tt
@@ -149,14 +143,15 @@ datagram_among net zero d h = absurd (cc (h))
 datagram_among net (suc n) d h = slice_among net n d h
 
 module _ (config : Config) (world : World) (safe : IsSafe config world) where
-  delivers_next : (n : ℕ) (fate : Fate) (o : Option Datagram) → datagram_at world.net n ≡ o → IsNext config world (delivers config world n fate o).world
-  delivers_next n fate None is = same config world safe
-  delivers_next n fate (Some d) is =
-      let first = marked config world safe n in
-      let second = at_node_next config (with_mark world n) first.next.safe d.receiver (Take d.message) fate
-          (subst (λ (xs : List Kind). Among xs d.message) (sym (marked_messages world.net n))
-          (Among-map (λ (datagram : Datagram). datagram.message) world.net d (datagram_among world.net n d is))) in
-      record { next = second.next; from = λ are. second.from (first.from are) }
+  delivers_next : (n : ℕ) (fate : Fate) → IsNext config world (delivers config world n fate).world
+  delivers_next n fate = found_next config world safe (datagram_at world.net n)
+      (λ d. at_node config (with_mark world n) d.receiver (Take d.message) fate)
+      (λ d is.
+        let first = marked config world safe n in
+        let second = at_node_next config (with_mark world n) first.next.safe d.receiver (Take d.message) fate
+            (subst (λ (xs : List Kind). Among xs d.message) (sym (marked_messages world.net n))
+            (Among-map (λ (datagram : Datagram). datagram.message) world.net d (datagram_among world.net n d is))) in
+        record { next = second.next; from = λ are. second.from (first.from are) })
 
   -- an event that reaches its node, if it has one
   does_next : (event : Event) (fate : Fate) → IsNext config world (does config world event fate).world
@@ -166,12 +161,12 @@ module _ (config : Config) (world : World) (safe : IsSafe config world) where
   does_next (CommitOf l tx) fate = at_node_next config world safe (L l) (AskCommit tx) fate tt
   does_next (StatusOf l tx) fate = at_node_next config world safe (L l) (AskStatus tx) fate tt
   does_next (Timeout who tx) fate = at_node_next config world safe who (TimeOut tx) fate tt
-  does_next (Deliver n) fate = delivers_next n fate (datagram_at world.net n) refl
-  does_next (Lose n) fate = loses_next config world safe n (datagram_at world.net n)
-  does_next (Cut n k) fate = cuts_next config world safe k fate (datagram_at world.net n)
+  does_next (Deliver n) fate = delivers_next n fate
+  does_next (Lose n) fate = loses_next config world safe n
+  does_next (Cut n k) fate = cuts_next config world safe n k fate
   does_next (Noise who spells) fate = disturbs_next config world safe who spells fate
-  does_next (Tear who n) fate = armed_next config world safe who n (node_at config world who) refl
-  does_next (Restart who) fate = tried_next config world safe who fate (node_at config world who) refl
+  does_next (Tear who n) fate = tears_next config world safe who n
+  does_next (Restart who) fate = restarts_next config world safe who fate
 
   -- every event
   pub happens_next : (event : Event) (fate : Fate) → IsNext config world (happens config world event fate).world

@@ -24,16 +24,18 @@ pub data Fact : Type 0 where
   Committed : (tx : TxParts) → Fact
   Aborted : (tx : TxParts) → Fact
 
--- a key has 1 to 64 bytes, a value at most 256
+-- a key has 1 to 64 bytes
 pub record IsKey (key : List ℕ) : Type 0 where
   pub some : 0 < length key
   pub few : length key ≤ 64
   pub bytes : IsBytes key
 
+-- a value is at most 256 bytes
 pub record IsValue (value : List ℕ) : Type 0 where
   pub few : length value ≤ 256
   pub bytes : IsBytes value
 
+-- a key that fits, with a value that fits where one was put
 pub record IsTouched (touched : Touched) : Type 0 where
   pub key : IsKey touched.key
   pub value : IfSome touched.write (λ write. IfSome write IsValue)

@@ -13,9 +13,11 @@ write_of acts.Read = None
 write_of (acts.Put value) = Some (Some value.items)
 write_of acts.Del = Some None
 
+-- a touched key of the code
 abbrev pub touched_of : code.Touched → Touched
 touched_of touched = record { key = touched.key.items; write = write_of touched.act }
 
+-- a fact of the code
 abbrev pub fact_of : FactKind → Fact
 fact_of (kinds.Promise tx instance ballot) = Promise tx instance ballot
 fact_of (kinds.Accept tx instance ballot vote) = Accept tx instance ballot vote

@@ -1,0 +1,4 @@
+pub mod Instances
+pub mod Loop
+pub mod Fields
+pub mod OneSpelling

@@ -1,7 +1,8 @@
 -- What a transaction is: a format, a gtrid, and for each resource manager that takes part the bqual of its branch.
 -- The list is part of the name (this system's own): two lists make two transactions.
-use Rattle.std.specs.Prelude.{ℕ, ◌<◌, ◌≤◌, ◌^◌, ◌==◌, ◌++◌, ◌∷◌, Bool, List, Option, length, map, decimal}
-use Rattle.std.specs.List.{All, find, list_any, join_with_byte}
+use Rattle.std.specs.Prelude.{ℕ, ◌<◌, ◌≤◌, ◌^◌, ◌==◌, ◌++◌, ◌∷◌, Bool, List, [], Option, length, map, decimal}
+use Rattle.std.specs.Borrow.{Bor}
+use Rattle.std.specs.List.{slice_index_or, All, find, list_any, join_with_byte}
 use Rattle.std.specs.List.Sorted.{IsStrictlyIncreasing}
 use Rattle.std.specs.Option.{option_map}
 use Rattle.xid.specs.Names.{IsComponent, XidParts}
@@ -44,6 +45,14 @@ pub record IsTx (tx : TxParts) : Type 0 where
 -- the resource managers that take part, in their order
 abbrev pub participants : TxParts → List ℕ
 participants tx = rm_numbers tx.branches
+
+-- the branch at a place of the list
+abbrev pub branch_at : TxParts → ℕ → BranchParts
+branch_at tx i = slice_index_or tx.branches i (record { rm = 0; bqual = [] })
+
+-- a branch as a caller gives it
+abbrev pub branch_of : ℕ × Bor (List ℕ) → BranchParts
+branch_of b = record { rm = b.0; bqual = b.1.now }
 
 -- whether a branch is a resource manager's
 abbrev pub is_at : ℕ → BranchParts → Bool

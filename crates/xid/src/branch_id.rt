@@ -54,6 +54,18 @@ impl Xid {
         })
     }
 
+    /// The XID of components.
+    pub(crate) fn of(format: u32, gtrid: Component, bqual: Component) -> Xid
+        requires { IsXid (record { format = format; gtrid = gtrid; bqual = bqual }) }
+        ensures { result ≡ record { format = format; gtrid = gtrid; bqual = bqual } }
+    {
+        Xid {
+            format,
+            gtrid,
+            bqual,
+        }
+    }
+
     /// Its format, 0 to 2^31-1.
     pub fn format(&self) -> u32
         ensures value { result ≡ self.now.format }
@@ -125,7 +137,7 @@ fn put_at(area: &mut [u8], at: usize, bytes: &[u8])
     area[at..at + bytes.len()].copy_from_slice(bytes);
 }
 
-fn is_component(bytes: &[u8]) -> bool
+pub(crate) fn is_component(bytes: &[u8]) -> bool
     ensures { IsTrue result ↔ IsComponent bytes.now }
 {
     (1..=MAX_COMPONENT).contains(&bytes.len())

@@ -1,12 +1,14 @@
-ghost use Rattle.std.specs.Prelude.{◌≡◌, ℕ, ◌+◌, ◌<◌, ◌≤◌, List, [], ◌∷◌, ◌++◌, length, take};
+ghost use Rattle.std.specs.Prelude.{◌≡◌, ◌≢◌, ℕ, ◌+◌, ◌<◌, ◌≤◌, ◌↔◌, List, [], ◌∷◌, ◌++◌, length, map, take, IsTrue, MatchOption};
 ghost use Rattle.std.specs.Cmp.Lexicographic.{slice_cmp, slice_partial_cmp, pointwise};
 ghost use Rattle.std.specs.Cmp.{partial_order_from_own_ties};
 ghost use Rattle.std.specs.Cmp.Rules.{comparing, hashing};
 ghost use Rattle.std.specs.Ordering.{nat_cmp, as_partial_cmp};
 ghost use Rattle.std.specs.Hash as fed;
 ghost use Rattle.std.proofs.Common.{rules};
+ghost use Rattle.xid.specs.Transactions.{IsBranch, AreBranches};
 
-use crate::component::Component;
+use crate::branch_id::is_component;
+use crate::component::{Component, MAX_COMPONENT};
 use std::cmp::Ordering;
 use std::hash::{Hash, Hasher};
 use std::marker::Model;
@@ -42,6 +44,13 @@ impl Branch {
         self.rm
     }
 
+    /// Its bqual as a component.
+    pub(crate) fn component(&self) -> Component
+        ensures { result ≡ self.now.bqual }
+    {
+        self.bqual
+    }
+
     /// Its bqual.
     pub(crate) fn bqual(&self) -> &[u8]
         ensures { result.now ≡ self.now.bqual }
@@ -52,7 +61,7 @@ impl Branch {
 
 /// Branches in their order, at most `MAX_BRANCHES`, in place. What is past them is blank.
 #[derive(Clone, Copy, Debug)]
-pub(crate) struct Branches {
+pub struct Branches {
     count: u8,
     rows: [Branch; MAX_BRANCHES],
 }
@@ -75,6 +84,53 @@ impl Model for Branches {
 }
 
 impl Branches {
+    ghost use Rattle.xid.specs.Transactions.{BranchParts, AreBranches, IsBranch, branch_of};
+
+    /// No branches.
+    pub fn new() -> Branches
+        ensures { result ≡ [] }
+    {
+        Branches {
+            count: 0,
+            rows: [Branch {
+                rm: 0,
+                bqual: Component::new(&[]),
+            }; MAX_BRANCHES],
+        }
+    }
+
+    /// Puts a branch after the others.
+    pub fn push(&mut self, rm: u16, bqual: &[u8])
+        requires room { length self.old < MAX_BRANCHES }
+        requires few { length bqual.now ≤ 64 }
+        ensures { self.new ≡ self.old ++ record { rm = rm; bqual = bqual.now } ∷ [] }
+    {
+        let branch = Branch {
+            rm,
+            bqual: Component::new(bqual),
+        };
+        self.rows[self.count as usize] = branch;
+        self.count += 1;
+    }
+
+    /// The branches of these parts. None where there are more than `MAX_BRANCHES`, or a bqual is longer than 64 bytes.
+    pub(crate) fn of(parts: &[(u16, &[u8])]) -> Option<Branches>
+        ensures { MatchOption result ((bs : List BranchParts) → AreBranches bs → bs ≢ map branch_of parts.now)
+            (λ bs. bs ≡ map branch_of parts.now) }
+    {
+        if parts.len() > MAX_BRANCHES {
+            return None;
+        }
+        let mut all = Branches::new();
+        for (rm, bqual) in parts {
+            if bqual.len() > MAX_COMPONENT {
+                return None;
+            }
+            all.push(*rm, bqual);
+        }
+        Some(all)
+    }
+
     /// Its branches.
     pub(crate) fn as_slice(&self) -> &[Branch]
         ensures branches { result.now ≡ self.now }
@@ -82,6 +138,32 @@ impl Branches {
     {
         &self.rows[..self.count as usize]
     }
+}
+
+/// Whether a branch has a resource manager's number and a bqual of 1 to 64 bytes.
+fn is_branch(branch: &Branch) -> bool
+    ensures { IsTrue result ↔ IsBranch branch.now }
+{
+    branch.rm < RM_NUMBERS && is_component(branch.bqual.as_bytes())
+}
+
+/// Whether there is a branch, none is wrong, and the resource managers ascend strictly.
+pub(crate) fn are_branches(branches: &[Branch]) -> bool
+    requires { length branches.now ≤ MAX_BRANCHES }
+    ensures { IsTrue result ↔ AreBranches branches.now }
+{
+    if branches.is_empty() {
+        return false;
+    }
+    for (i, branch) in branches.iter().enumerate() {
+        if !is_branch(branch) {
+            return false;
+        }
+        if i > 0 && branches[i - 1].rm() >= branch.rm() {
+            return false;
+        }
+    }
+    true
 }
 
 impl PartialEq for Branches {

@@ -11,7 +11,8 @@ pub mod text;
 mod transaction;
 
 pub use branch_id::Xid;
-pub use branches::{MAX_BRANCHES, RM_NUMBERS};
+pub use branches::{Branches, MAX_BRANCHES, RM_NUMBERS};
 pub use codes::XaCode;
+pub use component::MAX_COMPONENT;
 pub use refusals::Refusal;
 pub use transaction::{Tx, Vote};

@@ -1,4 +1,4 @@
-use Rattle.std.proofs.Common.{◌≡◌, ◌∙◌, ℕ, ◌++◌, ◌∷◌, ◌<◌, ◌^◌, sym, ap, subst, arith, true, decimal}
+use Rattle.std.proofs.Common.{◌≡◌, ◌∙◌, ◌++◌, ◌∷◌, sym, subst, arith, true, decimal}
 use Rattle.std.proofs.lemmas.Fmt.{decimal_injective}
 use Rattle.xid.specs.Text.{lacks, hex_text}
 use Rattle.xid.proofs.Texts.{lacks_not, cut_format, cut_names}

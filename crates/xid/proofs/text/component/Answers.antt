@@ -1,4 +1,4 @@
-use Rattle.std.proofs.Common.{◌≡◌, ◌∙◌, ℕ, ◌*◌, ◌/◌, Ok, true, sym, ap, arith, length}
+use Rattle.std.proofs.Common.{◌≡◌, ◌∙◌, ◌*◌, ◌/◌, sym, ap, arith, length}
 use Rattle.xid.specs.Text.{hex_text}
 use Rattle.xid.proofs.Texts.{length-hex_text, length-room}
 use Rattle.xid.proofs.text.component.Goals as goal

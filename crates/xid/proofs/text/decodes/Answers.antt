@@ -1,4 +1,4 @@
-use Rattle.std.proofs.Common.{◌≡◌, ◌∙◌, ap, true, is_ok}
+use Rattle.std.proofs.Common.{◌∙◌, ap, is_ok}
 use Rattle.xid.proofs.Texts.{decoded}
 use Rattle.xid.proofs.text.decodes.Goals as goal
 

@@ -1,4 +1,4 @@
-use Rattle.std.proofs.Common.{◌≡◌, ◌∙◌, ℕ, Ok, true, sym, ap, cond, decimal}
+use Rattle.std.proofs.Common.{◌≡◌, ◌∙◌, Ok, sym, ap, decimal}
 use Rattle.std.proofs.lemmas.Slice.Eq.{bytes_eq-Decides}
 use Rattle.xid.proofs.Texts.{decimal_is_text, parsed}
 use Rattle.xid.proofs.text.number.Goals as goal

@@ -1,0 +1,3 @@
+pub mod TouchingLemmas
+pub mod Views
+pub mod CallSteps

@@ -1,0 +1,28 @@
+use Rattle.std.proofs.Common.{Some, None, Ok, Err, refl, subst}
+use Rattle.branch_table.specs.Limits.{Admits}
+use Rattle.protocol.specs.Calls.{Del, Code}
+use Rattle.branch_table.proofs.CallSteps.{key_inval, key_denied, key_done, touches_distinct}
+use Rattle.xid.specs.declared.codes.XaCode.TheVariants as code
+use Rattle.branch_table.proofs.table.BranchTable.del.Goals as goal
+
+pub returns-then-not-key_fits : goal.returns-then-not-key_fits
+returns-then-not-key_fits c =
+    rw (← c.self.view_is)
+    (key_inval (record { rows = c.self.inside.rows.items; branches = c.self.inside.branches.items }) c.args.xid.now (Del c.args.key.now) c.args.key.now c.self.invariant refl (λ busy. rw (← c.if-not-key_fits.ensures) refl) refl)
+
+pub invariant_of-self-in-Ok : goal.invariant_of-self-in-Ok
+invariant_of-self-in-Ok c =
+    touches_distinct c.self.inside.branches.items c.touch_at.new.branches.items c.args.xid.now c.in-Ok.at c.args.key.now (Some None) c.self.invariant
+    (subst (λ bs. Admits bs c.args.xid.now c.args.key.now (Ok c.in-Ok.at)) c.deref.ensures.value c.in-Ok.ensures).0 c.in_ok-touch_at-in-Ok.ensures.ok
+
+pub returns-in-Err : goal.returns-in-Err
+returns-in-Err c =
+    rw (← c.self.view_is, c.answer.ensures)
+    (key_denied (record { rows = c.self.inside.rows.items; branches = c.self.inside.branches.items }) c.args.xid.now (Del c.args.key.now) c.args.key.now (Code code.Ok) c.in-Err.denied refl (λ busy. rw (← c.if-not-key_fits.ensures) refl)
+    (subst (λ bs. Admits bs c.args.xid.now c.args.key.now (Err c.in-Err.denied)) c.deref.ensures.value c.in-Err.ensures))
+
+pub returns-in_ok-touch_at-in-Ok : goal.returns-in_ok-touch_at-in-Ok
+returns-in_ok-touch_at-in-Ok c =
+    rw (← c.self.view_is)
+    (key_done (record { rows = c.self.inside.rows.items; branches = c.self.inside.branches.items }) c.args.xid.now (Del c.args.key.now) c.args.key.now (Some None) (Code code.Ok) c.in-Ok.at c.touch_at.new.branches.items refl (λ busy. rw (← c.if-not-key_fits.ensures) refl) refl
+    (λ v. refl) (subst (λ bs. Admits bs c.args.xid.now c.args.key.now (Ok c.in-Ok.at)) c.deref.ensures.value c.in-Ok.ensures) c.in_ok-touch_at-in-Ok.ensures.ok)

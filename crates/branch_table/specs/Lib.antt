@@ -1,0 +1,4 @@
+pub mod Tables
+pub mod Touching
+pub mod Rows
+pub mod Limits

@@ -1,0 +1,55 @@
+-- The laws of the grammar: no spelling begins another, and a spelling has one message.
+use Rattle.std.proofs.Common.{◌≡◌, ℕ, ◌+◌, Bool, cond, ◌==◌, List, [], ◌∷◌, ◌++◌, length, Option, Some, None, refl, sym, ap, subst, ◌∙◌, append_assoc, arith, length-append}
+use Rattle.std.proofs.lemmas.List.{append-nil, nil_from_length}
+use Rattle.xid.specs.Transactions.{TxParts, IsTx}
+use Rattle.wire.specs.declared.message.Kind.{Kind}
+use Rattle.wire.specs.declared.message.Kind.TheVariants.{Prepare, P1a, P1b, P2a, P2b, Commit, Abort, Ask}
+use Rattle.wire.specs.Messages.{IsMessage, tx_of}
+use Rattle.wire.specs.Grammar.{Spells, spelling, tx_spelling, kind_byte, rest_spelling}
+use Rattle.wire.specs.Reading.{tx_at, kind_at}
+use Rattle.wire.proofs.Fields.{tx_again, kind_again, tx_valid, same_taken}
+
+-- how many bytes follow the transaction, by the number of the kind
+rest_length : ℕ → ℕ
+rest_length code = cond (code == 2) 5 (cond (code == 3) 11 (cond (code == 4) 6 (cond (code == 5) 7 (cond (code == 8) 1 0))))
+
+length-rest : (k : Kind) → length (rest_spelling k) ≡ rest_length (kind_byte k)
+unfolding rest_length
+length-rest (Prepare tx) = refl
+length-rest (P1a tx rm ballot) = refl
+length-rest (P1b tx rm ballot None acceptor) = refl
+length-rest (P1b tx rm ballot (Some accepted) acceptor) = refl
+length-rest (P2a tx rm ballot vote) = refl
+length-rest (P2b tx rm ballot vote acceptor) = refl
+length-rest (Commit tx) = refl
+length-rest (Abort tx) = refl
+length-rest (Ask tx rm) = refl
+
+kind_same : (k m : Kind) → Some k ≡ Some m → k ≡ m
+kind_same k m e = cc
+
+codes : (v a w b : ℕ) (xs ys : List ℕ) → v ∷ a ∷ xs ≡ w ∷ b ∷ ys → (a ≡ b) × (xs ≡ ys)
+codes v a w b xs ys e = (cc, cc)
+
+-- a list that a list of its length begins with
+no_more : (xs ys rest : List ℕ) → length xs ≡ length ys → xs ++ rest ≡ ys → (rest ≡ []) × (xs ≡ ys)
+no_more xs ys rest len e =
+    let none : rest ≡ [] = nil_from_length rest (omega (arith, ap length e, length-append xs rest)) in
+    (none, sym (append-nil xs) ∙ ap (λ (r : List ℕ). xs ++ r) (sym none) ∙ e)
+
+pub begins_none : (k m : Kind) (rest : List ℕ) → IsMessage k → IsMessage m → spelling k ++ rest ≡ spelling m → (k ≡ m) × (rest ≡ [])
+begins_none k m rest is-k is-m e =
+    let heads = codes _ (kind_byte k) _ (kind_byte m) ((tx_spelling (tx_of k) ++ rest_spelling k) ++ rest) (tx_spelling (tx_of m) ++ rest_spelling m) e in
+    let regrouped : (tx_spelling (tx_of k) ++ rest_spelling k) ++ rest ≡ tx_spelling (tx_of k) ++ (rest_spelling k ++ rest) = append_assoc (tx_spelling (tx_of k)) (rest_spelling k) rest in
+    let both : tx_spelling (tx_of k) ++ (rest_spelling k ++ rest) ≡ tx_spelling (tx_of m) ++ rest_spelling m = sym regrouped ∙ heads.1 in
+    let txs = same_taken (tx_spelling (tx_of k) ++ (rest_spelling k ++ rest)) (tx_of k) (rest_spelling k ++ rest) (tx_of m) (rest_spelling m) (tx_valid m is-m) both (tx_again (tx_of k) (rest_spelling k ++ rest) (tx_valid k is-k)) in
+    let lens : length (rest_spelling k) ≡ length (rest_spelling m) = length-rest k ∙ ap rest_length heads.0 ∙ sym (length-rest m) in
+    let rests = no_more (rest_spelling k) (rest_spelling m) rest lens txs.1 in
+    let same : kind_at (kind_byte k) (tx_of k) (rest_spelling k) ≡ kind_at (kind_byte m) (tx_of m) (rest_spelling m) = rw (heads.0, txs.0, rests.1) refl in
+    (kind_same k m (sym (kind_again k is-k) ∙ same ∙ kind_again m is-m), rests.0)
+
+pub spelled_once : (k : Kind) (xs ys : List ℕ) → Spells k xs → Spells k ys → xs ≡ ys
+spelled_once k xs ys p q = p.spelled ∙ sym q.spelled
+
+pub means_one : (k m : Kind) (bytes : List ℕ) → Spells k bytes → Spells m bytes → k ≡ m
+means_one k m bytes p q = (begins_none k m [] p.message q.message (append-nil (spelling k) ∙ sym p.spelled ∙ q.spelled)).0

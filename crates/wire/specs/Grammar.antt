@@ -1,0 +1,76 @@
+-- The grammar of messages: the one spelling of each, field by field. Numbers are big endian.
+use Rattle.std.specs.Prelude.{◌≡◌, ℕ, List, [], ◌∷◌, ◌++◌, length, Option, Some, None}
+use Rattle.std.specs.List.{flat_map}
+use Rattle.byteorder.specs.Endian.{big_bytes}
+use Rattle.xid.specs.Transactions.{TxParts, BranchParts}
+use Rattle.xid.specs.declared.transaction.Vote.{Vote}
+use Rattle.xid.specs.declared.transaction.Vote.TheVariants.{Prepared, Aborted}
+use Rattle.wire.specs.declared.grammar.TheConstants.{VERSION}
+use Rattle.wire.specs.declared.message.Kind.{Kind}
+use Rattle.wire.specs.declared.message.Kind.TheVariants.{Prepare, P1a, P1b, P2a, P2b, Commit, Abort, Ask}
+use Rattle.wire.specs.Messages.{IsMessage, tx_of}
+
+-- a resource manager's number, and so an instance: one byte
+abbrev pub rm_spelling : ℕ → List ℕ
+rm_spelling rm = rm ∷ []
+
+-- a number of 32 bits: four bytes
+abbrev pub number_spelling : ℕ → List ℕ
+number_spelling n = big_bytes 4 n
+
+-- a gtrid or a bqual: its length, its bytes
+abbrev pub component_spelling : List ℕ → List ℕ
+component_spelling xs = length xs ∷ xs
+
+-- a branch: its resource manager, its bqual
+abbrev pub branch_spelling : BranchParts → List ℕ
+branch_spelling b = rm_spelling b.rm ++ component_spelling b.bqual
+
+-- branches: how many, and each
+abbrev pub branches_spelling : List BranchParts → List ℕ
+branches_spelling bs = length bs ∷ flat_map branch_spelling bs
+
+-- a transaction: its format, its gtrid, its branches
+abbrev pub tx_spelling : TxParts → List ℕ
+tx_spelling tx = number_spelling tx.format ++ (component_spelling tx.gtrid ++ branches_spelling tx.branches)
+
+-- a vote: one byte
+abbrev pub vote_byte : Vote → ℕ
+vote_byte Prepared = 1
+vote_byte Aborted = 2
+
+-- a report of phase 1b: the ballot accepted last and its vote, or five zeros
+abbrev pub report_spelling : Option (ℕ × Vote) → List ℕ
+report_spelling None = number_spelling 0 ++ 0 ∷ []
+report_spelling (Some accepted) = number_spelling accepted.0 ++ vote_byte accepted.1 ∷ []
+
+-- the kinds by number
+abbrev pub kind_byte : Kind → ℕ
+kind_byte (Prepare tx) = 1
+kind_byte (P1a tx rm ballot) = 2
+kind_byte (P1b tx rm ballot report acceptor) = 3
+kind_byte (P2a tx rm ballot vote) = 4
+kind_byte (P2b tx rm ballot vote acceptor) = 5
+kind_byte (Commit tx) = 6
+kind_byte (Abort tx) = 7
+kind_byte (Ask tx rm) = 8
+
+-- what follows the transaction in each kind
+abbrev pub rest_spelling : Kind → List ℕ
+rest_spelling (Prepare tx) = []
+rest_spelling (P1a tx rm ballot) = rm_spelling rm ++ number_spelling ballot
+rest_spelling (P1b tx rm ballot report acceptor) = rm_spelling rm ++ (number_spelling ballot ++ (report_spelling report ++ acceptor ∷ []))
+rest_spelling (P2a tx rm ballot vote) = rm_spelling rm ++ (number_spelling ballot ++ vote_byte vote ∷ [])
+rest_spelling (P2b tx rm ballot vote acceptor) = rm_spelling rm ++ (number_spelling ballot ++ vote_byte vote ∷ acceptor ∷ [])
+rest_spelling (Commit tx) = []
+rest_spelling (Abort tx) = []
+rest_spelling (Ask tx rm) = rm_spelling rm
+
+-- a message: version, kind, transaction, rest
+abbrev pub spelling : Kind → List ℕ
+spelling k = VERSION ∷ kind_byte k ∷ (tx_spelling (tx_of k) ++ rest_spelling k)
+
+-- bytes spell a message
+pub record Spells (k : Kind) (bytes : List ℕ) : Type 0 where
+  pub message : IsMessage k
+  pub spelled : bytes ≡ spelling k
