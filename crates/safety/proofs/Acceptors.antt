@@ -1,9 +1,7 @@
 -- What the rules of an acceptor hand over.
-use Rattle.std.proofs.Common.{◌≡◌, ◌⊎◌, inl, inr, ⊎_elim, ◌∙◌, ℕ, ◌<◌, ◌≤◌, Bool, true, false, ◌&&◌, ◌==◌, not, if◌then◌else◌}
-use Rattle.std.proofs.Common.{IsTrue, List, [], ◌∷◌, ◌++◌, Option, Some, None, refl, sym, ap, subst, nat_lt, nat_le, le_trans}
-use Rattle.std.proofs.Common.{arith}
+use Rattle.std.proofs.Common.{◌≡◌, inl, inr, ⊎_elim, ℕ, ◌≤◌, true, ◌&&◌, ◌==◌, not}
+use Rattle.std.proofs.Common.{IsTrue, List, [], ◌∷◌, Option, Some, None, refl, sym, subst, nat_lt, nat_le}
 use Rattle.std.specs.Prelude.{map, Contains}
-use Rattle.std.specs.List.{flat_map}
 use Rattle.std.proofs.lemmas.Bool.{cond_both, and_from, and_parts, ltb-true, leb-true, eqb-true, not_from_false}
 use Rattle.xid.specs.Transactions.{TxParts, names}
 use Rattle.xid.specs.declared.transaction.Vote.{Vote}
@@ -11,20 +9,19 @@ use Rattle.xid.specs.declared.transaction.Vote.TheVariants as votes
 use Rattle.wire.specs.declared.message.Kind.{Kind}
 use Rattle.wire.specs.declared.message.Kind.TheVariants as kinds
 use Rattle.ballot.specs.Choice.{Report}
-use Rattle.ballot.specs.declared.slot.Slot.{Slot}
 use Rattle.stable_record.specs.Facts.{Fact}
 use Rattle.stable_record.specs.Facts as stored
 use Rattle.protocol.specs.declared.NodeId.{NodeId}
-use Rattle.protocol.specs.declared.NodeId.TheVariants.{A, L, R}
+use Rattle.protocol.specs.declared.NodeId.TheVariants.{A}
 use Rattle.protocol.specs.Effects.{Config, Effect, Send, ToLeaders, no_effect, sends_only, stores, to}
 use Rattle.protocol.specs.Facts.{slot, vote_eq}
 use Rattle.protocol.specs.Acceptors.{is_report, is_accepted, on_1a, on_2a, acceptor_takes}
 use Rattle.protocol.specs.Playing.{all_play, plays_at_acceptor}
-use Rattle.protocol.specs.StandsFor.{stands_for, comes_to}
+use Rattle.protocol.specs.StandsFor.{stands_for}
 use Rattle.protocol.specs.Laws as laws
 use Rattle.protocol.proofs.SlotLaws.{slot_is}
-use Rattle.safety.specs.Items.{Item, Promised, Accepted, Began, Voted, Committed, Dropped, P1b, P2a, P2b, Commit, Abort}
-use Rattle.safety.specs.Items.{Setting, Allowed, IsCovered}
+use Rattle.safety.specs.Items.{Item, Promised, Accepted, P1b, P2b}
+use Rattle.safety.specs.Items.{Allowed, IsCovered}
 use Rattle.safety.specs.Senders.{IsFrom}
 use Rattle.safety.specs.Standing.{Among, StandsBy, setting}
 use Rattle.safety.proofs.Slots.{IsSlot, IsHeld, slot_may_accept, slot_may_be_reported}
@@ -107,8 +104,8 @@ module _ (config : Config) (a : ℕ) (facts : NodeId → List Fact) (sent : List
             (ltb-true s.mbal b up)
             (inr (Contains-head x []))
             (λ d v h. ⊎_elim (λ old. old)
-              (λ (new : Contains (x ∷ []) (Accepted a tx i d v)). let e : x ≡ Accepted a tx i d v = Contains-one x
-              (Accepted a tx i d v) new in absurd (cc (e))) h)));
+            (λ (new : Contains (x ∷ []) (Accepted a tx i d v)). let e : x ≡ Accepted a tx i d v = Contains-one x
+            (Accepted a tx i d v) new in absurd (cc (e))) h)));
         agree = λ ux j d v w h k. absurd (only_one (λ m. m ≡ kinds.P2a ux j d v → ⊥) (kinds.P1b tx i b s.report a)
             (λ e. absurd (cc (e))) (kinds.P2a ux j d v) h refl);
         named = only_one IsNamed (kinds.P1b tx i b s.report a) named;
@@ -122,7 +119,7 @@ module _ (config : Config) (a : ℕ) (facts : NodeId → List Fact) (sent : List
         good = promised_is_good tx i b named up;
         plays = λ fact is. let e : stored.Promise tx i b ≡ fact = cc (is) in
             subst (λ (f : Fact). plays_at_acceptor (facts (A a)) f ≡ true) e
-                (and_from (names tx i) (nat_lt (slot (facts (A a)) tx i).mbal b) named up);
+            (and_from (names tx i) (nat_lt (slot (facts (A a)) tx i).mbal b) named up);
       })
       (λ low. nothing (no_effect tt) refl refl)
 
@@ -151,21 +148,21 @@ module _ (config : Config) (a : ℕ) (facts : NodeId → List Fact) (sent : List
       cond_both (nat_le s.mbal b) _ _ (IsAcceptorGood config a facts sent)
       (λ up. cond_both (is_accepted s b v) (sends_only tt told) (stores tt (stored.Accept tx i b v) told)
       (IsAcceptorGood config a facts sent)
-        (λ stands. record {
-          good = told_is_good None tx i b v named tt
-              (inl (accepted_stands (facts (A a)) tx i b v s.report (and_parts (s.mbal == b) (is_report s.report b v) stands).1
-              (slot_is config a (facts (A a)) plays tx i).last));
-          plays = λ fact is. absurd (cc (is));
-        })
-        (λ new. record {
-          good = told_is_good (Some (stored.Accept tx i b v)) tx i b v named
-              (slot_may_accept Has Has a tx i s.mbal s.report (slot_stands tx i) (λ y h. h) b v (leb-true s.mbal b up) was_sent, tt)
-              (inr (Contains-head x []));
-          plays = λ fact is. let e : stored.Accept tx i b v ≡ fact = cc (is) in
-              subst (λ (f : Fact). plays_at_acceptor (facts (A a)) f ≡ true) e
-              (and_from (names tx i && nat_le s.mbal b) (not (is_accepted s b v))
-              (and_from (names tx i) (nat_le s.mbal b) named up) (not_from_false (is_accepted s b v) new));
-        }))
+      (λ stands. record {
+        good = told_is_good None tx i b v named tt
+            (inl (accepted_stands (facts (A a)) tx i b v s.report (and_parts (s.mbal == b) (is_report s.report b v) stands).1
+            (slot_is config a (facts (A a)) plays tx i).last));
+        plays = λ fact is. absurd (cc (is));
+      })
+      (λ new. record {
+        good = told_is_good (Some (stored.Accept tx i b v)) tx i b v named
+            (slot_may_accept Has Has a tx i s.mbal s.report (slot_stands tx i) (λ y h. h) b v (leb-true s.mbal b up) was_sent, tt)
+            (inr (Contains-head x []));
+        plays = λ fact is. let e : stored.Accept tx i b v ≡ fact = cc (is) in
+            subst (λ (f : Fact). plays_at_acceptor (facts (A a)) f ≡ true) e
+            (and_from (names tx i && nat_le s.mbal b) (not (is_accepted s b v))
+            (and_from (names tx i) (nat_le s.mbal b) named up) (not_from_false (is_accepted s b v) new));
+      }))
       (λ low. nothing (no_effect tt) refl refl)
 
   -- an acceptor's rules, on a message that was sent

@@ -1,28 +1,28 @@
 -- What holds in every world that events come to.
-use Rattle.std.proofs.Common.{◌≡◌, ◌≢◌, ◌⊎◌, inl, inr, ◌∙◌, ℕ, ◌≤◌, Bool, true, false, IsTrue, if◌then◌else◌, List, [], ◌∷◌}
-use Rattle.std.proofs.Common.{Option, Some, None, refl, sym, ap, subst}
+use Rattle.std.proofs.Common.{◌≡◌, ◌≢◌, inl, inr, ◌∙◌, ℕ, ◌≤◌, Bool, true, IsTrue, if◌then◌else◌, List, []}
+use Rattle.std.proofs.Common.{Option, Some, None, sym, ap, subst}
 use Rattle.std.proofs.lemmas.Bool.{cases_eq}
 use Rattle.xid.specs.Transactions.{TxParts, names}
 use Rattle.xid.specs.declared.transaction.Vote.{Vote}
 use Rattle.xid.specs.declared.transaction.Vote.TheVariants as votes
 use Rattle.stable_record.specs.Facts.{Fact}
 use Rattle.stable_record.specs.Facts as stored
-use Rattle.xid.specs.declared.refusals.Refusal.TheVariants.{Damaged, NoSuch, NoMemory}
+use Rattle.xid.specs.declared.refusals.Refusal.TheVariants.{Damaged, NoSuch}
 use Rattle.protocol.specs.declared.NodeId.{NodeId}
-use Rattle.protocol.specs.declared.NodeId.TheVariants.{A, L, R}
+use Rattle.protocol.specs.declared.NodeId.TheVariants.{A}
 use Rattle.protocol.specs.declared.View.{View}
 use Rattle.protocol.specs.declared.View.TheVariants as views
-use Rattle.protocol.specs.Effects.{Config, Reply, Done, Refuses}
-use Rattle.protocol.specs.Nodes.{NodeState, Fate, Well, Fails, Unreached, Starved, empty_memory, unchanged, fallen, restarted, Outcome}
+use Rattle.protocol.specs.Effects.{Config, Done, Refuses}
+use Rattle.protocol.specs.Nodes.{NodeState, Fate, Well, Fails, Unreached, Starved, empty_memory, unchanged, fallen, restarted}
 use Rattle.protocol.specs.Playing.{all_play}
-use Rattle.protocol.specs.Views.{IsReady, IsCommitMove, IsOneMove, IsCommitStep, IsConsistent}
+use Rattle.protocol.specs.Views.{IsReady, IsCommitMove, IsCommitStep, IsConsistent}
 use Rattle.protocol.specs.Worlds.{Fated, World, Happening, Restart, node_at, happens, joined, refused}
 use Rattle.protocol.specs.Facts.{slot, last_ballot, ballot_begun}
 use Rattle.protocol.specs.Laws as laws
 use Rattle.protocol.proofs.Same.{tx_eq-same}
 use Rattle.protocol.proofs.SlotLaws.{slot_is}
 use Rattle.protocol.proofs.Standing.{at_most_greatest}
-use Rattle.safety.specs.Items.{Item, Promised, Accepted, Voted, Committed, Commit, IsState, IsCovered}
+use Rattle.safety.specs.Items.{Promised, Accepted, Voted, Committed, Commit, IsState, IsCovered}
 use Rattle.safety.specs.Invariant.{Invariant}
 use Rattle.safety.specs.Runs.{reached, reached_next, views_in, facts_after, StandsAfter}
 use Rattle.safety.specs.Standing.{Among, Stands, setting, facts_of, facts_at, sent_in}
@@ -124,7 +124,7 @@ module _ (config : Config) (world : World) (who : NodeId) where
   replied : (node : NodeState) → all_play config who [] node.facts ≡ true → (restarted config who node Well).reply ≡ Done
   replied node plays =
       ap (λ (t : Bool). (if t then unchanged (record { facts = node.facts; up = true; tear = node.tear; memory = empty_memory }) Done
-        else unchanged (fallen node) (Refuses Damaged)).reply) plays
+      else unchanged (fallen node) (Refuses Damaged)).reply) plays
 
   pub restart_done : (node : NodeState) → node_at config world who ≡ Some node → all_play config who [] (facts_at config world who) ≡ true
       → (happens config world (Restart who) Well).reply ≡ Done

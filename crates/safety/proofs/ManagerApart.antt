@@ -8,7 +8,7 @@ use Rattle.xid.specs.Names.{XidParts, xid_eq}
 use Rattle.xid.specs.Transactions.{TxParts, names, xid_at}
 use Rattle.xid.specs.declared.codes.XaCode.TheVariants as codes
 use Rattle.xid.specs.declared.transaction.Vote.TheVariants as votes
-use Rattle.xid.specs.declared.refusals.Refusal.TheVariants.{Busy, BadTx}
+use Rattle.xid.specs.declared.refusals.Refusal.TheVariants.{Busy}
 use Rattle.wire.specs.declared.message.Kind.{Kind}
 use Rattle.wire.specs.declared.message.Kind.TheVariants as kinds
 use Rattle.wire.specs.Messages as messages
@@ -19,10 +19,10 @@ use Rattle.protocol.specs.declared.BranchState.TheVariants as states
 use Rattle.protocol.specs.declared.NodeId.TheVariants.{R}
 use Rattle.protocol.specs.Calls.{Action, Start, Put, Del, Get, End, EndFail, Rollback, Code, Refused, Row}
 use Rattle.protocol.specs.Branches.{BranchView, is_done, key_of, by_state}
-use Rattle.protocol.specs.Effects.{Config, Effect, Refuses, ToLeaders, replies, no_effect, sends_only, stores, to, is_inside}
+use Rattle.protocol.specs.Effects.{Config, Effect, is_inside}
 use Rattle.protocol.specs.Facts.{vote_in, is_ended, is_spent, is_prepared_view, is_open_view, view, Bound, bound_by, bound_in}
-use Rattle.protocol.specs.Managers.{Branch, has_key, all_branches, branch_at, is_held, changed, without, after_call, call_answer, on_call, idle_keys, vote_sent, first_vote, on_prepare, on_commit, on_abort, on_message, manager_takes, on_manager_timeout}
-use Rattle.protocol.specs.Nodes.{Memory, Input, CallOn, ListPrepared, AskView, AskCommit, AskStatus, TimeOut, Take, TakeNoise, effect_of, is_message_inside, takes, first_rows}
+use Rattle.protocol.specs.Managers.{Branch, has_key, all_branches, branch_at, is_held, changed, without, after_call, call_answer, on_call, idle_keys, first_vote, on_prepare, on_commit, on_abort, on_message, manager_takes, on_manager_timeout}
+use Rattle.protocol.specs.Nodes.{Memory, Input, CallOn, ListPrepared, AskView, AskCommit, AskStatus, TimeOut, Take, TakeNoise, effect_of, is_message_inside, first_rows}
 use Rattle.protocol.specs.Playing.{plays, plays_at_manager, all_play, is_new, is_name_spent, is_some_held}
 use Rattle.protocol.specs.Tables.{table}
 use Rattle.safety.specs.Standing.{Among}

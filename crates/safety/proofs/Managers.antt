@@ -10,7 +10,6 @@ use Rattle.xid.specs.Names.{XidParts}
 use Rattle.xid.specs.Transactions.{TxParts, BranchParts, names, is_at, xid_of, xid_at}
 use Rattle.xid.specs.declared.transaction.Vote.{Vote}
 use Rattle.xid.specs.declared.transaction.Vote.TheVariants as votes
-use Rattle.xid.specs.declared.refusals.Refusal.TheVariants.{BadTx}
 use Rattle.wire.specs.declared.message.Kind.{Kind}
 use Rattle.wire.specs.declared.message.Kind.TheVariants as kinds
 use Rattle.wire.specs.Messages.{tx_of}
@@ -18,9 +17,9 @@ use Rattle.stable_record.specs.Facts.{Fact, Touched}
 use Rattle.stable_record.specs.Facts as stored
 use Rattle.protocol.specs.declared.NodeId.TheVariants.{R}
 use Rattle.protocol.specs.Facts.{vote_in, is_ended, is_spent, view, is_prepared_view, is_open_view}
-use Rattle.protocol.specs.Effects.{Config, Effect, Refuses, Send, ToLeaders, replies, no_effect, sends_only, stores, to, is_inside}
-use Rattle.protocol.specs.Managers.{Branch, without, idle_keys, vote_sent, first_vote, on_prepare, on_commit, on_abort, on_message, manager_takes, on_manager_timeout}
-use Rattle.protocol.specs.Nodes.{Memory, Input, CallOn, ListPrepared, AskView, AskCommit, AskStatus, TimeOut, Take, TakeNoise, effect_of, is_message_inside, takes}
+use Rattle.protocol.specs.Effects.{Config, Effect, Send, ToLeaders, to, is_inside}
+use Rattle.protocol.specs.Managers.{Branch, idle_keys, vote_sent, first_vote, on_prepare, on_commit, on_abort, on_message, manager_takes, on_manager_timeout}
+use Rattle.protocol.specs.Nodes.{Memory, Input, CallOn, ListPrepared, AskView, AskCommit, AskStatus, TimeOut, Take, TakeNoise, effect_of, is_message_inside}
 use Rattle.safety.specs.Standing.{Among}
 use Rattle.safety.proofs.Lists.{Among-append}
 use Rattle.safety.proofs.ViewFacts.{unvoted, vote_in_after_prepared, vote_in_after_aborted}

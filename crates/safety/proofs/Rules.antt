@@ -1,20 +1,19 @@
 -- What the rules of each kind of node hand over, in a world that is safe.
-use Rattle.std.proofs.Common.{◌≡◌, ◌⊎◌, inl, inr, ◌∙◌, ℕ, ◌<◌, Bool, true, List, [], ◌++◌, Option, Some, None, refl, sym, ap, subst}
-use Rattle.std.specs.Prelude.{map}
+use Rattle.std.proofs.Common.{◌≡◌, ℕ, ◌<◌, true, List, ◌++◌, Option, Some, refl, sym, ap, subst}
 use Rattle.std.proofs.lemmas.Bool.{cond_both}
 use Rattle.wire.specs.declared.message.Kind.{Kind}
 use Rattle.stable_record.specs.Facts.{Fact}
 use Rattle.protocol.specs.declared.NodeId.{NodeId}
 use Rattle.protocol.specs.declared.NodeId.TheVariants.{A, L, R}
-use Rattle.protocol.specs.Effects.{Config, Effect, Send, Reply, replies}
+use Rattle.protocol.specs.Effects.{Config, Effect, Reply, replies}
 use Rattle.protocol.specs.Nodes.{Memory, NodeState, Input, CallOn, ListPrepared, AskView, AskCommit, AskStatus, TimeOut, Take}
 use Rattle.protocol.specs.Nodes.{TakeNoise, effect_of, takes, is_message_inside}
-use Rattle.protocol.specs.Playing.{plays, plays_at_acceptor, plays_at_leader}
+use Rattle.protocol.specs.Playing.{plays_at_acceptor}
 use Rattle.safety.specs.Standing.{Among, facts_of}
 use Rattle.safety.proofs.Acceptors.{messages_of, acceptor_is_good}
 use Rattle.safety.proofs.Leaders.{IsTakenSent, leader_effect}
 use Rattle.safety.proofs.LeadersGood.{leader_is_good, backed_by}
-use Rattle.safety.proofs.LeadersWords.{IsKept, IsSentMore, with_fact}
+use Rattle.safety.proofs.LeadersWords.{IsKept, with_fact}
 use Rattle.safety.proofs.ManagerApart.{AreApart, manager_met, manager_stays_apart}
 use Rattle.safety.proofs.ManagerEvents.{manager_is_good}
 use Rattle.safety.proofs.NodeSteps.{IsRule}
@@ -76,15 +75,15 @@ leader_rule : (config : Config) (l : ℕ) (nodes : NodeId → Option NodeState) 
 leader_rule config l nodes sent safe memory input few came kept =
     let e : Effect Memory = effect_of config (L l) (facts_by nodes (L l)) memory input in
     let is = leader_is_good config l (facts_by nodes) memory sent (sent ++ messages_of e.sends)
-        (messages_of e.sends) input few safe.invariant safe.named
-        came kept (λ m h. h) refl in
+    (messages_of e.sends) input few safe.invariant safe.named
+    came kept (λ m h. h) refl in
     record {
       good = is.good;
       met = is.plays;
       leads = λ k now same more.
           let own : l ≡ k = cc (same) in
           let step = leader_effect config l (facts_by nodes (L l)) memory (Among sent) (Among now) input few
-              (backed_by config l (facts_by nodes) sent safe.invariant) came kept more in
+          (backed_by config l (facts_by nodes) sent safe.invariant) came kept more in
           subst (λ (n : ℕ). IsKept config n (with_fact (facts_by nodes (L l)) e.fact) e.memory.leading (Among now)) own step.kept;
       holds = λ rm same. absurd (cc (same));
     }

@@ -1,7 +1,6 @@
 -- What holds of a world at each moment of a run, and that it lasts while one node takes a step.
-use Rattle.std.proofs.Common.{◌≡◌, ◌⊎◌, inl, inr, ⊎_elim, ◌∙◌, ℕ, zero, suc, ◌<◌, Bool, true, false, ◌&&◌, IsTrue, List, [], ◌∷◌}
+use Rattle.std.proofs.Common.{◌≡◌, ◌⊎◌, inl, inr, ◌∙◌, ℕ, zero, suc, true, List, []}
 use Rattle.std.proofs.Common.{◌++◌, Option, Some, None, refl, sym, ap, subst, arith}
-use Rattle.std.specs.Prelude.{map, Contains}
 use Rattle.std.specs.List.{flat_map}
 use Rattle.std.specs.Option.{option_to_list}
 use Rattle.std.proofs.lemmas.List.{append-nil}
@@ -10,15 +9,14 @@ use Rattle.xid.specs.Transactions.{TxParts, names}
 use Rattle.xid.specs.declared.transaction.Vote.{Vote}
 use Rattle.wire.specs.declared.message.Kind.{Kind}
 use Rattle.wire.specs.declared.message.Kind.TheVariants as kinds
-use Rattle.ballot.specs.Ballots.{owner_of, IsOwned}
+use Rattle.ballot.specs.Ballots.{IsOwned}
 use Rattle.stable_record.specs.Facts.{Fact}
 use Rattle.protocol.specs.declared.NodeId.{NodeId}
-use Rattle.protocol.specs.declared.NodeId.TheVariants.{A, L, R}
+use Rattle.protocol.specs.declared.NodeId.TheVariants.{L, R}
 use Rattle.protocol.specs.declared.View.{View}
 use Rattle.protocol.specs.declared.View.TheVariants as views
 use Rattle.protocol.specs.Effects.{Config}
 use Rattle.protocol.specs.Facts.{view}
-use Rattle.protocol.specs.Leading.{Leading}
 use Rattle.protocol.specs.Nodes.{NodeState}
 use Rattle.protocol.specs.Playing.{plays, all_play}
 use Rattle.protocol.specs.StandsFor.{stands_for}
@@ -26,10 +24,10 @@ use Rattle.protocol.specs.Views.{IsCommitStep}
 use Rattle.protocol.specs.Worlds.{World, node_at}
 use Rattle.protocol.specs.Laws as laws
 use Rattle.protocol.proofs.ViewLaws as protocol
-use Rattle.safety.specs.Items.{Item, Setting, IsView, IsState}
+use Rattle.safety.specs.Items.{Item, IsView, IsState}
 use Rattle.safety.specs.Invariant.{Invariant}
 use Rattle.safety.specs.Senders.{IsFrom}
-use Rattle.safety.specs.Standing.{Among, StandsBy, setting, facts_of, facts_at, sent_in, Stands}
+use Rattle.safety.specs.Standing.{Among, StandsBy, setting, facts_of, sent_in}
 use Rattle.safety.proofs.Events.{IsEvent, event_keeps_invariant, event_moves_one_step}
 use Rattle.safety.proofs.Growth.{items_of, IsMore, same_node}
 use Rattle.safety.proofs.Lists.{Among-append, Among-before}

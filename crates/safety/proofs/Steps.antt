@@ -1,6 +1,6 @@
 -- What a rule of a node hands over, and that it makes an event.
-use Rattle.std.proofs.Common.{◌≡◌, ◌⊎◌, inl, inr, ◌∙◌, ℕ, zero, suc, Bool, IsTrue, List, [], ◌∷◌, ◌++◌, Option, Some, None, refl}
-use Rattle.std.proofs.Common.{sym, ap, subst, arith}
+use Rattle.std.proofs.Common.{◌≡◌, inl, inr, ℕ, IsTrue, List, [], Option, Some, None}
+use Rattle.std.proofs.Common.{ap, subst, arith}
 use Rattle.std.specs.Prelude.{Contains}
 use Rattle.std.specs.List.{flat_map}
 use Rattle.xid.specs.Transactions.{TxParts, names}
@@ -12,12 +12,12 @@ use Rattle.stable_record.specs.Facts as stored
 use Rattle.protocol.specs.declared.NodeId.{NodeId}
 use Rattle.protocol.specs.declared.NodeId.TheVariants.{A, L, R}
 use Rattle.protocol.specs.Effects.{Config}
-use Rattle.protocol.specs.StandsFor.{stands_for, comes_to}
+use Rattle.protocol.specs.StandsFor.{stands_for}
 use Rattle.safety.specs.Items.{Item, Promised, Accepted, Began, Voted, Committed, Dropped, P1b, P2a, P2b, Commit, Abort}
-use Rattle.safety.specs.Items.{Setting, Allowed}
+use Rattle.safety.specs.Items.{Allowed}
 use Rattle.safety.specs.Senders.{IsFrom}
 use Rattle.safety.specs.Standing.{Among, StandsBy, setting}
-use Rattle.safety.proofs.Additions.{AreAllowed, AreQuietAfterFirst, IsGrownBy}
+use Rattle.safety.proofs.Additions.{AreAllowed, AreQuietAfterFirst}
 use Rattle.safety.proofs.Events.{IsEvent, IsMessage, with_items}
 use Rattle.safety.proofs.Lists.{Among-joined, Among-contains}
 use Rattle.safety.proofs.Growth.{items_of, IsMore, grown_by}

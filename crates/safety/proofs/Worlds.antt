@@ -1,19 +1,19 @@
 -- Every event keeps a world safe, and moves each transaction by at most one step.
-use Rattle.std.proofs.Common.{◌≡◌, ◌⊎◌, inl, inr, ◌∙◌, ℕ, zero, suc, ◌<◌, Bool, true, false, if◌then◌else◌, IsTrue, List, [], ◌∷◌}
-use Rattle.std.proofs.Common.{◌++◌, Option, Some, None, refl, sym, ap, subst, nat_lt, is_some}
+use Rattle.std.proofs.Common.{◌≡◌, inl, inr, ℕ, zero, suc, ◌<◌, Bool, true, false, if◌then◌else◌, List, [], ◌∷◌}
+use Rattle.std.proofs.Common.{Option, Some, None, refl, sym, ap, subst, nat_lt}
 use Rattle.std.specs.Prelude.{map, slice_get, length}
 use Rattle.std.proofs.lemmas.Bool.{cond_both}
 use Rattle.std.proofs.lemmas.List.{append-nil}
-use Rattle.xid.specs.Transactions.{TxParts, names}
+use Rattle.xid.specs.Transactions.{TxParts}
 use Rattle.wire.specs.declared.message.Kind.{Kind}
 use Rattle.stable_record.specs.Facts.{Fact}
 use Rattle.xid.specs.declared.refusals.Refusal.TheVariants.{NoSuch}
 use Rattle.protocol.specs.Calls as calls
 use Rattle.protocol.specs.declared.NodeId.{NodeId}
-use Rattle.protocol.specs.declared.NodeId.TheVariants.{A, L, R}
+use Rattle.protocol.specs.declared.NodeId.TheVariants.{L, R}
 use Rattle.protocol.specs.Effects.{Config, Send, Done, Refuses}
 use Rattle.wire.specs.Grammar.{spelling}
-use Rattle.protocol.specs.Nodes.{empty_memory, new_node, NodeState, Input, CallOn, ListPrepared, AskView, AskCommit, AskStatus}
+use Rattle.protocol.specs.Nodes.{NodeState, Input, CallOn, ListPrepared, AskView, AskCommit, AskStatus}
 use Rattle.protocol.specs.Nodes.{TimeOut, Take, TakeNoise, Fate, Well, Fails, Unreached, Starved, Outcome, node_step, restarted}
 use Rattle.protocol.specs.Playing.{all_play}
 use Rattle.protocol.specs.Worlds.{World, Datagram, opening, Event, Client, ViewOf, CommitOf, StatusOf, Timeout, Deliver, Lose}
@@ -32,9 +32,9 @@ use Rattle.safety.proofs.LeadersWords.{IsKept}
 use Rattle.safety.proofs.Lists.{Among-map}
 use Rattle.safety.proofs.ManagerApart.{AreApart, none_apart}
 use Rattle.safety.proofs.NodeSteps.{IsStill, next_still, next_step, joined_from, step_from}
-use Rattle.safety.proofs.Places.{node_there, node_elsewhere, opening_node, leader_inside, marked_messages}
+use Rattle.safety.proofs.Places.{opening_node, leader_inside, marked_messages}
 use Rattle.safety.proofs.Rules.{IsFromNet, rule_is}
-use Rattle.safety.proofs.Safe.{facts_by, IsSafeBy, IsSafe, IsNextBy, next_same}
+use Rattle.safety.proofs.Safe.{facts_by, IsSafe, IsNextBy, next_same}
 
 -- the next moment of a world
 pub record IsNext (config : Config) (before after : World) : Type 0 where
@@ -137,8 +137,8 @@ module _ (config : Config) (world : World) (safe : IsSafe config world) where
       (Refuses NoSuch))
       (λ d is. cond_both (nat_lt k (length (spelling d.message))) (at_node config world d.receiver TakeNoise fate)
       (refused world (Refuses NoSuch))
-        (λ happening. IsNext config world happening.world)
-        (λ fewer. at_node_next d.receiver TakeNoise fate tt) (λ all. same))
+      (λ happening. IsNext config world happening.world)
+      (λ fewer. at_node_next d.receiver TakeNoise fate tt) (λ all. same))
 
   disturbs_next : (who : NodeId) (spells : Bool) (fate : Fate) → IsNext config world (disturbs config world who spells fate).world
   disturbs_next who false fate = at_node_next who TakeNoise fate tt
@@ -159,11 +159,11 @@ module _ (config : Config) (world : World) (safe : IsSafe config world) where
   delivers_next n fate = found_next config world safe (datagram_at world.net n)
       (λ d. at_node config (with_mark world n) d.receiver (Take d.message) fate)
       (λ d is.
-        let first = marked config world safe n in
-        let second = at_node_next config (with_mark world n) first.next.safe d.receiver (Take d.message) fate
-            (subst (λ (xs : List Kind). Among xs d.message) (sym (marked_messages world.net n))
-            (Among-map (λ (datagram : Datagram). datagram.message) world.net d (datagram_among world.net n d is))) in
-        record { next = second.next; from = λ are. second.from (first.from are) })
+      let first = marked config world safe n in
+      let second = at_node_next config (with_mark world n) first.next.safe d.receiver (Take d.message) fate
+      (subst (λ (xs : List Kind). Among xs d.message) (sym (marked_messages world.net n))
+      (Among-map (λ (datagram : Datagram). datagram.message) world.net d (datagram_among world.net n d is))) in
+      record { next = second.next; from = λ are. second.from (first.from are) })
 
   -- an event that reaches its node, if it has one
   does_next : (event : Event) (fate : Fate) → IsNext config world (does config world event fate).world
@@ -229,7 +229,7 @@ pub safe_after : (config : Config) (world : World) (events : List Fated) → IsS
 safe_after config world [] safe = safe
 safe_after config world (first ∷ rest) safe =
     safe_after config (happens config world first.event first.fate).world rest
-        (happens_next config world safe first.event first.fate).next.safe
+    (happens_next config world safe first.event first.fate).next.safe
 
 pub safe_ever : (config : Config) (events : List Fated) → IsSafe config (world_after config (opening config) events)
 safe_ever config events = safe_after config (opening config) events (opening_is_safe config)
