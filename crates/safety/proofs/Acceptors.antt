@@ -1,7 +1,7 @@
 -- What the rules of an acceptor hand over.
-use Rattle.std.proofs.Common.{◌≡◌, ◌⊎◌, inl, inr, ⊎_elim, ◌∙◌, ℕ, ◌<◌, ◌≤◌, Bool, true, false, ◌&&◌, ◌==◌, not, if◌then◌else◌, IsTrue, List, [], ◌∷◌, ◌++◌, Option, Some, None, refl, sym, ap, subst, nat_lt, nat_le, le_trans, arith}
+use Rattle.std.proofs.Common.{◌≡◌, inl, inr, ⊎_elim, ℕ, ◌≤◌, true, ◌&&◌, ◌==◌, not}
+use Rattle.std.proofs.Common.{IsTrue, List, [], ◌∷◌, Option, Some, None, refl, sym, subst, nat_lt, nat_le}
 use Rattle.std.specs.Prelude.{map, Contains}
-use Rattle.std.specs.List.{flat_map}
 use Rattle.std.proofs.lemmas.Bool.{cond_both, and_from, and_parts, ltb-true, leb-true, eqb-true, not_from_false}
 use Rattle.xid.specs.Transactions.{TxParts, names}
 use Rattle.xid.specs.declared.transaction.Vote.{Vote}
@@ -9,20 +9,19 @@ use Rattle.xid.specs.declared.transaction.Vote.TheVariants as votes
 use Rattle.wire.specs.declared.message.Kind.{Kind}
 use Rattle.wire.specs.declared.message.Kind.TheVariants as kinds
 use Rattle.ballot.specs.Choice.{Report}
-use Rattle.ballot.specs.declared.slot.Slot.{Slot}
 use Rattle.stable_record.specs.Facts.{Fact}
 use Rattle.stable_record.specs.Facts as stored
 use Rattle.protocol.specs.declared.NodeId.{NodeId}
-use Rattle.protocol.specs.declared.NodeId.TheVariants.{A, L, R}
+use Rattle.protocol.specs.declared.NodeId.TheVariants.{A}
 use Rattle.protocol.specs.Effects.{Config, Effect, Send, ToLeaders, no_effect, sends_only, stores, to}
 use Rattle.protocol.specs.Facts.{slot, vote_eq}
 use Rattle.protocol.specs.Acceptors.{is_report, is_accepted, on_1a, on_2a, acceptor_takes}
 use Rattle.protocol.specs.Playing.{all_play, plays_at_acceptor}
-use Rattle.protocol.specs.StandsFor.{stands_for, comes_to}
+use Rattle.protocol.specs.StandsFor.{stands_for}
 use Rattle.protocol.specs.Laws as laws
 use Rattle.protocol.proofs.SlotLaws.{slot_is}
-use Rattle.safety.specs.Items.{Item, Promised, Accepted, Began, Voted, Committed, Dropped, P1b, P2a, P2b, Commit, Abort}
-use Rattle.safety.specs.Items.{Setting, Allowed, IsCovered}
+use Rattle.safety.specs.Items.{Item, Promised, Accepted, P1b, P2b}
+use Rattle.safety.specs.Items.{Allowed, IsCovered}
 use Rattle.safety.specs.Senders.{IsFrom}
 use Rattle.safety.specs.Standing.{Among, StandsBy, setting}
 use Rattle.safety.proofs.Slots.{IsSlot, IsHeld, slot_may_accept, slot_may_be_reported}
@@ -67,7 +66,8 @@ accepted_stands facts tx i b v (Some last) e h =
     subst (λ (w : Vote). Among facts (stored.Accept tx i b w)) (vote_is last.1 v both.1)
     (subst (λ (d : ℕ). Among facts (stored.Accept tx i d last.1)) (eqb-true last.0 b both.0) h.0)
 
-module _ (config : Config) (a : ℕ) (facts : NodeId → List Fact) (sent : List Kind) (plays : all_play config (A a) [] (facts (A a)) ≡ true) where
+module _ (config : Config) (a : ℕ) (facts : NodeId → List Fact) (sent : List Kind)
+    (plays : all_play config (A a) [] (facts (A a)) ≡ true) where
   abbrev Has : Item TxParts → Type 0
   Has = StandsBy facts sent
 
@@ -84,7 +84,8 @@ module _ (config : Config) (a : ℕ) (facts : NodeId → List Fact) (sent : List
   nothing : (e : Effect (Unit {0})) → e.fact ≡ None → e.sends ≡ [] → IsAcceptorGood config a facts sent e
   nothing e none silent = record {
     good = subst (λ (fact : Option Fact). IsGood config (A a) facts sent fact (messages_of e.sends)) (sym none)
-        (subst (λ (sends : List Send). IsGood config (A a) facts sent None (messages_of sends)) (sym silent) (nothing_is_good config (A a) facts sent));
+        (subst (λ (sends : List Send). IsGood config (A a) facts sent None (messages_of sends)) (sym silent)
+        (nothing_is_good config (A a) facts sent));
     plays = λ fact is. absurd (cc (none, is));
   }
 
@@ -95,14 +96,18 @@ module _ (config : Config) (a : ℕ) (facts : NodeId → List Fact) (sent : List
       let s = slot (facts (A a)) tx i in
       record {
         fact_allowed = (tt, tt);
-        sends_allowed = only_one (λ (m : Kind). (y : Item TxParts) → Among (stands_for m) y → Allowed (setting config) (with_items Has (x ∷ [])) y)
+        sends_allowed = only_one (λ (m : Kind). (y : Item TxParts) → Among (stands_for m) y → Allowed (setting config)
+            (with_items Has (x ∷ [])) y)
             (kinds.P1b tx i b s.report a)
             (only_one (Allowed (setting config) (with_items Has (x ∷ []))) (P1b tx i b s.report a)
-            (slot_may_be_reported Has (with_items Has (x ∷ [])) a tx i s.mbal s.report (slot_stands tx i) (λ y h. inl h) b (ltb-true s.mbal b up)
+            (slot_may_be_reported Has (with_items Has (x ∷ [])) a tx i s.mbal s.report (slot_stands tx i) (λ y h. inl h) b
+            (ltb-true s.mbal b up)
             (inr (Contains-head x []))
             (λ d v h. ⊎_elim (λ old. old)
-              (λ (new : Contains (x ∷ []) (Accepted a tx i d v)). let e : x ≡ Accepted a tx i d v = Contains-one x (Accepted a tx i d v) new in absurd (cc (e))) h)));
-        agree = λ ux j d v w h k. absurd (only_one (λ m. m ≡ kinds.P2a ux j d v → ⊥) (kinds.P1b tx i b s.report a) (λ e. absurd (cc (e))) (kinds.P2a ux j d v) h refl);
+            (λ (new : Contains (x ∷ []) (Accepted a tx i d v)). let e : x ≡ Accepted a tx i d v = Contains-one x
+            (Accepted a tx i d v) new in absurd (cc (e))) h)));
+        agree = λ ux j d v w h k. absurd (only_one (λ m. m ≡ kinds.P2a ux j d v → ⊥) (kinds.P1b tx i b s.report a)
+            (λ e. absurd (cc (e))) (kinds.P2a ux j d v) h refl);
         named = only_one IsNamed (kinds.P1b tx i b s.report a) named;
         from = only_one (IsFrom config (A a)) (kinds.P1b tx i b s.report a) refl;
       }
@@ -113,7 +118,8 @@ module _ (config : Config) (a : ℕ) (facts : NodeId → List Fact) (sent : List
       (λ up. record {
         good = promised_is_good tx i b named up;
         plays = λ fact is. let e : stored.Promise tx i b ≡ fact = cc (is) in
-            subst (λ (f : Fact). plays_at_acceptor (facts (A a)) f ≡ true) e (and_from (names tx i) (nat_lt (slot (facts (A a)) tx i).mbal b) named up);
+            subst (λ (f : Fact). plays_at_acceptor (facts (A a)) f ≡ true) e
+            (and_from (names tx i) (nat_lt (slot (facts (A a)) tx i).mbal b) named up);
       })
       (λ low. nothing (no_effect tt) refl refl)
 
@@ -123,10 +129,12 @@ module _ (config : Config) (a : ℕ) (facts : NodeId → List Fact) (sent : List
       → IsGood config (A a) facts sent fact (kinds.P2b tx i b v a ∷ [])
   told_is_good fact tx i b v named ok stands = record {
     fact_allowed = ok;
-    sends_allowed = only_one (λ (m : Kind). (y : Item TxParts) → Among (stands_for m) y → Allowed (setting config) (with_items Has (items_of (A a) fact)) y)
+    sends_allowed = only_one (λ (m : Kind). (y : Item TxParts) → Among (stands_for m) y → Allowed (setting config)
+        (with_items Has (items_of (A a) fact)) y)
         (kinds.P2b tx i b v a)
         (only_one (Allowed (setting config) (with_items Has (items_of (A a) fact))) (P2b tx i b v a) stands);
-    agree = λ ux j d w x h k. absurd (only_one (λ m. m ≡ kinds.P2a ux j d w → ⊥) (kinds.P2b tx i b v a) (λ e. absurd (cc (e))) (kinds.P2a ux j d w) h refl);
+    agree = λ ux j d w x h k. absurd (only_one (λ m. m ≡ kinds.P2a ux j d w → ⊥) (kinds.P2b tx i b v a) (λ e. absurd (cc (e)))
+        (kinds.P2a ux j d w) h refl);
     named = only_one IsNamed (kinds.P2b tx i b v a) named;
     from = only_one (IsFrom config (A a)) (kinds.P2b tx i b v a) refl;
   }
@@ -138,26 +146,28 @@ module _ (config : Config) (a : ℕ) (facts : NodeId → List Fact) (sent : List
       let x = Accepted a tx i b v in
       let told = to ToLeaders (kinds.P2b tx i b v a) ∷ [] in
       cond_both (nat_le s.mbal b) _ _ (IsAcceptorGood config a facts sent)
-      (λ up. cond_both (is_accepted s b v) (sends_only tt told) (stores tt (stored.Accept tx i b v) told) (IsAcceptorGood config a facts sent)
-        (λ stands. record {
-          good = told_is_good None tx i b v named tt
-              (inl (accepted_stands (facts (A a)) tx i b v s.report (and_parts (s.mbal == b) (is_report s.report b v) stands).1
-              (slot_is config a (facts (A a)) plays tx i).last));
-          plays = λ fact is. absurd (cc (is));
-        })
-        (λ new. record {
-          good = told_is_good (Some (stored.Accept tx i b v)) tx i b v named
-              (slot_may_accept Has Has a tx i s.mbal s.report (slot_stands tx i) (λ y h. h) b v (leb-true s.mbal b up) was_sent, tt)
-              (inr (Contains-head x []));
-          plays = λ fact is. let e : stored.Accept tx i b v ≡ fact = cc (is) in
-              subst (λ (f : Fact). plays_at_acceptor (facts (A a)) f ≡ true) e
-              (and_from (names tx i && nat_le s.mbal b) (not (is_accepted s b v))
-              (and_from (names tx i) (nat_le s.mbal b) named up) (not_from_false (is_accepted s b v) new));
-        }))
+      (λ up. cond_both (is_accepted s b v) (sends_only tt told) (stores tt (stored.Accept tx i b v) told)
+      (IsAcceptorGood config a facts sent)
+      (λ stands. record {
+        good = told_is_good None tx i b v named tt
+            (inl (accepted_stands (facts (A a)) tx i b v s.report (and_parts (s.mbal == b) (is_report s.report b v) stands).1
+            (slot_is config a (facts (A a)) plays tx i).last));
+        plays = λ fact is. absurd (cc (is));
+      })
+      (λ new. record {
+        good = told_is_good (Some (stored.Accept tx i b v)) tx i b v named
+            (slot_may_accept Has Has a tx i s.mbal s.report (slot_stands tx i) (λ y h. h) b v (leb-true s.mbal b up) was_sent, tt)
+            (inr (Contains-head x []));
+        plays = λ fact is. let e : stored.Accept tx i b v ≡ fact = cc (is) in
+            subst (λ (f : Fact). plays_at_acceptor (facts (A a)) f ≡ true) e
+            (and_from (names tx i && nat_le s.mbal b) (not (is_accepted s b v))
+            (and_from (names tx i) (nat_le s.mbal b) named up) (not_from_false (is_accepted s b v) new));
+      }))
       (λ low. nothing (no_effect tt) refl refl)
 
   -- an acceptor's rules, on a message that was sent
-  pub acceptor_is_good : (m : Kind) → Among sent m → IsNamed m → IsAcceptorGood config a facts sent (acceptor_takes config a (facts (A a)) m)
+  pub acceptor_is_good : (m : Kind) → Among sent m → IsNamed m
+      → IsAcceptorGood config a facts sent (acceptor_takes config a (facts (A a)) m)
   acceptor_is_good (kinds.P1a tx i b) h named = on_1a_good tx i b named
   acceptor_is_good (kinds.P2a tx i b v) h named = on_2a_good tx i b v named h
   acceptor_is_good m h named = nothing (no_effect tt) refl refl

@@ -1,27 +1,28 @@
 -- What holds in every world that events come to.
-use Rattle.std.proofs.Common.{◌≡◌, ◌≢◌, ◌⊎◌, inl, inr, ◌∙◌, ℕ, ◌≤◌, Bool, true, false, IsTrue, if◌then◌else◌, List, [], ◌∷◌, Option, Some, None, refl, sym, ap, subst}
+use Rattle.std.proofs.Common.{◌≡◌, ◌≢◌, inl, inr, ◌∙◌, ℕ, ◌≤◌, Bool, true, IsTrue, if◌then◌else◌, List, []}
+use Rattle.std.proofs.Common.{Option, Some, None, sym, ap, subst}
 use Rattle.std.proofs.lemmas.Bool.{cases_eq}
 use Rattle.xid.specs.Transactions.{TxParts, names}
 use Rattle.xid.specs.declared.transaction.Vote.{Vote}
 use Rattle.xid.specs.declared.transaction.Vote.TheVariants as votes
 use Rattle.stable_record.specs.Facts.{Fact}
 use Rattle.stable_record.specs.Facts as stored
-use Rattle.xid.specs.declared.refusals.Refusal.TheVariants.{Damaged, NoSuch, NoMemory}
+use Rattle.xid.specs.declared.refusals.Refusal.TheVariants.{Damaged, NoSuch}
 use Rattle.protocol.specs.declared.NodeId.{NodeId}
-use Rattle.protocol.specs.declared.NodeId.TheVariants.{A, L, R}
+use Rattle.protocol.specs.declared.NodeId.TheVariants.{A}
 use Rattle.protocol.specs.declared.View.{View}
 use Rattle.protocol.specs.declared.View.TheVariants as views
-use Rattle.protocol.specs.Effects.{Config, Reply, Done, Refuses}
-use Rattle.protocol.specs.Nodes.{NodeState, Fate, Well, Fails, Unreached, Starved, empty_memory, unchanged, fallen, restarted, Outcome}
+use Rattle.protocol.specs.Effects.{Config, Done, Refuses}
+use Rattle.protocol.specs.Nodes.{NodeState, Fate, Well, Fails, Unreached, Starved, empty_memory, unchanged, fallen, restarted}
 use Rattle.protocol.specs.Playing.{all_play}
-use Rattle.protocol.specs.Views.{IsReady, IsCommitMove, IsOneMove, IsCommitStep, IsConsistent}
+use Rattle.protocol.specs.Views.{IsReady, IsCommitMove, IsCommitStep, IsConsistent}
 use Rattle.protocol.specs.Worlds.{Fated, World, Happening, Restart, node_at, happens, joined, refused}
 use Rattle.protocol.specs.Facts.{slot, last_ballot, ballot_begun}
 use Rattle.protocol.specs.Laws as laws
 use Rattle.protocol.proofs.Same.{tx_eq-same}
 use Rattle.protocol.proofs.SlotLaws.{slot_is}
 use Rattle.protocol.proofs.Standing.{at_most_greatest}
-use Rattle.safety.specs.Items.{Item, Promised, Accepted, Voted, Committed, Commit, IsState, IsCovered}
+use Rattle.safety.specs.Items.{Promised, Accepted, Voted, Committed, Commit, IsState, IsCovered}
 use Rattle.safety.specs.Invariant.{Invariant}
 use Rattle.safety.specs.Runs.{reached, reached_next, views_in, facts_after, StandsAfter}
 use Rattle.safety.specs.Standing.{Among, Stands, setting, facts_of, facts_at, sent_in}
@@ -43,15 +44,18 @@ module _ (config : Config) (events : List Fated) where
   steps next tx = (happens_next config (reached config events) (safe_ever config events) next.event next.fate).next.step tx
 
   pub consistent : (tx : TxParts) → IsConsistent (names tx) (views_in config (reached config events) tx)
-  consistent tx = all.consistent (setting config) (Stands config (reached config events)) invariant tx (views_in config (reached config events) tx) (state tx)
+  consistent tx = all.consistent (setting config) (Stands config (reached config events)) invariant tx
+      (views_in config (reached config events) tx) (state tx)
 
   pub committed_finds : (tx : TxParts) (r q : ℕ) → IsTrue (names tx q) → Stands config (reached config events) (Committed r tx)
       → Stands config (reached config events) (Voted q tx votes.Prepared)
-  committed_finds tx r q named h = agreement.committed_finds_prepared (setting config) (Stands config (reached config events)) invariant {tx = tx} {r = r} h q named
+  committed_finds tx r q named h = agreement.committed_finds_prepared (setting config)
+      (Stands config (reached config events)) invariant {tx = tx} {r = r} h q named
 
   pub sent_finds : (tx : TxParts) (q : ℕ) → IsTrue (names tx q) → Stands config (reached config events) (Commit tx)
       → Stands config (reached config events) (Voted q tx votes.Prepared)
-  sent_finds tx q named h = agreement.commit_finds_prepared (setting config) (Stands config (reached config events)) invariant {tx = tx} h q named
+  sent_finds tx q named h = agreement.commit_finds_prepared (setting config) (Stands config (reached config events)) invariant
+      {tx = tx} h q named
 
   pub ready : (tx : TxParts) (q : ℕ) → IsTrue (names tx q) → Stands config (reached config events) (Commit tx)
       → IsReady (views_in config (reached config events) tx q)
@@ -64,7 +68,8 @@ module _ (config : Config) (events : List Fated) where
 -- ---- slots and ballots
 
 module _ (config : Config) (events : List Fated) where
-  slot_ever : (a : ℕ) (tx : TxParts) (i : ℕ) → laws.IsSlot (facts_after config events (A a)) tx i (slot (facts_after config events (A a)) tx i)
+  slot_ever : (a : ℕ) (tx : TxParts) (i : ℕ)
+      → laws.IsSlot (facts_after config events (A a)) tx i (slot (facts_after config events (A a)) tx i)
   slot_ever a tx i = slot_is config a (facts_after config events (A a)) (play config events (A a)) tx i
 
   -- what a slot holds was accepted
@@ -80,7 +85,8 @@ module _ (config : Config) (events : List Fated) where
   accept_covered a tx i b v h =
       accepts_are (facts_after config events) a tx i (slot (facts_after config events (A a)) tx i).report (slot_ever a tx i).last b v h
 
-  pub promise_below : (a : ℕ) (tx : TxParts) (i b : ℕ) → StandsAfter config events (Promised a tx i b) → b ≤ (slot (facts_after config events (A a)) tx i).mbal
+  pub promise_below : (a : ℕ) (tx : TxParts) (i b : ℕ) → StandsAfter config events (Promised a tx i b)
+      → b ≤ (slot (facts_after config events (A a)) tx i).mbal
   promise_below a tx i b h = (slot_ever a tx i).promised b h
 
 -- a ballot that was begun is at most the greatest
@@ -91,7 +97,8 @@ begun_below facts tx b h =
 -- ---- moves
 
 -- a step that makes a view committed finds all ready
-to_committed : (participant : ℕ → Bool) (s : ℕ → View) (x y : View) → x ≢ views.Committed → y ≡ views.Committed → IsCommitMove participant s x y
+to_committed : (participant : ℕ → Bool) (s : ℕ → View) (x y : View) → x ≢ views.Committed → y ≡ views.Committed
+    → IsCommitMove participant s x y
     → (q : ℕ) → IsTrue (participant q) → IsReady (s q)
 to_committed participant s views.Prepared views.Committed x y move q named = move q named
 to_committed participant s views.Working views.Prepared x y move q named = absurd (cc (y))
@@ -117,7 +124,7 @@ module _ (config : Config) (world : World) (who : NodeId) where
   replied : (node : NodeState) → all_play config who [] node.facts ≡ true → (restarted config who node Well).reply ≡ Done
   replied node plays =
       ap (λ (t : Bool). (if t then unchanged (record { facts = node.facts; up = true; tear = node.tear; memory = empty_memory }) Done
-        else unchanged (fallen node) (Refuses Damaged)).reply) plays
+      else unchanged (fallen node) (Refuses Damaged)).reply) plays
 
   pub restart_done : (node : NodeState) → node_at config world who ≡ Some node → all_play config who [] (facts_at config world who) ≡ true
       → (happens config world (Restart who) Well).reply ≡ Done

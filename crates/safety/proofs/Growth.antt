@@ -1,6 +1,5 @@
 -- One more fact at a node and messages after those sent, as items that come to stand.
-use Rattle.std.proofs.Common.{◌≡◌, ◌⊎◌, inl, inr, ⊎_elim, ◌∙◌, ℕ, List, [], ◌∷◌, ◌++◌, Option, Some, None, refl, sym, ap, subst}
-use Rattle.std.specs.Prelude.{Contains}
+use Rattle.std.proofs.Common.{◌≡◌, ◌⊎◌, inl, inr, ⊎_elim, ◌∙◌, List, [], ◌++◌, Option, Some, None, refl, sym, ap, subst}
 use Rattle.std.specs.List.{flat_map}
 use Rattle.std.specs.Option.{option_to_list}
 use Rattle.std.proofs.lemmas.Bool.{cases_eq}
@@ -16,7 +15,8 @@ use Rattle.protocol.specs.StandsFor.{stands_for, comes_to}
 use Rattle.safety.specs.Items.{Item, Promised, Accepted, Began, Voted, Committed, Dropped, P1b, P2a, P2b, Commit, Abort}
 use Rattle.safety.specs.Standing.{Among, StandsBy}
 use Rattle.safety.proofs.Additions.{IsGrownBy}
-use Rattle.safety.proofs.Lists.{Among-append, Among-before, Among-after, Among-push, Among-last, Among-join, Among-joined, Contains-among, Among-contains}
+use Rattle.safety.proofs.Lists.{Among-append, Among-before, Among-after, Among-last, Among-join, Among-joined}
+use Rattle.safety.proofs.Lists.{Contains-among, Among-contains}
 
 pub same_node : (n who : NodeId) → (n ≡ who) ⊎ (n ≡ who → ⊥)
 same_node (A a) (A b) = elim (cases_eq a b) [ inl e ↦ inl (ap A e) | inr apart ↦ inr (λ e. apart (cc (e))) ]
@@ -35,7 +35,8 @@ items_of who None = []
 items_of who (Some fact) = comes_to who fact
 
 -- the facts of one node grow by at most one, what was sent by more
-pub record IsMore (who : NodeId) (fact : Option Fact) (more : List Kind) (before after : NodeId → List Fact) (sent sent_after : List Kind) : Type 0 where
+pub record IsMore (who : NodeId) (fact : Option Fact) (more : List Kind) (before after : NodeId → List Fact)
+    (sent sent_after : List Kind) : Type 0 where
   pub own : after who ≡ before who ++ option_to_list fact
   pub others : (n : NodeId) → (n ≡ who → ⊥) → after n ≡ before n
   pub messages : sent_after ≡ sent ++ more
@@ -139,9 +140,9 @@ module _ (who : NodeId) (fact : Option Fact) (more : List Kind) (before after : 
       ⊎_elim
       (λ (of_fact : Among (items_of who fact) y). comes y fact refl of_fact)
       (λ (of_message : Among (flat_map stands_for more) y).
-        let from = Among-joined stands_for more y of_message in
-        message_stands after sent_after from.source y
-        (subst (λ (xs : List Kind). Among xs from.source) (sym grows.messages) (Among-after sent more from.source from.among)) from.inside)
+      let from = Among-joined stands_for more y of_message in
+      message_stands after sent_after from.source y
+      (subst (λ (xs : List Kind). Among xs from.source) (sym grows.messages) (Among-after sent more from.source from.among)) from.inside)
       (Among-append (items_of who fact) (flat_map stands_for more) y h)
 
   from_fact : (n : NodeId) (f : Fact) (y : Item TxParts) → Among (comes_to n f) y → (n ≡ who) × (fact ≡ Some f) → Among added y

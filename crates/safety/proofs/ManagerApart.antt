@@ -8,7 +8,7 @@ use Rattle.xid.specs.Names.{XidParts, xid_eq}
 use Rattle.xid.specs.Transactions.{TxParts, names, xid_at}
 use Rattle.xid.specs.declared.codes.XaCode.TheVariants as codes
 use Rattle.xid.specs.declared.transaction.Vote.TheVariants as votes
-use Rattle.xid.specs.declared.refusals.Refusal.TheVariants.{Busy, BadTx}
+use Rattle.xid.specs.declared.refusals.Refusal.TheVariants.{Busy}
 use Rattle.wire.specs.declared.message.Kind.{Kind}
 use Rattle.wire.specs.declared.message.Kind.TheVariants as kinds
 use Rattle.wire.specs.Messages as messages
@@ -19,10 +19,10 @@ use Rattle.protocol.specs.declared.BranchState.TheVariants as states
 use Rattle.protocol.specs.declared.NodeId.TheVariants.{R}
 use Rattle.protocol.specs.Calls.{Action, Start, Put, Del, Get, End, EndFail, Rollback, Code, Refused, Row}
 use Rattle.protocol.specs.Branches.{BranchView, is_done, key_of, by_state}
-use Rattle.protocol.specs.Effects.{Config, Effect, Refuses, ToLeaders, replies, no_effect, sends_only, stores, to, is_inside}
+use Rattle.protocol.specs.Effects.{Config, Effect, is_inside}
 use Rattle.protocol.specs.Facts.{vote_in, is_ended, is_spent, is_prepared_view, is_open_view, view, Bound, bound_by, bound_in}
-use Rattle.protocol.specs.Managers.{Branch, has_key, all_branches, branch_at, is_held, changed, without, after_call, call_answer, on_call, idle_keys, vote_sent, first_vote, on_prepare, on_commit, on_abort, on_message, manager_takes, on_manager_timeout}
-use Rattle.protocol.specs.Nodes.{Memory, Input, CallOn, ListPrepared, AskView, AskCommit, AskStatus, TimeOut, Take, TakeNoise, effect_of, is_message_inside, takes, first_rows}
+use Rattle.protocol.specs.Managers.{Branch, has_key, all_branches, branch_at, is_held, changed, without, after_call, call_answer, on_call, idle_keys, first_vote, on_prepare, on_commit, on_abort, on_message, manager_takes, on_manager_timeout}
+use Rattle.protocol.specs.Nodes.{Memory, Input, CallOn, ListPrepared, AskView, AskCommit, AskStatus, TimeOut, Take, TakeNoise, effect_of, is_message_inside, first_rows}
 use Rattle.protocol.specs.Playing.{plays, plays_at_manager, all_play, is_new, is_name_spent, is_some_held}
 use Rattle.protocol.specs.Tables.{table}
 use Rattle.safety.specs.Standing.{Among}
@@ -159,14 +159,11 @@ module _ (rm : ℕ) (facts : List Fact) (branches : List Branch) (are : AreApart
   first_apart tx x spent idle name is_idle = gone (stored.VoteAborted tx) x name (λ bound e. absurd (cc (e)))
 
   prepare_apart : (tx : TxParts) (x : XidParts) → xid_at tx rm ≡ Some x → IsApartAfter rm facts (on_prepare rm facts branches tx x)
-  prepare_apart tx x name = cond_both (is_some (vote_in facts tx)) (sends_only branches (vote_sent rm tx (vote_in facts tx)))
-      (if is_ended facts tx then no_effect branches else first_vote rm branches tx x (is_spent rm facts x) (idle_keys branches x))
-      (IsApartAfter rm facts) (λ some. are)
-      (λ new. cond_both (is_ended facts tx) (no_effect branches) (first_vote rm branches tx x (is_spent rm facts x) (idle_keys branches x))
-      (IsApartAfter rm facts) (λ ended. are) (λ unended. first_apart tx x (is_spent rm facts x) (idle_keys branches x) name refl))
+  prepare_apart tx x name = cond_both (is_some (vote_in facts tx)) _ _ (IsApartAfter rm facts) (λ some. are)
+      (λ new. cond_both (is_ended facts tx) _ _ (IsApartAfter rm facts) (λ ended. are) (λ unended. first_apart tx x (is_spent rm facts x) (idle_keys branches x) name refl))
 
   commit_apart : (tx : TxParts) → IsApartAfter rm facts (on_commit facts branches tx)
-  commit_apart tx = cond_both (is_prepared_view (view facts tx)) (stores branches (stored.Committed tx) []) (no_effect branches) (IsApartAfter rm facts)
+  commit_apart tx = cond_both (is_prepared_view (view facts tx)) _ _ (IsApartAfter rm facts)
       (λ prepared. apart_after rm facts (stored.Committed tx) branches branches are (λ b h. h)
       (λ b h e. let vote = (prepared_shows facts tx prepared).0 in
       both_ways (is_spent rm facts b.xid) (are.unspent b h) (spent_by rm facts (stored.VotePrepared tx vote.0) b.xid vote.1 e))
@@ -174,7 +171,7 @@ module _ (rm : ℕ) (facts : List Fact) (branches : List Branch) (are : AreApart
       (λ other. are)
 
   abort_apart : (tx : TxParts) (x : XidParts) → xid_at tx rm ≡ Some x → IsApartAfter rm facts (on_abort facts branches tx x)
-  abort_apart tx x name = cond_both (is_open_view (view facts tx)) (stores (without branches x) (stored.Aborted tx) []) (no_effect branches) (IsApartAfter rm facts)
+  abort_apart tx x name = cond_both (is_open_view (view facts tx)) _ _ (IsApartAfter rm facts)
       (λ opens. gone (stored.Aborted tx) x name (λ bound e. absurd (cc (e))))
       (λ other. are)
 
@@ -191,9 +188,7 @@ module _ (rm : ℕ) (facts : List Fact) (branches : List Branch) (are : AreApart
   takes_apart m (Some x) name = message_apart x m name
 
   timeout_apart : (config : Config) (tx : TxParts) → IsApartAfter rm facts (on_manager_timeout config rm facts branches tx)
-  timeout_apart config tx = cond_both (is_inside config tx)
-      (sends_only branches (vote_sent rm tx (vote_in facts tx) ++ (if is_prepared_view (view facts tx) then to ToLeaders (kinds.Ask tx rm) ∷ [] else [])))
-      (replies branches (Refuses BadTx)) (IsApartAfter rm facts) (λ inside. are) (λ outside. are)
+  timeout_apart config tx = cond_both (is_inside config tx) _ _ (IsApartAfter rm facts) (λ inside. are) (λ outside. are)
 
 -- ---- client calls
 
@@ -261,11 +256,11 @@ module _ (rm : ℕ) (facts : List Fact) (branches : List Branch) (x : XidParts) 
     step branch = if xid_eq branch.xid x then changed action branch else branch
 
     step_name : (b : Branch) → (step b).xid ≡ b.xid
-    step_name b = cond_both (xid_eq b.xid x) (changed action b) b (λ (c : Branch). c.xid ≡ b.xid) (λ same. changed_name action b) (λ other. refl)
+    step_name b = cond_both (xid_eq b.xid x) _ _ (λ (c : Branch). c.xid ≡ b.xid) (λ same. changed_name action b) (λ other. refl)
 
     step_keys : (b : Branch) (key : List ℕ) → has_key key (step b).keys ≡ true
         → (has_key key b.keys ≡ true) ⊎ ((b.xid ≡ x) × (key_of action ≡ Some key))
-    step_keys b key = cond_both (xid_eq b.xid x) (changed action b) b
+    step_keys b key = cond_both (xid_eq b.xid x) _ _
         (λ (c : Branch). has_key key c.keys ≡ true → (has_key key b.keys ≡ true) ⊎ ((b.xid ≡ x) × (key_of action ≡ Some key)))
         (λ same h. elim (changed_keys action b key h) [ inl old ↦ inl old | inr new ↦ inr ((xid_decides b.xid x).0 same, new) ])
         (λ other h. inl h)
@@ -347,8 +342,7 @@ module _ (rm : ℕ) (facts : List Fact) (branches : List Branch) (x : XidParts) 
 
   call_apart : (first : List Row) (action : Action) → AreApart rm facts (on_call rm first facts branches x action).memory
   call_apart first action = cond_both
-      (is_done action (call_answer (is_spent rm facts x) (table first facts) (branch_at all x) (is_held all x (key_of action)) action))
-      (after_call branches x action) branches (AreApart rm facts)
+      (is_done action (call_answer (is_spent rm facts x) (table first facts) (branch_at all x) (is_held all x (key_of action)) action)) _ _ (AreApart rm facts)
       (λ done. after_apart action (is_spent rm facts x) (table first facts) (branch_at all x) refl done) (λ refused. are)
 
 -- ---- every input
@@ -362,7 +356,7 @@ bound_named config rm facts play bound h = voted_named config rm facts play boun
 pub manager_stays_apart : (config : Config) (rm : ℕ) (facts : List Fact) (memory : Memory) (input : Input)
     → all_play config (R rm) [] facts ≡ true → AreApart rm facts memory.branches
     → AreApart rm (facts_after facts (effect_of config (R rm) facts memory input).fact) (effect_of config (R rm) facts memory input).memory.branches
-manager_stays_apart config rm facts memory (Take m) play are = cond_both (is_message_inside config m) (takes config (R rm) facts memory m) (no_effect memory)
+manager_stays_apart config rm facts memory (Take m) play are = cond_both (is_message_inside config m) _ _
     (λ (e : Effect Memory). AreApart rm (facts_after facts e.fact) e.memory.branches)
     (λ inside. takes_apart rm facts memory.branches are m (xid_at (messages.tx_of m) rm) refl) (λ outside. are)
 manager_stays_apart config rm facts memory TakeNoise play are = are

@@ -38,11 +38,13 @@ voted_after : (rm : ℕ) (facts : List Fact) (o : Option Fact) (tx : TxParts) (v
 voted_after rm facts None tx v h = inl h
 voted_after rm facts (Some fact) tx votes.Prepared h = elim (Among-push facts fact (stored.VotePrepared tx h.0) h.1) [
   | inl old ↦ inl (h.0, old)
-  | inr e ↦ inr (subst (λ (f : Fact). Contains (comes_to (R rm) f) (Voted rm tx votes.Prepared)) (sym e) (Contains-head (Voted rm tx votes.Prepared) []))
+  | inr e ↦ inr (subst (λ (f : Fact). Contains (comes_to (R rm) f) (Voted rm tx votes.Prepared)) (sym e)
+      (Contains-head (Voted rm tx votes.Prepared) []))
 ]
 voted_after rm facts (Some fact) tx votes.Aborted h = elim (Among-push facts fact (stored.VoteAborted tx) h) [
   | inl old ↦ inl old
-  | inr e ↦ inr (subst (λ (f : Fact). Contains (comes_to (R rm) f) (Voted rm tx votes.Aborted)) (sym e) (Contains-head (Voted rm tx votes.Aborted) []))
+  | inr e ↦ inr (subst (λ (f : Fact). Contains (comes_to (R rm) f) (Voted rm tx votes.Aborted)) (sym e)
+      (Contains-head (Voted rm tx votes.Aborted) []))
 ]
 
 module _ (config : Config) (rm : ℕ) (facts : NodeId → List Fact) (sent : List Kind) (branches : List Branch) (input : Input)

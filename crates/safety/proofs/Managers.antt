@@ -10,7 +10,6 @@ use Rattle.xid.specs.Names.{XidParts}
 use Rattle.xid.specs.Transactions.{TxParts, BranchParts, names, is_at, xid_of, xid_at}
 use Rattle.xid.specs.declared.transaction.Vote.{Vote}
 use Rattle.xid.specs.declared.transaction.Vote.TheVariants as votes
-use Rattle.xid.specs.declared.refusals.Refusal.TheVariants.{BadTx}
 use Rattle.wire.specs.declared.message.Kind.{Kind}
 use Rattle.wire.specs.declared.message.Kind.TheVariants as kinds
 use Rattle.wire.specs.Messages.{tx_of}
@@ -18,9 +17,9 @@ use Rattle.stable_record.specs.Facts.{Fact, Touched}
 use Rattle.stable_record.specs.Facts as stored
 use Rattle.protocol.specs.declared.NodeId.TheVariants.{R}
 use Rattle.protocol.specs.Facts.{vote_in, is_ended, is_spent, view, is_prepared_view, is_open_view}
-use Rattle.protocol.specs.Effects.{Config, Effect, Refuses, Send, ToLeaders, replies, no_effect, sends_only, stores, to, is_inside}
-use Rattle.protocol.specs.Managers.{Branch, without, idle_keys, vote_sent, first_vote, on_prepare, on_commit, on_abort, on_message, manager_takes, on_manager_timeout}
-use Rattle.protocol.specs.Nodes.{Memory, Input, CallOn, ListPrepared, AskView, AskCommit, AskStatus, TimeOut, Take, TakeNoise, effect_of, is_message_inside, takes}
+use Rattle.protocol.specs.Effects.{Config, Effect, Send, ToLeaders, to, is_inside}
+use Rattle.protocol.specs.Managers.{Branch, idle_keys, vote_sent, first_vote, on_prepare, on_commit, on_abort, on_message, manager_takes, on_manager_timeout}
+use Rattle.protocol.specs.Nodes.{Memory, Input, CallOn, ListPrepared, AskView, AskCommit, AskStatus, TimeOut, Take, TakeNoise, effect_of, is_message_inside}
 use Rattle.safety.specs.Standing.{Among}
 use Rattle.safety.proofs.Lists.{Among-append}
 use Rattle.safety.proofs.ViewFacts.{unvoted, vote_in_after_prepared, vote_in_after_aborted}
@@ -130,25 +129,20 @@ module _ (rm : ℕ) (facts : List Fact) (branches : List Branch) (input : Input)
 
   prepare_is : (tx : TxParts) (x : XidParts) → xid_at tx rm ≡ Some x
       → IsRightEffect rm facts branches input (on_prepare rm facts branches tx x)
-  prepare_is tx x name = cond_both (is_some (vote_in facts tx)) (sends_only branches (vote_sent rm tx (vote_in facts tx)))
-      (if is_ended facts tx then no_effect branches else first_vote rm branches tx x (is_spent rm facts x) (idle_keys branches x))
-      (λ (e : Effect (List Branch)). IsRightEffect rm facts branches input e)
+  prepare_is tx x name = cond_both (is_some (vote_in facts tx)) _ _ (λ (e : Effect (List Branch)). IsRightEffect rm facts branches input e)
       (λ some. record { fact_is = tt; sends_are = vote_is facts tx (vote_in facts tx) refl })
-      (λ new. cond_both (is_ended facts tx) (no_effect branches) (first_vote rm branches tx x (is_spent rm facts x) (idle_keys branches x))
-      (λ (e : Effect (List Branch)). IsRightEffect rm facts branches input e)
+      (λ new. cond_both (is_ended facts tx) _ _ (λ (e : Effect (List Branch)). IsRightEffect rm facts branches input e)
       (λ ended. nothing)
       (λ unended. first_is tx x (is_spent rm facts x) (idle_keys branches x) (record { name = name; new = new; unended = unended }) refl refl))
 
   commit_is : (tx : TxParts) → input ≡ Take (kinds.Commit tx) → IsRightEffect rm facts branches input (on_commit facts branches tx)
-  commit_is tx came = cond_both (is_prepared_view (view facts tx)) (stores branches (stored.Committed tx) []) (no_effect branches)
-      (λ (e : Effect (List Branch)). IsRightEffect rm facts branches input e)
+  commit_is tx came = cond_both (is_prepared_view (view facts tx)) _ _ (λ (e : Effect (List Branch)). IsRightEffect rm facts branches input e)
       (λ prepared. record { fact_is = record { came = came; prepared = prepared }; sends_are = λ send h. absurd h })
       (λ other. nothing)
 
   abort_is : (tx : TxParts) (x : XidParts) → xid_at tx rm ≡ Some x → input ≡ Take (kinds.Abort tx)
       → IsRightEffect rm facts branches input (on_abort facts branches tx x)
-  abort_is tx x name came = cond_both (is_open_view (view facts tx)) (stores (without branches x) (stored.Aborted tx) []) (no_effect branches)
-      (λ (e : Effect (List Branch)). IsRightEffect rm facts branches input e)
+  abort_is tx x name came = cond_both (is_open_view (view facts tx)) _ _ (λ (e : Effect (List Branch)). IsRightEffect rm facts branches input e)
       (λ opens. record { fact_is = (x, record { came = came; name = name; opens = opens }); sends_are = λ send h. absurd h })
       (λ other. nothing)
 
@@ -171,9 +165,7 @@ module _ (rm : ℕ) (facts : List Fact) (branches : List Branch) (input : Input)
   asked_is now tx false send h = absurd h
 
   timeout_is : (config : Config) (tx : TxParts) → IsRightEffect rm facts branches input (on_manager_timeout config rm facts branches tx)
-  timeout_is config tx = cond_both (is_inside config tx)
-      (sends_only branches (vote_sent rm tx (vote_in facts tx) ++ (if is_prepared_view (view facts tx) then to ToLeaders (kinds.Ask tx rm) ∷ [] else [])))
-      (replies branches (Refuses BadTx)) (λ (e : Effect (List Branch)). IsRightEffect rm facts branches input e)
+  timeout_is config tx = cond_both (is_inside config tx) _ _ (λ (e : Effect (List Branch)). IsRightEffect rm facts branches input e)
       (λ inside. record {
         fact_is = tt;
         sends_are = λ send h. elim (Among-append (vote_sent rm tx (vote_in facts tx)) (if is_prepared_view (view facts tx) then to ToLeaders (kinds.Ask tx rm) ∷ [] else []) send h) [
@@ -186,7 +178,7 @@ module _ (rm : ℕ) (facts : List Fact) (branches : List Branch) (input : Input)
 -- whatever a resource manager is handed
 pub manager_is_right : (config : Config) (rm : ℕ) (facts : List Fact) (memory : Memory) (input : Input)
     → IsRightEffect rm facts memory.branches input (effect_of config (R rm) facts memory input)
-manager_is_right config rm facts memory (Take m) = cond_both (is_message_inside config m) (takes config (R rm) facts memory m) (no_effect memory)
+manager_is_right config rm facts memory (Take m) = cond_both (is_message_inside config m) _ _
     (λ (e : Effect Memory). IsRightEffect rm facts memory.branches (Take m) e)
     (λ inside. takes_is rm facts memory.branches (Take m) m (xid_at (tx_of m) rm) refl refl)
     (λ outside. nothing rm facts memory.branches (Take m))

@@ -1,5 +1,6 @@
 -- One input at one node, whatever its fate: what its rule hands over makes the world's next moment.
-use Rattle.std.proofs.Common.{◌≡◌, ◌⊎◌, inl, inr, ⊎_elim, ◌∙◌, ℕ, ◌<◌, Bool, true, false, not, if◌then◌else◌, List, [], ◌∷◌, ◌++◌, Option, Some, None, refl, sym, ap, subst, nat_le, arith}
+use Rattle.std.proofs.Common.{◌≡◌, ◌⊎◌, inl, inr, ◌∙◌, ℕ, Bool, true, false, not, List, [], ◌∷◌, ◌++◌}
+use Rattle.std.proofs.Common.{Option, Some, None, refl, sym, ap, subst, nat_le}
 use Rattle.std.specs.Prelude.{map}
 use Rattle.std.specs.List.{flat_map}
 use Rattle.std.specs.Option.{option_to_list}
@@ -9,22 +10,22 @@ use Rattle.wire.specs.declared.message.Kind.{Kind}
 use Rattle.wire.specs.Messages as messages
 use Rattle.stable_record.specs.Facts.{Fact}
 use Rattle.protocol.specs.declared.NodeId.{NodeId}
-use Rattle.protocol.specs.declared.NodeId.TheVariants.{A, L, R}
+use Rattle.protocol.specs.declared.NodeId.TheVariants.{L, R}
 use Rattle.protocol.specs.Effects.{Config, Effect, Send, Reply, receivers}
 use Rattle.protocol.specs.Lengths.{frame_length}
-use Rattle.protocol.specs.Nodes.{Memory, empty_memory, NodeState, Input, Fate, Well, Fails, Unreached, Starved, Outcome, is_taken, effect_of, unchanged, fallen, stopped, followed, settled, down_reply, node_step}
+use Rattle.protocol.specs.Nodes.{Memory, empty_memory, NodeState, Input, Fate, Well, Fails, Unreached, Starved, Outcome, is_taken}
+use Rattle.protocol.specs.Nodes.{effect_of, unchanged, stopped, followed, settled, down_reply, node_step}
 use Rattle.protocol.specs.Playing.{plays}
-use Rattle.protocol.specs.Worlds.{World, Datagram, Happening, node_at, set_node, posted, joined}
+use Rattle.protocol.specs.Worlds.{World, Datagram, node_at, posted, joined}
 use Rattle.safety.specs.Senders.{IsFrom, AreFrom}
 use Rattle.safety.specs.Standing.{Among, sent_in}
 use Rattle.safety.proofs.Acceptors.{messages_of}
-use Rattle.safety.proofs.Growth.{IsMore}
 use Rattle.safety.proofs.Leaders.{kept_at_start}
 use Rattle.safety.proofs.LeadersWords.{IsKept, IsSentBy, IsSentMore, with_fact}
-use Rattle.safety.proofs.Lists.{IsMapped, IsJoined, Among-map, Among-mapped, Among-joined, Among-append, Among-before}
+use Rattle.safety.proofs.Lists.{Among-map, Among-mapped, Among-joined, Among-append, Among-before}
 use Rattle.safety.proofs.ManagerApart.{AreApart, none_apart}
 use Rattle.safety.proofs.Places.{node_there, node_elsewhere}
-use Rattle.safety.proofs.Safe.{facts_by, IsSafeBy, IsSafe, IsMoved, IsNextBy, next_after_move}
+use Rattle.safety.proofs.Safe.{facts_by, IsSafe, IsMoved, IsNextBy, next_after_move}
 use Rattle.safety.proofs.Steps.{IsGood, nothing_is_good}
 
 -- ---- what an event leaves of a node
@@ -50,7 +51,8 @@ pub record IsDone (node : NodeState) (e : Effect Memory) (left : Outcome) : Type
 abbrev pub IsLeft : NodeState → Effect Memory → Outcome → Type 0
 IsLeft node e left = IsStill node left ⊎ (IsTorn node e left ⊎ IsDone node e left)
 
-stopped_is : (node : NodeState) (e : Effect Memory) (fact : Fact) (whole : Bool) → e.fact ≡ Some fact → IsLeft node e (stopped node fact whole)
+stopped_is : (node : NodeState) (e : Effect Memory) (fact : Fact) (whole : Bool) → e.fact ≡ Some fact
+    → IsLeft node e (stopped node fact whole)
 stopped_is node e fact true is =
     inr (inl (record { facts = ap (λ (o : Option Fact). node.facts ++ option_to_list o) (sym is); silent = refl; memory = refl }))
 stopped_is node e fact false is = inl (record { facts = refl; silent = refl; memory = inr refl })
@@ -62,7 +64,8 @@ none_followed node e is = inr (inr (record {
   memory = refl;
 }))
 
-some_followed : (node : NodeState) (e : Effect Memory) (fact : Fact) → e.fact ≡ Some fact → IsLeft node e (followed node e (node.facts ++ fact ∷ []))
+some_followed : (node : NodeState) (e : Effect Memory) (fact : Fact) → e.fact ≡ Some fact
+    → IsLeft node e (followed node e (node.facts ++ fact ∷ []))
 some_followed node e fact is = inr (inr (record {
   facts = ap (λ (o : Option Fact). node.facts ++ option_to_list o) (sym is);
   sends = refl;
@@ -93,8 +96,8 @@ step_is config who node input fate =
     cond_both (not (is_taken who input)) _ _ (IsLeft node e)
     (λ other. unchanged_is node e _)
     (λ taken. cond_both (not node.up) _ _ (IsLeft node e)
-      (λ down. unchanged_is node e (down_reply input))
-      (λ up. settled_is node e e.fact node.tear fate refl))
+    (λ down. unchanged_is node e (down_reply input))
+    (λ up. settled_is node e e.fact node.tear fate refl))
 
 -- ---- in the world
 
@@ -104,8 +107,9 @@ posted_message : (config : Config) (who : NodeId) (sends : List Send) (m : Kind)
 posted_message config who sends m h =
     let one = Among-mapped (λ (d : Datagram). d.message) (flat_map (posted config who) sends) m h in
     let from = Among-joined (posted config who) sends one.source one.among in
-    let to = Among-mapped (λ (receiver : NodeId). record { sender = who; receiver = receiver; message = from.source.message; marked = false })
-        (receivers config from.source.to (messages.tx_of from.source.message)) one.source from.inside in
+    let to = Among-mapped (λ (receiver : NodeId). record
+    { sender = who; receiver = receiver; message = from.source.message; marked = false })
+    (receivers config from.source.to (messages.tx_of from.source.message)) one.source from.inside in
     (from.source, from.among, ap (λ (d : Datagram). d.message) to.maps ∙ one.maps)
 
 sent_message : (sends : List Send) (m : Kind) → IsSentBy sends m → Among (messages_of sends) m
@@ -119,7 +123,8 @@ map-append [] ys = refl
 map-append (x ∷ xs) ys = ap (λ (rest : List Kind). x.message ∷ rest) (map-append xs ys)
 
 -- what the rule of an input hands over, by the facts of the node
-pub record IsRule (config : Config) (who : NodeId) (nodes : NodeId → Option NodeState) (sent : List Kind) (facts : List Fact) (e : Effect Memory) : Type 0 where
+pub record IsRule (config : Config) (who : NodeId) (nodes : NodeId → Option NodeState) (sent : List Kind) (facts : List Fact)
+    (e : Effect Memory) : Type 0 where
   pub good : IsGood config who (facts_by nodes) sent e.fact (messages_of e.sends)
   pub met : (f : Fact) → e.fact ≡ Some f → plays config who (facts_by nodes who) f ≡ true
   pub leads : (l : ℕ) (now : List Kind) → who ≡ L l → IsSentMore (Among sent) e.sends (Among now)
@@ -190,7 +195,8 @@ module _ (config : Config) (world : World) (who : NodeId) (node : NodeState) (le
   -- a node of which nothing but up, tear and memory changes
   pub next_still : IsStill node left → IsNextBy config (node_at config world) (node_at config after) (sent_in after)
   next_still still =
-      next_after_move config (node_at config world) (node_at config after) (sent_in world) (sent_in after) who node left.node None [] more safe
+      next_after_move config (node_at config world) (node_at config after) (sent_in world) (sent_in after) who node left.node None
+      [] more safe
       (nothing_is_good config who (facts_by (node_at config world)) (sent_in world)) (none_sent still.silent)
       (moved None (still.facts ∙ sym (append-nil node.facts))) (λ f is. absurd (cc (is))) (still_leads still) (still_holds still)
 
@@ -210,9 +216,9 @@ module _ (config : Config) (world : World) (who : NodeId) (node : NodeState) (le
           (Among-before (sent_in world) more m h);
       only = λ m h. elim (Among-append (sent_in world) more m
           (subst (λ (xs : List Kind). Among xs m) (map-append world.net (flat_map (posted config who) left.sends)) h)) [
-        | inl old ↦ inl old
-        | inr new ↦ inr (done_sent done m new)
-      ];
+            | inl old ↦ inl old
+            | inr new ↦ inr (done_sent done m new)
+          ];
     }
 
     next_done : IsDone node e left → IsNextBy config (node_at config world) (node_at config after) (sent_in after)
@@ -220,12 +226,14 @@ module _ (config : Config) (world : World) (who : NodeId) (node : NodeState) (le
         next_after_move config (node_at config world) (node_at config after) (sent_in world) (sent_in after) who node left.node e.fact
         (messages_of e.sends) more safe rule.good (λ m h. sent_message e.sends m (done_sent done m h)) (moved e.fact done.facts) rule.met
         (λ l is.
-          subst (λ (m : Memory). IsKept config l left.node.facts m.leading (Among (sent_in after))) (sym done.memory)
-          (subst (λ (xs : List Fact). IsKept config l xs e.memory.leading (Among (sent_in after))) (with_fact_is node.facts e.fact ∙ sym done.facts)
-          (rule.leads l (sent_in after) is (done_more done))))
+        subst (λ (m : Memory). IsKept config l left.node.facts m.leading (Among (sent_in after))) (sym done.memory)
+        (subst (λ (xs : List Fact). IsKept config l xs e.memory.leading (Among (sent_in after)))
+        (with_fact_is node.facts e.fact ∙ sym done.facts)
+        (rule.leads l (sent_in after) is (done_more done))))
         (λ rm is.
-          subst (λ (m : Memory). AreApart rm left.node.facts m.branches) (sym done.memory)
-          (subst (λ (xs : List Fact). AreApart rm xs e.memory.branches) (with_fact_is node.facts e.fact ∙ sym done.facts) (rule.holds rm is)))
+        subst (λ (m : Memory). AreApart rm left.node.facts m.branches) (sym done.memory)
+        (subst (λ (xs : List Fact). AreApart rm xs e.memory.branches) (with_fact_is node.facts e.fact ∙ sym done.facts)
+        (rule.holds rm is)))
 
     pub next_left : IsLeft node e left → IsNextBy config (node_at config world) (node_at config after) (sent_in after)
     next_left h = elim h [
@@ -237,10 +245,12 @@ module _ (config : Config) (world : World) (who : NodeId) (node : NodeState) (le
 pub next_step : (config : Config) (world : World) (who : NodeId) (node : NodeState) (input : Input) (fate : Fate) → IsSafe config world
     → node_at config world who ≡ Some node
     → IsRule config who (node_at config world) (sent_in world) node.facts (effect_of config who node.facts node.memory input)
-    → IsNextBy config (node_at config world) (node_at config (joined config world who node.facts (node_step config who node input fate)).world)
-        (sent_in (joined config world who node.facts (node_step config who node input fate)).world)
+    → IsNextBy config (node_at config world) (node_at config
+    (joined config world who node.facts (node_step config who node input fate)).world)
+    (sent_in (joined config world who node.facts (node_step config who node input fate)).world)
 next_step config world who node input fate safe stands rule =
-    next_left config world who node (node_step config who node input fate) safe stands (effect_of config who node.facts node.memory input) rule
+    next_left config world who node (node_step config who node input fate) safe stands
+    (effect_of config who node.facts node.memory input) rule
     (step_is config who node input fate)
 
 -- ---- senders
@@ -250,11 +260,13 @@ record IsPosted (who : NodeId) (sends : List Send) (d : Datagram) : Type 0 where
   message : Among (messages_of sends) d.message
   sender : who ≡ d.sender
 
-posted_is : (config : Config) (who : NodeId) (sends : List Send) (d : Datagram) → Among (flat_map (posted config who) sends) d → IsPosted who sends d
+posted_is : (config : Config) (who : NodeId) (sends : List Send) (d : Datagram) → Among (flat_map (posted config who) sends) d
+    → IsPosted who sends d
 posted_is config who sends d h =
     let from = Among-joined (posted config who) sends d h in
-    let to = Among-mapped (λ (receiver : NodeId). record { sender = who; receiver = receiver; message = from.source.message; marked = false })
-        (receivers config from.source.to (messages.tx_of from.source.message)) d from.inside in
+    let to = Among-mapped (λ (receiver : NodeId). record
+    { sender = who; receiver = receiver; message = from.source.message; marked = false })
+    (receivers config from.source.to (messages.tx_of from.source.message)) d from.inside in
     record {
       message = subst (λ (m : Kind). Among (messages_of sends) m) (ap (λ (x : Datagram). x.message) to.maps)
           (Among-map (λ (s : Send). s.message) sends from.source from.among);
@@ -262,7 +274,8 @@ posted_is config who sends d h =
     }
 
 -- what an outcome sends is from its node
-left_from : (config : Config) (who : NodeId) (node : NodeState) (e : Effect Memory) (left : Outcome) → ((m : Kind) → Among (messages_of e.sends) m → IsFrom config who m)
+left_from : (config : Config) (who : NodeId) (node : NodeState) (e : Effect Memory) (left : Outcome)
+    → ((m : Kind) → Among (messages_of e.sends) m → IsFrom config who m)
     → IsLeft node e left → (m : Kind) → Among (messages_of left.sends) m → IsFrom config who m
 left_from config who node e left from (inl still) m h =
     absurd (subst (λ (sends : List Send). Among (messages_of sends) m) still.silent h)

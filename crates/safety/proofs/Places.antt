@@ -1,9 +1,10 @@
 -- Nodes by their names: a node put in its place is there, and no other is changed; marks change no message.
-use Rattle.std.proofs.Common.{◌≡◌, ◌⊎◌, inl, inr, ◌∙◌, ℕ, zero, suc, ◌+◌, ◌<◌, Bool, true, false, if◌then◌else◌, cond, List, [], ◌∷◌, ◌++◌, Option, Some, None, refl, sym, ap, subst, nat_lt, arith}
+use Rattle.std.proofs.Common.{◌≡◌, ℕ, zero, suc, ◌+◌, ◌<◌, Bool, true, false, if◌then◌else◌, List, []}
+use Rattle.std.proofs.Common.{◌∷◌, Option, Some, None, refl, ap, nat_lt, arith}
 use Rattle.std.specs.Prelude.{map, replicate, slice_get}
 use Rattle.std.specs.List.{slice_set}
 use Rattle.std.specs.Option.{option_and_then}
-use Rattle.std.proofs.lemmas.Bool.{cases_eq, ltb-true, cases_Bool}
+use Rattle.std.proofs.lemmas.Bool.{ltb-true}
 use Rattle.wire.specs.declared.message.Kind.{Kind}
 use Rattle.protocol.specs.declared.NodeId.{NodeId}
 use Rattle.protocol.specs.declared.NodeId.TheVariants.{A, L, R}
@@ -37,7 +38,8 @@ record IsPlaced (n bound before p : ℕ) : Type 0 where
   below : n < bound
   is : p ≡ before + n
 
-placed_by : (n bound before p : ℕ) (t : Bool) → nat_lt n bound ≡ t → (if t then Some (before + n) else None) ≡ Some p → IsPlaced n bound before p
+placed_by : (n bound before p : ℕ) (t : Bool) → nat_lt n bound ≡ t → (if t then Some (before + n) else None) ≡ Some p
+    → IsPlaced n bound before p
 placed_by n bound before p true e h = record { below = ltb-true n bound e; is = cc (h) }
 placed_by n bound before p false e h = absurd (cc (h))
 
@@ -51,7 +53,8 @@ placed_acceptor config a p h = by_test (nat_lt a config.acceptors) refl h
 placed_leader : (config : Config) (l p : ℕ) → place config (L l) ≡ Some p → IsPlaced l config.leaders config.acceptors p
 placed_leader config l p h = placed_by l config.leaders config.acceptors p (nat_lt l config.leaders) refl h
 
-placed_manager : (config : Config) (rm p : ℕ) → place config (R rm) ≡ Some p → IsPlaced rm config.managers (config.acceptors + config.leaders) p
+placed_manager : (config : Config) (rm p : ℕ) → place config (R rm) ≡ Some p
+    → IsPlaced rm config.managers (config.acceptors + config.leaders) p
 placed_manager config rm p h = placed_by rm config.managers (config.acceptors + config.leaders) p (nat_lt rm config.managers) refl h
 
 -- one place, one node
@@ -89,7 +92,8 @@ abbrev put_at : List NodeState → NodeState → Option ℕ → List NodeState
 put_at nodes new None = nodes
 put_at nodes new (Some p) = slice_set nodes p new
 
-there_by : (nodes : List NodeState) (node new : NodeState) (o : Option ℕ) → at_place nodes o ≡ Some node → at_place (put_at nodes new o) o ≡ Some new
+there_by : (nodes : List NodeState) (node new : NodeState) (o : Option ℕ) → at_place nodes o ≡ Some node
+    → at_place (put_at nodes new o) o ≡ Some new
 there_by nodes node new None h = absurd (cc (h))
 there_by nodes node new (Some p) h = set_there nodes p new node h
 
@@ -119,17 +123,20 @@ pub opening_node : (config : Config) (who : NodeId) (node : NodeState) → node_
 opening_node config who node h = opened_by (config.acceptors + config.leaders + config.managers) (place config who) node h
 
 -- a leader that stands in a world is one of the cluster
-leader_by : (config : Config) (world : World) (l : ℕ) (node : NodeState) (o : Option ℕ) → place config (L l) ≡ o → at_place world.nodes o ≡ Some node → l < config.leaders
+leader_by : (config : Config) (world : World) (l : ℕ) (node : NodeState) (o : Option ℕ) → place config (L l) ≡ o
+    → at_place world.nodes o ≡ Some node → l < config.leaders
 leader_by config world l node None e h = absurd (cc (h))
 leader_by config world l node (Some p) e h = (placed_leader config l p e).below
 
-pub leader_inside : (config : Config) (world : World) (l : ℕ) (node : NodeState) → node_at config world (L l) ≡ Some node → l < config.leaders
+pub leader_inside : (config : Config) (world : World) (l : ℕ) (node : NodeState) → node_at config world (L l) ≡ Some node
+    → l < config.leaders
 leader_inside config world l node h = leader_by config world l node (place config (L l)) refl h
 
 -- ---- marks
 
 -- a mark changes no message
-pub marked_messages : (net : List Datagram) (n : ℕ) → map (λ datagram. datagram.message) (marked_at net n) ≡ map (λ datagram. datagram.message) net
+pub marked_messages : (net : List Datagram) (n : ℕ)
+    → map (λ datagram. datagram.message) (marked_at net n) ≡ map (λ datagram. datagram.message) net
 marked_messages [] n = refl
 marked_messages (d ∷ net) zero = refl
 marked_messages (d ∷ net) (suc zero) = refl

@@ -34,7 +34,8 @@ voted_named config rm facts play tx votes.Prepared h =
     let is = each_played config (R rm) [] facts play (stored.VotePrepared tx h.0) h.1 in
     (and_parts (names tx rm) (is_new is.before tx)
     (and_parts (names tx rm && is_new is.before tx) (not (is_name_spent rm is.before tx))
-    (and_parts (names tx rm && is_new is.before tx && not (is_name_spent rm is.before tx)) (not (is_some_held is.before h.0)) is.played).0).0).0
+    (and_parts (names tx rm && is_new is.before tx && not (is_name_spent rm is.before tx))
+    (not (is_some_held is.before h.0)) is.played).0).0).0
 voted_named config rm facts play tx votes.Aborted h =
     let is = each_played config (R rm) [] facts play (stored.VoteAborted tx) h in
     (and_parts (names tx rm) (is_new is.before tx) is.played).0

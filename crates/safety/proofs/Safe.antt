@@ -1,6 +1,6 @@
 -- What holds of a world at each moment of a run, and that it lasts while one node takes a step.
-use Rattle.std.proofs.Common.{◌≡◌, ◌⊎◌, inl, inr, ⊎_elim, ◌∙◌, ℕ, zero, suc, ◌<◌, Bool, true, false, ◌&&◌, IsTrue, List, [], ◌∷◌, ◌++◌, Option, Some, None, refl, sym, ap, subst, arith}
-use Rattle.std.specs.Prelude.{map, Contains}
+use Rattle.std.proofs.Common.{◌≡◌, ◌⊎◌, inl, inr, ◌∙◌, ℕ, zero, suc, true, List, []}
+use Rattle.std.proofs.Common.{◌++◌, Option, Some, None, refl, sym, ap, subst, arith}
 use Rattle.std.specs.List.{flat_map}
 use Rattle.std.specs.Option.{option_to_list}
 use Rattle.std.proofs.lemmas.List.{append-nil}
@@ -9,15 +9,14 @@ use Rattle.xid.specs.Transactions.{TxParts, names}
 use Rattle.xid.specs.declared.transaction.Vote.{Vote}
 use Rattle.wire.specs.declared.message.Kind.{Kind}
 use Rattle.wire.specs.declared.message.Kind.TheVariants as kinds
-use Rattle.ballot.specs.Ballots.{owner_of, IsOwned}
+use Rattle.ballot.specs.Ballots.{IsOwned}
 use Rattle.stable_record.specs.Facts.{Fact}
 use Rattle.protocol.specs.declared.NodeId.{NodeId}
-use Rattle.protocol.specs.declared.NodeId.TheVariants.{A, L, R}
+use Rattle.protocol.specs.declared.NodeId.TheVariants.{L, R}
 use Rattle.protocol.specs.declared.View.{View}
 use Rattle.protocol.specs.declared.View.TheVariants as views
 use Rattle.protocol.specs.Effects.{Config}
 use Rattle.protocol.specs.Facts.{view}
-use Rattle.protocol.specs.Leading.{Leading}
 use Rattle.protocol.specs.Nodes.{NodeState}
 use Rattle.protocol.specs.Playing.{plays, all_play}
 use Rattle.protocol.specs.StandsFor.{stands_for}
@@ -25,10 +24,10 @@ use Rattle.protocol.specs.Views.{IsCommitStep}
 use Rattle.protocol.specs.Worlds.{World, node_at}
 use Rattle.protocol.specs.Laws as laws
 use Rattle.protocol.proofs.ViewLaws as protocol
-use Rattle.safety.specs.Items.{Item, Setting, IsView, IsState}
+use Rattle.safety.specs.Items.{Item, IsView, IsState}
 use Rattle.safety.specs.Invariant.{Invariant}
 use Rattle.safety.specs.Senders.{IsFrom}
-use Rattle.safety.specs.Standing.{Among, StandsBy, setting, facts_of, facts_at, sent_in, Stands}
+use Rattle.safety.specs.Standing.{Among, StandsBy, setting, facts_of, sent_in}
 use Rattle.safety.proofs.Events.{IsEvent, event_keeps_invariant, event_moves_one_step}
 use Rattle.safety.proofs.Growth.{items_of, IsMore, same_node}
 use Rattle.safety.proofs.Lists.{Among-append, Among-before}
@@ -106,8 +105,10 @@ owner_sent : (config : Config) (who : NodeId) (l : ℕ) (tx : TxParts) (i b : �
 owner_sent config who l tx i zero v from owned = absurd (omega (arith, owned.0))
 owner_sent config who l tx i (suc b) v from owned = from ∙ ap L owned.1
 
-module _ (config : Config) (nodes nodes_after : NodeId → Option NodeState) (sent sent_after : List Kind) (who : NodeId) (node new : NodeState)
-    (fact : Option Fact) (sends more : List Kind) (safe : IsSafeBy config nodes sent) (good : IsGood config who (facts_by nodes) sent fact sends)
+module _ (config : Config) (nodes nodes_after : NodeId → Option NodeState) (sent sent_after : List Kind) (who : NodeId)
+    (node new : NodeState)
+    (fact : Option Fact) (sends more : List Kind) (safe : IsSafeBy config nodes sent)
+    (good : IsGood config who (facts_by nodes) sent fact sends)
     (some : (m : Kind) → Among more m → Among sends m) (moved : IsMoved nodes nodes_after sent sent_after who node new fact more)
     (met : (f : Fact) → fact ≡ Some f → plays config who (facts_by nodes who) f ≡ true)
     (leads : (l : ℕ) → who ≡ L l → IsKept config l new.facts new.memory.leading (Among sent_after))
@@ -160,7 +161,8 @@ module _ (config : Config) (nodes nodes_after : NodeId → Option NodeState) (se
       kept_while config l other.facts other.memory.leading (Among sent) (Among sent_after) message_kept
       (λ tx i b v k owned. elim (message_new (kinds.P2a tx i b v) k) [
         | inl old ↦ old
-        | inr fresh ↦ absurd (apart (sym (owner_sent config who l tx i b v (good.from (kinds.P2a tx i b v) (some (kinds.P2a tx i b v) fresh)) owned)))
+        | inr fresh ↦ absurd (apart (sym (owner_sent config who l tx i b v
+            (good.from (kinds.P2a tx i b v) (some (kinds.P2a tx i b v) fresh)) owned)))
       ])
       (safe.kept l other (sym (moved.others (L l) apart) ∙ h))
 

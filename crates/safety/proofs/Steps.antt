@@ -1,5 +1,6 @@
 -- What a rule of a node hands over, and that it makes an event.
-use Rattle.std.proofs.Common.{◌≡◌, ◌⊎◌, inl, inr, ◌∙◌, ℕ, zero, suc, Bool, IsTrue, List, [], ◌∷◌, ◌++◌, Option, Some, None, refl, sym, ap, subst, arith}
+use Rattle.std.proofs.Common.{◌≡◌, inl, inr, ℕ, IsTrue, List, [], Option, Some, None}
+use Rattle.std.proofs.Common.{ap, subst, arith}
 use Rattle.std.specs.Prelude.{Contains}
 use Rattle.std.specs.List.{flat_map}
 use Rattle.xid.specs.Transactions.{TxParts, names}
@@ -11,12 +12,12 @@ use Rattle.stable_record.specs.Facts as stored
 use Rattle.protocol.specs.declared.NodeId.{NodeId}
 use Rattle.protocol.specs.declared.NodeId.TheVariants.{A, L, R}
 use Rattle.protocol.specs.Effects.{Config}
-use Rattle.protocol.specs.StandsFor.{stands_for, comes_to}
+use Rattle.protocol.specs.StandsFor.{stands_for}
 use Rattle.safety.specs.Items.{Item, Promised, Accepted, Began, Voted, Committed, Dropped, P1b, P2a, P2b, Commit, Abort}
-use Rattle.safety.specs.Items.{Setting, Allowed}
+use Rattle.safety.specs.Items.{Allowed}
 use Rattle.safety.specs.Senders.{IsFrom}
 use Rattle.safety.specs.Standing.{Among, StandsBy, setting}
-use Rattle.safety.proofs.Additions.{AreAllowed, AreQuietAfterFirst, IsGrownBy}
+use Rattle.safety.proofs.Additions.{AreAllowed, AreQuietAfterFirst}
 use Rattle.safety.proofs.Events.{IsEvent, IsMessage, with_items}
 use Rattle.safety.proofs.Lists.{Among-joined, Among-contains}
 use Rattle.safety.proofs.Growth.{items_of, IsMore, grown_by}
@@ -30,7 +31,8 @@ IsNamed (kinds.P2b tx i b v a) = IsTrue (names tx i)
 IsNamed message = Unit {0}
 
 -- the fact may be stored, and then each message sent
-pub record IsGood (config : Config) (who : NodeId) (facts : NodeId → List Fact) (sent : List Kind) (fact : Option Fact) (sends : List Kind) : Type 0 where
+pub record IsGood (config : Config) (who : NodeId) (facts : NodeId → List Fact) (sent : List Kind) (fact : Option Fact)
+    (sends : List Kind) : Type 0 where
   pub fact_allowed : AreAllowed (setting config) (StandsBy facts sent) (items_of who fact)
   pub sends_allowed : (m : Kind) → Among sends m → (y : Item TxParts) → Among (stands_for m) y
       → Allowed (setting config) (with_items (StandsBy facts sent) (items_of who fact)) y
@@ -39,7 +41,8 @@ pub record IsGood (config : Config) (who : NodeId) (facts : NodeId → List Fact
   pub from : (m : Kind) → Among sends m → IsFrom config who m
 
 -- nothing stored, nothing sent
-pub nothing_is_good : (config : Config) (who : NodeId) (facts : NodeId → List Fact) (sent : List Kind) → IsGood config who facts sent None []
+pub nothing_is_good : (config : Config) (who : NodeId) (facts : NodeId → List Fact) (sent : List Kind)
+    → IsGood config who facts sent None []
 nothing_is_good config who facts sent = record {
   fact_allowed = tt;
   sends_allowed = λ m h. absurd h;
@@ -100,16 +103,19 @@ is_message_of (kinds.Commit tx) y (inr k) = absurd k
 is_message_of (kinds.Abort tx) y (inr k) = absurd k
 is_message_of m y k = absurd k
 
-module _ (config : Config) (who : NodeId) (before after : NodeId → List Fact) (sent sent_after : List Kind) (fact : Option Fact) (sends more : List Kind)
+module _ (config : Config) (who : NodeId) (before after : NodeId → List Fact) (sent sent_after : List Kind) (fact : Option Fact)
+    (sends more : List Kind)
     (good : IsGood config who before sent fact sends) (some : (m : Kind) → Among more m → Among sends m)
     (grows : IsMore who fact more before after sent sent_after) where
-  proposal_among : (tx : TxParts) (i b : ℕ) (v : Vote) → Contains (flat_map stands_for more) (P2a tx i b v) → Among sends (kinds.P2a tx i b v)
+  proposal_among : (tx : TxParts) (i b : ℕ) (v : Vote) → Contains (flat_map stands_for more) (P2a tx i b v)
+      → Among sends (kinds.P2a tx i b v)
   proposal_among tx i b v h =
       let from = Among-joined stands_for more (P2a tx i b v) (Among-contains (flat_map stands_for more) (P2a tx i b v) h) in
       subst (λ (m : Kind). Among sends m) (is_message_of from.source (P2a tx i b v) from.inside) (some from.source from.among)
 
   -- a rule that hands over what it must makes an event, whatever part of its messages goes out
-  pub event_of_rule : IsEvent (setting config) (StandsBy before sent) (items_of who fact) (flat_map stands_for more) (StandsBy after sent_after)
+  pub event_of_rule : IsEvent (setting config) (StandsBy before sent) (items_of who fact) (flat_map stands_for more)
+      (StandsBy after sent_after)
   event_of_rule = record {
     facts_allowed = good.fact_allowed;
     one_view = quiet_after_first who fact;

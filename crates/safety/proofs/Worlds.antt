@@ -1,20 +1,25 @@
 -- Every event keeps a world safe, and moves each transaction by at most one step.
-use Rattle.std.proofs.Common.{◌≡◌, ◌⊎◌, inl, inr, ◌∙◌, ℕ, zero, suc, ◌<◌, Bool, true, false, if◌then◌else◌, IsTrue, List, [], ◌∷◌, ◌++◌, Option, Some, None, refl, sym, ap, subst, nat_lt, is_some}
+use Rattle.std.proofs.Common.{◌≡◌, inl, inr, ℕ, zero, suc, ◌<◌, Bool, true, false, if◌then◌else◌, List, [], ◌∷◌}
+use Rattle.std.proofs.Common.{Option, Some, None, refl, sym, ap, subst, nat_lt}
 use Rattle.std.specs.Prelude.{map, slice_get, length}
 use Rattle.std.proofs.lemmas.Bool.{cond_both}
 use Rattle.std.proofs.lemmas.List.{append-nil}
-use Rattle.xid.specs.Transactions.{TxParts, names}
+use Rattle.xid.specs.Transactions.{TxParts}
 use Rattle.wire.specs.declared.message.Kind.{Kind}
 use Rattle.stable_record.specs.Facts.{Fact}
 use Rattle.xid.specs.declared.refusals.Refusal.TheVariants.{NoSuch}
 use Rattle.protocol.specs.Calls as calls
 use Rattle.protocol.specs.declared.NodeId.{NodeId}
-use Rattle.protocol.specs.declared.NodeId.TheVariants.{A, L, R}
+use Rattle.protocol.specs.declared.NodeId.TheVariants.{L, R}
 use Rattle.protocol.specs.Effects.{Config, Send, Done, Refuses}
 use Rattle.wire.specs.Grammar.{spelling}
-use Rattle.protocol.specs.Nodes.{empty_memory, new_node, NodeState, Input, CallOn, ListPrepared, AskView, AskCommit, AskStatus, TimeOut, Take, TakeNoise, Fate, Well, Fails, Unreached, Starved, Outcome, node_step, restarted}
+use Rattle.protocol.specs.Nodes.{NodeState, Input, CallOn, ListPrepared, AskView, AskCommit, AskStatus}
+use Rattle.protocol.specs.Nodes.{TimeOut, Take, TakeNoise, Fate, Well, Fails, Unreached, Starved, Outcome, node_step, restarted}
 use Rattle.protocol.specs.Playing.{all_play}
-use Rattle.protocol.specs.Worlds.{World, Datagram, opening, Event, Client, ViewOf, CommitOf, StatusOf, Timeout, Deliver, Lose, Cut, Noise, Tear, Restart, Happening, Fated, where_found, node_at, set_node, refused, joined, at_node, restarts, tears, datagram_at, marked_at, with_mark, delivers, loses, cuts, disturbs, does, happens, world_after}
+use Rattle.protocol.specs.Worlds.{World, Datagram, opening, Event, Client, ViewOf, CommitOf, StatusOf, Timeout, Deliver, Lose}
+use Rattle.protocol.specs.Worlds.{Cut, Noise, Tear, Restart, Happening, Fated, where_found, node_at, set_node, refused, joined}
+use Rattle.protocol.specs.Worlds.{at_node, restarts, tears, datagram_at, marked_at, with_mark, delivers, loses, cuts, disturbs}
+use Rattle.protocol.specs.Worlds.{does, happens, world_after}
 use Rattle.xid.specs.declared.transaction.Vote.TheVariants as votes
 use Rattle.safety.specs.Items.{Item, Promised, Accepted, Began, Voted, Committed, Dropped, P1b, P2a, P2b, Commit, Abort}
 use Rattle.safety.specs.Invariant.{Invariant}
@@ -27,9 +32,9 @@ use Rattle.safety.proofs.LeadersWords.{IsKept}
 use Rattle.safety.proofs.Lists.{Among-map}
 use Rattle.safety.proofs.ManagerApart.{AreApart, none_apart}
 use Rattle.safety.proofs.NodeSteps.{IsStill, next_still, next_step, joined_from, step_from}
-use Rattle.safety.proofs.Places.{node_there, node_elsewhere, opening_node, leader_inside, marked_messages}
+use Rattle.safety.proofs.Places.{opening_node, leader_inside, marked_messages}
 use Rattle.safety.proofs.Rules.{IsFromNet, rule_is}
-use Rattle.safety.proofs.Safe.{facts_by, IsSafeBy, IsSafe, IsNextBy, next_same}
+use Rattle.safety.proofs.Safe.{facts_by, IsSafe, IsNextBy, next_same}
 
 -- the next moment of a world
 pub record IsNext (config : Config) (before after : World) : Type 0 where
@@ -56,7 +61,8 @@ module _ (config : Config) (world : World) (safe : IsSafe config world) where
   -- a mark
   marked : (n : ℕ) → IsNext config world (with_mark world n)
   marked n = record {
-    next = next_same config (node_at config world) (node_at config (with_mark world n)) (sent_in world) (sent_in (with_mark world n)) safe (λ who. refl)
+    next = next_same config (node_at config world) (node_at config (with_mark world n)) (sent_in world)
+        (sent_in (with_mark world n)) safe (λ who. refl)
         (marked_messages world.net n);
     from = marked_from config world.net n;
   }
@@ -72,13 +78,15 @@ module _ (config : Config) (world : World) (safe : IsSafe config world) where
 
   -- ---- an input at a node
 
-  handed_next : (who : NodeId) (input : Input) (fate : Fate) → IsFromNet (sent_in world) input → (node : NodeState) → node_at config world who ≡ Some node
+  handed_next : (who : NodeId) (input : Input) (fate : Fate) → IsFromNet (sent_in world) input → (node : NodeState)
+      → node_at config world who ≡ Some node
       → IsNext config world (joined config world who node.facts (node_step config who node input fate)).world
   handed_next who input fate came node is =
       let rule = rule_is config who (node_at config world) (sent_in world) safe node input is (few who node is) came in
       record { next = next_step config world who node input fate safe is rule; from = step_from config world who node input fate rule }
 
-  at_node_next : (who : NodeId) (input : Input) (fate : Fate) → IsFromNet (sent_in world) input → IsNext config world (at_node config world who input fate).world
+  at_node_next : (who : NodeId) (input : Input) (fate : Fate) → IsFromNet (sent_in world) input
+      → IsNext config world (at_node config world who input fate).world
   at_node_next who input fate came = found_next (node_at config world who)
       (λ node. joined config world who node.facts (node_step config who node input fate)) (handed_next who input fate came)
 
@@ -95,7 +103,8 @@ module _ (config : Config) (world : World) (safe : IsSafe config world) where
       (λ damaged. record { facts = refl; silent = refl; memory = inr refl })
 
   restarts_next : (who : NodeId) (fate : Fate) → IsNext config world (restarts config world who fate).world
-  restarts_next who fate = found_next (node_at config world who) (λ node. joined config world who node.facts (restarted config who node fate))
+  restarts_next who fate = found_next (node_at config world who)
+      (λ node. joined config world who node.facts (restarted config who node fate))
       (λ node is. let still = restarted_is who node fate in record {
         next = next_still config world who node (restarted config who node fate) safe is still;
         from = λ are. joined_from config world who node.facts (restarted config who node fate) are
@@ -114,7 +123,8 @@ module _ (config : Config) (world : World) (safe : IsSafe config world) where
       }
 
   tears_next : (who : NodeId) (n : ℕ) → IsNext config world (tears config world who n).world
-  tears_next who n = found_next (node_at config world who) (λ node. refused (set_node config world who (record node { tear = Some n })) Done) (armed_next who n)
+  tears_next who n = found_next (node_at config world who)
+      (λ node. refused (set_node config world who (record node { tear = Some n })) Done) (armed_next who n)
 
   -- ---- datagrams
 
@@ -123,10 +133,12 @@ module _ (config : Config) (world : World) (safe : IsSafe config world) where
 
   cuts_next : (n k : ℕ) (fate : Fate) → IsNext config world (cuts config world n k fate).world
   cuts_next n k fate = found_next (datagram_at world.net n)
-      (λ d. if nat_lt k (length (spelling d.message)) then at_node config world d.receiver TakeNoise fate else refused world (Refuses NoSuch))
-      (λ d is. cond_both (nat_lt k (length (spelling d.message))) (at_node config world d.receiver TakeNoise fate) (refused world (Refuses NoSuch))
-        (λ happening. IsNext config world happening.world)
-        (λ fewer. at_node_next d.receiver TakeNoise fate tt) (λ all. same))
+      (λ d. if nat_lt k (length (spelling d.message)) then at_node config world d.receiver TakeNoise fate else refused world
+      (Refuses NoSuch))
+      (λ d is. cond_both (nat_lt k (length (spelling d.message))) (at_node config world d.receiver TakeNoise fate)
+      (refused world (Refuses NoSuch))
+      (λ happening. IsNext config world happening.world)
+      (λ fewer. at_node_next d.receiver TakeNoise fate tt) (λ all. same))
 
   disturbs_next : (who : NodeId) (spells : Bool) (fate : Fate) → IsNext config world (disturbs config world who spells fate).world
   disturbs_next who false fate = at_node_next who TakeNoise fate tt
@@ -147,11 +159,11 @@ module _ (config : Config) (world : World) (safe : IsSafe config world) where
   delivers_next n fate = found_next config world safe (datagram_at world.net n)
       (λ d. at_node config (with_mark world n) d.receiver (Take d.message) fate)
       (λ d is.
-        let first = marked config world safe n in
-        let second = at_node_next config (with_mark world n) first.next.safe d.receiver (Take d.message) fate
-            (subst (λ (xs : List Kind). Among xs d.message) (sym (marked_messages world.net n))
-            (Among-map (λ (datagram : Datagram). datagram.message) world.net d (datagram_among world.net n d is))) in
-        record { next = second.next; from = λ are. second.from (first.from are) })
+      let first = marked config world safe n in
+      let second = at_node_next config (with_mark world n) first.next.safe d.receiver (Take d.message) fate
+      (subst (λ (xs : List Kind). Among xs d.message) (sym (marked_messages world.net n))
+      (Among-map (λ (datagram : Datagram). datagram.message) world.net d (datagram_among world.net n d is))) in
+      record { next = second.next; from = λ are. second.from (first.from are) })
 
   -- an event that reaches its node, if it has one
   does_next : (event : Event) (fate : Fate) → IsNext config world (does config world event fate).world
@@ -207,14 +219,17 @@ opening_is_safe config = record {
   named = λ m h. absurd h;
   kept = λ l node is. subst (λ (n : NodeState). IsKept config l n.facts n.memory.leading (Among [])) (opening_node config (L l) node is)
       (kept_at_start config l [] (Among []));
-  apart = λ rm node is. subst (λ (n : NodeState). AreApart rm n.facts n.memory.branches) (opening_node config (R rm) node is) (none_apart rm []);
+  apart = λ rm node is. subst (λ (n : NodeState). AreApart rm n.facts n.memory.branches) (opening_node config (R rm) node is)
+      (none_apart rm []);
 }
 
 -- whatever happens
-pub safe_after : (config : Config) (world : World) (events : List Fated) → IsSafe config world → IsSafe config (world_after config world events)
+pub safe_after : (config : Config) (world : World) (events : List Fated) → IsSafe config world
+    → IsSafe config (world_after config world events)
 safe_after config world [] safe = safe
 safe_after config world (first ∷ rest) safe =
-    safe_after config (happens config world first.event first.fate).world rest (happens_next config world safe first.event first.fate).next.safe
+    safe_after config (happens config world first.event first.fate).world rest
+    (happens_next config world safe first.event first.fate).next.safe
 
 pub safe_ever : (config : Config) (events : List Fated) → IsSafe config (world_after config (opening config) events)
 safe_ever config events = safe_after config (opening config) events (opening_is_safe config)

@@ -1,6 +1,6 @@
 -- What stands in a run of Paxos Commit: stored facts and messages, and what allows each.
 -- Gray and Lamport, "Consensus on Transaction Commit", ACM TODS 31(1), 2006, section 4 (Paxos Commit).
-use Rattle.std.specs.Prelude.{◌≡◌, ◌⊎◌, ℕ, zero, suc, ◌+◌, ◌*◌, ◌<◌, ◌≤◌, Bool, if◌then◌else◌, IsTrue, Option, Some, None}
+use Rattle.std.specs.Prelude.{◌≡◌, ◌⊎◌, ℕ, zero, suc, ◌<◌, ◌≤◌, Bool, IsTrue, Option, Some, None}
 pub use Rattle.ballot.specs.Majority.{count, IsMajority}
 pub use Rattle.xid.specs.declared.transaction.Vote.{Vote}
 pub use Rattle.xid.specs.declared.transaction.Vote.TheVariants.{Prepared, Aborted}

@@ -1,5 +1,5 @@
 -- What stands in a world: facts in the records of nodes, messages in datagrams that were ever sent.
-use Rattle.std.specs.Prelude.{◌≡◌, ◌⊎◌, ℕ, List, [], ◌∷◌, map, Option, Some, None}
+use Rattle.std.specs.Prelude.{◌≡◌, ◌⊎◌, List, [], ◌∷◌, map, Option, Some, None}
 use Rattle.xid.specs.Transactions.{TxParts, names}
 use Rattle.xid.specs.declared.transaction.Vote.{Vote}
 use Rattle.xid.specs.declared.transaction.Vote.TheVariants as votes
@@ -12,7 +12,7 @@ use Rattle.protocol.specs.declared.NodeId.{NodeId}
 use Rattle.protocol.specs.declared.NodeId.TheVariants.{A, L, R}
 use Rattle.protocol.specs.Effects.{Config}
 use Rattle.protocol.specs.Nodes.{NodeState}
-use Rattle.protocol.specs.Worlds.{World, Datagram, node_at}
+use Rattle.protocol.specs.Worlds.{World, node_at}
 use Rattle.safety.specs.Items.{Setting, Item, Promised, Accepted, Began, Voted, Committed, Dropped, P1b, P2a, P2b, Commit, Abort}
 
 -- one of a list

@@ -19,14 +19,13 @@ ghost use Rattle.safety.specs.Runs.{reached, reached_next, views_in, facts_after
 pub fn each_step()
     ensures { (config : Config) (events : List Fated) (next : Fated) (tx : TxParts)
         → IsCommitStep (names tx) (views_in config (reached config events) tx) (views_in config (reached_next config events next) tx) }
-{
-}
+{}
 
 /// No participant of a transaction is committed while another is aborted.
 pub fn consistent()
-    ensures { (config : Config) (events : List Fated) (tx : TxParts) → IsConsistent (names tx) (views_in config (reached config events) tx) }
-{
-}
+    ensures { (config : Config) (events : List Fated) (tx : TxParts)
+        → IsConsistent (names tx) (views_in config (reached config events) tx) }
+{}
 
 /// A commit finds every participant prepared: where one stored that it committed, or where a Commit was sent, each has stored a
 /// vote prepared, and is prepared or committed; and an event that makes a view committed finds each participant so.
@@ -37,19 +36,19 @@ pub fn commit_finds_prepared()
         → StandsAfter config events (Commit tx) → StandsAfter config events (Voted q tx votes.Prepared) }
     ensures ready { (config : Config) (events : List Fated) (tx : TxParts) (q : ℕ) → IsTrue (names tx q)
         → StandsAfter config events (Commit tx) → IsReady (views_in config (reached config events) tx q) }
-    ensures moved { (config : Config) (events : List Fated) (next : Fated) (tx : TxParts) (r q : ℕ) → IsTrue (names tx r) → IsTrue (names tx q)
-        → views_in config (reached config events) tx r ≢ views.Committed → views_in config (reached_next config events next) tx r ≡ views.Committed
+    ensures moved { (config : Config) (events : List Fated) (next : Fated) (tx : TxParts) (r q : ℕ)
+        → IsTrue (names tx r) → IsTrue (names tx q) → views_in config (reached config events) tx r ≢ views.Committed
+        → views_in config (reached_next config events next) tx r ≡ views.Committed
         → IsReady (views_in config (reached config events) tx q) }
-{
-}
+{}
 
 /// No restart is refused: the facts of every node play, so that a restart of one that stands in the cluster is done, and in no
 /// fate is its record damaged.
 pub fn restarts_play()
-    ensures play { (config : Config) (events : List Fated) (who : NodeId) → all_play config who [] (facts_after config events who) ≡ true }
-    ensures done { (config : Config) (events : List Fated) (who : NodeId) (node : NodeState) → node_at config (reached config events) who ≡ Some node
-        → (happens config (reached config events) (Restart who) Well).reply ≡ Done }
+    ensures play { (config : Config) (events : List Fated) (who : NodeId)
+        → all_play config who [] (facts_after config events who) ≡ true }
+    ensures done { (config : Config) (events : List Fated) (who : NodeId) (node : NodeState)
+        → node_at config (reached config events) who ≡ Some node → (happens config (reached config events) (Restart who) Well).reply ≡ Done }
     ensures undamaged { (config : Config) (events : List Fated) (who : NodeId) (fate : Fate)
         → (happens config (reached config events) (Restart who) fate).reply ≢ Refuses Damaged }
-{
-}
+{}

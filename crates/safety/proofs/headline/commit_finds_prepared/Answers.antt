@@ -14,5 +14,6 @@ returns-clause-ready c = ready
 
 pub returns-clause-moved : goal.returns-clause-moved
 returns-clause-moved c config events next tx r q named_r named_q before after =
-    moves_find_ready (names tx) (views_in config (reached config events) tx) (views_in config (reached_next config events next) tx) r q named_r named_q
+    moves_find_ready (names tx) (views_in config (reached config events) tx)
+    (views_in config (reached_next config events next) tx) r q named_r named_q
     before after (steps config events next tx)

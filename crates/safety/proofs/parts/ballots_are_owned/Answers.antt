@@ -11,7 +11,8 @@ returns-clause-begun c config events tx i b v h above = (invariant config events
 
 pub returns-clause-at_most : goal.returns-clause-at_most
 returns-clause-at_most c config events tx i b v h above =
-    begun_below (facts_after config events (L (owner_of config.leaders b))) tx b ((invariant config events).owned {tx = tx} {i = i} {b = b} {v = v} h above)
+    begun_below (facts_after config events (L (owner_of config.leaders b))) tx b
+    ((invariant config events).owned {tx = tx} {i = i} {b = b} {v = v} h above)
 
 pub returns-clause-one_value : goal.returns-clause-one_value
 returns-clause-one_value c config events tx i b v w h k =
