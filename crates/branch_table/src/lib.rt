@@ -7,3 +7,6 @@ mod table;
 
 pub use row::Row;
 pub use table::{BranchTable, Ending, Reading};
+
+#[cfg(test)]
+mod tests;

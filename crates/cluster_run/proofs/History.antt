@@ -40,6 +40,7 @@ plain_at (b ∷ bs) x = cases (xid_eq b.xid x) (plain_at bs x)
   where
     shown : IsPlain (branch_view b)
     shown = record { touched = λ e. absurd (cc); count = λ e. absurd (cc); written = λ e. absurd (cc) }
+
     cases : (t : Bool) → IsPlain (view_at bs x) → IsPlain (cond t (branch_view b) (view_at bs x))
     cases true rest = shown
     cases false rest = rest
@@ -109,36 +110,44 @@ after_call start managers new steps rm x action answer t e so_far new-is is_done
   where
     lt : rm < length managers
     lt = ltb-true rm (length managers) e
+
     old : TableParts
     old = get_or managers rm t
+
     history : List Happened
     history = history_after [] steps
+
     there : (q : ℕ) → q < length new → q < length managers
     there q less = let same : length new ≡ length managers = ap length new-is ∙ length-set managers rm t in omega arith
+
     rows-same : rows_of new ≡ rows_of start
     rows-same =
-      ap rows_of new-is ∙ (map-set (λ (m : TableParts). m.rows) managers rm t
-      ∙ (ap (set (rows_of managers) rm) (is_done.rows ∙ sym (get_or-map (λ (m : TableParts). m.rows) managers rm t [] lt)) ∙ (set-get_or (rows_of managers) rm [] ∙ so_far.rows)))
+        ap rows_of new-is ∙ (map-set (λ (m : TableParts). m.rows) managers rm t
+        ∙ (ap (set (rows_of managers) rm) (is_done.rows ∙ sym (get_or-map (λ (m : TableParts). m.rows) managers rm t [] lt)) ∙ (set-get_or (rows_of managers) rm [] ∙ so_far.rows)))
+
     back : ShowsBack (view_at old.branches) (λ y. calls_on rm y history)
     back = so_far.shows rm t lt
+
     rows-at : get_or (rows_of start) rm [] ≡ old.rows
     rows-at = ap (λ (all : List (List Row)). get_or all rm []) (sym so_far.rows) ∙ get_or-map (λ (m : TableParts). m.rows) managers rm t [] lt
+
     right : AnswersEvent (rows_of start) history (Call rm x action) answer
     right =
-      rw (inside start managers steps rm so_far e)
-      (subst (λ (rows : List Row). Answers rows (branches_back history rm) x action answer) (sym rows-at)
-      (Answers-back old.rows rm (view_at old.branches) x action answer history back.shows is_done.answers))
+        rw (inside start managers steps rm so_far e)
+        (subst (λ (rows : List Row). Answers rows (branches_back history rm) x action answer) (sym rows-at)
+        (Answers-back old.rows rm (view_at old.branches) x action answer history back.shows is_done.answers))
+
     shown : (q : ℕ) (d : TableParts) → q < length managers → ShowsBack (view_at (get_or new q d).branches) (λ y. calls_on q y (record { event = Call rm x action; answer = answer } ∷ history))
     shown q d less = elim (cases_eq q rm) [
       | inl same ↦
-        let here : get_or new q d ≡ t = ap (λ (k : ℕ). get_or new k d) same ∙ (ap (λ (all : List TableParts). get_or all rm d) new-is ∙ get_or-set_same managers rm t d lt) in
-        subst (λ (k : ℕ). ShowsBack (view_at (get_or new q d).branches) (λ y. calls_on k y (record { event = Call rm x action; answer = answer } ∷ history))) (sym same)
-        (subst (λ (m : TableParts). ShowsBack (view_at m.branches) (λ y. calls_on rm y (record { event = Call rm x action; answer = answer } ∷ history))) (sym here)
-        (ShowsBack-call old.rows rm (view_at old.branches) (view_at t.branches) x action answer history is_done.answers is_done.leaves back (plain_at old.branches)))
+          let here : get_or new q d ≡ t = ap (λ (k : ℕ). get_or new k d) same ∙ (ap (λ (all : List TableParts). get_or all rm d) new-is ∙ get_or-set_same managers rm t d lt) in
+          subst (λ (k : ℕ). ShowsBack (view_at (get_or new q d).branches) (λ y. calls_on k y (record { event = Call rm x action; answer = answer } ∷ history))) (sym same)
+          (subst (λ (m : TableParts). ShowsBack (view_at m.branches) (λ y. calls_on rm y (record { event = Call rm x action; answer = answer } ∷ history))) (sym here)
+          (ShowsBack-call old.rows rm (view_at old.branches) (view_at t.branches) x action answer history is_done.answers is_done.leaves back (plain_at old.branches)))
       | inr apart ↦
-        let here : get_or new q d ≡ get_or managers q d = ap (λ (all : List TableParts). get_or all q d) new-is ∙ get_or-set_other managers rm q t d apart in
-        subst (λ (m : TableParts). ShowsBack (view_at m.branches) (λ y. calls_on q y (record { event = Call rm x action; answer = answer } ∷ history))) (sym here)
-        (ShowsBack-elsewhere q rm (view_at (get_or managers q d).branches) x action answer history (λ same. apart (sym same)) (so_far.shows q d less))
+          let here : get_or new q d ≡ get_or managers q d = ap (λ (all : List TableParts). get_or all q d) new-is ∙ get_or-set_other managers rm q t d apart in
+          subst (λ (m : TableParts). ShowsBack (view_at m.branches) (λ y. calls_on q y (record { event = Call rm x action; answer = answer } ∷ history))) (sym here)
+          (ShowsBack-elsewhere q rm (view_at (get_or managers q d).branches) x action answer history (λ same. apart (sym same)) (so_far.shows q d less))
     ]
 
 -- one event
@@ -147,8 +156,8 @@ pub after_event : (start managers new : List TableParts) (steps : List StepParts
 after_event start managers new steps (Call rm x action) answer so_far h = cases (ltb rm (length managers)) refl h
   where
     cases : (b : Bool) → ltb rm (length managers) ≡ b
-      → MatchBool b ((t : TableParts) × (new ≡ set managers rm t) × IsDone (get_or managers rm t) t x action answer) ((answer ≡ Refused NoSuch) × (new ≡ managers))
-      → IsAfter start new (steps ++ record { event = Call rm x action; answer = answer } ∷ [])
+        → MatchBool b ((t : TableParts) × (new ≡ set managers rm t) × IsDone (get_or managers rm t) t x action answer) ((answer ≡ Refused NoSuch) × (new ≡ managers))
+        → IsAfter start new (steps ++ record { event = Call rm x action; answer = answer } ∷ [])
     cases true e h = after_call start managers new steps rm x action answer h.0 e so_far h.1 h.2
     cases false e h = after_nowhere start managers new steps rm x action answer e so_far h
 after_event start managers new steps (Recover rm) answer so_far h = after_recover start managers new steps rm answer (ltb rm (length managers)) refl so_far h

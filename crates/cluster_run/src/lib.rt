@@ -5,3 +5,6 @@ mod managers;
 mod runs;
 
 pub use runs::run;
+
+#[cfg(test)]
+mod tests;

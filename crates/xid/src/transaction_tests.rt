@@ -1,4 +1,4 @@
-use crate::{Refusal, Tx, Xid};
+use crate::{Refusal, Tx, XaCode, Xid, text};
 use std::process::Abort;
 use std::test::Fail;
 
@@ -104,5 +104,65 @@ fn texts(rt: HostRuntime) -> Result<(), Fail> {
     ] {
         refused(&rt, Tx::read(other));
     }
+    Ok(())
+}
+
+#[test]
+fn parts_of_branches(rt: HostRuntime) -> Result<(), Fail> {
+    let alloc = rt.alloc();
+    let x = Xid::new(1, b"t1", b"b")?;
+    assert_eq!(rt; x.format(), 1);
+    assert_eq!(rt; x.gtrid(), b"t1".as_slice());
+    assert_eq!(rt; x.bqual(), b"b".as_slice());
+    let area = x.area();
+    assert_eq!(rt; &area[..3], b"t1b".as_slice());
+    assert!(rt; area[3..].iter().all(|byte| *byte == 0));
+    let full = Xid::new(1, &LONG[..64], &LONG[..64])?;
+    assert!(rt; full.area().iter().all(|byte| *byte == LONG[0]));
+    assert!(rt; Xid::read(b"1:7431:62")? == x);
+    let mut out = [b' '].to_vec(alloc)?;
+    x.write(alloc, &mut out)?;
+    assert_eq!(rt; out.as_slice(), b" 1:7431:62".as_slice());
+    for other in [
+        b"".as_slice(),
+        b"1:7431:".as_slice(),
+        b"1::62".as_slice(),
+        b"01:7431:62".as_slice(),
+        b"+1:7431:62".as_slice(),
+        b"1:7431:6A".as_slice(),
+        b"1:7431:623".as_slice(),
+        b"1:7431:62:62".as_slice(),
+        b"2147483648:7431:62".as_slice(),
+    ] {
+        assert_eq!(rt; Xid::read(other), Err(Refusal::BadXid));
+    }
+    Ok(())
+}
+
+#[test]
+fn numbers_of_codes(rt: HostRuntime) {
+    for (code, number) in [
+        (XaCode::Ok, 0),
+        (XaCode::RbRollback, 100),
+        (XaCode::Nota, -4),
+        (XaCode::Inval, -5),
+        (XaCode::Proto, -6),
+        (XaCode::RmFail, -7),
+        (XaCode::DupId, -8),
+    ] {
+        assert_eq!(rt; code.number(), number);
+    }
+}
+
+#[test]
+fn numbers_and_marks(rt: HostRuntime) -> Result<(), Fail> {
+    assert_eq!(rt; text::number(b"4294967295"), Some(4294967295));
+    for other in [b"4294967296".as_slice(), b"", b"00", b"-1", b"1 "] {
+        assert_eq!(rt; text::number(other), None);
+    }
+    let (before, after) = text::split_once(b"a=b=c", b'=').ok_or("no mark")?;
+    assert_eq!(rt; before, b"a".as_slice());
+    assert_eq!(rt; after, b"b=c".as_slice());
+    assert!(rt; text::split_once(b"abc", b'=').is_none());
     Ok(())
 }

@@ -1,0 +1,70 @@
+use crate::run;
+use std::alloc::Global;
+use std::process::Abort;
+use std::test::Fail;
+use xid::Refusal;
+
+/// The text of the trace is this.
+fn prints(rt: &impl Abort, alloc: Global, script: &[u8], want: &[u8]) {
+    match run(alloc, script) {
+        Ok(output) => assert_eq!(rt; output.as_slice(), want),
+        Err(refusal) => assert_eq!(rt; refusal.number(), 0),
+    }
+}
+
+#[test]
+fn first_branch(rt: HostRuntime) {
+    prints(
+        &rt,
+        rt.alloc(),
+        b"cluster acceptors 1 leaders 1 rms 1\ntable r0 6b=30\nstart r0 1:74:61\nget r0 1:74:61 6b\nput r0 1:74:61 6b 31\nget r0 1:74:61 6b\ndel r0 1:74:61 6b\nget r0 1:74:61 6b\nend r0 1:74:61\nget r0 1:74:61 6b\nrollback r0 1:74:61\nget r0 1:74:61 6b\n",
+        b"cluster acceptors 1 leaders 1 rms 1\ntable r0 6b=30\nstart r0 1:74:61 -> 0\nget r0 1:74:61 6b -> value 30\nput r0 1:74:61 6b 31 -> 0\nget r0 1:74:61 6b -> value 31\ndel r0 1:74:61 6b -> 0\nget r0 1:74:61 6b -> none\nend r0 1:74:61 -> 0\nget r0 1:74:61 6b -> -6\nrollback r0 1:74:61 -> 0\nget r0 1:74:61 6b -> -4\nfinal r0 6b=30\n",
+    );
+}
+
+#[test]
+fn empty_run(rt: HostRuntime) {
+    prints(
+        &rt,
+        rt.alloc(),
+        b"cluster acceptors 1 leaders 1 rms 1\ntable r0 6b=31\n",
+        b"cluster acceptors 1 leaders 1 rms 1\ntable r0 6b=31\nfinal r0 6b=31\n",
+    );
+}
+
+#[test]
+fn two_managers(rt: HostRuntime) {
+    prints(
+        &rt,
+        rt.alloc(),
+        b"cluster acceptors 7 leaders 4 rms 2\ntable r1 6c=- 6b=31\nstart r0 1:74:61\nput r0 1:74:61 6b 32\nstart r1 1:74:61\nstart r1 1:74:62\nget r1 1:74:62 6b\ndel r1 1:74:61 6b\nput r1 1:74:62 - 31\nend r1 1:74:62 fail\nrecover r1\nrecover r2\nstart r2 1:74:61\nstart r1 1:74:61\n",
+        b"cluster acceptors 7 leaders 4 rms 2\ntable r1 6c=- 6b=31\nstart r0 1:74:61 -> 0\nput r0 1:74:61 6b 32 -> 0\nstart r1 1:74:61 -> 0\nstart r1 1:74:62 -> 0\nget r1 1:74:62 6b -> value 31\ndel r1 1:74:61 6b -> refused 9\nput r1 1:74:62 - 31 -> -5\nend r1 1:74:62 fail -> 100\nrecover r1 -> xids\nrecover r2 -> refused 15\nstart r2 1:74:61 -> refused 15\nstart r1 1:74:61 -> -8\nfinal r0\nfinal r1 6b=31 6c=-\n",
+    );
+}
+
+/// What is refused: 0 where a script is run, else the number of the refusal, and the line.
+fn refused(alloc: Global, script: &[u8]) -> (u8, usize) {
+    match run(alloc, script) {
+        Ok(_) => (0, 0),
+        Err(Refusal::BadScript { line }) => (7, line),
+        Err(refusal) => (refusal.number(), 0),
+    }
+}
+
+#[test]
+fn refusals(rt: HostRuntime) {
+    for (script, want) in [
+        (b"".as_slice(), (7, 1)),
+        (b"cluster acceptors 1 leaders 1 rms 1\nstop r0\n", (7, 2)),
+        (b"cluster acceptors 2 leaders 1 rms 1\n", (13, 0)),
+        (b"cluster acceptors 9 leaders 1 rms 1\n", (13, 0)),
+        (b"cluster acceptors 1 leaders 5 rms 1\n", (13, 0)),
+        (b"cluster acceptors 1 leaders 0 rms 1\n", (13, 0)),
+        (b"cluster acceptors 1 leaders 1 rms 9\n", (13, 0)),
+        (b"cluster acceptors 1 leaders 1 rms 0\n", (13, 0)),
+        (b"cluster acceptors 2 leaders 1 rms 1\nstop r0\n", (7, 2)),
+        (b"cluster acceptors 5 leaders 1 rms 8\n", (0, 0)),
+    ] {
+        assert_eq!(rt; refused(rt.alloc(), script), want);
+    }
+}
