@@ -32,46 +32,7 @@ continued tx i s facts = record {
   report = last_or s.report (filter_map (accepted_by tx i) facts);
 }
 
-raised-greatest : (m : ℕ) (o : Option ℕ) (ns : List ℕ) → max m (greatest (cons_option o ns)) ≡ max (raised m o) (greatest ns)
-raised-greatest m None ns = refl
-raised-greatest m (Some b) ns = omega arith
-
-latest-last : (before o : Report) (later : List (ℕ × Vote)) → last_or before (cons_option o later) ≡ last_or (latest before o) later
-latest-last before None later = refl
-latest-last before (Some last) later = refl
-
-continued-step : (tx : TxParts) (i : ℕ) (s : Slot) (fact : Fact) (facts : List Fact) → continued tx i s (fact ∷ facts) ≡ continued tx i (after_fact tx i s fact) facts
-continued-step tx i s fact facts = λ k. record {
-  mbal = raised-greatest s.mbal (ballot_joined tx i fact) (filter_map (ballot_joined tx i) facts) k;
-  report = latest-last s.report (accepted_by tx i fact) (filter_map (accepted_by tx i) facts) k;
-}
-
-pub continued-start : (tx : TxParts) (i : ℕ) (s : Slot) (facts : List Fact) → s ≡ empty_slot → continued tx i s facts ≡ slot facts tx i
-continued-start tx i s facts e =
-    let whole : max 0 (greatest (filter_map (ballot_joined tx i) facts)) ≡ greatest (filter_map (ballot_joined tx i) facts) = omega arith in
-    ap (λ (t : Slot). continued tx i t facts) e ∙ (λ k. record { mbal = whole k; report = last_or None (filter_map (accepted_by tx i) facts) })
-
-pub continued-end : (tx : TxParts) (i : ℕ) (s : Slot) → continued tx i s [] ≡ s
-continued-end tx i s = let same : max s.mbal 0 ≡ s.mbal = omega arith in λ k. record { mbal = same k; report = s.report }
-
 -- ---- what was accepted last is no higher than mbal
 
 abbrev pub IsLow : Slot → Type 0
 IsLow s = (b : ℕ) → s.mbal < b → IsReport b s.report
-
-raised-above : (m : ℕ) (o : Option ℕ) → m ≤ raised m o
-raised-above m None = omega arith
-raised-above m (Some b) = omega arith
-
-low_kept : (s : Slot) (o : Option ℕ) → IsLow s → IsLow (record { mbal = raised s.mbal o; report = s.report })
-low_kept s o low = λ b above. low b (omega (arith, above, raised-above s.mbal o))
-
-low_accepted : (s : Slot) (ballot : ℕ) (v : Vote) (t : Bool) → IsLow s
-    → IsLow (record { mbal = raised s.mbal (if t then Some ballot else None); report = latest s.report (if t then Some (ballot, v) else None) })
-low_accepted s ballot v true low = λ b above. omega (arith, above)
-low_accepted s ballot v false low = low
-
-pub low_next : (tx : TxParts) (i : ℕ) (s : Slot) (fact : Fact) → IsLow s → IsLow (after_fact tx i s fact)
-low_next tx i s (stored.Promise other j b) low = low_kept s (ballot_joined tx i (stored.Promise other j b)) low
-low_next tx i s (stored.Accept other j b v) low = low_accepted s b v (instance_eq tx i other j) low
-low_next tx i s fact low = low

@@ -1,7 +1,7 @@
-ghost use Rattle.std.specs.Prelude.{◌≡◌, ℕ, ◌<◌, []};
+ghost use Rattle.std.specs.Prelude.{◌≡◌, ℕ, ◌<◌, [], true, IfSome};
 ghost use Rattle.wire.specs.Messages.{IsMessage};
 ghost use Rattle.wire.specs.declared.message.Kind.TheVariants.{P1a, P2a};
-ghost use Rattle.protocol.specs.Acceptors.{on_1a, on_2a};
+ghost use Rattle.protocol.specs.Acceptors.{on_1a, on_2a, acceptor_takes};
 ghost use Rattle.protocol.specs.Effects.{Config};
 ghost use Rattle.protocol.specs.Playing.{plays_at_acceptor};
 ghost use Rattle.acceptor.specs.Acceptors.{with_fact};
@@ -57,15 +57,13 @@ impl Acceptor {
     /// owner. Else nothing. It takes no memory.
     pub fn on_1a(&self, tx: &Tx, instance: u16, ballot: u32) -> Decision
         requires { IsMessage (P1a tx.now instance ballot) }
-        ensures { (config : Config) → config.leaders ≡ self.now.meaning.leaders
+        ensures effect { (config : Config) → config.leaders ≡ self.now.meaning.leaders
             → effect_of result ≡ on_1a config self.now.meaning.number self.now.meaning.facts tx.now instance ballot }
+        ensures plays { IfSome result.fact (λ fact. plays_at_acceptor self.now.meaning.facts fact ≡ true) }
     {
         let slot = slot_of(&self.facts, tx, instance);
         if ballot <= slot.mbal {
-            return Decision {
-                fact: None,
-                send: None,
-            };
+            return Decision::nothing();
         }
         let message = Kind::P1b(*tx, instance, ballot, slot.report, self.number);
         Decision {
@@ -81,14 +79,12 @@ impl Acceptor {
     /// stored where it isn't what stands. Else nothing. It takes no memory.
     pub fn on_2a(&self, tx: &Tx, instance: u16, ballot: u32, vote: Vote) -> Decision
         requires { IsMessage (P2a tx.now instance ballot vote) }
-        ensures { effect_of result ≡ on_2a self.now.meaning.number self.now.meaning.facts tx.now instance ballot vote }
+        ensures effect { effect_of result ≡ on_2a self.now.meaning.number self.now.meaning.facts tx.now instance ballot vote }
+        ensures plays { IfSome result.fact (λ fact. plays_at_acceptor self.now.meaning.facts fact ≡ true) }
     {
         let slot = slot_of(&self.facts, tx, instance);
         if ballot < slot.mbal {
-            return Decision {
-                fact: None,
-                send: None,
-            };
+            return Decision::nothing();
         }
         let told = Outgoing {
             to: Address::Leaders,
@@ -103,6 +99,19 @@ impl Acceptor {
         Decision {
             fact: Some(Fact::new(FactKind::Accept(*tx, instance, ballot, vote))),
             send: Some(told),
+        }
+    }
+
+    /// What it does on a message: on phase 1a and 2a what `on_1a` and `on_2a` say, on every other nothing.
+    pub fn on_message(&self, message: &Message) -> Decision
+        ensures effect { (config : Config) → config.leaders ≡ self.now.meaning.leaders
+            → effect_of result ≡ acceptor_takes config self.now.meaning.number self.now.meaning.facts message.now }
+        ensures plays { IfSome result.fact (λ fact. plays_at_acceptor self.now.meaning.facts fact ≡ true) }
+    {
+        match message.kind() {
+            Kind::P1a(tx, instance, ballot) => self.on_1a(tx, *instance, *ballot),
+            Kind::P2a(tx, instance, ballot, vote) => self.on_2a(tx, *instance, *ballot, *vote),
+            _ => Decision::nothing(),
         }
     }
 

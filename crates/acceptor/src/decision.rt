@@ -1,3 +1,7 @@
+ghost use Rattle.std.specs.Prelude.{◌≡◌};
+ghost use Rattle.protocol.specs.Effects.{no_effect};
+ghost use Rattle.acceptor.specs.Decisions.{effect_of};
+
 use protocol::NodeId;
 use stable_record::Fact;
 use wire::Message;
@@ -27,4 +31,16 @@ pub struct Decision {
     pub fact: Option<Fact>,
     /// What to send, if there is anything.
     pub send: Option<Outgoing>,
+}
+
+impl Decision {
+    /// Nothing to store and nothing to send.
+    pub(crate) fn nothing() -> Decision
+        ensures { effect_of result ≡ no_effect tt }
+    {
+        Decision {
+            fact: None,
+            send: None,
+        }
+    }
 }
