@@ -1,19 +1,14 @@
 -- A slot is found fact by fact.
-use Rattle.std.proofs.Common.{◌≡◌, ◌∙◌, ℕ, zero, suc, ◌+◌, ◌<◌, ◌≤◌, max, Bool, true, false, ◌&&◌, ◌==◌, if◌then◌else◌, List, [], ◌∷◌, drop, length, get_or, Option, Some, None, refl, sym, ap, subst, arith}
+use Rattle.std.proofs.Common.{◌≡◌, ◌∙◌, ℕ, ◌<◌, max, Bool, true, ◌&&◌, ◌==◌, List, sym, ap, subst}
 use Rattle.std.specs.Prelude.{filter_map, IsTrue, ◌↔◌}
-use Rattle.std.specs.List.{last_or, cons_option}
+use Rattle.std.specs.List.{last_or}
 use Rattle.std.proofs.lemmas.Bool.Decides.{same_from_decides}
 use Rattle.xid.specs.Transactions.{TxParts}
-use Rattle.xid.specs.declared.transaction.Vote.{Vote}
 use Rattle.wire.specs.Messages.{IsReport}
 use Rattle.ballot.specs.declared.slot.Slot.{Slot}
-use Rattle.ballot.specs.Slots.{empty_slot}
-use Rattle.ballot.specs.Choice.{Report}
 use Rattle.stable_record.specs.Facts.{Fact}
-use Rattle.stable_record.specs.Facts as stored
-use Rattle.protocol.specs.Facts.{tx_eq, instance_eq, greatest, ballot_joined, accepted_by, slot}
+use Rattle.protocol.specs.Facts.{tx_eq, instance_eq, greatest, ballot_joined, accepted_by}
 use Rattle.protocol.proofs.Same.{tx_eq-same, tx_eq-is}
-use Rattle.acceptor.specs.Slots.{raised, latest, after_fact}
 
 -- ---- the test of two instances
 

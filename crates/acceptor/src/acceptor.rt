@@ -33,8 +33,10 @@ impl Model for Acceptor {
 
     ghost Value = { AcceptorParts };
 
-    ghost view = { λ a. record { meaning = record { number = a.number; leaders = a.leaders; facts = a.facts.items };
-        room = vec_capacity a.facts - vec_len a.facts } };
+    ghost view = { λ a. record {
+      meaning = record { number = a.number; leaders = a.leaders; facts = a.facts.items };
+      room = vec_capacity a.facts - vec_len a.facts;
+    } };
 
     ghost invariant = { λ a. (a.number < 7) × (0 < a.leaders) };
 }

@@ -8,3 +8,6 @@ mod slots;
 
 pub use acceptor::Acceptor;
 pub use decision::{Address, Decision, Outgoing};
+
+#[cfg(test)]
+mod tests;

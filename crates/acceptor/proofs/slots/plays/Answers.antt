@@ -1,5 +1,4 @@
-use Rattle.std.proofs.Common.{◌≡◌, ◌∙◌, sym, ap}
-use Rattle.stable_record.specs.Facts.{Fact}
+use Rattle.std.proofs.Common.{◌∙◌, sym, ap}
 use Rattle.stable_record.specs.FactsOf.{fact_of}
 use Rattle.protocol.specs.Playing.{plays_at_acceptor}
 use Rattle.acceptor.proofs.slots.plays.Goals as goal
