@@ -1,0 +1,4 @@
+pub mod Slots
+pub mod Shape
+pub mod Acceptors
+pub mod Decisions

@@ -1,0 +1,13 @@
+//! The acceptor of one node: which fact to store and what to send on each phase 1a and 2a message, and the facts that it
+//! has played.
+#![tactic(auto)]
+
+mod acceptor;
+mod decision;
+mod slots;
+
+pub use acceptor::Acceptor;
+pub use decision::{Address, Decision, Outgoing};
+
+#[cfg(test)]
+mod tests;
