@@ -1,6 +1,7 @@
-ghost use Rattle.std.specs.Prelude.{◌≡◌, ℕ, List, OnOk, OnErr, IfErr, IfOk};
+ghost use Rattle.std.specs.Prelude.{◌≡◌, ◌⊎◌, ℕ, List, OnOk, OnErr, IfErr, IfOk};
 ghost use Rattle.std.specs.Io.KnownBytes.{Appends};
-ghost use Rattle.cluster_run.specs.Runs.{IsRun};
+ghost use Rattle.cluster_run.specs.Runs.{IsRun, RefusesRun};
+ghost use Rattle.xid.specs.declared.refusals.Refusal.TheVariants.{NoMemory, FileFault};
 
 use crate::command::{Subcommand, Rejected, action};
 use cluster_run::run;
@@ -56,14 +57,17 @@ fn run_file<R: Files + Alloc<A = Global>, W: Write>(
 
 /// Runs a script and prints its trace. Refused as `run` refuses it, and `FileFault` where the output can't be written.
 pub fn answer_script<W: Write>(alloc: Global, script: &[u8], out: &mut W) -> Result<(), Refusal>
-    ensures { OnOk result ((output : List ℕ) × IsRun script.now output × Appends (W.contents out.old) (W.contents out.new) output) }
+    ensures ok { OnOk result ((output : List ℕ) × IsRun script.now output × Appends (W.contents out.old) (W.contents out.new) output) }
+    ensures err { IfErr result (λ e. RefusesRun script.now e ⊎ (e ≡ FileFault)) }
 {
     let output = run(alloc, script)?;
     out.write_all(&output).map_err(file_refusal)?;
     Ok(())
 }
 
-fn file_refusal(error: io::Error) -> Refusal {
+fn file_refusal(error: io::Error) -> Refusal
+    ensures { (result ≡ NoMemory) ⊎ (result ≡ FileFault) }
+{
     match error.kind() {
         io::ErrorKind::OutOfMemory => Refusal::NoMemory,
         _ => Refusal::FileFault,
