@@ -1,9 +1,8 @@
 //! Paxos Commit with X/Open XA branches.
 #![tactic(auto)]
 
-use std::env;
-use std::io;
 use std::process::ExitCode;
+use std::{env, io};
 use udp_edge::{program, refuse};
 use xid::Refusal;
 

@@ -4,7 +4,7 @@
 mod command;
 mod printing;
 
-pub use command::{Subcommand, Rejected, action};
+pub use command::{Rejected, Subcommand, action};
 pub use printing::{answer_script, program, refuse};
 
 #[cfg(test)]

@@ -3,7 +3,7 @@ ghost use Rattle.std.specs.Io.KnownBytes.{Appends};
 ghost use Rattle.cluster_run.specs.Runs.{IsRun, RefusesRun};
 ghost use Rattle.xid.specs.declared.refusals.Refusal.TheVariants.{NoMemory, FileFault};
 
-use crate::command::{Subcommand, Rejected, action};
+use crate::command::{Rejected, Subcommand, action};
 use cluster_run::run;
 use std::alloc::Global;
 use std::convert::AsStr;

@@ -4,7 +4,10 @@ use std::test::Fail;
 #[test]
 fn lines(rt: HostRuntime) -> Result<(), Fail> {
     let alloc = rt.alloc();
-    assert!(rt; action(alloc, ["pcommit", "run", "a.script"].as_slice()) == Ok(Subcommand::Run { file: "a.script" }));
+    assert!(rt;
+        action(alloc, ["pcommit", "run", "a.script"].as_slice())
+            == Ok(Subcommand::Run { file: "a.script" })
+    );
     for words in [
         ["pcommit", "help", "run"].as_slice(),
         ["pcommit", "run"].as_slice(),
