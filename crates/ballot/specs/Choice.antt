@@ -46,7 +46,7 @@ pub record IsPreparedTop (reports : List Report) : Type 0 where
   pub is_top : IsTop reports top
   pub prepared : (v : Vote) → IsIn reports (Some (top, v)) → v ≡ Prepared
 
--- the value of phase 2a as the paper has it
+-- the value of phase 2a as the paper has it; aborted, too, where reports of one ballot differ, which the paper rules out
 abbrev pub IsPick : List Report → Vote → Type 0
 IsPick reports Prepared = IsPreparedTop reports
 IsPick reports Aborted = ¬ IsPreparedTop reports

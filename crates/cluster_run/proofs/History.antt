@@ -7,8 +7,8 @@ use Rattle.xid.specs.Names.{XidParts, xid_eq}
 use Rattle.xid.specs.declared.refusals.Refusal.TheVariants.{NoSuch}
 use Rattle.protocol.specs.Calls.{Action, Event, Call, Recover, Answer, Refused, Xids, Happened, Row}
 use Rattle.protocol.specs.Branches.{BranchView, SameView, no_branch, Answers, Leaves}
-use Rattle.protocol.specs.LookingBack.{calls_on, branches_back}
-use Rattle.protocol.proofs.Agreement.{ShowsBack, IsPlain, no_branch-plain, Answers-back, ShowsBack-call, ShowsBack-elsewhere, ShowsBack-recover, ShowsBack-none}
+use Rattle.cluster_run.specs.LookingBack.{calls_on, branches_back}
+use Rattle.cluster_run.proofs.Agreement.{ShowsBack, IsPlain, no_branch-plain, Answers-back, ShowsBack-call, ShowsBack-elsewhere, ShowsBack-recover, ShowsBack-none}
 use Rattle.branch_table.specs.Tables.{BranchParts, TableParts, branch_view, view_at}
 use Rattle.net_script.specs.Values.{StepParts}
 use Rattle.net_script.specs.Values as script

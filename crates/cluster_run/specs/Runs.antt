@@ -4,7 +4,7 @@ use Rattle.xid.specs.declared.refusals.Refusal.{Refusal}
 use Rattle.xid.specs.declared.refusals.Refusal.TheVariants.{NoMemory, NoSuch, BadScript, BadConfig}
 use Rattle.protocol.specs.Calls.{Event, Call, Recover, Answer, Refused, Xids, Happened, Row}
 use Rattle.protocol.specs.Branches.{Answers}
-use Rattle.protocol.specs.LookingBack.{branches_back}
+use Rattle.cluster_run.specs.LookingBack.{branches_back}
 use Rattle.branch_table.specs.Rows.{IsTable}
 use Rattle.net_script.specs.declared.values.Sizes.{Sizes}
 use Rattle.net_script.specs.Values.{TableParts, ScriptParts, StepParts, TraceParts}

@@ -16,5 +16,10 @@ fn main(rt: HostRuntime) -> ExitCode {
 
 /// The words of the command line, the program's own name first. Only want of memory is in the way.
 fn words(rt: &HostRuntime) -> io::Result<Vec<String>> {
-    Ok(env::args(rt)?.collect(rt.alloc())?)
+    let mut words = Vec::new(rt.alloc());
+    // `collect` would ask again for less where its first growth is refused
+    for word in env::args(rt)? {
+        words.push(word)?;
+    }
+    Ok(words)
 }

@@ -13,4 +13,3 @@ pub mod Same
 pub mod Standing
 pub mod ViewLaws
 pub mod SlotLaws
-pub mod Agreement

@@ -1,6 +1,6 @@
 -- A slot is what the facts of an acceptor say.
 use Rattle.std.proofs.Common.{◌≡◌, ◌⊎◌, inl, inr, ⊎_elim, ◌∙◌, ℕ, ◌≤◌, Bool, true, false, ◌&&◌, not, if◌then◌else◌, List, [], ◌∷◌, ◌++◌, Some, None, refl, sym, ap, subst, arith, append_assoc, nat_le}
-use Rattle.std.specs.Prelude.{filter_map}
+use Rattle.std.specs.Prelude.{Option, filter_map, unwrap_or}
 use Rattle.std.specs.List.{last_or, cons_option}
 use Rattle.std.proofs.lemmas.Bool.{and_parts, leb-true}
 use Rattle.std.proofs.lemmas.List.{append-nil}
@@ -15,9 +15,9 @@ use Rattle.protocol.specs.Acceptors.{is_accepted}
 use Rattle.protocol.specs.Effects.{Config}
 use Rattle.protocol.specs.Facts.{instance_eq, ballot_joined, accepted_by, slot}
 use Rattle.protocol.specs.Playing.{all_play, plays_at_acceptor}
-use Rattle.protocol.specs.Laws.{Stands, IsGreatestAccept, IsSlot}
+use Rattle.protocol.specs.Laws.{Stands, IsGreatestAccept, IsJoined, IsSlot}
 use Rattle.protocol.proofs.Same.{instance_eq-same, instance_eq-is}
-use Rattle.protocol.proofs.Standing.{Stands-append, Stands-before, Stands-last, at_most_greatest}
+use Rattle.protocol.proofs.Standing.{Stands-append, Stands-before, Stands-last, at_most_greatest, greatest_given}
 
 -- ---- what is promised and accepted is at most mbal
 
@@ -32,6 +32,37 @@ promised_below facts tx i b h = at_most_greatest (ballot_joined tx i) facts (sto
 
 accepted_below : (facts : List Fact) (tx : TxParts) (i b : ℕ) (v : Vote) → Stands facts (stored.Accept tx i b v) → b ≤ (slot facts tx i).mbal
 accepted_below facts tx i b v h = at_most_greatest (ballot_joined tx i) facts (stored.Accept tx i b v) b h (accepted_joins tx i b v)
+
+-- ---- mbal is the ballot of a promise or an accept
+
+promise_from : (tx other : TxParts) (i j b c : ℕ) (t : Bool) → instance_eq tx i other j ≡ t → (if t then Some c else None) ≡ Some b
+    → stored.Promise other j c ≡ stored.Promise tx i b
+promise_from tx other i j b c true e h =
+    let same = instance_eq-is tx other i j e in
+    let ballot : c ≡ b = ap (λ (o : Option ℕ). unwrap_or o 0) h in
+    λ k. stored.Promise (sym same.0 k) (sym same.1 k) (ballot k)
+promise_from tx other i j b c false e h = absurd (cc (h))
+
+accept_from : (tx other : TxParts) (i j b c : ℕ) (v : Vote) (t : Bool) → instance_eq tx i other j ≡ t → (if t then Some c else None) ≡ Some b
+    → stored.Accept other j c v ≡ stored.Accept tx i b v
+accept_from tx other i j b c v true e h =
+    let same = instance_eq-is tx other i j e in
+    let ballot : c ≡ b = ap (λ (o : Option ℕ). unwrap_or o 0) h in
+    λ k. stored.Accept (sym same.0 k) (sym same.1 k) (ballot k) v
+accept_from tx other i j b c v false e h = absurd (cc (h))
+
+joined_by : (facts : List Fact) (tx : TxParts) (i b : ℕ) (fact : Fact) → Stands facts fact → ballot_joined tx i fact ≡ Some b → IsJoined facts tx i b
+joined_by facts tx i b (stored.Promise other j c) h e =
+    inr (inl (subst (λ (f : Fact). Stands facts f) (promise_from tx other i j b c (instance_eq tx i other j) refl e) h))
+joined_by facts tx i b (stored.Accept other j c v) h e =
+    inr (inr (v, subst (λ (f : Fact). Stands facts f) (accept_from tx other i j b c v (instance_eq tx i other j) refl e) h))
+joined_by facts tx i b fact h e = absurd (cc (e))
+
+mbal_joined : (facts : List Fact) (tx : TxParts) (i : ℕ) → IsJoined facts tx i (slot facts tx i).mbal
+mbal_joined facts tx i = ⊎_elim
+    (λ none. inl none)
+    (λ given. joined_by facts tx i (slot facts tx i).mbal given.element given.stands given.gives)
+    (greatest_given (ballot_joined tx i) facts)
 
 -- ---- the report after one more fact
 
@@ -137,6 +168,7 @@ after config a tx i before (fact ∷ facts) is h =
 
 pub slot_is : (config : Config) (a : ℕ) (facts : List Fact) → all_play config (A a) [] facts ≡ true → (tx : TxParts) (i : ℕ) → IsSlot facts tx i (slot facts tx i)
 slot_is config a facts h tx i = record {
+  joined = mbal_joined facts tx i;
   promised = promised_below facts tx i;
   accepted = accepted_below facts tx i;
   last = after config a tx i [] facts (λ b v none. none) h;

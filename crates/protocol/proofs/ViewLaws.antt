@@ -51,7 +51,7 @@ view_from facts tx true b c d p q r s = inl (cast_found facts tx votes.Aborted p
 view_from facts tx false true c d p q r s = let is = any_found (aborts tx) facts q in inr (aborts_by facts tx is.element is.stands is.passes)
 view_from facts tx false false true d p q r s =
     let is = any_found (commits tx) facts r in (commits_by facts tx is.element is.stands is.passes, uncast facts tx votes.Aborted p, undropped facts tx q)
-view_from facts tx false false false true p q r s = (cast_found facts tx votes.Prepared s, uncommitted facts tx r, undropped facts tx q)
+view_from facts tx false false false true p q r s = (cast_found facts tx votes.Prepared s, uncommitted facts tx r, uncast facts tx votes.Aborted p, undropped facts tx q)
 view_from facts tx false false false false p q r s = (neither facts tx p s, uncommitted facts tx r, undropped facts tx q)
 
 pub view_is : (facts : List Fact) (tx : TxParts) → IsViewOf facts tx (view facts tx)

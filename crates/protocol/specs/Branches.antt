@@ -1,5 +1,6 @@
--- The table of client calls: which answer each gets and what it leaves, over any way to look at branches. States and codes are
--- those of X/Open XA (C193), "Transaction branch states"; keys, holds and tables are this project's own.
+-- The table of client calls: which answer each gets and what it leaves, over any way to look at branches. The names of states and
+-- the codes are those of X/Open XA (C193), "Transaction branch states"; which call is answered by which code in which state, and
+-- keys, holds and tables, are this project's own.
 use Rattle.std.specs.Prelude.{◌≡◌, ◌≢◌, ℕ, ◌+◌, Bool, true, false, ◌&&◌, ◌||◌, if◌then◌else◌, nat_le, nat_lt, List, [], ◌∷◌, length, Option, Some, None, is_some, is_none}
 use Rattle.std.specs.Bool.{Decides}
 use Rattle.std.specs.Str.{bytes_eq}
@@ -35,13 +36,15 @@ pub record SameView (v w : BranchView) : Type 0 where
 
 -- ---- limits
 
+-- a branch touches this many keys at most
 abbrev pub most_keys : ℕ
 most_keys = 64
 
--- a key has 1 to 64 bytes, a value at most 256
+-- a key has 1 to 64 bytes
 abbrev pub key_fits : List ℕ → Bool
 key_fits key = nat_le 1 (length key) && nat_le (length key) 64
 
+-- a value has 256 bytes at most
 abbrev pub value_fits : List ℕ → Bool
 value_fits value = nat_le (length value) 256
 
@@ -61,6 +64,7 @@ over_table None row = row
 abbrev pub read_of : List Row → BranchView → List ℕ → Option (List ℕ)
 read_of rows view key = over_table (view.written key) (row_at rows key)
 
+-- the answer of a get
 abbrev pub found : Option (List ℕ) → Answer
 found (Some bytes) = Value bytes
 found None = NoValue
@@ -157,7 +161,7 @@ done_view view Rollback = no_branch
 abbrev pub after : BranchView → Action → Answer → BranchView
 after view action answer = if is_done action answer then done_view view action else view
 
--- a call on x leaves every other branch as it was
+-- a call on x leaves its own branch as `after` says, and every other one as it was
 pub record Leaves (old new : XidParts → BranchView) (x : XidParts) (action : Action) (answer : Answer) : Type 0 where
   pub own : SameView (new x) (after (old x) action answer)
   pub others : (other : XidParts) → other ≢ x → SameView (new other) (old other)

@@ -14,7 +14,7 @@ pub data Action : Type 0 where
   EndFail : Action
   Rollback : Action
 
--- an event at a resource manager
+-- a client call on the branches of a resource manager
 pub data Event : Type 0 where
   Call : (rm : ℕ) → (xid : XidParts) → (action : Action) → Event
   Recover : (rm : ℕ) → Event

@@ -41,7 +41,8 @@ pub record Send : Type 0 where
   pub to : Address
   pub message : Kind
 
--- M is what the role keeps in memory. It is left so where the fact, if there is one, was stored
+-- what a role makes of an input: its reply, at most one fact to store, what to send once that is stored, and what it then keeps
+-- in memory, which is of the type M
 pub record Effect (M : Type 0) : Type 0 where
   pub reply : Reply
   pub fact : Option Fact

@@ -21,8 +21,13 @@ IsGreatestAccept facts tx i None = (b : ℕ) (v : Vote) → ¬ Stands facts (sto
 IsGreatestAccept facts tx i (Some last) =
     Stands facts (stored.Accept tx i last.0 last.1) × ((b : ℕ) (v : Vote) → Stands facts (stored.Accept tx i b v) → b ≤ last.0)
 
--- every promise and accept is at most mbal, and the report is the greatest accept
+-- some promise or accept has the ballot; or it is 0
+abbrev pub IsJoined : List Fact → TxParts → ℕ → ℕ → Type 0
+IsJoined facts tx i b = (b ≡ 0) ⊎ Stands facts (stored.Promise tx i b) ⊎ ((v : Vote) × Stands facts (stored.Accept tx i b v))
+
+-- mbal is the greatest ballot of a promise or an accept, 0 where there is none; and the report is the greatest accept
 pub record IsSlot (facts : List Fact) (tx : TxParts) (i : ℕ) (s : Slot) : Type 0 where
+  pub joined : IsJoined facts tx i s.mbal
   pub promised : (b : ℕ) → Stands facts (stored.Promise tx i b) → b ≤ s.mbal
   pub accepted : (b : ℕ) (v : Vote) → Stands facts (stored.Accept tx i b v) → b ≤ s.mbal
   pub last : IsGreatestAccept facts tx i s.report
@@ -35,7 +40,7 @@ IsCast facts tx votes.Aborted = Stands facts (stored.VoteAborted tx)
 -- one of four, by what stands
 abbrev pub IsViewOf : List Fact → TxParts → View → Type 0
 IsViewOf facts tx views.Working = ((v : Vote) → ¬ IsCast facts tx v) × ¬ Stands facts (stored.Committed tx) × ¬ Stands facts (stored.Aborted tx)
-IsViewOf facts tx views.Prepared = IsCast facts tx votes.Prepared × ¬ Stands facts (stored.Committed tx) × ¬ Stands facts (stored.Aborted tx)
+IsViewOf facts tx views.Prepared = IsCast facts tx votes.Prepared × ¬ Stands facts (stored.Committed tx) × ¬ IsCast facts tx votes.Aborted × ¬ Stands facts (stored.Aborted tx)
 IsViewOf facts tx views.Committed = Stands facts (stored.Committed tx) × ¬ IsCast facts tx votes.Aborted × ¬ Stands facts (stored.Aborted tx)
 IsViewOf facts tx views.Aborted = IsCast facts tx votes.Aborted ⊎ Stands facts (stored.Aborted tx)
 

@@ -61,7 +61,7 @@ is_reported n heard tx i b = is_majority n (has_reported heard tx i b)
 abbrev pub picked : List Kind → TxParts → ℕ → ℕ → Vote
 picked heard tx i b = pick (filter_map (reported_in tx i b) heard)
 
--- whether a value was proposed for an instance in the current ballot
+-- whether a value was proposed for an instance in a ballot, among the proposals that are kept
 abbrev pub is_proposed : List Kind → TxParts → ℕ → ℕ → Bool
 is_proposed proposed tx i b = list_any is_proposal proposed
   where

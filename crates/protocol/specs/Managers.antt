@@ -1,5 +1,5 @@
--- The rules of a resource manager: client calls after X/Open XA (C193), "Transaction branch states", and messages after Gray
--- and Lamport, "Consensus on Transaction Commit", ACM TODS 31(1), 2006, section 4.2.
+-- The rules of a resource manager: client calls by the table of `Branches`, and messages after Gray and Lamport, "Consensus on
+-- Transaction Commit", ACM TODS 31(1), 2006, section 4.2.
 use Rattle.std.specs.Prelude.{ℕ, Bool, true, false, not, ◌&&◌, if◌then◌else◌, List, [], ◌∷◌, ◌++◌, length, map, Option, Some, None, filter, filter_map, find, is_some, fold}
 use Rattle.std.specs.List.{list_any}
 use Rattle.std.specs.Option.{option_map}
@@ -27,7 +27,7 @@ use Rattle.protocol.specs.Effects.{Config, Effect, Called, Shows, Refuses, Send,
 
 -- ---- branches as they stand
 
--- a branch that isn't prepared: its touched keys stand ascending
+-- a branch as it is listed: its touched keys stand ascending
 pub record Branch : Type 0 where
   pub xid : XidParts
   pub state : BranchState

@@ -135,7 +135,7 @@ pub record Outcome : Type 0 where
   pub reply : Reply
   pub sends : List Send
 
--- nothing changes
+-- a node as it is left, a reply, and nothing sent
 abbrev pub unchanged : NodeState → Reply → Outcome
 unchanged node reply = record { node = node; reply = reply; sends = [] }
 
@@ -159,7 +159,7 @@ followed node e facts = record {
   sends = e.sends;
 }
 
--- an effect, by its fact, the armed tear and the fate
+-- an effect, by its fact, the armed tear and the fate; want of memory stores nothing, and leaves the tear armed
 abbrev pub settled : NodeState → Effect Memory → Option Fact → Option ℕ → Fate → Outcome
 settled node e fact tear Starved = record { node = fallen node; reply = Refuses NoMemory; sends = [] }
 settled node e None tear fate = followed node e node.facts

@@ -40,7 +40,8 @@ is_name_spent rm facts tx = is_some_spent (xid_at tx rm)
 abbrev pub is_some_held : List Fact → List Touched → Bool
 is_some_held facts keys = list_any (λ bound. list_any (λ touched. has_key touched.key bound.keys) keys) (bound_in facts)
 
--- at resource manager rm
+-- at resource manager rm: a vote on a transaction that names it and has none yet, prepared where name and keys are free; an
+-- outcome where it is still open, committed where it is prepared
 abbrev pub plays_at_manager : (rm : ℕ) → List Fact → Fact → Bool
 plays_at_manager rm facts (stored.VotePrepared tx keys) =
     names tx rm && is_new facts tx && not (is_name_spent rm facts tx) && not (is_some_held facts keys)

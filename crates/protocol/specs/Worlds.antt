@@ -87,7 +87,7 @@ set_node config world who node = record { nodes = set_at (place config who); net
 
 -- ---- what an event leaves
 
--- nothing
+-- a reply, and nothing sent
 abbrev pub refused : World → Reply → Happening
 refused world reply = record { world = world; reply = reply; now = None; sent = [] }
 

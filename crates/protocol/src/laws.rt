@@ -9,7 +9,8 @@ ghost use Rattle.protocol.specs.Playing.{all_play};
 ghost use Rattle.protocol.specs.Nodes.{torn};
 ghost use Rattle.protocol.specs.Laws.{IsSlot, IsViewOf, Begins};
 
-/// A slot is what the facts of an acceptor say: no promise is above its ballot, and it holds the greatest accept.
+/// A slot is what the facts of an acceptor say: its ballot is the greatest of a promise or an accept, or 0 where there is none; and
+/// it holds the greatest accept.
 pub fn slot_is_greatest()
     ensures { (config : Config) (a : ℕ) (facts : List stored.Fact) → all_play config (A a) [] facts ≡ true
         → (tx : TxParts) (i : ℕ) → IsSlot facts tx i (slot facts tx i) }

@@ -20,7 +20,7 @@ pub enum BranchState {
 /// Where a resource manager stands in a transaction (Gray and Lamport, "Consensus on Transaction Commit", section 2).
 #[derive(Clone, Copy, Debug, PartialEq, Eq)]
 pub enum View {
-    /// It has not voted.
+    /// It has stored neither a vote nor an outcome.
     Working,
     /// It voted prepared, and has learned no outcome.
     Prepared,
@@ -35,7 +35,7 @@ pub enum View {
 pub enum Status {
     /// It has not heard of it.
     Unknown,
-    /// It has heard of it, and knows no decision.
+    /// It has met it by a call, a phase 2b message or a question, or has begun a ballot of it, and knows no decision.
     Undecided,
     /// All instances have decided prepared.
     Committed,

@@ -79,7 +79,7 @@ pub record IsNextBy (config : Config) (nodes nodes_after : NodeId → Option Nod
 view_stands_as : (facts : NodeId → List Fact) (sent : List Kind) (tx : TxParts) (r : ℕ) (v : View) → laws.IsViewOf (facts (R r)) tx v
     → IsView (StandsBy facts sent) tx r v
 view_stands_as facts sent tx r views.Working h = h
-view_stands_as facts sent tx r views.Prepared h = h
+view_stands_as facts sent tx r views.Prepared h = (h.0, h.1, h.3)
 view_stands_as facts sent tx r views.Committed h = h.0
 view_stands_as facts sent tx r views.Aborted h = h
 

@@ -26,6 +26,6 @@ IsFrom config who (Commit tx) = IsFromLeader who
 IsFrom config who (Abort tx) = IsFromLeader who
 IsFrom config who (Ask tx rm) = who ≡ R rm
 
--- each datagram is
+-- each datagram is from the node that its message says
 abbrev pub AreFrom : Config → List Datagram → Type 0
 AreFrom config net = (d : Datagram) → Among net d → IsFrom config d.sender d.message

@@ -1,4 +1,5 @@
--- Branches by looking back over the calls: no list of branches is kept. Lists of calls have the newest first.
+-- Branches by looking back over the calls: no list of branches is kept. Lists of calls have the newest first. Only calls happen in
+-- the scripts of today; restarts, votes and outcomes, which end branches too, come with the cluster.
 use Rattle.std.specs.Prelude.{ℕ, Bool, true, false, not, ◌&&◌, ◌==◌, if◌then◌else◌, List, [], ◌∷◌, length, Option, Some, None}
 use Rattle.std.specs.List.{list_any, filter_map, find, take_while}
 use Rattle.std.specs.Option.{option_map}
@@ -14,9 +15,11 @@ pub record Answered : Type 0 where
   pub action : Action
   pub answer : Answer
 
+-- whether the call was done
 abbrev pub was_done : Answered → Bool
 was_done call = is_done call.action call.answer
 
+-- the kinds of calls that change the state
 abbrev pub is_start : Action → Bool
 is_start Start = true
 is_start action = false
@@ -37,7 +40,7 @@ is_rollback action = false
 abbrev pub some_done : (Action → Bool) → List Answered → Bool
 some_done kind calls = list_any (λ call. kind call.action && was_done call) calls
 
--- the calls since the branch last became non-existent
+-- the calls since the branch was last rolled back
 abbrev pub since_rollback : List Answered → List Answered
 since_rollback calls = take_while (λ call. not (is_rollback call.action && was_done call)) calls
 
@@ -67,6 +70,7 @@ pub record Write : Type 0 where
   pub key : List ℕ
   pub value : Option (List ℕ)
 
+-- what a call writes
 abbrev pub write_of : Action → Option Write
 write_of (Put key value) = Some (record { key = key; value = Some value })
 write_of (Del key) = Some (record { key = key; value = None })
