@@ -1,0 +1,85 @@
+//! An acceptor takes phase 2a messages: `bench_acceptor TRANSACTIONS BALLOTS REPETITIONS`.
+//! In each ballot, beginning with 0, each transaction's message is decided, and its fact made ready and played. A repetition
+//! begins with an acceptor that has played nothing. Prints how many facts were played, and a sum of what was sent last.
+#![tactic(auto)]
+
+use acceptor::{Acceptor, Decision};
+use anyhow::bail;
+use std::alloc::Global;
+use std::env;
+use wire::{Kind, MAX_DATAGRAM, Message, encode, is_message};
+use xid::{Refusal, Tx, Vote};
+
+const USAGE: &str = "usage: bench_acceptor TRANSACTIONS BALLOTS REPETITIONS";
+
+/// The message of a transaction on one branch, whose gtrid is a number of 4 bytes.
+fn message_of(number: u32, ballot: u32) -> Result<Message, Refusal> {
+    let tx = Tx::new(1, &number.to_be_bytes(), &[(0, b"a".as_slice())])?;
+    let kind = Kind::P2a(tx, 0, ballot, Vote::Prepared);
+    if !is_message(&kind) {
+        return Err(Refusal::BadMessage);
+    }
+    Ok(Message::new(kind))
+}
+
+/// The messages of all ballots, one ballot after the other.
+fn messages_of(alloc: Global, transactions: u32, ballots: u32) -> Result<Vec<Message>, Refusal> {
+    let mut messages = Vec::new(alloc);
+    for ballot in 0..ballots {
+        for number in 0..transactions {
+            messages.push(message_of(number, ballot)?)?;
+        }
+    }
+    Ok(messages)
+}
+
+/// The sum of a message's bytes.
+fn sum_of(message: &Message) -> u64 {
+    let mut out = [0; MAX_DATAGRAM];
+    let len = encode(message, &mut out);
+    let mut sum: u64 = 0;
+    for byte in &out[..len] {
+        sum = sum.wrapping_add(u64::from(*byte));
+    }
+    sum
+}
+
+/// An acceptor decides on each message, and plays what is to be stored. Answers how many facts it played, and the sum of the
+/// message that it sent last.
+fn play_all(alloc: Global, messages: &[Message]) -> Result<(u64, u64), Refusal> {
+    let mut acceptor = Acceptor::new(alloc, 0, 1);
+    let mut played: u64 = 0;
+    let mut sent = None;
+    for message in messages {
+        let Decision { fact, send } = acceptor.on_message(message);
+        match fact {
+            None => {}
+            Some(fact) => {
+                acceptor.ready(&fact)?;
+                acceptor.play(fact)?;
+                played = played.wrapping_add(1);
+            }
+        }
+        sent = send;
+    }
+    let sum = sent.map_or(0, |outgoing| sum_of(&outgoing.message));
+    Ok((played, sum))
+}
+
+fn main(rt: HostRuntime) -> anyhow::Result<()> {
+    let alloc = rt.alloc();
+    let words: Vec<String> = env::args(&rt)?.collect(alloc)?;
+    let [_, transactions, ballots, repetitions] = words.as_slice() else {
+        bail!("{USAGE}");
+    };
+    let messages = messages_of(alloc, transactions.parse::<u32>()?, ballots.parse::<u32>()?)?;
+    let mut played: u64 = 0;
+    let mut sum: u64 = 0;
+    for _ in 0..repetitions.parse::<u32>()? {
+        let (facts, bytes) = play_all(alloc, &messages)?;
+        played = played.wrapping_add(facts);
+        sum = sum.wrapping_add(bytes);
+    }
+    println!(rt; "{played} {sum}")?;
+    Ok(())
+}

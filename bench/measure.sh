@@ -1,0 +1,70 @@
+#!/bin/sh
+# Prints how many messages or events a crate takes in a second: `bench/measure.sh messages|acceptor`.
+# The gate runs each program of the repository, so that this one is proved and built in a folder of its own, beside copies of the
+# libraries. Those are proved in their places, where they aren't yet.
+case $1 in
+messages) crate=wire below="xid" first="encode prepare 1" ;;
+acceptor) crate=acceptor below="xid wire stable_record ballot protocol" first="1 1 1" ;;
+*) echo "usage: bench/measure.sh messages|acceptor" >&2; exit 2 ;;
+esac
+repository=$(cd "$(dirname "$0")/.." && pwd)
+name=bench_$1
+scratch=$(mktemp -d)
+trap 'rm -rf "$scratch"' EXIT
+trap 'exit 1' INT TERM
+
+build() {
+    cd "$repository/crates/$crate" && rt lib || exit 1
+    mkdir -p "$scratch/crates/$name/src"
+    for library in $below $crate; do
+        tar -C "$repository/crates" --exclude=incremental -cf - "$library" | tar -C "$scratch/crates" -xf - || exit 1
+        grep "^$library:" "$repository/crates.txt" >>"$scratch/crates.txt" || exit 1
+    done
+    echo "$name: $below $crate anyhow" >>"$scratch/crates.txt"
+    cp "$repository/bench/$1.rs" "$scratch/crates/$name/src/main.rt"
+    # shellcheck disable=SC2086 # words
+    cd "$scratch/crates/$name" && rt run -- $first
+}
+(build "$1") >"$scratch/log" 2>&1 || { cat "$scratch/log" >&2; exit 1; }
+
+# Runs the program three times, and takes the shortest. It prints how many it took and, of messages, how many bytes each has.
+timed() {
+    shortest=
+    for _ in 1 2 3; do
+        begin=$(date +%s%N)
+        "$scratch/crates/$name/out/$name" "$@" >"$scratch/counts" || exit 1
+        nanoseconds=$(($(date +%s%N) - begin))
+        if [ "$nanoseconds" -lt "${shortest:-$((nanoseconds + 1))}" ]; then shortest=$nanoseconds; fi
+    done
+    read -r count length _ <"$scratch/counts"
+    rate=$((count * 1000000000 / shortest))
+}
+
+# direction, message, rounds of 8 messages
+messages() {
+    timed "$@"
+    echo "$1, ${2%%-*} of $length bytes: $rate messages per second, $((rate * length / 1000000)) MB per second"
+}
+
+# transactions, repetitions: a message for each transaction in ballot 0, and then another in ballot 1
+events() {
+    timed "$1" 1 "$2"
+    echo "$1 transactions, first ballot: $rate events per second"
+    timed "$1" 2 "$2"
+    echo "$1 transactions, both ballots: $rate events per second"
+}
+
+if [ "$1" = messages ]; then
+    messages encode prepare 10000000
+    messages encode p2a 10000000
+    messages encode p2a-of-three 8000000
+    messages encode p1b 3000000
+    messages decode prepare 500000
+    messages decode p2a 500000
+    messages decode p2a-of-three 500000
+    messages decode p1b 500000
+else
+    events 10 500000
+    events 1000 200
+    events 10000 1
+fi
