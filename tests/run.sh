@@ -38,6 +38,7 @@ check missing_file /dev/null "$scratch/missing" 3 run "$scratch/no such file"
 echo 'pcommit: usage: pcommit run FILE | udp FILE DIR | audit FILE' >"$scratch/usage"
 check no_words /dev/null "$scratch/usage" 2
 check help /dev/null "$scratch/usage" 2 --help
+check no_text /dev/null "$scratch/usage" 2 run "$(printf '\377')"
 check help_of_run /dev/null "$scratch/usage" 2 run --help
 check two_files /dev/null "$scratch/usage" 2 run a b
 check udp_not_yet /dev/null "$scratch/usage" 2 udp a b

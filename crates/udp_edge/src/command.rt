@@ -1,7 +1,12 @@
+ghost use Rattle.std.specs.Prelude.{◌≡◌, map, IfOk};
+ghost use Rattle.udp_edge.specs.CommandLines.{AsksFor};
+ghost use Rattle.udp_edge.specs.declared.command.Rejected.TheVariants.{NoMemory};
+
 use clap::error::ErrorKind;
 use clap::{Arg, ArgAction, Command};
-use std::alloc::{AllocError, Global};
+use std::alloc::{AllocError, AllocFailed, Global};
 use std::convert::AsStr;
+use std::io;
 
 /// What a command line asks for.
 #[derive(Clone, Copy, Debug, PartialEq, Eq)]
@@ -16,20 +21,42 @@ pub enum Subcommand<'a> {
 /// Why a command line isn't carried out.
 #[derive(Clone, Copy, Debug, PartialEq, Eq)]
 pub enum Rejected {
-    /// It is none of the program's, or it asks for help.
+    /// It is none of the program's, it asks for help, or a word of it is no text.
     Usage,
     /// Memory ran out.
     NoMemory,
 }
 
 impl From<AllocError> for Rejected {
+    ghost from_gives = { λ _ e. e ≡ NoMemory };
+
     fn from(_error: AllocError) -> Rejected {
         Rejected::NoMemory
     }
 }
 
-/// Reads a command line, the program's own name first: `run FILE`.
-pub fn action<'a, S: AsStr>(alloc: Global, words: &'a [S]) -> Result<Subcommand<'a>, Rejected> {
+impl<T: Drop> From<AllocFailed<T>> for Rejected {
+    ghost from_gives = { λ _ e. e ≡ NoMemory };
+
+    fn from(_error: AllocFailed<T>) -> Rejected {
+        Rejected::NoMemory
+    }
+}
+
+impl From<io::Error> for Rejected {
+    fn from(error: io::Error) -> Rejected {
+        match error.kind() {
+            io::ErrorKind::OutOfMemory => Rejected::NoMemory,
+            _ => Rejected::Usage,
+        }
+    }
+}
+
+/// Reads a command line, the program's own name first: `run FILE`, as a command of `clap`. Refused for want of memory, and where the
+/// words are none of the program's.
+pub fn action<'a, S: AsStr>(alloc: Global, words: &'a [S]) -> Result<Subcommand<'a>, Rejected>
+    ensures { IfOk result (AsksFor (map S.text words.entry.now)) }
+{
     let file = Arg::new(alloc, "FILE")
         .required(true)
         .action(ArgAction::Set);
@@ -46,7 +73,7 @@ pub fn action<'a, S: AsStr>(alloc: Global, words: &'a [S]) -> Result<Subcommand<
             });
         }
     };
-    let Some((_name, positions)) = matches.subcommand() else {
+    let Some(("run", positions)) = matches.subcommand() else {
         return Err(Rejected::Usage);
     };
     match positions.get_str("FILE") {

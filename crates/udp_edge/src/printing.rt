@@ -1,7 +1,8 @@
-ghost use Rattle.std.specs.Prelude.{◌≡◌, ◌⊎◌, ℕ, List, OnOk, OnErr, IfErr, IfOk};
-ghost use Rattle.std.specs.Io.KnownBytes.{Appends};
-ghost use Rattle.cluster_run.specs.Runs.{IsRun, RefusesRun};
-ghost use Rattle.xid.specs.declared.refusals.Refusal.TheVariants.{NoMemory, FileFault};
+ghost use Rattle.std.specs.Prelude.{◌≡◌, ◌⊎◌, OnOk, IfErr};
+ghost use Rattle.std.specs.Io.KnownBytes.{Appends, Keeps};
+ghost use Rattle.cluster_run.specs.Runs.{RefusesRun};
+ghost use Rattle.udp_edge.specs.Printing.{PrintsRun, PrintsRunOf, IsFileRefusal, refusal_line};
+ghost use Rattle.udp_edge.specs.CommandLines.{status_of};
 
 use crate::command::{Rejected, Subcommand, action};
 use cluster_run::run;
@@ -15,6 +16,13 @@ use xid::Refusal;
 /// The line for a command line that is refused.
 const USAGE: &str = "pcommit: usage: pcommit run FILE | udp FILE DIR | audit FILE\n";
 
+/// The exit status where a command line is carried out.
+pub const DONE: u8 = 0;
+/// The exit status where the command line is refused.
+pub const MISUSED: u8 = 2;
+/// The exit status for any refusal.
+pub const REFUSED: u8 = 3;
+
 /// Carries out a command line, the program's own name first, and gives the exit status: 0; 2 where the command line is
 /// refused, after the usage line on `err`; 3 for any refusal, after its line on `err`.
 pub fn program<R: Files + Alloc<A = Global>, S: AsStr, W: Write, E: Write>(
@@ -22,27 +30,49 @@ pub fn program<R: Files + Alloc<A = Global>, S: AsStr, W: Write, E: Write>(
     words: &[S],
     out: &mut W,
     err: &mut E,
-) -> u8 {
+) -> u8
+    ensures status { (result ≡ 0) ⊎ (result ≡ 2) ⊎ (result ≡ 3) }
+    ensures printed { result ≡ 0 → PrintsRun (W.contents out.old) (W.contents out.new) }
+    ensures silent { result ≡ 2 → Keeps (W.contents out.old) (W.contents out.new) }
+{
     let outcome = match action(rt.alloc(), words) {
         Ok(Subcommand::Run { file }) => run_file(rt, file, out),
-        Err(Rejected::NoMemory) => Err(Refusal::NoMemory),
-        Err(Rejected::Usage) => {
-            let _ = err.write_all(USAGE.as_bytes());
-            return 2;
-        }
+        Err(rejected) => return reject(rejected, err),
     };
     match outcome {
-        Ok(()) => 0,
-        Err(refusal) => refuse(refusal, err),
+        Ok(()) => DONE,
+        Err(refusal) => {
+            let _ = report(refusal, err);
+            REFUSED
+        }
     }
 }
 
-/// Writes the line of a refusal, as `pcommit: refused 16`, and gives its exit status, 3.
-pub fn refuse<E: Write>(refusal: Refusal, err: &mut E) -> u8
-    ensures { result ≡ 3 }
+/// Says why a command line isn't carried out, by the usage line or the line of the refusal, and gives the exit status.
+pub fn reject<E: Write>(rejected: Rejected, err: &mut E) -> u8
+    ensures { result ≡ status_of rejected }
 {
-    let _ = writeln!(err, "pcommit: {refusal}");
-    3
+    match rejected {
+        Rejected::Usage => {
+            let _ = err.write_all(USAGE.as_bytes());
+            MISUSED
+        }
+        Rejected::NoMemory => {
+            let _ = report(Refusal::NoMemory, err);
+            REFUSED
+        }
+    }
+}
+
+/// Writes the line of a refusal, as `pcommit: refused 16`.
+pub fn report<E: Write>(refusal: Refusal, err: &mut E) -> io::Result<()>
+    ensures { OnOk result (Appends (E.contents err.old) (E.contents err.new) (refusal_line refusal)) }
+{
+    // the text that `thiserror` makes of a refusal has no contract
+    match refusal {
+        Refusal::BadScript { line } => writeln!(err, "pcommit: refused 7 line {line}"),
+        other => writeln!(err, "pcommit: refused {}", other.number()),
+    }
 }
 
 /// Prints the trace of a script that a file has.
@@ -50,15 +80,18 @@ fn run_file<R: Files + Alloc<A = Global>, W: Write>(
     rt: &R,
     file: &str,
     out: &mut W,
-) -> Result<(), Refusal> {
+) -> Result<(), Refusal>
+    ensures { OnOk result (PrintsRun (W.contents out.old) (W.contents out.new)) }
+{
     let script = fs::read(rt, file).map_err(file_refusal)?;
     answer_script(rt.alloc(), &script, out)
 }
 
-/// Runs a script and prints its trace. Refused as `run` refuses it, and `FileFault` where the output can't be written.
+/// Runs a script and prints its trace. Refused as `run` refuses it, with nothing printed; and `FileFault`, or want of memory, where the
+/// output can't be written, of which a beginning may stand then.
 pub fn answer_script<W: Write>(alloc: Global, script: &[u8], out: &mut W) -> Result<(), Refusal>
-    ensures ok { OnOk result ((output : List ℕ) × IsRun script.now output × Appends (W.contents out.old) (W.contents out.new) output) }
-    ensures err { IfErr result (λ e. RefusesRun script.now e ⊎ (e ≡ FileFault)) }
+    ensures ok { OnOk result (PrintsRunOf script.now (W.contents out.old) (W.contents out.new)) }
+    ensures err { IfErr result (λ e. (RefusesRun script.now e × Keeps (W.contents out.old) (W.contents out.new)) ⊎ IsFileRefusal e) }
 {
     let output = run(alloc, script)?;
     out.write_all(&output).map_err(file_refusal)?;
@@ -66,7 +99,7 @@ pub fn answer_script<W: Write>(alloc: Global, script: &[u8], out: &mut W) -> Res
 }
 
 fn file_refusal(error: io::Error) -> Refusal
-    ensures { (result ≡ NoMemory) ⊎ (result ≡ FileFault) }
+    ensures { IsFileRefusal result }
 {
     match error.kind() {
         io::ErrorKind::OutOfMemory => Refusal::NoMemory,

@@ -1,0 +1,34 @@
+-- The command line, in the words of clap.
+use Rattle.std.specs.Prelude.{◌≡◌, ℕ, true, codes, List, Some}
+use Rattle.clap.specs.Words.{App, Row, Rule, Text, first_of, new_app, new_rule, subcommand_of, with_rule, with_subcommand}
+use Rattle.clap.specs.declared.builder.ArgAction.TheVariants.{Set}
+use Rattle.udp_edge.specs.declared.command.Rejected.{Rejected}
+use Rattle.udp_edge.specs.declared.command.Rejected.TheVariants.{Usage, NoMemory}
+use Rattle.udp_edge.specs.declared.command.Subcommand.{Subcommand}
+use Rattle.udp_edge.specs.declared.command.Subcommand.TheVariants.{Run}
+
+-- a file, which must be named
+abbrev pub file_rule : Rule
+file_rule = record (new_rule (codes "FILE")) { required = true; action = Some Set }
+
+-- the subcommand `run FILE`
+abbrev pub run_command : App
+run_command = with_rule (new_app (codes "run")) file_rule
+
+-- the program's name, which a subcommand must follow
+abbrev pub program_name : App
+program_name = new_app (codes "pcommit")
+
+-- the command lines of the program
+abbrev pub command_line : App
+command_line = with_subcommand (record program_name { top = record program_name.top { subcommand_required = true } }) run_command.top
+
+-- what the words ask for: of the subcommand `run`, its file
+abbrev pub AsksFor : List Text → Subcommand → Type 0
+AsksFor words (Run file) =
+    (rows : List Row) × (subcommand_of command_line words ≡ Some (codes "run", rows)) × (first_of (codes "FILE") rows ≡ Some file.now)
+
+-- the exit status of a command line that isn't carried out
+abbrev pub status_of : Rejected → ℕ
+status_of Usage = 2
+status_of NoMemory = 3
