@@ -1,12 +1,11 @@
 -- Answering events one after another agrees with looking back over all of them.
-use Rattle.std.proofs.Common.{◌≡◌, ◌≢◌, ◌∙◌, ℕ, ◌<◌, Bool, true, false, cond, ltb, MatchBool, List, [], ◌∷◌, ◌++◌, length, map, get_or, set, Option, Some, None, refl, sym, ap, subst, inl, inr, arith}
-use Rattle.std.specs.List.{All}
-use Rattle.std.proofs.lemmas.Bool.{cases_eq, ltb-true, ltb-false, lt-ltb, le-ltb}
-use Rattle.std.proofs.lemmas.List.{map-set, get_or-map, get_or-set_same, get_or-set_other, get_or_default, set-get_or, length-set, length-map, map_push}
+use Rattle.std.proofs.Common.{◌≡◌, ◌∙◌, ℕ, ◌<◌, Bool, true, false, cond, ltb, MatchBool, List, [], ◌∷◌, ◌++◌, length, map, get_or, set, refl, sym, ap, subst, inl, inr, arith}
+use Rattle.std.proofs.lemmas.Bool.{cases_eq, ltb-true, ltb-false}
+use Rattle.std.proofs.lemmas.List.{map-set, get_or-map, get_or-set_same, get_or-set_other, set-get_or, length-set, length-map, map_push}
 use Rattle.xid.specs.Names.{XidParts, xid_eq}
 use Rattle.xid.specs.declared.refusals.Refusal.TheVariants.{NoSuch}
 use Rattle.protocol.specs.Calls.{Action, Event, Call, Recover, Answer, Refused, Xids, Happened, Row}
-use Rattle.protocol.specs.Branches.{BranchView, SameView, no_branch, Answers, Leaves}
+use Rattle.protocol.specs.Branches.{Answers}
 use Rattle.cluster_run.specs.LookingBack.{calls_on, branches_back}
 use Rattle.cluster_run.proofs.Agreement.{ShowsBack, IsPlain, no_branch-plain, Answers-back, ShowsBack-call, ShowsBack-elsewhere, ShowsBack-recover, ShowsBack-none}
 use Rattle.branch_table.specs.Tables.{BranchParts, TableParts, branch_view, view_at}

@@ -1,5 +1,5 @@
 -- What a script's run is: each answer by looking back over the calls, and the tables at the end.
-use Rattle.std.specs.Prelude.{◌≡◌, ◌⊎◌, ℕ, ◌<◌, Bool, ◌&&◌, ◌||◌, ◌==◌, nat_le, nat_lt, if◌then◌else◌, true, false, MatchBool, List, [], ◌∷◌, length, map, slice_index_or, Result, Ok, Err}
+use Rattle.std.specs.Prelude.{◌≡◌, ◌⊎◌, ℕ, ◌<◌, Bool, ◌&&◌, ◌||◌, ◌==◌, nat_le, nat_lt, if◌then◌else◌, true, false, MatchBool, List, [], ◌∷◌, length, map, slice_index_or}
 use Rattle.xid.specs.declared.refusals.Refusal.{Refusal}
 use Rattle.xid.specs.declared.refusals.Refusal.TheVariants.{NoMemory, NoSuch, BadScript, BadConfig}
 use Rattle.protocol.specs.Calls.{Event, Call, Recover, Answer, Refused, Xids, Happened, Row}

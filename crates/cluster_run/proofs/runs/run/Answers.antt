@@ -1,8 +1,8 @@
-use Rattle.std.proofs.Common.{◌≡◌, ◌∙◌, ℕ, List, [], map, ap, refl, sym, subst, length, arith}
+use Rattle.std.proofs.Common.{◌≡◌, ◌∙◌, List, [], map, ap, refl, sym, subst, length}
 use Rattle.std.proofs.lemmas.List.{length-map}
 use Rattle.std.proofs.lemmas.Result.{IfOk-weaker}
 use Rattle.protocol.specs.Calls.{Row}
-use Rattle.net_script.specs.Values.{script_of, trace_of, table_of, row_of, step_of}
+use Rattle.net_script.specs.Values.{script_of, table_of, row_of, step_of}
 use Rattle.cluster_run.specs.Managers.{AreFirst, rows_of}
 use Rattle.cluster_run.specs.Runs.{AreAnswers}
 use Rattle.cluster_run.proofs.History.{first_tables}

@@ -1,6 +1,5 @@
 use Rattle.std.proofs.Common.{◌≡◌, ◌∙◌, ◌++◌, ◌∷◌, [], List, map, ap, sym, subst}
 use Rattle.std.proofs.lemmas.List.{map_push}
-use Rattle.protocol.specs.Calls.{Event}
 use Rattle.net_script.specs.Values.{StepParts, event_of, answer_of, step_of}
 use Rattle.cluster_run.proofs.History.{IsAfter, after_event, events-push}
 use Rattle.cluster_run.proofs.runs.steps_of.Goals as goal
