@@ -1,6 +1,9 @@
 -- The command line, in the words of clap.
-use Rattle.std.specs.Prelude.{◌≡◌, ℕ, true, codes, List, Some}
-use Rattle.clap.specs.Words.{App, Row, Rule, Text, first_of, new_app, new_rule, subcommand_of, with_rule, with_subcommand}
+use Rattle.std.specs.Prelude.{◌≢◌, ◌⊎◌, ⊤, [], ◌≡◌, ℕ, true, codes, List, Some}
+use Rattle.clap.specs.Words.{App, Row, Rule, Text, fault_of, first_of, new_app, new_rule, subcommand_of, with_rule, with_subcommand}
+use Rattle.std.specs.IoError.{error_kind}
+use Rattle.std.specs.declared.io.Error.{Error}
+use Rattle.std.specs.declared.io.ErrorKind.TheVariants.{OutOfMemory}
 use Rattle.clap.specs.declared.builder.ArgAction.TheVariants.{Set}
 use Rattle.udp_edge.specs.declared.command.Rejected.{Rejected}
 use Rattle.udp_edge.specs.declared.command.Rejected.TheVariants.{Usage, NoMemory}
@@ -23,10 +26,27 @@ program_name = new_app (codes "pcommit")
 abbrev pub command_line : App
 command_line = with_subcommand (record program_name { top = record program_name.top { subcommand_required = true } }) run_command.top
 
--- what the words ask for: of the subcommand `run`, its file
+-- the words name the subcommand `run`, and this path as its file
+abbrev pub IsRunOf : List Text → Text → Type 0
+IsRunOf words path = (rows : List Row) × (subcommand_of command_line words ≡ Some (codes "run", rows)) × (first_of (codes "FILE") rows ≡ Some path)
+
+-- what the words ask for
 abbrev pub AsksFor : List Text → Subcommand → Type 0
-AsksFor words (Run file) =
-    (rows : List Row) × (subcommand_of command_line words ≡ Some (codes "run", rows)) × (first_of (codes "FILE") rows ≡ Some file.now)
+AsksFor words (Run file) = IsRunOf words file.now
+
+-- the words have a fault, or name no subcommand with its file
+abbrev pub IsMisuse : List Text → Type 0
+IsMisuse words = (fault_of command_line words ≢ []) ⊎ ((path : Text) → ¬ IsRunOf words path)
+
+-- why a command line is rejected
+abbrev pub RejectsLine : List Text → Rejected → Type 0
+RejectsLine words Usage = IsMisuse words
+RejectsLine words NoMemory = ⊤
+
+-- an error in the reading of the words is want of memory, or a word that is no text
+abbrev pub RejectsBy : Error → Rejected → Type 0
+RejectsBy error Usage = error_kind error ≢ OutOfMemory
+RejectsBy error NoMemory = error_kind error ≡ OutOfMemory
 
 -- the exit status of a command line that isn't carried out
 abbrev pub status_of : Rejected → ℕ

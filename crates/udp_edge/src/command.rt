@@ -1,5 +1,5 @@
-ghost use Rattle.std.specs.Prelude.{◌≡◌, map, IfOk};
-ghost use Rattle.udp_edge.specs.CommandLines.{AsksFor};
+ghost use Rattle.std.specs.Prelude.{◌≡◌, map, IfOk, IfErr};
+ghost use Rattle.udp_edge.specs.CommandLines.{AsksFor, RejectsLine, RejectsBy};
 ghost use Rattle.udp_edge.specs.declared.command.Rejected.TheVariants.{NoMemory};
 
 use clap::error::ErrorKind;
@@ -44,6 +44,8 @@ impl<T: Drop> From<AllocFailed<T>> for Rejected {
 }
 
 impl From<io::Error> for Rejected {
+    ghost from_gives = { RejectsBy };
+
     fn from(error: io::Error) -> Rejected {
         match error.kind() {
             io::ErrorKind::OutOfMemory => Rejected::NoMemory,
@@ -55,7 +57,8 @@ impl From<io::Error> for Rejected {
 /// Reads a command line, the program's own name first: `run FILE`, as a command of `clap`. Refused for want of memory, and where the
 /// words are none of the program's.
 pub fn action<'a, S: AsStr>(alloc: Global, words: &'a [S]) -> Result<Subcommand<'a>, Rejected>
-    ensures { IfOk result (AsksFor (map S.text words.entry.now)) }
+    ensures ok { IfOk result (AsksFor (map S.text words.entry.now)) }
+    ensures err { IfErr result (RejectsLine (map S.text words.entry.now)) }
 {
     let file = Arg::new(alloc, "FILE")
         .required(true)

@@ -65,7 +65,7 @@ pub fn reject<E: Write>(rejected: Rejected, err: &mut E) -> u8
 }
 
 /// Writes the line of a refusal, as `pcommit: refused 16`.
-pub fn report<E: Write>(refusal: Refusal, err: &mut E) -> io::Result<()>
+fn report<E: Write>(refusal: Refusal, err: &mut E) -> io::Result<()>
     ensures { OnOk result (Appends (E.contents err.old) (E.contents err.new) (refusal_line refusal)) }
 {
     // the text that `thiserror` makes of a refusal has no contract
