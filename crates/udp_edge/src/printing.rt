@@ -1,8 +1,8 @@
-ghost use Rattle.std.specs.Prelude.{◌≡◌, ◌⊎◌, OnOk, IfErr};
+ghost use Rattle.std.specs.Prelude.{◌≡◌, ◌⊎◌, map, OnOk, IfErr};
 ghost use Rattle.std.specs.Io.KnownBytes.{Appends, Keeps};
 ghost use Rattle.cluster_run.specs.Runs.{RefusesRun};
 ghost use Rattle.udp_edge.specs.Printing.{PrintsRun, PrintsRunOf, IsFileRefusal, refusal_line};
-ghost use Rattle.udp_edge.specs.CommandLines.{status_of};
+ghost use Rattle.udp_edge.specs.CommandLines.{IsMisuse, status_of};
 
 use crate::command::{Rejected, Subcommand, action};
 use cluster_run::run;
@@ -33,7 +33,7 @@ pub fn program<R: Files + Alloc<A = Global>, S: AsStr, W: Write, E: Write>(
 ) -> u8
     ensures status { (result ≡ 0) ⊎ (result ≡ 2) ⊎ (result ≡ 3) }
     ensures printed { result ≡ 0 → PrintsRun (W.contents out.old) (W.contents out.new) }
-    ensures silent { result ≡ 2 → Keeps (W.contents out.old) (W.contents out.new) }
+    ensures misused { result ≡ 2 → IsMisuse (map S.text words.now) × Keeps (W.contents out.old) (W.contents out.new) }
 {
     let outcome = match action(rt.alloc(), words) {
         Ok(Subcommand::Run { file }) => run_file(rt, file, out),
