@@ -2,7 +2,7 @@
 SCRIPT ?= examples/first-branch.script
 PREFIX ?= /usr/local
 
-.PHONY: run build try test golden install clean
+.PHONY: run build try test golden scripts install clean
 
 # builds the program and runs it on a script
 run: build
@@ -20,13 +20,17 @@ bin/pcommit: crates.txt $(shell find crates -name out -prune -o -type f -print)
 try:
 	@cd crates/pcommit && rt try --data script=$(abspath $(SCRIPT)) -- run script
 
-# everything: each proof from nothing, the must-fail edits, the tests, the program as two compilers build it, the golden scripts,
-# and a run with each block of memory refused in turn
+# everything: each proof from nothing, the must-fail edits, the tests, the program as two compilers build it, and then, of the program
+# that was built so, the golden scripts and a run with each block of memory refused in turn
 test:
 	rt ci
-	$(MAKE) golden
+	@mkdir -p bin
+	@cp crates/pcommit/out/pcommit bin/pcommit
+	$(MAKE) scripts
 
-golden: build
+golden: build scripts
+
+scripts:
 	tests/run.sh bin/pcommit
 	tests/memory.sh bin/pcommit
 
