@@ -24,7 +24,8 @@ pub const MISUSED: u8 = 2;
 pub const REFUSED: u8 = 3;
 
 /// Carries out a command line, the program's own name first, and gives the exit status: 0; 2 where the command line is
-/// refused, after the usage line on `err`; 3 for any refusal, after its line on `err`.
+/// refused, after the usage line on `err`; 3 for any refusal, after its line on `err`. `out` has the whole trace with 0, nothing
+/// new with 2, and with 3 a beginning of the trace at most, where it couldn't be written.
 pub fn program<R: Files + Alloc<A = Global>, S: AsStr, W: Write, E: Write>(
     rt: &R,
     words: &[S],

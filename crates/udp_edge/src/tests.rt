@@ -1,5 +1,6 @@
 use super::*;
 use std::test::Fail;
+use xid::Refusal;
 
 #[test]
 fn lines(rt: HostRuntime) -> Result<(), Fail> {
@@ -20,5 +21,45 @@ fn lines(rt: HostRuntime) -> Result<(), Fail> {
     ] {
         assert!(rt; action(alloc, words) == Err(Rejected::Usage));
     }
+    Ok(())
+}
+
+const SIZES: &[u8] = b"cluster acceptors 1 leaders 1 rms 1\n";
+
+#[test]
+fn a_run_is_printed_whole_or_not_at_all(rt: HostRuntime) -> Result<(), Fail> {
+    let alloc = rt.alloc();
+    let mut out = Vec::new(alloc);
+    answer_script(alloc, SIZES, &mut out)?;
+    assert_eq!(rt;
+        out.as_slice(),
+        b"cluster acceptors 1 leaders 1 rms 1\nfinal r0\n".as_slice()
+    );
+    let mut nothing = Vec::new(alloc);
+    assert!(rt;
+        answer_script(alloc, b"stop r0", &mut nothing) == Err(Refusal::BadScript { line: 1 })
+    );
+    assert!(rt; nothing.is_empty());
+    Ok(())
+}
+
+#[test]
+fn refusals_have_their_lines(rt: HostRuntime) -> Result<(), Fail> {
+    let alloc = rt.alloc();
+    let mut out = Vec::new(alloc);
+    let mut err = Vec::new(alloc);
+    let words = ["pcommit", "run", "no such folder/no such file"];
+    assert_eq!(rt; program(&rt, words.as_slice(), &mut out, &mut err), REFUSED);
+    assert_eq!(rt; err.as_slice(), b"pcommit: refused 16\n".as_slice());
+    let mut usage = Vec::new(alloc);
+    assert_eq!(rt;
+        program(&rt, ["pcommit"].as_slice(), &mut out, &mut usage),
+        MISUSED
+    );
+    assert!(rt; usage.starts_with(b"pcommit: usage: "));
+    let mut wanting = Vec::new(alloc);
+    assert_eq!(rt; reject(Rejected::NoMemory, &mut wanting), REFUSED);
+    assert_eq!(rt; wanting.as_slice(), b"pcommit: refused 11\n".as_slice());
+    assert!(rt; out.is_empty());
     Ok(())
 }
