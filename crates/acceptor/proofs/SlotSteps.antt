@@ -7,7 +7,8 @@ use Rattle.xid.specs.Transactions.{TxParts}
 use Rattle.wire.specs.Messages.{IsReport}
 use Rattle.ballot.specs.declared.slot.Slot.{Slot}
 use Rattle.stable_record.specs.Facts.{Fact}
-use Rattle.protocol.specs.Facts.{tx_eq, instance_eq, greatest, ballot_joined, accepted_by}
+use Rattle.xid.specs.Rows.{tx_eq}
+use Rattle.protocol.specs.Facts.{instance_eq, greatest, ballot_joined, accepted_by}
 use Rattle.protocol.proofs.Same.{tx_eq-same, tx_eq-is}
 
 -- ---- the test of two instances

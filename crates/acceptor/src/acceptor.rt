@@ -1,9 +1,8 @@
 ghost use Rattle.std.specs.Prelude.{◌≡◌, ℕ, ◌<◌, [], true, IfSome};
 ghost use Rattle.wire.specs.Messages.{IsMessage};
 ghost use Rattle.wire.specs.declared.message.Kind.TheVariants.{P1a, P2a};
-ghost use Rattle.protocol.specs.Acceptors.{on_1a, on_2a, acceptor_takes};
+ghost use Rattle.protocol.specs.Acceptors.{on_1a, on_2a, acceptor_takes, plays_at_acceptor};
 ghost use Rattle.protocol.specs.Effects.{Config};
-ghost use Rattle.protocol.specs.Playing.{plays_at_acceptor};
 ghost use Rattle.acceptor.specs.Acceptors.{with_fact};
 ghost use Rattle.acceptor.specs.Decisions.{effect_of};
 ghost use Rattle.acceptor.specs.Shape.{IsMadeReady, IsPlayed};

@@ -1,7 +1,6 @@
 ghost use Rattle.std.specs.Prelude.{◌≡◌, ℕ, ◌<◌};
-ghost use Rattle.protocol.specs.Acceptors.{is_accepted as is_accepted_lem};
+ghost use Rattle.protocol.specs.Acceptors.{is_accepted as is_accepted_lem, plays_at_acceptor};
 ghost use Rattle.protocol.specs.Facts.{instance_eq, slot};
-ghost use Rattle.protocol.specs.Playing.{plays_at_acceptor};
 ghost use Rattle.stable_record.specs.Facts.{Promise, Accept};
 ghost use Rattle.wire.specs.Messages.{IsReport};
 ghost use Rattle.acceptor.specs.Slots.{after_fact};

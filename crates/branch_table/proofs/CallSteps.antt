@@ -1,5 +1,5 @@
 -- What each call meets and leaves, exit by exit.
-use Rattle.std.proofs.Common.{◌≡◌, ◌≢◌, ◌∙◌, ℕ, ◌<◌, Bool, true, false, ◌||◌, cond, ltb, List, [], ◌∷◌, ◌++◌, length, get_or, set, remove, Option, Some, None, Ok, Err, refl, sym, ap, subst, Decides}
+use Rattle.std.proofs.Common.{◌≡◌, ◌≢◌, ◌∙◌, ℕ, ◌<◌, Bool, true, false, ◌||◌, cond, ltb, List, [], ◌∷◌, ◌++◌, length, get_or, set, remove, Option, Some, None, Ok, Err, refl, sym, ap, subst, Decides, unwrap_or}
 use Rattle.std.specs.List.{list_any}
 use Rattle.std.specs.Option.{is_some}
 use Rattle.std.proofs.lemmas.List.{get_or_default}
@@ -11,7 +11,8 @@ use Rattle.xid.proofs.XidLaws.{xid_eq-same}
 use Rattle.protocol.specs.declared.BranchState.{BranchState}
 use Rattle.protocol.specs.declared.BranchState.TheVariants.{Active, Idle, RollbackOnly, Prepared}
 use Rattle.protocol.specs.Calls.{Action, Start, Put, Del, Get, End, EndFail, Rollback, Answer, Code, Refused, Row}
-use Rattle.protocol.specs.Branches.{BranchView, SameView, no_branch, key_of, answer_of, touch_answer, is_done, after, Leaves, by_state, rollback_answer, touch, done_view, most_keys, found, read_of, over_table, row_at}
+use Rattle.protocol.specs.Branches.{BranchView, no_branch, key_of, answer_of, touch_answer, is_done, by_state, rollback_answer, most_keys, found, read_of, row_at}
+use Rattle.branch_table.specs.OneCall.{SameView, after, Leaves, touch, done_view}
 use Rattle.branch_table.specs.Tables.{BranchParts, TableParts, branch_view, view_at, are_distinct, is_active, is_ended, holds, has_key, written_in, Steps, done}
 use Rattle.branch_table.specs.declared.table.Ending.{Ending}
 use Rattle.branch_table.specs.declared.table.Ending.TheVariants as ending
@@ -301,6 +302,6 @@ found_done key (Some bytes) = refl
 found_done key None = refl
 
 pub read_answer : (rows : List Row) (bs : List BranchParts) (x : XidParts) (key : List ℕ) (at : ℕ) (b : BranchParts) (answer : Answer) → place_in bs x ≡ Some at → b ≡ get_or bs at b
-    → answer ≡ found (over_table (written_in b.touched key) (row_at rows key)) → found (read_of rows (view_at bs x) key) ≡ answer
+    → answer ≡ found (unwrap_or (written_in b.touched key) (row_at rows key)) → found (read_of rows (view_at bs x) key) ≡ answer
 read_answer rows bs x key at b answer place read answer-is =
     ap (λ (v : BranchView). found (read_of rows v key)) (shows_at bs x at b place read) ∙ sym answer-is

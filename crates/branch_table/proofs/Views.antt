@@ -6,7 +6,8 @@ use Rattle.std.proofs.lemmas.Bool.{false≢true}
 use Rattle.xid.specs.Names.{XidParts, xid_eq}
 use Rattle.xid.proofs.Texts.{both_true, first_true, second_true}
 use Rattle.xid.proofs.XidLaws.{xid_eq-same, xid_eq-is, xid_eq-other, xid_eq-apart}
-use Rattle.protocol.specs.Branches.{BranchView, SameView, no_branch, touch, IsHeld}
+use Rattle.protocol.specs.Branches.{BranchView, no_branch}
+use Rattle.branch_table.specs.OneCall.{SameView, touch, IsHeld}
 use Rattle.branch_table.specs.Tables.{BranchParts, branch_view, view_at, are_distinct, TouchedParts, has_key, written_in, holds}
 use Rattle.branch_table.specs.Touching.{newer, touch_in}
 use Rattle.std.proofs.lemmas.Slice.Eq.{bytes_eq-Decides}

@@ -1,3 +1,4 @@
+pub mod OneCall
 pub mod Tables
 pub mod Touching
 pub mod Rows

@@ -11,7 +11,8 @@ use Rattle.protocol.specs.declared.BranchState.TheVariants.{Idle, RollbackOnly}
 use Rattle.xid.specs.declared.refusals.Refusal.{Refusal}
 use Rattle.xid.specs.declared.refusals.Refusal.TheVariants.{Busy, Full}
 use Rattle.protocol.specs.Calls.{Action, End, EndFail, Answer, Code, Value, NoValue, Refused}
-use Rattle.protocol.specs.Branches.{touch_answer, IsHeld}
+use Rattle.protocol.specs.Branches.{touch_answer}
+use Rattle.branch_table.specs.OneCall.{IsHeld}
 use Rattle.branch_table.specs.Tables.{BranchParts, view_at}
 use Rattle.branch_table.specs.declared.table.Denied.{Denied}
 use Rattle.branch_table.specs.declared.table.Denied.TheVariants as denied

@@ -7,7 +7,8 @@ use Rattle.xid.specs.declared.refusals.Refusal.TheVariants.{NoMemory}
 use Rattle.protocol.specs.declared.BranchState.{BranchState}
 use Rattle.protocol.specs.declared.BranchState.TheVariants.{Active, Idle, RollbackOnly, Prepared}
 use Rattle.protocol.specs.Calls.{Action, Answer, Refused, Row}
-use Rattle.protocol.specs.Branches.{BranchView, no_branch, Answers, Leaves}
+use Rattle.protocol.specs.Branches.{BranchView, no_branch}
+use Rattle.branch_table.specs.OneCall.{Answers, Leaves}
 
 -- a key that a branch has touched, with its last write of it: none where it only read the key, else the new value or none
 pub record TouchedParts : Type 0 where

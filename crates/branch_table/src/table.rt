@@ -1,8 +1,8 @@
-ghost use Rattle.std.specs.Prelude.{◌≡◌, ◌≤◌, ◌<◌, ℕ, Option, Some, None, Result, Ok, Err, List, [], IfOk, IfErr, OnOk, IsTrue, length, MatchOption, true, ◌||◌, ◌&&◌, nat_lt, vec_len};
+ghost use Rattle.std.specs.Prelude.{◌≡◌, ◌≤◌, ◌<◌, ℕ, Option, Some, None, Result, Ok, Err, List, [], IfOk, IfErr, OnOk, IsTrue, length, MatchOption, true, ◌||◌, ◌&&◌, nat_lt, vec_len, unwrap_or};
 ghost use Rattle.std.specs.List.{list_any};
 ghost use Rattle.xid.specs.declared.refusals.Refusal.TheVariants.{NoMemory};
 ghost use Rattle.protocol.specs.Calls.{Start, Put, Del, Get, Rollback, Code, Value, NoValue};
-ghost use Rattle.protocol.specs.Branches.{key_fits as key_fits_lem, value_fits as value_fits_lem, most_keys, found, over_table, row_at};
+ghost use Rattle.protocol.specs.Branches.{key_fits as key_fits_lem, value_fits as value_fits_lem, most_keys, found, row_at};
 ghost use Rattle.branch_table.specs.Tables.{TableParts, Steps, view_at, BranchParts, are_distinct, has_key, holds, written_in};
 ghost use Rattle.branch_table.specs.Limits.{code_answer, reading_answer, end_action, end_state, end_code, place_in, denied_answer, Admits, Touches};
 ghost use Rattle.branch_table.specs.Touching.{write_of_act};
@@ -258,7 +258,7 @@ fn touch_at(
 
 /// What a branch reads at a key.
 fn read(alloc: Global, rows: &[Row], branch: &Branch, key: &[u8]) -> Result<Reading, Refusal>
-    ensures ok { IfOk result (λ reading. reading_answer (Ok reading) ≡ found (over_table (written_in branch.now.touched key.now) (row_at rows.now key.now))) }
+    ensures ok { IfOk result (λ reading. reading_answer (Ok reading) ≡ found (unwrap_or (written_in branch.now.touched key.now) (row_at rows.now key.now))) }
     ensures err { IfErr result (λ e. e ≡ NoMemory) }
 {
     match branch.written(key) {

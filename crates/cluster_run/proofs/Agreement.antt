@@ -12,8 +12,10 @@ use Rattle.xid.specs.declared.codes.XaCode.TheVariants as code
 use Rattle.xid.proofs.XidLaws.{xid_eq-is, xid_eq-apart}
 use Rattle.protocol.specs.declared.BranchState.{BranchState}
 use Rattle.protocol.specs.declared.BranchState.TheVariants.{Active, Idle, RollbackOnly, Prepared}
-use Rattle.protocol.specs.Calls.{Action, Start, Put, Del, Get, End, EndFail, Rollback, Call, Recover, Answer, Code, Happened, Row}
-use Rattle.protocol.specs.Branches.{BranchView, no_branch, SameView, key_of, by_state, answer_of, Answers, is_done, done_view, after, Leaves}
+use Rattle.protocol.specs.Calls.{Action, Start, Put, Del, Get, End, EndFail, Rollback, Call, Recover, Answer, Code, Row}
+use Rattle.cluster_run.specs.LookingBack.{Happened}
+use Rattle.protocol.specs.Branches.{BranchView, no_branch, key_of, by_state, answer_of, is_done}
+use Rattle.branch_table.specs.OneCall.{SameView, Answers, done_view, after, Leaves}
 use Rattle.cluster_run.specs.LookingBack.{Answered, was_done, is_start, is_end, is_end_fail, is_rollback, some_done, since_rollback, state_back, keys_touched, distinct, Write, write_of, accepted_writes, last_write, looked_back, calls_on, branches_back}
 
 -- ---- views that show the same

@@ -4,9 +4,9 @@ use Rattle.std.proofs.lemmas.Bool.{cases_eq, ltb-true, ltb-false}
 use Rattle.std.proofs.lemmas.List.{map-set, get_or-map, get_or-set_same, get_or-set_other, set-get_or, length-set, length-map, map_push}
 use Rattle.xid.specs.Names.{XidParts, xid_eq}
 use Rattle.xid.specs.declared.refusals.Refusal.TheVariants.{NoSuch}
-use Rattle.protocol.specs.Calls.{Action, Event, Call, Recover, Answer, Refused, Xids, Happened, Row}
-use Rattle.protocol.specs.Branches.{Answers}
-use Rattle.cluster_run.specs.LookingBack.{calls_on, branches_back}
+use Rattle.protocol.specs.Calls.{Action, Event, Call, Recover, Answer, Refused, Xids, Row}
+use Rattle.cluster_run.specs.LookingBack.{Happened, calls_on, branches_back}
+use Rattle.branch_table.specs.OneCall.{Answers}
 use Rattle.cluster_run.proofs.Agreement.{ShowsBack, IsPlain, no_branch-plain, Answers-back, ShowsBack-call, ShowsBack-elsewhere, ShowsBack-recover, ShowsBack-none}
 use Rattle.branch_table.specs.Tables.{BranchParts, TableParts, branch_view, view_at}
 use Rattle.net_script.specs.Values.{StepParts}

@@ -7,8 +7,13 @@ use Rattle.std.specs.Str.{bytes_eq}
 use Rattle.xid.specs.Names.{XidParts, xid_eq}
 use Rattle.protocol.specs.declared.BranchState.{BranchState}
 use Rattle.protocol.specs.declared.BranchState.TheVariants.{Active, Idle, RollbackOnly}
-use Rattle.protocol.specs.Calls.{Action, Start, Put, Del, End, EndFail, Rollback, Event, Call, Recover, Answer, Happened}
+use Rattle.protocol.specs.Calls.{Action, Start, Put, Del, End, EndFail, Rollback, Event, Call, Recover, Answer}
 use Rattle.protocol.specs.Branches.{BranchView, is_done, key_of}
+
+-- an event and its answer
+pub record Happened : Type 0 where
+  pub event : Event
+  pub answer : Answer
 
 -- a call on some branch, with its answer
 pub record Answered : Type 0 where

@@ -4,7 +4,7 @@ use Rattle.std.specs.List.{All}
 use Rattle.xid.specs.Names.{XidParts}
 use Rattle.xid.specs.declared.refusals.Refusal.TheVariants.{NoSuch}
 use Rattle.protocol.specs.Calls.{Action, Event, Call, Recover, Answer, Refused, Xids, Row}
-use Rattle.protocol.specs.Branches.{Answers, Leaves}
+use Rattle.branch_table.specs.OneCall.{Answers, Leaves}
 use Rattle.branch_table.specs.Tables.{TableParts, view_at}
 use Rattle.branch_table.specs.Rows.{IsTable}
 use Rattle.net_script.specs.Values as script

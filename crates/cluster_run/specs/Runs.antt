@@ -2,9 +2,9 @@
 use Rattle.std.specs.Prelude.{◌≡◌, ◌⊎◌, ℕ, ◌<◌, Bool, ◌&&◌, ◌||◌, ◌==◌, nat_le, nat_lt, if◌then◌else◌, true, false, MatchBool, List, [], ◌∷◌, length, map, slice_index_or}
 use Rattle.xid.specs.declared.refusals.Refusal.{Refusal}
 use Rattle.xid.specs.declared.refusals.Refusal.TheVariants.{NoMemory, NoSuch, BadScript, BadConfig}
-use Rattle.protocol.specs.Calls.{Event, Call, Recover, Answer, Refused, Xids, Happened, Row}
-use Rattle.protocol.specs.Branches.{Answers}
-use Rattle.cluster_run.specs.LookingBack.{branches_back}
+use Rattle.protocol.specs.Calls.{Event, Call, Recover, Answer, Refused, Xids, Row}
+use Rattle.cluster_run.specs.LookingBack.{Happened, branches_back}
+use Rattle.branch_table.specs.OneCall.{Answers}
 use Rattle.branch_table.specs.Rows.{IsTable}
 use Rattle.net_script.specs.declared.values.Sizes.{Sizes}
 use Rattle.net_script.specs.Values.{TableParts, ScriptParts, StepParts, TraceParts}

@@ -10,6 +10,3 @@ pub mod BallotsAfterRestart
 pub mod BeforeVote
 pub mod FindsPrepared
 pub mod Same
-pub mod Standing
-pub mod ViewLaws
-pub mod SlotLaws

@@ -11,7 +11,7 @@ use Rattle.std.specs.List.{range_with_len}
 use Rattle.protocol.specs.Calls.{Code, Action, Start, Put, Del, Get, End, EndFail, Rollback, Row}
 use Rattle.protocol.specs.Effects.{Config, Reply, Called}
 use Rattle.protocol.specs.Nodes.{Well}
-use Rattle.protocol.specs.Worlds.{Event, Client, CommitOf, Deliver, Fated, World, Datagram, Happening, Change, opening, trace, world_after, happens, tables_of}
+use Rattle.protocol.specs.Worlds.{Event, Client, CommitOf, Deliver, Fated, World, Datagram, Happening, Change, opening, trace, world_after, happens, table_at}
 
 -- 1:74:61, 1:74:62, 1:75:61
 abbrev pub x : XidParts
@@ -60,7 +60,7 @@ abbrev pub replies : Config → List Event → List Reply
 replies config events = map (λ happening. happening.reply) (trace config (opening config) (map well events))
 
 abbrev pub tables : Config → List Event → List (List Row)
-tables config events = tables_of config (run config events)
+tables config events = map (table_at config (run config events)) (range_with_len 0 config.managers)
 
 -- datagrams delivered, from one number on
 abbrev pub deliveries : ℕ → ℕ → List Event

@@ -1,15 +1,7 @@
 -- What a rule answers: a reply, at most one fact to store, messages to send, and what it leaves in memory.
 use Rattle.std.specs.Prelude.{ℕ, Bool, nat_lt, List, [], ◌∷◌, map, Option, Some, None}
-use Rattle.std.specs.List.{list_all, range_with_len}
-use Rattle.xid.specs.Transactions.{TxParts, participants}
-use Rattle.xid.specs.declared.refusals.Refusal.{Refusal}
-use Rattle.wire.specs.declared.message.Kind.{Kind}
-use Rattle.stable_record.specs.Facts.{Fact}
+use Rattle.protocol.specs.Basics.{list_all, range_with_len, TxParts, participants, Refusal, Kind, Fact, NodeId, A, L, R, Status, View}
 use Rattle.protocol.specs.Calls.{Answer, Row}
-use Rattle.protocol.specs.declared.NodeId.{NodeId}
-use Rattle.protocol.specs.declared.NodeId.TheVariants.{A, L, R}
-use Rattle.protocol.specs.declared.View.{View}
-use Rattle.protocol.specs.declared.Status.{Status}
 
 -- the sizes of a cluster, and the first contents of its tables
 pub record Config : Type 0 where
@@ -18,13 +10,11 @@ pub record Config : Type 0 where
   pub managers : ℕ
   pub tables : List (List Row)
 
--- what an event is answered
+-- what an event is answered: ok, the answer of a client call on a branch, where a resource manager stands in a transaction, what
+-- a leader knows of one, or a refusal
 pub data Reply : Type 0 where
-  -- ok
   Done : Reply
-  -- a client call on a branch
   Called : (answer : Answer) → Reply
-  -- where a resource manager stands in a transaction, and what a leader knows of one
   Shows : (view : View) → Reply
   Stands : (status : Status) → Reply
   Refuses : (refusal : Refusal) → Reply
@@ -32,9 +22,7 @@ pub data Reply : Type 0 where
 -- whom a message is for: one node, or each acceptor, each leader, each resource manager of its transaction
 pub data Address : Type 0 where
   ToNode : (node : NodeId) → Address
-  ToAcceptors : Address
-  ToLeaders : Address
-  ToManagers : Address
+  ToAcceptors ToLeaders ToManagers : Address
 
 -- a message and whom it is for
 pub record Send : Type 0 where

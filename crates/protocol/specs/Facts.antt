@@ -1,24 +1,7 @@
--- What the facts of a record say of acceptors' slots, leaders' ballots and resource managers' views. A list of facts has the
--- oldest first, as they were stored.
-use Rattle.std.specs.Prelude.{ℕ, max, Bool, true, false, not, ◌&&◌, ◌||◌, ◌==◌, if◌then◌else◌, List, [], ◌∷◌, Option, Some, None, filter, filter_map}
-use Rattle.std.specs.List.{list_any, last_or}
-use Rattle.std.specs.Str.{bytes_eq}
-use Rattle.std.specs.Cmp.Lexicographic.{pointwise}
-use Rattle.xid.specs.Names.{XidParts, xid_eq}
-use Rattle.xid.specs.Rows.{branch_eq}
-use Rattle.xid.specs.Transactions.{TxParts, xid_at}
-use Rattle.xid.specs.declared.transaction.Vote.{Vote}
-use Rattle.xid.specs.declared.transaction.Vote.TheVariants as votes
-use Rattle.ballot.specs.declared.slot.Slot.{Slot}
-use Rattle.ballot.specs.Choice.{Report, is_prepared}
-use Rattle.stable_record.specs.Facts.{Fact, Touched, tx_of}
-use Rattle.stable_record.specs.Facts as stored
-use Rattle.protocol.specs.declared.View.{View}
-use Rattle.protocol.specs.declared.View.TheVariants as views
-
--- whether two transactions are the same: the whole values
-abbrev pub tx_eq : TxParts → TxParts → Bool
-tx_eq x y = (x.format == y.format) && bytes_eq x.gtrid y.gtrid && pointwise branch_eq x.branches y.branches
+-- What the facts of a record say of acceptors' slots, leaders' ballots and resource managers' views (Gray and Lamport, "Consensus
+-- on Transaction Commit", ACM TODS 31(1), 2006, section 4). A list of facts has the oldest first, as they were stored.
+use Rattle.std.specs.Prelude.{ℕ, max, Bool, true, false, not, ◌&&◌, ◌||◌, ◌==◌, if◌then◌else◌, List, [], ◌∷◌, filter, filter_map, Option, Some, None}
+use Rattle.protocol.specs.Basics.{list_any, last_or, XidParts, xid_eq, tx_eq, TxParts, xid_at, Vote, Fact, Touched, fact_tx, Report, is_prepared, Slot, View}
 
 -- whether two instances of transactions are the same
 abbrev pub instance_eq : TxParts → ℕ → TxParts → ℕ → Bool
@@ -29,17 +12,15 @@ abbrev pub greatest : List ℕ → ℕ
 greatest [] = 0
 greatest (n ∷ ns) = max n (greatest ns)
 
--- ---- acceptors (Gray and Lamport, section 4.1)
-
 -- the ballot of an instance in which a fact has the acceptor take part
 abbrev pub ballot_joined : TxParts → ℕ → Fact → Option ℕ
-ballot_joined tx i (stored.Promise other j b) = if instance_eq tx i other j then Some b else None
-ballot_joined tx i (stored.Accept other j b v) = if instance_eq tx i other j then Some b else None
+ballot_joined tx i (Fact.Promise other j b) = if instance_eq tx i other j then Some b else None
+ballot_joined tx i (Fact.Accept other j b v) = if instance_eq tx i other j then Some b else None
 ballot_joined tx i fact = None
 
 -- what a fact has the acceptor accept of an instance
 abbrev pub accepted_by : TxParts → ℕ → Fact → Report
-accepted_by tx i (stored.Accept other j b v) = if instance_eq tx i other j then Some (b, v) else None
+accepted_by tx i (Fact.Accept other j b v) = if instance_eq tx i other j then Some (b, v) else None
 accepted_by tx i fact = None
 
 -- an acceptor's slot of an instance: the greatest ballot in which it took part, and what it accepted last
@@ -51,47 +32,39 @@ slot facts tx i = record {
 
 -- whether two votes are the same
 abbrev pub vote_eq : Vote → Vote → Bool
-vote_eq votes.Prepared v = is_prepared v
-vote_eq votes.Aborted v = not (is_prepared v)
-
--- ---- leaders
+vote_eq Vote.Prepared v = is_prepared v
+vote_eq Vote.Aborted v = not (is_prepared v)
 
 -- the ballot of a transaction that a fact has the leader begin
 abbrev pub ballot_begun : TxParts → Fact → Option ℕ
-ballot_begun tx (stored.Ballot other b) = if tx_eq tx other then Some b else None
+ballot_begun tx (Fact.Ballot other b) = if tx_eq tx other then Some b else None
 ballot_begun tx fact = None
 
 -- the greatest ballot that the leader began for a transaction, 0 where there is none
 abbrev pub last_ballot : List Fact → TxParts → ℕ
 last_ballot facts tx = greatest (filter_map (ballot_begun tx) facts)
 
--- whether a fact is about a transaction
-abbrev pub is_about : TxParts → Fact → Bool
-is_about tx fact = tx_eq tx (tx_of fact)
-
--- ---- resource managers (section 4.2)
-
 -- whether a fact stores a vote on a transaction
 abbrev pub casts : TxParts → Vote → Fact → Bool
-casts tx votes.Prepared (stored.VotePrepared other keys) = tx_eq tx other
-casts tx votes.Aborted (stored.VoteAborted other) = tx_eq tx other
+casts tx Vote.Prepared (Fact.VotePrepared other keys) = tx_eq tx other
+casts tx Vote.Aborted (Fact.VoteAborted other) = tx_eq tx other
 casts tx vote fact = false
 
 -- the stored vote on a transaction
 abbrev pub vote_in : List Fact → TxParts → Option Vote
 vote_in facts tx =
-    if list_any (casts tx votes.Prepared) facts then Some votes.Prepared
-    else if list_any (casts tx votes.Aborted) facts then Some votes.Aborted
+    if list_any (casts tx Vote.Prepared) facts then Some Vote.Prepared
+    else if list_any (casts tx Vote.Aborted) facts then Some Vote.Aborted
     else None
 
 -- whether a fact stores that a transaction is committed
 abbrev pub commits : TxParts → Fact → Bool
-commits tx (stored.Committed other) = tx_eq tx other
+commits tx (Fact.Committed other) = tx_eq tx other
 commits tx fact = false
 
 -- whether a fact stores that a transaction is aborted
 abbrev pub aborts : TxParts → Fact → Bool
-aborts tx (stored.Aborted other) = tx_eq tx other
+aborts tx (Fact.Aborted other) = tx_eq tx other
 aborts tx fact = false
 
 -- whether an outcome of a transaction is stored
@@ -102,30 +75,25 @@ is_ended facts tx = list_any (commits tx) facts || list_any (aborts tx) facts
 -- stands, prepared where a vote prepared stands, else working
 abbrev pub view : List Fact → TxParts → View
 view facts tx =
-    if list_any (casts tx votes.Aborted) facts || list_any (aborts tx) facts then views.Aborted
-    else if list_any (commits tx) facts then views.Committed
-    else if list_any (casts tx votes.Prepared) facts then views.Prepared
-    else views.Working
+    if list_any (casts tx Vote.Aborted) facts || list_any (aborts tx) facts then View.Aborted
+    else if list_any (commits tx) facts then View.Committed
+    else if list_any (casts tx Vote.Prepared) facts then View.Prepared
+    else View.Working
 
 -- whether a view is prepared
 abbrev pub is_prepared_view : View → Bool
-is_prepared_view views.Prepared = true
+is_prepared_view View.Prepared = true
 is_prepared_view other = false
 
 -- working or prepared
 abbrev pub is_open_view : View → Bool
-is_open_view views.Working = true
-is_open_view views.Prepared = true
+is_open_view View.Working = true
+is_open_view View.Prepared = true
 is_open_view other = false
-
--- whether a name is there, and is this one
-abbrev pub is_xid : XidParts → Option XidParts → Bool
-is_xid x None = false
-is_xid x (Some y) = xid_eq x y
 
 -- a name is spent at manager rm once a vote or an outcome is stored of some transaction that has it there
 abbrev pub is_spent : ℕ → List Fact → XidParts → Bool
-is_spent rm facts x = list_any (λ fact. is_xid x (xid_at (tx_of fact) rm)) facts
+is_spent rm facts x = list_any (xid_eq x) (filter_map (λ fact. xid_at (fact_tx fact) rm) facts)
 
 -- a prepared branch: the transaction that it is bound to, and its touched keys
 pub record Bound : Type 0 where
@@ -134,7 +102,7 @@ pub record Bound : Type 0 where
 
 -- the branch that a prepared vote binds
 abbrev pub bound_by : Fact → Option Bound
-bound_by (stored.VotePrepared tx keys) = Some (record { tx = tx; keys = keys })
+bound_by (Fact.VotePrepared tx keys) = Some (record { tx = tx; keys = keys })
 bound_by fact = None
 
 -- the prepared branches

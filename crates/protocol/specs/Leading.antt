@@ -1,20 +1,8 @@
 -- What a leader has since its last restart, and what follows from it.
 -- Gray and Lamport, "Consensus on Transaction Commit", ACM TODS 31(1), 2006, section 4.
-use Rattle.std.specs.Prelude.{ℕ, Bool, true, false, not, ◌&&◌, ◌||◌, ◌==◌, if◌then◌else◌, List, [], ◌∷◌, Option, Some, None, filter, filter_map, find}
-use Rattle.std.specs.List.{list_any, list_all}
-use Rattle.std.specs.Option.{option_map}
-use Rattle.xid.specs.Transactions.{TxParts, participants}
-use Rattle.xid.specs.declared.transaction.Vote.{Vote}
-use Rattle.xid.specs.declared.transaction.Vote.TheVariants as votes
-use Rattle.wire.specs.declared.message.Kind.{Kind}
-use Rattle.wire.specs.declared.message.Kind.TheVariants.{P1b, P2a, P2b}
-use Rattle.wire.specs.Messages.{tx_of}
-use Rattle.ballot.specs.Choice.{Report, pick}
-use Rattle.ballot.specs.Majority.{is_majority}
-use Rattle.stable_record.specs.Facts.{Fact}
-use Rattle.protocol.specs.Facts.{tx_eq, instance_eq, vote_eq, is_about}
-use Rattle.protocol.specs.declared.Status.{Status}
-use Rattle.protocol.specs.declared.Status.TheVariants as statuses
+use Rattle.std.specs.Prelude.{ℕ, Bool, true, false, not, ◌&&◌, ◌||◌, ◌==◌, if◌then◌else◌, List, [], ◌∷◌, filter, filter_map, find, Option, Some, None}
+use Rattle.protocol.specs.Basics.{list_any, list_all, option_map, tx_eq, TxParts, participants, Vote, message_tx, Kind, P1b, P2a, P2b, Fact, fact_tx, Report, pick, is_majority, Status}
+use Rattle.protocol.specs.Facts.{instance_eq, vote_eq}
 
 -- a ballot begun for a transaction
 pub record Begun : Type 0 where
@@ -36,8 +24,6 @@ nothing_heard = record { heard = []; begun = []; proposed = []; met = [] }
 -- the current ballot of a transaction: the last that was begun
 abbrev pub current : Leading → TxParts → Option ℕ
 current leading tx = option_map (λ begun. begun.ballot) (find (λ begun. tx_eq tx begun.tx) leading.begun)
-
--- ---- phase 1b
 
 -- what a message reports in phase 1b of an instance and ballot
 abbrev pub reported_in : TxParts → ℕ → ℕ → Kind → Option Report
@@ -69,8 +55,6 @@ is_proposed proposed tx i b = list_any is_proposal proposed
     is_proposal (P2a other j c v) = (b == c) && instance_eq tx i other j
     is_proposal message = false
 
--- ---- phase 2b
-
 -- whether a message is acceptor a's in phase 2b of an instance, with a ballot and a value
 abbrev pub is_accept_of : TxParts → ℕ → ℕ → Vote → ℕ → Kind → Bool
 is_accept_of tx i b v a (P2b other j c w from) = (a == from) && (b == c) && vote_eq v w && instance_eq tx i other j
@@ -86,21 +70,17 @@ abbrev pub is_decided : ℕ → List Kind → TxParts → ℕ → Vote → Bool
 is_decided n heard tx i v =
     list_any (λ b. is_majority n (λ a. list_any (is_accept_of tx i b v a) heard)) (filter_map (ballot_told tx i v) heard)
 
--- ---- status
-
 -- a leader knows the transactions that it met, and those of its stored ballots
 abbrev pub is_known : List Fact → Leading → TxParts → Bool
-is_known facts leading tx = list_any (tx_eq tx) leading.met || list_any (is_about tx) facts
+is_known facts leading tx = list_any (tx_eq tx) leading.met || list_any (λ fact. tx_eq tx (fact_tx fact)) facts
 
 -- aborted where some instance has decided aborted, committed where every instance has decided prepared
 abbrev pub status_of : ℕ → List Fact → Leading → TxParts → Status
 status_of n facts leading tx =
-    if list_any (λ i. is_decided n leading.heard tx i votes.Aborted) (participants tx) then statuses.Aborted
-    else if list_all (λ i. is_decided n leading.heard tx i votes.Prepared) (participants tx) then statuses.Committed
-    else if is_known facts leading tx then statuses.Undecided
-    else statuses.Unknown
-
--- ---- what it does to what it has
+    if list_any (λ i. is_decided n leading.heard tx i Vote.Aborted) (participants tx) then Status.Aborted
+    else if list_all (λ i. is_decided n leading.heard tx i Vote.Prepared) (participants tx) then Status.Committed
+    else if is_known facts leading tx then Status.Undecided
+    else Status.Unknown
 
 -- a transaction met
 abbrev pub meets : TxParts → Leading → Leading
@@ -117,11 +97,10 @@ is_phase_1b message = false
 
 -- a ballot begun: it is current, and what came before in phase 1b and was proposed doesn't count any more
 abbrev pub begins : TxParts → ℕ → Leading → Leading
-begins tx b leading = record {
-  heard = filter (λ message. not (is_phase_1b message && tx_eq tx (tx_of message))) leading.heard;
+begins tx b leading = record leading {
+  heard = filter (λ message. not (is_phase_1b message && tx_eq tx (message_tx message))) leading.heard;
   begun = record { tx = tx; ballot = b } ∷ leading.begun;
-  proposed = filter (λ message. not (tx_eq tx (tx_of message))) leading.proposed;
-  met = leading.met;
+  proposed = filter (λ message. not (tx_eq tx (message_tx message))) leading.proposed;
 }
 
 -- a value proposed

@@ -1,15 +1,7 @@
 -- What datagrams and facts come to, as the messages and stored facts of the paper.
 -- Gray and Lamport, "Consensus on Transaction Commit", ACM TODS 31(1), 2006, section 4.
 use Rattle.std.specs.Prelude.{ℕ, List, [], ◌∷◌, Option}
-use Rattle.xid.specs.Transactions.{TxParts}
-use Rattle.xid.specs.declared.transaction.Vote.{Vote}
-use Rattle.xid.specs.declared.transaction.Vote.TheVariants as votes
-use Rattle.wire.specs.declared.message.Kind.{Kind}
-use Rattle.wire.specs.declared.message.Kind.TheVariants as kinds
-use Rattle.stable_record.specs.Facts.{Fact}
-use Rattle.stable_record.specs.Facts as stored
-use Rattle.protocol.specs.declared.NodeId.{NodeId}
-use Rattle.protocol.specs.declared.NodeId.TheVariants as nodes
+use Rattle.protocol.specs.Basics.{TxParts, Vote, Kind, Fact, NodeId}
 
 -- what a node stores, and the messages that the argument for safety speaks of. a, l and r number acceptors, leaders and
 -- resource managers, i is an instance: the number of its resource manager, b is a ballot
@@ -18,30 +10,28 @@ pub data Item (Tx : Type 0) : Type 0 where
   Accepted : (a : ℕ) (tx : Tx) (i b : ℕ) (v : Vote) → Item Tx
   Began : (l : ℕ) (tx : Tx) (b : ℕ) → Item Tx
   Voted : (r : ℕ) (tx : Tx) (v : Vote) → Item Tx
-  Committed : (r : ℕ) (tx : Tx) → Item Tx
-  Dropped : (r : ℕ) (tx : Tx) → Item Tx
+  Committed Dropped : (r : ℕ) (tx : Tx) → Item Tx
   P1b : (tx : Tx) (i b : ℕ) (report : Option (ℕ × Vote)) (a : ℕ) → Item Tx
   P2a : (tx : Tx) (i b : ℕ) (v : Vote) → Item Tx
   P2b : (tx : Tx) (i b : ℕ) (v : Vote) (a : ℕ) → Item Tx
-  Commit : (tx : Tx) → Item Tx
-  Abort : (tx : Tx) → Item Tx
+  Commit Abort : (tx : Tx) → Item Tx
 
 -- the paper's messages that a message stands for
 abbrev pub stands_for : Kind → List (Item TxParts)
-stands_for (kinds.P1b tx i b report a) = P1b tx i b report a ∷ []
-stands_for (kinds.P2a tx i b v) = P2a tx i b v ∷ []
-stands_for (kinds.P2b tx i b v a) = P2b tx i b v a ∷ []
-stands_for (kinds.Commit tx) = Commit tx ∷ []
-stands_for (kinds.Abort tx) = Abort tx ∷ []
+stands_for (Kind.P1b tx i b report a) = P1b tx i b report a ∷ []
+stands_for (Kind.P2a tx i b v) = P2a tx i b v ∷ []
+stands_for (Kind.P2b tx i b v a) = P2b tx i b v a ∷ []
+stands_for (Kind.Commit tx) = Commit tx ∷ []
+stands_for (Kind.Abort tx) = Abort tx ∷ []
 stands_for message = []
 
 -- what a fact of a node comes to
 abbrev pub comes_to : NodeId → Fact → List (Item TxParts)
-comes_to (nodes.A a) (stored.Promise tx i b) = Promised a tx i b ∷ []
-comes_to (nodes.A a) (stored.Accept tx i b v) = Accepted a tx i b v ∷ []
-comes_to (nodes.L l) (stored.Ballot tx b) = Began l tx b ∷ []
-comes_to (nodes.R r) (stored.VotePrepared tx keys) = Voted r tx votes.Prepared ∷ []
-comes_to (nodes.R r) (stored.VoteAborted tx) = Voted r tx votes.Aborted ∷ []
-comes_to (nodes.R r) (stored.Committed tx) = Committed r tx ∷ []
-comes_to (nodes.R r) (stored.Aborted tx) = Dropped r tx ∷ []
+comes_to (NodeId.A a) (Fact.Promise tx i b) = Promised a tx i b ∷ []
+comes_to (NodeId.A a) (Fact.Accept tx i b v) = Accepted a tx i b v ∷ []
+comes_to (NodeId.L l) (Fact.Ballot tx b) = Began l tx b ∷ []
+comes_to (NodeId.R r) (Fact.VotePrepared tx keys) = Voted r tx Vote.Prepared ∷ []
+comes_to (NodeId.R r) (Fact.VoteAborted tx) = Voted r tx Vote.Aborted ∷ []
+comes_to (NodeId.R r) (Fact.Committed tx) = Committed r tx ∷ []
+comes_to (NodeId.R r) (Fact.Aborted tx) = Dropped r tx ∷ []
 comes_to who fact = []

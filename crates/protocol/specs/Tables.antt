@@ -1,32 +1,15 @@
 -- Tables: rows with their keys ascending, and what transactions have made of them.
-use Rattle.std.specs.Prelude.{ℕ, Bool, true, false, not, if◌then◌else◌, List, [], ◌∷◌, Option, Some, None, filter, filter_map, fold, slice_get, unwrap_or}
-use Rattle.std.specs.Str.{bytes_eq}
-use Rattle.std.specs.Cmp.Lexicographic.{slice_cmp}
-use Rattle.std.specs.Ordering.{nat_cmp}
-use Rattle.std.specs.declared.cmp.Ordering.{Ordering}
-use Rattle.std.specs.declared.cmp.Ordering.TheVariants.{Less, Equal, Greater}
-use Rattle.xid.specs.Transactions.{TxParts}
-use Rattle.stable_record.specs.Facts.{Fact, Touched}
-use Rattle.stable_record.specs.Facts as stored
+use Rattle.std.specs.Prelude.{ℕ, not, if◌then◌else◌, List, [], ◌∷◌, filter, filter_map, find, fold, Option, Some, None}
+use Rattle.protocol.specs.Basics.{slice_cmp, option_map_or, nat_cmp, is_lt, bytes_eq, tx_eq, TxParts, Fact, Touched}
 use Rattle.protocol.specs.Calls.{Row}
-use Rattle.protocol.specs.Facts.{tx_eq}
-
--- whether the first comes before the second
-abbrev pub is_less : Ordering → Bool
-is_less Less = true
-is_less Equal = false
-is_less Greater = false
-
--- whether a list of bytes comes before another
-abbrev pub bytes_before : List ℕ → List ℕ → Bool
-bytes_before xs ys = is_less (slice_cmp nat_cmp xs ys)
+use Rattle.protocol.specs.Facts.{bound_by}
 
 -- a row put among rows with their keys ascending, in place of the row of its key
 abbrev pub put_row : List Row → Row → List Row
 put_row [] row = row ∷ []
 put_row (first ∷ rows) row =
     if bytes_eq first.key row.key then row ∷ rows
-    else if bytes_before row.key first.key then row ∷ first ∷ rows
+    else if is_lt (slice_cmp nat_cmp row.key first.key) then row ∷ first ∷ rows
     else first ∷ put_row rows row
 
 -- the rows after a branch's last write of a key
@@ -41,15 +24,11 @@ with_writes rows keys = fold (λ before touched. written before touched.key touc
 
 -- the keys with which a prepared vote on a transaction was stored
 abbrev pub keys_voted : List Fact → TxParts → List Touched
-keys_voted facts tx = unwrap_or (slice_get (filter_map keys_by facts) 0) []
-  where
-    keys_by : Fact → Option (List Touched)
-    keys_by (stored.VotePrepared other keys) = if tx_eq tx other then Some keys else None
-    keys_by fact = None
+keys_voted facts tx = option_map_or (λ bound. bound.keys) (find (λ bound. tx_eq tx bound.tx) (filter_map bound_by facts)) []
 
 -- the transaction that a fact stores as committed
 abbrev pub committed_by : Fact → Option TxParts
-committed_by (stored.Committed tx) = Some tx
+committed_by (Fact.Committed tx) = Some tx
 committed_by fact = None
 
 -- a table: the first contents, then the writes of each committed transaction, in the order of their commits

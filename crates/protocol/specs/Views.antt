@@ -1,22 +1,21 @@
 -- What a transaction commit protocol may do, seen from all its participants at once: the specification.
 -- Gray and Lamport, "Consensus on Transaction Commit", ACM TODS 31(1), 2006, section 2.
 use Rattle.std.specs.Prelude.{◌≡◌, ◌≢◌, ◌⊎◌, ℕ, Bool, IsTrue}
-use Rattle.protocol.specs.declared.View.{View}
-use Rattle.protocol.specs.declared.View.TheVariants.{Working, Prepared, Committed, Aborted}
+use Rattle.protocol.specs.Basics.{View}
 
 -- prepared or committed
 abbrev pub IsReady : View → Type 0
-IsReady Prepared = Unit {0}
-IsReady Committed = Unit {0}
+IsReady View.Prepared = Unit {0}
+IsReady View.Committed = Unit {0}
 IsReady _ = ⊥
 
 -- one resource manager's change in the state s of a transaction's participants: it prepares; it commits, all being
 -- prepared or committed; it aborts, none being committed
 abbrev pub IsCommitMove : (participant : ℕ → Bool) (s : ℕ → View) → View → View → Type 0
-IsCommitMove participant s Working Prepared = Unit {0}
-IsCommitMove participant s Prepared Committed = (r : ℕ) → IsTrue (participant r) → IsReady (s r)
-IsCommitMove participant s Working Aborted = (r : ℕ) → IsTrue (participant r) → s r ≢ Committed
-IsCommitMove participant s Prepared Aborted = (r : ℕ) → IsTrue (participant r) → s r ≢ Committed
+IsCommitMove participant s View.Working View.Prepared = Unit {0}
+IsCommitMove participant s View.Prepared View.Committed = (r : ℕ) → IsTrue (participant r) → IsReady (s r)
+IsCommitMove participant s View.Working View.Aborted = (r : ℕ) → IsTrue (participant r) → s r ≢ View.Committed
+IsCommitMove participant s View.Prepared View.Aborted = (r : ℕ) → IsTrue (participant r) → s r ≢ View.Committed
 IsCommitMove participant s _ _ = ⊥
 
 -- two states differ at one participant only, by such a change
@@ -29,7 +28,3 @@ pub record IsOneMove (participant : ℕ → Bool) (s t : ℕ → View) : Type 0 
 -- a step of the machine: nothing changes, or one participant does
 abbrev pub IsCommitStep : (participant : ℕ → Bool) (s t : ℕ → View) → Type 0
 IsCommitStep participant s t = ((r : ℕ) → IsTrue (participant r) → t r ≡ s r) ⊎ IsOneMove participant s t
-
--- no participant is committed while another is aborted
-abbrev pub IsConsistent : (participant : ℕ → Bool) (s : ℕ → View) → Type 0
-IsConsistent participant s = (r q : ℕ) → IsTrue (participant r) → IsTrue (participant q) → s r ≡ Committed → s q ≢ Aborted

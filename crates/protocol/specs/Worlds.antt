@@ -1,24 +1,12 @@
 -- All nodes, and every datagram that was ever sent; and one event.
-use Rattle.std.specs.Prelude.{ℕ, zero, suc, ◌+◌, ◌==◌, Bool, true, false, nat_lt, if◌then◌else◌, List, [], ◌∷◌, ◌++◌, length, map, replicate, Option, Some, None, is_some, slice_get}
-use Rattle.std.specs.List.{slice_set, flat_map, range_with_len}
-use Rattle.std.specs.Option.{option_and_then}
-use Rattle.xid.specs.Transactions.{TxParts}
-use Rattle.xid.specs.declared.refusals.Refusal.TheVariants.{NoMemory, Forged, NoSuch}
-use Rattle.wire.specs.declared.message.Kind.{Kind}
-use Rattle.wire.specs.Messages as messages
-use Rattle.wire.specs.Grammar.{spelling}
-use Rattle.stable_record.specs.Facts.{Fact}
-use Rattle.stable_record.specs.Facts as stored
-use Rattle.protocol.specs.Calls as calls
+use Rattle.std.specs.Prelude.{ℕ, zero, suc, ◌+◌, Bool, true, false, ◌==◌, nat_lt, if◌then◌else◌, List, [], ◌∷◌, ◌++◌, length, map, replicate, slice_get, Option, Some, None}
+use Rattle.protocol.specs.Basics.{flat_map, slice_set, option_map_or, option_and_then, TxParts, Refusal, spelling, message_tx, Kind, Fact, fact_tx, NodeId, A, L, R, View}
 use Rattle.protocol.specs.Calls.{Row}
-use Rattle.protocol.specs.declared.NodeId.{NodeId}
-use Rattle.protocol.specs.declared.NodeId.TheVariants.{A, L, R}
-use Rattle.protocol.specs.declared.View.{View}
-use Rattle.protocol.specs.declared.View.TheVariants as views
+use Rattle.protocol.specs.Calls as calls
 use Rattle.protocol.specs.Facts.{view}
 use Rattle.protocol.specs.Tables.{table}
-use Rattle.protocol.specs.Effects.{Config, Reply, Done, Refuses, Send, receivers}
-use Rattle.protocol.specs.Nodes.{NodeState, new_node, Input, CallOn, ListPrepared, AskView, AskCommit, AskStatus, TimeOut, Take, TakeNoise, Fate, Unreached, Outcome, node_step, restarted, first_rows}
+use Rattle.protocol.specs.Effects.{Config, Reply, Send, receivers, Done, Refuses}
+use Rattle.protocol.specs.Nodes.{NodeState, new_node, Input, Fate, first_rows, Outcome, node_step, restarted, CallOn, AskView, AskCommit, AskStatus, TimeOut, Take, ListPrepared, TakeNoise, Unreached}
 
 -- a datagram that was sent; one that was handed over or lost is marked
 pub record Datagram : Type 0 where
@@ -36,18 +24,16 @@ pub record World : Type 0 where
 abbrev pub opening : Config → World
 opening config = record { nodes = replicate (config.acceptors + config.leaders + config.managers) new_node; net = [] }
 
--- what can happen: a client call on a branch, the client calls on transactions, timeouts, what becomes of datagrams, bytes
--- that nobody sent, tears and restarts
+-- what can happen: a client call on a branch, the client calls on transactions, timeouts; a datagram is handed over and marked,
+-- marked without that, or its first bytes alone are handed over; bytes come that nobody sent, of which all that counts is whether
+-- they spell a message; a tear is armed in place of the one before; a node restarts
 pub data Event : Type 0 where
   Client : (call : calls.Event) → Event
   ViewOf : (rm : ℕ) (tx : TxParts) → Event
-  CommitOf : (leader : ℕ) (tx : TxParts) → Event
-  StatusOf : (leader : ℕ) (tx : TxParts) → Event
+  CommitOf StatusOf : (leader : ℕ) (tx : TxParts) → Event
   Timeout : (node : NodeId) (tx : TxParts) → Event
-  Deliver : (number : ℕ) → Event
-  Lose : (number : ℕ) → Event
+  Deliver Lose : (number : ℕ) → Event
   Cut : (number bytes : ℕ) → Event
-  -- of the bytes all that counts is whether they spell a message
   Noise : (node : NodeId) (spells : Bool) → Event
   Tear : (node : NodeId) (bytes : ℕ) → Event
   Restart : (node : NodeId) → Event
@@ -65,8 +51,6 @@ pub record Happening : Type 0 where
   pub now : Option Change
   pub sent : List Datagram
 
--- ---- nodes by their names
-
 -- where a node stands
 abbrev pub place : Config → NodeId → Option ℕ
 place config (A a) = if nat_lt a config.acceptors then Some a else None
@@ -79,13 +63,7 @@ node_at config world who = option_and_then (λ at. slice_get world.nodes at) (pl
 
 -- the world with another node in its place
 abbrev pub set_node : Config → World → NodeId → NodeState → World
-set_node config world who node = record { nodes = set_at (place config who); net = world.net }
-  where
-    set_at : Option ℕ → List NodeState
-    set_at None = world.nodes
-    set_at (Some at) = slice_set world.nodes at node
-
--- ---- what an event leaves
+set_node config world who node = record world { nodes = option_map_or (λ at. slice_set world.nodes at node) (place config who) world.nodes }
 
 -- a reply, and nothing sent
 abbrev pub refused : World → Reply → Happening
@@ -94,40 +72,36 @@ refused world reply = record { world = world; reply = reply; now = None; sent = 
 -- one datagram to each receiver
 abbrev pub posted : Config → NodeId → Send → List Datagram
 posted config who send = map (λ receiver. record { sender = who; receiver = receiver; message = send.message; marked = false })
-    (receivers config send.to (messages.tx_of send.message))
+    (receivers config send.to (message_tx send.message))
 
 -- views by number, to compare them
 abbrev pub view_number : View → ℕ
-view_number views.Working = 0
-view_number views.Prepared = 1
-view_number views.Committed = 2
-view_number views.Aborted = 3
+view_number View.Working = 0
+view_number View.Prepared = 1
+view_number View.Committed = 2
+view_number View.Aborted = 3
 
 -- the change of a view at a resource manager, by the facts before and after
 abbrev pub change_of : NodeId → List Fact → List Fact → Option Change
-change_of (R rm) before after = option_and_then changed (slice_get after (length before))
-  where
-    changed : Fact → Option Change
-    changed fact =
-        if view_number (view before (stored.tx_of fact)) == view_number (view after (stored.tx_of fact)) then None
-        else Some (record { rm = rm; tx = stored.tx_of fact; view = view after (stored.tx_of fact) })
+change_of (R rm) before after = option_and_then (λ fact.
+    let tx = fact_tx fact in
+    if view_number (view before tx) == view_number (view after tx) then None else Some (record { rm = rm; tx = tx; view = view after tx }))
+    (slice_get after (length before))
 change_of who before after = None
 
 -- a node's outcome in the world
 abbrev pub joined : Config → World → NodeId → List Fact → Outcome → Happening
-joined config world who before outcome = record {
-  world = record (set_node config world who outcome.node) { net = world.net ++ sent };
-  reply = outcome.reply;
-  now = change_of who before outcome.node.facts;
-  sent = sent;
-}
-  where
-    sent : List Datagram
-    sent = flat_map (posted config who) outcome.sends
+joined config world who before outcome =
+    let sent = flat_map (posted config who) outcome.sends in record {
+      world = record (set_node config world who outcome.node) { net = world.net ++ sent };
+      reply = outcome.reply;
+      now = change_of who before outcome.node.facts;
+      sent = sent;
+    }
 
 -- what happens with something that is there; without it the event is refused
 abbrev pub where_found : {X : Type 0} → World → (X → Happening) → Option X → Happening
-where_found world continue None = refused world (Refuses NoSuch)
+where_found world continue None = refused world (Refuses Refusal.NoSuch)
 where_found world continue (Some x) = continue x
 
 -- an input at a node
@@ -135,19 +109,7 @@ abbrev pub at_node : Config → World → NodeId → Input → Fate → Happenin
 at_node config world who input fate =
     where_found world (λ node. joined config world who node.facts (node_step config who node input fate)) (node_at config world who)
 
--- a node restarted
-abbrev pub restarts : Config → World → NodeId → Fate → Happening
-restarts config world who fate =
-    where_found world (λ node. joined config world who node.facts (restarted config who node fate)) (node_at config world who)
-
--- a tear armed in place of the one before
-abbrev pub tears : Config → World → NodeId → ℕ → Happening
-tears config world who n =
-    where_found world (λ node. refused (set_node config world who (record node { tear = Some n })) Done) (node_at config world who)
-
--- ---- datagrams by their numbers, from 1
-
--- the datagram of a number
+-- the datagram of a number, from 1
 abbrev pub datagram_at : List Datagram → ℕ → Option Datagram
 datagram_at net zero = None
 datagram_at net (suc n) = slice_get net n
@@ -159,32 +121,12 @@ marked_at (d ∷ net) zero = d ∷ net
 marked_at (d ∷ net) (suc zero) = record d { marked = true } ∷ net
 marked_at (d ∷ net) (suc (suc n)) = d ∷ marked_at net (suc n)
 
--- a world with a datagram marked
-abbrev pub with_mark : World → ℕ → World
-with_mark world n = record { nodes = world.nodes; net = marked_at world.net n }
-
--- handed over, and marked
-abbrev pub delivers : Config → World → ℕ → Fate → Happening
-delivers config world n fate =
-    where_found world (λ d. at_node config (with_mark world n) d.receiver (Take d.message) fate) (datagram_at world.net n)
-
--- marked without being handed over
-abbrev pub loses : World → ℕ → Happening
-loses world n = where_found world (λ d. refused (with_mark world n) Done) (datagram_at world.net n)
-
 -- the first k bytes handed over: they are fewer than all, and spell no message
 abbrev pub cuts : Config → World → ℕ → ℕ → Fate → Happening
-cuts config world n k fate = where_found world handed (datagram_at world.net n)
-  where
-    handed : Datagram → Happening
-    handed d = if nat_lt k (length (spelling d.message)) then at_node config world d.receiver TakeNoise fate else refused world (Refuses NoSuch)
-
--- bytes that nobody sent
-abbrev pub disturbs : Config → World → NodeId → (spells : Bool) → Fate → Happening
-disturbs config world who false fate = at_node config world who TakeNoise fate
-disturbs config world who true fate = refused world (if is_some (node_at config world who) then Refuses Forged else Refuses NoSuch)
-
--- ---- one event
+cuts config world n k fate =
+    where_found world (λ d.
+    if nat_lt k (length (spelling d.message)) then at_node config world d.receiver TakeNoise fate else refused world (Refuses Refusal.NoSuch))
+    (datagram_at world.net n)
 
 -- what an event does that reaches its node, if it has one
 abbrev pub does : Config → World → Event → Fate → Happening
@@ -194,16 +136,20 @@ does config world (ViewOf rm tx) fate = at_node config world (R rm) (AskView tx)
 does config world (CommitOf l tx) fate = at_node config world (L l) (AskCommit tx) fate
 does config world (StatusOf l tx) fate = at_node config world (L l) (AskStatus tx) fate
 does config world (Timeout who tx) fate = at_node config world who (TimeOut tx) fate
-does config world (Deliver n) fate = delivers config world n fate
-does config world (Lose n) fate = loses world n
+does config world (Deliver n) fate =
+    where_found world (λ d. at_node config (record world { net = marked_at world.net n }) d.receiver (Take d.message) fate) (datagram_at world.net n)
+does config world (Lose n) fate = where_found world (λ d. refused (record world { net = marked_at world.net n }) Done) (datagram_at world.net n)
 does config world (Cut n k) fate = cuts config world n k fate
-does config world (Noise who spells) fate = disturbs config world who spells fate
-does config world (Tear who n) fate = tears config world who n
-does config world (Restart who) fate = restarts config world who fate
+does config world (Noise who false) fate = at_node config world who TakeNoise fate
+does config world (Noise who true) fate = where_found world (λ node. refused world (Refuses Refusal.Forged)) (node_at config world who)
+does config world (Tear who n) fate =
+    where_found world (λ node. refused (set_node config world who (record node { tear = Some n })) Done) (node_at config world who)
+does config world (Restart who) fate =
+    where_found world (λ node. joined config world who node.facts (restarted config who node fate)) (node_at config world who)
 
 -- what happens in an event
 abbrev pub happens : Config → World → Event → Fate → Happening
-happens config world event Unreached = refused world (Refuses NoMemory)
+happens config world event Unreached = refused world (Refuses Refusal.NoMemory)
 happens config world event fate = does config world event fate
 
 -- an event, and how it goes
@@ -214,10 +160,8 @@ pub record Fated : Type 0 where
 -- the happenings of events, one after the other
 abbrev pub trace : Config → World → List Fated → List Happening
 trace config world [] = []
-trace config world (first ∷ rest) = happening ∷ trace config happening.world rest
-  where
-    happening : Happening
-    happening = happens config world first.event first.fate
+trace config world (first ∷ rest) =
+    let happening = happens config world first.event first.fate in happening ∷ trace config happening.world rest
 
 -- the world after events
 abbrev pub world_after : Config → World → List Fated → World
@@ -226,12 +170,4 @@ world_after config world (first ∷ rest) = world_after config (happens config w
 
 -- the table of a resource manager, whether it is up or down: the one that its facts give
 abbrev pub table_at : Config → World → ℕ → List Row
-table_at config world rm = rows_of (node_at config world (R rm))
-  where
-    rows_of : Option NodeState → List Row
-    rows_of None = []
-    rows_of (Some node) = table (first_rows config rm) node.facts
-
--- all tables
-abbrev pub tables_of : Config → World → List (List Row)
-tables_of config world = map (table_at config world) (range_with_len 0 config.managers)
+table_at config world rm = option_map_or (λ node. table (first_rows config rm) node.facts) (node_at config world (R rm)) []

@@ -2,8 +2,6 @@
 //! one event at one node, and the world of all nodes and all datagrams. The definitions are in `specs/`; there is no code.
 #![tactic(auto)]
 
-pub mod laws;
-
 /// How far a branch has come, after X/Open XA (C193), "Transaction branch states".
 #[derive(Clone, Copy, Debug, PartialEq, Eq)]
 pub enum BranchState {

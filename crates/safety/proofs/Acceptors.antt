@@ -1,6 +1,7 @@
 -- What the rules of an acceptor hand over.
-use Rattle.std.proofs.Common.{◌≡◌, inl, inr, ⊎_elim, ℕ, ◌≤◌, true, ◌&&◌, ◌==◌, not}
+use Rattle.std.proofs.Common.{◌≡◌, inl, inr, ⊎_elim, ℕ, ◌≤◌, Bool, true, false, ◌&&◌, ◌==◌, not}
 use Rattle.std.proofs.Common.{IsTrue, List, [], ◌∷◌, Option, Some, None, refl, sym, subst, nat_lt, nat_le}
+use Rattle.std.specs.Option.{option_map_or}
 use Rattle.std.specs.Prelude.{map, Contains}
 use Rattle.std.proofs.lemmas.Bool.{cond_both, and_from, and_parts, ltb-true, leb-true, eqb-true, not_from_false}
 use Rattle.xid.specs.Transactions.{TxParts, names}
@@ -15,13 +16,12 @@ use Rattle.protocol.specs.declared.NodeId.{NodeId}
 use Rattle.protocol.specs.declared.NodeId.TheVariants.{A}
 use Rattle.protocol.specs.Effects.{Config, Effect, Send, ToLeaders, no_effect, sends_only, stores, to}
 use Rattle.protocol.specs.Facts.{slot, vote_eq}
-use Rattle.protocol.specs.Acceptors.{is_report, is_accepted, on_1a, on_2a, acceptor_takes}
-use Rattle.protocol.specs.Playing.{all_play, plays_at_acceptor}
+use Rattle.protocol.specs.Acceptors.{is_accepted, on_1a, on_2a, acceptor_takes, plays_at_acceptor}
+use Rattle.protocol.specs.Nodes.{all_play}
 use Rattle.protocol.specs.StandsFor.{stands_for}
-use Rattle.protocol.specs.Laws as laws
-use Rattle.protocol.proofs.SlotLaws.{slot_is}
-use Rattle.safety.specs.Items.{Item, Promised, Accepted, P1b, P2b}
-use Rattle.safety.specs.Items.{Allowed, IsCovered}
+use Rattle.safety.specs.Laws as laws
+use Rattle.safety.proofs.SlotLaws.{slot_is}
+use Rattle.safety.specs.Items.{Item, Promised, Accepted, P1b, P2b, Allowed, IsCovered}
 use Rattle.safety.specs.Senders.{IsFrom}
 use Rattle.safety.specs.Standing.{Among, StandsBy, setting}
 use Rattle.safety.proofs.Slots.{IsSlot, IsHeld, slot_may_accept, slot_may_be_reported}
@@ -56,6 +56,10 @@ vote_is votes.Prepared votes.Prepared e = refl
 vote_is votes.Aborted votes.Aborted e = refl
 vote_is votes.Prepared votes.Aborted e = absurd (cc (e))
 vote_is votes.Aborted votes.Prepared e = absurd (cc (e))
+
+-- whether a report is of this ballot and value
+abbrev is_report : Report → ℕ → Vote → Bool
+is_report r b v = option_map_or (λ last. (last.0 == b) && vote_eq last.1 v) r false
 
 -- what a slot holds as accepted was accepted
 accepted_stands : (facts : List Fact) (tx : TxParts) (i b : ℕ) (v : Vote) (r : Report) → is_report r b v ≡ true

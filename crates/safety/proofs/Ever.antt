@@ -13,15 +13,15 @@ use Rattle.protocol.specs.declared.NodeId.TheVariants.{A}
 use Rattle.protocol.specs.declared.View.{View}
 use Rattle.protocol.specs.declared.View.TheVariants as views
 use Rattle.protocol.specs.Effects.{Config, Done, Refuses}
-use Rattle.protocol.specs.Nodes.{NodeState, Fate, Well, Fails, Unreached, Starved, empty_memory, unchanged, fallen, restarted}
-use Rattle.protocol.specs.Playing.{all_play}
-use Rattle.protocol.specs.Views.{IsReady, IsCommitMove, IsCommitStep, IsConsistent}
+use Rattle.protocol.specs.Nodes.{NodeState, Fate, Well, Fails, Unreached, Starved, empty_memory, unchanged, fallen, restarted, all_play}
+use Rattle.protocol.specs.Views.{IsReady, IsCommitMove, IsCommitStep}
+use Rattle.safety.specs.CommitSteps.{IsConsistent}
 use Rattle.protocol.specs.Worlds.{Fated, World, Happening, Restart, node_at, happens, joined, refused}
 use Rattle.protocol.specs.Facts.{slot, last_ballot, ballot_begun}
-use Rattle.protocol.specs.Laws as laws
+use Rattle.safety.specs.Laws as laws
 use Rattle.protocol.proofs.Same.{tx_eq-same}
-use Rattle.protocol.proofs.SlotLaws.{slot_is}
-use Rattle.protocol.proofs.Standing.{at_most_greatest}
+use Rattle.safety.proofs.SlotLaws.{slot_is}
+use Rattle.safety.proofs.Greatest.{at_most_greatest}
 use Rattle.safety.specs.Items.{Promised, Accepted, Voted, Committed, Commit, IsState, IsCovered}
 use Rattle.safety.specs.Invariant.{Invariant}
 use Rattle.safety.specs.Runs.{reached, reached_next, views_in, facts_after, StandsAfter}

@@ -1,5 +1,6 @@
 -- Each rule of a leader keeps its memory in order, and stores and sends only what it may.
 use Rattle.std.proofs.Common.{◌≡◌, inl, inr, ℕ, ◌^◌, ◌<◌, Bool, true, false, not, ◌||◌, ◌&&◌, ◌==◌, nat_lt, IsTrue, if◌then◌else◌, List, [], ◌∷◌, ◌++◌, map, Option, Some, None, refl, sym, ap, ◌∙◌, subst}
+use Rattle.std.specs.Option.{option_map_or}
 use Rattle.std.specs.List.{list_any}
 use Rattle.std.proofs.lemmas.Bool.{both_ways, and_from, and_parts, or_parts, lt-ltb, ltb-true, eqb-true, eq-eqb, cond_both}
 use Rattle.xid.specs.Transactions.{TxParts, participants, names}
@@ -19,13 +20,24 @@ use Rattle.protocol.specs.declared.Status.TheVariants as statuses
 use Rattle.protocol.specs.Facts.{last_ballot}
 use Rattle.protocol.specs.Effects.{Config, Effect, Stands, Refuses, Send, Address, ToNode, ToAcceptors, ToManagers, to, is_inside, replies, no_effect, sends_only, stores}
 use Rattle.protocol.specs.Leading.{Leading, current, has_reported, is_reported, picked, is_proposed, status_of, meets, hears, begins, proposes, is_accept_of}
-use Rattle.protocol.specs.Leaders.{outcome, is_final, on_commit_call, takes_over, on_leader_timeout, on_status_call, is_current, after_report, on_1b, after_accept, on_2b, on_ask, leader_takes}
+use Rattle.protocol.specs.Leaders.{outcome, is_final, on_commit_call, on_leader_timeout, on_status_call, after_report, on_1b, on_2b, on_ask, leader_takes}
 use Rattle.protocol.specs.Nodes.{Memory, Input, CallOn, ListPrepared, AskView, AskCommit, AskStatus, TimeOut, Take, TakeNoise, of_leader, effect_of, is_acceptor_inside, is_message_inside}
 use Rattle.safety.proofs.Lists.{Among-mapped}
 use Rattle.safety.proofs.LeadersWords.{IsKept, IsBacked, IsSentBy, IsSentMore, IsNewBallot, MaySend, IsLeaderStep}
 use Rattle.safety.proofs.LeadersHeard.{naming, picked_is, committed_is, aborted_is}
 pub use Rattle.safety.proofs.LeadersKept.{kept_at_start, kept_while}
 use Rattle.safety.proofs.LeadersKept.{kept_meets, kept_hears, kept_proposes, kept_begins, current_begun}
+
+-- a take-over in a ballot
+abbrev takes_over : Leading → TxParts → ℕ → Effect Leading
+takes_over leading tx b =
+    if nat_lt b (2 ^ 32)
+    then stores (begins tx b (meets tx leading)) (stored.Ballot tx b) (map (λ i. to ToAcceptors (P1a tx i b)) (participants tx))
+    else replies leading (Refuses NoBallot)
+
+-- whether a ballot is the current one
+abbrev is_current : Option ℕ → ℕ → Bool
+is_current now b = option_map_or (λ last. last == b) now false
 
 -- no proposal
 abbrev IsNoProposal : Kind → Type 0
@@ -233,7 +245,7 @@ module _ (config : Config) (l : ℕ) (facts : List Fact) (Sent Now : Kind → Ty
       let now = hears (P2b tx i b v a) (meets tx leading) in
       let status = status_of config.acceptors facts now tx in
       cond_both (is_final (status_of config.acceptors facts leading tx) || list_any (is_accept_of tx i b v a) leading.heard)
-      (no_effect (meets tx leading)) (after_accept config facts now tx) IsGood
+      (no_effect (meets tx leading)) (sends_only now (outcome status tx ToManagers)) IsGood
       (λ e grown. quiet (meets tx leading) known grown)
       (λ e grown. told now (outcome status tx ToManagers) (outcome_told tx now ToManagers status refl heard) heard grown)
 

@@ -12,10 +12,9 @@ use Rattle.protocol.specs.declared.NodeId.{NodeId}
 use Rattle.protocol.specs.declared.NodeId.TheVariants.{L}
 use Rattle.protocol.specs.Effects.{Config, Effect, Send}
 use Rattle.protocol.specs.Nodes.{Memory, Input, effect_of}
-use Rattle.protocol.specs.Playing.{plays_at_leader}
+use Rattle.protocol.specs.Leaders.{plays_at_leader}
 use Rattle.protocol.specs.StandsFor.{stands_for}
-use Rattle.safety.specs.Items.{Item, Began, P1b, P2a, P2b, Commit, Abort}
-use Rattle.safety.specs.Items.{Allowed, IsPick}
+use Rattle.safety.specs.Items.{Item, Began, P1b, P2a, P2b, Commit, Abort, Allowed, IsPick}
 use Rattle.safety.specs.Invariant.{Invariant}
 use Rattle.safety.specs.Senders.{IsFrom}
 use Rattle.safety.specs.Standing.{Among, StandsBy, setting}

@@ -12,7 +12,8 @@ use Rattle.ballot.specs.Ballots.{IsOwned}
 use Rattle.ballot.specs.Choice.{Report}
 use Rattle.stable_record.specs.Facts.{Fact}
 use Rattle.stable_record.specs.Facts as stored
-use Rattle.protocol.specs.Facts.{tx_eq, instance_eq, greatest, ballot_begun, last_ballot}
+use Rattle.xid.specs.Rows.{tx_eq}
+use Rattle.protocol.specs.Facts.{instance_eq, greatest, ballot_begun, last_ballot}
 use Rattle.protocol.specs.Effects.{Config}
 use Rattle.protocol.specs.Leading.{Leading, Begun, nothing_heard, current, has_reported, is_proposed, meets, hears, begins, proposes}
 use Rattle.safety.specs.Standing.{Among}

@@ -12,7 +12,7 @@ use Rattle.stable_record.specs.Facts as stored
 use Rattle.protocol.specs.Facts.{last_ballot}
 use Rattle.protocol.specs.Effects.{Config, Send}
 use Rattle.protocol.specs.Leading.{Leading, current, is_proposed}
-use Rattle.protocol.specs.Playing.{plays_at_leader}
+use Rattle.protocol.specs.Leaders.{plays_at_leader}
 use Rattle.safety.specs.Items.{Item, P1b, P2a, P2b, Commit, Abort, IsDecided, IsPick}
 use Rattle.safety.specs.Standing.{Among}
 

@@ -6,6 +6,9 @@ pub mod Additions
 pub mod Events
 pub mod CommitStepLemmas
 pub mod Slots
+pub mod Greatest
+pub mod SlotLaws
+pub mod ViewLaws
 pub mod Examples
 pub mod Actions
 pub mod Lists

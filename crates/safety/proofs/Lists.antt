@@ -1,8 +1,8 @@
 -- What is among a list.
-use Rattle.std.proofs.Common.{◌≡◌, ◌⊎◌, inl, inr, ◌∙◌, Bool, true, false, List, [], ◌∷◌, ◌++◌}
+use Rattle.std.proofs.Common.{◌≡◌, ◌⊎◌, inl, inr, ◌∙◌, Bool, true, false, List, [], ◌∷◌, ◌++◌, Option, Some, None, unwrap_or}
 use Rattle.std.proofs.Common.{refl, sym, ap, subst, arith}
-use Rattle.std.specs.Prelude.{map, Contains}
-use Rattle.std.specs.List.{list_any, list_all, flat_map}
+use Rattle.std.specs.Prelude.{map, filter_map, Contains}
+use Rattle.std.specs.List.{list_any, list_all, flat_map, cons_option}
 use Rattle.std.proofs.lemmas.Bool.{or_cases, or_left, or_right, both_ways, and_parts}
 use Rattle.safety.specs.Standing.{Among}
 use Rattle.safety.proofs.Additions.{Contains-head, Contains-tail, Contains-cases}
@@ -108,3 +108,34 @@ Among-join f (z ∷ xs) x y (inr h) k = Among-after (f z) (flat_map f xs) y (Amo
 pub only_one : {X : Type 0} (P : X → Type 0) (first : X) → P first → (x : X) → Among (first ∷ []) x → P x
 only_one P first h x (inl e) = subst P e h
 only_one P first h x (inr none) = absurd none
+
+-- what a filter_map gives
+pub record IsGiven {X Y : Type 0} (h : X → Option Y) (xs : List X) (y : Y) : Type 0 where
+  pub source : X
+  pub among : Among xs source
+  pub gives : h source ≡ Some y
+
+given_step : {X Y : Type 0} (h : X → Option Y) (x : X) (xs : List X) (y : Y) (o : Option Y) → h x ≡ o
+    → (Among (filter_map h xs) y → IsGiven h xs y)
+    → Among (cons_option o (filter_map h xs)) y → IsGiven h (x ∷ xs) y
+given_step h x xs y None e rest k = let more = rest k in record { source = more.source; among = inr more.among; gives = more.gives }
+given_step h x xs y (Some z) e rest (inl same) = record { source = x; among = inl refl; gives = e ∙ ap Some same }
+given_step h x xs y (Some z) e rest (inr k) = let more = rest k in record { source = more.source; among = inr more.among; gives = more.gives }
+
+pub filter_map_given : {X Y : Type 0} (h : X → Option Y) (xs : List X) (y : Y) → Among (filter_map h xs) y → IsGiven h xs y
+filter_map_given h [] y k = absurd k
+filter_map_given h (x ∷ xs) y k = given_step h x xs y (h x) refl (filter_map_given h xs y) k
+
+give_at : {Y : Type 0} (ys : List Y) (y : Y) (o : Option Y) → o ≡ Some y → Among (cons_option o ys) y
+give_at ys y None e = absurd (cc (e))
+give_at ys y (Some z) e = inl (ap (λ o. unwrap_or o z) e)
+
+give_more : {Y : Type 0} (ys : List Y) (y : Y) (o : Option Y) → Among ys y → Among (cons_option o ys) y
+give_more ys y None k = k
+give_more ys y (Some z) k = inr k
+
+pub filter_map_gives : {X Y : Type 0} (h : X → Option Y) (xs : List X) (x : X) (y : Y) → Among xs x → h x ≡ Some y
+    → Among (filter_map h xs) y
+filter_map_gives h [] x y k e = absurd k
+filter_map_gives h (z ∷ xs) x y (inl same) e = give_at (filter_map h xs) y (h z) (ap h same ∙ e)
+filter_map_gives h (z ∷ xs) x y (inr k) e = give_more (filter_map h xs) y (h z) (filter_map_gives h xs x y k e)

@@ -21,16 +21,17 @@ use Rattle.protocol.specs.Calls.{Action, Start, Put, Del, Get, End, EndFail, Rol
 use Rattle.protocol.specs.Branches.{BranchView, is_done, key_of, by_state}
 use Rattle.protocol.specs.Effects.{Config, Effect, is_inside}
 use Rattle.protocol.specs.Facts.{vote_in, is_ended, is_spent, is_prepared_view, is_open_view, view, Bound, bound_by, bound_in}
-use Rattle.protocol.specs.Managers.{Branch, has_key, all_branches, branch_at, is_held, changed, without, after_call, call_answer, on_call, idle_keys, first_vote, on_prepare, on_commit, on_abort, on_message, manager_takes, on_manager_timeout}
+use Rattle.protocol.specs.Managers.{Branch, has_key, all_branches, branch_at, is_held, changed, without, after_call, call_answer, on_call, idle_keys, first_vote, on_prepare, on_commit, on_abort, manager_takes, on_manager_timeout}
 use Rattle.protocol.specs.Nodes.{Memory, Input, CallOn, ListPrepared, AskView, AskCommit, AskStatus, TimeOut, Take, TakeNoise, effect_of, is_message_inside, first_rows}
-use Rattle.protocol.specs.Playing.{plays, plays_at_manager, all_play, is_new, is_name_spent, is_some_held}
+use Rattle.protocol.specs.Nodes.{plays, all_play}
+use Rattle.protocol.specs.Managers.{plays_at_manager, is_new, is_name_spent, is_some_held}
 use Rattle.protocol.specs.Tables.{table}
 use Rattle.safety.specs.Standing.{Among}
-use Rattle.safety.proofs.Lists.{any_found, none_found, Among-before, Among-after, Among-push, Among-mapped}
+use Rattle.safety.proofs.Lists.{any_found, none_found, Among-before, Among-after, Among-push, Among-mapped, filter_map_given, filter_map_gives}
 use Rattle.safety.proofs.ViewFacts.{prepared_shows, prepared_before}
 use Rattle.safety.proofs.Played.{voted_named, all_play_then}
 use Rattle.safety.proofs.Managers.{facts_after, IsManagerFact, name_names, manager_is_right}
-use Rattle.safety.proofs.ManagerKeys.{xid_decides, filter_kept, filter_keeps, filter_map_given, filter_map_gives, found_among, names_name, spent_by, still_unspent, AreDisjoint, key_in, changed_name, changed_keys}
+use Rattle.safety.proofs.ManagerKeys.{xid_decides, filter_kept, filter_keeps, found_among, names_name, spent_by, still_unspent, AreDisjoint, key_in, changed_name, changed_keys}
 
 -- the branches that aren't prepared: their names aren't spent, and no key is in two of them, nor in one and a prepared one
 pub record AreApart (rm : ℕ) (facts : List Fact) (branches : List Branch) : Type 0 where
@@ -175,17 +176,13 @@ module _ (rm : ℕ) (facts : List Fact) (branches : List Branch) (are : AreApart
       (λ opens. gone (stored.Aborted tx) x name (λ bound e. absurd (cc (e))))
       (λ other. are)
 
-  message_apart : (x : XidParts) (m : Kind) → xid_at (messages.tx_of m) rm ≡ Some x
-      → IsApartAfter rm facts (on_message rm facts branches x m)
-  message_apart x (kinds.Prepare tx) name = prepare_apart tx x name
-  message_apart x (kinds.Commit tx) name = commit_apart tx
-  message_apart x (kinds.Abort tx) name = abort_apart tx x name
-  message_apart x m name = are
-
   takes_apart : (m : Kind) (o : Option XidParts) → xid_at (messages.tx_of m) rm ≡ o
       → IsApartAfter rm facts (manager_takes rm facts branches o m)
+  takes_apart (kinds.Prepare tx) (Some x) name = prepare_apart tx x name
+  takes_apart (kinds.Commit tx) (Some x) name = commit_apart tx
+  takes_apart (kinds.Abort tx) (Some x) name = abort_apart tx x name
+  takes_apart m (Some x) name = are
   takes_apart m None name = are
-  takes_apart m (Some x) name = message_apart x m name
 
   timeout_apart : (config : Config) (tx : TxParts) → IsApartAfter rm facts (on_manager_timeout config rm facts branches tx)
   timeout_apart config tx = cond_both (is_inside config tx) _ _ (IsApartAfter rm facts) (λ inside. are) (λ outside. are)

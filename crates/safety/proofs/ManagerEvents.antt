@@ -1,6 +1,5 @@
 -- What a resource manager stores and sends, as items that may come to stand.
-use Rattle.std.proofs.Common.{◌≡◌, ◌⊎◌, ℕ, true, IsTrue, List, [], ◌∷◌, Option, Some, None, unwrap_or}
-use Rattle.std.proofs.Common.{inl, inr, sym, ap, ◌∙◌, subst, arith}
+use Rattle.std.proofs.Common.{◌≡◌, ◌⊎◌, ℕ, true, IsTrue, List, [], ◌∷◌, Option, Some, None, unwrap_or, inl, inr, sym, ap, ◌∙◌, subst, arith}
 use Rattle.std.specs.Prelude.{map, Contains, IfSome}
 use Rattle.xid.specs.Names.{XidParts}
 use Rattle.xid.specs.Transactions.{TxParts, names}
@@ -15,8 +14,7 @@ use Rattle.protocol.specs.declared.NodeId.TheVariants.{R}
 use Rattle.protocol.specs.Effects.{Config, Send}
 use Rattle.protocol.specs.Facts.{view}
 use Rattle.protocol.specs.Managers.{Branch}
-use Rattle.protocol.specs.Nodes.{Memory, Input, Take, effect_of}
-use Rattle.protocol.specs.Playing.{all_play}
+use Rattle.protocol.specs.Nodes.{Memory, Input, Take, effect_of, all_play}
 use Rattle.protocol.specs.StandsFor.{stands_for, comes_to}
 use Rattle.safety.specs.Items.{Item, Voted, Committed, Dropped, P2a, Allowed, IsView}
 use Rattle.safety.specs.Senders.{IsFrom}

@@ -14,12 +14,12 @@ use Rattle.stable_record.specs.Facts as stored
 use Rattle.protocol.specs.declared.NodeId.TheVariants.{R}
 use Rattle.protocol.specs.Effects.{Config}
 use Rattle.protocol.specs.Facts.{vote_in, is_ended, Bound, bound_in}
-use Rattle.protocol.specs.Managers.{Branch, has_key, all_branches}
-use Rattle.protocol.specs.Playing.{plays, plays_at_manager, all_play, is_new, is_name_spent, is_some_held}
+use Rattle.protocol.specs.Managers.{Branch, has_key, all_branches, plays_at_manager, is_new, is_name_spent, is_some_held}
+use Rattle.protocol.specs.Nodes.{plays, all_play}
 use Rattle.safety.specs.Standing.{Among, HasVote}
-use Rattle.safety.proofs.Lists.{any_found, found_any, Among-append, Among-push}
+use Rattle.safety.proofs.Lists.{any_found, found_any, Among-append, Among-push, filter_map_given}
 use Rattle.safety.proofs.ViewFacts.{prepared_before, unvoted}
-use Rattle.safety.proofs.ManagerKeys.{filter_map_given, AreDisjoint}
+use Rattle.safety.proofs.ManagerKeys.{AreDisjoint}
 use Rattle.safety.proofs.ManagerApart.{AreApart, bound_stored, stored_bound, named_so}
 
 -- prepared branches: one for each transaction, and no key in two of them

@@ -3,21 +3,21 @@ use Rattle.std.proofs.Common.{◌≡◌, ◌⊎◌, ℕ, Bool, true, false, ◌&
 use Rattle.std.proofs.Common.{inl, inr, refl, sym, ap, ◌∙◌, subst}
 use Rattle.std.specs.Prelude.{find, filter, filter_map, option_map}
 use Rattle.std.specs.Bool.{Decides}
-use Rattle.std.specs.List.{list_any, cons_option}
+use Rattle.std.specs.List.{list_any}
 use Rattle.std.specs.Str.{bytes_eq}
 use Rattle.std.specs.Cmp.{unsigned_Decides}
-use Rattle.std.specs.Cmp.Lexicographic.{bytes_decides}
-use Rattle.std.proofs.lemmas.Bool.{cond_both, and_parts, and_from, or_cases, or_left, or_right, false_from_ne_true}
+use Rattle.std.specs.Cmp.Lexicographic.{bytes_decides, slice_cmp}
+use Rattle.std.specs.Ordering.{is_lt, nat_cmp}
+use Rattle.std.proofs.lemmas.Bool.{cond_both, and_parts, and_from, or_cases, or_left, or_right, false_from_ne_true, both_ways}
 use Rattle.xid.specs.Names.{XidParts, xid_eq}
 use Rattle.xid.specs.Transactions.{TxParts, names, is_at, xid_of, xid_at}
 use Rattle.stable_record.specs.Facts.{Fact, Touched, tx_of}
 use Rattle.protocol.specs.Calls.{Action, Put, Del, Get, End, EndFail}
 use Rattle.protocol.specs.Branches.{key_of}
-use Rattle.protocol.specs.Facts.{is_spent, is_xid}
+use Rattle.protocol.specs.Facts.{is_spent}
 use Rattle.protocol.specs.Managers.{Branch, touch_key, has_key, changed}
-use Rattle.protocol.specs.Tables.{bytes_before}
 use Rattle.safety.specs.Standing.{Among}
-use Rattle.safety.proofs.Lists.{any_found, found_any, none_found, Among-push}
+use Rattle.safety.proofs.Lists.{any_found, found_any, Among-push, filter_map_given, filter_map_gives}
 
 -- ---- lists
 
@@ -64,37 +64,6 @@ filter_keeps p (y ∷ ys) x (inl same) e =
     subst (λ z. Among (filter p (y ∷ ys)) z) same (filter_keep_at y (filter p ys) (p y) (ap p same ∙ e))
 filter_keeps p (y ∷ ys) x (inr h) e = filter_more_at y (filter p ys) x (p y) (filter_keeps p ys x h e)
 
--- what a filter_map gives
-pub record IsGiven {X Y : Type 0} (h : X → Option Y) (xs : List X) (y : Y) : Type 0 where
-  pub source : X
-  pub among : Among xs source
-  pub gives : h source ≡ Some y
-
-given_step : {X Y : Type 0} (h : X → Option Y) (x : X) (xs : List X) (y : Y) (o : Option Y) → h x ≡ o
-    → (Among (filter_map h xs) y → IsGiven h xs y)
-    → Among (cons_option o (filter_map h xs)) y → IsGiven h (x ∷ xs) y
-given_step h x xs y None e rest k = let more = rest k in record { source = more.source; among = inr more.among; gives = more.gives }
-given_step h x xs y (Some z) e rest (inl same) = record { source = x; among = inl refl; gives = e ∙ ap Some same }
-given_step h x xs y (Some z) e rest (inr k) = let more = rest k in record { source = more.source; among = inr more.among; gives = more.gives }
-
-pub filter_map_given : {X Y : Type 0} (h : X → Option Y) (xs : List X) (y : Y) → Among (filter_map h xs) y → IsGiven h xs y
-filter_map_given h [] y k = absurd k
-filter_map_given h (x ∷ xs) y k = given_step h x xs y (h x) refl (filter_map_given h xs y) k
-
-give_at : {Y : Type 0} (ys : List Y) (y : Y) (o : Option Y) → o ≡ Some y → Among (cons_option o ys) y
-give_at ys y None e = absurd (cc (e))
-give_at ys y (Some z) e = inl (ap (λ o. unwrap_or o z) e)
-
-give_more : {Y : Type 0} (ys : List Y) (y : Y) (o : Option Y) → Among ys y → Among (cons_option o ys) y
-give_more ys y None k = k
-give_more ys y (Some z) k = inr k
-
-pub filter_map_gives : {X Y : Type 0} (h : X → Option Y) (xs : List X) (x : X) (y : Y) → Among xs x → h x ≡ Some y
-    → Among (filter_map h xs) y
-filter_map_gives h [] x y k e = absurd k
-filter_map_gives h (z ∷ xs) x y (inl same) e = give_at (filter_map h xs) y (h z) (ap h same ∙ e)
-filter_map_gives h (z ∷ xs) x y (inr k) e = give_more (filter_map h xs) y (h z) (filter_map_gives h xs x y k e)
-
 -- what a look-up finds
 find_step : {X : Type 0} (p : X → Bool) (x : X) (xs : List X) (y : X) (b : Bool) → p x ≡ b
     → (find p xs ≡ Some y → Among xs y × (p y ≡ true))
@@ -124,21 +93,23 @@ names_name tx rm h = let found = any_find (is_at rm) tx.branches h in (xid_of tx
 pub spent_by : (rm : ℕ) (facts : List Fact) (fact : Fact) (x : XidParts) → Among facts fact → xid_at (tx_of fact) rm ≡ Some x
     → is_spent rm facts x ≡ true
 spent_by rm facts fact x h e =
-    found_any (λ f. is_xid x (xid_at (tx_of f) rm)) facts fact h (ap (is_xid x) e ∙ (xid_decides x x).1 refl)
-
-is_xid_same : (x : XidParts) (o : Option XidParts) → is_xid x o ≡ true → o ≡ Some x
-is_xid_same x None e = absurd (cc (e))
-is_xid_same x (Some y) e = ap Some (sym ((xid_decides x y).0 e))
+    let at = λ (f : Fact). xid_at (tx_of f) rm in
+    found_any (xid_eq x) (filter_map at facts) x (filter_map_gives at facts fact x h e) ((xid_decides x x).1 refl)
 
 -- one more fact spends its own name only
 pub still_unspent : (rm : ℕ) (facts : List Fact) (fact : Fact) (x : XidParts) → is_spent rm facts x ≡ false
     → (xid_at (tx_of fact) rm ≡ Some x → ⊥)
     → is_spent rm (facts ++ fact ∷ []) x ≡ false
 still_unspent rm facts fact x unspent apart = false_from_ne_true (is_spent rm (facts ++ fact ∷ []) x)
-    (λ h. let found = any_found (λ f. is_xid x (xid_at (tx_of f) rm)) (facts ++ fact ∷ []) h in
-    elim (Among-push facts fact found.element found.among) [
-      | inl old ↦ none_found (λ f. is_xid x (xid_at (tx_of f) rm)) facts unspent found.element old found.passes
-      | inr e ↦ apart (is_xid_same x (xid_at (tx_of fact) rm) (ap (λ (f : Fact). is_xid x (xid_at (tx_of f) rm)) e ∙ found.passes))
+    (λ h.
+    let at = λ (f : Fact). xid_at (tx_of f) rm in
+    let found = any_found (xid_eq x) (filter_map at (facts ++ fact ∷ [])) h in
+    let same : x ≡ found.element = (xid_decides x found.element).0 found.passes in
+    let given = filter_map_given at (facts ++ fact ∷ []) found.element found.among in
+    let named : at given.source ≡ Some x = given.gives ∙ ap Some (sym same) in
+    elim (Among-push facts fact given.source given.among) [
+      | inl old ↦ both_ways (is_spent rm facts x) unspent (spent_by rm facts given.source x old named)
+      | inr e ↦ apart (subst (λ (f : Fact). at f ≡ Some x) (sym e) named)
     ])
 
 -- ---- keys
@@ -157,10 +128,10 @@ touched_before : (keys : List Touched) (key : List ℕ) (write : Option (Option 
 touched_before [] key write k h = elim (or_cases (bytes_eq key k) false h) [ inl e ↦ inr ((bytes_decides key k).0 e) | inr none ↦ absurd (cc (none)) ]
 touched_before (first ∷ keys) key write k h =
     (cond_both (bytes_eq first.key key) (record { key = key; write = if is_some write then write else first.write } ∷ keys)
-    (if bytes_before key first.key then record { key = key; write = write } ∷ first ∷ keys else first ∷ touch_key keys key write)
+    (if is_lt (slice_cmp nat_cmp key first.key) then record { key = key; write = write } ∷ first ∷ keys else first ∷ touch_key keys key write)
     (λ (after : List Touched). has_key k after ≡ true → (has_key k (first ∷ keys) ≡ true) ⊎ (key ≡ k))
     (λ same h. elim (or_cases (bytes_eq key k) (has_key k keys) h) [ inl e ↦ inr ((bytes_decides key k).0 e) | inr e ↦ inl (or_right (bytes_eq first.key k) (has_key k keys) e) ])
-    (λ other. cond_both (bytes_before key first.key) (record { key = key; write = write } ∷ first ∷ keys) (first ∷ touch_key keys key write)
+    (λ other. cond_both (is_lt (slice_cmp nat_cmp key first.key)) (record { key = key; write = write } ∷ first ∷ keys) (first ∷ touch_key keys key write)
     (λ (after : List Touched). has_key k after ≡ true → (has_key k (first ∷ keys) ≡ true) ⊎ (key ≡ k))
     (λ here h. elim (or_cases (bytes_eq key k) (has_key k (first ∷ keys)) h) [ inl e ↦ inr ((bytes_decides key k).0 e) | inr e ↦ inl e ])
     (λ there h. elim (or_cases (bytes_eq first.key k) (has_key k (touch_key keys key write)) h) [

@@ -18,7 +18,7 @@ use Rattle.stable_record.specs.Facts as stored
 use Rattle.protocol.specs.declared.NodeId.TheVariants.{R}
 use Rattle.protocol.specs.Facts.{vote_in, is_ended, is_spent, view, is_prepared_view, is_open_view}
 use Rattle.protocol.specs.Effects.{Config, Effect, Send, ToLeaders, to, is_inside}
-use Rattle.protocol.specs.Managers.{Branch, idle_keys, vote_sent, first_vote, on_prepare, on_commit, on_abort, on_message, manager_takes, on_manager_timeout}
+use Rattle.protocol.specs.Managers.{Branch, idle_keys, vote_sent, first_vote, on_prepare, on_commit, on_abort, manager_takes, on_manager_timeout}
 use Rattle.protocol.specs.Nodes.{Memory, Input, CallOn, ListPrepared, AskView, AskCommit, AskStatus, TimeOut, Take, TakeNoise, effect_of, is_message_inside}
 use Rattle.safety.specs.Standing.{Among}
 use Rattle.safety.proofs.Lists.{Among-append}
@@ -146,17 +146,13 @@ module _ (rm : ℕ) (facts : List Fact) (branches : List Branch) (input : Input)
       (λ opens. record { fact_is = (x, record { came = came; name = name; opens = opens }); sends_are = λ send h. absurd h })
       (λ other. nothing)
 
-  message_is : (x : XidParts) (m : Kind) → xid_at (tx_of m) rm ≡ Some x → input ≡ Take m
-      → IsRightEffect rm facts branches input (on_message rm facts branches x m)
-  message_is x (kinds.Prepare tx) name came = prepare_is tx x name
-  message_is x (kinds.Commit tx) name came = commit_is tx came
-  message_is x (kinds.Abort tx) name came = abort_is tx x name came
-  message_is x m name came = nothing
-
   takes_is : (m : Kind) (o : Option XidParts) → xid_at (tx_of m) rm ≡ o → input ≡ Take m
       → IsRightEffect rm facts branches input (manager_takes rm facts branches o m)
+  takes_is (kinds.Prepare tx) (Some x) name came = prepare_is tx x name
+  takes_is (kinds.Commit tx) (Some x) name came = commit_is tx came
+  takes_is (kinds.Abort tx) (Some x) name came = abort_is tx x name came
+  takes_is m (Some x) name came = nothing
   takes_is m None name came = nothing
-  takes_is m (Some x) name came = message_is x m name came
 
   asked_is : (now : List Fact) (tx : TxParts) (b : Bool) (send : Send)
       → Among (if b then to ToLeaders (kinds.Ask tx rm) ∷ [] else []) send → IsManagerSend rm now send.message

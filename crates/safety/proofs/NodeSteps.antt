@@ -12,10 +12,9 @@ use Rattle.stable_record.specs.Facts.{Fact}
 use Rattle.protocol.specs.declared.NodeId.{NodeId}
 use Rattle.protocol.specs.declared.NodeId.TheVariants.{L, R}
 use Rattle.protocol.specs.Effects.{Config, Effect, Send, Reply, receivers}
-use Rattle.protocol.specs.Lengths.{frame_length}
+use Rattle.stable_record.specs.Frames.{frame_length}
 use Rattle.protocol.specs.Nodes.{Memory, empty_memory, NodeState, Input, Fate, Well, Fails, Unreached, Starved, Outcome, is_taken}
-use Rattle.protocol.specs.Nodes.{effect_of, unchanged, stopped, followed, settled, down_reply, node_step}
-use Rattle.protocol.specs.Playing.{plays}
+use Rattle.protocol.specs.Nodes.{effect_of, unchanged, stopped, followed, settled, down_reply, node_step, plays}
 use Rattle.protocol.specs.Worlds.{World, Datagram, node_at, posted, joined}
 use Rattle.safety.specs.Senders.{IsFrom, AreFrom}
 use Rattle.safety.specs.Standing.{Among, sent_in}

@@ -3,7 +3,7 @@ use Rattle.std.proofs.Common.{◌≡◌, ℕ, zero, suc, ◌+◌, ◌<◌, Bool,
 use Rattle.std.proofs.Common.{◌∷◌, Option, Some, None, refl, ap, nat_lt, arith}
 use Rattle.std.specs.Prelude.{map, replicate, slice_get}
 use Rattle.std.specs.List.{slice_set}
-use Rattle.std.specs.Option.{option_and_then}
+use Rattle.std.specs.Option.{option_and_then, option_map_or}
 use Rattle.std.proofs.lemmas.Bool.{ltb-true}
 use Rattle.wire.specs.declared.message.Kind.{Kind}
 use Rattle.protocol.specs.declared.NodeId.{NodeId}
@@ -89,8 +89,7 @@ at_place nodes place = option_and_then (λ p. slice_get nodes p) place
 
 -- the nodes with one put at a place, if it is one
 abbrev put_at : List NodeState → NodeState → Option ℕ → List NodeState
-put_at nodes new None = nodes
-put_at nodes new (Some p) = slice_set nodes p new
+put_at nodes new place = option_map_or (λ p. slice_set nodes p new) place nodes
 
 there_by : (nodes : List NodeState) (node new : NodeState) (o : Option ℕ) → at_place nodes o ≡ Some node
     → at_place (put_at nodes new o) o ≡ Some new

@@ -9,7 +9,8 @@ use Rattle.stable_record.specs.Facts as stored
 use Rattle.protocol.specs.declared.NodeId.{NodeId}
 use Rattle.protocol.specs.declared.NodeId.TheVariants.{R}
 use Rattle.protocol.specs.Effects.{Config}
-use Rattle.protocol.specs.Playing.{plays, all_play, is_new, is_name_spent, is_some_held}
+use Rattle.protocol.specs.Nodes.{plays, all_play}
+use Rattle.protocol.specs.Managers.{is_new, is_name_spent, is_some_held}
 use Rattle.safety.specs.Standing.{Among, HasVote}
 
 -- a fact played after some facts

@@ -8,7 +8,7 @@ use Rattle.protocol.specs.declared.NodeId.TheVariants.{A, L, R}
 use Rattle.protocol.specs.Effects.{Config, Effect, Reply, replies}
 use Rattle.protocol.specs.Nodes.{Memory, NodeState, Input, CallOn, ListPrepared, AskView, AskCommit, AskStatus, TimeOut, Take}
 use Rattle.protocol.specs.Nodes.{TakeNoise, effect_of, takes, is_message_inside}
-use Rattle.protocol.specs.Playing.{plays_at_acceptor}
+use Rattle.protocol.specs.Acceptors.{plays_at_acceptor}
 use Rattle.safety.specs.Standing.{Among, facts_of}
 use Rattle.safety.proofs.Acceptors.{messages_of, acceptor_is_good}
 use Rattle.safety.proofs.Leaders.{IsTakenSent, leader_effect}

@@ -1,6 +1,5 @@
 -- What holds of a world at each moment of a run, and that it lasts while one node takes a step.
-use Rattle.std.proofs.Common.{◌≡◌, ◌⊎◌, inl, inr, ◌∙◌, ℕ, zero, suc, true, List, []}
-use Rattle.std.proofs.Common.{◌++◌, Option, Some, None, refl, sym, ap, subst, arith}
+use Rattle.std.proofs.Common.{◌≡◌, ◌⊎◌, inl, inr, ◌∙◌, ℕ, zero, suc, true, List, [], ◌++◌, Option, Some, None, refl, sym, ap, subst, arith}
 use Rattle.std.specs.List.{flat_map}
 use Rattle.std.specs.Option.{option_to_list}
 use Rattle.std.proofs.lemmas.List.{append-nil}
@@ -17,13 +16,12 @@ use Rattle.protocol.specs.declared.View.{View}
 use Rattle.protocol.specs.declared.View.TheVariants as views
 use Rattle.protocol.specs.Effects.{Config}
 use Rattle.protocol.specs.Facts.{view}
-use Rattle.protocol.specs.Nodes.{NodeState}
-use Rattle.protocol.specs.Playing.{plays, all_play}
+use Rattle.protocol.specs.Nodes.{NodeState, plays, all_play}
 use Rattle.protocol.specs.StandsFor.{stands_for}
 use Rattle.protocol.specs.Views.{IsCommitStep}
 use Rattle.protocol.specs.Worlds.{World, node_at}
-use Rattle.protocol.specs.Laws as laws
-use Rattle.protocol.proofs.ViewLaws as protocol
+use Rattle.safety.specs.Laws as laws
+use Rattle.safety.proofs.ViewLaws as view_laws
 use Rattle.safety.specs.Items.{Item, IsView, IsState}
 use Rattle.safety.specs.Invariant.{Invariant}
 use Rattle.safety.specs.Senders.{IsFrom}
@@ -87,7 +85,7 @@ view_stands_as facts sent tx r views.Aborted h = h
 pub state_stands : (config : Config) (nodes : NodeId → Option NodeState) (sent : List Kind) (tx : TxParts)
     → IsState (setting config) (StandsBy (facts_by nodes) sent) tx (views_by nodes tx)
 state_stands config nodes sent tx r named =
-    view_stands_as (facts_by nodes) sent tx r (view (facts_by nodes (R r)) tx) (protocol.view_is (facts_by nodes (R r)) tx)
+    view_stands_as (facts_by nodes) sent tx r (view (facts_by nodes (R r)) tx) (view_laws.view_is (facts_by nodes (R r)) tx)
 
 -- ---- facts that play
 

@@ -11,7 +11,8 @@ use Rattle.stable_record.specs.Facts.{Fact, Touched}
 use Rattle.stable_record.specs.Facts as stored
 use Rattle.protocol.specs.declared.View.{View}
 use Rattle.protocol.specs.declared.View.TheVariants as views
-use Rattle.protocol.specs.Facts.{tx_eq, instance_eq, vote_eq, casts, vote_in, commits, aborts, is_ended, view, is_prepared_view, is_open_view}
+use Rattle.xid.specs.Rows.{tx_eq}
+use Rattle.protocol.specs.Facts.{instance_eq, vote_eq, casts, vote_in, commits, aborts, is_ended, view, is_prepared_view, is_open_view}
 use Rattle.protocol.proofs.Same.{tx_eq-same, tx_eq-is, instance_eq-same, instance_eq-is}
 use Rattle.safety.specs.Items.{Item, Voted, Committed, Dropped, IsView}
 use Rattle.safety.specs.Standing.{Among, HasVote}

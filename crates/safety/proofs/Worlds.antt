@@ -7,7 +7,7 @@ use Rattle.std.proofs.lemmas.List.{append-nil}
 use Rattle.xid.specs.Transactions.{TxParts}
 use Rattle.wire.specs.declared.message.Kind.{Kind}
 use Rattle.stable_record.specs.Facts.{Fact}
-use Rattle.xid.specs.declared.refusals.Refusal.TheVariants.{NoSuch}
+use Rattle.xid.specs.declared.refusals.Refusal.TheVariants.{NoSuch, Forged}
 use Rattle.protocol.specs.Calls as calls
 use Rattle.protocol.specs.declared.NodeId.{NodeId}
 use Rattle.protocol.specs.declared.NodeId.TheVariants.{L, R}
@@ -15,10 +15,10 @@ use Rattle.protocol.specs.Effects.{Config, Send, Done, Refuses}
 use Rattle.wire.specs.Grammar.{spelling}
 use Rattle.protocol.specs.Nodes.{NodeState, Input, CallOn, ListPrepared, AskView, AskCommit, AskStatus}
 use Rattle.protocol.specs.Nodes.{TimeOut, Take, TakeNoise, Fate, Well, Fails, Unreached, Starved, Outcome, node_step, restarted}
-use Rattle.protocol.specs.Playing.{all_play}
+use Rattle.protocol.specs.Nodes.{all_play}
 use Rattle.protocol.specs.Worlds.{World, Datagram, opening, Event, Client, ViewOf, CommitOf, StatusOf, Timeout, Deliver, Lose}
 use Rattle.protocol.specs.Worlds.{Cut, Noise, Tear, Restart, Happening, Fated, where_found, node_at, set_node, refused, joined}
-use Rattle.protocol.specs.Worlds.{at_node, restarts, tears, datagram_at, marked_at, with_mark, delivers, loses, cuts, disturbs}
+use Rattle.protocol.specs.Worlds.{at_node, datagram_at, marked_at, cuts}
 use Rattle.protocol.specs.Worlds.{does, happens, world_after}
 use Rattle.xid.specs.declared.transaction.Vote.TheVariants as votes
 use Rattle.safety.specs.Items.{Item, Promised, Accepted, Began, Voted, Committed, Dropped, P1b, P2a, P2b, Commit, Abort}
@@ -49,6 +49,10 @@ marked_from config (d ∷ net) (suc zero) are x (inl e) = subst (λ (y : Datagra
 marked_from config (d ∷ net) (suc zero) are x (inr h) = are x (inr h)
 marked_from config (d ∷ net) (suc (suc n)) are x (inl e) = are x (inl e)
 marked_from config (d ∷ net) (suc (suc n)) are x (inr h) = marked_from config net (suc n) (λ y k. are y (inr k)) x h
+
+-- a world with a datagram marked
+abbrev with_mark : World → ℕ → World
+with_mark world n = record world { net = marked_at world.net n }
 
 module _ (config : Config) (world : World) (safe : IsSafe config world) where
   -- nothing changes
@@ -102,7 +106,7 @@ module _ (config : Config) (world : World) (safe : IsSafe config world) where
       (λ plays. record { facts = refl; silent = refl; memory = inr refl })
       (λ damaged. record { facts = refl; silent = refl; memory = inr refl })
 
-  restarts_next : (who : NodeId) (fate : Fate) → IsNext config world (restarts config world who fate).world
+  restarts_next : (who : NodeId) (fate : Fate) → IsNext config world (does config world (Restart who) fate).world
   restarts_next who fate = found_next (node_at config world who)
       (λ node. joined config world who node.facts (restarted config who node fate))
       (λ node is. let still = restarted_is who node fate in record {
@@ -122,14 +126,14 @@ module _ (config : Config) (world : World) (safe : IsSafe config world) where
         from = λ are. are;
       }
 
-  tears_next : (who : NodeId) (n : ℕ) → IsNext config world (tears config world who n).world
-  tears_next who n = found_next (node_at config world who)
+  tears_next : (who : NodeId) (n : ℕ) (fate : Fate) → IsNext config world (does config world (Tear who n) fate).world
+  tears_next who n fate = found_next (node_at config world who)
       (λ node. refused (set_node config world who (record node { tear = Some n })) Done) (armed_next who n)
 
   -- ---- datagrams
 
-  loses_next : (n : ℕ) → IsNext config world (loses world n).world
-  loses_next n = found_next (datagram_at world.net n) (λ d. refused (with_mark world n) Done) (λ d is. marked n)
+  loses_next : (n : ℕ) (fate : Fate) → IsNext config world (does config world (Lose n) fate).world
+  loses_next n fate = found_next (datagram_at world.net n) (λ d. refused (with_mark world n) Done) (λ d is. marked n)
 
   cuts_next : (n k : ℕ) (fate : Fate) → IsNext config world (cuts config world n k fate).world
   cuts_next n k fate = found_next (datagram_at world.net n)
@@ -140,9 +144,9 @@ module _ (config : Config) (world : World) (safe : IsSafe config world) where
       (λ happening. IsNext config world happening.world)
       (λ fewer. at_node_next d.receiver TakeNoise fate tt) (λ all. same))
 
-  disturbs_next : (who : NodeId) (spells : Bool) (fate : Fate) → IsNext config world (disturbs config world who spells fate).world
-  disturbs_next who false fate = at_node_next who TakeNoise fate tt
-  disturbs_next who true fate = same
+  noise_next : (who : NodeId) (spells : Bool) (fate : Fate) → IsNext config world (does config world (Noise who spells) fate).world
+  noise_next who false fate = at_node_next who TakeNoise fate tt
+  noise_next who true fate = found_next (node_at config world who) (λ node. refused world (Refuses Forged)) (λ node is. same)
 
 -- a datagram of the net has a message that was sent
 slice_among : {X : Type 0} (xs : List X) (n : ℕ) (x : X) → slice_get xs n ≡ Some x → Among xs x
@@ -155,7 +159,7 @@ datagram_among net zero d h = absurd (cc (h))
 datagram_among net (suc n) d h = slice_among net n d h
 
 module _ (config : Config) (world : World) (safe : IsSafe config world) where
-  delivers_next : (n : ℕ) (fate : Fate) → IsNext config world (delivers config world n fate).world
+  delivers_next : (n : ℕ) (fate : Fate) → IsNext config world (does config world (Deliver n) fate).world
   delivers_next n fate = found_next config world safe (datagram_at world.net n)
       (λ d. at_node config (with_mark world n) d.receiver (Take d.message) fate)
       (λ d is.
@@ -174,10 +178,10 @@ module _ (config : Config) (world : World) (safe : IsSafe config world) where
   does_next (StatusOf l tx) fate = at_node_next config world safe (L l) (AskStatus tx) fate tt
   does_next (Timeout who tx) fate = at_node_next config world safe who (TimeOut tx) fate tt
   does_next (Deliver n) fate = delivers_next n fate
-  does_next (Lose n) fate = loses_next config world safe n
+  does_next (Lose n) fate = loses_next config world safe n fate
   does_next (Cut n k) fate = cuts_next config world safe n k fate
-  does_next (Noise who spells) fate = disturbs_next config world safe who spells fate
-  does_next (Tear who n) fate = tears_next config world safe who n
+  does_next (Noise who spells) fate = noise_next config world safe who spells fate
+  does_next (Tear who n) fate = tears_next config world safe who n fate
   does_next (Restart who) fate = restarts_next config world safe who fate
 
   -- every event

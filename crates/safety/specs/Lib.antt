@@ -4,3 +4,4 @@ pub mod Invariant
 pub mod Standing
 pub mod Runs
 pub mod Senders
+pub mod Laws

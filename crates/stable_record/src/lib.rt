@@ -2,5 +2,6 @@
 #![tactic(auto)]
 
 mod fact;
+pub mod laws;
 
 pub use fact::{Act, Fact, FactKind, Touched};

@@ -1,6 +1,9 @@
 -- What an XID is, after X/Open XA (C193), "Transaction branch identification": a format and two components.
 use Rattle.std.specs.Prelude.{ℕ, ◌<◌, ◌≤◌, ◌^◌, Bool, ◌&&◌, ◌==◌, List, length, slice_index}
+use Rattle.std.specs.Cmp.Lexicographic.{slice_cmp}
+use Rattle.std.specs.Ordering.{nat_cmp, on, then_cmp}
 use Rattle.std.specs.Str.{bytes_eq}
+use Rattle.std.specs.declared.cmp.Ordering.{Ordering}
 
 -- each element is a byte
 abbrev pub IsBytes : List ℕ → Type 0
@@ -27,3 +30,7 @@ pub record IsXid (x : XidParts) : Type 0 where
 -- whether two XIDs are the same
 abbrev pub xid_eq : XidParts → XidParts → Bool
 xid_eq x y = (x.format == y.format) && bytes_eq x.gtrid y.gtrid && bytes_eq x.bqual y.bqual
+
+-- XIDs are ordered by format, then by gtrid, then by bqual
+abbrev pub xid_cmp : XidParts → XidParts → Ordering
+xid_cmp = then_cmp (on (λ x. x.format) nat_cmp) (then_cmp (on (λ x. x.gtrid) (slice_cmp nat_cmp)) (on (λ x. x.bqual) (slice_cmp nat_cmp)))

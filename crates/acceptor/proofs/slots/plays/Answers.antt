@@ -1,6 +1,6 @@
 use Rattle.std.proofs.Common.{◌∙◌, sym, ap}
 use Rattle.stable_record.specs.FactsOf.{fact_of}
-use Rattle.protocol.specs.Playing.{plays_at_acceptor}
+use Rattle.protocol.specs.Acceptors.{plays_at_acceptor}
 use Rattle.acceptor.proofs.slots.plays.Goals as goal
 
 pub returns-in-Promise : goal.returns-in-Promise

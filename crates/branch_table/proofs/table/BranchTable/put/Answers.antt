@@ -1,7 +1,7 @@
 use Rattle.std.proofs.Common.{Some, Ok, Err, ℕ, List, refl, sym, ap, subst}
 use Rattle.branch_table.specs.Limits.{Admits}
 use Rattle.protocol.specs.Calls.{Put, Code}
-use Rattle.protocol.specs.Branches.{touch}
+use Rattle.branch_table.specs.OneCall.{touch}
 use Rattle.branch_table.proofs.CallSteps.{key_inval, key_denied, key_done, touches_distinct}
 use Rattle.xid.specs.declared.codes.XaCode.TheVariants as code
 use Rattle.branch_table.proofs.table.BranchTable.put.Goals as goal

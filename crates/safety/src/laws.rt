@@ -1,13 +1,12 @@
-//! What the definitions come to.
-ghost use Rattle.std.specs.Prelude.{◌≡◌, ℕ, ◌≤◌, true, [], ◌++◌, length, List};
+//! What slots and views come to, fact by fact.
+ghost use Rattle.std.specs.Prelude.{◌≡◌, ℕ, true, [], List};
 ghost use Rattle.xid.specs.Transactions.{TxParts};
 ghost use Rattle.stable_record.specs.Facts as stored;
 ghost use Rattle.protocol.specs.declared.NodeId.TheVariants.{A};
 ghost use Rattle.protocol.specs.Effects.{Config};
 ghost use Rattle.protocol.specs.Facts.{slot, view};
-ghost use Rattle.protocol.specs.Playing.{all_play};
-ghost use Rattle.protocol.specs.Nodes.{torn};
-ghost use Rattle.protocol.specs.Laws.{IsSlot, IsViewOf, Begins};
+ghost use Rattle.protocol.specs.Nodes.{all_play};
+ghost use Rattle.safety.specs.Laws.{IsSlot, IsViewOf};
 
 /// A slot is what the facts of an acceptor say: its ballot is the greatest of a promise or an accept, or 0 where there is none; and
 /// it holds the greatest accept.
@@ -19,11 +18,4 @@ pub fn slot_is_greatest()
 /// A view is one of four, by the facts alone.
 pub fn view_is_one_of_four()
     ensures { (facts : List stored.Fact) (tx : TxParts) → IsViewOf facts tx (view facts tx) }
-{}
-
-/// A stopped append leaves the bytes that stood and a beginning of the frame, which may be the whole.
-pub fn torn_append_is_a_beginning()
-    ensures beginning { (bytes frame : List ℕ) (n : ℕ) → Begins (bytes ++ torn frame n) (bytes ++ frame) }
-    ensures kept { (bytes frame : List ℕ) (n : ℕ) → Begins bytes (bytes ++ torn frame n) }
-    ensures whole { (frame : List ℕ) (n : ℕ) → length frame ≤ n → torn frame n ≡ frame }
 {}

@@ -11,13 +11,15 @@ use Rattle.ballot.specs.Choice.{Report}
 use Rattle.stable_record.specs.Facts.{Fact}
 use Rattle.stable_record.specs.Facts as stored
 use Rattle.protocol.specs.declared.NodeId.TheVariants.{A}
-use Rattle.protocol.specs.Acceptors.{is_accepted}
+use Rattle.protocol.specs.Acceptors.{is_accepted, plays_at_acceptor}
 use Rattle.protocol.specs.Effects.{Config}
 use Rattle.protocol.specs.Facts.{instance_eq, ballot_joined, accepted_by, slot}
-use Rattle.protocol.specs.Playing.{all_play, plays_at_acceptor}
-use Rattle.protocol.specs.Laws.{Stands, IsGreatestAccept, IsJoined, IsSlot}
+use Rattle.protocol.specs.Nodes.{all_play}
+use Rattle.safety.specs.Laws.{IsGreatestAccept, IsJoined, IsSlot}
+use Rattle.safety.specs.Standing.{Among}
 use Rattle.protocol.proofs.Same.{instance_eq-same, instance_eq-is}
-use Rattle.protocol.proofs.Standing.{Stands-append, Stands-before, Stands-last, at_most_greatest, greatest_given}
+use Rattle.safety.proofs.Lists.{Among-append, Among-before, Among-last}
+use Rattle.safety.proofs.Greatest.{at_most_greatest, greatest_given}
 
 -- ---- what is promised and accepted is at most mbal
 
@@ -27,10 +29,10 @@ joined_here tx i b = ap (λ (t : Bool). if t then Some b else None) (instance_eq
 accepted_joins : (tx : TxParts) (i b : ℕ) (v : Vote) → ballot_joined tx i (stored.Accept tx i b v) ≡ Some b
 accepted_joins tx i b v = ap (λ (t : Bool). if t then Some b else None) (instance_eq-same tx i)
 
-promised_below : (facts : List Fact) (tx : TxParts) (i b : ℕ) → Stands facts (stored.Promise tx i b) → b ≤ (slot facts tx i).mbal
+promised_below : (facts : List Fact) (tx : TxParts) (i b : ℕ) → Among facts (stored.Promise tx i b) → b ≤ (slot facts tx i).mbal
 promised_below facts tx i b h = at_most_greatest (ballot_joined tx i) facts (stored.Promise tx i b) b h (joined_here tx i b)
 
-accepted_below : (facts : List Fact) (tx : TxParts) (i b : ℕ) (v : Vote) → Stands facts (stored.Accept tx i b v) → b ≤ (slot facts tx i).mbal
+accepted_below : (facts : List Fact) (tx : TxParts) (i b : ℕ) (v : Vote) → Among facts (stored.Accept tx i b v) → b ≤ (slot facts tx i).mbal
 accepted_below facts tx i b v h = at_most_greatest (ballot_joined tx i) facts (stored.Accept tx i b v) b h (accepted_joins tx i b v)
 
 -- ---- mbal is the ballot of a promise or an accept
@@ -51,17 +53,17 @@ accept_from tx other i j b c v true e h =
     λ k. stored.Accept (sym same.0 k) (sym same.1 k) (ballot k) v
 accept_from tx other i j b c v false e h = absurd (cc (h))
 
-joined_by : (facts : List Fact) (tx : TxParts) (i b : ℕ) (fact : Fact) → Stands facts fact → ballot_joined tx i fact ≡ Some b → IsJoined facts tx i b
+joined_by : (facts : List Fact) (tx : TxParts) (i b : ℕ) (fact : Fact) → Among facts fact → ballot_joined tx i fact ≡ Some b → IsJoined facts tx i b
 joined_by facts tx i b (stored.Promise other j c) h e =
-    inr (inl (subst (λ (f : Fact). Stands facts f) (promise_from tx other i j b c (instance_eq tx i other j) refl e) h))
+    inr (inl (subst (λ (f : Fact). Among facts f) (promise_from tx other i j b c (instance_eq tx i other j) refl e) h))
 joined_by facts tx i b (stored.Accept other j c v) h e =
-    inr (inr (v, subst (λ (f : Fact). Stands facts f) (accept_from tx other i j b c v (instance_eq tx i other j) refl e) h))
+    inr (inr (v, subst (λ (f : Fact). Among facts f) (accept_from tx other i j b c v (instance_eq tx i other j) refl e) h))
 joined_by facts tx i b fact h e = absurd (cc (e))
 
 mbal_joined : (facts : List Fact) (tx : TxParts) (i : ℕ) → IsJoined facts tx i (slot facts tx i).mbal
 mbal_joined facts tx i = ⊎_elim
     (λ none. inl none)
-    (λ given. joined_by facts tx i (slot facts tx i).mbal given.element given.stands given.gives)
+    (λ given. joined_by facts tx i (slot facts tx i).mbal given.source given.among given.gives)
     (greatest_given (ballot_joined tx i) facts)
 
 -- ---- the report after one more fact
@@ -109,11 +111,11 @@ accept_is tx i (stored.Accept other j b v) last h = from_test tx other i j b v l
 accept_is tx i fact last h = absurd (cc (h))
 
 -- an accept that stands after one more fact stood before it, or is that fact
-old_or_new : (facts : List Fact) (fact : Fact) (tx : TxParts) (i b : ℕ) (v : Vote) → Stands (facts ++ fact ∷ []) (stored.Accept tx i b v)
-    → Stands facts (stored.Accept tx i b v) ⊎ (accepted_by tx i fact ≡ Some (b, v))
-old_or_new facts fact tx i b v h = ⊎_elim (λ old. inl old) (λ new. inr (told new)) (Stands-append facts (fact ∷ []) (stored.Accept tx i b v) h)
+old_or_new : (facts : List Fact) (fact : Fact) (tx : TxParts) (i b : ℕ) (v : Vote) → Among (facts ++ fact ∷ []) (stored.Accept tx i b v)
+    → Among facts (stored.Accept tx i b v) ⊎ (accepted_by tx i fact ≡ Some (b, v))
+old_or_new facts fact tx i b v h = ⊎_elim (λ old. inl old) (λ new. inr (told new)) (Among-append facts (fact ∷ []) (stored.Accept tx i b v) h)
   where
-    told : Stands (fact ∷ []) (stored.Accept tx i b v) → accepted_by tx i fact ≡ Some (b, v)
+    told : Among (fact ∷ []) (stored.Accept tx i b v) → accepted_by tx i fact ≡ Some (b, v)
     told (inl e) = ap (accepted_by tx i) e ∙ accepted_here tx i b v
     told (inr none) = absurd none
 
@@ -122,7 +124,7 @@ old_or_new facts fact tx i b v h = ⊎_elim (λ old. inl old) (λ new. inr (told
 kept : (facts : List Fact) (fact : Fact) (tx : TxParts) (i : ℕ) (r : Report) → accepted_by tx i fact ≡ None → IsGreatestAccept facts tx i r → IsGreatestAccept (facts ++ fact ∷ []) tx i r
 kept facts fact tx i None none h = λ b v is. ⊎_elim (λ old. h b v old) (λ new. absurd (cc (none, new))) (old_or_new facts fact tx i b v is)
 kept facts fact tx i (Some last) none h = (
-  Stands-before facts (fact ∷ []) (stored.Accept tx i last.0 last.1) h.0,
+  Among-before facts (fact ∷ []) (stored.Accept tx i last.0 last.1) h.0,
   λ b v is. ⊎_elim (λ old. h.1 b v old) (λ new. absurd (cc (none, new))) (old_or_new facts fact tx i b v is),
 )
 
@@ -145,7 +147,7 @@ added : (facts : List Fact) (fact : Fact) (tx : TxParts) (i : ℕ) (last : ℕ �
 added facts fact tx i last e h =
     let is : fact ≡ stored.Accept tx i last.0 last.1 = accept_is tx i fact last e in
     let above = plays_above facts tx i last.0 last.1 (subst (λ (f : Fact). plays_at_acceptor facts f ≡ true) is h) in (
-      subst (λ (f : Fact). Stands (facts ++ fact ∷ []) f) is (Stands-last facts fact),
+      subst (λ (f : Fact). Among (facts ++ fact ∷ []) f) is (Among-last facts fact),
       λ b v at. ⊎_elim
           (λ old. let low = accepted_below facts tx i b v old in omega (arith, low, above))
           (λ new. ballot_same b v last (sym e ∙ new))

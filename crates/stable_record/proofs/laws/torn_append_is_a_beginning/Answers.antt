@@ -1,6 +1,6 @@
 use Rattle.std.proofs.Common.{ap, ◌∙◌, append_assoc, List, ℕ, ◌++◌, drop, take}
 use Rattle.std.proofs.lemmas.List.{take-append-drop}
-use Rattle.protocol.proofs.laws.torn_append_is_a_beginning.Goals as goal
+use Rattle.stable_record.proofs.laws.torn_append_is_a_beginning.Goals as goal
 
 pub returns-clause-beginning : goal.returns-clause-beginning
 returns-clause-beginning c bytes frame n =

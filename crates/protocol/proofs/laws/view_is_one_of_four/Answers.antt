@@ -1,5 +1,0 @@
-use Rattle.protocol.proofs.ViewLaws.{view_is}
-use Rattle.protocol.proofs.laws.view_is_one_of_four.Goals as goal
-
-pub returns : goal.returns
-returns c = view_is
