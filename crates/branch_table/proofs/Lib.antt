@@ -1,3 +1,5 @@
 pub mod TouchingLemmas
 pub mod Views
 pub mod CallSteps
+pub mod TouchedKeys
+pub mod MachineCalls

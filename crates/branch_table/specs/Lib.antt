@@ -1,4 +1,5 @@
 pub mod OneCall
+pub mod MachineCalls
 pub mod Tables
 pub mod Touching
 pub mod Rows

@@ -2,6 +2,7 @@
 #![tactic(auto)]
 
 mod branch;
+pub mod laws;
 mod row;
 mod table;
 
