@@ -1,5 +1,5 @@
 -- The value that phase 2a takes from the reports of a majority.
--- Gray and Lamport, "Consensus on Transaction Commit", ACM TODS 31(1), 2006, section 4.2.
+-- Gray and Lamport, "Consensus on Transaction Commit", ACM TODS 31(1), 2006, sections 4.1 and 4.2.
 use Rattle.std.specs.Prelude.{◌≡◌, ◌⊎◌, ℕ, ◌≤◌, max, Bool, true, false, not, ◌&&◌, ◌||◌, ◌==◌, if◌then◌else◌, List, [], ◌∷◌, Option, Some, None, is_some}
 use Rattle.std.specs.List.{list_any, list_all}
 use Rattle.xid.specs.declared.transaction.Vote.{Vote}

@@ -9,4 +9,6 @@ pub mod DroppedWrites
 pub mod BallotsAfterRestart
 pub mod BeforeVote
 pub mod FindsPrepared
+pub mod Repeats
+pub mod NoiseAndCuts
 pub mod Same

@@ -29,7 +29,8 @@ acceptor_takes config a facts (P1a tx i b) = on_1a config a facts tx i b
 acceptor_takes config a facts (P2a tx i b v) = on_2a a facts tx i b v
 acceptor_takes config a facts message = no_effect tt
 
--- what its record may hold after some facts: a promise is above every ballot before, an accept no lower than any, and new
+-- what its record may hold after some facts, of an instance of the transaction: a promise above every ballot before; an accept no
+-- lower than any, and new
 abbrev pub plays_at_acceptor : List Fact → Fact → Bool
 plays_at_acceptor facts (Fact.Promise tx i b) = names tx i && nat_lt (slot facts tx i).mbal b
 plays_at_acceptor facts (Fact.Accept tx i b v) = names tx i && nat_le (slot facts tx i).mbal b && not (is_accepted (slot facts tx i) b v)

@@ -1,7 +1,7 @@
--- What the definitions take from std and from the crates below.
+-- What the definitions take from std, from the crates below, and from this crate's own enums.
 pub use Rattle.std.specs.Cmp.Lexicographic.{slice_cmp}
 pub use Rattle.std.specs.List.{list_any, list_all, last_or, flat_map, range_with_len, slice_set}
-pub use Rattle.std.specs.Option.{option_map, option_map_or, option_and_then, option_to_list}
+pub use Rattle.std.specs.Option.{option_map, option_map_or, option_and_then}
 pub use Rattle.std.specs.Ordering.{nat_cmp, is_lt}
 pub use Rattle.std.specs.Str.{bytes_eq}
 pub use Rattle.xid.specs.Names.{XidParts, xid_eq, xid_cmp}

@@ -1,6 +1,6 @@
--- The table of client calls: which answer each gets, over any way to look at branches. The names of states and the codes are
--- those of X/Open XA (C193), "Transaction branch states"; which call is answered by which code in which state, and keys, holds
--- and tables, are this project's own.
+-- The table of client calls: which answer each gets, over any way to look at branches. The names of states are those of X/Open XA
+-- (C193), chapter "State Tables", and the codes those of its chapter "The xa.h Header"; which call is answered by which code in which
+-- state, and keys, holds and tables, are this project's own.
 use Rattle.std.specs.Prelude.{ℕ, Bool, true, false, ◌&&◌, ◌||◌, nat_lt, nat_le, if◌then◌else◌, List, [], ◌∷◌, length, Option, Some, None, is_none, unwrap_or}
 use Rattle.protocol.specs.Basics.{bytes_eq, XaCode, Refusal, BranchState}
 use Rattle.protocol.specs.Calls.{Action, Answer, Row, Start, End, EndFail, Rollback, Put, Del, Get, Code, Value, NoValue, Refused}

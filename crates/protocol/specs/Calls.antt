@@ -1,4 +1,5 @@
--- What clients ask of a resource manager, and what is answered.
+-- What clients ask of a resource manager, and what is answered. Start, end, rollback and recover, and the codes, are those of
+-- X/Open XA (C193), chapter "The xa.h Header"; keys and values are this project's own.
 use Rattle.std.specs.Prelude.{ℕ, List}
 use Rattle.protocol.specs.Basics.{XidParts, XaCode, Refusal}
 

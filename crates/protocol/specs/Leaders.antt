@@ -1,4 +1,4 @@
--- The rules of a leader. Gray and Lamport, "Consensus on Transaction Commit", ACM TODS 31(1), 2006, section 4.2.
+-- The rules of a leader. Gray and Lamport, "Consensus on Transaction Commit", ACM TODS 31(1), 2006, sections 4.1 and 4.2.
 use Rattle.std.specs.Prelude.{ℕ, ◌^◌, Bool, true, false, not, ◌&&◌, ◌||◌, ◌==◌, nat_lt, if◌then◌else◌, List, [], ◌∷◌, map, None}
 use Rattle.protocol.specs.Basics.{list_any, option_map_or, TxParts, participants, Refusal, Vote, Kind, Prepare, P1a, P1b, P2a, P2b, Commit, Abort, Ask, Fact, owner_of, next_of, R, Status}
 use Rattle.protocol.specs.Facts.{last_ballot}
@@ -43,6 +43,10 @@ abbrev pub on_status_call : Config → List Fact → Leading → TxParts → Eff
 on_status_call config facts leading tx =
     if is_inside config tx then replies leading (Stands (status_of config.acceptors facts leading tx)) else replies leading (Refuses Refusal.BadTx)
 
+-- whether a ballot is the current one of a transaction
+abbrev pub is_current : Leading → TxParts → ℕ → Bool
+is_current leading tx b = option_map_or (λ last. last == b) (current leading tx) false
+
 -- phase 2a of an instance, once a majority has reported and while no value was proposed
 abbrev pub after_report : Config → Leading → TxParts → ℕ → ℕ → Effect Leading
 after_report config leading tx i b =
@@ -54,7 +58,7 @@ after_report config leading tx i b =
 -- phase 1b: it counts in the current ballot while undecided, once for an acceptor
 abbrev pub on_1b : Config → List Fact → Leading → (tx : TxParts) (i b : ℕ) (a : ℕ) → Kind → Effect Leading
 on_1b config facts leading tx i b a message =
-    if is_final (status_of config.acceptors facts leading tx) || not (option_map_or (λ last. last == b) (current leading tx) false) || has_reported leading.heard tx i b a
+    if is_final (status_of config.acceptors facts leading tx) || not (is_current leading tx b) || has_reported leading.heard tx i b a
     then no_effect leading
     else after_report config (hears message leading) tx i b
 

@@ -74,7 +74,8 @@ is_decided n heard tx i v =
 abbrev pub is_known : List Fact → Leading → TxParts → Bool
 is_known facts leading tx = list_any (tx_eq tx) leading.met || list_any (λ fact. tx_eq tx (fact_tx fact)) facts
 
--- aborted where some instance has decided aborted, committed where every instance has decided prepared
+-- aborted where some instance has decided aborted, committed where every instance has decided prepared; else undecided where the
+-- leader knows the transaction, and unknown where it doesn't
 abbrev pub status_of : ℕ → List Fact → Leading → TxParts → Status
 status_of n facts leading tx =
     if list_any (λ i. is_decided n leading.heard tx i Vote.Aborted) (participants tx) then Status.Aborted

@@ -104,7 +104,7 @@ on_view_call config rm facts branches tx =
 
 -- ---- messages
 
--- the stored vote, sent again
+-- a stored vote goes to all acceptors, in ballot 0
 abbrev pub vote_sent : ℕ → TxParts → Option Vote → List Send
 vote_sent rm tx None = []
 vote_sent rm tx (Some v) = to ToAcceptors (P2a tx rm 0 v) ∷ []
@@ -166,8 +166,8 @@ is_name_spent rm facts tx = option_map_or (is_spent rm facts) (xid_at tx rm) fal
 abbrev pub is_some_held : List Fact → List Touched → Bool
 is_some_held facts keys = list_any (λ bound. list_any (λ touched. has_key touched.key bound.keys) keys) (bound_in facts)
 
--- what the record of resource manager rm may hold after some facts: a vote on a transaction that names it and has none yet, prepared where name and keys are free; an
--- outcome where it is still open, committed where it is prepared
+-- what the record of resource manager rm may hold after some facts: a vote on a transaction that names it, of which neither a vote nor
+-- an outcome is stored, prepared where name and keys are free; an outcome where it is still open, committed where it is prepared
 abbrev pub plays_at_manager : (rm : ℕ) → List Fact → Fact → Bool
 plays_at_manager rm facts (Fact.VotePrepared tx keys) =
     names tx rm && is_new facts tx && not (is_name_spent rm facts tx) && not (is_some_held facts keys)

@@ -64,7 +64,7 @@ is_acceptor_inside config message = true
 abbrev pub is_message_inside : Config → Kind → Bool
 is_message_inside config message = is_inside config (message_tx message) && is_acceptor_inside config message
 
--- the effect on a node of what its role makes of it; an acceptor keeps nothing in memory
+-- the effect on a node of what its role makes of it
 abbrev pub in_memory : {M : Type 0} → (M → Memory) → Effect M → Effect Memory
 in_memory whole e = record { reply = e.reply; fact = e.fact; sends = e.sends; memory = whole e.memory }
 
@@ -76,7 +76,7 @@ of_leader memory = in_memory (λ leading. record memory { leading = leading })
 abbrev pub of_manager : Memory → Effect (List Branch) → Effect Memory
 of_manager memory = in_memory (λ branches. record memory { branches = branches })
 
--- what a node does on a message that names none but nodes of the cluster
+-- what a node does on a message that names none but nodes of the cluster; an acceptor keeps nothing in memory
 abbrev pub takes : Config → NodeId → List Fact → Memory → Kind → Effect Memory
 takes config (A a) facts memory message = in_memory (λ none. memory) (acceptor_takes config a facts message)
 takes config (L l) facts memory message = of_leader memory (leader_takes config facts memory.leading message)

@@ -147,7 +147,7 @@ does config world (Tear who n) fate =
 does config world (Restart who) fate =
     where_found world (λ node. joined config world who node.facts (restarted config who node fate)) (node_at config world who)
 
--- what happens in an event
+-- what happens in an event; where memory is refused before a node is reached, nothing does
 abbrev pub happens : Config → World → Event → Fate → Happening
 happens config world event Unreached = refused world (Refuses Refusal.NoMemory)
 happens config world event fate = does config world event fate

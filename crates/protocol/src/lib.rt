@@ -2,7 +2,7 @@
 //! one event at one node, and the world of all nodes and all datagrams. The definitions are in `specs/`; there is no code.
 #![tactic(auto)]
 
-/// How far a branch has come, after X/Open XA (C193), "Transaction branch states".
+/// How far a branch has come, after X/Open XA (C193), chapter "State Tables".
 #[derive(Clone, Copy, Debug, PartialEq, Eq)]
 pub enum BranchState {
     /// It was started: calls on keys are done in it.
@@ -33,7 +33,7 @@ pub enum View {
 pub enum Status {
     /// It has not heard of it.
     Unknown,
-    /// It has met it by a call, a phase 2b message or a question, or has begun a ballot of it, and knows no decision.
+    /// It has met it by a commit call, a timeout, a phase 2b message or a question, or has begun a ballot of it, and knows no decision.
     Undecided,
     /// All instances have decided prepared.
     Committed,

@@ -47,7 +47,7 @@ pub fn ballots_are_owned()
 
 /// What was accepted was sent: what an acceptor stored, holds in its slot, reports in phase 1b or tells in phase 2b was proposed;
 /// and what it told is at most the ballot of its slot's value.
-pub fn accepts_were_sent()
+pub fn accepted_was_sent()
     ensures stored { (config : Config) (events : List Fated) (tx : TxParts) (a i b : ℕ) (v : Vote)
         → StandsAfter config events (Accepted a tx i b v) → StandsAfter config events (P2a tx i b v) }
     ensures held { (config : Config) (events : List Fated) (tx : TxParts) (a i b : ℕ) (v : Vote)

@@ -1,4 +1,4 @@
--- The return codes of X/Open XA by number.
+-- The return codes of X/Open XA (C193), chapter "The xa.h Header", by number.
 use Rattle.std.specs.Prelude.{ℤ, pos, negsuc}
 use Rattle.xid.specs.declared.codes.XaCode.{XaCode}
 use Rattle.xid.specs.declared.codes.XaCode.TheVariants as code

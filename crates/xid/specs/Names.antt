@@ -1,4 +1,4 @@
--- What an XID is, after X/Open XA (C193), "Transaction branch identification": a format and two components.
+-- What an XID is, after X/Open XA (C193), chapter "The xa.h Header": a format and two components.
 use Rattle.std.specs.Prelude.{ℕ, ◌<◌, ◌≤◌, ◌^◌, Bool, ◌&&◌, ◌==◌, List, length, slice_index}
 use Rattle.std.specs.Cmp.Lexicographic.{slice_cmp}
 use Rattle.std.specs.Ordering.{nat_cmp, on, then_cmp}

@@ -1,7 +1,7 @@
 ghost use Rattle.std.specs.Prelude.{◌≡◌};
 ghost use Rattle.xid.specs.Codes.{code_number};
 
-/// A return code of X/Open XA (C193), "Return codes", by its short name there.
+/// A return code of X/Open XA (C193), chapter "The xa.h Header", by its short name there.
 #[derive(Clone, Copy, Debug, PartialEq, Eq)]
 pub enum XaCode {
     /// XA_OK: done.

@@ -1,6 +1,6 @@
 use Rattle.std.proofs.Common.{Some}
 use Rattle.safety.proofs.Ever.{invariant, held_accept, accept_covered}
-use Rattle.safety.proofs.parts.accepts_were_sent.Goals as goal
+use Rattle.safety.proofs.parts.accepted_was_sent.Goals as goal
 
 pub returns-clause-stored : goal.returns-clause-stored
 returns-clause-stored c config events tx a i b v h = (invariant config events).accept_sent {a = a} {tx = tx} {i = i} {b = b} {v = v} h
