@@ -33,9 +33,10 @@ abbrev pub on_leader_timeout : Config → (leader : ℕ) → List Fact → Leadi
 on_leader_timeout config l facts leading tx =
     let status = status_of config.acceptors facts leading tx in
     let b = next_of config.leaders l (last_ballot facts tx) in
+    let phase_1a = map (λ i. to ToAcceptors (P1a tx i b)) (participants tx) in
     if not (is_inside config tx) then replies leading (Refuses Refusal.BadTx)
     else if is_final status then sends_only (meets tx leading) (outcome status tx ToManagers)
-    else if nat_lt b (2 ^ 32) then stores (begins tx b (meets tx leading)) (Fact.Ballot tx b) (map (λ i. to ToAcceptors (P1a tx i b)) (participants tx))
+    else if nat_lt b (2 ^ 32) then stores (begins tx b (meets tx leading)) (Fact.Ballot tx b) phase_1a
     else replies leading (Refuses Refusal.NoBallot)
 
 -- what a client asks a leader about a transaction
