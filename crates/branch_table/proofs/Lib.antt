@@ -1,5 +1,4 @@
 pub mod TouchingLemmas
 pub mod Views
 pub mod CallSteps
-pub mod TouchedKeys
 pub mod MachineCalls

@@ -1,10 +1,11 @@
 -- What a client call of the machine leaves is what one call leaves.
-use Rattle.std.proofs.Common.{◌≡◌, ◌≢◌, ◌⊎◌, inl, inr, ◌∙◌, Bool, true, false, not, if◌then◌else◌, cond, List, [], ◌∷◌, ◌++◌, ◌&&◌, ◌||◌, map, length, Option, Some, None, refl, sym, ap, subst, ℕ}
+use Rattle.std.proofs.Common.{◌≡◌, ◌≢◌, ◌⊎◌, inl, inr, ◌∙◌, Bool, true, false, not, if◌then◌else◌, cond, List, [], ◌∷◌, ◌++◌, ◌&&◌, ◌||◌, map, length, Option, Some, None, refl, sym, ap, subst, ℕ, arith, Contains}
 use Rattle.std.specs.Prelude.{filter_map}
 use Rattle.std.specs.Bool.{Decides}
-use Rattle.std.specs.List.{AllByRecursion, cons_option, list_any, list_all}
+use Rattle.std.specs.List.{AllByRecursion, cons_option, list_any}
 use Rattle.std.specs.Option.{option_map}
-use Rattle.std.proofs.lemmas.Bool.{cond_both, both_ways, and_parts, or_left, or_right}
+use Rattle.std.proofs.lemmas.Bool.{cond_both, both_ways, and_parts, or_cases, or_left, or_right}
+use Rattle.std.proofs.lemmas.List.Elements.{Contains-append_right}
 use Rattle.xid.specs.Names.{XidParts, xid_eq}
 use Rattle.xid.specs.Transactions.{xid_at}
 use Rattle.xid.specs.declared.codes.XaCode.TheVariants as code
@@ -18,9 +19,9 @@ use Rattle.protocol.specs.Facts.{Bound, bound_in, is_spent}
 use Rattle.protocol.specs.Managers.{Branch, all_branches, branch_at, has_key, write_of, touch_key, is_held, changed, without, after_call, call_answer, on_call}
 use Rattle.protocol.specs.Tables.{table}
 use Rattle.branch_table.specs.OneCall.{SameView, IsHeld, IsBusy, Leaves, touch, done_view}
-use Rattle.branch_table.specs.MachineCalls.{AreInOrder, shows, IsOneCall, are_named_once, AnswersNamed, IsAnswered}
+use Rattle.branch_table.specs.MachineCalls.{AreInOrder, shows, IsOneCall, AreNamedOnce, AnswersNamed, IsAnswered}
 use Rattle.branch_table.proofs.CallSteps.{same, same_from}
-use Rattle.branch_table.proofs.TouchedKeys.{has_touched, counts_touched, writes_touched, ascends_touched}
+use Rattle.protocol.proofs.TouchedKeys.{has_touched, counts_touched, writes_touched, changed_ascends}
 
 -- how a branch shows
 abbrev view_of : Branch → BranchView
@@ -149,15 +150,6 @@ changed_shows End b is ascending = same (view_of (changed End b))
 changed_shows EndFail b is ascending = same (view_of (changed EndFail b))
 changed_shows Start b is ascending = absurd is
 changed_shows Rollback b is ascending = absurd is
-
-changed_ascends : (action : Action) (b : Branch) → AreAscending b.keys → AreAscending (changed action b).keys
-changed_ascends (Put key value) b ascending = ascends_touched b.keys key (Some (Some value)) ascending
-changed_ascends (Del key) b ascending = ascends_touched b.keys key (Some None) ascending
-changed_ascends (Get key) b ascending = ascends_touched b.keys key None ascending
-changed_ascends End b ascending = ascending
-changed_ascends EndFail b ascending = ascending
-changed_ascends Start b ascending = ascending
-changed_ascends Rollback b ascending = ascending
 
 module _ (x : XidParts) (action : Action) where
   abbrev step : Branch → Branch
@@ -348,42 +340,59 @@ call_is rm first facts branches ordered x action =
 
 -- ---- the answer
 
--- no branch of a name where none is told apart from it
-absent_from : (bs : List Branch) (b : Branch) (x : XidParts) → xid_eq b.xid x ≡ true → list_all (λ other. not (xid_eq other.xid b.xid)) bs ≡ true
-    → branch_at bs x ≡ no_branch
-absent_from [] b x own apart = refl
-absent_from (c ∷ bs) b x own apart =
-    let parts = and_parts (not (xid_eq c.xid b.xid)) (list_all (λ other. not (xid_eq other.xid b.xid)) bs) apart in
-    let away : xid_eq c.xid x ≡ false = subst (λ (y : XidParts). xid_eq c.xid y ≡ false) (xid_eq-is b.xid x own) (is_false (xid_eq c.xid b.xid) parts.0) in
-    ap (λ (t : Bool). cond t (view_of c) (branch_at bs x)) away ∙ absent_from bs b x own parts.1
+head : (b : Branch) (bs : List Branch) → Contains (b ∷ bs) b
+head b bs = (0, omega arith, refl)
 
--- what shows of a later branch shows of the list
-shows_later : (b : Branch) (bs : List Branch) (y : XidParts) (key : List ℕ) → list_all (λ other. not (xid_eq other.xid b.xid)) bs ≡ true
-    → (branch_at bs y).touched key ≡ true → (t : Bool) → xid_eq b.xid y ≡ t → (branch_at (b ∷ bs) y).touched key ≡ true
-shows_later b bs y key apart h true e =
-    absurd (both_ways ((branch_at bs y).touched key) (ap (λ (v : BranchView). v.touched key) (absent_from bs b y e apart)) h)
-shows_later b bs y key apart h false e = ap (λ (t : Bool). (cond t (view_of b) (branch_at bs y)).touched key) e ∙ h
+tail : (b : Branch) (bs : List Branch) (c : Branch) → Contains bs c → Contains (b ∷ bs) c
+tail b bs c h = Contains-append_right (b ∷ []) bs c h
+
+own_by : (b c : Branch) (bs : List Branch) → ((d : Branch) → Contains (c ∷ bs) d → d.xid ≡ b.xid → d ≡ b)
+    → (list_any (λ d. xid_eq d.xid b.xid) bs ≡ true → branch_at bs b.xid ≡ view_of b)
+    → (t : Bool) → xid_eq c.xid b.xid ≡ t → (t || list_any (λ d. xid_eq d.xid b.xid) bs) ≡ true → cond t (view_of c) (branch_at bs b.xid) ≡ view_of b
+own_by b c bs once rest true e h = ap view_of (once c (head c bs) (xid_eq-is c.xid b.xid e))
+own_by b c bs once rest false e h = rest h
+
+-- a branch whose name no other has shows at its name
+own_shows : (bs : List Branch) (b : Branch) → ((c : Branch) → Contains bs c → c.xid ≡ b.xid → c ≡ b) → list_any (λ c. xid_eq c.xid b.xid) bs ≡ true
+    → branch_at bs b.xid ≡ view_of b
+own_shows [] b once there = absurd (cc (there))
+own_shows (c ∷ bs) b once there = own_by b c bs once (own_shows bs b (λ d k. once d (tail c bs d k))) (xid_eq c.xid b.xid) refl there
 
 abbrev holds : XidParts → List ℕ → Branch → Bool
 holds x key branch = not (xid_eq branch.xid x) && has_key key branch.keys
 
-held_by : (b : Branch) (bs : List Branch) (x : XidParts) (key : List ℕ) → list_all (λ other. not (xid_eq other.xid b.xid)) bs ≡ true
-    → (list_any (holds x key) bs ≡ true → IsHeld (branch_at bs) x key) → (t : Bool) → holds x key b ≡ t → (t || list_any (holds x key) bs) ≡ true
-    → IsHeld (branch_at (b ∷ bs)) x key
-held_by b bs x key apart rest true own e =
-    let parts = and_parts (not (xid_eq b.xid x)) (has_key key b.keys) own in (
-      b.xid,
-      xid_eq-apart b.xid x (is_false (xid_eq b.xid x) parts.0),
-      ap (λ (t : Bool). (cond t (view_of b) (branch_at bs b.xid)).touched key) (xid_eq-same b.xid) ∙ parts.1,
-    )
-held_by b bs x key apart rest false own e =
-    let found = rest e in (found.0, found.1, shows_later b bs found.0 key apart found.2 (xid_eq b.xid found.0) refl)
+-- a branch that holds a key
+record IsHolder (bs : List Branch) (x : XidParts) (key : List ℕ) : Type 0 where
+  branch : Branch
+  there : Contains bs branch
+  named : list_any (λ c. xid_eq c.xid branch.xid) bs ≡ true
+  holder : holds x key branch ≡ true
 
-held_from : (bs : List Branch) (x : XidParts) (key : List ℕ) → are_named_once bs ≡ true → list_any (holds x key) bs ≡ true → IsHeld (branch_at bs) x key
-held_from [] x key once e = absurd (cc (e))
-held_from (b ∷ bs) x key once e =
-    let parts = and_parts (list_all (λ other. not (xid_eq other.xid b.xid)) bs) (are_named_once bs) once in
-    held_by b bs x key parts.0 (held_from bs x key parts.1) (holds x key b) refl e
+found : (bs : List Branch) (x : XidParts) (key : List ℕ) → list_any (holds x key) bs ≡ true → IsHolder bs x key
+found [] x key e = absurd (cc (e))
+found (b ∷ bs) x key e = elim (or_cases (holds x key b) (list_any (holds x key) bs) e) [
+  | inl here ↦ record {
+    branch = b;
+    there = head b bs;
+    named = or_left (xid_eq b.xid b.xid) (list_any (λ c. xid_eq c.xid b.xid) bs) (xid_eq-same b.xid);
+    holder = here;
+  }
+  | inr later ↦ let rest = found bs x key later in record {
+    branch = rest.branch;
+    there = tail b bs rest.branch rest.there;
+    named = or_right (xid_eq b.xid rest.branch.xid) (list_any (λ c. xid_eq c.xid rest.branch.xid) bs) rest.named;
+    holder = rest.holder;
+  }
+]
+
+held_from : (bs : List Branch) (x : XidParts) (key : List ℕ) → AreNamedOnce bs → list_any (holds x key) bs ≡ true → IsHeld (branch_at bs) x key
+held_from bs x key once e =
+    let by = found bs x key e in
+    let parts = and_parts (not (xid_eq by.branch.xid x)) (has_key key by.branch.keys) by.holder in (
+      by.branch.xid,
+      xid_eq-apart by.branch.xid x (is_false (xid_eq by.branch.xid x) parts.0),
+      ap (λ (v : BranchView). v.touched key) (own_shows bs by.branch (λ c h. once c by.branch h by.there) by.named) ∙ parts.1,
+    )
 
 held_at : (b : Branch) (bs : List Branch) (x y : XidParts) (key : List ℕ) → y ≢ x → ((branch_at bs y).touched key ≡ true → list_any (holds x key) bs ≡ true)
     → (t : Bool) → xid_eq b.xid y ≡ t → (cond t (view_of b) (branch_at bs y)).touched key ≡ true → list_any (holds x key) (b ∷ bs) ≡ true
@@ -396,11 +405,11 @@ held_to : (bs : List Branch) (x y : XidParts) (key : List ℕ) → y ≢ x → (
 held_to [] x y key apart touched = absurd (cc (touched))
 held_to (b ∷ bs) x y key apart touched = held_at b bs x y key apart (held_to bs x y key apart) (xid_eq b.xid y) refl touched
 
-busy_decides : (bs : List Branch) (x : XidParts) (key : Option (List ℕ)) → are_named_once bs ≡ true → Decides (is_held bs x key) (IsBusy (branch_at bs) x key)
+busy_decides : (bs : List Branch) (x : XidParts) (key : Option (List ℕ)) → AreNamedOnce bs → Decides (is_held bs x key) (IsBusy (branch_at bs) x key)
 busy_decides bs x None once = (λ e. absurd (cc (e)), λ none. absurd none)
 busy_decides bs x (Some key) once = (held_from bs x key once, λ held. held_to bs x held.0 key held.1 held.2)
 
-answers_by : (spent : Bool) (rows : List Row) (bs : List Branch) (x : XidParts) (action : Action) → are_named_once bs ≡ true
+answers_by : (spent : Bool) (rows : List Row) (bs : List Branch) (x : XidParts) (action : Action) → AreNamedOnce bs
     → AnswersNamed spent rows (branch_at bs) x action (call_answer spent rows (branch_at bs x) (is_held bs x (key_of action)) action)
 answers_by true rows bs x Start once = refl
 answers_by true rows bs x (Put key value) once = (is_held bs x (Some key), busy_decides bs x (Some key) once, refl)
@@ -412,7 +421,7 @@ answers_by true rows bs x Rollback once = (false, busy_decides bs x None once, r
 answers_by false rows bs x action once = (is_held bs x (key_of action), busy_decides bs x (key_of action) once, refl)
 
 -- it is answered as one call is
-pub answered_is : (rm : ℕ) (first : List Row) (facts : List Fact) (branches : List Branch) → are_named_once (all_branches rm facts branches) ≡ true
+pub answered_is : (rm : ℕ) (first : List Row) (facts : List Fact) (branches : List Branch) → AreNamedOnce (all_branches rm facts branches)
     → (x : XidParts) (action : Action)
     → IsAnswered (is_spent rm facts x) (table first facts) (shows rm facts branches) x action (on_call rm first facts branches x action)
 answered_is rm first facts branches once x action = record {

@@ -1,7 +1,7 @@
 -- A client call of the machine as one call on branches. What it leaves is said of lists there, and of views here.
-use Rattle.std.specs.Prelude.{◌≡◌, ℕ, Bool, true, not, ◌&&◌, List, [], ◌∷◌}
-use Rattle.std.specs.List.{AllByRecursion, list_all}
-use Rattle.xid.specs.Names.{XidParts, xid_eq}
+use Rattle.std.specs.Prelude.{◌≡◌, ℕ, Bool, true, List, Contains}
+use Rattle.std.specs.List.{AllByRecursion}
+use Rattle.xid.specs.Names.{XidParts}
 use Rattle.xid.specs.declared.codes.XaCode.TheVariants as code
 use Rattle.stable_record.specs.Facts.{Fact, AreAscending}
 use Rattle.protocol.specs.Calls.{Action, Start, Answer, Code, Row}
@@ -26,9 +26,8 @@ pub record IsOneCall (rm : ℕ) (facts : List Fact) (branches : List Branch) (x 
   pub ordered : AreInOrder e.memory
 
 -- no name has two branches
-abbrev pub are_named_once : List Branch → Bool
-are_named_once [] = true
-are_named_once (branch ∷ branches) = list_all (λ other. not (xid_eq other.xid branch.xid)) branches && are_named_once branches
+abbrev pub AreNamedOnce : List Branch → Type 0
+AreNamedOnce branches = (b c : Branch) → Contains branches b → Contains branches c → b.xid ≡ c.xid → b ≡ c
 
 -- the answer is that of the table of client calls; but of a spent name no branch can be started
 abbrev pub AnswersNamed : (spent : Bool) → List Row → (XidParts → BranchView) → XidParts → Action → Answer → Type 0

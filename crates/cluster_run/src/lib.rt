@@ -1,6 +1,7 @@
 //! A whole cluster, run from a script: at this stage its resource managers and their branches.
 #![tactic(auto)]
 
+pub mod laws;
 mod managers;
 mod runs;
 

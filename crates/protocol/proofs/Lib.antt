@@ -12,3 +12,4 @@ pub mod FindsPrepared
 pub mod Repeats
 pub mod NoiseAndCuts
 pub mod Same
+pub mod TouchedKeys

@@ -33,3 +33,4 @@ pub mod ManagerApart
 pub mod Worlds
 pub mod ManagerHolds
 pub mod Ever
+pub mod Held

@@ -1,5 +1,5 @@
 -- Branches stay apart, and the fact of each rule of a resource manager plays.
-use Rattle.std.proofs.Common.{◌≡◌, ◌≢◌, ◌⊎◌, ℕ, Bool, true, false, not, ◌&&◌, if◌then◌else◌, List, [], ◌∷◌, ◌++◌, map, Option, Some, None, is_some, is_none, unwrap_or}
+use Rattle.std.proofs.Common.{◌≡◌, ◌≢◌, ◌⊎◌, ℕ, Bool, true, false, not, ◌&&◌, if◌then◌else◌, List, [], ◌∷◌, ◌++◌, map, length, Option, Some, None, is_some, is_none, unwrap_or}
 use Rattle.std.proofs.Common.{inl, inr, refl, sym, ap, ◌∙◌, subst}
 use Rattle.std.specs.Prelude.{IfSome, find, filter_map, option_map}
 use Rattle.std.specs.List.{list_any}
@@ -12,7 +12,7 @@ use Rattle.xid.specs.declared.refusals.Refusal.TheVariants.{Busy}
 use Rattle.wire.specs.declared.message.Kind.{Kind}
 use Rattle.wire.specs.declared.message.Kind.TheVariants as kinds
 use Rattle.wire.specs.Messages as messages
-use Rattle.stable_record.specs.Facts.{Fact, Touched, tx_of}
+use Rattle.stable_record.specs.Facts.{Fact, Touched, AreAscending, tx_of}
 use Rattle.stable_record.specs.Facts as stored
 use Rattle.protocol.specs.declared.BranchState.{BranchState}
 use Rattle.protocol.specs.declared.BranchState.TheVariants as states
@@ -21,11 +21,12 @@ use Rattle.protocol.specs.Calls.{Action, Start, Put, Del, Get, End, EndFail, Rol
 use Rattle.protocol.specs.Branches.{BranchView, is_done, key_of, by_state}
 use Rattle.protocol.specs.Effects.{Config, Effect, is_inside}
 use Rattle.protocol.specs.Facts.{vote_in, is_ended, is_spent, is_prepared_view, is_open_view, view, Bound, bound_by, bound_in}
-use Rattle.protocol.specs.Managers.{Branch, has_key, all_branches, branch_at, is_held, changed, without, after_call, call_answer, on_call, idle_keys, first_vote, on_prepare, on_commit, on_abort, manager_takes, on_manager_timeout}
+use Rattle.protocol.specs.Managers.{Branch, has_key, write_of, all_branches, branch_at, is_held, changed, without, after_call, call_answer, on_call, idle_keys, first_vote, on_prepare, on_commit, on_abort, manager_takes, on_manager_timeout}
 use Rattle.protocol.specs.Nodes.{Memory, Input, CallOn, ListPrepared, AskView, AskCommit, AskStatus, TimeOut, Take, TakeNoise, effect_of, is_message_inside, first_rows}
 use Rattle.protocol.specs.Nodes.{plays, all_play}
 use Rattle.protocol.specs.Managers.{plays_at_manager, is_new, is_name_spent, is_some_held}
 use Rattle.protocol.specs.Tables.{table}
+use Rattle.protocol.proofs.TouchedKeys.{changed_ascends}
 use Rattle.safety.specs.Standing.{Among}
 use Rattle.safety.proofs.Lists.{any_found, none_found, Among-before, Among-after, Among-push, Among-mapped, filter_map_given, filter_map_gives}
 use Rattle.safety.proofs.ViewFacts.{prepared_shows, prepared_before}
@@ -33,15 +34,24 @@ use Rattle.safety.proofs.Played.{voted_named, all_play_then}
 use Rattle.safety.proofs.Managers.{facts_after, IsManagerFact, name_names, manager_is_right}
 use Rattle.safety.proofs.ManagerKeys.{xid_decides, filter_kept, filter_keeps, found_among, names_name, spent_by, still_unspent, AreDisjoint, key_in, changed_name, changed_keys}
 
--- the branches that aren't prepared: their names aren't spent, and no key is in two of them, nor in one and a prepared one
+-- the branches that aren't prepared: their names aren't spent, no name has two of them, and no key is in two of them, nor in one and
+-- a prepared one; and the keys of each ascend
 pub record AreApart (rm : ℕ) (facts : List Fact) (branches : List Branch) : Type 0 where
   pub unspent : (b : Branch) → Among branches b → is_spent rm facts b.xid ≡ false
   pub apart : (b c : Branch) → Among branches b → Among branches c → b.xid ≢ c.xid → AreDisjoint b.keys c.keys
   pub free : (b : Branch) (bound : Bound) → Among branches b → Among (bound_in facts) bound → AreDisjoint b.keys bound.keys
+  pub once : (b c : Branch) → Among branches b → Among branches c → b.xid ≡ c.xid → b ≡ c
+  pub ordered : (b : Branch) → Among branches b → AreAscending b.keys
 
 -- as after a restart
 pub none_apart : (rm : ℕ) (facts : List Fact) → AreApart rm facts []
-none_apart rm facts = record { unspent = λ b h. absurd h; apart = λ b c h. absurd h; free = λ b bound h. absurd h }
+none_apart rm facts = record {
+  unspent = λ b h. absurd h;
+  apart = λ b c h. absurd h;
+  free = λ b bound h. absurd h;
+  once = λ b c h. absurd h;
+  ordered = λ b h. absurd h;
+}
 
 fewer_apart : (rm : ℕ) (facts : List Fact) (branches fewer : List Branch) → ((b : Branch) → Among fewer b → Among branches b)
     → AreApart rm facts branches → AreApart rm facts fewer
@@ -49,6 +59,8 @@ fewer_apart rm facts branches fewer some are = record {
   unspent = λ b h. are.unspent b (some b h);
   apart = λ b c h k. are.apart b c (some b h) (some c k);
   free = λ b bound h. are.free b bound (some b h);
+  once = λ b c h k. are.once b c (some b h) (some c k);
+  ordered = λ b h. are.ordered b (some b h);
 }
 
 without_name : (branches : List Branch) (x : XidParts) (b : Branch) → Among (without branches x) b → b.xid ≢ x
@@ -102,6 +114,8 @@ module _ (rm : ℕ) (facts : List Fact) (fact : Fact) (branches fewer : List Bra
     unspent = λ b h. still_unspent rm facts fact b.xid (are.unspent b (some b h)) (others b h);
     apart = λ b c h k. are.apart b c (some b h) (some c k);
     free = free_after;
+    once = λ b c h k. are.once b c (some b h) (some c k);
+    ordered = λ b h. are.ordered b (some b h);
   }
 
 -- ---- messages
@@ -194,6 +208,39 @@ start_unspent : (spent : Bool) (rows : List Row) (shows : BranchView) (busy : Bo
 start_unspent true rows shows busy h = absurd (cc (h))
 start_unspent false rows shows busy h = refl
 
+start_by : (state : Option BranchState) → is_done Start (if is_none state then Code codes.Ok else Code codes.DupId) ≡ true → state ≡ None
+start_by None h = refl
+start_by (Some state) h = absurd (cc (h))
+
+-- a branch that was started wasn't there
+start_new : (spent : Bool) (rows : List Row) (shows : BranchView) (busy : Bool)
+    → is_done Start (call_answer spent rows shows busy Start) ≡ true → shows.state ≡ None
+start_new true rows shows busy h = absurd (cc (h))
+start_new false rows shows busy h = start_by shows.state h
+
+unnamed_by : (b c : Branch) (bs : List Branch) (x : XidParts) → ((branch_at bs x).state ≡ None → Among bs c → c.xid ≢ x) → (t : Bool) → xid_eq b.xid x ≡ t
+    → (branch_at (b ∷ bs) x).state ≡ None → Among (b ∷ bs) c → c.xid ≢ x
+unnamed_by b c bs x rest true e none h f =
+    let shows : (branch_at (b ∷ bs) x).state ≡ Some b.state = ap (λ (t : Bool). (if t then record {
+      state = Some b.state;
+      touched = λ key. has_key key b.keys;
+      count = length b.keys;
+      written = write_of b.keys;
+    } else branch_at bs x).state) e in
+    absurd (cc (none, shows))
+unnamed_by b c bs x rest false e none (inl same) f = both_ways (xid_eq b.xid x) e ((xid_decides b.xid x).1 (ap (λ (d : Branch). d.xid) same ∙ f))
+unnamed_by b c bs x rest false e none (inr h) f = rest (sym (ap (λ (t : Bool). (if t then record {
+  state = Some b.state;
+  touched = λ key. has_key key b.keys;
+  count = length b.keys;
+  written = write_of b.keys;
+} else branch_at bs x).state) e) ∙ none) h f
+
+-- where no branch of a name shows, none has the name
+unnamed : (bs : List Branch) (x : XidParts) → (branch_at bs x).state ≡ None → (b : Branch) → Among bs b → b.xid ≢ x
+unnamed [] x none b h = absurd h
+unnamed (c ∷ bs) x none b h = unnamed_by c b bs x (λ e k. unnamed bs x e b k) (xid_eq c.xid x) refl none h
+
 -- a call on a key that another branch holds isn't done
 put_held : (key value : List ℕ) (fits : Bool) (state : Option BranchState)
     → is_done (Put key value) (if fits then by_state state (Code codes.Nota) (Refused Busy) (Code codes.Proto) else Code codes.Inval) ≡ false
@@ -284,6 +331,9 @@ module _ (rm : ℕ) (facts : List Fact) (branches : List Branch) (x : XidParts) 
           (spent_by rm facts (stored.VotePrepared bound.tx bound.keys) b.xid (bound_stored facts bound k).voted (name.1 ∙ ap Some (e ∙ sym new.0)))) q
     ]
 
+    step_ordered : (b : Branch) → AreAscending b.keys → AreAscending (step b).keys
+    step_ordered b ordered = cond_both (xid_eq b.xid x) _ _ (λ (c : Branch). AreAscending c.keys) (λ same. changed_ascends action b ordered) (λ other. ordered)
+
     mapped_apart : AreApart rm facts (map step branches)
     mapped_apart = record {
       unspent = λ b h.
@@ -299,11 +349,21 @@ module _ (rm : ℕ) (facts : List Fact) (branches : List Branch) (x : XidParts) 
       free = λ b bound h k.
           let from = Among-mapped step branches b h in
           subst (λ (d : Branch). AreDisjoint d.keys bound.keys) from.maps (step_free from.source bound from.among k);
+      once = λ b c h k e.
+          let one = Among-mapped step branches b h in
+          let two = Among-mapped step branches c k in
+          let named : one.source.xid ≡ two.source.xid =
+          sym (step_name one.source) ∙ ap (λ (d : Branch). d.xid) one.maps ∙ e ∙ ap (λ (d : Branch). d.xid) (sym two.maps) ∙ step_name two.source in
+          sym one.maps ∙ ap step (are.once one.source two.source one.among two.among named) ∙ two.maps;
+      ordered = λ b h.
+          let from = Among-mapped step branches b h in
+          subst (λ (d : Branch). AreAscending d.keys) from.maps (step_ordered from.source (are.ordered from.source from.among));
     }
 
   -- a branch that was just started
-  started_apart : is_spent rm facts x ≡ false → AreApart rm facts (branches ++ record { xid = x; state = states.Active; keys = [] } ∷ [])
-  started_apart unspent =
+  started_apart : is_spent rm facts x ≡ false → ((b : Branch) → Among branches b → b.xid ≢ x)
+      → AreApart rm facts (branches ++ record { xid = x; state = states.Active; keys = [] } ∷ [])
+  started_apart unspent unnamed =
       let fresh : Branch = record { xid = x; state = states.Active; keys = [] } in
       record {
         unspent = λ b h. elim (Among-push branches fresh b h) [
@@ -321,26 +381,41 @@ module _ (rm : ℕ) (facts : List Fact) (branches : List Branch) (x : XidParts) 
           | inl old ↦ are.free b bound old k
           | inr e ↦ subst (λ (d : Branch). AreDisjoint d.keys bound.keys) e (λ key p q. absurd (cc (p)))
         ];
+        once = λ b c h k e. elim (Among-push branches fresh b h) [
+          | inl old ↦ elim (Among-push branches fresh c k) [
+            | inl also ↦ are.once b c old also e
+            | inr f ↦ absurd (unnamed b old (e ∙ ap (λ (d : Branch). d.xid) (sym f)))
+          ]
+          | inr f ↦ elim (Among-push branches fresh c k) [
+            | inl also ↦ absurd (unnamed c also (sym e ∙ ap (λ (d : Branch). d.xid) (sym f)))
+            | inr g ↦ sym f ∙ g
+          ]
+        ];
+        ordered = λ b h. elim (Among-push branches fresh b h) [
+          | inl old ↦ are.ordered b old
+          | inr e ↦ subst (λ (d : Branch). AreAscending d.keys) e tt
+        ];
       }
 
-  after_apart : (action : Action) (spent : Bool) (rows : List Row) (shows : BranchView) → is_spent rm facts x ≡ spent
-      → is_done action (call_answer spent rows shows (is_held all x (key_of action)) action) ≡ true
+  after_apart : (action : Action) (spent : Bool) (rows : List Row) → is_spent rm facts x ≡ spent
+      → is_done action (call_answer spent rows (branch_at all x) (is_held all x (key_of action)) action) ≡ true
       → AreApart rm facts (after_call branches x action)
-  after_apart Start spent rows shows e done = started_apart (e ∙ start_unspent spent rows shows false done)
-  after_apart Rollback spent rows shows e done = fewer_apart rm facts branches (without branches x) (without_some branches x) are
-  after_apart (Put key value) spent rows shows e done = mapped_apart (Put key value)
-      (λ k f. ap (is_held all x) (sym f) ∙ not_busy (Put key value) spent rows shows (is_held all x (Some key)) key refl done)
-  after_apart (Del key) spent rows shows e done = mapped_apart (Del key)
-      (λ k f. ap (is_held all x) (sym f) ∙ not_busy (Del key) spent rows shows (is_held all x (Some key)) key refl done)
-  after_apart (Get key) spent rows shows e done = mapped_apart (Get key)
-      (λ k f. ap (is_held all x) (sym f) ∙ not_busy (Get key) spent rows shows (is_held all x (Some key)) key refl done)
-  after_apart End spent rows shows e done = mapped_apart End (λ k f. absurd (cc (f)))
-  after_apart EndFail spent rows shows e done = mapped_apart EndFail (λ k f. absurd (cc (f)))
+  after_apart Start spent rows e done = started_apart (e ∙ start_unspent spent rows (branch_at all x) false done)
+      (λ b h. unnamed all x (start_new spent rows (branch_at all x) false done) b (all_own b h))
+  after_apart Rollback spent rows e done = fewer_apart rm facts branches (without branches x) (without_some branches x) are
+  after_apart (Put key value) spent rows e done = mapped_apart (Put key value)
+      (λ k f. ap (is_held all x) (sym f) ∙ not_busy (Put key value) spent rows (branch_at all x) (is_held all x (Some key)) key refl done)
+  after_apart (Del key) spent rows e done = mapped_apart (Del key)
+      (λ k f. ap (is_held all x) (sym f) ∙ not_busy (Del key) spent rows (branch_at all x) (is_held all x (Some key)) key refl done)
+  after_apart (Get key) spent rows e done = mapped_apart (Get key)
+      (λ k f. ap (is_held all x) (sym f) ∙ not_busy (Get key) spent rows (branch_at all x) (is_held all x (Some key)) key refl done)
+  after_apart End spent rows e done = mapped_apart End (λ k f. absurd (cc (f)))
+  after_apart EndFail spent rows e done = mapped_apart EndFail (λ k f. absurd (cc (f)))
 
   call_apart : (first : List Row) (action : Action) → AreApart rm facts (on_call rm first facts branches x action).memory
   call_apart first action = cond_both
       (is_done action (call_answer (is_spent rm facts x) (table first facts) (branch_at all x) (is_held all x (key_of action)) action)) _ _ (AreApart rm facts)
-      (λ done. after_apart action (is_spent rm facts x) (table first facts) (branch_at all x) refl done) (λ refused. are)
+      (λ done. after_apart action (is_spent rm facts x) (table first facts) refl done) (λ refused. are)
 
 -- ---- every input
 

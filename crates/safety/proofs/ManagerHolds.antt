@@ -1,8 +1,9 @@
--- No key is touched by two branches of a resource manager, prepared ones included.
+-- No key is touched by two branches of a resource manager, and no name has two, prepared ones included.
 use Rattle.std.proofs.Common.{◌≡◌, ◌≢◌, ◌⊎◌, ℕ, true, false, not, ◌&&◌, List, [], ◌∷◌, ◌++◌, Option, Some, None, is_some, unwrap_or}
 use Rattle.std.proofs.Common.{inl, inr, refl, sym, ap, ◌∙◌, subst, append_assoc, append-nil}
 use Rattle.std.specs.Prelude.{filter_map, option_map}
 use Rattle.std.specs.List.{list_any}
+use Rattle.std.specs.Option.{option_map_or}
 use Rattle.std.specs.Str.{bytes_eq}
 use Rattle.std.specs.Cmp.Lexicographic.{bytes_decides}
 use Rattle.std.proofs.lemmas.Bool.{and_parts, both_ways, not-true}
@@ -11,37 +12,45 @@ use Rattle.xid.specs.Transactions.{TxParts, names, xid_at}
 use Rattle.xid.specs.declared.transaction.Vote.TheVariants as votes
 use Rattle.stable_record.specs.Facts.{Fact, Touched}
 use Rattle.stable_record.specs.Facts as stored
+use Rattle.protocol.specs.declared.BranchState.TheVariants as states
 use Rattle.protocol.specs.declared.NodeId.TheVariants.{R}
 use Rattle.protocol.specs.Effects.{Config}
-use Rattle.protocol.specs.Facts.{vote_in, is_ended, Bound, bound_in}
+use Rattle.protocol.specs.Facts.{vote_in, is_ended, is_spent, Bound, bound_in}
 use Rattle.protocol.specs.Managers.{Branch, has_key, all_branches, plays_at_manager, is_new, is_name_spent, is_some_held}
 use Rattle.protocol.specs.Nodes.{plays, all_play}
 use Rattle.safety.specs.Standing.{Among, HasVote}
 use Rattle.safety.proofs.Lists.{any_found, found_any, Among-append, Among-push, filter_map_given}
 use Rattle.safety.proofs.ViewFacts.{prepared_before, unvoted}
-use Rattle.safety.proofs.ManagerKeys.{AreDisjoint}
+use Rattle.safety.proofs.ManagerKeys.{AreDisjoint, spent_by}
 use Rattle.safety.proofs.ManagerApart.{AreApart, bound_stored, stored_bound, named_so}
 
--- prepared branches: one for each transaction, and no key in two of them
-pub record AreBoundApart (facts : List Fact) : Type 0 where
+-- prepared branches at resource manager rm: one for each transaction, one transaction for a name, and no key in two of them
+pub record AreBoundApart (rm : ℕ) (facts : List Fact) : Type 0 where
+  pub named : (bound other : Bound) (x : XidParts) → Among (bound_in facts) bound → Among (bound_in facts) other
+      → xid_at bound.tx rm ≡ Some x → xid_at other.tx rm ≡ Some x → bound.tx ≡ other.tx
   pub once : (bound other : Bound) → Among (bound_in facts) bound → Among (bound_in facts) other → bound.tx ≡ other.tx
       → bound.keys ≡ other.keys
   pub apart : (bound other : Bound) → Among (bound_in facts) bound → Among (bound_in facts) other → bound.tx ≢ other.tx
       → AreDisjoint bound.keys other.keys
 
--- a prepared vote plays where no vote on the transaction is stored, and none of its keys is held
-pub record IsFreshVote (facts : List Fact) (tx : TxParts) (keys : List Touched) : Type 0 where
+-- a prepared vote plays where no vote on the transaction is stored, its name isn't spent, and none of its keys is held
+pub record IsFreshVote (rm : ℕ) (facts : List Fact) (tx : TxParts) (keys : List Touched) : Type 0 where
   pub new : ¬ HasVote facts tx votes.Prepared
+  pub unspent : is_name_spent rm facts tx ≡ false
   pub free : is_some_held facts keys ≡ false
 
 fresh_vote : (rm : ℕ) (facts : List Fact) (tx : TxParts) (keys : List Touched)
-    → plays_at_manager rm facts (stored.VotePrepared tx keys) ≡ true → IsFreshVote facts tx keys
+    → plays_at_manager rm facts (stored.VotePrepared tx keys) ≡ true → IsFreshVote rm facts tx keys
 fresh_vote rm facts tx keys e =
     let all = and_parts (names tx rm && is_new facts tx && not (is_name_spent rm facts tx)) (not (is_some_held facts keys)) e in
     let most = and_parts (names tx rm && is_new facts tx) (not (is_name_spent rm facts tx)) all.0 in
     let some = and_parts (names tx rm) (is_new facts tx) most.0 in
     let new = and_parts (not (is_some (vote_in facts tx))) (not (is_ended facts tx)) some.1 in
-    record { new = unvoted facts tx (not-true (is_some (vote_in facts tx)) new.0) votes.Prepared; free = not-true (is_some_held facts keys) all.1 }
+    record {
+      new = unvoted facts tx (not-true (is_some (vote_in facts tx)) new.0) votes.Prepared;
+      unspent = not-true (is_name_spent rm facts tx) most.1;
+      free = not-true (is_some_held facts keys) all.1;
+    }
 
 -- keys that are free of prepared branches are in none
 free_of : (facts : List Fact) (keys : List Touched) (bound : Bound) → is_some_held facts keys ≡ false → Among (bound_in facts) bound
@@ -62,10 +71,10 @@ abbrev keys_in : Fact → List Touched
 keys_in (stored.VotePrepared tx keys) = keys
 keys_in fact = []
 
-module _ (rm : ℕ) (facts : List Fact) (fact : Fact) (are : AreBoundApart facts) (play : plays_at_manager rm facts fact ≡ true) where
+module _ (rm : ℕ) (facts : List Fact) (fact : Fact) (are : AreBoundApart rm facts) (play : plays_at_manager rm facts fact ≡ true) where
   -- a prepared branch was one before, or the fact made it
   was_or_new : (bound : Bound) → Among (bound_in (facts ++ fact ∷ [])) bound
-      → Among (bound_in facts) bound ⊎ ((fact ≡ stored.VotePrepared bound.tx bound.keys) × IsFreshVote facts bound.tx bound.keys)
+      → Among (bound_in facts) bound ⊎ ((fact ≡ stored.VotePrepared bound.tx bound.keys) × IsFreshVote rm facts bound.tx bound.keys)
   was_or_new bound h =
       let is = bound_stored (facts ++ fact ∷ []) bound h in
       elim (Among-push facts fact (stored.VotePrepared bound.tx bound.keys) is.voted) [
@@ -74,12 +83,27 @@ module _ (rm : ℕ) (facts : List Fact) (fact : Fact) (are : AreBoundApart facts
       ]
 
   -- none of a fresh vote's transaction was prepared
-  not_old : (bound other : Bound) → Among (bound_in facts) bound → IsFreshVote facts other.tx other.keys → bound.tx ≡ other.tx → ⊥
+  not_old : (bound other : Bound) → Among (bound_in facts) bound → IsFreshVote rm facts other.tx other.keys → bound.tx ≡ other.tx → ⊥
   not_old bound other h fresh e =
       fresh.new (bound.keys, subst (λ (t : TxParts). Among facts (stored.VotePrepared t bound.keys)) e (bound_stored facts bound h).voted)
 
-  bound_apart_after : AreBoundApart (facts ++ fact ∷ [])
+  -- nor has a prepared branch its name
+  not_named : (bound other : Bound) (x : XidParts) → Among (bound_in facts) bound → IsFreshVote rm facts other.tx other.keys
+      → xid_at bound.tx rm ≡ Some x → xid_at other.tx rm ≡ Some x → ⊥
+  not_named bound other x h fresh e f =
+      both_ways (is_name_spent rm facts other.tx) fresh.unspent
+      (ap (λ (o : Option XidParts). option_map_or (is_spent rm facts) o false) f
+      ∙ spent_by rm facts (stored.VotePrepared bound.tx bound.keys) x (bound_stored facts bound h).voted e)
+
+  bound_apart_after : AreBoundApart rm (facts ++ fact ∷ [])
   bound_apart_after = record {
+    named = λ bound other x h k e f. elim (was_or_new bound h) [
+      | inl old ↦ elim (was_or_new other k) [ inl also ↦ are.named bound other x old also e f | inr new ↦ absurd (not_named bound other x old new.1 e f) ]
+      | inr new ↦ elim (was_or_new other k) [
+        | inl also ↦ absurd (not_named other bound x also new.1 f e)
+        | inr both ↦ ap (λ (g : Fact). tx_in g bound.tx) (sym new.0 ∙ both.0)
+      ]
+    ];
     once = λ bound other h k e. elim (was_or_new bound h) [
       | inl old ↦ elim (was_or_new other k) [ inl also ↦ are.once bound other old also e | inr new ↦ absurd (not_old bound other old new.1 e) ]
       | inr new ↦ elim (was_or_new other k) [ inl also ↦ absurd (not_old other bound also new.1 (sym e)) | inr both ↦ ap keys_in (sym new.0 ∙ both.0) ]
@@ -96,17 +120,17 @@ module _ (rm : ℕ) (facts : List Fact) (fact : Fact) (are : AreBoundApart facts
     ];
   }
 
-bound_apart_through : (config : Config) (rm : ℕ) (before facts : List Fact) → AreBoundApart before
-    → all_play config (R rm) before facts ≡ true → AreBoundApart (before ++ facts)
-bound_apart_through config rm before [] are play = subst AreBoundApart (sym (append-nil before)) are
+bound_apart_through : (config : Config) (rm : ℕ) (before facts : List Fact) → AreBoundApart rm before
+    → all_play config (R rm) before facts ≡ true → AreBoundApart rm (before ++ facts)
+bound_apart_through config rm before [] are play = subst (AreBoundApart rm) (sym (append-nil before)) are
 bound_apart_through config rm before (fact ∷ facts) are play =
     let parts = and_parts (plays config (R rm) before fact) (all_play config (R rm) (before ++ fact ∷ []) facts) play in
-    subst AreBoundApart (append_assoc before (fact ∷ []) facts)
+    subst (AreBoundApart rm) (append_assoc before (fact ∷ []) facts)
     (bound_apart_through config rm (before ++ fact ∷ []) facts (bound_apart_after rm before fact are parts.0) parts.1)
 
 -- where facts played, prepared branches are apart
-pub bound_apart : (config : Config) (rm : ℕ) (facts : List Fact) → all_play config (R rm) [] facts ≡ true → AreBoundApart facts
-bound_apart config rm facts play = bound_apart_through config rm [] facts (record { once = λ b o h. absurd h; apart = λ b o h. absurd h }) play
+pub bound_apart : (config : Config) (rm : ℕ) (facts : List Fact) → all_play config (R rm) [] facts ≡ true → AreBoundApart rm facts
+bound_apart config rm facts play = bound_apart_through config rm [] facts (record { named = λ b o x h. absurd h; once = λ b o h. absurd h; apart = λ b o h. absurd h }) play
 
 -- ---- all branches
 
@@ -115,6 +139,7 @@ pub record IsPreparedAs (rm : ℕ) (facts : List Fact) (b : Branch) : Type 0 whe
   pub bound : Bound
   pub among : Among (bound_in facts) bound
   pub name : xid_at bound.tx rm ≡ Some b.xid
+  pub state : b.state ≡ states.Prepared
   pub keys : b.keys ≡ bound.keys
 
 prepared_from : (rm : ℕ) (facts : List Fact) (bound : Bound) (b : Branch) (o : Option XidParts) → Among (bound_in facts) bound
@@ -123,7 +148,13 @@ prepared_from : (rm : ℕ) (facts : List Fact) (bound : Bound) (b : Branch) (o :
 prepared_from rm facts bound b None h name e = absurd (cc (e))
 prepared_from rm facts bound b (Some x) h name e =
     let same : named_so bound.keys x ≡ b = ap (λ o. unwrap_or o b) e in
-    record { bound = bound; among = h; name = name ∙ ap (λ (c : Branch). Some c.xid) same; keys = ap (λ (c : Branch). c.keys) (sym same) }
+    record {
+      bound = bound;
+      among = h;
+      name = name ∙ ap (λ (c : Branch). Some c.xid) same;
+      state = ap (λ (c : Branch). c.state) (sym same);
+      keys = ap (λ (c : Branch). c.keys) (sym same);
+    }
 
 pub prepared_or_not : (rm : ℕ) (facts : List Fact) (branches : List Branch) (b : Branch) → Among (all_branches rm facts branches) b
     → IsPreparedAs rm facts b ⊎ Among branches b
@@ -149,5 +180,31 @@ keys_held_once config rm facts branches play are b c h k apart key p q = elim (p
   | inr one ↦ elim (prepared_or_not rm facts branches c k) [
     | inl two ↦ are.free b two.bound one two.among key p (subst (λ (ks : List Touched). has_key key ks ≡ true) two.keys q)
     | inr two ↦ are.apart b c one two apart key p q
+  ]
+]
+
+-- no name has two branches
+named_apart : (rm : ℕ) (facts : List Fact) (branches : List Branch) → AreApart rm facts branches → (b c : Branch) → IsPreparedAs rm facts b
+    → Among branches c → b.xid ≢ c.xid
+named_apart rm facts branches are b c one h e =
+    both_ways (is_spent rm facts c.xid) (are.unspent c h)
+    (spent_by rm facts (stored.VotePrepared one.bound.tx one.bound.keys) c.xid (bound_stored facts one.bound one.among).voted (one.name ∙ ap Some e))
+
+pub names_held_once : (config : Config) (rm : ℕ) (facts : List Fact) (branches : List Branch) → all_play config (R rm) [] facts ≡ true
+    → AreApart rm facts branches
+    → (b c : Branch) → Among (all_branches rm facts branches) b → Among (all_branches rm facts branches) c → b.xid ≡ c.xid → b ≡ c
+names_held_once config rm facts branches play are b c h k e = elim (prepared_or_not rm facts branches b h) [
+  | inl one ↦ elim (prepared_or_not rm facts branches c k) [
+    | inl two ↦
+        let bounds = bound_apart config rm facts play in
+        let same = bounds.named one.bound two.bound b.xid one.among two.among one.name (two.name ∙ ap Some (sym e)) in
+        let state = one.state ∙ sym two.state in
+        let keys = one.keys ∙ bounds.once one.bound two.bound one.among two.among same ∙ sym two.keys in
+        λ i. record { xid = e i; state = state i; keys = keys i }
+    | inr two ↦ absurd (named_apart rm facts branches are b c one two e)
+  ]
+  | inr one ↦ elim (prepared_or_not rm facts branches c k) [
+    | inl two ↦ absurd (named_apart rm facts branches are c b two one (sym e))
+    | inr two ↦ are.once b c one two e
   ]
 ]

@@ -5,3 +5,4 @@ pub mod Standing
 pub mod Runs
 pub mod Senders
 pub mod Laws
+pub mod Holds

@@ -6,10 +6,13 @@ ghost use Rattle.xid.specs.declared.transaction.Vote.{Vote};
 ghost use Rattle.xid.specs.declared.transaction.Vote.TheVariants as votes;
 ghost use Rattle.ballot.specs.Ballots.{owner_of};
 ghost use Rattle.ballot.specs.Choice.{Report};
-ghost use Rattle.protocol.specs.declared.NodeId.TheVariants.{A, L};
+ghost use Rattle.protocol.specs.declared.NodeId.TheVariants.{A, L, R};
 ghost use Rattle.protocol.specs.Effects.{Config};
 ghost use Rattle.protocol.specs.Facts.{slot, last_ballot};
-ghost use Rattle.protocol.specs.Worlds.{Fated};
+ghost use Rattle.protocol.specs.Managers.{all_branches};
+ghost use Rattle.protocol.specs.Nodes.{NodeState};
+ghost use Rattle.protocol.specs.Worlds.{Fated, node_at};
+ghost use Rattle.safety.specs.Holds.{AreHeldOnce, AreNamedOnce, AreInOrder};
 ghost use Rattle.safety.specs.Items.{Accepted, Began, Voted, Committed, Dropped, P1b, P2a, P2b, Commit, Abort};
 ghost use Rattle.safety.specs.Items.{IsDecidedIn, IsDecided, IsPick, IsCovered};
 ghost use Rattle.safety.specs.Runs.{reached, facts_after, StandsAfter};
@@ -98,4 +101,15 @@ pub fn outcomes_were_decided()
         → StandsAfter config events (Committed r tx) → StandsAfter config events (Commit tx) }
     ensures aborted { (config : Config) (events : List Fated) (tx : TxParts) (r : ℕ)
         → StandsAfter config events (Dropped r tx) → StandsAfter config events (Abort tx) }
+{}
+
+/// Keys are held once: of the branches of a resource manager, those that are prepared among them, no two touch one key, and no two
+/// have one name; and the touched keys of those in its memory stand ascending.
+pub fn keys_held_once()
+    ensures keys { (config : Config) (events : List Fated) (rm : ℕ) (node : NodeState)
+        → node_at config (reached config events) (R rm) ≡ Some node → AreHeldOnce (all_branches rm node.facts node.memory.branches) }
+    ensures names { (config : Config) (events : List Fated) (rm : ℕ) (node : NodeState)
+        → node_at config (reached config events) (R rm) ≡ Some node → AreNamedOnce (all_branches rm node.facts node.memory.branches) }
+    ensures order { (config : Config) (events : List Fated) (rm : ℕ) (node : NodeState)
+        → node_at config (reached config events) (R rm) ≡ Some node → AreInOrder node.memory.branches }
 {}

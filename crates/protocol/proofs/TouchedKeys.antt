@@ -10,7 +10,8 @@ use Rattle.std.proofs.lemmas.Cmp.{nat_list_cmp_total}
 use Rattle.std.proofs.lemmas.Map.Text.{is_eq-slice_cmp}
 use Rattle.std.proofs.lemmas.Slice.Eq.{bytes_eq-Decides}
 use Rattle.stable_record.specs.Facts.{Touched, AreAscending}
-use Rattle.protocol.specs.Managers.{touch_key, has_key, write_of}
+use Rattle.protocol.specs.Calls.{Action, Start, Put, Del, Get, End, EndFail, Rollback}
+use Rattle.protocol.specs.Managers.{Branch, touch_key, has_key, write_of, changed}
 
 -- ---- the order of keys
 
@@ -161,7 +162,7 @@ ascends_after t (u ∷ keys) key write ascending less =
     (λ here. (less, (less_from (slice_cmp nat_cmp key u.key) here, ascending.1)))
     (λ there. (ascending.0, ascends_after u keys key write ascending.1 (later u.key key apart there))))
 
-pub ascends_touched : (keys : List Touched) (key : List ℕ) (write : Option (Option (List ℕ))) → AreAscending keys → AreAscending (touch_key keys key write)
+ascends_touched : (keys : List Touched) (key : List ℕ) (write : Option (Option (List ℕ))) → AreAscending keys → AreAscending (touch_key keys key write)
 ascends_touched [] key write ascending = tt
 ascends_touched (t ∷ keys) key write ascending =
     cond_both (bytes_eq t.key key) _ _ AreAscending
@@ -169,3 +170,13 @@ ascends_touched (t ∷ keys) key write ascending =
     (λ apart. cond_both (is_lt (slice_cmp nat_cmp key t.key)) _ _ AreAscending
     (λ here. (less_from (slice_cmp nat_cmp key t.key) here, ascending))
     (λ there. ascends_after t keys key write ascending (later t.key key apart there)))
+
+-- whatever a call makes of a branch
+pub changed_ascends : (action : Action) (b : Branch) → AreAscending b.keys → AreAscending (changed action b).keys
+changed_ascends (Put key value) b ascending = ascends_touched b.keys key (Some (Some value)) ascending
+changed_ascends (Del key) b ascending = ascends_touched b.keys key (Some None) ascending
+changed_ascends (Get key) b ascending = ascends_touched b.keys key None ascending
+changed_ascends End b ascending = ascending
+changed_ascends EndFail b ascending = ascending
+changed_ascends Start b ascending = ascending
+changed_ascends Rollback b ascending = ascending

@@ -1,0 +1,18 @@
+-- What holds of the branches of a resource manager.
+use Rattle.std.specs.Prelude.{◌≡◌, ◌≢◌, ℕ, true, List, Contains}
+use Rattle.std.specs.List.{AllByRecursion}
+use Rattle.stable_record.specs.Facts.{AreAscending}
+use Rattle.protocol.specs.Managers.{Branch, has_key}
+
+-- no key is touched by branches of two names
+abbrev pub AreHeldOnce : List Branch → Type 0
+AreHeldOnce branches = (b c : Branch) → Contains branches b → Contains branches c → b.xid ≢ c.xid
+    → (key : List ℕ) → has_key key b.keys ≡ true → ¬ (has_key key c.keys ≡ true)
+
+-- no name has two branches
+abbrev pub AreNamedOnce : List Branch → Type 0
+AreNamedOnce branches = (b c : Branch) → Contains branches b → Contains branches c → b.xid ≡ c.xid → b ≡ c
+
+-- the touched keys of each branch stand ascending
+abbrev pub AreInOrder : List Branch → Type 0
+AreInOrder branches = AllByRecursion (λ branch. AreAscending branch.keys) branches
