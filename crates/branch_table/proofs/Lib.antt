@@ -1,4 +1,3 @@
 pub mod TouchingLemmas
 pub mod Views
 pub mod CallSteps
-pub mod MachineCalls

@@ -12,6 +12,7 @@ use Rattle.branch_table.specs.Tables.{BranchParts, branch_view, view_at, are_dis
 use Rattle.branch_table.specs.Touching.{newer, touch_in}
 use Rattle.std.proofs.lemmas.Slice.Eq.{bytes_eq-Decides}
 use Rattle.std.specs.Option.{is_some}
+use Rattle.protocol.proofs.TouchedKeys.{twice, swap, suc_in}
 use Rattle.branch_table.proofs.TouchingLemmas.{first_false, second_false}
 
 abbrev pub is_of : XidParts → BranchParts → Bool
@@ -150,16 +151,6 @@ is_false : (b : Bool) → not b ≡ true → b ≡ false
 is_false true e = absurd (cc)
 is_false false e = refl
 
-twice : (a b : Bool) → (a || b) ≡ (a || (a || b))
-twice true b = refl
-twice false b = refl
-
-swap : (a b c : Bool) → (a || (b || c)) ≡ (b || (a || c))
-swap true true c = refl
-swap true false c = refl
-swap false true c = refl
-swap false false c = refl
-
 or_true : (b : Bool) → (b || true) ≡ true
 or_true true = refl
 or_true false = refl
@@ -214,10 +205,6 @@ has_step t ts key other write rest false e = rw (e, rest) (swap (bytes_eq t.key 
 has_touched : (all : List TouchedParts) (key other : List ℕ) (write : Option (Option (List ℕ))) → list_any (has_key other) (touch_in all key write) ≡ (bytes_eq key other || list_any (has_key other) all)
 has_touched [] key other write = refl
 has_touched (t ∷ ts) key other write = has_step t ts key other write (has_touched ts key other write) (has_key key t) refl
-
-suc_in : (b : Bool) (n : ℕ) → suc (cond b n (n + 1)) ≡ cond b (suc n) (suc n + 1)
-suc_in true n = refl
-suc_in false n = omega arith
 
 counts_step : (t : TouchedParts) (ts : List TouchedParts) (key : List ℕ) (write : Option (Option (List ℕ)))
     → length (touch_in ts key write) ≡ cond (list_any (has_key key) ts) (length ts) (length ts + 1) → (b : Bool) → has_key key t ≡ b

@@ -1,5 +1,4 @@
 pub mod OneCall
-pub mod MachineCalls
 pub mod Tables
 pub mod Touching
 pub mod Rows

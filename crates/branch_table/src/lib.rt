@@ -2,7 +2,6 @@
 #![tactic(auto)]
 
 mod branch;
-pub mod laws;
 mod row;
 mod table;
 

@@ -10,7 +10,7 @@ ghost use Rattle.protocol.specs.Nodes.{NodeState};
 ghost use Rattle.protocol.specs.Tables.{table};
 ghost use Rattle.protocol.specs.Worlds.{Fated, node_at};
 ghost use Rattle.safety.specs.Runs.{reached};
-ghost use Rattle.branch_table.specs.MachineCalls.{IsOneCall, IsAnswered, shows};
+ghost use Rattle.cluster_run.specs.MachineCalls.{IsOneCall, IsAnswered, shows};
 
 /// Whatever has happened in a cluster, a client call at a resource manager is one call on its branches, prepared ones among them: it
 /// leaves what one call leaves, and is answered by the table of client calls; only of a spent name no branch can be started.

@@ -53,11 +53,11 @@ tail_ascends t (u ∷ keys) ascending = ascending.1
 
 -- ---- which keys are there
 
-twice : (a b : Bool) → (a || b) ≡ (a || (a || b))
+pub twice : (a b : Bool) → (a || b) ≡ (a || (a || b))
 twice true b = refl
 twice false b = refl
 
-swap : (a b c : Bool) → (a || (b || c)) ≡ (b || (a || c))
+pub swap : (a b c : Bool) → (a || (b || c)) ≡ (b || (a || c))
 swap true true c = refl
 swap true false c = refl
 swap false true c = refl
@@ -80,7 +80,7 @@ has_touched (t ∷ keys) key other write =
 
 -- ---- how many
 
-suc_in : (b : Bool) (n : ℕ) → suc (cond b n (n + 1)) ≡ cond b (suc n) (suc n + 1)
+pub suc_in : (b : Bool) (n : ℕ) → suc (cond b n (n + 1)) ≡ cond b (suc n) (suc n + 1)
 suc_in true n = refl
 suc_in false n = omega arith
 

@@ -20,7 +20,7 @@ use Rattle.protocol.specs.declared.Status.TheVariants as statuses
 use Rattle.protocol.specs.Facts.{last_ballot}
 use Rattle.protocol.specs.Effects.{Config, Effect, Stands, Refuses, Send, Address, ToNode, ToAcceptors, ToManagers, to, is_inside, replies, no_effect, sends_only, stores}
 use Rattle.protocol.specs.Leading.{Leading, current, has_reported, is_reported, picked, is_proposed, status_of, meets, hears, begins, proposes, is_accept_of}
-use Rattle.protocol.specs.Leaders.{outcome, is_final, on_commit_call, on_leader_timeout, on_status_call, after_report, on_1b, on_2b, on_ask, leader_takes}
+use Rattle.protocol.specs.Leaders.{outcome, is_final, on_commit_call, on_leader_timeout, on_status_call, is_current, after_report, on_1b, on_2b, on_ask, leader_takes}
 use Rattle.protocol.specs.Nodes.{Memory, Input, CallOn, ListPrepared, AskView, AskCommit, AskStatus, TimeOut, Take, TakeNoise, of_leader, effect_of, is_acceptor_inside, is_message_inside}
 use Rattle.safety.proofs.Lists.{Among-mapped}
 use Rattle.safety.proofs.LeadersWords.{IsKept, IsBacked, IsSentBy, IsSentMore, IsNewBallot, MaySend, IsLeaderStep}
@@ -34,10 +34,6 @@ takes_over leading tx b =
     if nat_lt b (2 ^ 32)
     then stores (begins tx b (meets tx leading)) (stored.Ballot tx b) (map (λ i. to ToAcceptors (P1a tx i b)) (participants tx))
     else replies leading (Refuses NoBallot)
-
--- whether a ballot is the current one
-abbrev is_current : Option ℕ → ℕ → Bool
-is_current now b = option_map_or (λ last. last == b) now false
 
 -- no proposal
 abbrev IsNoProposal : Kind → Type 0
@@ -179,9 +175,9 @@ module _ (config : Config) (l : ℕ) (facts : List Fact) (Sent Now : Kind → Ty
 
   -- ---- phases 1b and 2b
 
-  is_current_now : (o : Option ℕ) (b : ℕ) → is_current o b ≡ true → o ≡ Some b
-  is_current_now None b h = absurd (cc (h))
-  is_current_now (Some c) b h = ap Some (eqb-true c b h)
+  current_by : (o : Option ℕ) (b : ℕ) → option_map_or (λ last. last == b) o false ≡ true → o ≡ Some b
+  current_by None b h = absurd (cc (h))
+  current_by (Some c) b h = ap Some (eqb-true c b h)
 
   good_report : (leading : Leading) (tx : TxParts) (i b : ℕ) → current leading tx ≡ Some b → IsKept config l facts leading Sent
       → IsGood (after_report config leading tx i b)
@@ -213,14 +209,14 @@ module _ (config : Config) (l : ℕ) (facts : List Fact) (Sent Now : Kind → Ty
       → IsKept config l facts leading Sent → IsGood (on_1b config facts leading tx i b a (P1b tx i b report a))
   good_1b leading tx i b report a sent few kept =
       let final = is_final (status_of config.acceptors facts leading tx) in
-      let other = not (is_current (current leading tx) b) in
+      let other = not (is_current leading tx b) in
       let twice = has_reported leading.heard tx i b a in
       cond_both (final || other || twice) (no_effect leading) (after_report config (hears (P1b tx i b report a) leading) tx i b) IsGood
       (λ e grown. quiet leading kept grown)
       (λ e.
       let parts = or_parts (final || other) twice e in
       let more = or_parts final other parts.0 in
-      good_report (hears (P1b tx i b report a) leading) tx i b (is_current_now (current leading tx) b (not_false (is_current (current leading tx) b) more.1))
+      good_report (hears (P1b tx i b report a) leading) tx i b (current_by (current leading tx) b (not_false (is_current leading tx b) more.1))
       (kept_hears config l facts Sent (P1b tx i b report a) leading sent
       (λ ux j c x d f.
       let ea : a ≡ d = cc (f) in

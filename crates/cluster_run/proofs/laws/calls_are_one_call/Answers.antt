@@ -1,4 +1,4 @@
-use Rattle.branch_table.proofs.MachineCalls.{call_is, answered_is}
+use Rattle.cluster_run.proofs.MachineCalls.{call_is, answered_is}
 use Rattle.safety.proofs.Held.{named_once, in_order}
 use Rattle.cluster_run.proofs.laws.calls_are_one_call.Goals as goal
 

@@ -1,18 +1,14 @@
 -- A client call of the machine as one call on branches. What it leaves is said of lists there, and of views here.
-use Rattle.std.specs.Prelude.{◌≡◌, ℕ, Bool, true, List, Contains}
-use Rattle.std.specs.List.{AllByRecursion}
+use Rattle.std.specs.Prelude.{◌≡◌, ℕ, Bool, true, List}
 use Rattle.xid.specs.Names.{XidParts}
 use Rattle.xid.specs.declared.codes.XaCode.TheVariants as code
-use Rattle.stable_record.specs.Facts.{Fact, AreAscending}
+use Rattle.stable_record.specs.Facts.{Fact}
 use Rattle.protocol.specs.Calls.{Action, Start, Answer, Code, Row}
 use Rattle.protocol.specs.Branches.{BranchView}
 use Rattle.protocol.specs.Effects.{Effect, Called}
 use Rattle.protocol.specs.Managers.{Branch, all_branches, branch_at}
 use Rattle.branch_table.specs.OneCall.{Answers, Leaves}
-
--- the touched keys of each branch stand ascending
-abbrev pub AreInOrder : List Branch → Type 0
-AreInOrder branches = AllByRecursion (λ branch. AreAscending branch.keys) branches
+use Rattle.safety.specs.Holds.{AreInOrder}
 
 -- how the branches of resource manager rm show, those that are prepared among them
 abbrev pub shows : (rm : ℕ) → List Fact → List Branch → XidParts → BranchView
@@ -24,10 +20,6 @@ pub record IsOneCall (rm : ℕ) (facts : List Fact) (branches : List Branch) (x 
   pub replied : e.reply ≡ Called answer
   pub left : Leaves (shows rm facts branches) (shows rm facts e.memory) x action answer
   pub ordered : AreInOrder e.memory
-
--- no name has two branches
-abbrev pub AreNamedOnce : List Branch → Type 0
-AreNamedOnce branches = (b c : Branch) → Contains branches b → Contains branches c → b.xid ≡ c.xid → b ≡ c
 
 -- the answer is that of the table of client calls; but of a spent name no branch can be started
 abbrev pub AnswersNamed : (spent : Bool) → List Row → (XidParts → BranchView) → XidParts → Action → Answer → Type 0

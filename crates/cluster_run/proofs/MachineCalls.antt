@@ -19,7 +19,8 @@ use Rattle.protocol.specs.Facts.{Bound, bound_in, is_spent}
 use Rattle.protocol.specs.Managers.{Branch, all_branches, branch_at, has_key, write_of, touch_key, is_held, changed, without, after_call, call_answer, on_call}
 use Rattle.protocol.specs.Tables.{table}
 use Rattle.branch_table.specs.OneCall.{SameView, IsHeld, IsBusy, Leaves, touch, done_view}
-use Rattle.branch_table.specs.MachineCalls.{AreInOrder, shows, IsOneCall, AreNamedOnce, AnswersNamed, IsAnswered}
+use Rattle.safety.specs.Holds.{AreInOrder, AreNamedOnce}
+use Rattle.cluster_run.specs.MachineCalls.{shows, IsOneCall, AnswersNamed, IsAnswered}
 use Rattle.branch_table.proofs.CallSteps.{same, same_from}
 use Rattle.protocol.proofs.TouchedKeys.{has_touched, counts_touched, writes_touched, changed_ascends}
 
