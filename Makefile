@@ -2,40 +2,56 @@
 SCRIPT ?= examples/first-branch.script
 PREFIX ?= /usr/local
 
-.PHONY: run build try test golden scripts install clean
+.PHONY: run build try test golden scripts wrong-rules docs install clean proof-tools test-tools
 
 # builds the program and runs it on a script
 run: build
 	@bin/pcommit run $(SCRIPT)
 
-# proves and builds the program, and leaves it at bin/pcommit
+# proves and builds the program, and leaves it at bin/pcommit; says how far it is
 build: bin/pcommit
 
-bin/pcommit: crates.txt $(shell find crates -name out -prune -o -type f -print)
-	@mkdir -p bin
-	cd crates/pcommit && rt run -- run data/first-branch.script > ../../bin/build.log 2>&1 || { cat ../../bin/build.log; exit 1; }
+bin/pcommit: crates.txt $(shell find crates -name out -prune -o -type f -print) | proof-tools
+	@tools/progress.py pcommit bin/build.log rt run -- run data/first-branch.script
 	@cp crates/pcommit/out/pcommit bin/pcommit
 
-# interprets a script in seconds, with no proof, for a first look
-try:
+# interprets a script, with no proof, for a first look
+try: proof-tools
+	@echo "Interpreting $(SCRIPT), with no proofs: about half a minute." >&2
 	@cd crates/pcommit && rt try --data script=$(abspath $(SCRIPT)) -- run script
 
-# everything: each proof from nothing, the must-fail edits, the tests, the program as two compilers build it, and then, of the program
-# that was built so, the golden scripts and a run with each block of memory refused in turn
-test:
+# everything: the page of definitions, each proof from nothing, the must-fail edits, the tests, the program as two compilers build it,
+# and then, of the program that was built so, the golden scripts and a run with each block of memory refused in turn
+test: test-tools
+	tools/definitions.py --check
 	rt ci
 	@mkdir -p bin
 	@cp crates/pcommit/out/pcommit bin/pcommit
 	$(MAKE) scripts
 
-golden: build scripts
+golden: test-tools build scripts
 
 scripts:
 	tests/run.sh bin/pcommit
 	tests/memory.sh bin/pcommit
+
+# tries each wrong rule of the protocol on a copy of the definitions, outside the gate: about ten minutes
+wrong-rules: proof-tools
+	tests/wrong-rules/run.sh
+
+# writes docs/DEFINITIONS.md from crates/*/specs
+docs:
+	tools/definitions.py
 
 install: build
 	install -D bin/pcommit $(DESTDIR)$(PREFIX)/bin/pcommit
 
 clean:
 	rm -rf bin crates/*/out
+
+# what has to be installed, asked for before anything starts
+proof-tools:
+	@tools/needs.sh rt python3
+
+test-tools:
+	@tools/needs.sh rt python3 cc

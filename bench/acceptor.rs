@@ -3,19 +3,25 @@
 //! begins with an acceptor that has played nothing. Prints how many facts were played, and a sum of what was sent last.
 #![tactic(auto)]
 
-use acceptor::{Acceptor, Decision};
+use acceptor::Acceptor;
 use anyhow::bail;
+use protocol::{Decision, Sends};
 use std::alloc::Global;
 use std::env;
 use wire::{Kind, MAX_DATAGRAM, Message, encode, is_message};
-use xid::{Refusal, Tx, Vote};
+use xid::{Ballot, Refusal, Tx, Vote};
 
 const USAGE: &str = "usage: bench_acceptor TRANSACTIONS BALLOTS REPETITIONS";
 
 /// The message of a transaction on one branch, whose gtrid is a number of 4 bytes.
-fn message_of(number: u32, ballot: u32) -> Result<Message, Refusal> {
+fn message_of(number: u32, ballot: Ballot) -> Result<Message, Refusal> {
     let tx = Tx::new(1, &number.to_be_bytes(), &[(0, b"a".as_slice())])?;
-    let kind = Kind::P2a(tx, 0, ballot, Vote::Prepared);
+    let kind = Kind::P2a {
+        tx,
+        instance: 0,
+        ballot,
+        vote: Vote::Prepared,
+    };
     if !is_message(&kind) {
         return Err(Refusal::BadMessage);
     }
@@ -23,7 +29,7 @@ fn message_of(number: u32, ballot: u32) -> Result<Message, Refusal> {
 }
 
 /// The messages of all ballots, one ballot after the other.
-fn messages_of(alloc: Global, transactions: u32, ballots: u32) -> Result<Vec<Message>, Refusal> {
+fn messages_of(alloc: Global, transactions: u32, ballots: Ballot) -> Result<Vec<Message>, Refusal> {
     let mut messages = Vec::new(alloc);
     for ballot in 0..ballots {
         for number in 0..transactions {
@@ -49,20 +55,18 @@ fn sum_of(message: &Message) -> u64 {
 fn play_all(alloc: Global, messages: &[Message]) -> Result<(u64, u64), Refusal> {
     let mut acceptor = Acceptor::new(alloc, 0, 1);
     let mut played: u64 = 0;
-    let mut sent = None;
+    let mut sent = Sends::none();
     for message in messages {
-        let Decision { fact, send } = acceptor.on_message(message);
-        match fact {
-            None => {}
-            Some(fact) => {
-                acceptor.ready(&fact)?;
-                acceptor.play(fact)?;
-                played = played.wrapping_add(1);
-            }
+        let Decision { fact, sends, .. } = acceptor.on_message(message);
+        if let Some(fact) = fact {
+            acceptor.ready(&fact)?;
+            acceptor.play(fact)?;
+            played = played.wrapping_add(1);
         }
-        sent = send;
+        sent = sends;
     }
-    let sum = sent.map_or(0, |outgoing| sum_of(&outgoing.message));
+    let last = sent.as_slice().first();
+    let sum = last.map_or(0, |outgoing| sum_of(&outgoing.message));
     Ok((played, sum))
 }
 

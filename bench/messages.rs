@@ -7,7 +7,7 @@ use anyhow::bail;
 use std::alloc::Global;
 use std::env;
 use wire::{Kind, MAX_DATAGRAM, Message, decode, encode, is_message};
-use xid::{MAX_COMPONENT, Refusal, Tx, Vote};
+use xid::{MAX_BRANCHES, MAX_COMPONENT, Refusal, Tx, Vote};
 
 const USAGE: &str = "usage: bench_messages encode|decode prepare|p2a|p2a-of-three|p1b ROUNDS";
 
@@ -20,7 +20,12 @@ fn prepare(format: i64) -> Result<Kind, Refusal> {
 /// Phase 2a on one branch, with names of one byte.
 fn p2a(format: i64) -> Result<Kind, Refusal> {
     let tx = Tx::new(format, b"t", &[(0, b"a".as_slice())])?;
-    Ok(Kind::P2a(tx, 0, 0, Vote::Prepared))
+    Ok(Kind::P2a {
+        tx,
+        instance: 0,
+        ballot: 0,
+        vote: Vote::Prepared,
+    })
 }
 
 /// Phase 2a on three branches, with names of 16 bytes.
@@ -28,25 +33,30 @@ fn p2a_of_three(format: i64) -> Result<Kind, Refusal> {
     let name = [120; 16];
     let name = name.as_slice();
     let tx = Tx::new(format, name, &[(0, name), (1, name), (2, name)])?;
-    Ok(Kind::P2a(tx, 2, 7, Vote::Prepared))
+    Ok(Kind::P2a {
+        tx,
+        instance: 2,
+        ballot: 7,
+        vote: Vote::Prepared,
+    })
 }
 
-/// The longest message: phase 1b on eight branches, with names of 64 bytes.
+/// The longest message: phase 1b on 16 branches, with names of 64 bytes.
 fn p1b(format: i64) -> Result<Kind, Refusal> {
     let name = [200; MAX_COMPONENT];
     let b = name.as_slice();
-    let branches = [
-        (0, b),
-        (1, b),
-        (2, b),
-        (3, b),
-        (4, b),
-        (5, b),
-        (6, b),
-        (7, b),
-    ];
+    let mut branches = [(0, b); MAX_BRANCHES];
+    for rm in 0..16 {
+        branches[rm as usize] = (rm, b);
+    }
     let tx = Tx::new(format, b, &branches)?;
-    Ok(Kind::P1b(tx, 7, 9, Some((8, Vote::Aborted)), 6))
+    Ok(Kind::P1b {
+        tx,
+        instance: 15,
+        ballot: 9,
+        report: Some((8, Vote::Aborted)),
+        acceptor: 6,
+    })
 }
 
 /// The 8 messages of a round.

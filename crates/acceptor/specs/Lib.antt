@@ -1,4 +1,2 @@
 pub mod Slots
-pub mod Shape
 pub mod Acceptors
-pub mod Decisions

@@ -3,11 +3,9 @@
 #![tactic(auto)]
 
 mod acceptor;
-mod decision;
 mod slots;
 
 pub use acceptor::Acceptor;
-pub use decision::{Address, Decision, Outgoing};
 
 #[cfg(test)]
 mod tests;

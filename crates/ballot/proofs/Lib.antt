@@ -1,5 +1,5 @@
+pub mod Greatest
 pub mod Turns
-pub mod Steps
 pub mod Next
 pub mod Majorities
 pub mod Picks

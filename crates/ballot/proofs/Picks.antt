@@ -1,24 +1,19 @@
 -- The value that is computed from reports is the one that the paper takes.
-use Rattle.std.proofs.Common.{◌≡◌, inl, inr, ⊎_elim, ℕ, ◌<◌, ◌≤◌, max, Bool, true, false, not, ◌&&◌, if◌then◌else◌, ◌==◌, List, [], ◌∷◌, Some, None, is_some, refl, sym, ap, ◌∙◌, subst, arith}
+use Rattle.std.proofs.Common.{◌≡◌, inl, inr, ⊎_elim, ℕ, ◌<◌, ◌≤◌, max, Bool, true, false, not, ◌&&◌, if◌then◌else◌, ◌==◌, List}
+use Rattle.std.proofs.Common.{[], ◌∷◌, Some, None, is_some, refl, sym, ap, ◌∙◌, subst, arith}
 use Rattle.std.specs.List.{list_any, list_all}
-use Rattle.std.proofs.lemmas.Bool.{cases_lt, both_ways, and_from, and_parts, or_cases, or_right, or_left, not-true, cases_eq, eq-eqb, ne_eqb, not_from_false}
+use Rattle.std.proofs.lemmas.Bool.{cases_lt, both_ways, and_from, and_parts, or_cases, or_right, or_left, not-true, cases_eq}
+use Rattle.std.proofs.lemmas.Bool.{eq-eqb, ne_eqb, not_from_false}
 use Rattle.xid.specs.declared.transaction.Vote.{Vote}
 use Rattle.xid.specs.declared.transaction.Vote.TheVariants.{Prepared, Aborted}
-use Rattle.ballot.specs.Choice.{Report, IsIn, IsPreparedTop, IsPick, pick, top_of, says_prepared, is_prepared}
-
-abbrev reported : (ℕ × Vote) → Report → ℕ × Vote
-reported other None = other
-reported other (Some last) = last
+use Rattle.ballot.specs.Greatest.{IsIn}
+use Rattle.ballot.proofs.Greatest.{at_most_greatest}
+use Rattle.ballot.specs.Choice.{Report, ballot_reported, IsPreparedTop, IsPick, pick, top_of, says_prepared, is_prepared}
 
 -- ---- the top is the greatest ballot reported
 
 pub below_top : (reports : List Report) (last : ℕ × Vote) → IsIn reports (Some last) → last.0 ≤ top_of reports
-below_top [] last h = absurd h
-below_top (None ∷ reports) last (inl e) = absurd (cc (e))
-below_top (None ∷ reports) last (inr h) = below_top reports last h
-below_top (Some first ∷ reports) last (inl e) =
-    let same : first.0 ≡ last.0 = ap (λ (r : Report). (reported first r).0) e in omega (arith, same)
-below_top (Some first ∷ reports) last (inr h) = omega (arith, below_top reports last h)
+below_top reports last h = at_most_greatest ballot_reported reports (Some last) last.0 h refl
 
 some_above : (reports : List Report) → 0 < top_of reports → list_any is_some reports ≡ true
 some_above [] h = absurd (omega (arith, h))
@@ -31,6 +26,7 @@ some_in (None ∷ reports) last (inl e) = absurd (cc (e))
 some_in (None ∷ reports) last (inr h) = some_in reports last h
 some_in (Some first ∷ reports) last h = refl
 
+-- a ballot that some report has is the top of them, with its value
 pub top_in : (reports : List Report) → list_any is_some reports ≡ true → (v : Vote) × IsIn reports (Some (top_of reports, v))
 top_in [] h = absurd (cc (h))
 top_in (None ∷ reports) h = let rest = top_in reports h in (rest.0, inr rest.1)
@@ -41,7 +37,7 @@ top_in (Some first ∷ reports) h = ⊎_elim
     (rest.0, inr (subst (λ (t : ℕ). IsIn reports (Some (t, rest.0))) same rest.1)))
     (λ (below : top_of reports ≤ first.0).
     let same : first.0 ≡ max first.0 (top_of reports) = omega (arith, below) in
-    (first.1, inl (λ i. Some (same i, first.1))))
+    (first.1, inl (ap (λ (t : ℕ). Some (t, first.1)) same)))
     (cases_lt first.0 (top_of reports))
 
 -- ---- what the reports of the top say
@@ -50,6 +46,7 @@ prepared_from : (v : Vote) → is_prepared v ≡ true → v ≡ Prepared
 prepared_from Prepared h = refl
 prepared_from Aborted h = absurd (cc (h))
 
+-- a report of the top that says prepared has that value
 pub says_top : (t : ℕ) (v : Vote) → says_prepared t (Some (t, v)) ≡ true → v ≡ Prepared
 says_top t v h = ⊎_elim
     (λ (e : not (t == t) ≡ true). absurd (both_ways (t == t) (not-true (t == t) e) (eq-eqb t t refl)))
@@ -62,17 +59,23 @@ says_from t last h = ⊎_elim
     (λ (n : last.0 ≡ t → ⊥). or_left (not (last.0 == t)) (is_prepared last.1) (not_from_false (last.0 == t) (ne_eqb last.0 t n)))
     (cases_eq last.0 t)
 
-pub says_each : (t : ℕ) (reports : List Report) → list_all (says_prepared t) reports ≡ true → (r : Report) → IsIn reports r → says_prepared t r ≡ true
+pub says_each : (t : ℕ) (reports : List Report) → list_all (says_prepared t) reports ≡ true → (r : Report) → IsIn reports r
+    → says_prepared t r ≡ true
 says_each t [] h r is = absurd is
-says_each t (first ∷ reports) h r (inl e) = subst (λ (s : Report). says_prepared t s ≡ true) e (and_parts (says_prepared t first) (list_all (says_prepared t) reports) h).0
-says_each t (first ∷ reports) h r (inr is) = says_each t reports (and_parts (says_prepared t first) (list_all (says_prepared t) reports) h).1 r is
+says_each t (first ∷ reports) h r (inl e) =
+    subst (λ (s : Report). says_prepared t s ≡ true) e (and_parts (says_prepared t first) (list_all (says_prepared t) reports) h).0
+says_each t (first ∷ reports) h r (inr is) =
+    says_each t reports (and_parts (says_prepared t first) (list_all (says_prepared t) reports) h).1 r is
 
-each_says : (t : ℕ) (reports : List Report) → ((r : Report) → IsIn reports r → says_prepared t r ≡ true) → list_all (says_prepared t) reports ≡ true
+each_says : (t : ℕ) (reports : List Report) → ((r : Report) → IsIn reports r → says_prepared t r ≡ true)
+    → list_all (says_prepared t) reports ≡ true
 each_says t [] h = refl
-each_says t (first ∷ reports) h = and_from (says_prepared t first) (list_all (says_prepared t) reports) (h first (inl refl)) (each_says t reports (λ r is. h r (inr is)))
+each_says t (first ∷ reports) h =
+    and_from (says_prepared t first) (list_all (says_prepared t) reports) (h first (inl refl)) (each_says t reports (λ r is. h r (inr is)))
 
 -- where all reports of the greatest ballot say prepared, each report does
-says_of : (reports : List Report) (p : IsPreparedTop reports) → p.top ≡ top_of reports → (r : Report) → IsIn reports r → says_prepared (top_of reports) r ≡ true
+says_of : (reports : List Report) (p : IsPreparedTop reports) → p.top ≡ top_of reports → (r : Report) → IsIn reports r
+    → says_prepared (top_of reports) r ≡ true
 says_of reports p same None is = refl
 says_of reports p same (Some last) is = says_from (top_of reports) last
     (λ e. p.prepared last.1 (subst (λ (t : ℕ). IsIn reports (Some (t, last.1))) (e ∙ sym same) is))
@@ -91,7 +94,8 @@ pick_from reports true true e f = record {
   prepared = λ v h. says_top (top_of reports) v (says_each (top_of reports) reports f (Some (top_of reports, v)) h);
 }
 pick_from reports true false e f = λ p.
-    both_ways (list_all (says_prepared (top_of reports)) reports) f (each_says (top_of reports) reports (says_of reports p (top_same reports p e)))
+    both_ways (list_all (says_prepared (top_of reports)) reports) f
+    (each_says (top_of reports) reports (says_of reports p (top_same reports p e)))
 pick_from reports false b e f = λ p. both_ways (list_any is_some reports) e (some_in reports (p.top, p.is_top.value) p.is_top.reported)
 
 pub pick_is : (reports : List Report) → IsPick reports (pick reports)

@@ -1,11 +1,14 @@
 -- Leaders take turns: the next ballot of one is where `next_of` says.
-use Rattle.std.proofs.Common.{◌≡◌, ◌⊎◌, inl, inr, ⊎_elim, ℕ, ◌+◌, ◌-◌, ◌*◌, ◌/◌, ◌%◌, ◌<◌, ◌≤◌, ap, ◌∙◌, arith, div-add-mod', mod-eq_of_lt, mul-le-mul_right}
+use Rattle.std.proofs.Common.{◌≡◌, ◌⊎◌, inl, inr, ⊎_elim, ℕ, ◌+◌, ◌-◌, ◌*◌, ◌/◌, ◌%◌, ◌<◌, ◌≤◌, ap, ◌∙◌, arith, div-add-mod'}
+use Rattle.std.proofs.Common.{mod-eq_of_lt, mul-le-mul_right}
 use Rattle.std.proofs.lemmas.Bool.{cases_order}
 use Rattle.std.proofs.lemmas.Nat.{mod-mul-add, mod_below}
 use Rattle.ballot.specs.Ballots.{IsNextOwned, next_of}
 
 order : (a b : ℕ) → (a < b) ⊎ (b ≤ a)
-order a b = ⊎_elim (λ (e : a ≡ b). inr (omega (arith, e))) (λ f. ⊎_elim (λ (g : a < b). inl g) (λ (g : b < a). inr (omega (arith, g))) f) (cases_order a b)
+order a b =
+    ⊎_elim (λ (e : a ≡ b). inr (omega (arith, e))) (λ f. ⊎_elim (λ (g : a < b). inl g) (λ (g : b < a). inr (omega (arith, g))) f)
+    (cases_order a b)
 
 -- l in the turn in which r stands, or in the next one
 pub record IsGap (n l r gap : ℕ) : Type 0 where
@@ -29,7 +32,9 @@ next_turn : (n l q r t k : ℕ) → l < n → r < n → t ≤ 1 → (1 ≤ t →
 next_turn n l q r t k few low small later past = ⊎_elim
     (λ (less : k < q + t). ⊎_elim
     (λ (before : k < q). absurd (omega (arith, mul-le-mul_right n before, past, few)))
-    (λ (at : q ≤ k). absurd (omega (arith, later (omega (arith, less, at)), past, ap (λ (x : ℕ). x * n) (let e : k ≡ q = omega (arith, less, at, small) in e))))
+    (λ (at : q ≤ k).
+    let same : k ≡ q = omega (arith, less, at, small) in
+    absurd (omega (arith, later (omega (arith, less, at)), past, ap (λ (x : ℕ). x * n) same)))
     (order k q))
     (λ (more : q + t ≤ k). more)
     (order k (q + t))
@@ -51,6 +56,7 @@ next_is n l last few =
       least = λ b own above.
           let k : ℕ = (b - 1) / n in
           let is : k * n + (b - 1) % n ≡ b - 1 = div-add-mod' (b - 1) n in
-          let turn : q + gap.turns ≤ k = next_turn n l q r gap.turns k few low gap.first gap.later (omega (arith, is, own.1, whole, above)) in
+          let turn : q + gap.turns ≤ k =
+          next_turn n l q r gap.turns k few low gap.first gap.later (omega (arith, is, own.1, whole, above)) in
           omega (arith, mul-le-mul_right n turn, is, own.1, whole, gap.lands, own.0);
     }

@@ -1,19 +1,24 @@
 -- The value that phase 2a takes from the reports of a majority.
 -- Gray and Lamport, "Consensus on Transaction Commit", ACM TODS 31(1), 2006, sections 4.1 and 4.2.
-use Rattle.std.specs.Prelude.{◌≡◌, ◌⊎◌, ℕ, ◌≤◌, max, Bool, true, false, not, ◌&&◌, ◌||◌, ◌==◌, if◌then◌else◌, List, [], ◌∷◌, Option, Some, None, is_some}
+use Rattle.std.specs.Prelude.{◌≡◌, ℕ, ◌≤◌, Bool, true, false, not, ◌&&◌, ◌||◌, ◌==◌, if◌then◌else◌, List, Option, Some, None}
+use Rattle.std.specs.Prelude.{is_some, filter_map}
 use Rattle.std.specs.List.{list_any, list_all}
+use Rattle.std.specs.Option.{option_map}
 use Rattle.xid.specs.declared.transaction.Vote.{Vote}
 use Rattle.xid.specs.declared.transaction.Vote.TheVariants.{Prepared, Aborted}
+pub use Rattle.ballot.specs.Greatest.{IsIn, greatest}
 
 -- the last ballot in which an acceptor accepted a value, and the value
 abbrev pub Report : Type 0
 Report = Option (ℕ × Vote)
 
+-- the ballot of a report, where there is one
+abbrev pub ballot_reported : Report → Option ℕ
+ballot_reported report = option_map (λ last. last.0) report
+
 -- the greatest ballot reported, 0 where there is none
 abbrev pub top_of : List Report → ℕ
-top_of [] = 0
-top_of (None ∷ reports) = top_of reports
-top_of (Some last ∷ reports) = max last.0 (top_of reports)
+top_of reports = greatest (filter_map ballot_reported reports)
 
 -- whether a vote is prepared
 abbrev pub is_prepared : Vote → Bool
@@ -28,11 +33,6 @@ says_prepared ballot (Some last) = not (last.0 == ballot) || is_prepared last.1
 -- prepared where some acceptor reports a value and all reports of the greatest ballot say prepared, else aborted
 abbrev pub pick : List Report → Vote
 pick reports = if list_any is_some reports && list_all (says_prepared (top_of reports)) reports then Prepared else Aborted
-
--- a report is one of these
-abbrev pub IsIn : List Report → Report → Type 0
-IsIn [] report = ⊥
-IsIn (first ∷ reports) report = (first ≡ report) ⊎ IsIn reports report
 
 -- a ballot is the greatest that is reported
 pub record IsTop (reports : List Report) (top : ℕ) : Type 0 where

@@ -1,3 +1,4 @@
+pub mod Greatest
 pub mod Ballots
 pub mod Slots
 pub mod Choice

@@ -1,19 +1,32 @@
 ghost use Rattle.std.specs.Prelude.{◌≡◌, ℕ, ◌<◌, ◌≤◌, ◌↔◌, IsTrue, false, ◌||◌, ◌==◌};
+ghost use Rattle.xid.specs.Limits.{most_acceptors};
 ghost use Rattle.ballot.specs.Majority.{has, IsMajority};
 
-/// How many acceptors there may be; they are the numbers below.
-pub const MAX_ACCEPTORS: usize = 7;
+use std::marker::Model;
 
-/// A set of acceptors.
+/// How many acceptors there may be; they are the numbers below.
+pub const MAX_ACCEPTORS: usize = xid::MAX_ACCEPTORS as usize;
+
+/// A set of acceptors. Contracts see for each number whether it is in.
 #[derive(Clone, Copy, Debug, PartialEq, Eq)]
 pub struct Quorum {
     members: [bool; MAX_ACCEPTORS],
 }
 
+impl Model for Quorum {
+    ghost use Rattle.std.specs.Prelude.{Bool, List};
+
+    ghost Value = { List Bool };
+
+    ghost view = { λ q. q.members };
+
+    ghost inverse = { λ members. record { members = members } };
+}
+
 impl Quorum {
     /// The set without members.
     pub fn new() -> Quorum
-        ensures { (a : ℕ) → has result.members a ≡ false }
+        ensures { (a : ℕ) → has result a ≡ false }
     {
         Quorum {
             members: [false; MAX_ACCEPTORS],
@@ -22,16 +35,16 @@ impl Quorum {
 
     /// Takes an acceptor in; one that is in already counts once.
     pub fn add(&mut self, acceptor: u8)
-        requires { acceptor < 7 }
-        ensures { (a : ℕ) → has self.new.members a ≡ ((a == acceptor) || has self.old.members a) }
+        requires { acceptor < most_acceptors }
+        ensures { (a : ℕ) → has self.new a ≡ ((a == acceptor) || has self.old a) }
     {
         self.members[acceptor as usize] = true;
     }
 
     /// Whether it has more than half of the acceptors, which are the numbers below `acceptors`.
     pub fn majority(&self, acceptors: u8) -> bool
-        requires { acceptors ≤ 7 }
-        ensures { IsTrue result ↔ IsMajority acceptors (has self.now.members) }
+        requires { acceptors ≤ most_acceptors }
+        ensures { IsTrue result ↔ IsMajority acceptors (has self.now) }
     {
         let mut members: usize = 0;
         for acceptor in 0..acceptors as usize {

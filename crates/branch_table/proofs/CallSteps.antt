@@ -1,307 +1,418 @@
 -- What each call meets and leaves, exit by exit.
-use Rattle.std.proofs.Common.{◌≡◌, ◌≢◌, ◌∙◌, ℕ, ◌<◌, Bool, true, false, ◌||◌, cond, ltb, List, [], ◌∷◌, ◌++◌, length, get_or, set, remove, Option, Some, None, Ok, Err, refl, sym, ap, subst, Decides, unwrap_or}
-use Rattle.std.specs.List.{list_any}
+use Rattle.std.proofs.Common.{◌≡◌, ◌∙◌, ℕ, Bool, true, false, ◌||◌, ◌&&◌, cond, ltb, List, [], ◌∷◌, ◌++◌, length, get_or, set, remove, Option, Some, None, Ok, Err, refl, sym, ap, subst, Decides}
 use Rattle.std.specs.Option.{is_some}
+use Rattle.std.proofs.lemmas.Bool.{cond_both, both_ways}
 use Rattle.std.proofs.lemmas.List.{get_or_default}
 use Rattle.std.proofs.lemmas.List.Quantifiers.{position-Some}
-use Rattle.xid.specs.Names.{XidParts, xid_eq}
+use Rattle.std.proofs.lemmas.List.Elements.{All-get_or}
+use Rattle.xid.specs.Names.{XidParts}
 use Rattle.xid.specs.declared.codes.XaCode.TheVariants as code
 use Rattle.xid.specs.declared.refusals.Refusal.TheVariants.{Busy, Full}
-use Rattle.xid.proofs.XidLaws.{xid_eq-same}
-use Rattle.protocol.specs.declared.BranchState.{BranchState}
-use Rattle.protocol.specs.declared.BranchState.TheVariants.{Active, Idle, RollbackOnly, Prepared}
-use Rattle.protocol.specs.Calls.{Action, Start, Put, Del, Get, End, EndFail, Rollback, Answer, Code, Refused, Row}
-use Rattle.protocol.specs.Branches.{BranchView, no_branch, key_of, answer_of, touch_answer, is_done, by_state, rollback_answer, most_keys, found, read_of, row_at}
-use Rattle.branch_table.specs.OneCall.{SameView, after, Leaves, touch, done_view}
-use Rattle.branch_table.specs.Tables.{BranchParts, TableParts, branch_view, view_at, are_distinct, is_active, is_ended, holds, has_key, written_in, Steps, done}
+use Rattle.stable_record.specs.declared.fact.Act.{Act}
+use Rattle.stable_record.specs.Facts.{AreAscending}
+use Rattle.protocol.specs.declared.answers.Answer.{Answer}
+use Rattle.protocol.specs.declared.answers.Answer.TheVariants.{Code, Refused}
+use Rattle.protocol.specs.declared.requests.Action.{Action}
+use Rattle.protocol.specs.declared.requests.Action.TheVariants.{Start, Put, Del, Get, End, EndFail, Rollback}
+use Rattle.protocol.specs.declared.rows.Row.{Row}
+use Rattle.protocol.specs.declared.states.BranchState.{BranchState}
+use Rattle.xid.specs.Limits.{most_touched}
+use Rattle.protocol.specs.Branches.{BranchView, no_branch, is_write, hinders_use, hinders, key_of, key_fits}
+use Rattle.protocol.specs.Branches.{value_fits, call_answer, touch_answer, is_done, by_state, rollback_answer, get_answer, read_of}
+use Rattle.protocol.specs.Managers.{Branch, branch_at, has_key, is_hindered, with_touched}
+use Rattle.branch_table.specs.OneCall.{IsHindered, SameView, view_after, Leaves, view_with_act, view_after_done}
+use Rattle.branch_table.specs.Tables.{TableState, AreTableBranches, is_active, can_be_rolled_back, place_in, Steps}
+use Rattle.branch_table.specs.Admission.{end_action, end_state, end_code, Meets, Admits, Touches}
 use Rattle.branch_table.specs.declared.table.Ending.{Ending}
 use Rattle.branch_table.specs.declared.table.Ending.TheVariants as ending
-use Rattle.branch_table.specs.declared.table.Denied.TheVariants as denied
-use Rattle.branch_table.specs.Limits.{end_action, end_state, end_code, place_in, denied_answer, Admits, Touches}
-use Rattle.branch_table.specs.Touching.{touch_in}
-use Rattle.branch_table.specs.declared.table.Denied.{Denied}
-use Rattle.branch_table.proofs.TouchingLemmas.{nowhere}
-use Rattle.branch_table.proofs.Views.{is_of, IsPlace, view_here, view_absent, view_set_own, view_set_other, view_push_own, view_push_other, view_remove_own, view_remove_other, held_decides, distinct_set, distinct_push, shows_touched}
+use Rattle.branch_table.proofs.Positions.{nowhere}
+use Rattle.branch_table.proofs.Views.{is_of, IsPlace, ShowsOnly, view_of, view_here, view_absent, shows_set, shows_push, shows_remove}
+use Rattle.branch_table.proofs.Views.{none_hinders, none_hinders_use, hindered_decides}
+use Rattle.branch_table.proofs.Views.{keeps_push, keeps_set, ascends_touched, shows_touched}
 
-pub placed : (bs : List BranchParts) (x : XidParts) (at : ℕ) (d : BranchParts) → place_in bs x ≡ Some at → IsPlace bs x at d
-placed bs x at d e = let found = position-Some (is_of x) bs at d e in record { within = found.0; here = found.1; before = found.2 }
+-- where a search that saw these branches has found x
+pub place_is : {bs seen : List Branch} {r o : Option ℕ} (x : XidParts) → seen ≡ bs → r ≡ place_in seen x → r ≡ o → place_in bs x ≡ o
+place_is x e found is = ap (λ (all : List Branch). place_in all x) (sym e) ∙ (sym found ∙ is)
 
-pub unplaced : (bs : List BranchParts) (x : XidParts) → place_in bs x ≡ None → view_at bs x ≡ no_branch
+-- the branch read at the place of x
+pub placed : (bs : List Branch) (x : XidParts) (at : ℕ) (b : Branch) → place_in bs x ≡ Some at → b ≡ get_or bs at b → IsPlace bs x at b
+placed bs x at b e read =
+    let found = position-Some (is_of x) bs at b e in record {
+      within = found.0;
+      read = read;
+      own = subst (λ (c : Branch). is_of x c ≡ true) (sym read) found.1;
+      before = found.2;
+    }
+
+pub unplaced : (bs : List Branch) (x : XidParts) → place_in bs x ≡ None → branch_at bs x ≡ no_branch
 unplaced bs x e = view_absent bs x (nowhere (is_of x) bs e)
 
 pub same : (v : BranchView) → SameView v v
-same v = record { state = refl; touched = λ _. refl; count = refl; written = λ _. refl }
+same v = record { state = refl; touched = λ _. refl; count = refl; act = λ _. refl }
 
 pub same_from : (v w : BranchView) → v ≡ w → SameView v w
 same_from v w e = subst (λ (u : BranchView). SameView v u) e (same v)
 
-never : Decides false ⊥
-never = (λ e. absurd (cc), λ no'. absurd no')
+-- no branch hinders a call on no key
+abbrev IsKeyless : Action → Type 0
+IsKeyless action = (v : BranchView) → hinders action v ≡ false
 
--- a call on no key that is refused
-pub refused : (t : TableParts) (x : XidParts) (action : Action) (answer : Answer) → key_of action ≡ None → answer_of t.rows (view_at t.branches x) false action ≡ answer → is_done action answer ≡ false
-    → Steps t t x action answer
-refused t x action answer no_key e undone =
-    done (false, rw no_key never, sym e)
-    (record { own = rw undone (same (view_at t.branches x)); others = λ other _. same (view_at t.branches other) }) refl
+never : (action : Action) (at : XidParts → BranchView) (x : XidParts) → IsKeyless action → Decides false (IsHindered (hinders action) at x)
+never action at x keyless =
+    (λ e. absurd (cc (e)), λ is. absurd (both_ways (hinders action (at is.0)) (keyless (at is.0)) is.2))
 
--- a call on no key that is done
-pub done_call : (t u : TableParts) (x : XidParts) (action : Action) (answer : Answer) → key_of action ≡ None → answer_of t.rows (view_at t.branches x) false action ≡ answer → u.rows ≡ t.rows
-    → SameView (view_at u.branches x) (after (view_at t.branches x) action answer) → ((other : XidParts) → other ≢ x → view_at u.branches other ≡ view_at t.branches other) → Steps t u x action answer
-done_call t u x action answer no_key e rows own others =
-    done (false, rw no_key never, sym e) (record { own = own; others = λ other apart. same_from (view_at u.branches other) (view_at t.branches other) (others other apart) }) rows
+abbrev with_branches : TableState → List Branch → TableState
+with_branches t branches = record { rows = t.rows; branches = branches }
+
+-- a call that wasn't done leaves all
+leaves_all : (t : TableState) (x : XidParts) (action : Action) (answer : Answer) → is_done action answer ≡ false
+    → Leaves (branch_at t.branches) (branch_at t.branches) x action answer
+leaves_all t x action answer e = record {
+  own = rw e (same (branch_at t.branches x));
+  others = λ other _. same (branch_at t.branches other);
+}
+
+-- a call that was done leaves its own branch so, and all others
+leaves_own : (old new : List Branch) (x : XidParts) (action : Action) (answer : Answer) (v : BranchView) → ShowsOnly old new x v
+    → SameView v (view_after (branch_at old x) action answer) → Leaves (branch_at old) (branch_at new) x action answer
+leaves_own old new x action answer v shows same_view = record {
+  own = rw shows.own same_view;
+  others = λ other apart. same_from _ _ (shows.others other apart);
+}
+
+-- a call on no key that isn't done
+keyless_undone : (t : TableState) (x : XidParts) (action : Action) (answer : Answer) → IsKeyless action
+    → call_answer t.rows (branch_at t.branches x) false action ≡ answer → is_done action answer ≡ false → Steps t t x action answer
+keyless_undone t x action answer keyless e undone = record {
+  answers = (false, never action (branch_at t.branches) x keyless, sym e);
+  leaves = leaves_all t x action answer undone;
+  rows = refl;
+}
 
 -- ---- start
 
 pub some_place : (o : Option ℕ) → is_some o ≡ true → (at : ℕ) × (o ≡ Some at)
 some_place (Some at) e = (at, refl)
-some_place None e = absurd (cc)
+some_place None e = absurd (cc (e))
 
 pub no_place : (o : Option ℕ) → is_some o ≡ false → o ≡ None
-no_place (Some at) e = absurd (cc)
+no_place (Some at) e = absurd (cc (e))
 no_place None e = refl
 
-pub start_distinct : (bs new : List BranchParts) (x : XidParts) → place_in bs x ≡ None → are_distinct bs ≡ true → new ≡ bs ++ record { xid = x; state = Active; touched = [] } ∷ [] → are_distinct new ≡ true
-start_distinct bs new x none apart new-is = rw new-is (distinct_push bs x (record { xid = x; state = Active; touched = [] }) (nowhere (is_of x) bs none) (xid_eq-same x) apart)
+abbrev started_branch : XidParts → Branch
+started_branch x = record { xid = x; state = BranchState.Active; keys = [] }
 
-pub start_exists : (t : TableParts) (x : XidParts) (at : ℕ) (d : BranchParts) → IsPlace t.branches x at d → Steps t t x Start (Code code.DupId)
-start_exists t x at d place = refused t x Start (Code code.DupId) refl (rw (view_here t.branches x at d place) refl) refl
+pub start_keeps : (bs : List Branch) (x : XidParts) → place_in bs x ≡ None → AreTableBranches bs
+    → AreTableBranches (bs ++ started_branch x ∷ [])
+start_keeps bs x none are = keeps_push bs (started_branch x) (nowhere (is_of x) bs none) tt are
 
-pub start_refused : (t : TableParts) (x : XidParts) (at : ℕ) → place_in t.branches x ≡ Some at → Steps t t x Start (Code code.DupId)
-start_refused t x at e = let d : BranchParts = record { xid = x; state = Active; touched = [] } in start_exists t x at d (placed t.branches x at d e)
+pub start_exists : (t : TableState) (x : XidParts) (at : ℕ) → place_in t.branches x ≡ Some at → Steps t t x Start (Code code.DupId)
+start_exists t x at e =
+    let d = started_branch x in
+    let b = get_or t.branches at d in
+    let read : b ≡ get_or t.branches at b = get_or_default t.branches at d b (position-Some (is_of x) t.branches at d e).0 in
+    keyless_undone t x Start (Code code.DupId) (λ _. refl) (rw (view_here t.branches x at b (placed t.branches x at b e read)) refl) refl
 
-pub start_done : (t : TableParts) (x : XidParts) (bs : List BranchParts) → place_in t.branches x ≡ None → bs ≡ t.branches ++ record { xid = x; state = Active; touched = [] } ∷ []
-    → Steps t (record { rows = t.rows; branches = bs }) x Start (Code code.Ok)
-start_done t x bs e new =
-    let b : BranchParts = record { xid = x; state = Active; touched = [] } in
+pub start_done : (t : TableState) (x : XidParts) → place_in t.branches x ≡ None
+    → Steps t (with_branches t (t.branches ++ started_branch x ∷ [])) x Start (Code code.Ok)
+start_done t x e =
     let absent = nowhere (is_of x) t.branches e in
-    done_call t (record { rows = t.rows; branches = bs }) x Start (Code code.Ok) refl (rw (view_absent t.branches x absent) refl) refl
-    (rw (new, view_push_own t.branches x b absent (xid_eq-same x)) (record { state = refl; touched = λ _. refl; count = refl; written = λ _. refl }))
-    (λ other apart. rw new (view_push_other t.branches x other b (xid_eq-same x) apart))
+    record {
+      answers = (false, never Start (branch_at t.branches) x (λ _. refl), sym (rw (view_absent t.branches x absent) refl));
+      leaves =
+          leaves_own t.branches _ x Start (Code code.Ok) (view_of (started_branch x)) (shows_push t.branches (started_branch x) absent)
+          (record { state = refl; touched = λ _. refl; count = refl; act = λ _. refl });
+      rows = refl;
+    }
 
 -- ---- end
 
-pub end_absent : (t : TableParts) (x : XidParts) (e : Ending) → place_in t.branches x ≡ None → Steps t t x (end_action e) (Code code.Nota)
-end_absent t x ending.Success none = refused t x End (Code code.Nota) refl (rw (unplaced t.branches x none) refl) refl
-end_absent t x ending.Fail none = refused t x EndFail (Code code.Nota) refl (rw (unplaced t.branches x none) refl) refl
-
 ended_answer : (s : BranchState) (a b c : Answer) → is_active s ≡ false → by_state (Some s) a b c ≡ c
-ended_answer Active a b c e = absurd (cc)
-ended_answer Idle a b c e = refl
-ended_answer RollbackOnly a b c e = refl
-ended_answer Prepared a b c e = refl
+ended_answer BranchState.Active a b c e = absurd (cc (e))
+ended_answer BranchState.Idle a b c e = refl
+ended_answer BranchState.RollbackOnly a b c e = refl
+ended_answer BranchState.Prepared a b c e = refl
 
 active_answer : (s : BranchState) (a b c : Answer) → is_active s ≡ true → by_state (Some s) a b c ≡ b
-active_answer Active a b c e = refl
-active_answer Idle a b c e = absurd (cc)
-active_answer RollbackOnly a b c e = absurd (cc)
-active_answer Prepared a b c e = absurd (cc)
+active_answer BranchState.Active a b c e = refl
+active_answer BranchState.Idle a b c e = absurd (cc (e))
+active_answer BranchState.RollbackOnly a b c e = absurd (cc (e))
+active_answer BranchState.Prepared a b c e = absurd (cc (e))
 
-pub end_ended : (t : TableParts) (x : XidParts) (e : Ending) (at : ℕ) (b : BranchParts) → place_in t.branches x ≡ Some at → b ≡ get_or t.branches at b → is_active b.state ≡ false
+-- a branch in another state
+abbrev pub in_state : Branch → BranchState → Branch
+in_state b state = record { xid = b.xid; state = state; keys = b.keys }
+
+-- what the two ends have in common
+record IsEndCall (e : Ending) : Type 0 where
+  keyless : IsKeyless (end_action e)
+  answers : (rows : List Row) (v : BranchView)
+      → call_answer rows v false (end_action e) ≡ by_state v.state (Code code.Nota) (Code (end_code e)) (Code code.Proto)
+  nota : is_done (end_action e) (Code code.Nota) ≡ false
+  proto : is_done (end_action e) (Code code.Proto) ≡ false
+  leaves : (b : Branch) → view_of (in_state b (end_state e)) ≡ view_after (view_of b) (end_action e) (Code (end_code e))
+
+either_end : (e : Ending) → IsEndCall e
+either_end ending.Success = record { keyless = λ _. refl; answers = λ _ _. refl; nota = refl; proto = refl; leaves = λ _. refl }
+either_end ending.Fail = record { keyless = λ _. refl; answers = λ _ _. refl; nota = refl; proto = refl; leaves = λ _. refl }
+
+pub end_absent : (t : TableState) (x : XidParts) (e : Ending) → place_in t.branches x ≡ None → Steps t t x (end_action e) (Code code.Nota)
+end_absent t x e none =
+    keyless_undone t x (end_action e) (Code code.Nota) (either_end e).keyless
+    ((either_end e).answers t.rows (branch_at t.branches x) ∙ rw (unplaced t.branches x none) refl) (either_end e).nota
+
+pub end_ended : (t : TableState) (x : XidParts) (e : Ending) (at : ℕ) (b : Branch) → IsPlace t.branches x at b → is_active b.state ≡ false
     → Steps t t x (end_action e) (Code code.Proto)
-end_ended t x e at b place read ended = by_ending e
-  where
-    shows : view_at t.branches x ≡ branch_view b
-    shows = view_here t.branches x at b (placed t.branches x at b place) ∙ ap branch_view (sym read)
+end_ended t x e at b place ended =
+    keyless_undone t x (end_action e) (Code code.Proto) (either_end e).keyless
+    ((either_end e).answers t.rows (branch_at t.branches x)
+    ∙ rw (view_here t.branches x at b place) (ended_answer b.state (Code code.Nota) (Code (end_code e)) (Code code.Proto) ended))
+    (either_end e).proto
 
-    by_ending : (e : Ending) → Steps t t x (end_action e) (Code code.Proto)
-    by_ending ending.Success = refused t x End (Code code.Proto) refl (rw shows (ended_answer b.state (Code code.Nota) (Code code.Ok) (Code code.Proto) ended)) refl
-    by_ending ending.Fail = refused t x EndFail (Code code.Proto) refl (rw shows (ended_answer b.state (Code code.Nota) (Code code.RbRollback) (Code code.Proto) ended)) refl
-
-pub end_done : (t : TableParts) (x : XidParts) (e : Ending) (at : ℕ) (b new : BranchParts) (bs : List BranchParts) → place_in t.branches x ≡ Some at → b ≡ get_or t.branches at b
-    → is_active b.state ≡ true → new ≡ record { xid = b.xid; state = end_state e; touched = b.touched } → bs ≡ set t.branches at new
-    → Steps t (record { rows = t.rows; branches = bs }) x (end_action e) (Code (end_code e))
-end_done t x e at b new bs place read active new-is bs-is = by_ending e new-is
-  where
-    is-place : IsPlace t.branches x at b
-    is-place = placed t.branches x at b place
-
-    shows : view_at t.branches x ≡ branch_view b
-    shows = view_here t.branches x at b is-place ∙ ap branch_view (sym read)
-
-    own-b : is_of x b ≡ true
-    own-b = subst (λ (c : BranchParts). is_of x c ≡ true) (sym read) is-place.here
-
-    left : (s : BranchState) → new ≡ record { xid = b.xid; state = s; touched = b.touched } → (action : Action) (answer : Answer) → key_of action ≡ None
-        → by_state (Some b.state) (Code code.Nota) answer (Code code.Proto) ≡ answer_of t.rows (branch_view b) false action
-        → ((v : BranchView) → after v action answer ≡ record { state = Some s; touched = v.touched; count = v.count; written = v.written })
-        → Steps t (record { rows = t.rows; branches = bs }) x action answer
-    left s is action answer no_key e after-is =
-        let own-new : is_of x new ≡ true = rw is own-b in
-        done_call t (record { rows = t.rows; branches = bs }) x action answer no_key (rw shows (sym e ∙ active_answer b.state (Code code.Nota) answer (Code code.Proto) active)) refl
-        (rw (bs-is, view_set_own t.branches x at b new is-place own-new, shows, after-is (branch_view b), is) (record { state = refl; touched = λ _. refl; count = refl; written = λ _. refl }))
-        (λ other apart. rw bs-is (view_set_other t.branches x other at b new is-place own-new apart))
-
-    by_ending : (e : Ending) → new ≡ record { xid = b.xid; state = end_state e; touched = b.touched } → Steps t (record { rows = t.rows; branches = bs }) x (end_action e) (Code (end_code e))
-    by_ending ending.Success is = left Idle is End (Code code.Ok) refl refl (λ v. refl)
-    by_ending ending.Fail is = left RollbackOnly is EndFail (Code code.RbRollback) refl refl (λ v. refl)
+pub end_done : (t : TableState) (x : XidParts) (e : Ending) (at : ℕ) (b : Branch) → IsPlace t.branches x at b → is_active b.state ≡ true
+    → Steps t (with_branches t (set t.branches at (in_state b (end_state e)))) x (end_action e) (Code (end_code e))
+end_done t x e at b place active =
+    let shows = view_here t.branches x at b place in
+    let new = in_state b (end_state e) in
+    record {
+      answers = (
+        false,
+        never (end_action e) (branch_at t.branches) x (either_end e).keyless,
+        sym ((either_end e).answers t.rows (branch_at t.branches x)
+            ∙ rw shows (active_answer b.state (Code code.Nota) (Code (end_code e)) (Code code.Proto) active)),
+      );
+      leaves =
+          leaves_own t.branches _ x (end_action e) (Code (end_code e)) (view_of new) (shows_set t.branches x at b new place place.own)
+          (rw shows (same_from _ _ ((either_end e).leaves b)));
+      rows = refl;
+    }
 
 -- two reads of one place
-pub same_read : (bs : List BranchParts) (x : XidParts) (at : ℕ) (b c : BranchParts) → place_in bs x ≡ Some at → b ≡ get_or bs at b → c ≡ get_or bs at c → b ≡ c
-same_read bs x at b c place read-b read-c = read-b ∙ (get_or_default bs at b c ((placed bs x at b place).within) ∙ sym read-c)
+pub same_read : (bs : List Branch) (x : XidParts) (at : ℕ) (b c : Branch) → IsPlace bs x at b → c ≡ get_or bs at c → b ≡ c
+same_read bs x at b c place read-c = place.read ∙ (get_or_default bs at b c place.within ∙ sym read-c)
 
--- a branch whose XID stays is changed in its place
-pub end_distinct : (bs : List BranchParts) (x : XidParts) (at : ℕ) (b new : BranchParts) → place_in bs x ≡ Some at → b ≡ get_or bs at b → new.xid ≡ b.xid → are_distinct bs ≡ true
-    → are_distinct (set bs at new) ≡ true
-end_distinct bs x at b new place read same-xid apart =
-    let is-place = placed bs x at b place in
-    let own-b : is_of x b ≡ true = subst (λ (c : BranchParts). is_of x c ≡ true) (sym read) is-place.here in
-    distinct_set bs x at b new is-place (subst (λ (y : XidParts). xid_eq y x ≡ true) (sym same-xid) own-b) apart
+-- the branch at a place has ascending keys
+ascends_there : (bs : List Branch) (x : XidParts) (at : ℕ) (b : Branch) → IsPlace bs x at b → AreTableBranches bs → AreAscending b.keys
+ascends_there bs x at b place are =
+    let kept = λ (c : Branch). AreAscending c.keys in
+    subst kept (sym place.read) (All-get_or kept bs at b place.within are.ascending)
+
+pub end_keeps : (bs : List Branch) (x : XidParts) (at : ℕ) (b : Branch) (state : BranchState) → IsPlace bs x at b → AreTableBranches bs
+    → AreTableBranches (set bs at (in_state b state))
+end_keeps bs x at b state place are = keeps_set bs at b (in_state b state) (place.read, refl) (ascends_there bs x at b place are) are
 
 -- ---- rollback
 
-unended_rollback : (s : BranchState) → is_ended s ≡ false → rollback_answer (Some s) ≡ Code code.Proto
-unended_rollback Active e = refl
-unended_rollback Idle e = absurd (cc)
-unended_rollback RollbackOnly e = absurd (cc)
-unended_rollback Prepared e = refl
+no_rollback : (s : BranchState) → can_be_rolled_back s ≡ false → rollback_answer (Some s) ≡ Code code.Proto
+no_rollback BranchState.Active e = refl
+no_rollback BranchState.Idle e = absurd (cc (e))
+no_rollback BranchState.RollbackOnly e = absurd (cc (e))
+no_rollback BranchState.Prepared e = refl
 
-ended_rollback : (s : BranchState) → is_ended s ≡ true → rollback_answer (Some s) ≡ Code code.Ok
-ended_rollback Active e = absurd (cc)
-ended_rollback Idle e = refl
-ended_rollback RollbackOnly e = refl
-ended_rollback Prepared e = absurd (cc)
+ended_rollback : (s : BranchState) → can_be_rolled_back s ≡ true → rollback_answer (Some s) ≡ Code code.Ok
+ended_rollback BranchState.Active e = absurd (cc (e))
+ended_rollback BranchState.Idle e = refl
+ended_rollback BranchState.RollbackOnly e = refl
+ended_rollback BranchState.Prepared e = absurd (cc (e))
 
-pub rollback_absent : (t : TableParts) (x : XidParts) → place_in t.branches x ≡ None → Steps t t x Rollback (Code code.Nota)
-rollback_absent t x none = refused t x Rollback (Code code.Nota) refl (rw (unplaced t.branches x none) refl) refl
+pub rollback_absent : (t : TableState) (x : XidParts) → place_in t.branches x ≡ None → Steps t t x Rollback (Code code.Nota)
+rollback_absent t x none = keyless_undone t x Rollback (Code code.Nota) (λ _. refl) (rw (unplaced t.branches x none) refl) refl
 
-pub rollback_unended : (t : TableParts) (x : XidParts) (at : ℕ) (b : BranchParts) → place_in t.branches x ≡ Some at → b ≡ get_or t.branches at b → is_ended b.state ≡ false
-    → Steps t t x Rollback (Code code.Proto)
-rollback_unended t x at b place read active =
-    let shows : view_at t.branches x ≡ branch_view b = view_here t.branches x at b (placed t.branches x at b place) ∙ ap branch_view (sym read) in
-    refused t x Rollback (Code code.Proto) refl (rw shows (unended_rollback b.state active)) refl
+pub rollback_refused : (t : TableState) (x : XidParts) (at : ℕ) (b : Branch) → IsPlace t.branches x at b
+    → can_be_rolled_back b.state ≡ false → Steps t t x Rollback (Code code.Proto)
+rollback_refused t x at b place e =
+    keyless_undone t x Rollback (Code code.Proto) (λ _. refl) (rw (view_here t.branches x at b place) (no_rollback b.state e)) refl
 
-pub rollback_done : (t : TableParts) (x : XidParts) (at : ℕ) (b : BranchParts) (bs : List BranchParts) → are_distinct t.branches ≡ true → place_in t.branches x ≡ Some at → b ≡ get_or t.branches at b
-    → is_ended b.state ≡ true → bs ≡ remove t.branches at → Steps t (record { rows = t.rows; branches = bs }) x Rollback (Code code.Ok)
-rollback_done t x at b bs apart place read ended bs-is =
-    let is-place = placed t.branches x at b place in
-    let shows : view_at t.branches x ≡ branch_view b = view_here t.branches x at b is-place ∙ ap branch_view (sym read) in
-    done_call t (record { rows = t.rows; branches = bs }) x Rollback (Code code.Ok) refl (rw shows (ended_rollback b.state ended)) refl
-    (rw (bs-is, view_remove_own t.branches x at b apart is-place) (same no_branch))
-    (λ other other-apart. rw bs-is (view_remove_other t.branches x other at b is-place other-apart))
+pub rollback_done : (t : TableState) (x : XidParts) (at : ℕ) (b : Branch) → AreTableBranches t.branches → IsPlace t.branches x at b
+    → can_be_rolled_back b.state ≡ true → Steps t (with_branches t (remove t.branches at)) x Rollback (Code code.Ok)
+rollback_done t x at b are place e = record {
+  answers = (
+    false,
+    never Rollback (branch_at t.branches) x (λ _. refl),
+    sym (rw (view_here t.branches x at b place) (ended_rollback b.state e)),
+  );
+  leaves = leaves_own t.branches _ x Rollback (Code code.Ok) no_branch (shows_remove t.branches x at b are.distinct place) (same no_branch);
+  rows = refl;
+}
 
--- ---- calls on keys
+-- ---- what a call on a key meets
 
--- what an active branch answers, once it is known whether the key is held
-within : BranchParts → List ℕ → Bool → Answer → Answer
-within b key busy answer = cond busy (Refused Busy) (cond (list_any (has_key key) b.touched || ltb (length b.touched) most_keys) answer (Refused Full))
+-- whether a branch may touch a key
+abbrev pub has_room : Branch → List ℕ → Bool
+has_room b key = has_key key b.keys || ltb (length b.keys) most_touched
 
-shows_at : (bs : List BranchParts) (x : XidParts) (at : ℕ) (b : BranchParts) → place_in bs x ≡ Some at → b ≡ get_or bs at b → view_at bs x ≡ branch_view b
-shows_at bs x at b place read = view_here bs x at b (placed bs x at b place) ∙ ap branch_view (sym read)
+-- an active branch at its place
+pub record IsActiveAt (bs : List Branch) (x : XidParts) (at : ℕ) (b : Branch) : Type 0 where
+  pub are : AreTableBranches bs
+  pub place : IsPlace bs x at b
+  pub active : is_active b.state ≡ true
 
-pub admits_absent : (bs : List BranchParts) (x : XidParts) (key : List ℕ) → are_distinct bs ≡ true → place_in bs x ≡ None → Admits bs x key (Err denied.NoBranch)
-admits_absent bs x key apart none = (list_any (holds x key) bs, held_decides bs x key apart, λ answer. rw (unplaced bs x none) refl)
+module _ (bs : List Branch) (x : XidParts) (writes : Bool) (key : List ℕ) where
+  -- whether another branch hinders it
+  abbrev busy : Bool
+  busy = is_hindered (hinders_use writes key) bs x
 
-pub admits_ended : (bs : List BranchParts) (x : XidParts) (key : List ℕ) (at : ℕ) (b : BranchParts) → are_distinct bs ≡ true → place_in bs x ≡ Some at → b ≡ get_or bs at b → is_active b.state ≡ false
-    → Admits bs x key (Err denied.NotActive)
-admits_ended bs x key at b apart place read ended = (
-  list_any (holds x key) bs,
-  held_decides bs x key apart,
-  λ answer. rw (shows_at bs x at b place read) (ended_answer b.state (Code code.Nota) (cond (list_any (holds x key) bs) (Refused Busy) (cond (list_any (has_key key) b.touched || ltb (length b.touched) most_keys) answer (Refused Full))) (Code code.Proto) ended),
-)
+  meets_by : (admitted answer : Answer) → AreTableBranches bs → touch_answer (branch_at bs x) busy key admitted ≡ answer
+      → Meets bs x writes key admitted answer
+  meets_by admitted answer are e = (busy, hindered_decides (hinders_use writes key) (none_hinders_use writes key) bs x are, e)
 
-active_within : (bs : List BranchParts) (x : XidParts) (key : List ℕ) (at : ℕ) (b : BranchParts) (busy : Bool) → place_in bs x ≡ Some at → b ≡ get_or bs at b → is_active b.state ≡ true → (answer : Answer)
-    → touch_answer (view_at bs x) busy key answer ≡ within b key busy answer
-unfolding within
-active_within bs x key at b busy place read active answer =
-    rw (shows_at bs x at b place read) (active_answer b.state (Code code.Nota) (cond busy (Refused Busy) (cond (list_any (has_key key) b.touched || ltb (length b.touched) most_keys) answer (Refused Full))) (Code code.Proto) active)
+  pub admits_absent : AreTableBranches bs → place_in bs x ≡ None → Admits bs x writes key (Err (Code code.Nota))
+  admits_absent are none = λ answer. meets_by answer (Code code.Nota) are (rw (unplaced bs x none) refl)
 
-pub admits_held : (bs : List BranchParts) (x : XidParts) (key : List ℕ) (at : ℕ) (b : BranchParts) → are_distinct bs ≡ true → place_in bs x ≡ Some at → b ≡ get_or bs at b → is_active b.state ≡ true
-    → list_any (holds x key) bs ≡ true → Admits bs x key (Err denied.Busy)
-unfolding within
-admits_held bs x key at b apart place read active held =
-    (list_any (holds x key) bs, held_decides bs x key apart, λ answer. active_within bs x key at b (list_any (holds x key) bs) place read active answer ∙ rw held refl)
+  module _ (at : ℕ) (b : Branch) where
+    -- what an active branch answers
+    abbrev answer_within : Answer → Answer
+    answer_within answer = cond busy (Refused Busy) (cond (has_room b key) answer (Refused Full))
 
-pub admits_full : (bs : List BranchParts) (x : XidParts) (key : List ℕ) (at : ℕ) (b : BranchParts) → are_distinct bs ≡ true → place_in bs x ≡ Some at → b ≡ get_or bs at b → is_active b.state ≡ true
-    → list_any (holds x key) bs ≡ false → (list_any (has_key key) b.touched || ltb (length b.touched) most_keys) ≡ false → Admits bs x key (Err denied.Full)
-unfolding within
-admits_full bs x key at b apart place read active free room = (
-  list_any (holds x key) bs,
-  held_decides bs x key apart,
-  λ answer. active_within bs x key at b (list_any (holds x key) bs) place read active answer ∙ rw (free, room) refl,
-)
+    -- what a branch at its place answers
+    answer_by_state : IsPlace bs x at b → (admitted : Answer) → touch_answer (branch_at bs x) busy key admitted
+        ≡ by_state (Some b.state) (Code code.Nota) (answer_within admitted) (Code code.Proto)
+    answer_by_state place admitted = rw (view_here bs x at b place) refl
 
-pub admits_in : (bs : List BranchParts) (x : XidParts) (key : List ℕ) (at : ℕ) (b : BranchParts) → are_distinct bs ≡ true → place_in bs x ≡ Some at → b ≡ get_or bs at b → is_active b.state ≡ true
-    → list_any (holds x key) bs ≡ false → (list_any (has_key key) b.touched || ltb (length b.touched) most_keys) ≡ true → Admits bs x key (Ok at)
-unfolding within
-admits_in bs x key at b apart place read active free room = (
-  place,
-  (
-    list_any (holds x key) bs,
-    held_decides bs x key apart,
-    λ answer. active_within bs x key at b (list_any (holds x key) bs) place read active answer ∙ rw (free, room) refl,
-  ),
-)
+    pub admits_ended : AreTableBranches bs × IsPlace bs x at b → is_active b.state ≡ false → Admits bs x writes key (Err (Code code.Proto))
+    admits_ended facts ended = λ answer.
+        meets_by answer (Code code.Proto) facts.0
+        (answer_by_state facts.1 answer ∙ ended_answer b.state (Code code.Nota) _ (Code code.Proto) ended)
+
+    active_within : IsActiveAt bs x at b → (admitted : Answer)
+        → touch_answer (branch_at bs x) busy key admitted ≡ answer_within admitted
+    active_within is admitted =
+        answer_by_state is.place admitted ∙ active_answer b.state (Code code.Nota) _ (Code code.Proto) is.active
+
+    pub admits_hindered : IsActiveAt bs x at b → busy ≡ true → Admits bs x writes key (Err (Refused Busy))
+    admits_hindered is hindered = λ answer. meets_by answer (Refused Busy) is.are (active_within is answer ∙ rw hindered refl)
+
+    pub admits_full : IsActiveAt bs x at b → (busy ≡ false) × (has_room b key ≡ false) → Admits bs x writes key (Err (Refused Full))
+    admits_full is facts = λ answer.
+        meets_by answer (Refused Full) is.are (active_within is answer ∙ rw (facts.0, facts.1) refl)
+
+    pub admits_in : (place_in bs x ≡ Some at) × IsActiveAt bs x at b → (busy ≡ false) × (has_room b key ≡ true)
+        → Admits bs x writes key (Ok at)
+    admits_in is facts = (is.0, λ answer. meets_by answer answer is.1.are (active_within is.1 answer ∙ rw (facts.0, facts.1) refl))
 
 -- ---- a call on a key, whole
 
-undone : (action : Action) (key : List ℕ) (d : Denied) → key_of action ≡ Some key → is_done action (denied_answer d) ≡ false
-undone Start key d e = absurd (cc)
-undone (Put k v) key denied.NoBranch e = refl
-undone (Put k v) key denied.NotActive e = refl
-undone (Put k v) key denied.Busy e = refl
-undone (Put k v) key denied.Full e = refl
-undone (Del k) key denied.NoBranch e = refl
-undone (Del k) key denied.NotActive e = refl
-undone (Del k) key denied.Busy e = refl
-undone (Del k) key denied.Full e = refl
-undone (Get k) key denied.NoBranch e = refl
-undone (Get k) key denied.NotActive e = refl
-undone (Get k) key denied.Busy e = refl
-undone (Get k) key denied.Full e = refl
-undone End key d e = absurd (cc)
-undone EndFail key d e = absurd (cc)
-undone Rollback key d e = absurd (cc)
+-- a call that notes an act on a key of a branch which shows so; it is answered like this where it is let in
+pub record IsKeyCall (rows : List Row) (v : BranchView) (action : Action) (key : List ℕ) (act : Act) (answer : Answer) : Type 0 where
+  pub key_is : key_of action ≡ Some key
+  pub hindered : hinders action ≡ hinders_use (is_write act) key
+  pub answers : (busy : Bool) → call_answer rows v busy action ≡ touch_answer v busy key answer
+  pub done : is_done action answer ≡ true
+  pub leaves : (w : BranchView) → view_after_done w action ≡ view_with_act w key act
 
-nothing_left : (t : TableParts) (x : XidParts) (action : Action) (answer : Answer) → is_done action answer ≡ false → Leaves (view_at t.branches) (view_at t.branches) x action answer
-nothing_left t x action answer e = record { own = rw e (same (view_at t.branches x)); others = λ other _. same (view_at t.branches other) }
+pub put_call : (rows : List Row) (v : BranchView) (key value : List ℕ) → (key_fits key && value_fits value) ≡ true
+    → IsKeyCall rows v (Put key value) key (Act.Put value) (Code code.Ok)
+put_call rows v key value fits = record { key_is = refl; hindered = refl; answers = λ busy. rw fits refl; done = refl; leaves = λ w. refl }
 
--- lengths outside the limits
-pub key_inval : (t : TableParts) (x : XidParts) (action : Action) (key : List ℕ) → are_distinct t.branches ≡ true → key_of action ≡ Some key
-    → ((busy : Bool) → answer_of t.rows (view_at t.branches x) busy action ≡ Code code.Inval) → is_done action (Code code.Inval) ≡ false → Steps t t x action (Code code.Inval)
-key_inval t x action key apart key-is inval e =
-    done (list_any (holds x key) t.branches, rw key-is (held_decides t.branches x key apart), sym (inval (list_any (holds x key) t.branches))) (nothing_left t x action (Code code.Inval) e) refl
+pub del_call : (rows : List Row) (v : BranchView) (key : List ℕ) → key_fits key ≡ true
+    → IsKeyCall rows v (Del key) key Act.Del (Code code.Ok)
+del_call rows v key fits = record { key_is = refl; hindered = refl; answers = λ busy. rw fits refl; done = refl; leaves = λ w. refl }
 
--- a branch that is not there or not active, a key that is held, or no room
-pub key_denied : (t : TableParts) (x : XidParts) (action : Action) (key : List ℕ) (answer : Answer) (d : Denied) → key_of action ≡ Some key
-    → ((busy : Bool) → answer_of t.rows (view_at t.branches x) busy action ≡ touch_answer (view_at t.branches x) busy key answer) → Admits t.branches x key (Err d)
-    → Steps t t x action (denied_answer d)
-key_denied t x action key answer d key-is answers admits =
-    done (admits.0, rw key-is admits.1, sym (answers admits.0 ∙ admits.2 answer)) (nothing_left t x action (denied_answer d) (undone action key d key-is)) refl
-
--- a call that is done
-pub key_done : (t : TableParts) (x : XidParts) (action : Action) (key : List ℕ) (write : Option (Option (List ℕ))) (answer : Answer) (at : ℕ) (bs : List BranchParts) → key_of action ≡ Some key
-    → ((busy : Bool) → answer_of t.rows (view_at t.branches x) busy action ≡ touch_answer (view_at t.branches x) busy key answer) → is_done action answer ≡ true
-    → ((v : BranchView) → done_view v action ≡ touch v key write) → Admits t.branches x key (Ok at) → Touches t.branches bs at key write
-    → Steps t (record { rows = t.rows; branches = bs }) x action answer
-key_done t x action key write answer at bs key-is answers is touches admits touched =
-    let b = touched.0 in
-    let place = placed t.branches x at b admits.0 in
-    let new : BranchParts = record { xid = b.xid; state = b.state; touched = touch_in b.touched key write } in
-    let own-new : is_of x new ≡ true = subst (λ (c : BranchParts). is_of x c ≡ true) (sym touched.1) place.here in
-    let shows = shows_at t.branches x at b admits.0 touched.1 in
-    done (admits.1.0, rw key-is admits.1.1, sym (answers admits.1.0 ∙ admits.1.2 answer))
-    (record {
-      own = rw (touched.2, view_set_own t.branches x at b new place own-new, is, touches (view_at t.branches x), shows) (shows_touched b key write);
-      others = λ other apart. same_from (view_at bs other) (view_at t.branches other) (rw touched.2 (view_set_other t.branches x other at b new place own-new apart));
-    }) refl
-
-pub touches_distinct : (old new : List BranchParts) (x : XidParts) (at : ℕ) (key : List ℕ) (write : Option (Option (List ℕ))) → are_distinct old ≡ true → place_in old x ≡ Some at
-    → Touches old new at key write → are_distinct new ≡ true
-touches_distinct old new x at key write apart place touched =
-    let b = touched.0 in
-    rw touched.2 (end_distinct old x at b (record { xid = b.xid; state = b.state; touched = touch_in b.touched key write }) place touched.1 refl apart)
-
-pub within_length : (bs : List BranchParts) (x : XidParts) (key : List ℕ) (at : ℕ) → Admits bs x key (Ok at) → at < length bs
-within_length bs x key at admits = (placed bs x at (record { xid = x; state = Active; touched = [] }) admits.0).within
-
--- ---- what a get answers
-
-pub found_done : (key : List ℕ) (o : Option (List ℕ)) → is_done (Get key) (found o) ≡ true
+found_done : (key : List ℕ) (o : Option (List ℕ)) → is_done (Get key) (get_answer o) ≡ true
 found_done key (Some bytes) = refl
 found_done key None = refl
 
-pub read_answer : (rows : List Row) (bs : List BranchParts) (x : XidParts) (key : List ℕ) (at : ℕ) (b : BranchParts) (answer : Answer) → place_in bs x ≡ Some at → b ≡ get_or bs at b
-    → answer ≡ found (unwrap_or (written_in b.touched key) (row_at rows key)) → found (read_of rows (view_at bs x) key) ≡ answer
-read_answer rows bs x key at b answer place read answer-is =
-    ap (λ (v : BranchView). found (read_of rows v key)) (shows_at bs x at b place read) ∙ sym answer-is
+pub get_call : (rows : List Row) (v : BranchView) (key : List ℕ) → key_fits key ≡ true
+    → IsKeyCall rows v (Get key) key Act.Read (get_answer (read_of rows v key))
+get_call rows v key fits = record {
+  key_is = refl;
+  hindered = refl;
+  answers = λ busy. rw fits refl;
+  done = found_done key (read_of rows v key);
+  leaves = λ w. refl;
+}
+
+-- a call on a key isn't done where it is answered by one of these
+record IsUndone (action : Action) : Type 0 where
+  nota : is_done action (Code code.Nota) ≡ false
+  proto : is_done action (Code code.Proto) ≡ false
+  inval : is_done action (Code code.Inval) ≡ false
+  busy : is_done action (Refused Busy) ≡ false
+  full : is_done action (Refused Full) ≡ false
+
+undone : (action : Action) (key : List ℕ) → key_of action ≡ Some key → IsUndone action
+undone (Put k value) key e = record { nota = refl; proto = refl; inval = refl; busy = refl; full = refl }
+undone (Del k) key e = record { nota = refl; proto = refl; inval = refl; busy = refl; full = refl }
+undone (Get k) key e = record { nota = refl; proto = refl; inval = refl; busy = refl; full = refl }
+undone Start key e = absurd (cc (e))
+undone End key e = absurd (cc (e))
+undone EndFail key e = absurd (cc (e))
+undone Rollback key e = absurd (cc (e))
+
+undone_by : (action : Action) (state : Option BranchState) (answer : Answer) → IsUndone action → is_done action answer ≡ false
+    → is_done action (by_state state (Code code.Nota) answer (Code code.Proto)) ≡ false
+undone_by action None answer none e = none.nota
+undone_by action (Some BranchState.Active) answer none e = e
+undone_by action (Some BranchState.Idle) answer none e = none.proto
+undone_by action (Some BranchState.RollbackOnly) answer none e = none.proto
+undone_by action (Some BranchState.Prepared) answer none e = none.proto
+
+-- a call that is answered whatever it asks isn't done
+denied_undone : (action : Action) (v : BranchView) (busy : Bool) (key : List ℕ) → IsUndone action
+    → is_done action (touch_answer v busy key (Refused Busy)) ≡ false
+denied_undone action v busy key none =
+    let goal = λ (answer : Answer). is_done action answer ≡ false in
+    undone_by action v.state _ none
+    (cond_both busy _ _ goal (λ held. none.busy)
+    (λ free. cond_both (v.touched key || ltb v.count most_touched) _ _ goal (λ room. none.busy) (λ no_room. none.full)))
+
+-- a key or a value of a length that doesn't fit
+pub key_inval : (t : TableState) (x : XidParts) (action : Action) (key : List ℕ) → AreTableBranches t.branches → key_of action ≡ Some key
+    → ((busy : Bool) → call_answer t.rows (branch_at t.branches x) busy action ≡ Code code.Inval) → Steps t t x action (Code code.Inval)
+key_inval t x action key are key-is inval = record {
+  answers =
+      let busy = is_hindered (hinders action) t.branches x in
+      (busy, hindered_decides (hinders action) (none_hinders action) t.branches x are, sym (inval busy));
+  leaves = leaves_all t x action (Code code.Inval) (undone action key key-is).inval;
+  rows = refl;
+}
+
+-- a branch that is not there or not active, another one that hinders, or no room
+pub key_denied : {action : Action} {key : List ℕ} {act : Act} {answer : Answer} (t : TableState) (x : XidParts) (denial : Answer)
+    → IsKeyCall t.rows (branch_at t.branches x) action key act answer → Admits t.branches x (is_write act) key (Err denial)
+    → Steps t t x action denial
+key_denied {action} {key} {act} {answer} t x denial call admits =
+    let met = admits answer in
+    let other = admits (Refused Busy) in
+    record {
+      answers = (met.0, rw call.hindered met.1, sym (call.answers met.0 ∙ met.2));
+      leaves = leaves_all t x action denial
+          (subst (λ (a : Answer). is_done action a ≡ false) other.2
+          (denied_undone action (branch_at t.branches x) other.0 key (undone action key call.key_is)));
+      rows = refl;
+    }
+
+-- a call that is done
+pub key_done : {action : Action} {key : List ℕ} {act : Act} {answer : Answer} (t : TableState) (x : XidParts) (at : ℕ) (bs : List Branch)
+    → AreTableBranches t.branches × IsKeyCall t.rows (branch_at t.branches x) action key act answer
+    → Admits t.branches x (is_write act) key (Ok at)
+    → Touches t.branches bs at key act → Steps t (with_branches t bs) x action answer
+key_done {action} {key} {act} {answer} t x at bs facts admits touched =
+    let call = facts.1 in
+    let b = touched.0 in
+    let place = placed t.branches x at b admits.0 touched.1 in
+    let met = admits.1 answer in
+    let new : Branch = record b { keys = with_touched b.keys key act } in
+    record {
+      answers = (met.0, rw call.hindered met.1, sym (call.answers met.0 ∙ met.2));
+      leaves =
+          rw touched.2
+          (leaves_own t.branches _ x action answer (view_of new) (shows_set t.branches x at b new place place.own)
+          (rw (call.done, call.leaves (branch_at t.branches x), view_here t.branches x at b place)
+          (shows_touched b key act (ascends_there t.branches x at b place facts.0))));
+      rows = refl;
+    }
+
+pub touch_keeps : (old new : List Branch) (x : XidParts) (at : ℕ) (key : List ℕ) (act : Act)
+    → AreTableBranches old × (place_in old x ≡ Some at) × Touches old new at key act → AreTableBranches new
+touch_keeps old new x at key act facts =
+    let b = facts.2.0 in
+    let place = placed old x at b facts.1 facts.2.1 in
+    rw facts.2.2
+    (keeps_set old at b (record b { keys = with_touched b.keys key act }) (facts.2.1, refl)
+    (ascends_touched b key act (ascends_there old x at b place facts.0)) facts.0)
+
+-- what a get reads at its branch
+pub read_at : (rows : List Row) (bs : List Branch) (x : XidParts) (key : List ℕ) (at : ℕ) (b : Branch) → IsPlace bs x at b
+    → read_of rows (branch_at bs x) key ≡ read_of rows (view_of b) key
+read_at rows bs x key at b place = ap (λ (v : BranchView). read_of rows v key) (view_here bs x at b place)

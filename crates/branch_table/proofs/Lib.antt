@@ -1,3 +1,4 @@
-pub mod TouchingLemmas
+pub mod Positions
+pub mod KeyPlaces
 pub mod Views
 pub mod CallSteps

@@ -1,265 +1,258 @@
 -- How branches show after one of them was changed, added or taken away.
-use Rattle.std.proofs.Common.{◌≡◌, ◌≢◌, ◌∙◌, ℕ, zero, suc, ◌<◌, ◌+◌, Bool, true, false, not, ◌&&◌, ◌||◌, cond, List, [], ◌∷◌, ◌++◌, length, get_or, set, remove, Option, Some, None, refl, sym, ap, subst, arith, Decides}
-use Rattle.std.specs.List.{list_any, list_all}
-use Rattle.std.specs.Str.{bytes_eq}
-use Rattle.std.proofs.lemmas.Bool.{false≢true}
+use Rattle.std.proofs.Common.{◌≡◌, ◌≢◌, ◌∙◌, ℕ, zero, suc, ◌<◌, Bool, true, false, not, ◌&&◌, cond, List, [], ◌∷◌, ◌++◌, length, map, get_or, set, remove, refl, sym, ap, subst, arith, Decides, inl, inr}
+use Rattle.std.specs.List.{list_any, AllByRecursion, IsDistinct}
+use Rattle.std.proofs.Math.Seq.{map-set_same}
+use Rattle.std.proofs.lemmas.Bool.{and_parts, both_ways, cond_both, not-true, or_cases, or_from, or_left, or_parts, or_right}
+use Rattle.std.proofs.lemmas.List.{map-append}
+use Rattle.std.proofs.lemmas.List.Elements.{All-append, All-drop, All-nil, All-push, All-set, All-take}
 use Rattle.xid.specs.Names.{XidParts, xid_eq}
-use Rattle.xid.proofs.Texts.{both_true, first_true, second_true}
-use Rattle.xid.proofs.XidLaws.{xid_eq-same, xid_eq-is, xid_eq-other, xid_eq-apart}
-use Rattle.protocol.specs.Branches.{BranchView, no_branch}
-use Rattle.branch_table.specs.OneCall.{SameView, touch, IsHeld}
-use Rattle.branch_table.specs.Tables.{BranchParts, branch_view, view_at, are_distinct, TouchedParts, has_key, written_in, holds}
-use Rattle.branch_table.specs.Touching.{newer, touch_in}
-use Rattle.std.proofs.lemmas.Slice.Eq.{bytes_eq-Decides}
-use Rattle.std.specs.Option.{is_some}
-use Rattle.protocol.proofs.TouchedKeys.{twice, swap, suc_in}
-use Rattle.branch_table.proofs.TouchingLemmas.{first_false, second_false}
+use Rattle.xid.proofs.Deciding.{xid_self, xid_decides, xid_other, xid_apart}
+use Rattle.stable_record.specs.declared.fact.Act.{Act}
+use Rattle.stable_record.specs.Facts.{AreAscending}
+use Rattle.protocol.specs.declared.requests.Action.{Action}
+use Rattle.protocol.specs.declared.requests.Action.TheVariants.{Start, Put, Del, Get, End, EndFail, Rollback}
+use Rattle.protocol.specs.Branches.{BranchView, no_branch, hinders_use, hinders}
+use Rattle.protocol.specs.Managers.{Branch, view_by, branch_at, is_hindered, with_touched}
+use Rattle.protocol.proofs.TouchedKeys.{has_touched, counts_touched, acts_touched, changed_ascends}
+use Rattle.branch_table.specs.OneCall.{SameView, view_with_act, IsHindered}
+use Rattle.branch_table.specs.Tables.{AreTableBranches}
 
-abbrev pub is_of : XidParts → BranchParts → Bool
+abbrev pub is_of : XidParts → Branch → Bool
 is_of x branch = xid_eq branch.xid x
 
--- i is the first place of a branch of x
-pub record IsPlace (bs : List BranchParts) (x : XidParts) (i : ℕ) (d : BranchParts) : Type 0 where
-  pub within : i < length bs
-  pub here : is_of x (get_or bs i d) ≡ true
-  pub before : (k : ℕ) → k < i → is_of x (get_or bs k d) ≡ false
+abbrev pub names : List Branch → List XidParts
+names branches = map (λ branch. branch.xid) branches
 
-IsPlace-tail : (b : BranchParts) (bs : List BranchParts) (x : XidParts) (i : ℕ) (d : BranchParts) → IsPlace (b ∷ bs) x (suc i) d → IsPlace bs x i d
-IsPlace-tail b bs x i d place = record { within = omega (arith, place.within); here = place.here; before = λ k lt. place.before (suc k) (omega arith) }
+-- how a branch shows
+abbrev pub view_of : Branch → BranchView
+view_of branch = view_by branch.state branch.keys
+
+-- branch b stands at place i, the first of a branch of x
+pub record IsPlace (bs : List Branch) (x : XidParts) (i : ℕ) (b : Branch) : Type 0 where
+  pub within : i < length bs
+  pub read : b ≡ get_or bs i b
+  pub own : is_of x b ≡ true
+  pub before : (k : ℕ) → k < i → is_of x (get_or bs k b) ≡ false
+
+-- x shows as a view now, and all others as before
+pub record ShowsOnly (old new : List Branch) (x : XidParts) (v : BranchView) : Type 0 where
+  pub own : branch_at new x ≡ v
+  pub others : (y : XidParts) → y ≢ x → branch_at new y ≡ branch_at old y
+
+IsPlace-tail : (c : Branch) (bs : List Branch) (x : XidParts) (i : ℕ) (b : Branch) → IsPlace (c ∷ bs) x (suc i) b → IsPlace bs x i b
+IsPlace-tail c bs x i b place = record {
+  within = omega (arith, place.within);
+  read = place.read;
+  own = place.own;
+  before = λ k lt. place.before (suc k) (omega arith);
+}
+
+-- the first branch, at place 0, has the name
+first_own : (c : Branch) (bs : List Branch) (x : XidParts) (b : Branch) → IsPlace (c ∷ bs) x zero b → is_of x c ≡ true
+first_own c bs x b place = subst (λ (d : Branch). is_of x d ≡ true) place.read place.own
 
 -- a branch of x isn't one of another XID
-other_of : (b : BranchParts) (x y : XidParts) → is_of x b ≡ true → y ≢ x → is_of y b ≡ false
-other_of b x y own apart = xid_eq-other b.xid y (λ e. apart (sym e ∙ xid_eq-is b.xid x own))
+other_of : (b : Branch) (x y : XidParts) → is_of x b ≡ true → y ≢ x → is_of y b ≡ false
+other_of b x y own apart = xid_other b.xid y (λ e. apart (sym e ∙ (xid_decides b.xid x).0 own))
 
-pub view_here : (bs : List BranchParts) (x : XidParts) (i : ℕ) (d : BranchParts) → IsPlace bs x i d → view_at bs x ≡ branch_view (get_or bs i d)
-view_here [] x i d place = absurd (omega (arith, place.within))
-view_here (b ∷ bs) x zero d place = rw place.here refl
-view_here (b ∷ bs) x (suc i) d place = rw (place.before 0 (omega arith)) (view_here bs x i d (IsPlace-tail b bs x i d place))
+-- a branch in front that isn't of x
+ShowsOnly-cons : (c : Branch) (old new : List Branch) (x : XidParts) (v : BranchView) → is_of x c ≡ false → ShowsOnly old new x v
+    → ShowsOnly (c ∷ old) (c ∷ new) x v
+ShowsOnly-cons c old new x v other shows = record {
+  own = rw other shows.own;
+  others = λ y apart. ap (λ (w : BranchView). cond (is_of y c) (view_of c) w) (shows.others y apart);
+}
 
-pub view_absent : (bs : List BranchParts) (x : XidParts) → list_any (is_of x) bs ≡ false → view_at bs x ≡ no_branch
+pub view_here : (bs : List Branch) (x : XidParts) (i : ℕ) (b : Branch) → IsPlace bs x i b → branch_at bs x ≡ view_of b
+view_here [] x i b place = absurd (omega (arith, place.within))
+view_here (c ∷ bs) x zero b place =
+    subst (λ (d : Branch). cond (is_of x d) (view_of d) (branch_at bs x) ≡ view_of b) place.read (rw place.own refl)
+view_here (c ∷ bs) x (suc i) b place = rw (place.before 0 (omega arith)) (view_here bs x i b (IsPlace-tail c bs x i b place))
+
+pub view_absent : (bs : List Branch) (x : XidParts) → list_any (is_of x) bs ≡ false → branch_at bs x ≡ no_branch
 view_absent [] x e = refl
-view_absent (b ∷ bs) x e = rw (first_false (is_of x b) (list_any (is_of x) bs) e) (view_absent bs x (second_false (is_of x b) (list_any (is_of x) bs) e))
+view_absent (b ∷ bs) x e =
+    let parts = or_parts (is_of x b) (list_any (is_of x) bs) e in
+    rw parts.0 (view_absent bs x parts.1)
 
--- ---- a branch changed in its place
+-- ---- a branch changed in its place, added, or taken away
 
-pub view_set_own : (bs : List BranchParts) (x : XidParts) (i : ℕ) (d new : BranchParts) → IsPlace bs x i d → is_of x new ≡ true → view_at (set bs i new) x ≡ branch_view new
-view_set_own [] x i d new place own = absurd (omega (arith, place.within))
-view_set_own (b ∷ bs) x zero d new place own = rw own refl
-view_set_own (b ∷ bs) x (suc i) d new place own = rw (place.before 0 (omega arith)) (view_set_own bs x i d new (IsPlace-tail b bs x i d place) own)
+pub shows_set : (bs : List Branch) (x : XidParts) (i : ℕ) (b new : Branch) → IsPlace bs x i b → is_of x new ≡ true
+    → ShowsOnly bs (set bs i new) x (view_of new)
+shows_set [] x i b new place own = absurd (omega (arith, place.within))
+shows_set (c ∷ bs) x zero b new place own = record {
+  own = rw own refl;
+  others = λ y apart. rw (other_of new x y own apart, other_of c x y (first_own c bs x b place) apart) refl;
+}
+shows_set (c ∷ bs) x (suc i) b new place own =
+    ShowsOnly-cons c bs (set bs i new) x (view_of new) (place.before 0 (omega arith))
+    (shows_set bs x i b new (IsPlace-tail c bs x i b place) own)
 
-pub view_set_other : (bs : List BranchParts) (x y : XidParts) (i : ℕ) (d new : BranchParts) → IsPlace bs x i d → is_of x new ≡ true → y ≢ x → view_at (set bs i new) y ≡ view_at bs y
-view_set_other [] x y i d new place own apart = absurd (omega (arith, place.within))
-view_set_other (b ∷ bs) x y zero d new place own apart = rw (other_of new x y own apart, other_of b x y place.here apart) refl
-view_set_other (b ∷ bs) x y (suc i) d new place own apart = ap (λ (v : BranchView). cond (is_of y b) (branch_view b) v) (view_set_other bs x y i d new (IsPlace-tail b bs x i d place) own apart)
+pub shows_push : (bs : List Branch) (new : Branch) → list_any (is_of new.xid) bs ≡ false
+    → ShowsOnly bs (bs ++ new ∷ []) new.xid (view_of new)
+shows_push [] new absent = record {
+  own = rw (xid_self new.xid) refl;
+  others = λ y apart. rw (other_of new new.xid y (xid_self new.xid) apart) refl;
+}
+shows_push (b ∷ bs) new absent =
+    let parts = or_parts (is_of new.xid b) (list_any (is_of new.xid) bs) absent in
+    ShowsOnly-cons b bs (bs ++ new ∷ []) new.xid (view_of new) parts.0 (shows_push bs new parts.1)
 
--- ---- a branch added
+-- no later branch has the XID of the first
+absent_after : (bs : List Branch) (x : XidParts) → AllByRecursion (λ y. xid_eq x y ≡ false) (names bs) → list_any (is_of x) bs ≡ false
+absent_after [] x apart = refl
+absent_after (c ∷ bs) x apart =
+    or_from (is_of x c) (list_any (is_of x) bs) (xid_other c.xid x (λ e. xid_apart x c.xid apart.0 (sym e)))
+    (absent_after bs x apart.1)
 
-pub view_push_own : (bs : List BranchParts) (x : XidParts) (new : BranchParts) → list_any (is_of x) bs ≡ false → is_of x new ≡ true → view_at (bs ++ new ∷ []) x ≡ branch_view new
-view_push_own [] x new absent own = rw own refl
-view_push_own (b ∷ bs) x new absent own =
-    rw (first_false (is_of x b) (list_any (is_of x) bs) absent) (view_push_own bs x new (second_false (is_of x b) (list_any (is_of x) bs) absent) own)
+absent_own : (c : Branch) (bs : List Branch) (x : XidParts) → IsDistinct xid_eq (names (c ∷ bs)) → is_of x c ≡ true
+    → branch_at bs x ≡ no_branch
+unfolding IsDistinct
+absent_own c bs x distinct own =
+    view_absent bs x
+    (subst (λ (y : XidParts). list_any (is_of y) bs ≡ false) ((xid_decides c.xid x).0 own) (absent_after bs c.xid distinct.0))
 
-pub view_push_other : (bs : List BranchParts) (x y : XidParts) (new : BranchParts) → is_of x new ≡ true → y ≢ x → view_at (bs ++ new ∷ []) y ≡ view_at bs y
-view_push_other [] x y new own apart = rw (other_of new x y own apart) refl
-view_push_other (b ∷ bs) x y new own apart = ap (λ (v : BranchView). cond (is_of y b) (branch_view b) v) (view_push_other bs x y new own apart)
+pub shows_remove : (bs : List Branch) (x : XidParts) (i : ℕ) (b : Branch) → IsDistinct xid_eq (names bs) → IsPlace bs x i b
+    → ShowsOnly bs (remove bs i) x no_branch
+unfolding IsDistinct
+shows_remove [] x i b distinct place = absurd (omega (arith, place.within))
+shows_remove (c ∷ bs) x zero b distinct place = record {
+  own = absent_own c bs x distinct (first_own c bs x b place);
+  others = λ y apart. rw (other_of c x y (first_own c bs x b place) apart) refl;
+}
+shows_remove (c ∷ bs) x (suc i) b distinct place =
+    ShowsOnly-cons c bs (remove bs i) x no_branch (place.before 0 (omega arith))
+    (shows_remove bs x i b distinct.1 (IsPlace-tail c bs x i b place))
 
--- ---- a branch taken away
+-- ---- the branches stay those of a table
 
--- no branch of an XID where none is told apart from it
-absent_from : (bs : List BranchParts) (b : BranchParts) (x : XidParts) → is_of x b ≡ true → list_all (λ other. not (xid_eq other.xid b.xid)) bs ≡ true → list_any (is_of x) bs ≡ false
-absent_from [] b x own apart = refl
-absent_from (c ∷ cs) b x own apart =
-    let c-apart = first_true (not (xid_eq c.xid b.xid)) (list_all (λ other. not (xid_eq other.xid b.xid)) cs) apart in
-    let c-other : is_of x c ≡ false = xid_eq-other c.xid x (λ e. not_same c-apart (e ∙ sym (xid_eq-is b.xid x own))) in
-    rw c-other (absent_from cs b x own (second_true (not (xid_eq c.xid b.xid)) (list_all (λ other. not (xid_eq other.xid b.xid)) cs) apart))
-  where
-    not_same : not (xid_eq c.xid b.xid) ≡ true → c.xid ≢ b.xid
-    not_same e same = let hit : xid_eq c.xid b.xid ≡ true = subst (λ (z : XidParts). xid_eq c.xid z ≡ true) same (xid_eq-same c.xid) in let miss : not true ≡ true = rw hit at e in absurd (cc)
+apart_push : (xs : List XidParts) (x y : XidParts) → AllByRecursion (λ z. xid_eq x z ≡ false) xs → xid_eq x y ≡ false
+    → AllByRecursion (λ z. xid_eq x z ≡ false) (xs ++ y ∷ [])
+apart_push [] x y apart e = (e, tt)
+apart_push (z ∷ xs) x y apart e = (apart.0, apart_push xs x y apart.1 e)
 
-pub view_remove_own : (bs : List BranchParts) (x : XidParts) (i : ℕ) (d : BranchParts) → are_distinct bs ≡ true → IsPlace bs x i d → view_at (remove bs i) x ≡ no_branch
-view_remove_own [] x i d apart place = absurd (omega (arith, place.within))
-view_remove_own (b ∷ bs) x zero d apart place =
-    view_absent bs x (absent_from bs b x place.here (first_true (list_all (λ other. not (xid_eq other.xid b.xid)) bs) (are_distinct bs) apart))
-view_remove_own (b ∷ bs) x (suc i) d apart place =
-    rw (place.before 0 (omega arith)) (view_remove_own bs x i d (second_true (list_all (λ other. not (xid_eq other.xid b.xid)) bs) (are_distinct bs) apart) (IsPlace-tail b bs x i d place))
+distinct_push : (bs : List Branch) (new : Branch) → list_any (is_of new.xid) bs ≡ false → IsDistinct xid_eq (names bs)
+    → IsDistinct xid_eq (names (bs ++ new ∷ []))
+unfolding IsDistinct
+distinct_push [] new absent distinct = (tt, tt)
+distinct_push (b ∷ bs) new absent distinct =
+    let parts = or_parts (is_of new.xid b) (list_any (is_of new.xid) bs) absent in (
+      subst (AllByRecursion (λ z. xid_eq b.xid z ≡ false)) (sym (map-append (λ (c : Branch). c.xid) bs (new ∷ [])))
+          (apart_push (names bs) b.xid new.xid distinct.0 parts.0),
+      distinct_push bs new parts.1 distinct.1,
+    )
 
-pub view_remove_other : (bs : List BranchParts) (x y : XidParts) (i : ℕ) (d : BranchParts) → IsPlace bs x i d → y ≢ x → view_at (remove bs i) y ≡ view_at bs y
-view_remove_other [] x y i d place apart = absurd (omega (arith, place.within))
-view_remove_other (b ∷ bs) x y zero d place apart = rw (other_of b x y place.here apart) refl
-view_remove_other (b ∷ bs) x y (suc i) d place apart = ap (λ (v : BranchView). cond (is_of y b) (branch_view b) v) (view_remove_other bs x y i d (IsPlace-tail b bs x i d place) apart)
+apart_remove : (bs : List Branch) (i : ℕ) (x : XidParts) → AllByRecursion (λ z. xid_eq x z ≡ false) (names bs)
+    → AllByRecursion (λ z. xid_eq x z ≡ false) (names (remove bs i))
+apart_remove [] zero x apart = apart
+apart_remove [] (suc i) x apart = apart
+apart_remove (b ∷ bs) zero x apart = apart.1
+apart_remove (b ∷ bs) (suc i) x apart = (apart.0, apart_remove bs i x apart.1)
 
--- ---- each XID keeps at most one branch
+distinct_remove : (bs : List Branch) (i : ℕ) → IsDistinct xid_eq (names bs) → IsDistinct xid_eq (names (remove bs i))
+unfolding IsDistinct
+distinct_remove [] zero distinct = distinct
+distinct_remove [] (suc i) distinct = distinct
+distinct_remove (b ∷ bs) zero distinct = distinct.1
+distinct_remove (b ∷ bs) (suc i) distinct = (apart_remove bs i b.xid distinct.0, distinct_remove bs i distinct.1)
 
-apart_set : (bs : List BranchParts) (x z : XidParts) (i : ℕ) (d new : BranchParts) → IsPlace bs x i d → is_of x new ≡ true → list_all (λ other. not (xid_eq other.xid z)) bs ≡ true
-    → list_all (λ other. not (xid_eq other.xid z)) (set bs i new) ≡ true
-apart_set [] x z i d new place own h = h
-apart_set (b ∷ bs) x z zero d new place own h =
-    let same : new.xid ≡ b.xid = xid_eq-is new.xid x own ∙ sym (xid_eq-is b.xid x place.here) in
-    both_true (not (xid_eq new.xid z)) (list_all (λ other. not (xid_eq other.xid z)) bs)
-    (subst (λ (w : XidParts). not (xid_eq w z) ≡ true) (sym same) (first_true (not (xid_eq b.xid z)) (list_all (λ other. not (xid_eq other.xid z)) bs) h))
-    (second_true (not (xid_eq b.xid z)) (list_all (λ other. not (xid_eq other.xid z)) bs) h)
-apart_set (b ∷ bs) x z (suc i) d new place own h =
-    both_true (not (xid_eq b.xid z)) (list_all (λ other. not (xid_eq other.xid z)) (set bs i new)) (first_true (not (xid_eq b.xid z)) (list_all (λ other. not (xid_eq other.xid z)) bs) h)
-    (apart_set bs x z i d new (IsPlace-tail b bs x i d place) own (second_true (not (xid_eq b.xid z)) (list_all (λ other. not (xid_eq other.xid z)) bs) h))
+pub keeps_none : AreTableBranches []
+unfolding IsDistinct
+keeps_none = record { distinct = tt; ascending = All-nil (λ (b : Branch). AreAscending b.keys) }
 
-pub distinct_set : (bs : List BranchParts) (x : XidParts) (i : ℕ) (d new : BranchParts) → IsPlace bs x i d → is_of x new ≡ true → are_distinct bs ≡ true → are_distinct (set bs i new) ≡ true
-distinct_set [] x i d new place own h = h
-distinct_set (b ∷ bs) x zero d new place own h =
-    let same : new.xid ≡ b.xid = xid_eq-is new.xid x own ∙ sym (xid_eq-is b.xid x place.here) in
-    subst (λ (w : XidParts). (list_all (λ other. not (xid_eq other.xid w)) bs && are_distinct bs) ≡ true) (sym same) h
-distinct_set (b ∷ bs) x (suc i) d new place own h =
-    let tail = IsPlace-tail b bs x i d place in
-    both_true (list_all (λ other. not (xid_eq other.xid b.xid)) (set bs i new)) (are_distinct (set bs i new))
-    (apart_set bs x b.xid i d new tail own (first_true (list_all (λ other. not (xid_eq other.xid b.xid)) bs) (are_distinct bs) h))
-    (distinct_set bs x i d new tail own (second_true (list_all (λ other. not (xid_eq other.xid b.xid)) bs) (are_distinct bs) h))
+pub keeps_push : (bs : List Branch) (new : Branch) → list_any (is_of new.xid) bs ≡ false → AreAscending new.keys → AreTableBranches bs
+    → AreTableBranches (bs ++ new ∷ [])
+keeps_push bs new absent ascending are = record {
+  distinct = distinct_push bs new absent are.distinct;
+  ascending = All-push (λ (b : Branch). AreAscending b.keys) bs new are.ascending ascending;
+}
 
-apart_push : (bs : List BranchParts) (new : BranchParts) (z : XidParts) → list_all (λ other. not (xid_eq other.xid z)) bs ≡ true → not (xid_eq new.xid z) ≡ true
-    → list_all (λ other. not (xid_eq other.xid z)) (bs ++ new ∷ []) ≡ true
-apart_push [] new z h e = both_true (not (xid_eq new.xid z)) true e refl
-apart_push (b ∷ bs) new z h e =
-    both_true (not (xid_eq b.xid z)) (list_all (λ other. not (xid_eq other.xid z)) (bs ++ new ∷ [])) (first_true (not (xid_eq b.xid z)) (list_all (λ other. not (xid_eq other.xid z)) bs) h)
-    (apart_push bs new z (second_true (not (xid_eq b.xid z)) (list_all (λ other. not (xid_eq other.xid z)) bs) h) e)
+pub keeps_remove : (bs : List Branch) (i : ℕ) → AreTableBranches bs → AreTableBranches (remove bs i)
+keeps_remove bs i are = record {
+  distinct = distinct_remove bs i are.distinct;
+  ascending =
+      let kept = λ (b : Branch). AreAscending b.keys in
+      All-append kept _ _ (All-take kept i bs are.ascending) (All-drop kept (suc i) bs are.ascending);
+}
 
-pub distinct_push : (bs : List BranchParts) (x : XidParts) (new : BranchParts) → list_any (is_of x) bs ≡ false → is_of x new ≡ true → are_distinct bs ≡ true → are_distinct (bs ++ new ∷ []) ≡ true
-distinct_push [] x new absent own h = refl
-distinct_push (b ∷ bs) x new absent own h =
-    let b-other : b.xid ≢ x = xid_eq-apart b.xid x (first_false (is_of x b) (list_any (is_of x) bs) absent) in
-    let new-other : xid_eq new.xid b.xid ≡ false = xid_eq-other new.xid b.xid (λ e. b-other (sym e ∙ xid_eq-is new.xid x own)) in
-    both_true (list_all (λ other. not (xid_eq other.xid b.xid)) (bs ++ new ∷ [])) (are_distinct (bs ++ new ∷ []))
-    (apart_push bs new b.xid (first_true (list_all (λ other. not (xid_eq other.xid b.xid)) bs) (are_distinct bs) h) (rw new-other refl))
-    (distinct_push bs x new (second_false (is_of x b) (list_any (is_of x) bs) absent) own (second_true (list_all (λ other. not (xid_eq other.xid b.xid)) bs) (are_distinct bs) h))
+-- a branch is changed, but keeps its name
+pub keeps_set : (bs : List Branch) (i : ℕ) (b new : Branch) → (b ≡ get_or bs i b) × (new.xid ≡ b.xid) → AreAscending new.keys
+    → AreTableBranches bs → AreTableBranches (set bs i new)
+keeps_set bs i b new same ascending are =
+    let name = λ (c : Branch). c.xid in
+    record {
+      distinct = subst (IsDistinct xid_eq) (sym (map-set_same name bs i new b (same.1 ∙ ap name same.0))) are.distinct;
+      ascending = All-set (λ (c : Branch). AreAscending c.keys) bs i new ascending are.ascending;
+    }
 
-apart_remove : (bs : List BranchParts) (i : ℕ) (z : XidParts) → list_all (λ other. not (xid_eq other.xid z)) bs ≡ true → list_all (λ other. not (xid_eq other.xid z)) (remove bs i) ≡ true
-apart_remove [] zero z h = h
-apart_remove [] (suc i) z h = h
-apart_remove (b ∷ bs) zero z h = second_true (not (xid_eq b.xid z)) (list_all (λ other. not (xid_eq other.xid z)) bs) h
-apart_remove (b ∷ bs) (suc i) z h =
-    both_true (not (xid_eq b.xid z)) (list_all (λ other. not (xid_eq other.xid z)) (remove bs i)) (first_true (not (xid_eq b.xid z)) (list_all (λ other. not (xid_eq other.xid z)) bs) h)
-    (apart_remove bs i z (second_true (not (xid_eq b.xid z)) (list_all (λ other. not (xid_eq other.xid z)) bs) h))
+-- ---- another branch hinders
 
-pub distinct_remove : (bs : List BranchParts) (i : ℕ) → are_distinct bs ≡ true → are_distinct (remove bs i) ≡ true
-distinct_remove [] zero h = h
-distinct_remove [] (suc i) h = h
-distinct_remove (b ∷ bs) zero h = second_true (list_all (λ other. not (xid_eq other.xid b.xid)) bs) (are_distinct bs) h
-distinct_remove (b ∷ bs) (suc i) h =
-    both_true (list_all (λ other. not (xid_eq other.xid b.xid)) (remove bs i)) (are_distinct (remove bs i)) (apart_remove bs i b.xid (first_true (list_all (λ other. not (xid_eq other.xid b.xid)) bs) (are_distinct bs) h))
-    (distinct_remove bs i (second_true (list_all (λ other. not (xid_eq other.xid b.xid)) bs) (are_distinct bs) h))
+-- a branch that doesn't exist hinders no call, nor any use of a key
+pub none_hinders : (action : Action) → hinders action no_branch ≡ false
+none_hinders Start = refl
+none_hinders (Put key value) = refl
+none_hinders (Del key) = refl
+none_hinders (Get key) = refl
+none_hinders End = refl
+none_hinders EndFail = refl
+none_hinders Rollback = refl
 
--- ---- keys held by another branch
+pub none_hinders_use : (writes : Bool) (key : List ℕ) → hinders_use writes key no_branch ≡ false
+none_hinders_use true key = refl
+none_hinders_use false key = refl
 
-is_false : (b : Bool) → not b ≡ true → b ≡ false
-is_false true e = absurd (cc)
-is_false false e = refl
+module _ (test : BranchView → Bool) (none : test no_branch ≡ false) where
+  abbrev is_other : XidParts → Branch → Bool
+  is_other x branch = not (xid_eq branch.xid x) && test (view_of branch)
 
-or_true : (b : Bool) → (b || true) ≡ true
-or_true true = refl
-or_true false = refl
+  -- what shows of a later branch shows of the list
+  shows_later : (b : Branch) (bs : List Branch) (y : XidParts) → IsDistinct xid_eq (names (b ∷ bs))
+      → test (branch_at bs y) ≡ true → test (branch_at (b ∷ bs) y) ≡ true
+  shows_later b bs y distinct shown =
+      cond_both (xid_eq b.xid y) (view_of b) (branch_at bs y) (λ (v : BranchView). test v ≡ true)
+      (λ own. absurd (both_ways _ (ap test (absent_own b bs y distinct own) ∙ none) shown)) (λ other. shown)
 
--- what shows of a later branch shows of the list
-shows_later : (b : BranchParts) (bs : List BranchParts) (y : XidParts) (key : List ℕ) → list_all (λ other. not (xid_eq other.xid b.xid)) bs ≡ true → (view_at bs y).touched key ≡ true
-    → (t : Bool) → xid_eq b.xid y ≡ t → (view_at (b ∷ bs) y).touched key ≡ true
-shows_later b bs y key apart h true e =
-    let gone : (view_at bs y).touched key ≡ false = rw (view_absent bs y (absent_from bs b y e apart)) refl in
-    absurd (cc)
-shows_later b bs y key apart h false e = rw e h
+  hindered_from : (bs : List Branch) (x : XidParts) → IsDistinct xid_eq (names bs) → list_any (is_other x) bs ≡ true
+      → IsHindered test (branch_at bs) x
+  unfolding IsDistinct
+  hindered_from [] x distinct e = absurd (cc (e))
+  hindered_from (b ∷ bs) x distinct e = elim (or_cases (is_other x b) (list_any (is_other x) bs) e) [
+    | inl here ↦
+        let parts = and_parts (not (xid_eq b.xid x)) (test (view_of b)) here in
+        (b.xid, xid_apart b.xid x (not-true (xid_eq b.xid x) parts.0), rw (xid_self b.xid) parts.1)
+    | inr later ↦
+        let found = hindered_from bs x distinct.1 later in
+        (found.0, found.1, shows_later b bs found.0 distinct found.2)
+  ]
 
-held_by : (b : BranchParts) (bs : List BranchParts) (x : XidParts) (key : List ℕ) → are_distinct (b ∷ bs) ≡ true → list_any (holds x key) (b ∷ bs) ≡ true
-    → (list_any (holds x key) bs ≡ true → IsHeld (view_at bs) x key) → (t : Bool) → holds x key b ≡ t → IsHeld (view_at (b ∷ bs)) x key
-held_by b bs x key apart e later true own =
-    let other = first_true (not (xid_eq b.xid x)) (list_any (has_key key) b.touched) own in
-    let touched = second_true (not (xid_eq b.xid x)) (list_any (has_key key) b.touched) own in
-    (b.xid, xid_eq-apart b.xid x (is_false (xid_eq b.xid x) other), rw (xid_eq-same b.xid) touched)
-held_by b bs x key apart e later false own =
-    let there : list_any (holds x key) bs ≡ true = rw own at e in
-    let found : IsHeld (view_at bs) x key = later there in
-    (found.0, found.1, shows_later b bs found.0 key (first_true (list_all (λ other. not (xid_eq other.xid b.xid)) bs) (are_distinct bs) apart) found.2 (xid_eq b.xid found.0) refl)
+  -- where another branch hinders, the test says so
+  pub hindered_to : (bs : List Branch) (x y : XidParts) → y ≢ x → test (branch_at bs y) ≡ true → is_hindered test bs x ≡ true
+  hindered_to [] x y apart shown = absurd (both_ways (test no_branch) none shown)
+  hindered_to (b ∷ bs) x y apart shown =
+      let goal = λ (v : BranchView). test v ≡ true → is_hindered test (b ∷ bs) x ≡ true in
+      cond_both (xid_eq b.xid y) (view_of b) (branch_at bs y) goal
+      (λ own here.
+      let other : xid_eq b.xid x ≡ false = xid_other b.xid x (λ e. apart (sym ((xid_decides b.xid y).0 own) ∙ e)) in
+      or_left (is_other x b) (list_any (is_other x) bs) (ap (λ (t : Bool). not t && test (view_of b)) other ∙ here))
+      (λ other later. or_right (is_other x b) (list_any (is_other x) bs) (hindered_to bs x y apart later)) shown
 
-held_from : (bs : List BranchParts) (x : XidParts) (key : List ℕ) → are_distinct bs ≡ true → list_any (holds x key) bs ≡ true → IsHeld (view_at bs) x key
-held_from [] x key apart e = absurd (cc)
-held_from (b ∷ bs) x key apart e =
-    held_by b bs x key apart e (held_from bs x key (second_true (list_all (λ other. not (xid_eq other.xid b.xid)) bs) (are_distinct bs) apart)) (holds x key b) refl
+  -- the test that some other branch hinders
+  pub hindered_decides : (bs : List Branch) (x : XidParts) → AreTableBranches bs
+      → Decides (is_hindered test bs x) (IsHindered test (branch_at bs) x)
+  hindered_decides bs x are = (hindered_from bs x are.distinct, λ is. hindered_to bs x is.0 is.1 is.2)
 
-held_at : (b : BranchParts) (bs : List BranchParts) (x y : XidParts) (key : List ℕ) → y ≢ x → ((view_at bs y).touched key ≡ true → list_any (holds x key) bs ≡ true)
-    → (t : Bool) → xid_eq b.xid y ≡ t → (cond t (branch_view b) (view_at bs y)).touched key ≡ true → list_any (holds x key) (b ∷ bs) ≡ true
-held_at b bs x y key apart later true is touched =
-    let other : xid_eq b.xid x ≡ false = xid_eq-other b.xid x (λ e. apart (sym (xid_eq-is b.xid y is) ∙ e)) in
-    rw (other, touched) refl
-held_at b bs x y key apart later false is touched = rw (later touched) (or_true (holds x key b))
+-- ---- one more act on a key of a branch
 
-held_to : (bs : List BranchParts) (x y : XidParts) (key : List ℕ) → y ≢ x → (view_at bs y).touched key ≡ true → list_any (holds x key) bs ≡ true
-held_to [] x y key apart touched = absurd (cc)
-held_to (b ∷ bs) x y key apart touched = held_at b bs x y key apart (held_to bs x y key apart) (xid_eq b.xid y) refl touched
+pub ascends_touched : (b : Branch) (key : List ℕ) (act : Act) → AreAscending b.keys → AreAscending (with_touched b.keys key act)
+ascends_touched b key Act.Read ascending = changed_ascends (Get key) b ascending
+ascends_touched b key (Act.Put value) ascending = changed_ascends (Put key value) b ascending
+ascends_touched b key Act.Del ascending = changed_ascends (Del key) b ascending
 
--- the test that some other branch holds a key
-pub held_decides : (bs : List BranchParts) (x : XidParts) (key : List ℕ) → are_distinct bs ≡ true → Decides (list_any (holds x key) bs) (IsHeld (view_at bs) x key)
-held_decides bs x key apart = (held_from bs x key apart, λ held. held_to bs x held.0 key held.1 held.2)
-
--- ---- a key touched
-
-has_step : (t : TouchedParts) (ts : List TouchedParts) (key other : List ℕ) (write : Option (Option (List ℕ)))
-    → list_any (has_key other) (touch_in ts key write) ≡ (bytes_eq key other || list_any (has_key other) ts) → (b : Bool) → has_key key t ≡ b
-    → list_any (has_key other) (touch_in (t ∷ ts) key write) ≡ (bytes_eq key other || list_any (has_key other) (t ∷ ts))
-has_step t ts key other write rest true e = let same : t.key ≡ key = (bytes_eq-Decides t.key key).0 e in rw (e, ← same) (twice (bytes_eq t.key other) (list_any (has_key other) ts))
-has_step t ts key other write rest false e = rw (e, rest) (swap (bytes_eq t.key other) (bytes_eq key other) (list_any (has_key other) ts))
-
-has_touched : (all : List TouchedParts) (key other : List ℕ) (write : Option (Option (List ℕ))) → list_any (has_key other) (touch_in all key write) ≡ (bytes_eq key other || list_any (has_key other) all)
-has_touched [] key other write = refl
-has_touched (t ∷ ts) key other write = has_step t ts key other write (has_touched ts key other write) (has_key key t) refl
-
-counts_step : (t : TouchedParts) (ts : List TouchedParts) (key : List ℕ) (write : Option (Option (List ℕ)))
-    → length (touch_in ts key write) ≡ cond (list_any (has_key key) ts) (length ts) (length ts + 1) → (b : Bool) → has_key key t ≡ b
-    → length (touch_in (t ∷ ts) key write) ≡ cond (list_any (has_key key) (t ∷ ts)) (length (t ∷ ts)) (length (t ∷ ts) + 1)
-counts_step t ts key write rest true e = rw e refl
-counts_step t ts key write rest false e = rw e (ap suc rest ∙ suc_in (list_any (has_key key) ts) (length ts))
-
-counts_touched : (all : List TouchedParts) (key : List ℕ) (write : Option (Option (List ℕ))) → length (touch_in all key write) ≡ cond (list_any (has_key key) all) (length all) (length all + 1)
-counts_touched [] key write = refl
-counts_touched (t ∷ ts) key write = counts_step t ts key write (counts_touched ts key write) (has_key key t) refl
-
-write_or : Option (Option (List ℕ)) → Option (Option (List ℕ)) → Option (Option (List ℕ))
-write_or write old = cond (is_some write) write old
-
-newer_same : (b : Bool) (write old rest : Option (Option (List ℕ))) → cond b (newer write old) rest ≡ cond b (cond (is_some write) write (cond b old rest)) (cond b old rest)
-newer_same true None old rest = refl
-newer_same true (Some w) old rest = refl
-newer_same false write old rest = refl
-
-no_write : (b : Bool) (write : Option (Option (List ℕ))) → cond b write None ≡ cond b (cond (is_some write) write None) None
-no_write true None = refl
-no_write true (Some w) = refl
-no_write false write = refl
-
-writes_other : (t : TouchedParts) (ts : List TouchedParts) (key other : List ℕ) (write : Option (Option (List ℕ))) → has_key key t ≡ false
-    → written_in (touch_in ts key write) other ≡ cond (bytes_eq key other) (cond (is_some write) write (written_in ts other)) (written_in ts other) → (b : Bool) → has_key other t ≡ b
-    → cond b t.write (written_in (touch_in ts key write) other) ≡ cond (bytes_eq key other) (cond (is_some write) write (cond b t.write (written_in ts other))) (cond b t.write (written_in ts other))
-writes_other t ts key other write apart rest true e =
-    let same : t.key ≡ other = (bytes_eq-Decides t.key other).0 e in
-    let miss : bytes_eq key other ≡ false = is_no (bytes_eq key other) (λ hit. false≢true (sym apart ∙ (bytes_eq-Decides t.key key).1 (same ∙ sym ((bytes_eq-Decides key other).0 hit)))) in
-    rw miss refl
-  where
-    is_no : (b : Bool) → (b ≡ true → ⊥) → b ≡ false
-    is_no true no' = absurd (no' refl)
-    is_no false no' = refl
-writes_other t ts key other write apart rest false e = rest
-
-writes_step : (t : TouchedParts) (ts : List TouchedParts) (key other : List ℕ) (write : Option (Option (List ℕ)))
-    → written_in (touch_in ts key write) other ≡ cond (bytes_eq key other) (cond (is_some write) write (written_in ts other)) (written_in ts other) → (b : Bool) → has_key key t ≡ b
-    → written_in (touch_in (t ∷ ts) key write) other ≡ cond (bytes_eq key other) (cond (is_some write) write (written_in (t ∷ ts) other)) (written_in (t ∷ ts) other)
-writes_step t ts key other write rest true e =
-    let same : t.key ≡ key = (bytes_eq-Decides t.key key).0 e in
-    rw (e, ← same) (newer_same (bytes_eq t.key other) write t.write (written_in ts other))
-writes_step t ts key other write rest false e = rw e (writes_other t ts key other write e rest (has_key other t) refl)
-
-writes_touched : (all : List TouchedParts) (key other : List ℕ) (write : Option (Option (List ℕ))) →
-    written_in (touch_in all key write) other ≡ cond (bytes_eq key other) (cond (is_some write) write (written_in all other)) (written_in all other)
-writes_touched [] key other write = no_write (bytes_eq key other) write
-writes_touched (t ∷ ts) key other write = writes_step t ts key other write (writes_touched ts key other write) (has_key key t) refl
-
--- a branch with a key touched shows as the table of client calls says
-pub shows_touched : (b : BranchParts) (key : List ℕ) (write : Option (Option (List ℕ))) → SameView (branch_view (record { xid = b.xid; state = b.state; touched = touch_in b.touched key write })) (touch (branch_view b) key write)
-shows_touched b key write = record {
+pub shows_touched : (b : Branch) (key : List ℕ) (act : Act) → AreAscending b.keys
+    → SameView (view_of (record b { keys = with_touched b.keys key act })) (view_with_act (view_of b) key act)
+shows_touched b key act ascending = record {
   state = refl;
-  touched = λ other. has_touched b.touched key other write;
-  count = counts_touched b.touched key write;
-  written = λ other. writes_touched b.touched key other write;
+  touched = λ other. has_touched b.keys key other act;
+  count = counts_touched b.keys key act ascending;
+  act = λ other. acts_touched b.keys key other act ascending;
 }

@@ -1,5 +1,3 @@
 pub mod OneCall
 pub mod Tables
-pub mod Touching
-pub mod Rows
-pub mod Limits
+pub mod Admission

@@ -1,65 +1,65 @@
 -- One call on a branch, over any way to look at branches: the answer that it gets, and what it leaves.
-use Rattle.std.specs.Prelude.{◌≡◌, ◌≢◌, ℕ, ◌+◌, Bool, true, false, ◌||◌, if◌then◌else◌, List, Option, Some, None, is_some}
+use Rattle.std.specs.Prelude.{◌≡◌, ◌≢◌, ℕ, ◌+◌, Bool, true, false, ◌||◌, if◌then◌else◌, List, Some}
 use Rattle.std.specs.Bool.{Decides}
 use Rattle.std.specs.Str.{bytes_eq}
 use Rattle.xid.specs.Names.{XidParts}
-use Rattle.protocol.specs.declared.BranchState.{BranchState}
-use Rattle.protocol.specs.declared.BranchState.TheVariants.{Active, Idle, RollbackOnly}
-use Rattle.protocol.specs.Calls.{Action, Start, Put, Del, Get, End, EndFail, Rollback, Answer, Row}
-use Rattle.protocol.specs.Branches.{BranchView, no_branch, key_of, answer_of, is_done}
+use Rattle.stable_record.specs.declared.fact.Act.{Act}
+use Rattle.protocol.specs.declared.answers.Answer.{Answer}
+use Rattle.protocol.specs.declared.requests.Action.{Action}
+use Rattle.protocol.specs.declared.requests.Action.TheVariants.{Start, Put, Del, Get, End, EndFail, Rollback}
+use Rattle.protocol.specs.declared.rows.Row.{Row}
+use Rattle.protocol.specs.declared.states.BranchState.{BranchState}
+use Rattle.protocol.specs.Branches.{BranchView, no_branch, hinders, call_answer, is_done}
+use Rattle.protocol.specs.Managers.{last_act}
 
--- some other branch has touched the key, and so holds it
-abbrev pub IsHeld : (XidParts → BranchView) → XidParts → List ℕ → Type 0
-IsHeld at x key = (other : XidParts) × (other ≢ x) × ((at other).touched key ≡ true)
+-- some other branch hinders, which is tested of what shows of it
+abbrev pub IsHindered : (test : BranchView → Bool) → (XidParts → BranchView) → XidParts → Type 0
+IsHindered test at x = (other : XidParts) × (other ≢ x) × (test (at other) ≡ true)
 
--- whether a call's key is held by another branch
-abbrev pub IsBusy : (XidParts → BranchView) → XidParts → Option (List ℕ) → Type 0
-IsBusy at x (Some key) = IsHeld at x key
-IsBusy at x None = ⊥
-
--- the answer that a call on branch x gets, where the branches show as at says
+-- a call on branch x gets this answer, where the branches show as at says
 abbrev pub Answers : List Row → (XidParts → BranchView) → XidParts → Action → Answer → Type 0
-Answers rows at x action answer = (busy : Bool) × Decides busy (IsBusy at x (key_of action)) × (answer ≡ answer_of rows (at x) busy action)
+Answers rows at x action answer =
+    (busy : Bool) × Decides busy (IsHindered (hinders action) at x) × (answer ≡ call_answer rows (at x) busy action)
 
 -- a branch that was just started
 abbrev pub new_branch : BranchView
-new_branch = record { state = Some Active; touched = λ _. false; count = 0; written = λ _. None }
+new_branch = record { state = Some BranchState.Active; touched = λ _. false; count = 0; act = λ _. Act.Read }
 
 -- two views show the same
 pub record SameView (v w : BranchView) : Type 0 where
   pub state : v.state ≡ w.state
   pub touched : (key : List ℕ) → v.touched key ≡ w.touched key
   pub count : v.count ≡ w.count
-  pub written : (key : List ℕ) → v.written key ≡ w.written key
+  pub act : (key : List ℕ) → v.act key ≡ w.act key
 
--- one more touched key
-abbrev pub touch : BranchView → List ℕ → Option (Option (List ℕ)) → BranchView
-touch view key write = record {
+-- the view with one more act on a key
+abbrev pub view_with_act : BranchView → (key : List ℕ) → Act → BranchView
+view_with_act view key act = record {
   state = view.state;
   touched = λ other. bytes_eq key other || view.touched other;
   count = if view.touched key then view.count else view.count + 1;
-  written = λ other. if bytes_eq key other then (if is_some write then write else view.written other) else view.written other;
+  act = λ other. if bytes_eq key other then last_act (view.act other) act else view.act other;
 }
 
--- the same branch in another state
-abbrev pub in_state : BranchView → BranchState → BranchView
-in_state view state = record { state = Some state; touched = view.touched; count = view.count; written = view.written }
+-- the view in another state
+abbrev pub view_in_state : BranchView → BranchState → BranchView
+view_in_state view state = record { state = Some state; touched = view.touched; count = view.count; act = view.act }
 
--- what a call leaves where it was done
-abbrev pub done_view : BranchView → Action → BranchView
-done_view view Start = new_branch
-done_view view (Put key value) = touch view key (Some (Some value))
-done_view view (Del key) = touch view key (Some None)
-done_view view (Get key) = touch view key None
-done_view view End = in_state view Idle
-done_view view EndFail = in_state view RollbackOnly
-done_view view Rollback = no_branch
+-- the view that a call leaves which was done
+abbrev pub view_after_done : BranchView → Action → BranchView
+view_after_done view Start = new_branch
+view_after_done view (Put key value) = view_with_act view key (Act.Put value)
+view_after_done view (Del key) = view_with_act view key Act.Del
+view_after_done view (Get key) = view_with_act view key Act.Read
+view_after_done view End = view_in_state view BranchState.Idle
+view_after_done view EndFail = view_in_state view BranchState.RollbackOnly
+view_after_done view Rollback = no_branch
 
--- what a call leaves: a refused one leaves all
-abbrev pub after : BranchView → Action → Answer → BranchView
-after view action answer = if is_done action answer then done_view view action else view
+-- the view that a call leaves which was answered so: one that wasn't done leaves all
+abbrev pub view_after : BranchView → Action → Answer → BranchView
+view_after view action answer = if is_done action answer then view_after_done view action else view
 
--- a call on x leaves its own branch as `after` says, and every other one as it was
+-- a call on x leaves its own branch as `view_after` says, and every other one as it was
 pub record Leaves (old new : XidParts → BranchView) (x : XidParts) (action : Action) (answer : Answer) : Type 0 where
-  pub own : SameView (new x) (after (old x) action answer)
+  pub own : SameView (new x) (view_after (old x) action answer)
   pub others : (other : XidParts) → other ≢ x → SameView (new other) (old other)

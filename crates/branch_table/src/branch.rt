@@ -1,42 +1,28 @@
-ghost use Rattle.std.specs.Prelude.{◌≡◌, ◌++◌, ◌∷◌, [], Option, Some, None, IfSome, IfNone, OnOk, IfErr, length};
-ghost use Rattle.std.specs.List.{list_any, position};
+ghost use Rattle.std.specs.Prelude.{◌≡◌, ◌≤◌, [], vec_len, IfSome, IfNone, OnOk, IfErr, length, position, insert};
+ghost use Rattle.std.specs.Cmp.Lexicographic.{slice_cmp};
+ghost use Rattle.std.specs.Ordering.{nat_cmp, is_le};
 ghost use Rattle.std.specs.Str.{bytes_eq};
 ghost use Rattle.xid.specs.Names.{xid_eq};
 ghost use Rattle.xid.specs.declared.refusals.Refusal.TheVariants.{NoMemory};
-ghost use Rattle.branch_table.specs.Tables.{BranchParts, has_key, is_active, is_ended, written_in};
-ghost use Rattle.branch_table.specs.Touching.{write_of_act, newer, touch_in};
+ghost use Rattle.stable_record.specs.declared.fact.Act.TheVariants as acts;
+ghost use Rattle.protocol.specs.Branches.{is_write, hinders_use};
+ghost use Rattle.protocol.specs.Managers.{act_on, has_key, last_act, view_by, with_touched};
+ghost use Rattle.branch_table.specs.Admission.{is_writing};
+ghost use Rattle.branch_table.specs.Tables.{is_active, can_be_rolled_back};
 
 use protocol::BranchState;
+use stable_record::{Act, Touched};
 use std::alloc::Global;
 use std::marker::Model;
-use xid::{Refusal, Xid};
+use xid::{Bytes, Refusal, Xid};
 
-/// A branch's last write of a key that it has touched.
-#[derive(Debug, Drop)]
-pub enum Act {
-    /// It only read the key.
+/// How a call uses a key.
+#[derive(Clone, Copy, Debug, PartialEq, Eq)]
+pub enum Access {
+    /// It reads it.
     Read,
-    /// It put this value.
-    Put(Vec<u8>),
-    /// It deleted the key.
-    Del,
-}
-
-/// A key that a branch has touched, and so holds.
-#[derive(Debug, Drop)]
-pub struct Touched {
-    key: Vec<u8>,
-    act: Act,
-}
-
-impl Model for Touched {
-    ghost use Rattle.branch_table.specs.Tables.{TouchedParts};
-
-    ghost Value = { TouchedParts };
-
-    ghost use Rattle.branch_table.specs.Touching.{write_of_act};
-
-    ghost view = { λ t. record { key = t.key.items; write = write_of_act t.act } };
+    /// It puts or deletes it.
+    Write,
 }
 
 /// A branch that exists.
@@ -44,26 +30,26 @@ impl Model for Touched {
 pub struct Branch {
     xid: Xid,
     state: BranchState,
-    touched: Vec<Touched>,
+    keys: Vec<Touched>,
 }
 
 impl Model for Branch {
-    ghost use Rattle.branch_table.specs.Tables.{BranchParts};
+    ghost use Rattle.protocol.specs.Managers.{Branch as Parts};
 
-    ghost Value = { BranchParts };
+    ghost Value = { Parts };
 
-    ghost view = { λ b. record { xid = b.xid; state = b.state; touched = b.touched.items } };
+    ghost view = { λ b. record { xid = b.xid; state = b.state; keys = b.keys.items } };
 }
 
 impl Branch {
     /// A branch that was just started.
     pub fn new(alloc: Global, xid: Xid) -> Branch
-        ensures { result ≡ record { xid = xid; state = BranchState.Active; touched = [] } }
+        ensures { result ≡ record { xid = xid; state = BranchState.Active; keys = [] } }
     {
         Branch {
             xid,
             state: BranchState::Active,
-            touched: Vec::new(alloc),
+            keys: Vec::new(alloc),
         }
     }
 
@@ -82,8 +68,8 @@ impl Branch {
     }
 
     /// Whether it was ended, and isn't prepared.
-    pub fn is_ended(&self) -> bool
-        ensures { result ≡ is_ended self.now.state }
+    pub fn can_be_rolled_back(&self) -> bool
+        ensures { result ≡ can_be_rolled_back self.now.state }
     {
         matches!(self.state, BranchState::Idle | BranchState::RollbackOnly)
     }
@@ -97,92 +83,123 @@ impl Branch {
 
     /// Whether it has touched a key.
     pub fn has_touched(&self, key: &[u8]) -> bool
-        ensures { result ≡ list_any (has_key key.now) self.now.touched }
+        ensures { result ≡ has_key key.now self.now.keys }
     {
-        self.touched.iter().any(|touched| touched.is_of(key))
+        self.keys.iter().any(|touched| is_of_key(touched, key))
     }
 
     /// How many keys it has touched.
     pub fn count(&self) -> usize
-        ensures { result ≡ length self.now.touched }
+        ensures { result ≡ length self.now.keys }
     {
-        self.touched.len()
+        self.keys.len()
     }
 
-    /// Its last write of a key, if it has one.
-    pub fn written(&self, key: &[u8]) -> Option<&Act>
-        ensures some { IfSome result (λ act. write_of_act act.now ≡ written_in self.now.touched key.now) }
-        ensures none { IfNone result (written_in self.now.touched key.now ≡ None) }
+    /// Its last act on a key, if it has touched it.
+    pub fn act_on(&self, key: &[u8]) -> Option<&Act>
+        ensures some { IfSome result (λ act. act.now ≡ act_on self.now.keys key.now) }
+        ensures none { IfNone result (act_on self.now.keys key.now ≡ acts.Read) }
     {
-        last_act(&self.touched, key)
+        last_act_on(&self.keys, key)
     }
 
-    /// Notes a key as touched, and its last write where this is one. At `NoMemory`, the only refusal, nothing changes.
-    pub fn touch(&mut self, alloc: Global, key: &[u8], act: Act) -> Result<(), Refusal>
-        ensures ok { OnOk result (self.new ≡ record self.old { touched = touch_in self.old.touched key.now (write_of_act act) }) }
-        ensures err { IfErr result (λ e. (e ≡ NoMemory) × (self.new ≡ self.old)) }
+    /// Whether it has put or deleted a key.
+    pub fn has_written(&self, key: &[u8]) -> bool
+        ensures { result ≡ is_write (act_on self.now.keys key.now) }
     {
-        touch_key(alloc, &mut self.touched, key, act)
-    }
-}
-
-impl Touched {
-    fn is_of(&self, key: &[u8]) -> bool
-        ensures { result ≡ has_key key.now self.now }
-    {
-        self.key.as_slice() == key
+        matches!(self.act_on(key), Some(Act::Put(_) | Act::Del))
     }
 
-    fn act(&self) -> &Act
-        ensures { write_of_act result.now ≡ self.now.write }
+    /// Whether it hinders another branch's access to a key: to write it where it has touched it, to read it where it has put or
+    /// deleted it.
+    pub fn hinders(&self, access: Access, key: &[u8]) -> bool
+        ensures { result ≡ hinders_use (is_writing access) key.now (view_by self.now.state self.now.keys) }
     {
-        &self.act
-    }
-
-    /// Notes a later act.
-    fn note(&mut self, act: Act)
-        ensures key { self.new.key ≡ self.old.key }
-        ensures write { self.new.write ≡ newer (write_of_act act) self.old.write }
-    {
-        match act {
-            Act::Read => (),
-            act => self.act = act,
+        match access {
+            Access::Read => self.has_written(key),
+            Access::Write => self.has_touched(key),
         }
     }
+
+    /// Notes a key as touched, at its place, and its last act. At `NoMemory`, the only refusal, nothing changes.
+    pub fn touch(&mut self, alloc: Global, key: &[u8], act: Act) -> Result<(), Refusal>
+        ensures ok { OnOk result (self.new ≡ record self.old { keys = with_touched self.old.keys key.now act }) }
+        ensures err { IfErr result (λ e. (e ≡ NoMemory) × (self.new ≡ self.old)) }
+    {
+        touch_key(alloc, &mut self.keys, key, act)
+    }
 }
 
-/// The place of a key.
-fn place_of(all: &[Touched], key: &[u8]) -> Option<usize>
-    ensures { result ≡ position (has_key key.now) all.now }
+fn is_of_key(touched: &Touched, key: &[u8]) -> bool
+    ensures { result ≡ bytes_eq touched.now.key key.now }
 {
-    all.iter().position(|touched| touched.is_of(key))
+    touched.key.as_slice() == key
 }
 
-fn last_act<'a>(all: &'a [Touched], key: &[u8]) -> Option<&'a Act>
-    ensures some { IfSome result (λ act. write_of_act act.now ≡ written_in all.now key.now) }
-    ensures none { IfNone result (written_in all.now key.now ≡ None) }
+/// Whether a key stands no later than a touched one.
+fn is_up_to(key: &[u8], touched: &Touched) -> bool
+    ensures { result ≡ is_le (slice_cmp nat_cmp key.now touched.now.key) }
 {
-    for touched in all {
-        if touched.is_of(key) {
-            return Some(touched.act());
+    key.cmp(touched.key.as_slice()).is_le()
+}
+
+/// The first place of which the key isn't before this one.
+fn place_of(keys: &[Touched], key: &[u8]) -> Option<usize>
+    ensures { result ≡ position (λ touched. is_le (slice_cmp nat_cmp key.now touched.key)) keys.now }
+{
+    keys.iter().position(|touched| is_up_to(key, touched))
+}
+
+fn last_act_on<'a>(keys: &'a [Touched], key: &[u8]) -> Option<&'a Act>
+    ensures some { IfSome result (λ act. act.now ≡ act_on keys.now key.now) }
+    ensures none { IfNone result (act_on keys.now key.now ≡ acts.Read) }
+{
+    for touched in keys {
+        if is_of_key(touched, key) {
+            return Some(&touched.act);
         }
     }
     None
 }
 
-fn touch_key(alloc: Global, all: &mut Vec<Touched>, key: &[u8], act: Act) -> Result<(), Refusal>
-    ensures ok { OnOk result (all.new.items ≡ touch_in all.old.items key.now (write_of_act act)) }
-    ensures err { IfErr result (λ e. (e ≡ NoMemory) × (all.new.items ≡ all.old.items)) }
+/// Notes a later act.
+fn note(touched: &mut Touched, act: Act)
+    ensures { touched.new ≡ record touched.old { act = last_act touched.old.act act } }
 {
-    match place_of(all, key) {
-        Some(at) => {
-            let touched = &mut all[at];
-            touched.note(act);
-        }
-        None => {
-            let key = Vec::from_slice(alloc, key)?;
-            all.push(Touched { key, act })?;
-        }
+    match act {
+        Act::Read => (),
+        act => touched.act = act,
     }
+}
+
+fn insert_at(
+    alloc: Global,
+    keys: &mut Vec<Touched>,
+    at: usize,
+    key: &[u8],
+    act: Act,
+) -> Result<(), Refusal>
+    requires { at ≤ vec_len keys.old }
+    ensures ok { OnOk result (keys.new.items ≡ insert keys.old.items at (record { key = key.now; act = act })) }
+    ensures err { IfErr result (λ e. (e ≡ NoMemory) × (keys.new.items ≡ keys.old.items)) }
+{
+    let key = Bytes::copy_of(alloc, key)?;
+    keys.insert(at, Touched { key, act })?;
+    Ok(())
+}
+
+fn touch_key(alloc: Global, keys: &mut Vec<Touched>, key: &[u8], act: Act) -> Result<(), Refusal>
+    ensures ok { OnOk result (keys.new.items ≡ with_touched keys.old.items key.now act) }
+    ensures err { IfErr result (λ e. (e ≡ NoMemory) × (keys.new.items ≡ keys.old.items)) }
+{
+    let Some(at) = place_of(keys, key) else {
+        let end = keys.len();
+        return insert_at(alloc, keys, end, key, act);
+    };
+    if !is_of_key(&keys[at], key) {
+        return insert_at(alloc, keys, at, key, act);
+    }
+    let touched = &mut keys[at];
+    note(touched, act);
     Ok(())
 }

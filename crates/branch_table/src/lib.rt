@@ -2,11 +2,9 @@
 #![tactic(auto)]
 
 mod branch;
-mod row;
 mod table;
 
-pub use row::Row;
-pub use table::{BranchTable, Ending, Reading};
+pub use table::{BranchTable, Ending};
 
 #[cfg(test)]
 mod tests;

@@ -1,39 +1,21 @@
-ghost use Rattle.std.specs.Prelude.{◌≡◌, ◌≤◌, ◌<◌, ℕ, Option, Some, None, Result, Ok, Err, List, [], IfOk, IfErr, OnOk, IsTrue, length, MatchOption, true, ◌||◌, ◌&&◌, nat_lt, vec_len, unwrap_or};
-ghost use Rattle.std.specs.List.{list_any};
+ghost use Rattle.std.specs.Prelude.{◌≡◌, ◌<◌, Some, None, Ok, Err, [], IfOk, IfErr, OnOk, length, MatchOption, ◌||◌, ◌&&◌, nat_lt, vec_len};
 ghost use Rattle.xid.specs.declared.refusals.Refusal.TheVariants.{NoMemory};
-ghost use Rattle.protocol.specs.Calls.{Start, Put, Del, Get, Rollback, Code, Value, NoValue};
-ghost use Rattle.protocol.specs.Branches.{key_fits as key_fits_lem, value_fits as value_fits_lem, most_keys, found, row_at};
-ghost use Rattle.branch_table.specs.Tables.{TableParts, Steps, view_at, BranchParts, are_distinct, has_key, holds, written_in};
-ghost use Rattle.branch_table.specs.Limits.{code_answer, reading_answer, end_action, end_state, end_code, place_in, denied_answer, Admits, Touches};
-ghost use Rattle.branch_table.specs.Touching.{write_of_act};
-ghost use Rattle.branch_table.specs.Rows.{IsTable};
+ghost use Rattle.protocol.specs.declared.answers.Answer.TheVariants as answers;
+ghost use Rattle.protocol.specs.declared.requests.Action.TheVariants as actions;
+ghost use Rattle.xid.specs.Limits.{most_touched};
+ghost use Rattle.protocol.specs.Branches.{key_fits as key_fits_lem, value_fits as value_fits_lem, get_answer, row_at, value_after};
+ghost use Rattle.protocol.specs.Branches.{hinders_use};
+ghost use Rattle.protocol.specs.Managers.{act_on, has_key, is_hindered as is_hindered_lem};
+ghost use Rattle.protocol.specs.Rows.{IsTableOf};
+ghost use Rattle.branch_table.specs.Admission.{end_action, end_state, end_code, is_writing, Admits, Touches};
+ghost use Rattle.branch_table.specs.Tables.{AreTableBranches, Steps, place_in};
 
-use crate::branch::{Act, Branch};
-use crate::row::Row;
-use protocol::BranchState;
+use crate::branch::{Access, Branch};
+use protocol::{Answer, BranchState, Row};
+use stable_record::Act;
 use std::alloc::Global;
 use std::marker::Model;
-use xid::{Refusal, XaCode, Xid};
-
-/// How many bytes a key may have; it has one at least.
-pub const MAX_KEY: usize = 64;
-
-/// How many bytes a value may have.
-pub const MAX_VALUE: usize = 256;
-
-/// How many keys a branch may touch.
-pub const MAX_TOUCHED: usize = 64;
-
-/// What a get answers.
-#[derive(Debug, Drop)]
-pub enum Reading {
-    /// The value at the key.
-    Found(Vec<u8>),
-    /// There is no row of the key.
-    Missing,
-    /// The call wasn't done.
-    Code(XaCode),
-}
+use xid::{Bytes, MAX_KEY, MAX_TOUCHED, MAX_VALUE, Refusal, Sequence, XaCode, Xid};
 
 /// How a branch is ended, after the flags TMSUCCESS and TMFAIL of X/Open XA.
 #[derive(Clone, Copy, Debug, PartialEq, Eq)]
@@ -57,42 +39,8 @@ impl Ending {
     }
 }
 
-/// Why a call on a key isn't done.
-#[derive(Clone, Copy, Debug, PartialEq, Eq)]
-enum Denied {
-    NoBranch,
-    NotActive,
-    Busy,
-    Full,
-}
-
-impl Denied {
-    /// The answer.
-    fn answer(self) -> Result<XaCode, Refusal>
-        ensures { code_answer result ≡ denied_answer self }
-    {
-        match self {
-            Denied::NoBranch => Ok(XaCode::Nota),
-            Denied::NotActive => Ok(XaCode::Proto),
-            Denied::Busy => Err(Refusal::Busy),
-            Denied::Full => Err(Refusal::Full),
-        }
-    }
-
-    /// The answer of a get.
-    fn reading(self) -> Result<Reading, Refusal>
-        ensures { reading_answer result ≡ denied_answer self }
-    {
-        match self {
-            Denied::NoBranch => Ok(Reading::Code(XaCode::Nota)),
-            Denied::NotActive => Ok(Reading::Code(XaCode::Proto)),
-            Denied::Busy => Err(Refusal::Busy),
-            Denied::Full => Err(Refusal::Full),
-        }
-    }
-}
-
-/// The branches of one resource manager and its table.
+/// The branches of one resource manager and its table. Each call on a branch gives its answer. Want of memory is none: it is an
+/// `Err` of `NoMemory`, and then nothing has changed.
 #[derive(Debug, Drop)]
 pub struct BranchTable {
     alloc: Global,
@@ -101,20 +49,19 @@ pub struct BranchTable {
 }
 
 impl Model for BranchTable {
-    ghost use Rattle.std.specs.Prelude.{◌≡◌, true};
-    ghost use Rattle.branch_table.specs.Tables.{TableParts, are_distinct};
+    ghost use Rattle.branch_table.specs.Tables.{TableState, AreTableBranches};
 
-    ghost Value = { TableParts };
+    ghost Value = { TableState };
 
     ghost view = { λ t. record { rows = t.rows.items; branches = t.branches.items } };
 
-    ghost invariant = { λ t. are_distinct t.branches.items ≡ true };
+    ghost invariant = { λ t. AreTableBranches t.branches.items };
 }
 
 impl BranchTable {
     /// No branches, and a table of these rows.
     pub fn new(alloc: Global, mut rows: Vec<Row>) -> BranchTable
-        ensures rows { IsTable rows.items result.rows }
+        ensures rows { IsTableOf rows.items result.rows }
         ensures branches { result.branches ≡ [] }
     {
         rows.sort_unstable();
@@ -127,120 +74,131 @@ impl BranchTable {
 
     /// The rows of the table, in the order of their keys.
     pub fn rows(&self) -> &[Row]
-        ensures { result.now ≡ self.now.rows }
+        ensures rows { result.now ≡ self.now.rows }
+        ensures branches { AreTableBranches self.now.branches }
     {
         &self.rows
     }
 
-    /// Starts a branch (xa_start). `DupId` where it exists. At `NoMemory` nothing changes.
-    pub fn start(&mut self, xid: &Xid) -> Result<XaCode, Refusal>
-        ensures { Steps self.old self.new xid.now Start (code_answer result) }
+    /// The rows of the table alone.
+    pub fn into_rows(self) -> Vec<Row>
+        ensures { result.items ≡ self.rows }
+    {
+        self.rows
+    }
+
+    /// Starts a branch (xa_start). `DupId` where it exists, which changes nothing. Refused: `NoMemory` alone, and then nothing has changed.
+    pub fn start(&mut self, xid: &Xid) -> Result<Answer, Refusal>
+        ensures ok { IfOk result (λ answer. Steps self.old self.new xid.now actions.Start answer) }
+        ensures err { IfErr result (λ e. (e ≡ NoMemory) × (self.new ≡ self.old)) }
     {
         if place_of(&self.branches, xid).is_some() {
-            return Ok(XaCode::DupId);
+            return Ok(Answer::Code(XaCode::DupId));
         }
         self.branches.push(Branch::new(self.alloc, *xid))?;
-        Ok(XaCode::Ok)
+        Ok(Answer::Code(XaCode::Ok))
     }
 
     /// Ends an active branch (xa_end). `Ok`, or `RbRollback` where it ends as failed; `Nota` where there is no such branch,
     /// `Proto` where it isn't active.
-    pub fn end(&mut self, xid: &Xid, ending: Ending) -> XaCode
-        ensures { Steps self.old self.new xid.now (end_action ending) (Code result) }
+    pub fn end(&mut self, xid: &Xid, ending: Ending) -> Answer
+        ensures { Steps self.old self.new xid.now (end_action ending) result }
     {
         let Some(at) = place_of(&self.branches, xid) else {
-            return XaCode::Nota;
+            return Answer::Code(XaCode::Nota);
         };
         if !self.branches[at].is_active() {
-            return XaCode::Proto;
+            return Answer::Code(XaCode::Proto);
         }
         let (state, code) = ending.outcome();
         let branch = &mut self.branches[at];
         branch.set_state(state);
-        code
+        Answer::Code(code)
     }
 
     /// Rolls back a branch that was ended (xa_rollback): it becomes non-existent, and its keys are free. `Nota` where there
     /// is no such branch, `Proto` where it is active or prepared.
-    pub fn rollback(&mut self, xid: &Xid) -> XaCode
-        ensures { Steps self.old self.new xid.now Rollback (Code result) }
+    pub fn rollback(&mut self, xid: &Xid) -> Answer
+        ensures { Steps self.old self.new xid.now actions.Rollback result }
     {
         let Some(at) = place_of(&self.branches, xid) else {
-            return XaCode::Nota;
+            return Answer::Code(XaCode::Nota);
         };
-        if !self.branches[at].is_ended() {
-            return XaCode::Proto;
+        if !self.branches[at].can_be_rolled_back() {
+            return Answer::Code(XaCode::Proto);
         }
         self.branches.remove(at);
-        XaCode::Ok
+        Answer::Code(XaCode::Ok)
     }
 
     /// Puts a value at a key, for its branch alone. `Inval` for a key without bytes or with more than 64, or a value of more
     /// than 256; `Nota` where there is no such branch, `Proto` where it isn't active. Refused: `Busy` where another branch
-    /// holds the key, `Full` where this would be a 65th key, `NoMemory`; each changes nothing.
-    pub fn put(&mut self, xid: &Xid, key: &[u8], value: &[u8]) -> Result<XaCode, Refusal>
-        ensures { Steps self.old self.new xid.now (Put key.now value.now) (code_answer result) }
+    /// has touched the key, `Full` where this would be a 65th key. All these change nothing.
+    pub fn put(&mut self, xid: &Xid, key: &[u8], value: &[u8]) -> Result<Answer, Refusal>
+        ensures ok { IfOk result (λ answer. Steps self.old self.new xid.now (actions.Put key.now value.now) answer) }
+        ensures err { IfErr result (λ e. (e ≡ NoMemory) × (self.new ≡ self.old)) }
     {
         let alloc = self.alloc;
         if !put_fits(key, value) {
-            return Ok(XaCode::Inval);
+            return Ok(Answer::Code(XaCode::Inval));
         }
-        match admit(&self.branches, xid, key) {
-            Err(denied) => denied.answer(),
+        match admit(&self.branches, xid, Access::Write, key) {
+            Err(answer) => Ok(answer),
             Ok(at) => {
-                let act = Act::Put(Vec::from_slice(alloc, value)?);
+                let act = Act::Put(Bytes::copy_of(alloc, value)?);
                 touch_at(alloc, &mut self.branches, at, key, act)?;
-                Ok(XaCode::Ok)
+                Ok(Answer::Code(XaCode::Ok))
             }
         }
     }
 
     /// Deletes a key, for its branch alone; that there is no row of it is no fault. Codes and refusals are those of `put`.
-    pub fn del(&mut self, xid: &Xid, key: &[u8]) -> Result<XaCode, Refusal>
-        ensures { Steps self.old self.new xid.now (Del key.now) (code_answer result) }
+    pub fn del(&mut self, xid: &Xid, key: &[u8]) -> Result<Answer, Refusal>
+        ensures ok { IfOk result (λ answer. Steps self.old self.new xid.now (actions.Del key.now) answer) }
+        ensures err { IfErr result (λ e. (e ≡ NoMemory) × (self.new ≡ self.old)) }
     {
         let alloc = self.alloc;
         if !key_fits(key) {
-            return Ok(XaCode::Inval);
+            return Ok(Answer::Code(XaCode::Inval));
         }
-        match admit(&self.branches, xid, key) {
-            Err(denied) => denied.answer(),
+        match admit(&self.branches, xid, Access::Write, key) {
+            Err(answer) => Ok(answer),
             Ok(at) => {
                 touch_at(alloc, &mut self.branches, at, key, Act::Del)?;
-                Ok(XaCode::Ok)
+                Ok(Answer::Code(XaCode::Ok))
             }
         }
     }
 
-    /// Reads a key: the branch's own last write of it, or else the table's row. The key is held from then on. Codes and
-    /// refusals are those of `put`.
-    pub fn get(&mut self, xid: &Xid, key: &[u8]) -> Result<Reading, Refusal>
-        ensures { Steps self.old self.new xid.now (Get key.now) (reading_answer result) }
+    /// Reads a key: the branch's own last write of it, or else the table's row. The key is held from then on, shared with others that
+    /// only read it. Codes and refusals are those of `put`, but `Busy` only where another branch has put or deleted the key.
+    pub fn get(&mut self, xid: &Xid, key: &[u8]) -> Result<Answer, Refusal>
+        ensures ok { IfOk result (λ answer. Steps self.old self.new xid.now (actions.Get key.now) answer) }
+        ensures err { IfErr result (λ e. (e ≡ NoMemory) × (self.new ≡ self.old)) }
     {
         let alloc = self.alloc;
         if !key_fits(key) {
-            return Ok(Reading::Code(XaCode::Inval));
+            return Ok(Answer::Code(XaCode::Inval));
         }
-        match admit(&self.branches, xid, key) {
-            Err(denied) => denied.reading(),
+        match admit(&self.branches, xid, Access::Read, key) {
+            Err(answer) => Ok(answer),
             Ok(at) => {
-                let reading = read(alloc, &self.rows, &self.branches[at], key)?;
+                let answer = read(alloc, &self.rows, &self.branches[at], key)?;
                 touch_at(alloc, &mut self.branches, at, key, Act::Read)?;
-                Ok(reading)
+                Ok(answer)
             }
         }
     }
 
     /// The XIDs of the prepared branches, ascending. No branch is prepared yet.
-    pub fn recover(&self) -> Result<Vec<Xid>, Refusal>
-        ensures ok { IfOk result (λ xids. xids.items ≡ []) }
-        ensures err { IfErr result (λ e. e ≡ NoMemory) }
+    pub fn recover(&self) -> Answer
+        ensures { result ≡ answers.Xids [] }
     {
-        Ok(Vec::new(self.alloc))
+        Answer::Xids(Sequence::new(Vec::new(self.alloc)))
     }
 }
 
-/// Notes a key as touched by the branch at a place.
+/// Notes an act on a key at the branch at a place.
 fn touch_at(
     alloc: Global,
     branches: &mut Vec<Branch>,
@@ -249,24 +207,24 @@ fn touch_at(
     act: Act,
 ) -> Result<(), Refusal>
     requires { at < vec_len branches.old }
-    ensures ok { OnOk result (Touches branches.old.items branches.new.items at key.now (write_of_act act)) }
+    ensures ok { OnOk result (Touches branches.old.items branches.new.items at key.now act) }
     ensures err { IfErr result (λ e. (e ≡ NoMemory) × (branches.new.items ≡ branches.old.items)) }
 {
     let branch = &mut branches[at];
     branch.touch(alloc, key, act)
 }
 
-/// What a branch reads at a key.
-fn read(alloc: Global, rows: &[Row], branch: &Branch, key: &[u8]) -> Result<Reading, Refusal>
-    ensures ok { IfOk result (λ reading. reading_answer (Ok reading) ≡ found (unwrap_or (written_in branch.now.touched key.now) (row_at rows.now key.now))) }
+/// The answer of a get that reads a key.
+fn read(alloc: Global, rows: &[Row], branch: &Branch, key: &[u8]) -> Result<Answer, Refusal>
+    ensures ok { IfOk result (λ answer. answer ≡ get_answer (value_after (act_on branch.now.keys key.now) (row_at rows.now key.now))) }
     ensures err { IfErr result (λ e. e ≡ NoMemory) }
 {
-    match branch.written(key) {
-        Some(Act::Put(value)) => Ok(Reading::Found(Vec::from_slice(alloc, value)?)),
-        Some(Act::Del) => Ok(Reading::Missing),
+    match branch.act_on(key) {
+        Some(Act::Put(value)) => Ok(Answer::Value(Bytes::copy_of(alloc, value.as_slice())?)),
+        Some(Act::Del) => Ok(Answer::NoValue),
         Some(Act::Read) | None => match row_of(rows, key) {
-            Some(value) => Ok(Reading::Found(Vec::from_slice(alloc, value)?)),
-            None => Ok(Reading::Missing),
+            Some(value) => Ok(Answer::Value(Bytes::copy_of(alloc, value)?)),
+            None => Ok(Answer::NoValue),
         },
     }
 }
@@ -276,8 +234,8 @@ fn row_of<'a>(rows: &'a [Row], key: &[u8]) -> Option<&'a [u8]>
     ensures { MatchOption result (row_at rows.now key.now ≡ None) (λ value. row_at rows.now key.now ≡ Some value.now) }
 {
     for row in rows {
-        if row.key() == key {
-            return Some(row.value());
+        if row.key.as_slice() == key {
+            return Some(row.value.as_slice());
         }
     }
     None
@@ -290,13 +248,13 @@ fn place_of(branches: &[Branch], xid: &Xid) -> Option<usize>
     branches.iter().position(|branch| branch.is_of(xid))
 }
 
-/// Whether some other branch has touched a key.
-fn is_held(branches: &[Branch], xid: &Xid, key: &[u8]) -> bool
-    ensures { result ≡ list_any (holds xid.now key.now) branches.now }
+/// Whether some other branch hinders an access to a key.
+fn is_hindered(branches: &[Branch], xid: &Xid, access: Access, key: &[u8]) -> bool
+    ensures { result ≡ is_hindered_lem (hinders_use (is_writing access) key.now) branches.now xid.now }
 {
     branches
         .iter()
-        .any(|branch| !branch.is_of(xid) && branch.has_touched(key))
+        .any(|branch| !branch.is_of(xid) && branch.hinders(access, key))
 }
 
 fn key_fits(key: &[u8]) -> bool
@@ -313,28 +271,29 @@ fn put_fits(key: &[u8], value: &[u8]) -> bool
 
 /// Whether a branch may touch a key.
 fn has_room(branch: &Branch, key: &[u8]) -> bool
-    ensures { result ≡ (list_any (has_key key.now) branch.now.touched || nat_lt (length branch.now.touched) most_keys) }
+    ensures { result ≡ (has_key key.now branch.now.keys || nat_lt (length branch.now.keys) most_touched) }
 {
     branch.has_touched(key) || branch.count() < MAX_TOUCHED
 }
 
-/// Lets a call on a key in: the branch, its state, the holds of others and the room are asked for in this order.
-fn admit(branches: &[Branch], xid: &Xid, key: &[u8]) -> Result<usize, Denied>
-    requires { are_distinct branches.now ≡ true }
-    ensures { Admits branches.now xid.now key.now result }
+/// Lets a call on a key in at the place of its branch, or has its answer. The branch, its state, the holds of others and the room
+/// are asked for in this order.
+fn admit(branches: &[Branch], xid: &Xid, access: Access, key: &[u8]) -> Result<usize, Answer>
+    requires { AreTableBranches branches.now }
+    ensures { Admits branches.now xid.now (is_writing access) key.now result }
 {
     let Some(at) = place_of(branches, xid) else {
-        return Err(Denied::NoBranch);
+        return Err(Answer::Code(XaCode::Nota));
     };
     let branch = &branches[at];
     if !branch.is_active() {
-        return Err(Denied::NotActive);
+        return Err(Answer::Code(XaCode::Proto));
     }
-    if is_held(branches, xid, key) {
-        return Err(Denied::Busy);
+    if is_hindered(branches, xid, access, key) {
+        return Err(Answer::Refused(Refusal::Busy));
     }
     if !has_room(branch, key) {
-        return Err(Denied::Full);
+        return Err(Answer::Refused(Refusal::Full));
     }
     Ok(at)
 }

@@ -1,12 +1,15 @@
-use crate::{BranchTable, Ending, Reading, Row};
+use crate::{BranchTable, Ending};
+use protocol::{Answer, Row};
 use std::alloc::Global;
 use std::process::Abort;
 use std::test::Fail;
-use xid::{Refusal, XaCode, Xid};
+use xid::{Bytes, Refusal, XaCode, Xid};
 
 /// A row of these bytes.
 fn row(alloc: Global, key: &[u8], value: &[u8]) -> Result<Row, Fail> {
-    Ok(Row::new(Vec::from_slice(alloc, key)?, Vec::from_slice(alloc, value)?))
+    let key = Bytes::copy_of(alloc, key)?;
+    let value = Bytes::copy_of(alloc, value)?;
+    Ok(Row { key, value })
 }
 
 /// No branches, and a table of one row.
@@ -16,12 +19,40 @@ fn one_row(alloc: Global) -> Result<BranchTable, Fail> {
     Ok(BranchTable::new(alloc, rows))
 }
 
-/// What a get answers: the value, nothing or the code's number.
-fn shows(rt: &impl Abort, reading: Reading, value: Option<&[u8]>, number: i8) {
-    match reading {
-        Reading::Found(bytes) => assert_eq!(rt; Some(bytes.as_slice()), value),
-        Reading::Missing => assert!(rt; value.is_none() && number == 0),
-        Reading::Code(code) => assert!(rt; value.is_none() && code.number() == number),
+/// A row has this key and this value.
+fn is_row(rt: &impl Abort, row: &Row, key: &[u8], value: &[u8]) {
+    assert_eq!(rt; row.key.as_slice(), key);
+    assert_eq!(rt; row.value.as_slice(), value);
+}
+
+/// A code is answered.
+fn is_code(rt: &impl Abort, answer: Answer, code: XaCode) {
+    assert!(rt; matches!(answer, Answer::Code(other) if other == code));
+}
+
+/// A refusal is answered.
+fn is_refused(rt: &impl Abort, answer: Answer, refusal: Refusal) {
+    assert!(rt; matches!(answer, Answer::Refused(other) if other == refusal));
+}
+
+/// A value is answered.
+fn is_value(rt: &impl Abort, answer: Answer, value: &[u8]) {
+    match answer {
+        Answer::Value(bytes) => assert_eq!(rt; bytes.as_slice(), value),
+        _ => assert!(rt; false),
+    }
+}
+
+/// It is answered that there is no value.
+fn is_missing(rt: &impl Abort, answer: Answer) {
+    assert!(rt; matches!(answer, Answer::NoValue));
+}
+
+/// An empty list of branches is answered.
+fn has_no_xids(rt: &impl Abort, answer: Answer) {
+    match answer {
+        Answer::Xids(xids) => assert!(rt; xids.as_slice().is_empty()),
+        _ => assert!(rt; false),
     }
 }
 
@@ -29,29 +60,18 @@ fn shows(rt: &impl Abort, reading: Reading, value: Option<&[u8]>, number: i8) {
 fn rows(rt: HostRuntime) -> Result<(), Fail> {
     let alloc = rt.alloc();
     let mut rows = Vec::new(alloc);
-    for (key, value) in [
-        (b"b".as_slice(), b"1".as_slice()),
-        (b"ab", b""),
-        (b"a", b"2"),
-        (b"a", b"1"),
-    ] {
-        rows.push(row(alloc, key, value)?)?;
-    }
+    rows.push(row(alloc, b"b", b"1")?)?;
+    rows.push(row(alloc, b"ab", b"")?)?;
+    rows.push(row(alloc, b"a", b"2")?)?;
+    rows.push(row(alloc, b"a", b"1")?)?;
     let table = BranchTable::new(alloc, rows);
-    assert_eq!(rt; table.rows().len(), 4);
-    for (row, (key, value)) in table.rows().iter().zip([
-        (b"a".as_slice(), b"1".as_slice()),
-        (b"a", b"2"),
-        (b"ab", b""),
-        (b"b", b"1"),
-    ]) {
-        assert_eq!(rt; row.key(), key);
-        assert_eq!(rt; row.value(), value);
-    }
-    assert!(rt; row(alloc, b"a", b"1")? == row(alloc, b"a", b"1")?);
-    assert!(rt; row(alloc, b"a", b"1")? != row(alloc, b"a", b"2")?);
-    assert!(rt; row(alloc, b"a\xff", b"1")? < row(alloc, b"b", b"0")?);
-    assert_eq!(rt; table.recover()?.len(), 0);
+    let rows = table.rows();
+    assert_eq!(rt; rows.len(), 4);
+    is_row(&rt, &rows[0], b"a", b"1");
+    is_row(&rt, &rows[1], b"a", b"2");
+    is_row(&rt, &rows[2], b"ab", b"");
+    is_row(&rt, &rows[3], b"b", b"1");
+    has_no_xids(&rt, table.recover());
     Ok(())
 }
 
@@ -59,27 +79,27 @@ fn rows(rt: HostRuntime) -> Result<(), Fail> {
 fn first_branch(rt: HostRuntime) -> Result<(), Fail> {
     let mut table = one_row(rt.alloc())?;
     let x = Xid::new(1, b"t", b"a")?;
-    shows(&rt, table.get(&x, b"k")?, None, -4);
-    assert_eq!(rt; table.end(&x, Ending::Success), XaCode::Nota);
-    assert_eq!(rt; table.rollback(&x), XaCode::Nota);
-    assert_eq!(rt; table.start(&x)?, XaCode::Ok);
-    assert_eq!(rt; table.start(&x)?, XaCode::DupId);
-    shows(&rt, table.get(&x, b"k")?, Some(b"0"), 0);
-    assert_eq!(rt; table.put(&x, b"k", b"1")?, XaCode::Ok);
-    shows(&rt, table.get(&x, b"k")?, Some(b"1"), 0);
-    assert_eq!(rt; table.del(&x, b"k")?, XaCode::Ok);
-    shows(&rt, table.get(&x, b"k")?, None, 0);
-    assert_eq!(rt; table.rollback(&x), XaCode::Proto);
-    assert_eq!(rt; table.end(&x, Ending::Success), XaCode::Ok);
-    assert_eq!(rt; table.end(&x, Ending::Success), XaCode::Proto);
-    shows(&rt, table.get(&x, b"k")?, None, -6);
-    assert_eq!(rt; table.rollback(&x), XaCode::Ok);
-    shows(&rt, table.get(&x, b"k")?, None, -4);
-    assert_eq!(rt; table.start(&x)?, XaCode::Ok);
-    shows(&rt, table.get(&x, b"k")?, Some(b"0"), 0);
-    assert_eq!(rt; table.end(&x, Ending::Fail), XaCode::RbRollback);
-    assert_eq!(rt; table.del(&x, b"k")?, XaCode::Proto);
-    assert_eq!(rt; table.rollback(&x), XaCode::Ok);
+    is_code(&rt, table.get(&x, b"k")?, XaCode::Nota);
+    is_code(&rt, table.end(&x, Ending::Success), XaCode::Nota);
+    is_code(&rt, table.rollback(&x), XaCode::Nota);
+    is_code(&rt, table.start(&x)?, XaCode::Ok);
+    is_code(&rt, table.start(&x)?, XaCode::DupId);
+    is_value(&rt, table.get(&x, b"k")?, b"0");
+    is_code(&rt, table.put(&x, b"k", b"1")?, XaCode::Ok);
+    is_value(&rt, table.get(&x, b"k")?, b"1");
+    is_code(&rt, table.del(&x, b"k")?, XaCode::Ok);
+    is_missing(&rt, table.get(&x, b"k")?);
+    is_code(&rt, table.rollback(&x), XaCode::Proto);
+    is_code(&rt, table.end(&x, Ending::Success), XaCode::Ok);
+    is_code(&rt, table.end(&x, Ending::Success), XaCode::Proto);
+    is_code(&rt, table.get(&x, b"k")?, XaCode::Proto);
+    is_code(&rt, table.rollback(&x), XaCode::Ok);
+    is_code(&rt, table.get(&x, b"k")?, XaCode::Nota);
+    is_code(&rt, table.start(&x)?, XaCode::Ok);
+    is_value(&rt, table.get(&x, b"k")?, b"0");
+    is_code(&rt, table.end(&x, Ending::Fail), XaCode::RbRollback);
+    is_code(&rt, table.del(&x, b"k")?, XaCode::Proto);
+    is_code(&rt, table.rollback(&x), XaCode::Ok);
     Ok(())
 }
 
@@ -88,36 +108,72 @@ fn holds(rt: HostRuntime) -> Result<(), Fail> {
     let mut table = one_row(rt.alloc())?;
     let x = Xid::new(1, b"t", b"a")?;
     let y = Xid::new(1, b"t", b"b")?;
-    assert_eq!(rt; table.start(&x)?, XaCode::Ok);
-    assert_eq!(rt; table.start(&y)?, XaCode::Ok);
-    shows(&rt, table.get(&x, b"k")?, Some(b"0"), 0);
-    assert_eq!(rt; table.put(&y, b"k", b"2"), Err(Refusal::Busy));
-    assert_eq!(rt; table.del(&y, b"k"), Err(Refusal::Busy));
-    assert!(rt; matches!(table.get(&y, b"k"), Err(Refusal::Busy)));
-    assert_eq!(rt; table.end(&x, Ending::Success), XaCode::Ok);
-    assert_eq!(rt; table.put(&y, b"k", b"2"), Err(Refusal::Busy));
-    assert_eq!(rt; table.rollback(&x), XaCode::Ok);
-    assert_eq!(rt; table.put(&y, b"k", b"2")?, XaCode::Ok);
+    is_code(&rt, table.start(&x)?, XaCode::Ok);
+    is_code(&rt, table.start(&y)?, XaCode::Ok);
+    is_value(&rt, table.get(&x, b"k")?, b"0");
+    is_refused(&rt, table.put(&y, b"k", b"2")?, Refusal::Busy);
+    is_refused(&rt, table.del(&y, b"k")?, Refusal::Busy);
+    is_code(&rt, table.put(&x, b"k", b"1")?, XaCode::Ok);
+    is_refused(&rt, table.get(&y, b"k")?, Refusal::Busy);
+    is_code(&rt, table.end(&x, Ending::Success), XaCode::Ok);
+    is_refused(&rt, table.put(&y, b"k", b"2")?, Refusal::Busy);
+    is_code(&rt, table.rollback(&x), XaCode::Ok);
+    is_code(&rt, table.put(&y, b"k", b"2")?, XaCode::Ok);
     Ok(())
 }
 
 #[test]
-fn limits(rt: HostRuntime) -> Result<(), Fail> {
+fn shared_reads(rt: HostRuntime) -> Result<(), Fail> {
+    let mut table = one_row(rt.alloc())?;
+    let x = Xid::new(1, b"t", b"a")?;
+    let y = Xid::new(1, b"t", b"b")?;
+    is_code(&rt, table.start(&x)?, XaCode::Ok);
+    is_code(&rt, table.start(&y)?, XaCode::Ok);
+    is_value(&rt, table.get(&x, b"k")?, b"0");
+    is_value(&rt, table.get(&y, b"k")?, b"0");
+    is_refused(&rt, table.put(&x, b"k", b"1")?, Refusal::Busy);
+    is_refused(&rt, table.del(&y, b"k")?, Refusal::Busy);
+    is_code(&rt, table.end(&y, Ending::Success), XaCode::Ok);
+    is_refused(&rt, table.put(&x, b"k", b"1")?, Refusal::Busy);
+    is_code(&rt, table.rollback(&y), XaCode::Ok);
+    is_code(&rt, table.del(&x, b"k")?, XaCode::Ok);
+    is_missing(&rt, table.get(&x, b"k")?);
+    is_code(&rt, table.start(&y)?, XaCode::Ok);
+    is_refused(&rt, table.get(&y, b"k")?, Refusal::Busy);
+    Ok(())
+}
+
+#[test]
+fn lengths(rt: HostRuntime) -> Result<(), Fail> {
     let mut table = one_row(rt.alloc())?;
     let x = Xid::new(1, b"t", b"a")?;
     let long = [b'a'; 257];
-    assert_eq!(rt; table.put(&x, b"", b"1")?, XaCode::Inval);
-    assert_eq!(rt; table.del(&x, &long[..65])?, XaCode::Inval);
-    shows(&rt, table.get(&x, b"")?, None, -5);
-    assert_eq!(rt; table.start(&x)?, XaCode::Ok);
-    assert_eq!(rt; table.put(&x, b"k", &long)?, XaCode::Inval);
-    assert_eq!(rt; table.put(&x, &long[..64], &long[..256])?, XaCode::Ok);
-    for byte in 1..64u8 {
-        assert_eq!(rt; table.put(&x, &[byte], b"")?, XaCode::Ok);
+    is_code(&rt, table.put(&x, b"", b"1")?, XaCode::Inval);
+    is_code(&rt, table.del(&x, &long[..65])?, XaCode::Inval);
+    is_code(&rt, table.get(&x, b"")?, XaCode::Inval);
+    is_code(&rt, table.start(&x)?, XaCode::Ok);
+    is_code(&rt, table.put(&x, b"k", &long)?, XaCode::Inval);
+    is_code(&rt, table.put(&x, &long[..65], b"")?, XaCode::Inval);
+    is_code(&rt, table.put(&x, &long[..64], &long[..256])?, XaCode::Ok);
+    is_value(&rt, table.get(&x, &long[..64])?, &long[..256]);
+    is_code(&rt, table.put(&x, b"k", b"")?, XaCode::Ok);
+    is_value(&rt, table.get(&x, b"k")?, b"");
+    Ok(())
+}
+
+#[test]
+fn most_touched(rt: HostRuntime) -> Result<(), Fail> {
+    let mut table = one_row(rt.alloc())?;
+    let x = Xid::new(1, b"t", b"a")?;
+    is_code(&rt, table.start(&x)?, XaCode::Ok);
+    for byte in 0..64u8 {
+        is_code(&rt, table.put(&x, &[64 - byte], &[byte])?, XaCode::Ok);
     }
-    assert_eq!(rt; table.put(&x, b"k", b""), Err(Refusal::Full));
-    assert_eq!(rt; table.put(&x, &[7], b"1")?, XaCode::Ok);
-    shows(&rt, table.get(&x, &[7])?, Some(b"1"), 0);
-    assert!(rt; matches!(table.get(&x, b"k"), Err(Refusal::Full)));
+    is_refused(&rt, table.put(&x, b"k", b"")?, Refusal::Full);
+    is_refused(&rt, table.get(&x, b"k")?, Refusal::Full);
+    is_code(&rt, table.put(&x, &[7], b"1")?, XaCode::Ok);
+    is_value(&rt, table.get(&x, &[7])?, b"1");
+    is_value(&rt, table.get(&x, &[64])?, &[0]);
+    is_value(&rt, table.get(&x, &[1])?, &[63]);
     Ok(())
 }

@@ -1,173 +1,171 @@
 -- Answering events one after another agrees with looking back over all of them.
-use Rattle.std.proofs.Common.{◌≡◌, ◌∙◌, ℕ, ◌<◌, Bool, true, false, cond, ltb, MatchBool, List, [], ◌∷◌, ◌++◌, length, map, get_or, set, refl, sym, ap, subst, inl, inr, arith}
+use Rattle.std.proofs.Common.{◌≡◌, ◌∙◌, ℕ, ◌<◌, Bool, true, false, ltb, MatchBool, List, [], ◌∷◌, ◌++◌, length, map, get_or, set, refl}
+use Rattle.std.proofs.Common.{sym, ap, subst, inl, inr, arith}
 use Rattle.std.proofs.lemmas.Bool.{cases_eq, ltb-true, ltb-false}
 use Rattle.std.proofs.lemmas.List.{map-set, get_or-map, get_or-set_same, get_or-set_other, set-get_or, length-set, length-map, map_push}
-use Rattle.xid.specs.Names.{XidParts, xid_eq}
+use Rattle.xid.specs.Names.{XidParts}
 use Rattle.xid.specs.declared.refusals.Refusal.TheVariants.{NoSuch}
-use Rattle.protocol.specs.Calls.{Action, Event, Call, Recover, Answer, Refused, Xids, Row}
-use Rattle.cluster_run.specs.LookingBack.{Happened, calls_on, branches_back}
-use Rattle.branch_table.specs.OneCall.{Answers}
-use Rattle.cluster_run.proofs.Agreement.{ShowsBack, IsPlain, no_branch-plain, Answers-back, ShowsBack-call, ShowsBack-elsewhere, ShowsBack-recover, ShowsBack-none}
-use Rattle.branch_table.specs.Tables.{BranchParts, TableParts, branch_view, view_at}
-use Rattle.net_script.specs.Values.{StepParts}
-use Rattle.net_script.specs.Values as script
-use Rattle.branch_table.specs.Rows.{IsTable}
-use Rattle.cluster_run.specs.Runs.{AnswersEvent, AreAnswers, first_rows}
-use Rattle.cluster_run.specs.Managers.{IsDone, AnswersAt, AreFirst, rows_of, HaveNoBranches}
-
-abbrev pub happened : StepParts → Happened
-happened step = record { event = step.event; answer = step.answer }
+use Rattle.cluster_run.specs.Words.{Step, R, Ask, Action, Event, Call, Recover, Answer, Refused, Xids, Row}
+use Rattle.cluster_run.specs.LookingBack.{quiet_step, branches_back}
+use Rattle.cluster_run.specs.Managers.{AnswersAt, HaveFirstRows, tables_of}
+use Rattle.cluster_run.specs.Runs.{AnswersEvent, IsStep, AreSteps, first_rows_of}
+use Rattle.branch_table.specs.OneCall.{Answers, Leaves}
+use Rattle.branch_table.specs.Tables.{TableState, Steps}
+use Rattle.net_script.specs.declared.values.Table.{Table}
+use Rattle.protocol.specs.Rows.{IsTableOf}
+use Rattle.protocol.specs.Managers.{branch_at}
+use Rattle.cluster_run.proofs.Agreement.{IsPlain, plain_at, branches_back-call, branches_back-elsewhere}
 
 -- what has happened after these steps too, the newest first
-abbrev pub history_after : List Happened → List StepParts → List Happened
+abbrev pub history_after : List Step → List Step → List Step
 history_after history [] = history
-history_after history (step ∷ steps) = history_after (happened step ∷ history) steps
+history_after history (step ∷ steps) = history_after (step ∷ history) steps
 
-pub history-push : (history : List Happened) (steps : List StepParts) (step : StepParts) → history_after history (steps ++ step ∷ []) ≡ happened step ∷ history_after history steps
+history-push : (history steps : List Step) (step : Step) → history_after history (steps ++ step ∷ []) ≡ step ∷ history_after history steps
 history-push history [] step = refl
-history-push history (first ∷ steps) step = history-push (happened first ∷ history) steps step
+history-push history (first ∷ steps) step = history-push (first ∷ history) steps step
 
-pub answers-push : (tables : List (List Row)) (history : List Happened) (steps : List StepParts) (step : StepParts) → AreAnswers tables history steps
-    → AnswersEvent tables (history_after history steps) step.event step.answer → AreAnswers tables history (steps ++ step ∷ [])
+answers-push : (tables : List (List Row)) (history steps : List Step) (step : Step) → AreSteps tables history steps
+    → IsStep tables (history_after history steps) step → AreSteps tables history (steps ++ step ∷ [])
 answers-push tables history [] step h e = (e, tt)
-answers-push tables history (first ∷ steps) step h e = (h.0, answers-push tables (happened first ∷ history) steps step h.1 e)
-
--- a list of branches shows plain branches
-pub plain_at : (bs : List BranchParts) (x : XidParts) → IsPlain (view_at bs x)
-plain_at [] x = no_branch-plain
-plain_at (b ∷ bs) x = cases (xid_eq b.xid x) (plain_at bs x)
-  where
-    shown : IsPlain (branch_view b)
-    shown = record { touched = λ e. absurd (cc); count = λ e. absurd (cc); written = λ e. absurd (cc) }
-
-    cases : (t : Bool) → IsPlain (view_at bs x) → IsPlain (cond t (branch_view b) (view_at bs x))
-    cases true rest = shown
-    cases false rest = rest
+answers-push tables history (first ∷ steps) step h e = (h.0, answers-push tables (first ∷ history) steps step h.1 e)
 
 -- the resource managers after these steps: their branches show what looking back does, and each step was answered so
-pub record IsAfter (start managers : List TableParts) (steps : List StepParts) : Type 0 where
-  pub rows : rows_of managers ≡ rows_of start
-  pub shows : (rm : ℕ) (d : TableParts) → rm < length managers → ShowsBack (view_at (get_or managers rm d).branches) (λ y. calls_on rm y (history_after [] steps))
-  pub answers : AreAnswers (rows_of start) [] steps
+pub record IsAfter (start managers : List TableState) (steps : List Step) : Type 0 where
+  pub rows : tables_of managers ≡ tables_of start
+  pub shows : (rm : ℕ) (d : TableState) → rm < length managers
+      → branch_at (get_or managers rm d).branches ≡ branches_back (history_after [] steps) rm
+  pub answers : AreSteps (tables_of start) [] steps
 
-pub at_start : (start : List TableParts) → HaveNoBranches start → IsAfter start start []
-at_start start none = record {
-  rows = refl;
-  shows = λ rm d lt. subst (λ (bs : List BranchParts). ShowsBack (view_at bs) (λ y. calls_on rm y [])) (sym (none rm d lt)) (ShowsBack-none rm);
-  answers = tt;
-}
+-- one more event
+module _ (start managers : List TableState) (steps : List Step) (so_far : IsAfter start managers steps) where
+  abbrev history : List Step
+  history = history_after [] steps
 
-same_count : (start managers : List TableParts) → rows_of managers ≡ rows_of start → length managers ≡ length start
-same_count start managers e = sym (length-map managers (λ m. m.rows)) ∙ (ap length e ∙ length-map start (λ m. m.rows))
+  same_test : (rm : ℕ) → ltb rm (length (tables_of start)) ≡ ltb rm (length managers)
+  same_test rm =
+      ap (λ (tables : List (List Row)). ltb rm (length tables)) (sym so_far.rows) ∙ ap (ltb rm) (length-map managers (λ m. m.rows))
 
--- an event that leaves the resource managers as they were, and whose answer is right
-stays : (start managers : List TableParts) (steps : List StepParts) (event : Event) (answer : Answer) → IsAfter start managers steps
-    → AnswersEvent (rows_of start) (history_after [] steps) event answer
-    → ((rm : ℕ) (d : TableParts) → rm < length managers → ShowsBack (view_at (get_or managers rm d).branches) (λ y. calls_on rm y (record { event = event; answer = answer } ∷ history_after [] steps)))
-    → IsAfter start managers (steps ++ record { event = event; answer = answer } ∷ [])
-stays start managers steps event answer so_far right shows = record {
-  rows = so_far.rows;
-  shows = λ rm d lt. subst (λ (h : List Happened). ShowsBack (view_at (get_or managers rm d).branches) (λ y. calls_on rm y h)) (sym (history-push [] steps (record { event = event; answer = answer }))) (shows rm d lt);
-  answers = answers-push (rows_of start) [] steps (record { event = event; answer = answer }) so_far.answers right;
-}
+  -- it leaves the resource managers as they were, and its answer is right
+  stays : (event : Event) (answer : Answer) → AnswersEvent (tables_of start) history event answer
+      → ((q : ℕ) → q < length managers → branches_back (quiet_step event answer ∷ history) q ≡ branches_back history q)
+      → IsAfter start managers (steps ++ quiet_step event answer ∷ [])
+  stays event answer right kept = record {
+    rows = so_far.rows;
+    shows = λ q d lt.
+        so_far.shows q d lt ∙ sym (ap (λ (h : List Step). branches_back h q) (history-push [] steps (quiet_step event answer)) ∙ kept q lt);
+    answers =
+        answers-push (tables_of start) [] steps (quiet_step event answer) so_far.answers
+        (record { answers = right; now = refl; sent = refl });
+  }
 
-outside : (start managers : List TableParts) (steps : List StepParts) (rm : ℕ) → IsAfter start managers steps → ltb rm (length managers) ≡ false → ltb rm (length (rows_of start)) ≡ false
-outside start managers steps rm so_far e = rw (length-map start (λ m. m.rows), ← same_count start managers so_far.rows) e
+  recover_stays : (rm : ℕ) (answer : Answer) (inside : Bool) → ltb rm (length managers) ≡ inside
+      → MatchBool inside (answer ≡ Xids []) (answer ≡ Refused NoSuch)
+      → IsAfter start managers (steps ++ quiet_step (Ask (R rm) Recover) answer ∷ [])
+  recover_stays rm answer inside e right =
+      stays (Ask (R rm) Recover) answer
+      (subst (λ (b : Bool). MatchBool b (answer ≡ Xids []) (answer ≡ Refused NoSuch)) (sym (same_test rm ∙ e)) right) (λ q lt. refl)
 
-inside : (start managers : List TableParts) (steps : List StepParts) (rm : ℕ) → IsAfter start managers steps → ltb rm (length managers) ≡ true → ltb rm (length (rows_of start)) ≡ true
-inside start managers steps rm so_far e = rw (length-map start (λ m. m.rows), ← same_count start managers so_far.rows) e
+  IsAfter-recover : (new : List TableState) (rm : ℕ) (answer : Answer) (inside : Bool) → ltb rm (length managers) ≡ inside
+      → MatchBool inside ((answer ≡ Xids []) × (new ≡ managers)) ((answer ≡ Refused NoSuch) × (new ≡ managers))
+      → IsAfter start new (steps ++ quiet_step (Ask (R rm) Recover) answer ∷ [])
+  IsAfter-recover new rm answer true e h = rw h.1 (recover_stays rm answer true e h.0)
+  IsAfter-recover new rm answer false e h = rw h.1 (recover_stays rm answer false e h.0)
 
--- a recover
-pub after_recover : (start managers new : List TableParts) (steps : List StepParts) (rm : ℕ) (answer : Answer) (b : Bool) → ltb rm (length managers) ≡ b → IsAfter start managers steps
-    → MatchBool b ((answer ≡ Xids []) × (new ≡ managers)) ((answer ≡ Refused NoSuch) × (new ≡ managers))
-    → IsAfter start new (steps ++ record { event = Recover rm; answer = answer } ∷ [])
-after_recover start managers new steps rm answer true e so_far h =
-    rw h.1 (stays start managers steps (Recover rm) answer so_far (rw (inside start managers steps rm so_far e) h.0)
-    (λ q d lt. ShowsBack-recover q rm (view_at (get_or managers q d).branches) answer (history_after [] steps) (so_far.shows q d lt)))
-after_recover start managers new steps rm answer false e so_far h =
-    rw h.1 (stays start managers steps (Recover rm) answer so_far (rw (outside start managers steps rm so_far e) h.0)
-    (λ q d lt. ShowsBack-recover q rm (view_at (get_or managers q d).branches) answer (history_after [] steps) (so_far.shows q d lt)))
+  -- a call
+  module _ (rm : ℕ) (x : XidParts) (action : Action) (answer : Answer) where
+    abbrev step : Step
+    step = quiet_step (Ask (R rm) (Call x action)) answer
 
--- a call at a resource manager that isn't there
-after_nowhere : (start managers new : List TableParts) (steps : List StepParts) (rm : ℕ) (x : XidParts) (action : Action) (answer : Answer) → ltb rm (length managers) ≡ false
-    → IsAfter start managers steps → (answer ≡ Refused NoSuch) × (new ≡ managers) → IsAfter start new (steps ++ record { event = Call rm x action; answer = answer } ∷ [])
-after_nowhere start managers new steps rm x action answer e so_far h =
-    rw h.1 (stays start managers steps (Call rm x action) answer so_far (rw (outside start managers steps rm so_far e) h.0)
-    (λ q d lt. ShowsBack-elsewhere q rm (view_at (get_or managers q d).branches) x action answer (history_after [] steps) (λ same. past q lt same) (so_far.shows q d lt)))
-  where
-    past : (q : ℕ) → q < length managers → rm ≡ q → ⊥
-    past q lt same = let le = ltb-false rm (length managers) e in omega arith
+    nowhere_stays : ltb rm (length managers) ≡ false → answer ≡ Refused NoSuch → IsAfter start managers (steps ++ step ∷ [])
+    nowhere_stays e is =
+        stays (Ask (R rm) (Call x action)) answer (rw (same_test rm ∙ e) is)
+        (λ q lt. branches_back-elsewhere rm x action answer history q (λ same. past q lt same))
+      where
+        past : (q : ℕ) → q < length managers → rm ≡ q → ⊥
+        past q lt same = let le = ltb-false rm (length managers) e in omega arith
 
--- a call at one of them
-after_call : (start managers new : List TableParts) (steps : List StepParts) (rm : ℕ) (x : XidParts) (action : Action) (answer : Answer) (t : TableParts) → ltb rm (length managers) ≡ true
-    → IsAfter start managers steps → new ≡ set managers rm t → IsDone (get_or managers rm t) t x action answer → IsAfter start new (steps ++ record { event = Call rm x action; answer = answer } ∷ [])
-after_call start managers new steps rm x action answer t e so_far new-is is_done = record {
-  rows = rows-same;
-  shows = λ q d lt. subst (λ (h : List Happened). ShowsBack (view_at (get_or new q d).branches) (λ y. calls_on q y h)) (sym (history-push [] steps (record { event = Call rm x action; answer = answer }))) (shown q d (there q lt));
-  answers = answers-push (rows_of start) [] steps (record { event = Call rm x action; answer = answer }) so_far.answers right;
-}
-  where
-    lt : rm < length managers
-    lt = ltb-true rm (length managers) e
+    -- at one of the resource managers, which it leaves so
+    module _ (new : List TableState) (t : TableState) (inside : ltb rm (length managers) ≡ true) (set_is : new ≡ set managers rm t)
+        (called : Steps (get_or managers rm t) t x action answer) where
+      lt : rm < length managers
+      lt = ltb-true rm (length managers) inside
 
-    old : TableParts
-    old = get_or managers rm t
+      abbrev old : TableState
+      old = get_or managers rm t
 
-    history : List Happened
-    history = history_after [] steps
+      back : branch_at old.branches ≡ branches_back history rm
+      back = so_far.shows rm t lt
 
-    there : (q : ℕ) → q < length new → q < length managers
-    there q less = let same : length new ≡ length managers = ap length new-is ∙ length-set managers rm t in omega arith
+      answers : Answers old.rows (branches_back history rm) x action answer
+      answers = subst (λ (way : XidParts → _). Answers old.rows way x action answer) back called.answers
 
-    rows-same : rows_of new ≡ rows_of start
-    rows-same =
-        ap rows_of new-is ∙ (map-set (λ (m : TableParts). m.rows) managers rm t
-        ∙ (ap (set (rows_of managers) rm) (is_done.rows ∙ sym (get_or-map (λ (m : TableParts). m.rows) managers rm t [] lt)) ∙ (set-get_or (rows_of managers) rm [] ∙ so_far.rows)))
+      own_shows_back : branch_at t.branches ≡ branches_back (step ∷ history) rm
+      own_shows_back =
+          branches_back-call rm x action answer history old.rows (branch_at t.branches) answers
+          (subst (λ (way : XidParts → _). Leaves way (branch_at t.branches) x action answer) back called.leaves)
+          (subst (λ (way : XidParts → _). (y : XidParts) → IsPlain (way y)) back (plain_at old.branches))
 
-    back : ShowsBack (view_at old.branches) (λ y. calls_on rm y history)
-    back = so_far.shows rm t lt
+      shows_after : (q : ℕ) (d : TableState) → q < length managers → branch_at (get_or new q d).branches ≡ branches_back (step ∷ history) q
+      shows_after q d less = elim (cases_eq q rm) [
+        | inl same ↦
+            let here : get_or (set managers rm t) q d ≡ t =
+            ap (λ (k : ℕ). get_or (set managers rm t) k d) same ∙ get_or-set_same managers rm t d lt in
+            rw set_is (ap (λ (m : TableState). branch_at m.branches) here ∙ own_shows_back
+            ∙ ap (λ (k : ℕ). branches_back (step ∷ history) k) (sym same))
+        | inr apart ↦
+            rw set_is (ap (λ (m : TableState). branch_at m.branches) (get_or-set_other managers rm q t d apart) ∙ so_far.shows q d less
+            ∙ sym (branches_back-elsewhere rm x action answer history q (λ same. apart (sym same))))
+      ]
 
-    rows-at : get_or (rows_of start) rm [] ≡ old.rows
-    rows-at = ap (λ (all : List (List Row)). get_or all rm []) (sym so_far.rows) ∙ get_or-map (λ (m : TableParts). m.rows) managers rm t [] lt
+      same_tables : tables_of (set managers rm t) ≡ tables_of start
+      same_tables =
+          map-set (λ (m : TableState). m.rows) managers rm t
+          ∙ ap (set (tables_of managers) rm) (called.rows ∙ sym (get_or-map (λ (m : TableState). m.rows) managers rm t [] lt))
+          ∙ set-get_or (tables_of managers) rm [] ∙ so_far.rows
 
-    right : AnswersEvent (rows_of start) history (Call rm x action) answer
-    right =
-        rw (inside start managers steps rm so_far e)
-        (subst (λ (rows : List Row). Answers rows (branches_back history rm) x action answer) (sym rows-at)
-        (Answers-back old.rows rm (view_at old.branches) x action answer history back.shows is_done.answers))
+      rows_at : old.rows ≡ get_or (tables_of start) rm []
+      rows_at =
+          sym (get_or-map (λ (m : TableState). m.rows) managers rm t [] lt)
+          ∙ ap (λ (all : List (List Row)). get_or all rm []) so_far.rows
 
-    shown : (q : ℕ) (d : TableParts) → q < length managers → ShowsBack (view_at (get_or new q d).branches) (λ y. calls_on q y (record { event = Call rm x action; answer = answer } ∷ history))
-    shown q d less = elim (cases_eq q rm) [
-      | inl same ↦
-          let here : get_or new q d ≡ t = ap (λ (k : ℕ). get_or new k d) same ∙ (ap (λ (all : List TableParts). get_or all rm d) new-is ∙ get_or-set_same managers rm t d lt) in
-          subst (λ (k : ℕ). ShowsBack (view_at (get_or new q d).branches) (λ y. calls_on k y (record { event = Call rm x action; answer = answer } ∷ history))) (sym same)
-          (subst (λ (m : TableParts). ShowsBack (view_at m.branches) (λ y. calls_on rm y (record { event = Call rm x action; answer = answer } ∷ history))) (sym here)
-          (ShowsBack-call old.rows rm (view_at old.branches) (view_at t.branches) x action answer history is_done.answers is_done.leaves back (plain_at old.branches)))
-      | inr apart ↦
-          let here : get_or new q d ≡ get_or managers q d = ap (λ (all : List TableParts). get_or all q d) new-is ∙ get_or-set_other managers rm q t d apart in
-          subst (λ (m : TableParts). ShowsBack (view_at m.branches) (λ y. calls_on q y (record { event = Call rm x action; answer = answer } ∷ history))) (sym here)
-          (ShowsBack-elsewhere q rm (view_at (get_or managers q d).branches) x action answer history (λ same. apart (sym same)) (so_far.shows q d less))
-    ]
+      IsAfter-inside : IsAfter start new (steps ++ step ∷ [])
+      IsAfter-inside = record {
+        rows = ap tables_of set_is ∙ same_tables;
+        shows = λ q d less.
+            shows_after q d (let same : length new ≡ length managers = ap length set_is ∙ length-set managers rm t in omega arith)
+            ∙ sym (ap (λ (h : List Step). branches_back h q) (history-push [] steps step));
+        answers = answers-push (tables_of start) [] steps step so_far.answers (record {
+          answers =
+              rw (same_test rm ∙ inside)
+              (subst (λ (rows : List Row). Answers rows (branches_back history rm) x action answer) rows_at answers);
+          now = refl;
+          sent = refl;
+        });
+      }
 
--- one event
-pub after_event : (start managers new : List TableParts) (steps : List StepParts) (event : Event) (answer : Answer) → IsAfter start managers steps → AnswersAt managers new event answer
-    → IsAfter start new (steps ++ record { event = event; answer = answer } ∷ [])
-after_event start managers new steps (Call rm x action) answer so_far h = cases (ltb rm (length managers)) refl h
-  where
-    cases : (b : Bool) → ltb rm (length managers) ≡ b
-        → MatchBool b ((t : TableParts) × (new ≡ set managers rm t) × IsDone (get_or managers rm t) t x action answer) ((answer ≡ Refused NoSuch) × (new ≡ managers))
-        → IsAfter start new (steps ++ record { event = Call rm x action; answer = answer } ∷ [])
-    cases true e h = after_call start managers new steps rm x action answer h.0 e so_far h.1 h.2
-    cases false e h = after_nowhere start managers new steps rm x action answer e so_far h
-after_event start managers new steps (Recover rm) answer so_far h = after_recover start managers new steps rm answer (ltb rm (length managers)) refl so_far h
+    IsAfter-call : (new : List TableState) (inside : Bool) → ltb rm (length managers) ≡ inside
+        → MatchBool inside ((t : TableState) × (new ≡ set managers rm t) × Steps (get_or managers rm t) t x action answer)
+        ((answer ≡ Refused NoSuch) × (new ≡ managers))
+        → IsAfter start new (steps ++ step ∷ [])
+    IsAfter-call new true e h = IsAfter-inside new h.0 e h.1 h.2
+    IsAfter-call new false e h = rw h.1 (nowhere_stays e h.0)
 
-pub events-push : (steps : List StepParts) (events : List Event) (step : StepParts) → map (λ s. s.event) steps ≡ events → map (λ s. s.event) (steps ++ step ∷ []) ≡ events ++ step.event ∷ []
-events-push steps events step e = map_push (λ (s : StepParts). s.event) steps step ∙ ap (λ (es : List Event). es ++ step.event ∷ []) e
+  pub IsAfter-event : (new : List TableState) (event : Event) (answer : Answer) → AnswersAt managers new event answer
+      → IsAfter start new (steps ++ quiet_step event answer ∷ [])
+  IsAfter-event new (Ask (R rm) (Call x action)) answer h = IsAfter-call rm x action answer new (ltb rm (length managers)) refl h
+  IsAfter-event new (Ask (R rm) Recover) answer h = IsAfter-recover new rm answer (ltb rm (length managers)) refl h
+  IsAfter-event new event answer h = rw h.1 (stays event answer h.0 (λ q lt. refl))
+
+pub events-push : (steps : List Step) (events : List Event) (step : Step) → map (λ s. s.event) steps ≡ events
+    → map (λ s. s.event) (steps ++ step ∷ []) ≡ events ++ step.event ∷ []
+events-push steps events step e = map_push (λ (s : Step). s.event) steps step ∙ ap (λ (es : List Event). es ++ step.event ∷ []) e
 
 -- the tables of resource managers with their first contents
-pub first_tables : (tables : List script.TableParts) (n : ℕ) (managers : List TableParts) (finals : List (List Row)) → AreFirst tables n managers → finals ≡ rows_of managers
-    → (rm : ℕ) → rm < n → IsTable (first_rows tables rm) (get_or finals rm [])
-first_tables tables n managers finals first is rm lt =
-    let d : TableParts = record { rows = []; branches = [] } in
-    let within : rm < length managers = omega (arith, first.count) in
-    rw (is, get_or-map (λ (m : TableParts). m.rows) managers rm d [] within) ((first.each rm d lt).rows)
+module _ (tables : List Table) (n : ℕ) (managers : List TableState) (finals : List (List Row)) (first : HaveFirstRows tables n managers)
+    (is : finals ≡ tables_of managers) where
+  pub first_tables : (rm : ℕ) → rm < n → IsTableOf (first_rows_of tables rm) (get_or finals rm [])
+  first_tables rm lt =
+      let d : TableState = record { rows = []; branches = [] } in
+      let within : rm < length managers = omega (arith, first.count) in
+      rw (is, get_or-map (λ (m : TableState). m.rows) managers rm d [] within) ((first.each rm d lt).rows)

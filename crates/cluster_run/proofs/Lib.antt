@@ -1,3 +1,4 @@
+pub mod DoneCalls
 pub mod Agreement
 pub mod History
 pub mod MachineCalls

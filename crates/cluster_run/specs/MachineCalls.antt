@@ -2,32 +2,24 @@
 use Rattle.std.specs.Prelude.{◌≡◌, ℕ, Bool, true, List}
 use Rattle.xid.specs.Names.{XidParts}
 use Rattle.xid.specs.declared.codes.XaCode.TheVariants as code
-use Rattle.stable_record.specs.Facts.{Fact}
-use Rattle.protocol.specs.Calls.{Action, Start, Answer, Code, Row}
+use Rattle.cluster_run.specs.Words.{Fact, Action, Start, Answer, Code, Row}
 use Rattle.protocol.specs.Branches.{BranchView}
-use Rattle.protocol.specs.Effects.{Effect, Called}
+use Rattle.protocol.specs.Effects.{Effect}
 use Rattle.protocol.specs.Managers.{Branch, all_branches, branch_at}
 use Rattle.branch_table.specs.OneCall.{Answers, Leaves}
 use Rattle.safety.specs.Holds.{AreInOrder}
 
 -- how the branches of resource manager rm show, those that are prepared among them
-abbrev pub shows : (rm : ℕ) → List Fact → List Branch → XidParts → BranchView
-shows rm facts branches = branch_at (all_branches rm facts branches)
+abbrev pub branch_view : (rm : ℕ) → List Fact → List Branch → XidParts → BranchView
+branch_view rm facts branches = branch_at (all_branches rm facts branches)
 
 -- the effect of a call on branch x is that of one call: the answer that it gives, what that leaves, and the keys in order again
-pub record IsOneCall (rm : ℕ) (facts : List Fact) (branches : List Branch) (x : XidParts) (action : Action) (e : Effect (List Branch)) : Type 0 where
-  pub answer : Answer
-  pub replied : e.reply ≡ Called answer
-  pub left : Leaves (shows rm facts branches) (shows rm facts e.memory) x action answer
+pub record IsOneCall (rm : ℕ) (facts : List Fact) (branches : List Branch) (x : XidParts) (action : Action)
+    (e : Effect (List Branch)) : Type 0 where
+  pub left : Leaves (branch_view rm facts branches) (branch_view rm facts e.memory) x action e.answer
   pub ordered : AreInOrder e.memory
 
 -- the answer is that of the table of client calls; but of a spent name no branch can be started
 abbrev pub AnswersNamed : (spent : Bool) → List Row → (XidParts → BranchView) → XidParts → Action → Answer → Type 0
 AnswersNamed true rows at x Start answer = answer ≡ Code code.DupId
 AnswersNamed spent rows at x action answer = Answers rows at x action answer
-
--- the effect of a call replies with that answer
-pub record IsAnswered (spent : Bool) (rows : List Row) (at : XidParts → BranchView) (x : XidParts) (action : Action) (e : Effect (List Branch)) : Type 0 where
-  pub answer : Answer
-  pub replied : e.reply ≡ Called answer
-  pub answered : AnswersNamed spent rows at x action answer

@@ -1,55 +1,66 @@
 -- What a script's run is: each answer by looking back over the calls, and the tables at the end.
-use Rattle.std.specs.Prelude.{◌≡◌, ◌⊎◌, ℕ, ◌<◌, Bool, ◌&&◌, ◌||◌, ◌==◌, nat_le, nat_lt, if◌then◌else◌, true, false, MatchBool, List, [], ◌∷◌, length, map, slice_index_or}
+use Rattle.std.specs.Prelude.{◌≡◌, ◌⊎◌, ℕ, ◌<◌, Bool, ◌&&◌, ◌||◌, ◌==◌, nat_le, nat_lt, if◌then◌else◌, true, false, MatchBool, List, []}
+use Rattle.std.specs.Prelude.{◌∷◌, length, map, slice_index_or, None}
 use Rattle.xid.specs.declared.refusals.Refusal.{Refusal}
 use Rattle.xid.specs.declared.refusals.Refusal.TheVariants.{NoMemory, NoSuch, BadScript, BadConfig}
-use Rattle.protocol.specs.Calls.{Event, Call, Recover, Answer, Refused, Xids, Row}
-use Rattle.cluster_run.specs.LookingBack.{Happened, branches_back}
+use Rattle.xid.specs.Limits.{most_leaders, most_managers}
+use Rattle.cluster_run.specs.Words.{R, Event, Ask, Call, Recover, Answer, Refused, Xids, Row, Step}
+use Rattle.cluster_run.specs.LookingBack.{branches_back}
+use Rattle.protocol.specs.Rows.{IsTableOf}
 use Rattle.branch_table.specs.OneCall.{Answers}
-use Rattle.branch_table.specs.Rows.{IsTable}
 use Rattle.net_script.specs.declared.values.Sizes.{Sizes}
-use Rattle.net_script.specs.Values.{TableParts, ScriptParts, StepParts, TraceParts}
-use Rattle.net_script.specs.Scripts.{Spells, IsFirstFault}
+use Rattle.net_script.specs.declared.values.Table.{Table}
+use Rattle.net_script.specs.declared.values.Script.{Script}
+use Rattle.net_script.specs.declared.values.Trace.{Trace}
+use Rattle.net_script.specs.Scripts.{SpellsScript, IsFirstFault}
 use Rattle.net_script.specs.Traces.{trace_text}
 
--- 1, 3, 5 or 7 acceptors, 1 to 4 leaders, 1 to 8 resource managers
-abbrev pub in_limits : Sizes → Bool
-in_limits s =
+-- whether there are 1, 3, 5 or 7 acceptors, and no more leaders and resource managers than there may be
+abbrev pub is_in_limits : Sizes → Bool
+is_in_limits s =
     (s.acceptors == 1 || s.acceptors == 3 || s.acceptors == 5 || s.acceptors == 7)
-    && (nat_le 1 s.leaders && nat_le s.leaders 4) && (nat_le 1 s.rms && nat_le s.rms 8)
+    && (nat_le 1 s.leaders && nat_le s.leaders most_leaders) && (nat_le 1 s.rms && nat_le s.rms most_managers)
 
 -- the first contents of a resource manager's table: none where no line of the script gives it
-abbrev pub first_rows : List TableParts → ℕ → List Row
-first_rows [] rm = []
-first_rows (table ∷ tables) rm = if table.rm == rm then table.rows else first_rows tables rm
+abbrev pub first_rows_of : List Table → ℕ → List Row
+first_rows_of [] rm = []
+first_rows_of (table ∷ tables) rm = if table.rm == rm then table.rows else first_rows_of tables rm
 
--- the answer of an event after what has happened, the newest first. A resource manager outside the cluster is refused; no
--- branch is prepared, so a recover lists none
-abbrev pub AnswersEvent : (tables : List (List Row)) → List Happened → Event → Answer → Type 0
-AnswersEvent tables history (Call rm x action) answer =
-    MatchBool (nat_lt rm (length tables)) (Answers (slice_index_or tables rm []) (branches_back history rm) x action answer) (answer ≡ Refused NoSuch)
-AnswersEvent tables history (Recover rm) answer = MatchBool (nat_lt rm (length tables)) (answer ≡ Xids []) (answer ≡ Refused NoSuch)
+-- the answer of an event after what has happened, the newest first. At a resource manager outside the cluster it is refused, and so is
+-- whatever no script of today says; no branch is prepared, so a recover lists none
+abbrev pub AnswersEvent : (tables : List (List Row)) → List Step → Event → Answer → Type 0
+AnswersEvent tables history (Ask (R rm) (Call x action)) answer =
+    MatchBool (nat_lt rm (length tables)) (Answers (slice_index_or tables rm []) (branches_back history rm) x action answer)
+    (answer ≡ Refused NoSuch)
+AnswersEvent tables history (Ask (R rm) Recover) answer = MatchBool (nat_lt rm (length tables)) (answer ≡ Xids []) (answer ≡ Refused NoSuch)
+AnswersEvent tables history event answer = answer ≡ Refused NoSuch
 
--- each answer, one event after another
-abbrev pub AreAnswers : (tables : List (List Row)) → List Happened → List StepParts → Type 0
-AreAnswers tables history [] = Unit {0}
-AreAnswers tables history (step ∷ steps) =
-    AnswersEvent tables history step.event step.answer × AreAnswers tables (record { event = step.event; answer = step.answer } ∷ history) steps
+-- a step after what has happened: its answer is right, it changes no view and sends nothing
+pub record IsStep (tables : List (List Row)) (history : List Step) (step : Step) : Type 0 where
+  pub answers : AnswersEvent tables history step.event step.answer
+  pub now : step.now ≡ None
+  pub sent : step.sent ≡ []
+
+-- each step, one after another
+abbrev pub AreSteps : (tables : List (List Row)) → List Step → List Step → Type 0
+AreSteps tables history [] = Unit {0}
+AreSteps tables history (step ∷ steps) = IsStep tables history step × AreSteps tables (step ∷ history) steps
 
 -- the trace of a script. No call commits yet, so each table is its first contents at the end too
-pub record IsTraceOf (s : ScriptParts) (t : TraceParts) : Type 0 where
+pub record IsTraceOf (s : Script) (t : Trace) : Type 0 where
   pub sizes : t.sizes ≡ s.sizes
   pub tables : t.tables ≡ s.tables
   pub events : map (λ step. step.event) t.steps ≡ s.events
   pub managers : length t.finals ≡ s.sizes.rms
-  pub finals : (rm : ℕ) → rm < s.sizes.rms → IsTable (first_rows s.tables rm) (slice_index_or t.finals rm [])
-  pub answers : AreAnswers t.finals [] t.steps
+  pub finals : (rm : ℕ) → rm < s.sizes.rms → IsTableOf (first_rows_of s.tables rm) (slice_index_or t.finals rm [])
+  pub steps : AreSteps t.finals [] t.steps
 
 -- the bytes spell a script within the limits, and the output is the text of its trace
 pub record IsRun (bytes output : List ℕ) : Type 0 where
-  pub script : ScriptParts
-  pub spelled : Spells bytes script
-  pub limits : in_limits script.sizes ≡ true
-  pub trace : TraceParts
+  pub script : Script
+  pub spelled : SpellsScript bytes script
+  pub limits : is_in_limits script.sizes ≡ true
+  pub trace : Trace
   pub is_trace : IsTraceOf script trace
   pub text : output ≡ trace_text trace
 
@@ -57,4 +68,4 @@ pub record IsRun (bytes output : List ℕ) : Type 0 where
 abbrev pub RefusesRun : List ℕ → Refusal → Type 0
 RefusesRun bytes e =
     (e ≡ NoMemory) ⊎ ((line : ℕ) × (e ≡ BadScript line) × IsFirstFault bytes line)
-    ⊎ ((script : ScriptParts) × Spells bytes script × (in_limits script.sizes ≡ false) × (e ≡ BadConfig))
+    ⊎ ((script : Script) × SpellsScript bytes script × (is_in_limits script.sizes ≡ false) × (e ≡ BadConfig))

@@ -60,10 +60,10 @@ fn refusals(rt: HostRuntime) {
         (b"cluster acceptors 9 leaders 1 rms 1\n", (13, 0)),
         (b"cluster acceptors 1 leaders 5 rms 1\n", (13, 0)),
         (b"cluster acceptors 1 leaders 0 rms 1\n", (13, 0)),
-        (b"cluster acceptors 1 leaders 1 rms 9\n", (13, 0)),
+        (b"cluster acceptors 1 leaders 1 rms 65\n", (13, 0)),
         (b"cluster acceptors 1 leaders 1 rms 0\n", (13, 0)),
         (b"cluster acceptors 2 leaders 1 rms 1\nstop r0\n", (7, 2)),
-        (b"cluster acceptors 5 leaders 1 rms 8\n", (0, 0)),
+        (b"cluster acceptors 5 leaders 1 rms 64\n", (0, 0)),
     ] {
         assert_eq!(rt; refused(rt.alloc(), script), want);
     }

@@ -1,31 +1,36 @@
 -- One reading of a text, and one first fault.
-use Rattle.std.proofs.Common.{zero, suc, ◌≡◌, ℕ, ◌+◌, ◌-◌, ◌<◌, ◌≤◌, true, not, ◌&&◌, List, [], ◌∷◌, ◌++◌, length, get_or, take, drop, map, refl, sym, ap, subst, ◌∙◌, arith, ◌⊎◌, inl, inr}
+use Rattle.std.proofs.Common.{zero, suc, ◌≡◌, ℕ, ◌+◌, ◌-◌, ◌<◌, ◌≤◌, true, not, ◌&&◌, List, [], ◌∷◌, ◌++◌, length, get_or, take}
+use Rattle.std.proofs.Common.{drop, map, refl, sym, ap, subst, ◌∙◌, arith, ◌⊎◌, inl, inr}
 use Rattle.std.specs.List.{AllPairs, list_all}
 use Rattle.std.proofs.lemmas.Bool.{cases_lt}
 use Rattle.std.proofs.lemmas.List.{map-append, take-append-drop, take-take, take_at, take-map, length-map, length-take, get_or-take}
 use Rattle.std.proofs.lemmas.List.Elements.{All-take, filter-append}
 use Rattle.std.proofs.lemmas.List.Folds.{list_all-append}
 use Rattle.xid.proofs.Texts.{first_true}
-use Rattle.protocol.specs.Calls as calls
 use Rattle.net_script.specs.declared.values.Sizes.{Sizes}
-use Rattle.net_script.specs.Values.{TableParts, ScriptParts}
-use Rattle.net_script.specs.Words.{words, is_plain}
-use Rattle.net_script.specs.Items.{ItemParts, Cluster, Contents, Do, IsTable, IsEvent, item_words}
-use Rattle.net_script.specs.Scripts.{is_note, kept, items_of, IsScript, SpelledBy, CanBegin, FailsAt}
-use Rattle.net_script.proofs.ScriptLemmas.{items_injective, items_valid}
+use Rattle.net_script.specs.Basics.{Event}
+use Rattle.net_script.specs.declared.values.Table.{Table}
+use Rattle.net_script.specs.declared.values.Script.{Script}
+use Rattle.net_script.specs.declared.items.Item.{Item}
+use Rattle.net_script.specs.declared.items.Item.TheVariants.{Cluster, Contents, Do}
+use Rattle.net_script.specs.Lines.{words, is_plain}
+use Rattle.net_script.specs.Items.{IsContents, IsEvent, item_words}
+use Rattle.net_script.specs.Scripts.{is_note, lines_kept, script_items, IsScript, SpelledBy, CanBegin, FailsAt}
+use Rattle.net_script.proofs.ScriptLemmas.{items_have_one_text, items_valid}
+use Rattle.net_script.proofs.OneText.{texts_injective}
 
 -- ---- one reading
 
-events_same : (es fs : List calls.Event) → map Do es ≡ map Do fs → es ≡ fs
+events_same : (es fs : List Event) → map Do es ≡ map Do fs → es ≡ fs
 events_same [] [] e = refl
 events_same [] (f ∷ fs) e = absurd (cc)
 events_same (x ∷ es) [] e = absurd (cc)
 events_same (x ∷ es) (f ∷ fs) e =
     let head : x ≡ f = cc in
     let tail : es ≡ fs = events_same es fs (cc) in
-    ap (λ (z : calls.Event). z ∷ es) head ∙ ap (λ (zs : List calls.Event). f ∷ zs) tail
+    cc
 
-parts_same : (ts us : List TableParts) (es fs : List calls.Event) → map Contents ts ++ map Do es ≡ map Contents us ++ map Do fs → (ts ≡ us) × (es ≡ fs)
+parts_same : (ts us : List Table) (es fs : List Event) → map Contents ts ++ map Do es ≡ map Contents us ++ map Do fs → (ts ≡ us) × (es ≡ fs)
 parts_same [] [] es fs e = (refl, events_same es fs e)
 parts_same [] (u ∷ us) [] fs e = absurd (cc)
 parts_same [] (u ∷ us) (x ∷ es) fs e = absurd (cc)
@@ -34,22 +39,29 @@ parts_same (t ∷ ts) [] es (f ∷ fs) e = absurd (cc)
 parts_same (t ∷ ts) (u ∷ us) es fs e =
     let head : t ≡ u = cc in
     let tail = parts_same ts us es fs (cc) in
-    (ap (λ (z : TableParts). z ∷ ts) head ∙ ap (λ (zs : List TableParts). u ∷ zs) tail.0, tail.1)
+    let tables : ts ≡ us = tail.0 in
+    (cc, tail.1)
 
-scripts_same : (s t : ScriptParts) → items_of s ≡ items_of t → s ≡ t
+-- a script of these parts
+abbrev script : Sizes → List Table → List Event → Script
+script sizes tables events = record { sizes = sizes; tables = tables; events = events }
+
+scripts_same : (s t : Script) → script_items s ≡ script_items t → s ≡ t
 scripts_same s t e =
     let sizes : s.sizes ≡ t.sizes = cc in
     let parts = parts_same s.tables t.tables s.events t.events (cc) in
-    ap (λ (z : Sizes). record { sizes = z; tables = s.tables; events = s.events }) sizes
-    ∙ ap (λ (ts : List TableParts). record { sizes = t.sizes; tables = ts; events = s.events }) parts.0
-    ∙ ap (λ (es : List calls.Event). record { sizes = t.sizes; tables = t.tables; events = es }) parts.1
+    let same : script s.sizes s.tables s.events ≡ script t.sizes t.tables t.events = cc in
+    same
 
-pub one_script : (ls : List (List ℕ)) (s t : ScriptParts) → SpelledBy ls s → SpelledBy ls t → s ≡ t
-one_script ls s t p q = scripts_same s t (items_injective (items_of s) (items_of t) (items_valid s p.valid) (items_valid t q.valid) (sym p.says ∙ q.says))
+pub one_script : (ls : List (List ℕ)) (s t : Script) → SpelledBy ls s → SpelledBy ls t → s ≡ t
+one_script ls s t p q = scripts_same s t
+    (texts_injective items_have_one_text (script_items s) (script_items t) (items_valid s p.valid) (items_valid t q.valid)
+    (sym p.says ∙ q.says))
 
 -- ---- the front of a script
 
-take_parts : (n : ℕ) (ts : List TableParts) (es : List calls.Event) → take n (map Contents ts ++ map Do es) ≡ map Contents (take n ts) ++ map Do (take (n - length ts) es)
+take_parts : (n : ℕ) (ts : List Table) (es : List Event)
+    → take n (map Contents ts ++ map Do es) ≡ map Contents (take n ts) ++ map Do (take (n - length ts) es)
 take_parts zero [] es = refl
 take_parts (suc n) [] es =
     let all : suc n ≡ suc n - 0 = omega arith in
@@ -59,7 +71,7 @@ take_parts zero (t ∷ ts) es =
     ap (λ (k : ℕ). map Do (take k es)) none
 take_parts (suc n) (t ∷ ts) es =
     let same : n - length ts ≡ suc n - suc (length ts) = omega arith in
-    ap (λ (l : List ItemParts). Contents t ∷ l) (take_parts n ts es ∙ ap (λ (k : ℕ). map Contents (take n ts) ++ map Do (take k es)) same)
+    ap (λ (l : List Item). Contents t ∷ l) (take_parts n ts es ∙ ap (λ (k : ℕ). map Contents (take n ts) ++ map Do (take k es)) same)
 
 pairs_take : {X : Type 0} (R : X → X → Type 0) (n : ℕ) (xs : List X) → AllPairs R xs → AllPairs R (take n xs)
 pairs_take {X = X} R n xs pairs i j d lt within =
@@ -69,21 +81,21 @@ pairs_take {X = X} R n xs pairs i j d lt within =
     let right : get_or (take n xs) j d ≡ get_or xs j d = get_or-take n xs j d len in
     subst (λ (x : X). R x (get_or (take n xs) j d)) (sym left) (subst (λ (y : X). R (get_or xs i d) y) (sym right) (pairs i j d lt all))
 
-abbrev front_of : ℕ → ScriptParts → ScriptParts
+abbrev front_of : ℕ → Script → Script
 front_of n s = record { sizes = s.sizes; tables = take n s.tables; events = take (n - length s.tables) s.events }
 
-front_valid : (n : ℕ) (s : ScriptParts) → IsScript s → IsScript (front_of n s)
+front_valid : (n : ℕ) (s : Script) → IsScript s → IsScript (front_of n s)
 front_valid n s is = record {
   sizes = is.sizes;
-  tables = All-take IsTable n s.tables is.tables;
-  managers = All-take (λ (t : TableParts). t.rm < s.sizes.rms) n s.tables is.managers;
-  once = pairs_take (λ (a b : TableParts). a.rm ≡ b.rm → ⊥) n s.tables is.once;
+  tables = All-take IsContents n s.tables is.tables;
+  managers = All-take (λ (t : Table). t.rm < s.sizes.rms) n s.tables is.managers;
+  once = pairs_take (λ (a b : Table). a.rm ≡ b.rm → ⊥) n s.tables is.once;
   events = All-take IsEvent (n - length s.tables) s.events is.events;
 }
 
 -- the first lines of those that say a script, if there are any, say one too
-front_says : (ks more : List (List ℕ)) (s : ScriptParts) → IsScript s → map words (ks ++ more) ≡ map item_words (items_of s)
-    → (ks ≡ []) ⊎ ((r : ScriptParts) × IsScript r × (map words ks ≡ map item_words (items_of r)))
+front_says : (ks more : List (List ℕ)) (s : Script) → IsScript s → map words (ks ++ more) ≡ map item_words (script_items s)
+    → (ks ≡ []) ⊎ ((r : Script) × IsScript r × (map words ks ≡ map item_words (script_items r)))
 front_says [] more s is e = inl refl
 front_says (k ∷ ks) more s is e =
     let n : ℕ = length ks in
@@ -92,21 +104,27 @@ front_says (k ∷ ks) more s is e =
     let front : take n (map words (ks ++ more)) ≡ map words ks =
     ap (take n) (map-append words ks more) ∙ take_at (map words ks) (map words more) n (length-map ks words) in
     let tail : map words ks ≡ map item_words (map Contents (take n s.tables) ++ map Do (take (n - length s.tables) s.events)) =
-    sym front ∙ (ap (take n) rest ∙ (take-map item_words n (map Contents s.tables ++ map Do s.events) ∙ ap (map item_words) (take_parts n s.tables s.events))) in
-    inr (front_of n s, front_valid n s is, ap (λ (w : List (List ℕ)). w ∷ map words ks) head ∙ ap (λ (ws : List (List (List ℕ))). item_words (Cluster s.sizes) ∷ ws) tail)
+    sym front
+    ∙ (ap (take n) rest
+    ∙ (take-map item_words n (map Contents s.tables ++ map Do s.events) ∙ ap (map item_words) (take_parts n s.tables s.events))) in
+    let both : words k ∷ map words ks ≡ map item_words (script_items (front_of n s)) = cc in
+    inr (front_of n s, front_valid n s is, both)
 
 no_front : {X : Type 0} (xs ys : List X) → xs ++ ys ≡ [] → xs ≡ []
 no_front [] ys e = refl
 no_front (x ∷ xs) ys e = absurd (cc)
 
 begins_front : (xs ys : List (List ℕ)) → CanBegin (xs ++ ys) → CanBegin xs
-begins_front xs ys (inl none) = inl (no_front (kept xs) (kept ys) (sym (filter-append (λ line. not (is_note (words line))) xs ys) ∙ none))
+begins_front xs ys (inl none) =
+    inl (no_front (lines_kept xs) (lines_kept ys) (sym (filter-append (λ line. not (is_note (words line))) xs ys) ∙ none))
 begins_front xs ys (inr (s, spelled)) =
-    let parts : kept (xs ++ ys) ≡ kept xs ++ kept ys = filter-append (λ line. not (is_note (words line))) xs ys in
-    let plain : (list_all (list_all is_plain) (kept xs) && list_all (list_all is_plain) (kept ys)) ≡ true =
-    sym (list_all-append (list_all is_plain) (kept xs) (kept ys)) ∙ (ap (list_all (list_all is_plain)) (sym parts) ∙ spelled.plain) in
-    let own : list_all (list_all is_plain) (kept xs) ≡ true = first_true (list_all (list_all is_plain) (kept xs)) (list_all (list_all is_plain) (kept ys)) plain in
-    elim (front_says (kept xs) (kept ys) s spelled.valid (ap (map words) (sym parts) ∙ spelled.says)) [
+    let parts : lines_kept (xs ++ ys) ≡ lines_kept xs ++ lines_kept ys = filter-append (λ line. not (is_note (words line))) xs ys in
+    let plain : (list_all (list_all is_plain) (lines_kept xs) && list_all (list_all is_plain) (lines_kept ys)) ≡ true =
+    sym (list_all-append (list_all is_plain) (lines_kept xs) (lines_kept ys))
+    ∙ (ap (list_all (list_all is_plain)) (sym parts) ∙ spelled.plain) in
+    let own : list_all (list_all is_plain) (lines_kept xs) ≡ true =
+    first_true (list_all (list_all is_plain) (lines_kept xs)) (list_all (list_all is_plain) (lines_kept ys)) plain in
+    elim (front_says (lines_kept xs) (lines_kept ys) s spelled.valid (ap (map words) (sym parts) ∙ spelled.says)) [
       | inl none ↦ inl none
       | inr found ↦ inr (found.0, record { plain = own; says = found.2; valid = found.1 })
     ]
@@ -116,17 +134,19 @@ begins_take n ls can = begins_front (take n ls) (drop n ls) (subst CanBegin (sym
 
 -- ---- the first fault
 
-pub spelled_has_no_fault : (ls : List (List ℕ)) (s : ScriptParts) (n : ℕ) → SpelledBy ls s → FailsAt ls n ⊎ ((kept ls ≡ []) × (n ≡ length ls + 1)) → ⊥
+pub spelled_has_no_fault : (ls : List (List ℕ)) (s : Script) (n : ℕ) → SpelledBy ls s
+    → FailsAt ls n ⊎ ((lines_kept ls ≡ []) × (n ≡ length ls + 1)) → ⊥
 spelled_has_no_fault ls s n spelled (inl fault) = fault.fails (begins_take n ls (inr (s, spelled)))
 spelled_has_no_fault ls s n spelled (inr silent) =
-    let none : [] ≡ map item_words (items_of s) = ap (map words) (sym silent.0) ∙ spelled.says in absurd (cc)
+    let none : [] ≡ map item_words (script_items s) = ap (map words) (sym silent.0) ∙ spelled.says in absurd (cc)
 
 fault_once : (ls : List (List ℕ)) (m n : ℕ) → FailsAt ls m → FailsAt ls n → m < n → ⊥
 fault_once ls m n p q lt =
     let short : m ≤ q.before = let c = q.counted in omega arith in
     p.fails (subst CanBegin (take-take m q.before ls short) (begins_take m (take q.before ls) q.can))
 
-pub one_fault : (ls : List (List ℕ)) (m n : ℕ) → FailsAt ls m ⊎ ((kept ls ≡ []) × (m ≡ length ls + 1)) → FailsAt ls n ⊎ ((kept ls ≡ []) × (n ≡ length ls + 1)) → m ≡ n
+pub one_fault : (ls : List (List ℕ)) (m n : ℕ) → FailsAt ls m ⊎ ((lines_kept ls ≡ []) × (m ≡ length ls + 1))
+    → FailsAt ls n ⊎ ((lines_kept ls ≡ []) × (n ≡ length ls + 1)) → m ≡ n
 one_fault ls m n (inl p) (inl q) =
     elim (cases_lt m n) [
       | inl lt ↦ absurd (fault_once ls m n p q lt)

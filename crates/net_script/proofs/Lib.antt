@@ -1,3 +1,4 @@
+pub mod OneText
 pub mod WordLemmas
 pub mod TableLemmas
 pub mod ItemLemmas

@@ -1,5 +1,6 @@
-pub mod Values
-pub mod Words
+pub mod Basics
+pub mod Lines
 pub mod Items
 pub mod Scripts
+pub mod Messages
 pub mod Traces

@@ -1,47 +1,49 @@
 -- Which texts spell a script, and which line of one that spells none is the first at fault.
-use Rattle.std.specs.Prelude.{◌≡◌, ◌≢◌, ℕ, suc, ◌+◌, ◌<◌, ◌⊎◌, List, [], ◌∷◌, ◌++◌, length, take, map, Bool, true, false, not, ◌==◌, Option, Some, None, Result, Ok, Err}
+use Rattle.std.specs.Prelude.{◌≡◌, ◌≢◌, ℕ, suc, ◌+◌, ◌<◌, ◌⊎◌, List, [], ◌∷◌, ◌++◌, length, take, map, Bool, true, false, not}
+use Rattle.std.specs.Prelude.{◌==◌, Option, Some, None, Result, Ok, Err}
 use Rattle.std.specs.List.{All, AllPairs, list_all, filter}
-use Rattle.xid.specs.declared.refusals.Refusal.{Refusal}
-use Rattle.xid.specs.declared.refusals.Refusal.TheVariants.{NoMemory, BadScript}
+use Rattle.net_script.specs.Basics.{Refusal, NoMemory, BadScript}
 use Rattle.net_script.specs.declared.values.Script.{Script}
-use Rattle.net_script.specs.Values.{ScriptParts, script_of}
-use Rattle.net_script.specs.Words.{lines, words, is_plain}
-use Rattle.net_script.specs.Items.{ItemParts, Cluster, Contents, Do, IsSizes, IsTable, IsEvent, IsItem, item_words}
+use Rattle.net_script.specs.declared.items.Item.{Item}
+use Rattle.net_script.specs.declared.items.Item.TheVariants.{Cluster, Contents, Do}
+use Rattle.net_script.specs.Lines.{lines, words, is_plain}
+use Rattle.net_script.specs.Items.{IsSizes, IsContents, IsEvent, IsItem, item_words}
 
--- a line of these words is passed over: it has none, or the first begins with `#`
+-- whether a line of these words is passed over: it has none, or the first begins with `#`
 abbrev pub is_note : List (List ℕ) → Bool
 is_note [] = true
 is_note ([] ∷ rest) = false
 is_note ((byte ∷ more) ∷ rest) = byte == 35
 
 -- the lines that aren't passed over
-abbrev pub kept : List (List ℕ) → List (List ℕ)
-kept ls = filter (λ line. not (is_note (words line))) ls
+abbrev pub lines_kept : List (List ℕ) → List (List ℕ)
+lines_kept ls = filter (λ line. not (is_note (words line))) ls
 
 -- first the cluster, then the tables, then the events
-abbrev pub items_of : ScriptParts → List ItemParts
-items_of s = Cluster s.sizes ∷ (map Contents s.tables ++ map Do s.events)
+abbrev pub script_items : Script → List Item
+script_items s = Cluster s.sizes ∷ (map Contents s.tables ++ map Do s.events)
 
 -- tables are of the cluster's resource managers, at most one for each
-pub record IsScript (s : ScriptParts) : Type 0 where
+pub record IsScript (s : Script) : Type 0 where
   pub sizes : IsSizes s.sizes
-  pub tables : All IsTable s.tables
+  pub tables : All IsContents s.tables
   pub managers : All (λ t. t.rm < s.sizes.rms) s.tables
   pub once : AllPairs (λ a b. a.rm ≢ b.rm) s.tables
   pub events : All IsEvent s.events
 
 -- the lines say the script's items one by one
-pub record SpelledBy (ls : List (List ℕ)) (s : ScriptParts) : Type 0 where
-  pub plain : list_all (list_all is_plain) (kept ls) ≡ true
-  pub says : map words (kept ls) ≡ map item_words (items_of s)
+pub record SpelledBy (ls : List (List ℕ)) (s : Script) : Type 0 where
+  pub plain : list_all (list_all is_plain) (lines_kept ls) ≡ true
+  pub says : map words (lines_kept ls) ≡ map item_words (script_items s)
   pub valid : IsScript s
 
-abbrev pub Spells : List ℕ → ScriptParts → Type 0
-Spells bytes s = SpelledBy (lines bytes) s
+-- a text spells a script
+abbrev pub SpellsScript : List ℕ → Script → Type 0
+SpellsScript bytes s = SpelledBy (lines bytes) s
 
 -- lines that say nothing so far, or a script: what may follow it is left out
 abbrev pub CanBegin : List (List ℕ) → Type 0
-CanBegin ls = (kept ls ≡ []) ⊎ ((s : ScriptParts) × SpelledBy ls s)
+CanBegin ls = (lines_kept ls ≡ []) ⊎ ((s : Script) × SpelledBy ls s)
 
 -- the lines before this one can begin a script, and those up to it can't
 pub record FailsAt (ls : List (List ℕ)) (n : ℕ) : Type 0 where
@@ -53,22 +55,25 @@ pub record FailsAt (ls : List (List ℕ)) (n : ℕ) : Type 0 where
 
 -- the first line at fault, from 1; where no line says anything it is the one after the last
 abbrev pub IsFirstFault : List ℕ → ℕ → Type 0
-IsFirstFault bytes n = FailsAt (lines bytes) n ⊎ ((kept (lines bytes) ≡ []) × (n ≡ length (lines bytes) + 1))
+IsFirstFault bytes n = FailsAt (lines bytes) n ⊎ ((lines_kept (lines bytes) ≡ []) × (n ≡ length (lines bytes) + 1))
 
 -- ---- for the reader of one line
 
-abbrev pub Says : List ℕ → ItemParts → Type 0
+-- a line of printed ASCII says an item
+abbrev pub Says : List ℕ → Item → Type 0
 Says line item = (list_all is_plain line ≡ true) × (words line ≡ item_words item)
 
 -- the items of a script that may have begun
-abbrev pub so_far : Option Script → List ItemParts
-so_far None = []
-so_far (Some s) = items_of (script_of s)
+abbrev pub items_so_far : Option Script → List Item
+items_so_far None = []
+items_so_far (Some s) = script_items s
 
 -- what one more line makes of the items before it; nothing, where it says no item that may follow them
-abbrev pub ReadsLine : List ItemParts → List ℕ → Result (Option Script) Refusal → Type 0
-ReadsLine before line (Ok (Some s)) = IsScript (script_of s) × (item : ItemParts) × IsItem item × Says line item × (items_of (script_of s) ≡ before ++ item ∷ [])
-ReadsLine before line (Ok None) = (item : ItemParts) → IsItem item → Says line item → (s : ScriptParts) → IsScript s → items_of s ≢ before ++ item ∷ []
+abbrev pub ReadsLine : List Item → List ℕ → Result (Option Script) Refusal → Type 0
+ReadsLine before line (Ok (Some s)) =
+    IsScript s × (item : Item) × IsItem item × Says line item × (script_items s ≡ before ++ item ∷ [])
+ReadsLine before line (Ok None) =
+    (item : Item) → IsItem item → Says line item → (s : Script) → IsScript s → script_items s ≢ before ++ item ∷ []
 ReadsLine before line (Err e) = e ≡ NoMemory
 
 -- why a script is refused

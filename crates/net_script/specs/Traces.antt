@@ -1,49 +1,89 @@
 -- The one text of a trace.
-use Rattle.std.specs.Prelude.{ℕ, suc, List, [], ◌∷◌, ◌++◌, map, codes, decimal}
+use Rattle.std.specs.Prelude.{ℕ, suc, List, [], ◌∷◌, ◌++◌, map, codes, decimal, Option, Some, None}
 use Rattle.std.specs.Fmt.{signed_decimal}
 use Rattle.std.specs.List.{flat_map}
-use Rattle.xid.specs.Text.{xid_text}
-use Rattle.xid.specs.Codes.{code_number}
-use Rattle.xid.specs.Refusals.{number_of}
-use Rattle.protocol.specs.Calls as calls
-use Rattle.net_script.specs.Values.{TableParts, StepParts, TraceParts}
-use Rattle.net_script.specs.Words.{node_text, letter_r, bytes_text}
+use Rattle.net_script.specs.Basics.{xid_text, tx_text, code_number, number_of, R, Row, Answer, Done, Code, Value, NoValue, Xids}
+use Rattle.net_script.specs.Basics.{Stands, Refused, Standing, View, Change, Sent, Step}
+use Rattle.net_script.specs.declared.values.Table.{Table}
+use Rattle.net_script.specs.declared.values.Trace.{Trace}
+use Rattle.net_script.specs.Lines.{node_text, bytes_text}
 use Rattle.net_script.specs.Items.{event_words, sizes_words, rows_words, contents_words}
+use Rattle.net_script.specs.Messages.{message_words}
 
 -- a space before each word
-abbrev pub after : List (List ℕ) → List ℕ
-after ws = flat_map (λ word. 32 ∷ word) ws
+abbrev pub spaced_words : List (List ℕ) → List ℕ
+spaced_words ws = flat_map (λ word. 32 ∷ word) ws
 
 -- one space between words
-abbrev pub joined : List (List ℕ) → List ℕ
-joined [] = []
-joined (word ∷ ws) = word ++ after ws
+abbrev pub joined_words : List (List ℕ) → List ℕ
+joined_words [] = []
+joined_words (word ∷ ws) = word ++ spaced_words ws
 
+-- a line of these words
 abbrev pub line_text : List (List ℕ) → List ℕ
-line_text ws = joined ws ++ 10 ∷ []
+line_text ws = joined_words ws ++ 10 ∷ []
 
-abbrev pub answer_words : calls.Answer → List (List ℕ)
-answer_words (calls.Code code) = signed_decimal (code_number code) ∷ []
-answer_words (calls.Value bytes) = codes "value" ∷ bytes_text bytes ∷ []
-answer_words calls.NoValue = codes "none" ∷ []
-answer_words (calls.Xids xids) = codes "xids" ∷ map xid_text xids
-answer_words (calls.Refused refusal) = codes "refused" ∷ decimal (number_of refusal) ∷ []
+-- where a transaction stands
+abbrev pub standing_text : Standing → List ℕ
+standing_text Standing.Unknown = codes "unknown"
+standing_text Standing.Undecided = codes "undecided"
+standing_text Standing.Working = codes "working"
+standing_text Standing.Prepared = codes "prepared"
+standing_text Standing.Committed = codes "committed"
+standing_text Standing.Aborted = codes "aborted"
 
-abbrev pub table_line : TableParts → List ℕ
+-- a view, as it is answered too
+abbrev pub view_text : View → List ℕ
+view_text View.Working = codes "working"
+view_text View.Prepared = codes "prepared"
+view_text View.Committed = codes "committed"
+view_text View.Aborted = codes "aborted"
+
+-- the words of an answer
+abbrev pub answer_words : Answer → List (List ℕ)
+answer_words Done = codes "ok" ∷ []
+answer_words (Code code) = signed_decimal (code_number code) ∷ []
+answer_words (Value bytes) = codes "value" ∷ bytes_text bytes ∷ []
+answer_words NoValue = codes "none" ∷ []
+answer_words (Xids xids) = codes "xids" ∷ map xid_text xids
+answer_words (Stands standing) = standing_text standing ∷ []
+answer_words (Refused refusal) = codes "refused" ∷ decimal (number_of refusal) ∷ []
+
+-- the first rows of a resource manager
+abbrev pub table_line : Table → List ℕ
 table_line t = line_text (codes "table" ∷ contents_words t)
 
+-- the view that an event changed, if it changed one
+abbrev pub change_text : Option Change → List ℕ
+change_text None = []
+change_text (Some change) = line_text (codes "now" ∷ node_text (R change.rm) ∷ tx_text change.tx ∷ view_text change.view ∷ [])
+
+-- a datagram that was sent
+abbrev pub sent_line : Sent → List ℕ
+sent_line sent =
+    line_text (codes "sent" ∷ decimal sent.number ∷ node_text sent.sender ∷ node_text sent.receiver ∷ message_words sent.message)
+
 -- EVENT -> ANSWER
-abbrev pub step_line : StepParts → List ℕ
-step_line step = line_text (event_words step.event ++ codes "->" ∷ answer_words step.answer)
+abbrev pub event_line : Step → List ℕ
+event_line step = line_text (event_words step.event ++ codes "->" ∷ answer_words step.answer)
+
+-- an event and its answer, the view that it changed, and what it sent
+abbrev pub step_text : Step → List ℕ
+step_text step = event_line step ++ change_text step.now ++ flat_map sent_line step.sent
 
 -- the rows of a resource manager at the end
-abbrev pub final_line : ℕ → List calls.Row → List ℕ
-final_line rm rows = line_text (codes "final" ∷ node_text letter_r rm ∷ rows_words rows)
+abbrev pub final_line : ℕ → List Row → List ℕ
+final_line rm rows = line_text (codes "final" ∷ node_text (R rm) ∷ rows_words rows)
 
 -- those of the resource managers from this one on
-abbrev pub final_lines : ℕ → List (List calls.Row) → List ℕ
+abbrev pub final_lines : ℕ → List (List Row) → List ℕ
 final_lines rm [] = []
 final_lines rm (rows ∷ rest) = final_line rm rows ++ final_lines (suc rm) rest
 
-abbrev pub trace_text : TraceParts → List ℕ
-trace_text t = line_text (codes "cluster" ∷ sizes_words t.sizes) ++ flat_map table_line t.tables ++ flat_map step_line t.steps ++ final_lines 0 t.finals
+-- the text of a trace: the cluster, the first tables, what happened, and the rows at the end
+abbrev pub trace_text : Trace → List ℕ
+trace_text t =
+    line_text (codes "cluster" ∷ sizes_words t.sizes)
+    ++ flat_map table_line t.tables
+    ++ flat_map step_text t.steps
+    ++ final_lines 0 t.finals

@@ -1,13 +1,12 @@
 //! Words after the first of a line: numbers under a name, resource managers, branches and bytes.
 
 ghost use Rattle.std.specs.Prelude.{◌≡◌, ◌≢◌, ℕ, ◌<◌, ◌^◌, List, [], ◌∷◌, MatchOption, decimal};
-ghost use Rattle.xid.specs.Names.{XidParts, IsXid, IsBytes};
-ghost use Rattle.xid.specs.Text.{xid_text};
-ghost use Rattle.net_script.specs.Words.{Reads, words, bytes_text, node_text, letter_r};
+ghost use Rattle.net_script.specs.Basics.{XidParts, IsXid, IsBytes, R, xid_text};
+ghost use Rattle.net_script.specs.Lines.{Reads, words, bytes_text, node_text};
 
-use crate::words::{bytes_word, is_over, next_word, node};
+use crate::words::{bytes_word, is_over, manager_word, next_word};
 use std::alloc::Global;
-use xid::{Refusal, Xid, text};
+use xid::{Bytes, Refusal, Xid, text};
 
 /// The number after this word, and the rest.
 pub(crate) fn field<'a>(args: &'a [u8], name: &[u8]) -> Option<(u32, &'a [u8])>
@@ -33,13 +32,13 @@ pub(crate) fn field<'a>(args: &'a [u8], name: &[u8]) -> Option<(u32, &'a [u8])>
 /// The resource manager of the first word, and the rest.
 pub(crate) fn manager(args: &[u8]) -> Option<(u8, &[u8])>
     ensures { MatchOption result
-        ((n : ℕ) (ws : List (List ℕ)) → n < 256 → words args.now ≢ node_text letter_r n ∷ ws)
-        (λ found. words args.now ≡ node_text letter_r found.0 ∷ words found.1.now) }
+        ((n : ℕ) (ws : List (List ℕ)) → n < 256 → words args.now ≢ node_text (R n) ∷ ws)
+        (λ found. words args.now ≡ node_text (R found.0) ∷ words found.1.now) }
 {
     let Some((word, rest)) = next_word(args) else {
         return None;
     };
-    let Some(rm) = node(word, b'r') else {
+    let Some(rm) = manager_word(word) else {
         return None;
     };
     Some((rm, rest))
@@ -61,8 +60,8 @@ pub(crate) fn branch(args: &[u8]) -> Option<(Xid, &[u8])>
 }
 
 /// The bytes that are the only word.
-pub(crate) fn last_bytes(alloc: Global, args: &[u8]) -> Result<Option<Vec<u8>>, Refusal>
-    ensures { Reads (λ v. v.items) IsBytes (λ bytes. bytes_text bytes ∷ []) (words args.now) result }
+pub(crate) fn last_bytes(alloc: Global, args: &[u8]) -> Result<Option<Bytes>, Refusal>
+    ensures { Reads IsBytes (λ bytes. bytes_text bytes ∷ []) (words args.now) result }
 {
     let Some((word, rest)) = next_word(args) else {
         return Ok(None);

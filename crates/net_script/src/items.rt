@@ -1,17 +1,16 @@
 //! The items of a script, each of one line.
 
 ghost use Rattle.std.specs.Prelude.{◌≡◌, ◌≢◌, ℕ, ◌<◌, [], ◌∷◌, MatchOption};
-ghost use Rattle.protocol.specs.Calls as calls;
-ghost use Rattle.net_script.specs.declared.items.Verb.TheVariants as verb;
+ghost use Rattle.net_script.specs.Basics.{Action, R};
 ghost use Rattle.net_script.specs.declared.values.Sizes.{Sizes};
-ghost use Rattle.net_script.specs.Values.{action_of, event_of};
-ghost use Rattle.net_script.specs.Words.{Reads, words, node_text, letter_r};
-ghost use Rattle.net_script.specs.Items.{item_of, IsSizes, IsCall, IsCallBy, IsItem, verb_text, verb_of, action_words, sizes_words, event_args, item_words};
+ghost use Rattle.net_script.specs.Lines.{Reads, words, node_text};
+ghost use Rattle.net_script.specs.Items.{IsSizes, IsCall, IsCallBy, IsItem, verb_text, action_words, sizes_words, event_args, item_words};
 
 use crate::args::{branch, field, last_bytes, manager};
 use crate::tables::read_table;
-use crate::values::{Action, Event, Sizes, Table};
+use crate::values::{Sizes, Table};
 use crate::words::{bytes_word, is_over, next_word};
+use protocol::{Action, Event, NodeId, Request};
 use std::alloc::Global;
 use xid::Refusal;
 
@@ -70,7 +69,9 @@ fn verb_named(word: &[u8]) -> Option<Verb>
 
 /// The cluster of these words.
 fn read_sizes(args: &[u8]) -> Option<Sizes>
-    ensures { MatchOption result ((s : Sizes) → IsSizes s → words args.now ≢ sizes_words s) (λ s. IsSizes s × (words args.now ≡ sizes_words s)) }
+    ensures { MatchOption result
+        ((s : Sizes) → IsSizes s → words args.now ≢ sizes_words s)
+        (λ s. IsSizes s × (words args.now ≡ sizes_words s)) }
 {
     let Some((acceptors, rest)) = field(args, b"acceptors") else {
         return None;
@@ -93,7 +94,7 @@ fn read_sizes(args: &[u8]) -> Option<Sizes>
 
 /// A write of the key and the value that are the only words.
 fn read_put(alloc: Global, args: &[u8]) -> Result<Option<Action>, Refusal>
-    ensures { Reads action_of (IsCall verb.Put) action_words (words args.now) result }
+    ensures { Reads (IsCall Verb.Put) action_words (words args.now) result }
 {
     let Some((word, rest)) = next_word(args) else {
         return Ok(None);
@@ -110,8 +111,8 @@ fn read_put(alloc: Global, args: &[u8]) -> Result<Option<Action>, Refusal>
 /// An end: with no word more, or with `fail`.
 fn read_end(args: &[u8]) -> Option<Action>
     ensures { MatchOption result
-        ((a : calls.Action) → IsCall verb.End a → words args.now ≢ action_words a)
-        (λ a. IsCall verb.End (action_of a) × (words args.now ≡ action_words (action_of a))) }
+        ((a : Action) → IsCall Verb.End a → words args.now ≢ action_words a)
+        (λ a. IsCall Verb.End a × (words args.now ≡ action_words a)) }
 {
     let Some((word, rest)) = next_word(args) else {
         return Some(Action::End);
@@ -124,7 +125,7 @@ fn read_end(args: &[u8]) -> Option<Action>
 
 /// What a call asks, by its first word and those after its XID.
 fn read_action(alloc: Global, verb: Verb, args: &[u8]) -> Result<Option<Action>, Refusal>
-    ensures { Reads action_of (IsCall verb) action_words (words args.now) result }
+    ensures { Reads (IsCall verb) action_words (words args.now) result }
 {
     match verb {
         Verb::Start => {
@@ -158,7 +159,7 @@ fn read_action(alloc: Global, verb: Verb, args: &[u8]) -> Result<Option<Action>,
 
 /// A call of this first word.
 fn read_call(alloc: Global, verb: Verb, args: &[u8]) -> Result<Option<Event>, Refusal>
-    ensures { Reads event_of (IsCallBy verb) event_args (words args.now) result }
+    ensures { Reads (IsCallBy verb) event_args (words args.now) result }
 {
     let Some((rm, rest)) = manager(args) else {
         return Ok(None);
@@ -169,14 +170,17 @@ fn read_call(alloc: Global, verb: Verb, args: &[u8]) -> Result<Option<Event>, Re
     let Some(action) = read_action(alloc, verb, rest)? else {
         return Ok(None);
     };
-    Ok(Some(Event::Call { rm, xid, action }))
+    Ok(Some(Event::Ask {
+        node: NodeId::R(rm),
+        request: Request::Call { xid, action },
+    }))
 }
 
 /// The resource manager that is the only word.
 fn read_recover(args: &[u8]) -> Option<u8>
     ensures { MatchOption result
-        ((n : ℕ) → n < 256 → words args.now ≢ node_text letter_r n ∷ [])
-        (λ n. words args.now ≡ node_text letter_r n ∷ []) }
+        ((n : ℕ) → n < 256 → words args.now ≢ node_text (R n) ∷ [])
+        (λ n. words args.now ≡ node_text (R n) ∷ []) }
 {
     let Some((rm, rest)) = manager(args) else {
         return None;
@@ -189,7 +193,7 @@ fn read_recover(args: &[u8]) -> Option<u8>
 
 /// What a line says.
 pub(crate) fn read_item(alloc: Global, line: &[u8]) -> Result<Option<Item>, Refusal>
-    ensures { Reads item_of IsItem item_words (words line.now) result }
+    ensures { Reads IsItem item_words (words line.now) result }
 {
     let Some((word, rest)) = next_word(line) else {
         return Ok(None);
@@ -210,7 +214,10 @@ pub(crate) fn read_item(alloc: Global, line: &[u8]) -> Result<Option<Item>, Refu
         let Some(rm) = read_recover(rest) else {
             return Ok(None);
         };
-        return Ok(Some(Item::Do(Event::Recover { rm })));
+        return Ok(Some(Item::Do(Event::Ask {
+            node: NodeId::R(rm),
+            request: Request::Recover,
+        })));
     }
     let Some(verb) = verb_named(word) else {
         return Ok(None);

@@ -1,9 +1,12 @@
 //! Scripts and traces as text. A script says a cluster, its first tables and the events that happen to it; a trace says
-//! what each event was answered and what the tables hold at the end.
+//! what came of each event and what the tables hold at the end.
 #![tactic(auto)]
 
+mod answers;
 mod args;
+mod events;
 mod items;
+mod messages;
 mod pieces;
 mod scripts;
 mod tables;
@@ -13,7 +16,7 @@ mod words;
 
 pub use scripts::{one_reading, read_script};
 pub use traces::write_trace;
-pub use values::{Action, Answer, Event, Row, Script, Sizes, Step, Table, Trace};
+pub use values::{Script, Sizes, Table, Trace};
 
 #[cfg(test)]
 mod tests;

@@ -3,17 +3,19 @@
 ghost use Rattle.std.specs.Prelude.{◌≡◌, ◌≢◌, ℕ, ◌<◌, [], ◌∷◌, ◌++◌, ◌↔◌, List, IsTrue, IfOk, IfErr, MatchResult};
 ghost use Rattle.std.specs.List.{All, list_all};
 ghost use Rattle.std.specs.Option.{ForSome};
-ghost use Rattle.xid.specs.declared.refusals.Refusal.TheVariants.{NoMemory};
-ghost use Rattle.net_script.specs.Values.{ScriptParts, script_of, table_of, event_of};
-ghost use Rattle.net_script.specs.Words.{Reads, words, is_plain};
-ghost use Rattle.net_script.specs.Items.{item_of, IsItem, IsTable, IsEvent, Contents, Do};
-ghost use Rattle.net_script.specs.Scripts.{is_note, items_of, so_far, IsScript, ReadsLine, Spells, Refuses, IsFirstFault};
+ghost use Rattle.net_script.specs.Basics.{NoMemory};
+ghost use Rattle.net_script.specs.declared.values.Script.{Script};
+ghost use Rattle.net_script.specs.declared.items.Item.TheVariants.{Contents, Do};
+ghost use Rattle.net_script.specs.Lines.{Reads, words, is_plain};
+ghost use Rattle.net_script.specs.Items.{IsItem, IsContents, IsEvent};
+ghost use Rattle.net_script.specs.Scripts.{is_note, script_items, items_so_far, IsScript, ReadsLine, SpellsScript, Refuses, IsFirstFault};
 
 use crate::items::{Item, read_item};
-use crate::values::{Event, Script, Table};
+use crate::values::{Script, Table};
 use crate::words::{next_piece, next_word};
+use protocol::Event;
 use std::alloc::Global;
-use xid::Refusal;
+use xid::{Refusal, Sequence};
 
 /// Whether a line is a comment, or has no word.
 fn is_passed_over(line: &[u8]) -> bool
@@ -37,7 +39,7 @@ fn has_plain_bytes(line: &[u8]) -> bool
 
 /// Whether no table is this resource manager's.
 fn is_free(tables: &[Table], rm: u8) -> bool
-    ensures { IsTrue result ↔ All (λ table. (table_of table).rm ≢ rm) tables.now }
+    ensures { IsTrue result ↔ All (λ table. table.rm ≢ rm) tables.now }
 {
     for table in tables {
         if table.rm == rm {
@@ -49,42 +51,60 @@ fn is_free(tables: &[Table], rm: u8) -> bool
 
 /// The script with one more table, if it may stand there.
 fn with_table(script: Script, table: Table) -> Result<Option<Script>, Refusal>
-    requires valid { IsScript (script_of script) }
-    requires range { IsTable (table_of table) }
-    ensures { Reads script_of IsScript items_of (items_of (script_of script) ++ Contents (table_of table) ∷ []) result }
+    requires valid { IsScript script }
+    requires range { IsContents table }
+    ensures { Reads IsScript script_items (script_items script ++ Contents table ∷ []) result }
 {
-    let mut script = script;
-    if !script.events.is_empty() {
+    let Script {
+        sizes,
+        tables,
+        events,
+    } = script;
+    if !events.as_slice().is_empty() {
         return Ok(None);
     }
-    if u32::from(table.rm) >= script.sizes.rms {
+    if u32::from(table.rm) >= sizes.rms {
         return Ok(None);
     }
-    if !is_free(&script.tables, table.rm) {
+    if !is_free(tables.as_slice(), table.rm) {
         return Ok(None);
     }
-    script.tables.push(table)?;
-    Ok(Some(script))
+    let mut tables = tables.into_vec();
+    tables.push(table)?;
+    Ok(Some(Script {
+        sizes,
+        tables: Sequence::new(tables),
+        events,
+    }))
 }
 
 /// The script with one more event.
 fn with_event(script: Script, event: Event) -> Result<Script, Refusal>
-    requires valid { IsScript (script_of script) }
-    requires range { IsEvent (event_of event) }
+    requires valid { IsScript script }
+    requires range { IsEvent event }
     ensures { MatchResult result
-        (λ s. IsScript (script_of s) × (items_of (script_of s) ≡ items_of (script_of script) ++ Do (event_of event) ∷ []))
+        (λ s. IsScript s × (script_items s ≡ script_items script ++ Do event ∷ []))
         (λ e. e ≡ NoMemory) }
 {
-    let mut script = script;
-    script.events.push(event)?;
-    Ok(script)
+    let Script {
+        sizes,
+        tables,
+        events,
+    } = script;
+    let mut events = events.into_vec();
+    events.push(event)?;
+    Ok(Script {
+        sizes,
+        tables,
+        events: Sequence::new(events),
+    })
 }
 
 /// The script so far with one more item, if it may follow.
 fn with_item(alloc: Global, script: Option<Script>, item: Item) -> Result<Option<Script>, Refusal>
-    requires valid { ForSome script (λ s. IsScript (script_of s)) }
-    requires range { IsItem (item_of item) }
-    ensures { Reads script_of IsScript items_of (so_far script ++ item_of item ∷ []) result }
+    requires valid { ForSome script IsScript }
+    requires range { IsItem item }
+    ensures { Reads IsScript script_items (items_so_far script ++ item ∷ []) result }
 {
     let Some(script) = script else {
         let Item::Cluster(sizes) = item else {
@@ -92,8 +112,8 @@ fn with_item(alloc: Global, script: Option<Script>, item: Item) -> Result<Option
         };
         return Ok(Some(Script {
             sizes,
-            tables: Vec::new(alloc),
-            events: Vec::new(alloc),
+            tables: Sequence::new(Vec::new(alloc)),
+            events: Sequence::new(Vec::new(alloc)),
         }));
     };
     match item {
@@ -105,8 +125,8 @@ fn with_item(alloc: Global, script: Option<Script>, item: Item) -> Result<Option
 
 /// The script so far with what one more line says.
 fn read_line(alloc: Global, script: Option<Script>, line: &[u8]) -> Result<Option<Script>, Refusal>
-    requires valid { ForSome script (λ s. IsScript (script_of s)) }
-    ensures { ReadsLine (so_far script) line.now result }
+    requires valid { ForSome script IsScript }
+    ensures { ReadsLine (items_so_far script) line.now result }
 {
     if !has_plain_bytes(line) {
         return Ok(None);
@@ -123,7 +143,7 @@ fn read_line(alloc: Global, script: Option<Script>, line: &[u8]) -> Result<Optio
 /// The script that a text spells. Refused: `BadScript` with the first line at fault, counted from 1 (where no line says
 /// anything, the one after the last), and `NoMemory`.
 pub fn read_script(alloc: Global, bytes: &[u8]) -> Result<Script, Refusal>
-    ensures ok { IfOk result (λ s. Spells bytes.now (script_of s)) }
+    ensures ok { IfOk result (λ s. SpellsScript bytes.now s) }
     ensures err { IfErr result (λ e. Refuses bytes.now e) }
 {
     let mut script = None;
@@ -147,7 +167,7 @@ pub fn read_script(alloc: Global, bytes: &[u8]) -> Result<Script, Refusal>
 
 /// A text spells at most one script; one with a first line at fault spells none, and has one such line.
 pub fn one_reading()
-    ensures one { (bytes : List ℕ) (s t : ScriptParts) → Spells bytes s → Spells bytes t → s ≡ t }
-    ensures apart { (bytes : List ℕ) (s : ScriptParts) (line : ℕ) → Spells bytes s → IsFirstFault bytes line → ⊥ }
+    ensures one { (bytes : List ℕ) (s t : Script) → SpellsScript bytes s → SpellsScript bytes t → s ≡ t }
+    ensures apart { (bytes : List ℕ) (s : Script) (line : ℕ) → SpellsScript bytes s → IsFirstFault bytes line → ⊥ }
     ensures first { (bytes : List ℕ) (line other : ℕ) → IsFirstFault bytes line → IsFirstFault bytes other → line ≡ other }
 {}

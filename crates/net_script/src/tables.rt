@@ -2,24 +2,19 @@
 
 ghost use Rattle.std.specs.Prelude.{◌≢◌, ◌↔◌, IsTrue};
 ghost use Rattle.std.specs.List.{All};
-ghost use Rattle.net_script.specs.Values.{row_of, table_of};
-ghost use Rattle.net_script.specs.Words.{Reads, words, row_text};
-ghost use Rattle.net_script.specs.Items.{IsRow, AreRows, IsTable, rows_of, rows_words, contents_words};
+ghost use Rattle.net_script.specs.Lines.{Reads, words, row_text};
+ghost use Rattle.net_script.specs.Items.{IsRow, AreRows, IsContents, rows_words, contents_words};
 
 use crate::args::manager;
-use crate::values::{Row, Table};
+use crate::values::Table;
 use crate::words::{bytes_word, hex_word, next_word};
+use protocol::Row;
 use std::alloc::Global;
-use xid::{Refusal, text};
-
-/// How many bytes a key of a first table may have.
-const MAX_KEY: usize = 64;
-/// How many bytes a value of a first table may have.
-const MAX_VALUE: usize = 256;
+use xid::{MAX_KEY, MAX_VALUE, Refusal, Sequence, text};
 
 /// The row of this word.
 fn read_row(alloc: Global, word: &[u8]) -> Result<Option<Row>, Refusal>
-    ensures { Reads row_of IsRow row_text word.now result }
+    ensures { Reads IsRow row_text word.now result }
 {
     let Some((key, value)) = text::split_once(word, b'=') else {
         return Ok(None);
@@ -27,13 +22,13 @@ fn read_row(alloc: Global, word: &[u8]) -> Result<Option<Row>, Refusal>
     let Some(key) = hex_word(alloc, key)? else {
         return Ok(None);
     };
-    if key.len() > MAX_KEY {
+    if key.as_slice().len() > MAX_KEY {
         return Ok(None);
     }
     let Some(value) = bytes_word(alloc, value)? else {
         return Ok(None);
     };
-    if value.len() > MAX_VALUE {
+    if value.as_slice().len() > MAX_VALUE {
         return Ok(None);
     }
     Ok(Some(Row { key, value }))
@@ -41,7 +36,7 @@ fn read_row(alloc: Global, word: &[u8]) -> Result<Option<Row>, Refusal>
 
 /// Whether no row has this key.
 fn is_new(rows: &[Row], key: &[u8]) -> bool
-    ensures { IsTrue result ↔ All (λ row. (row_of row).key ≢ key.now) rows.now }
+    ensures { IsTrue result ↔ All (λ row. row.key ≢ key.now) rows.now }
 {
     for row in rows {
         if row.key.as_slice() == key {
@@ -52,8 +47,8 @@ fn is_new(rows: &[Row], key: &[u8]) -> bool
 }
 
 /// The rows of the words, with distinct keys.
-fn read_rows(alloc: Global, args: &[u8]) -> Result<Option<Vec<Row>>, Refusal>
-    ensures { Reads rows_of AreRows rows_words (words args.now) result }
+fn read_rows(alloc: Global, args: &[u8]) -> Result<Option<Sequence<Row>>, Refusal>
+    ensures { Reads AreRows rows_words (words args.now) result }
 {
     let mut rows = Vec::new(alloc);
     let mut rest = args;
@@ -61,18 +56,18 @@ fn read_rows(alloc: Global, args: &[u8]) -> Result<Option<Vec<Row>>, Refusal>
         let Some(row) = read_row(alloc, word)? else {
             return Ok(None);
         };
-        if !is_new(&rows, &row.key) {
+        if !is_new(&rows, row.key.as_slice()) {
             return Ok(None);
         }
         rows.push(row)?;
         rest = after;
     }
-    Ok(Some(rows))
+    Ok(Some(Sequence::new(rows)))
 }
 
 /// The first table of these words.
 pub(crate) fn read_table(alloc: Global, args: &[u8]) -> Result<Option<Table>, Refusal>
-    ensures { Reads table_of IsTable contents_words (words args.now) result }
+    ensures { Reads IsContents contents_words (words args.now) result }
 {
     let Some((rm, rest)) = manager(args) else {
         return Ok(None);

@@ -1,13 +1,12 @@
-//! Lines and words of a text, and words that are nodes and bytes.
+//! Lines and words of a text, and words that are resource managers and bytes.
 
 ghost use Rattle.std.specs.Prelude.{◌≡◌, ◌≢◌, ℕ, ◌<◌, [], ◌∷◌, ◌↔◌, IsTrue, MatchOption};
-ghost use Rattle.xid.specs.Names.{IsBytes};
-ghost use Rattle.xid.specs.Text.{hex_text};
-ghost use Rattle.net_script.specs.Words.{IsFirstPiece, IsFirstWord, IsSome, Reads, words, bytes_text, node_text};
+ghost use Rattle.net_script.specs.Basics.{IsBytes, R, hex_text};
+ghost use Rattle.net_script.specs.Lines.{IsFirstPiece, IsFirstWord, IsSome, Reads, words, bytes_text, node_text};
 
 use hex::FromHexError;
 use std::alloc::Global;
-use xid::{Refusal, text};
+use xid::{Bytes, Refusal, Sequence, text};
 
 /// The text up to its first mark, or all of it, and the text after that mark.
 pub(crate) fn next_piece(text: &[u8], mark: u8) -> Option<(&[u8], &[u8])>
@@ -46,16 +45,13 @@ pub(crate) fn is_over(line: &[u8]) -> bool
     false
 }
 
-/// The number of a node of the kind with this letter.
-pub(crate) fn node(word: &[u8], letter: u8) -> Option<u8>
-    ensures { MatchOption result ((n : ℕ) → n < 256 → word.now ≢ node_text letter n) (λ n. word.now ≡ node_text letter n) }
+/// The resource manager whose text this is.
+pub(crate) fn manager_word(word: &[u8]) -> Option<u8>
+    ensures { MatchOption result ((n : ℕ) → n < 256 → word.now ≢ node_text (R n)) (λ n. word.now ≡ node_text (R n)) }
 {
-    let [first, digits @ ..] = word else {
+    let [b'r', digits @ ..] = word else {
         return None;
     };
-    if *first != letter {
-        return None;
-    }
     let Some(number) = text::number(digits) else {
         return None;
     };
@@ -66,8 +62,8 @@ pub(crate) fn node(word: &[u8], letter: u8) -> Option<u8>
 }
 
 /// The bytes whose hex text this is, at least one.
-pub(crate) fn hex_word(alloc: Global, word: &[u8]) -> Result<Option<Vec<u8>>, Refusal>
-    ensures { Reads (λ v. v.items) IsSome hex_text word.now result }
+pub(crate) fn hex_word(alloc: Global, word: &[u8]) -> Result<Option<Bytes>, Refusal>
+    ensures { Reads IsSome hex_text word.now result }
 {
     if word.is_empty() {
         return Ok(None);
@@ -85,15 +81,15 @@ pub(crate) fn hex_word(alloc: Global, word: &[u8]) -> Result<Option<Vec<u8>>, Re
     if again.as_bytes() != word {
         return Ok(None);
     }
-    Ok(Some(bytes))
+    Ok(Some(Sequence::new(bytes)))
 }
 
 /// The bytes of this word, `-` for none.
-pub(crate) fn bytes_word(alloc: Global, word: &[u8]) -> Result<Option<Vec<u8>>, Refusal>
-    ensures { Reads (λ v. v.items) IsBytes bytes_text word.now result }
+pub(crate) fn bytes_word(alloc: Global, word: &[u8]) -> Result<Option<Bytes>, Refusal>
+    ensures { Reads IsBytes bytes_text word.now result }
 {
     if word == b"-".as_slice() {
-        return Ok(Some(Vec::new(alloc)));
+        return Ok(Some(Sequence::new(Vec::new(alloc))));
     }
     let Some(bytes) = hex_word(alloc, word)? else {
         return Ok(None);

@@ -3,26 +3,24 @@ use Rattle.std.specs.Prelude.{◌≡◌, refl, List, [], ◌∷◌, ◌++◌}
 use Rattle.xid.specs.declared.transaction.Vote.TheVariants as votes
 use Rattle.xid.specs.declared.codes.XaCode.TheVariants as codes
 use Rattle.wire.specs.declared.message.Kind.TheVariants.{P1a, P2a, Abort}
-use Rattle.protocol.specs.declared.NodeId.TheVariants.{A, L, R}
-use Rattle.protocol.specs.declared.View.TheVariants as views
-use Rattle.protocol.specs.Calls.{Start, Code}
-use Rattle.protocol.specs.Effects.{Config, Called}
-use Rattle.protocol.specs.Worlds.{Event, Timeout, Deliver}
-use Rattle.protocol.proofs.RowWords.{y, two, row, cluster_with_row, next, tables, deliveries, call, sent_by, changes, two_ended}
+use Rattle.protocol.specs.declared.states.View.TheVariants as views
+use Rattle.protocol.specs.Words.{A, L, R, Code, Event, Deliver, Start}
+use Rattle.protocol.specs.Effects.{Config}
+use Rattle.protocol.proofs.RowWords.{y, two, row, cluster_with_row, next, tables, deliveries, call, sent_by, changes, two_ended, timeout}
 
 abbrev c : Config
 c = cluster_with_row 3 1 2
 
 -- up to the second report
 abbrev reported : List Event
-reported = two_ended ++ Deliver 1 ∷ Deliver 3 ∷ Deliver 4 ∷ Timeout (L 0) two ∷ Deliver 11 ∷ Deliver 12 ∷ Deliver 14 ∷ Deliver 15 ∷ []
+reported = two_ended ++ Deliver 1 ∷ Deliver 3 ∷ Deliver 4 ∷ timeout (L 0) two ∷ Deliver 11 ∷ Deliver 12 ∷ Deliver 14 ∷ Deliver 15 ∷ []
 
-pub takes_over : (next c (two_ended ++ Deliver 1 ∷ Deliver 3 ∷ Deliver 4 ∷ []) (Timeout (L 0) two)).sent
+pub takes_over : (next c (two_ended ++ Deliver 1 ∷ Deliver 3 ∷ Deliver 4 ∷ []) (timeout (L 0) two)).sent
     ≡ sent_by (L 0) (A 0) (P1a two 0 1) ∷ sent_by (L 0) (A 1) (P1a two 0 1) ∷ sent_by (L 0) (A 2) (P1a two 0 1)
     ∷ sent_by (L 0) (A 0) (P1a two 1 1) ∷ sent_by (L 0) (A 1) (P1a two 1 1) ∷ sent_by (L 0) (A 2) (P1a two 1 1) ∷ []
 takes_over = refl
 
-pub picks_aborted : (next c (two_ended ++ Deliver 1 ∷ Deliver 3 ∷ Deliver 4 ∷ Timeout (L 0) two ∷ Deliver 11 ∷ Deliver 12 ∷ Deliver 14 ∷ []) (Deliver 15)).sent
+pub picks_aborted : (next c (two_ended ++ Deliver 1 ∷ Deliver 3 ∷ Deliver 4 ∷ timeout (L 0) two ∷ Deliver 11 ∷ Deliver 12 ∷ Deliver 14 ∷ []) (Deliver 15)).sent
     ≡ sent_by (L 0) (A 0) (P2a two 1 1 votes.Aborted) ∷ sent_by (L 0) (A 1) (P2a two 1 1 votes.Aborted) ∷ sent_by (L 0) (A 2) (P2a two 1 1 votes.Aborted) ∷ []
 picks_aborted = refl
 
@@ -58,5 +56,5 @@ early_view = refl
 pub no_vote_after : (next c (early ++ Deliver 20 ∷ Deliver 22 ∷ []) (Deliver 2)).sent ≡ []
 no_vote_after = refl
 
-pub name_spent : (next c (early ++ Deliver 20 ∷ Deliver 22 ∷ Deliver 2 ∷ []) (call 1 y Start)).reply ≡ Called (Code codes.DupId)
+pub name_spent : (next c (early ++ Deliver 20 ∷ Deliver 22 ∷ Deliver 2 ∷ []) (call 1 y Start)).answer ≡ Code codes.DupId
 name_spent = refl

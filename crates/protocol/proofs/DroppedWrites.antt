@@ -2,21 +2,19 @@
 use Rattle.std.specs.Prelude.{◌≡◌, refl, List, [], ◌∷◌, ◌++◌}
 use Rattle.xid.specs.declared.codes.XaCode.TheVariants as codes
 use Rattle.wire.specs.declared.message.Kind.TheVariants.{Commit}
-use Rattle.protocol.specs.declared.NodeId.TheVariants.{L, R}
-use Rattle.protocol.specs.declared.View.TheVariants as views
-use Rattle.protocol.specs.declared.Status.TheVariants as statuses
-use Rattle.protocol.specs.Calls.{Start, End, Code}
-use Rattle.protocol.specs.Effects.{Config, Done, Called, Stands}
-use Rattle.protocol.specs.Worlds.{Event, CommitOf, Deliver, Restart}
-use Rattle.protocol.proofs.RowWords.{x, one, row, cluster, next, replies, tables, deliveries, call, put, sent_by, changes, ok}
+use Rattle.protocol.specs.declared.states.View.TheVariants as views
+use Rattle.protocol.specs.declared.states.Standing.TheVariants as standings
+use Rattle.protocol.specs.Words.{L, R, Done, Code, Stands, Event, Deliver, Restart, Start, End}
+use Rattle.protocol.specs.Effects.{Config}
+use Rattle.protocol.proofs.RowWords.{x, one, row, cluster, next, answers, tables, deliveries, call, put, sent_by, changes, ok, commit}
 
 abbrev c : Config
 c = cluster 1 1 1
 
 abbrev before : List Event
-before = call 0 x Start ∷ call 0 x (put 0x6b 0x31) ∷ Restart (R 0) ∷ call 0 x (put 0x6b 0x32) ∷ call 0 x Start ∷ call 0 x (put 0x6c 0x33) ∷ call 0 x End ∷ CommitOf 0 one ∷ []
+before = call 0 x Start ∷ call 0 x (put 0x6b 0x31) ∷ Restart (R 0) ∷ call 0 x (put 0x6b 0x32) ∷ call 0 x Start ∷ call 0 x (put 0x6c 0x33) ∷ call 0 x End ∷ commit 0 one ∷ []
 
-pub answered : replies c before ≡ ok ∷ ok ∷ Done ∷ Called (Code codes.Nota) ∷ ok ∷ ok ∷ ok ∷ Stands statuses.Undecided ∷ []
+pub answered : answers c before ≡ ok ∷ ok ∷ Done ∷ Code codes.Nota ∷ ok ∷ ok ∷ ok ∷ Stands standings.Undecided ∷ []
 answered = refl
 
 pub votes_prepared : (next c before (Deliver 1)).now ≡ changes 0 one views.Prepared

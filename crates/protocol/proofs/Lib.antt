@@ -3,13 +3,17 @@ pub mod PlainCommit
 pub mod Blocked
 pub mod TornVote
 pub mod BusyThenFree
+pub mod SharedReads
+pub mod SharedReadsPrepared
 pub mod RollbackOnly
 pub mod TwoLists
 pub mod DroppedWrites
+pub mod Compacted
 pub mod BallotsAfterRestart
 pub mod BeforeVote
 pub mod FindsPrepared
 pub mod Repeats
 pub mod NoiseAndCuts
+pub mod ManyManagers
 pub mod Same
 pub mod TouchedKeys

@@ -2,20 +2,19 @@
 use Rattle.std.specs.Prelude.{◌≡◌, refl, [], ◌∷◌, ◌++◌}
 use Rattle.xid.specs.declared.transaction.Vote.TheVariants as votes
 use Rattle.wire.specs.declared.message.Kind.TheVariants.{Prepare, P2a, P2b, Commit}
-use Rattle.protocol.specs.declared.NodeId.TheVariants.{A, L, R}
-use Rattle.protocol.specs.declared.View.TheVariants as views
-use Rattle.protocol.specs.declared.Status.TheVariants as statuses
-use Rattle.protocol.specs.Effects.{Config, Stands}
-use Rattle.protocol.specs.Worlds.{CommitOf, Deliver}
-use Rattle.protocol.proofs.RowWords.{two, row, cluster_with_row, next, replies, tables, deliveries, sent_by, changes, ok, two_ended}
+use Rattle.protocol.specs.declared.states.View.TheVariants as views
+use Rattle.protocol.specs.declared.states.Standing.TheVariants as standings
+use Rattle.protocol.specs.Words.{A, L, R, Stands, Deliver}
+use Rattle.protocol.specs.Effects.{Config}
+use Rattle.protocol.proofs.RowWords.{two, row, cluster_with_row, next, answers, tables, deliveries, sent_by, changes, ok, two_ended, commit}
 
 abbrev c : Config
 c = cluster_with_row 3 1 2
 
-pub calls_answered : replies c two_ended ≡ ok ∷ ok ∷ ok ∷ ok ∷ ok ∷ ok ∷ Stands statuses.Undecided ∷ []
+pub calls_answered : answers c two_ended ≡ ok ∷ ok ∷ ok ∷ ok ∷ ok ∷ ok ∷ Stands standings.Undecided ∷ []
 calls_answered = refl
 
-pub asked_to_prepare : (next c [] (CommitOf 0 two)).sent ≡ sent_by (L 0) (R 0) (Prepare two) ∷ sent_by (L 0) (R 1) (Prepare two) ∷ []
+pub asked_to_prepare : (next c [] (commit 0 two)).sent ≡ sent_by (L 0) (R 0) (Prepare two) ∷ sent_by (L 0) (R 1) (Prepare two) ∷ []
 asked_to_prepare = refl
 
 pub first_votes : (next c two_ended (Deliver 1)).now ≡ changes 0 two views.Prepared

@@ -3,10 +3,9 @@ use Rattle.std.specs.Prelude.{◌≡◌, refl, ◌-◌, ℕ, List, [], ◌∷◌
 use Rattle.std.specs.List.{range_with_len}
 use Rattle.xid.specs.declared.transaction.Vote.TheVariants as votes
 use Rattle.wire.specs.declared.message.Kind.TheVariants.{P2a, P2b}
-use Rattle.protocol.specs.declared.NodeId.TheVariants.{A, L, R}
-use Rattle.protocol.specs.Effects.{Config, Done}
-use Rattle.protocol.specs.Worlds.{Event, Deliver}
-use Rattle.protocol.proofs.RowWords.{two, row, cluster_with_row, run, next, replies, tables, deliveries, sent_by, two_ended}
+use Rattle.protocol.specs.Words.{A, L, R, Done, Event, Deliver}
+use Rattle.protocol.specs.Effects.{Config}
+use Rattle.protocol.proofs.RowWords.{two, row, cluster_with_row, run, next, answers, tables, deliveries, sent_by, two_ended}
 
 abbrev c : Config
 c = cluster_with_row 3 1 2
@@ -21,7 +20,7 @@ down_from n = map (λ i. Deliver (n - i)) (range_with_len 0 n)
 abbrev again : List Event
 again = map Deliver (15 ∷ 15 ∷ 15 ∷ 15 ∷ 15 ∷ 16 ∷ []) ++ down_from 15
 
-pub all_done : drop 23 (replies c (committed ++ again)) ≡ map (λ i. Done) (range_with_len 0 21)
+pub all_done : drop 23 (answers c (committed ++ again)) ≡ map (λ i. Done) (range_with_len 0 21)
 all_done = refl
 
 pub commits_once : (next c committed (Deliver 15)).now ≡ None

@@ -3,23 +3,21 @@ use Rattle.std.specs.Prelude.{◌≡◌, refl, List, [], ◌∷◌, ◌++◌}
 use Rattle.xid.specs.declared.transaction.Vote.TheVariants as votes
 use Rattle.xid.specs.declared.codes.XaCode.TheVariants as codes
 use Rattle.wire.specs.declared.message.Kind.TheVariants.{P2a}
-use Rattle.protocol.specs.declared.NodeId.TheVariants.{A, R}
-use Rattle.protocol.specs.declared.View.TheVariants as views
-use Rattle.protocol.specs.declared.Status.TheVariants as statuses
-use Rattle.protocol.specs.Calls.{Start, EndFail, Rollback, Code}
-use Rattle.protocol.specs.Effects.{Config, Done, Called, Stands}
-use Rattle.protocol.specs.Worlds.{Event, CommitOf, Deliver}
-use Rattle.protocol.proofs.RowWords.{x, one, cluster, next, replies, call, put, sent_by, changes, ok}
+use Rattle.protocol.specs.declared.states.View.TheVariants as views
+use Rattle.protocol.specs.declared.states.Standing.TheVariants as standings
+use Rattle.protocol.specs.Words.{A, R, Done, Code, Stands, Event, Deliver, Start, EndFail, Rollback}
+use Rattle.protocol.specs.Effects.{Config}
+use Rattle.protocol.proofs.RowWords.{x, one, cluster, next, answers, call, put, sent_by, changes, ok, commit}
 
 abbrev c : Config
 c = cluster 1 1 1
 
 abbrev before : List Event
-before = call 0 x Start ∷ call 0 x Rollback ∷ call 0 x EndFail ∷ call 0 x (put 0x6b 0x31) ∷ CommitOf 0 one ∷ []
+before = call 0 x Start ∷ call 0 x Rollback ∷ call 0 x EndFail ∷ call 0 x (put 0x6b 0x31) ∷ commit 0 one ∷ []
 
-pub answered : replies c (before ++ Deliver 1 ∷ call 0 x Start ∷ call 0 x Rollback ∷ [])
-    ≡ ok ∷ Called (Code codes.Proto) ∷ Called (Code codes.RbRollback) ∷ Called (Code codes.Proto) ∷ Stands statuses.Undecided ∷ Done
-    ∷ Called (Code codes.DupId) ∷ Called (Code codes.Nota) ∷ []
+pub answered : answers c (before ++ Deliver 1 ∷ call 0 x Start ∷ call 0 x Rollback ∷ [])
+    ≡ ok ∷ Code codes.Proto ∷ Code codes.RbRollback ∷ Code codes.Proto ∷ Stands standings.Undecided ∷ Done
+    ∷ Code codes.DupId ∷ Code codes.Nota ∷ []
 answered = refl
 
 pub votes_aborted : (next c before (Deliver 1)).now ≡ changes 0 one views.Aborted

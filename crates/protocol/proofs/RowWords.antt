@@ -2,16 +2,13 @@
 use Rattle.std.specs.Prelude.{ℕ, false, List, [], ◌∷◌, map, Option, Some}
 use Rattle.xid.specs.Names.{XidParts}
 use Rattle.xid.specs.Transactions.{TxParts}
-use Rattle.protocol.specs.declared.NodeId.{NodeId}
 use Rattle.wire.specs.declared.message.Kind.{Kind}
-use Rattle.protocol.specs.declared.View.{View}
-use Rattle.protocol.specs.Calls as calls
 use Rattle.xid.specs.declared.codes.XaCode.TheVariants as codes
 use Rattle.std.specs.List.{range_with_len}
-use Rattle.protocol.specs.Calls.{Code, Action, Start, Put, Del, Get, End, EndFail, Rollback, Row}
-use Rattle.protocol.specs.Effects.{Config, Reply, Called}
-use Rattle.protocol.specs.Nodes.{Well}
-use Rattle.protocol.specs.Worlds.{Event, Client, CommitOf, Deliver, Fated, World, Datagram, Happening, Change, opening, trace, world_after, happens, table_at}
+use Rattle.protocol.specs.Words.{NodeId, L, R, View, Answer, Code, Action, Start, Put, End, Row, Request, Call, Recover, Timeout, Event, Ask, Deliver, Change}
+use Rattle.protocol.specs.Effects.{Config}
+use Rattle.protocol.specs.Nodes.{NoFault}
+use Rattle.protocol.specs.Worlds.{Occurrence, World, Datagram, StepResult, opening, trace, world_after, world_step, table_at}
 
 -- 1:74:61, 1:74:62, 1:75:61
 abbrev pub x : XidParts
@@ -45,19 +42,19 @@ abbrev pub cluster_with_row : ℕ → ℕ → ℕ → Config
 cluster_with_row a l r = record { acceptors = a; leaders = l; managers = r; tables = (row 0x6b 0x30 ∷ []) ∷ [] }
 
 -- an event that goes well
-abbrev pub well : Event → Fated
-well event = record { event = event; fate = Well }
+abbrev pub well : Event → Occurrence
+well event = record { event = event; fault = NoFault }
 
 abbrev pub run : Config → List Event → World
 run config events = world_after config (opening config) (map well events)
 
 -- what an event does that comes after others
-abbrev pub next : Config → List Event → Event → Happening
-next config events event = happens config (run config events) event Well
+abbrev pub next : Config → List Event → Event → StepResult
+next config events event = world_step config (run config events) event NoFault
 
--- all replies, and the final tables
-abbrev pub replies : Config → List Event → List Reply
-replies config events = map (λ happening. happening.reply) (trace config (opening config) (map well events))
+-- all answers, and the final tables
+abbrev pub answers : Config → List Event → List Answer
+answers config events = map (λ step. step.answer) (trace config (opening config) (map well events))
 
 abbrev pub tables : Config → List Event → List (List Row)
 tables config events = map (table_at config (run config events)) (range_with_len 0 config.managers)
@@ -67,25 +64,39 @@ abbrev pub deliveries : ℕ → ℕ → List Event
 deliveries first n = map Deliver (range_with_len first n)
 
 -- the answers of calls
-abbrev pub ok : Reply
-ok = Called (Code codes.Ok)
+abbrev pub ok : Answer
+ok = Code codes.Ok
 
 -- a call on branch b of resource manager rm
 abbrev pub call : ℕ → XidParts → Action → Event
-call rm b action = Client (calls.Call rm b action)
+call rm b action = Ask (R rm) (Call b action)
 
 abbrev pub put : ℕ → ℕ → Action
 put key value = Put (key ∷ []) (value ∷ [])
 
 abbrev pub recover : ℕ → Event
-recover rm = Client (calls.Recover rm)
+recover rm = Ask (R rm) Recover
+
+-- a commit, a status and a timeout asked of leader l
+abbrev pub commit : ℕ → TxParts → Event
+commit l tx = Ask (L l) (Request.Commit tx)
+
+abbrev pub status : ℕ → TxParts → Event
+status l tx = Ask (L l) (Request.Status tx)
+
+abbrev pub timeout : NodeId → TxParts → Event
+timeout who tx = Ask who (Timeout tx)
+
+-- a view asked of resource manager rm
+abbrev pub view : ℕ → TxParts → Event
+view rm tx = Ask (R rm) (Request.View tx)
 
 -- the calls of a transaction at two resource managers, up to its commit; and at one
 abbrev pub two_ended : List Event
-two_ended = call 0 x Start ∷ call 0 x (put 0x6b 0x31) ∷ call 0 x End ∷ call 1 y Start ∷ call 1 y (put 0x6d 0x32) ∷ call 1 y End ∷ CommitOf 0 two ∷ []
+two_ended = call 0 x Start ∷ call 0 x (put 0x6b 0x31) ∷ call 0 x End ∷ call 1 y Start ∷ call 1 y (put 0x6d 0x32) ∷ call 1 y End ∷ commit 0 two ∷ []
 
 abbrev pub one_ended : List Event
-one_ended = call 0 x Start ∷ call 0 x (put 0x6b 0x31) ∷ call 0 x End ∷ CommitOf 0 one ∷ []
+one_ended = call 0 x Start ∷ call 0 x (put 0x6b 0x31) ∷ call 0 x End ∷ commit 0 one ∷ []
 
 -- a datagram as a trace prints it
 abbrev pub sent_by : NodeId → NodeId → Kind → Datagram

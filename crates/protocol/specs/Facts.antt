@@ -1,16 +1,13 @@
 -- What the facts of a record say of acceptors' slots, leaders' ballots and resource managers' views (Gray and Lamport, "Consensus
 -- on Transaction Commit", ACM TODS 31(1), 2006, section 4). A list of facts has the oldest first, as they were stored.
-use Rattle.std.specs.Prelude.{ℕ, max, Bool, true, false, not, ◌&&◌, ◌||◌, ◌==◌, if◌then◌else◌, List, [], ◌∷◌, filter, filter_map, Option, Some, None}
-use Rattle.protocol.specs.Basics.{list_any, last_or, XidParts, xid_eq, tx_eq, TxParts, xid_at, Vote, Fact, Touched, fact_tx, Report, is_prepared, Slot, View}
+use Rattle.std.specs.Prelude.{ℕ, Bool, true, false, not, ◌&&◌, ◌||◌, ◌==◌, if◌then◌else◌, List, filter, filter_map, Option, Some, None}
+use Rattle.protocol.specs.Basics.{list_any, last_or, XidParts, xid_eq, tx_eq, TxParts, xid_at, Vote, Fact, Touched, fact_tx, Report, is_prepared, Slot}
+use Rattle.ballot.specs.Greatest.{greatest}
+use Rattle.protocol.specs.Words.{View}
 
 -- whether two instances of transactions are the same
 abbrev pub instance_eq : TxParts → ℕ → TxParts → ℕ → Bool
 instance_eq tx i other j = (i == j) && tx_eq tx other
-
--- the greatest of some numbers, 0 where there is none
-abbrev pub greatest : List ℕ → ℕ
-greatest [] = 0
-greatest (n ∷ ns) = max n (greatest ns)
 
 -- the ballot of an instance in which a fact has the acceptor take part
 abbrev pub ballot_joined : TxParts → ℕ → Fact → Option ℕ
@@ -19,15 +16,15 @@ ballot_joined tx i (Fact.Accept other j b v) = if instance_eq tx i other j then 
 ballot_joined tx i fact = None
 
 -- what a fact has the acceptor accept of an instance
-abbrev pub accepted_by : TxParts → ℕ → Fact → Report
-accepted_by tx i (Fact.Accept other j b v) = if instance_eq tx i other j then Some (b, v) else None
-accepted_by tx i fact = None
+abbrev pub accept_of : TxParts → ℕ → Fact → Report
+accept_of tx i (Fact.Accept other j b v) = if instance_eq tx i other j then Some (b, v) else None
+accept_of tx i fact = None
 
 -- an acceptor's slot of an instance: the greatest ballot in which it took part, and what it accepted last
 abbrev pub slot : List Fact → TxParts → ℕ → Slot
 slot facts tx i = record {
   mbal = greatest (filter_map (ballot_joined tx i) facts);
-  report = last_or None (filter_map (accepted_by tx i) facts);
+  report = last_or None (filter_map (accept_of tx i) facts);
 }
 
 -- whether two votes are the same
@@ -45,39 +42,39 @@ abbrev pub last_ballot : List Fact → TxParts → ℕ
 last_ballot facts tx = greatest (filter_map (ballot_begun tx) facts)
 
 -- whether a fact stores a vote on a transaction
-abbrev pub casts : TxParts → Vote → Fact → Bool
-casts tx Vote.Prepared (Fact.VotePrepared other keys) = tx_eq tx other
-casts tx Vote.Aborted (Fact.VoteAborted other) = tx_eq tx other
-casts tx vote fact = false
+abbrev pub is_vote_of : TxParts → Vote → Fact → Bool
+is_vote_of tx Vote.Prepared (Fact.VotePrepared other keys) = tx_eq tx other
+is_vote_of tx Vote.Aborted (Fact.VoteAborted other) = tx_eq tx other
+is_vote_of tx vote fact = false
 
 -- the stored vote on a transaction
 abbrev pub vote_in : List Fact → TxParts → Option Vote
 vote_in facts tx =
-    if list_any (casts tx Vote.Prepared) facts then Some Vote.Prepared
-    else if list_any (casts tx Vote.Aborted) facts then Some Vote.Aborted
+    if list_any (is_vote_of tx Vote.Prepared) facts then Some Vote.Prepared
+    else if list_any (is_vote_of tx Vote.Aborted) facts then Some Vote.Aborted
     else None
 
 -- whether a fact stores that a transaction is committed
-abbrev pub commits : TxParts → Fact → Bool
-commits tx (Fact.Committed other) = tx_eq tx other
-commits tx fact = false
+abbrev pub is_commit_of : TxParts → Fact → Bool
+is_commit_of tx (Fact.Committed other) = tx_eq tx other
+is_commit_of tx fact = false
 
 -- whether a fact stores that a transaction is aborted
-abbrev pub aborts : TxParts → Fact → Bool
-aborts tx (Fact.Aborted other) = tx_eq tx other
-aborts tx fact = false
+abbrev pub is_abort_of : TxParts → Fact → Bool
+is_abort_of tx (Fact.Aborted other) = tx_eq tx other
+is_abort_of tx fact = false
 
 -- whether an outcome of a transaction is stored
 abbrev pub is_ended : List Fact → TxParts → Bool
-is_ended facts tx = list_any (commits tx) facts || list_any (aborts tx) facts
+is_ended facts tx = list_any (is_commit_of tx) facts || list_any (is_abort_of tx) facts
 
 -- where the resource manager stands in a transaction: aborted where a vote aborted or Aborted stands, committed where Committed
 -- stands, prepared where a vote prepared stands, else working
 abbrev pub view : List Fact → TxParts → View
 view facts tx =
-    if list_any (casts tx Vote.Aborted) facts || list_any (aborts tx) facts then View.Aborted
-    else if list_any (commits tx) facts then View.Committed
-    else if list_any (casts tx Vote.Prepared) facts then View.Prepared
+    if list_any (is_vote_of tx Vote.Aborted) facts || list_any (is_abort_of tx) facts then View.Aborted
+    else if list_any (is_commit_of tx) facts then View.Committed
+    else if list_any (is_vote_of tx Vote.Prepared) facts then View.Prepared
     else View.Working
 
 -- whether a view is prepared
@@ -101,10 +98,10 @@ pub record Bound : Type 0 where
   pub keys : List Touched
 
 -- the branch that a prepared vote binds
-abbrev pub bound_by : Fact → Option Bound
-bound_by (Fact.VotePrepared tx keys) = Some (record { tx = tx; keys = keys })
-bound_by fact = None
+abbrev pub branch_bound_by : Fact → Option Bound
+branch_bound_by (Fact.VotePrepared tx keys) = Some (record { tx = tx; keys = keys })
+branch_bound_by fact = None
 
 -- the prepared branches
-abbrev pub bound_in : List Fact → List Bound
-bound_in facts = filter (λ bound. is_prepared_view (view facts bound.tx)) (filter_map bound_by facts)
+abbrev pub bound_branches : List Fact → List Bound
+bound_branches facts = filter (λ bound. is_prepared_view (view facts bound.tx)) (filter_map branch_bound_by facts)

@@ -1,12 +1,12 @@
 -- The rules of a resource manager: client calls by the table of `Branches`, and messages after Gray and Lamport, "Consensus on
 -- Transaction Commit", ACM TODS 31(1), 2006, section 4.2.
 use Rattle.std.specs.Prelude.{ℕ, Bool, true, false, not, ◌&&◌, if◌then◌else◌, List, [], ◌∷◌, ◌++◌, length, map, filter, filter_map, find, fold, Option, Some, None, is_some, is_none}
-use Rattle.protocol.specs.Basics.{slice_cmp, list_any, option_map, option_map_or, nat_cmp, is_lt, bytes_eq, XidParts, xid_eq, xid_cmp, TxParts, names, xid_at, XaCode, Refusal, Vote, Kind, Prepare, P2a, Commit, Abort, Ask, Fact, Touched, BranchState}
-use Rattle.protocol.specs.Calls.{Action, Answer, Row, Start, End, EndFail, Rollback, Put, Del, Get, Code, Xids}
-use Rattle.protocol.specs.Branches.{BranchView, no_branch, key_of, answer_of, is_done}
-use Rattle.protocol.specs.Facts.{vote_in, is_ended, view, is_prepared_view, is_open_view, is_spent, bound_in}
+use Rattle.protocol.specs.Basics.{slice_cmp, list_any, option_map, option_map_or, nat_cmp, is_lt, bytes_eq, XidParts, xid_eq, xid_cmp, TxParts, is_participant, xid_at, XaCode, Refusal, Vote, Kind, Prepare, P2a, Commit, Abort, Fact, Act, Touched}
+use Rattle.protocol.specs.Words.{BranchState, Action, Answer, Row, Start, End, EndFail, Rollback, Put, Del, Get, Code, Xids, Stands, Refused, Outgoing, Acceptors, Leaders}
+use Rattle.protocol.specs.Branches.{BranchView, no_branch, is_write, hinders_use, hinders, call_answer, is_done}
+use Rattle.protocol.specs.Facts.{vote_in, is_ended, view, is_prepared_view, is_open_view, is_spent, bound_branches}
 use Rattle.protocol.specs.Tables.{table}
-use Rattle.protocol.specs.Effects.{Config, Send, Effect, replies, no_effect, sends_only, stores, to, is_inside, Called, Shows, Refuses, ToAcceptors, ToLeaders}
+use Rattle.protocol.specs.Effects.{Config, Effect, answer_only, no_effect, sends_only, stores, to, is_inside, view_standing}
 
 -- ---- branches as they stand
 
@@ -16,76 +16,79 @@ pub record Branch : Type 0 where
   pub state : BranchState
   pub keys : List Touched
 
--- a key touched: among keys that stand ascending, with its last write
-abbrev pub touch_key : List Touched → (key : List ℕ) → Option (Option (List ℕ)) → List Touched
-touch_key [] key write = record { key = key; write = write } ∷ []
-touch_key (first ∷ keys) key write =
-    if bytes_eq first.key key then record { key = key; write = if is_some write then write else first.write } ∷ keys
-    else if is_lt (slice_cmp nat_cmp key first.key) then record { key = key; write = write } ∷ first ∷ keys
-    else first ∷ touch_key keys key write
+-- the last of two acts on a key: to read it leaves what was written
+abbrev pub last_act : (before act : Act) → Act
+last_act before Act.Read = before
+last_act before act = act
+
+-- touched keys, ascending, with one more act
+abbrev pub with_touched : List Touched → (key : List ℕ) → Act → List Touched
+with_touched [] key act = record { key = key; act = act } ∷ []
+with_touched (first ∷ keys) key act =
+    if bytes_eq first.key key then record { key = key; act = last_act first.act act } ∷ keys
+    else if is_lt (slice_cmp nat_cmp key first.key) then record { key = key; act = act } ∷ first ∷ keys
+    else first ∷ with_touched keys key act
 
 -- whether a key is among those touched
 abbrev pub has_key : List ℕ → List Touched → Bool
 has_key key keys = list_any (λ touched. bytes_eq touched.key key) keys
 
--- the last write of a key
-abbrev pub write_of : List Touched → List ℕ → Option (Option (List ℕ))
-write_of [] key = None
-write_of (first ∷ keys) key = if bytes_eq first.key key then first.write else write_of keys key
+-- the last act on a key, which is to read it where it wasn't touched
+abbrev pub act_on : List Touched → List ℕ → Act
+act_on [] key = Act.Read
+act_on (first ∷ keys) key = if bytes_eq first.key key then first.act else act_on keys key
 
 -- the branches: those that the facts hold as prepared, then the others
 abbrev pub all_branches : ℕ → List Fact → List Branch → List Branch
 all_branches rm facts branches =
-    filter_map (λ bound. option_map (λ x. record { xid = x; state = BranchState.Prepared; keys = bound.keys }) (xid_at bound.tx rm)) (bound_in facts)
+    filter_map (λ bound. option_map (λ x. record { xid = x; state = BranchState.Prepared; keys = bound.keys }) (xid_at bound.tx rm)) (bound_branches facts)
     ++ branches
+
+-- how a branch shows that is in a state and has touched keys
+abbrev pub view_by : BranchState → List Touched → BranchView
+view_by state keys = record { state = Some state; touched = λ key. has_key key keys; count = length keys; act = act_on keys }
 
 -- how the branch of a name shows
 abbrev pub branch_at : List Branch → XidParts → BranchView
 branch_at [] x = no_branch
-branch_at (branch ∷ branches) x = if xid_eq branch.xid x then record {
-  state = Some branch.state;
-  touched = λ key. has_key key branch.keys;
-  count = length branch.keys;
-  written = write_of branch.keys;
-} else branch_at branches x
+branch_at (branch ∷ branches) x = if xid_eq branch.xid x then view_by branch.state branch.keys else branch_at branches x
 
--- whether another branch has touched the key, and so holds it
-abbrev pub is_held : List Branch → XidParts → Option (List ℕ) → Bool
-is_held branches x None = false
-is_held branches x (Some key) = list_any (λ branch. not (xid_eq branch.xid x) && has_key key branch.keys) branches
+-- whether some branch of another name hinders, which is tested of what shows of it
+abbrev pub is_hindered : (test : BranchView → Bool) → List Branch → XidParts → Bool
+is_hindered test branches x = list_any (λ branch. not (xid_eq branch.xid x) && test (view_by branch.state branch.keys)) branches
 
 -- ---- client calls
 
 -- what a call makes of its branch
-abbrev pub changed : Action → Branch → Branch
-changed (Put key value) branch = record branch { keys = touch_key branch.keys key (Some (Some value)) }
-changed (Del key) branch = record branch { keys = touch_key branch.keys key (Some None) }
-changed (Get key) branch = record branch { keys = touch_key branch.keys key None }
-changed End branch = record branch { state = BranchState.Idle }
-changed EndFail branch = record branch { state = BranchState.RollbackOnly }
-changed action branch = branch
+abbrev pub branch_after : Action → Branch → Branch
+branch_after (Put key value) branch = record branch { keys = with_touched branch.keys key (Act.Put value) }
+branch_after (Del key) branch = record branch { keys = with_touched branch.keys key Act.Del }
+branch_after (Get key) branch = record branch { keys = with_touched branch.keys key Act.Read }
+branch_after End branch = record branch { state = BranchState.Idle }
+branch_after EndFail branch = record branch { state = BranchState.RollbackOnly }
+branch_after action branch = branch
 
 -- the branches without the one of a name
-abbrev pub without : List Branch → XidParts → List Branch
-without branches x = filter (λ branch. not (xid_eq branch.xid x)) branches
+abbrev pub branches_without : List Branch → XidParts → List Branch
+branches_without branches x = filter (λ branch. not (xid_eq branch.xid x)) branches
 
 -- what a call that was done leaves of the branches
 abbrev pub after_call : List Branch → XidParts → Action → List Branch
 after_call branches x Start = branches ++ record { xid = x; state = BranchState.Active; keys = [] } ∷ []
-after_call branches x Rollback = without branches x
-after_call branches x action = map (λ branch. if xid_eq branch.xid x then changed action branch else branch) branches
+after_call branches x Rollback = branches_without branches x
+after_call branches x action = map (λ branch. if xid_eq branch.xid x then branch_after action branch else branch) branches
 
 -- the answer: of a spent name no branch can be started; else the table of client calls has it
-abbrev pub call_answer : (spent : Bool) → List Row → BranchView → (busy : Bool) → Action → Answer
-call_answer true rows branch busy Start = Code XaCode.DupId
-call_answer spent rows branch busy action = answer_of rows branch busy action
+abbrev pub named_answer : (spent : Bool) → List Row → BranchView → (busy : Bool) → Action → Answer
+named_answer true rows branch busy Start = Code XaCode.DupId
+named_answer spent rows branch busy action = call_answer rows branch busy action
 
 -- a client call
 abbrev pub on_call : ℕ → (first : List Row) → List Fact → List Branch → XidParts → Action → Effect (List Branch)
 on_call rm first facts branches x action =
     let all = all_branches rm facts branches in
-    let answer = call_answer (is_spent rm facts x) (table first facts) (branch_at all x) (is_held all x (key_of action)) action in
-    replies (if is_done action answer then after_call branches x action else branches) (Called answer)
+    let answer = named_answer (is_spent rm facts x) (table first facts) (branch_at all x) (is_hindered (hinders action) all x) action in
+    answer_only (if is_done action answer then after_call branches x action else branches) answer
 
 -- a name among names in ascending order
 abbrev pub insert_xid : XidParts → List XidParts → List XidParts
@@ -95,19 +98,19 @@ insert_xid x (y ∷ xs) = if is_lt (xid_cmp x y) then x ∷ y ∷ xs else y ∷ 
 -- the names of the prepared branches, ascending
 abbrev pub on_recover : ℕ → List Fact → List Branch → Effect (List Branch)
 on_recover rm facts branches =
-    replies branches (Called (Xids (fold (λ xs x. insert_xid x xs) [] (filter_map (λ bound. xid_at bound.tx rm) (bound_in facts)))))
+    answer_only branches (Xids (fold (λ xs x. insert_xid x xs) [] (filter_map (λ bound. xid_at bound.tx rm) (bound_branches facts))))
 
 -- where this resource manager stands in a transaction that names it
 abbrev pub on_view_call : Config → ℕ → List Fact → List Branch → TxParts → Effect (List Branch)
 on_view_call config rm facts branches tx =
-    replies branches (if is_inside config tx && names tx rm then Shows (view facts tx) else Refuses Refusal.BadTx)
+    answer_only branches (if is_inside config tx && is_participant tx rm then Stands (view_standing (view facts tx)) else Refused Refusal.BadTx)
 
 -- ---- messages
 
 -- a stored vote goes to all acceptors, in ballot 0
-abbrev pub vote_sent : ℕ → TxParts → Option Vote → List Send
+abbrev pub vote_sent : ℕ → TxParts → Option Vote → List Outgoing
 vote_sent rm tx None = []
-vote_sent rm tx (Some v) = to ToAcceptors (P2a tx rm 0 v) ∷ []
+vote_sent rm tx (Some v) = to Acceptors (P2a tx rm 0 v) ∷ []
 
 -- the touched keys of the idle branch of a name
 abbrev pub idle_keys : List Branch → XidParts → Option (List Touched)
@@ -121,9 +124,9 @@ idle_keys branches x = option_map (λ branch. branch.keys) (find (λ branch. xid
 -- else aborted; the branch isn't among the unprepared ones any more
 abbrev pub first_vote : ℕ → List Branch → TxParts → XidParts → (spent : Bool) → (idle : Option (List Touched)) → Effect (List Branch)
 first_vote rm branches tx x false (Some keys) =
-    stores (without branches x) (Fact.VotePrepared tx keys) (vote_sent rm tx (Some Vote.Prepared))
+    stores (branches_without branches x) (Fact.VotePrepared tx keys) (vote_sent rm tx (Some Vote.Prepared))
 first_vote rm branches tx x spent idle =
-    stores (without branches x) (Fact.VoteAborted tx) (vote_sent rm tx (Some Vote.Aborted))
+    stores (branches_without branches x) (Fact.VoteAborted tx) (vote_sent rm tx (Some Vote.Aborted))
 
 -- Prepare: a vote that is stored is sent again; where an outcome is stored, nothing; else the first vote
 abbrev pub on_prepare : ℕ → List Fact → List Branch → TxParts → XidParts → Effect (List Branch)
@@ -139,20 +142,20 @@ on_commit facts branches tx = if is_prepared_view (view facts tx) then stores br
 -- Abort, where it is working or prepared: it is stored, and the branch ends without effect, unless it is bound to another
 -- transaction
 abbrev pub on_abort : List Fact → List Branch → TxParts → XidParts → Effect (List Branch)
-on_abort facts branches tx x = if is_open_view (view facts tx) then stores (without branches x) (Fact.Aborted tx) [] else no_effect branches
+on_abort facts branches tx x = if is_open_view (view facts tx) then stores (branches_without branches x) (Fact.Aborted tx) [] else no_effect branches
 
 -- what a resource manager does on a message, by the name x that its transaction has here, if it has one
-abbrev pub manager_takes : ℕ → List Fact → List Branch → Option XidParts → Kind → Effect (List Branch)
-manager_takes rm facts branches (Some x) (Prepare tx) = on_prepare rm facts branches tx x
-manager_takes rm facts branches (Some x) (Commit tx) = on_commit facts branches tx
-manager_takes rm facts branches (Some x) (Abort tx) = on_abort facts branches tx x
-manager_takes rm facts branches name message = no_effect branches
+abbrev pub on_manager_message : ℕ → List Fact → List Branch → Option XidParts → Kind → Effect (List Branch)
+on_manager_message rm facts branches (Some x) (Prepare tx) = on_prepare rm facts branches tx x
+on_manager_message rm facts branches (Some x) (Commit tx) = on_commit facts branches tx
+on_manager_message rm facts branches (Some x) (Abort tx) = on_abort facts branches tx x
+on_manager_message rm facts branches name message = no_effect branches
 
 -- a timeout: a stored vote is sent again, and where this resource manager is prepared all leaders are asked
 abbrev pub on_manager_timeout : Config → ℕ → List Fact → List Branch → TxParts → Effect (List Branch)
 on_manager_timeout config rm facts branches tx =
-    let asked = if is_prepared_view (view facts tx) then to ToLeaders (Ask tx rm) ∷ [] else [] in
-    if is_inside config tx then sends_only branches (vote_sent rm tx (vote_in facts tx) ++ asked) else replies branches (Refuses Refusal.BadTx)
+    let asked = if is_prepared_view (view facts tx) then to Leaders (Kind.Ask tx rm) ∷ [] else [] in
+    if is_inside config tx then sends_only branches (vote_sent rm tx (vote_in facts tx) ++ asked) else answer_only branches (Refused Refusal.BadTx)
 
 -- neither a vote nor an outcome of the transaction is stored
 abbrev pub is_new : List Fact → TxParts → Bool
@@ -162,16 +165,18 @@ is_new facts tx = is_none (vote_in facts tx) && not (is_ended facts tx)
 abbrev pub is_name_spent : ℕ → List Fact → TxParts → Bool
 is_name_spent rm facts tx = option_map_or (is_spent rm facts) (xid_at tx rm) false
 
--- a key of these that a prepared branch holds
+-- whether a prepared branch hinders a use of these keys: it has touched one of them too, and not both have only read it
 abbrev pub is_some_held : List Fact → List Touched → Bool
-is_some_held facts keys = list_any (λ bound. list_any (λ touched. has_key touched.key bound.keys) keys) (bound_in facts)
+is_some_held facts keys =
+    list_any (λ bound. list_any (λ touched. hinders_use (is_write touched.act) touched.key (view_by BranchState.Prepared bound.keys)) keys)
+    (bound_branches facts)
 
 -- what the record of resource manager rm may hold after some facts: a vote on a transaction that names it, of which neither a vote nor
 -- an outcome is stored, prepared where name and keys are free; an outcome where it is still open, committed where it is prepared
 abbrev pub plays_at_manager : (rm : ℕ) → List Fact → Fact → Bool
 plays_at_manager rm facts (Fact.VotePrepared tx keys) =
-    names tx rm && is_new facts tx && not (is_name_spent rm facts tx) && not (is_some_held facts keys)
-plays_at_manager rm facts (Fact.VoteAborted tx) = names tx rm && is_new facts tx
+    is_participant tx rm && is_new facts tx && not (is_name_spent rm facts tx) && not (is_some_held facts keys)
+plays_at_manager rm facts (Fact.VoteAborted tx) = is_participant tx rm && is_new facts tx
 plays_at_manager rm facts (Fact.Committed tx) = is_prepared_view (view facts tx)
-plays_at_manager rm facts (Fact.Aborted tx) = names tx rm && is_open_view (view facts tx)
+plays_at_manager rm facts (Fact.Aborted tx) = is_participant tx rm && is_open_view (view facts tx)
 plays_at_manager rm facts fact = false

@@ -1,7 +1,8 @@
 -- What datagrams and facts come to, as the messages and stored facts of the paper.
 -- Gray and Lamport, "Consensus on Transaction Commit", ACM TODS 31(1), 2006, section 4.
 use Rattle.std.specs.Prelude.{ℕ, List, [], ◌∷◌, Option}
-use Rattle.protocol.specs.Basics.{TxParts, Vote, Kind, Fact, NodeId}
+use Rattle.protocol.specs.Basics.{TxParts, Vote, Kind, Fact}
+use Rattle.protocol.specs.Words.{NodeId}
 
 -- what a node stores, and the messages that the argument for safety speaks of. a, l and r number acceptors, leaders and
 -- resource managers, i is an instance: the number of its resource manager, b is a ballot
@@ -10,7 +11,7 @@ pub data Item (Tx : Type 0) : Type 0 where
   Accepted : (a : ℕ) (tx : Tx) (i b : ℕ) (v : Vote) → Item Tx
   Began : (l : ℕ) (tx : Tx) (b : ℕ) → Item Tx
   Voted : (r : ℕ) (tx : Tx) (v : Vote) → Item Tx
-  Committed Dropped : (r : ℕ) (tx : Tx) → Item Tx
+  Committed StoredAbort : (r : ℕ) (tx : Tx) → Item Tx
   P1b : (tx : Tx) (i b : ℕ) (report : Option (ℕ × Vote)) (a : ℕ) → Item Tx
   P2a : (tx : Tx) (i b : ℕ) (v : Vote) → Item Tx
   P2b : (tx : Tx) (i b : ℕ) (v : Vote) (a : ℕ) → Item Tx
@@ -33,5 +34,5 @@ comes_to (NodeId.L l) (Fact.Ballot tx b) = Began l tx b ∷ []
 comes_to (NodeId.R r) (Fact.VotePrepared tx keys) = Voted r tx Vote.Prepared ∷ []
 comes_to (NodeId.R r) (Fact.VoteAborted tx) = Voted r tx Vote.Aborted ∷ []
 comes_to (NodeId.R r) (Fact.Committed tx) = Committed r tx ∷ []
-comes_to (NodeId.R r) (Fact.Aborted tx) = Dropped r tx ∷ []
+comes_to (NodeId.R r) (Fact.Aborted tx) = StoredAbort r tx ∷ []
 comes_to who fact = []

@@ -1,12 +1,11 @@
 -- All nodes, and every datagram that was ever sent; and one event.
 use Rattle.std.specs.Prelude.{ℕ, zero, suc, ◌+◌, Bool, true, false, ◌==◌, nat_lt, if◌then◌else◌, List, [], ◌∷◌, ◌++◌, length, map, replicate, slice_get, Option, Some, None}
-use Rattle.protocol.specs.Basics.{flat_map, slice_set, option_map_or, option_and_then, TxParts, Refusal, spelling, message_tx, Kind, Fact, fact_tx, NodeId, A, L, R, View}
-use Rattle.protocol.specs.Calls.{Row}
-use Rattle.protocol.specs.Calls as calls
+use Rattle.protocol.specs.Basics.{flat_map, slice_set, option_map_or, option_and_then, Refusal, spelling, message_tx, spells_message, Kind, Fact, fact_tx}
+use Rattle.protocol.specs.Words.{NodeId, A, L, R, View, Row, Outgoing, Answer, Done, Refused, Event, Ask, Deliver, Lose, Cut, Noise, Tear, Restart, Compact, Change, Sent, Step}
 use Rattle.protocol.specs.Facts.{view}
 use Rattle.protocol.specs.Tables.{table}
-use Rattle.protocol.specs.Effects.{Config, Reply, Send, receivers, Done, Refuses}
-use Rattle.protocol.specs.Nodes.{NodeState, new_node, Input, Fate, first_rows, Outcome, node_step, restarted, CallOn, AskView, AskCommit, AskStatus, TimeOut, Take, ListPrepared, TakeNoise, Unreached}
+use Rattle.protocol.specs.Effects.{Config, receivers}
+use Rattle.protocol.specs.Nodes.{NodeState, new_node, Input, Asked, Received, ReceivedNoise, Fault, first_rows, Outcome, node_step, restart_outcome, compact_outcome, NoMemoryBefore}
 
 -- a datagram that was sent; one that was handed over or lost is marked
 pub record Datagram : Type 0 where
@@ -24,30 +23,10 @@ pub record World : Type 0 where
 abbrev pub opening : Config → World
 opening config = record { nodes = replicate (config.acceptors + config.leaders + config.managers) new_node; net = [] }
 
--- what can happen: a client call on a branch, the client calls on transactions, timeouts; a datagram is handed over and marked,
--- marked without that, or its first bytes alone are handed over; bytes come that nobody sent, of which all that counts is whether
--- they spell a message; a tear is armed in place of the one before; a node restarts
-pub data Event : Type 0 where
-  Client : (call : calls.Event) → Event
-  ViewOf : (rm : ℕ) (tx : TxParts) → Event
-  CommitOf StatusOf : (leader : ℕ) (tx : TxParts) → Event
-  Timeout : (node : NodeId) (tx : TxParts) → Event
-  Deliver Lose : (number : ℕ) → Event
-  Cut : (number bytes : ℕ) → Event
-  Noise : (node : NodeId) (spells : Bool) → Event
-  Tear : (node : NodeId) (bytes : ℕ) → Event
-  Restart : (node : NodeId) → Event
-
--- the view that an event changed at a resource manager
-pub record Change : Type 0 where
-  pub rm : ℕ
-  pub tx : TxParts
-  pub view : View
-
--- what happened: the world after it, the reply, the view that it changed, and the datagrams that it sent
-pub record Happening : Type 0 where
+-- what came of an event: the world after it, the answer, the view that it changed, and the datagrams that it sent
+pub record StepResult : Type 0 where
   pub world : World
-  pub reply : Reply
+  pub answer : Answer
   pub now : Option Change
   pub sent : List Datagram
 
@@ -65,13 +44,13 @@ node_at config world who = option_and_then (λ at. slice_get world.nodes at) (pl
 abbrev pub set_node : Config → World → NodeId → NodeState → World
 set_node config world who node = record world { nodes = option_map_or (λ at. slice_set world.nodes at node) (place config who) world.nodes }
 
--- a reply, and nothing sent
-abbrev pub refused : World → Reply → Happening
-refused world reply = record { world = world; reply = reply; now = None; sent = [] }
+-- an answer, and nothing sent
+abbrev pub answer_result : World → Answer → StepResult
+answer_result world answer = record { world = world; answer = answer; now = None; sent = [] }
 
 -- one datagram to each receiver
-abbrev pub posted : Config → NodeId → Send → List Datagram
-posted config who send = map (λ receiver. record { sender = who; receiver = receiver; message = send.message; marked = false })
+abbrev pub datagrams_of : Config → NodeId → Outgoing → List Datagram
+datagrams_of config who send = map (λ receiver. record { sender = who; receiver = receiver; message = send.message; marked = false })
     (receivers config send.to (message_tx send.message))
 
 -- views by number, to compare them
@@ -90,24 +69,24 @@ change_of (R rm) before after = option_and_then (λ fact.
 change_of who before after = None
 
 -- a node's outcome in the world
-abbrev pub joined : Config → World → NodeId → List Fact → Outcome → Happening
-joined config world who before outcome =
-    let sent = flat_map (posted config who) outcome.sends in record {
+abbrev pub outcome_result : Config → World → NodeId → List Fact → Outcome → StepResult
+outcome_result config world who before outcome =
+    let sent = flat_map (datagrams_of config who) outcome.sends in record {
       world = record (set_node config world who outcome.node) { net = world.net ++ sent };
-      reply = outcome.reply;
+      answer = outcome.answer;
       now = change_of who before outcome.node.facts;
       sent = sent;
     }
 
--- what happens with something that is there; without it the event is refused
-abbrev pub where_found : {X : Type 0} → World → (X → Happening) → Option X → Happening
-where_found world continue None = refused world (Refuses Refusal.NoSuch)
-where_found world continue (Some x) = continue x
+-- what comes of an event where something is there; without it the event is refused
+abbrev pub if_found : {X : Type 0} → World → (X → StepResult) → Option X → StepResult
+if_found world continue None = answer_result world (Refused Refusal.NoSuch)
+if_found world continue (Some x) = continue x
 
 -- an input at a node
-abbrev pub at_node : Config → World → NodeId → Input → Fate → Happening
-at_node config world who input fate =
-    where_found world (λ node. joined config world who node.facts (node_step config who node input fate)) (node_at config world who)
+abbrev pub at_node : Config → World → NodeId → Input → Fault → StepResult
+at_node config world who input fault =
+    if_found world (λ node. outcome_result config world who node.facts (node_step config who node input fault)) (node_at config world who)
 
 -- the datagram of a number, from 1
 abbrev pub datagram_at : List Datagram → ℕ → Option Datagram
@@ -115,58 +94,69 @@ datagram_at net zero = None
 datagram_at net (suc n) = slice_get net n
 
 -- datagrams with the one of a number marked
-abbrev pub marked_at : List Datagram → ℕ → List Datagram
-marked_at [] n = []
-marked_at (d ∷ net) zero = d ∷ net
-marked_at (d ∷ net) (suc zero) = record d { marked = true } ∷ net
-marked_at (d ∷ net) (suc (suc n)) = d ∷ marked_at net (suc n)
+abbrev pub mark_at : List Datagram → ℕ → List Datagram
+mark_at [] n = []
+mark_at (d ∷ net) zero = d ∷ net
+mark_at (d ∷ net) (suc zero) = record d { marked = true } ∷ net
+mark_at (d ∷ net) (suc (suc n)) = d ∷ mark_at net (suc n)
 
 -- the first k bytes handed over: they are fewer than all, and spell no message
-abbrev pub cuts : Config → World → ℕ → ℕ → Fate → Happening
-cuts config world n k fate =
-    where_found world (λ d.
-    if nat_lt k (length (spelling d.message)) then at_node config world d.receiver TakeNoise fate else refused world (Refuses Refusal.NoSuch))
+abbrev pub cut_result : Config → World → ℕ → ℕ → Fault → StepResult
+cut_result config world n k fault =
+    if_found world (λ d.
+    if nat_lt k (length (spelling d.message)) then at_node config world d.receiver ReceivedNoise fault else answer_result world (Refused Refusal.NoSuch))
     (datagram_at world.net n)
 
--- what an event does that reaches its node, if it has one
-abbrev pub does : Config → World → Event → Fate → Happening
-does config world (Client (calls.Call rm x action)) fate = at_node config world (R rm) (CallOn x action) fate
-does config world (Client (calls.Recover rm)) fate = at_node config world (R rm) ListPrepared fate
-does config world (ViewOf rm tx) fate = at_node config world (R rm) (AskView tx) fate
-does config world (CommitOf l tx) fate = at_node config world (L l) (AskCommit tx) fate
-does config world (StatusOf l tx) fate = at_node config world (L l) (AskStatus tx) fate
-does config world (Timeout who tx) fate = at_node config world who (TimeOut tx) fate
-does config world (Deliver n) fate =
-    where_found world (λ d. at_node config (record world { net = marked_at world.net n }) d.receiver (Take d.message) fate) (datagram_at world.net n)
-does config world (Lose n) fate = where_found world (λ d. refused (record world { net = marked_at world.net n }) Done) (datagram_at world.net n)
-does config world (Cut n k) fate = cuts config world n k fate
-does config world (Noise who false) fate = at_node config world who TakeNoise fate
-does config world (Noise who true) fate = where_found world (λ node. refused world (Refuses Refusal.Forged)) (node_at config world who)
-does config world (Tear who n) fate =
-    where_found world (λ node. refused (set_node config world who (record node { tear = Some n })) Done) (node_at config world who)
-does config world (Restart who) fate =
-    where_found world (λ node. joined config world who node.facts (restarted config who node fate)) (node_at config world who)
+-- what comes of an event that reaches its node, if it has one
+abbrev pub dispatch : Config → World → Event → Fault → StepResult
+dispatch config world (Ask who request) fault = at_node config world who (Asked request) fault
+dispatch config world (Deliver n) fault =
+    if_found world (λ d. at_node config (record world { net = mark_at world.net n }) d.receiver (Received d.message) fault) (datagram_at world.net n)
+dispatch config world (Lose n) fault = if_found world (λ d. answer_result (record world { net = mark_at world.net n }) Done) (datagram_at world.net n)
+dispatch config world (Cut n k) fault = cut_result config world n k fault
+dispatch config world (Noise who bytes) fault =
+    if spells_message bytes
+    then if_found world (λ node. answer_result world (Refused Refusal.Forged)) (node_at config world who)
+    else at_node config world who ReceivedNoise fault
+dispatch config world (Tear who n) fault =
+    if_found world (λ node. answer_result (set_node config world who (record node { tear = Some n })) Done) (node_at config world who)
+dispatch config world (Restart who) fault =
+    if_found world (λ node. outcome_result config world who node.facts (restart_outcome config who node fault)) (node_at config world who)
+dispatch config world (Compact who) fault =
+    if_found world (λ node.
+    if node.up then outcome_result config world who node.facts (compact_outcome node fault) else answer_result world (Refused Refusal.Down))
+    (node_at config world who)
 
--- what happens in an event; where memory is refused before a node is reached, nothing does
-abbrev pub happens : Config → World → Event → Fate → Happening
-happens config world event Unreached = refused world (Refuses Refusal.NoMemory)
-happens config world event fate = does config world event fate
+-- what comes of an event; nothing, where memory is wanted before a node is reached
+abbrev pub world_step : Config → World → Event → Fault → StepResult
+world_step config world event NoMemoryBefore = answer_result world (Refused Refusal.NoMemory)
+world_step config world event fault = dispatch config world event fault
 
--- an event, and how it goes
-pub record Fated : Type 0 where
+-- an event, and the fault that meets it
+pub record Occurrence : Type 0 where
   pub event : Event
-  pub fate : Fate
+  pub fault : Fault
 
--- the happenings of events, one after the other
-abbrev pub trace : Config → World → List Fated → List Happening
+-- datagrams by their numbers, the first of which is given
+abbrev pub numbered : ℕ → List Datagram → List Sent
+numbered n [] = []
+numbered n (d ∷ rest) = record { number = n; sender = d.sender; receiver = d.receiver; message = d.message } ∷ numbered (suc n) rest
+
+-- the step of an event in a world
+abbrev pub step_of : World → Event → StepResult → Step
+step_of world event result =
+    record { event = event; answer = result.answer; now = result.now; sent = numbered (suc (length world.net)) result.sent }
+
+-- the steps of events, one after the other
+abbrev pub trace : Config → World → List Occurrence → List Step
 trace config world [] = []
 trace config world (first ∷ rest) =
-    let happening = happens config world first.event first.fate in happening ∷ trace config happening.world rest
+    let result = world_step config world first.event first.fault in step_of world first.event result ∷ trace config result.world rest
 
 -- the world after events
-abbrev pub world_after : Config → World → List Fated → World
+abbrev pub world_after : Config → World → List Occurrence → World
 world_after config world [] = world
-world_after config world (first ∷ rest) = world_after config (happens config world first.event first.fate).world rest
+world_after config world (first ∷ rest) = world_after config (world_step config world first.event first.fault).world rest
 
 -- the table of a resource manager, whether it is up or down: the one that its facts give
 abbrev pub table_at : Config → World → ℕ → List Row

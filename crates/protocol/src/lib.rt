@@ -1,53 +1,20 @@
 //! The words of the specification, and its definitions: what clients see of branches, what each role does on each input,
-//! one event at one node, and the world of all nodes and all datagrams. The definitions are in `specs/`; there is no code.
+//! one event at one node, and the world of all nodes and all datagrams. The words are the plain types below, which code and
+//! definitions share; the definitions are in `specs/`. There is no code but comparisons and constructors.
 #![tactic(auto)]
 
-/// How far a branch has come, after X/Open XA (C193), chapter "State Tables".
-#[derive(Clone, Copy, Debug, PartialEq, Eq)]
-pub enum BranchState {
-    /// It was started: calls on keys are done in it.
-    Active,
-    /// It was ended, and may be rolled back.
-    Idle,
-    /// It was ended as failed: it can only be rolled back.
-    RollbackOnly,
-    /// Its resource manager voted prepared: it waits for the outcome of its transaction.
-    Prepared,
-}
+mod answers;
+mod decisions;
+mod events;
+mod nodes;
+mod requests;
+mod rows;
+mod states;
 
-/// Where a resource manager stands in a transaction (Gray and Lamport, "Consensus on Transaction Commit", section 2).
-#[derive(Clone, Copy, Debug, PartialEq, Eq)]
-pub enum View {
-    /// It has stored neither a vote nor an outcome.
-    Working,
-    /// It voted prepared, and has learned no outcome.
-    Prepared,
-    /// It has learned that the transaction is committed.
-    Committed,
-    /// It voted aborted, or has learned that the transaction is aborted.
-    Aborted,
-}
-
-/// What a leader knows of a transaction.
-#[derive(Clone, Copy, Debug, PartialEq, Eq)]
-pub enum Status {
-    /// It has not heard of it.
-    Unknown,
-    /// It has met it by a commit call, a timeout, a phase 2b message or a question, or has begun a ballot of it, and knows no decision.
-    Undecided,
-    /// All instances have decided prepared.
-    Committed,
-    /// Some instance has decided aborted.
-    Aborted,
-}
-
-/// The name of a node: its kind, and its number among those.
-#[derive(Clone, Copy, Debug, PartialEq, Eq)]
-pub enum NodeId {
-    /// An acceptor.
-    A(u8),
-    /// A leader.
-    L(u8),
-    /// A resource manager.
-    R(u8),
-}
+pub use answers::Answer;
+pub use decisions::{Address, Decision, Outgoing, Sends};
+pub use events::{Change, Event, Sent, Step};
+pub use nodes::NodeId;
+pub use requests::{Action, Request};
+pub use rows::Row;
+pub use states::{BranchState, Standing, Status, View};

@@ -1,9 +1,9 @@
 -- The specification's machine, under the words of this crate, and what holds of its states. Gray and Lamport, "Consensus on
 -- Transaction Commit", ACM TODS 31(1), 2006, section 2.
-pub use Rattle.protocol.specs.declared.View.{View}
-pub use Rattle.protocol.specs.declared.View.TheVariants.{Working as working, Prepared as prepared, Committed as committed}
-pub use Rattle.protocol.specs.declared.View.TheVariants.{Aborted as aborted}
-pub use Rattle.protocol.specs.Views.{IsReady, IsCommitMove, IsOneMove, IsCommitStep}
+pub use Rattle.protocol.specs.declared.states.View.{View}
+pub use Rattle.protocol.specs.declared.states.View.TheVariants.{Working as working, Prepared as prepared, Committed as committed}
+pub use Rattle.protocol.specs.declared.states.View.TheVariants.{Aborted as aborted}
+pub use Rattle.protocol.specs.TCommit.{IsReady, IsCommitMove, IsOneMove, IsCommitStep}
 use Rattle.std.specs.Prelude.{◌≡◌, ◌≢◌, ℕ, Bool, IsTrue}
 
 -- no participant is committed while another is aborted

@@ -2,12 +2,13 @@
 use Rattle.std.specs.Prelude.{◌≡◌, ◌≢◌, ℕ, true, List, Contains}
 use Rattle.std.specs.List.{AllByRecursion}
 use Rattle.stable_record.specs.Facts.{AreAscending}
-use Rattle.protocol.specs.Managers.{Branch, has_key}
+use Rattle.protocol.specs.Branches.{is_write}
+use Rattle.protocol.specs.Managers.{Branch, act_on, has_key}
 
--- no key is touched by branches of two names
+-- no key is held by branches of two names of which one has put or deleted it
 abbrev pub AreHeldOnce : List Branch → Type 0
 AreHeldOnce branches = (b c : Branch) → Contains branches b → Contains branches c → b.xid ≢ c.xid
-    → (key : List ℕ) → has_key key b.keys ≡ true → ¬ (has_key key c.keys ≡ true)
+    → (key : List ℕ) → is_write (act_on b.keys key) ≡ true → ¬ (has_key key c.keys ≡ true)
 
 -- no name has two branches
 abbrev pub AreNamedOnce : List Branch → Type 0

@@ -4,7 +4,7 @@ use Rattle.std.specs.Prelude.{◌≡◌, ◌⊎◌, ℕ, zero, suc, ◌<◌, ◌
 pub use Rattle.ballot.specs.Majority.{count, IsMajority}
 pub use Rattle.xid.specs.declared.transaction.Vote.{Vote}
 pub use Rattle.xid.specs.declared.transaction.Vote.TheVariants.{Prepared, Aborted}
-pub use Rattle.protocol.specs.StandsFor.{Item, Promised, Accepted, Began, Voted, Committed, Dropped, P1b, P2a, P2b, Commit, Abort}
+pub use Rattle.protocol.specs.StandsFor.{Item, Promised, Accepted, Began, Voted, Committed, StoredAbort, P1b, P2a, P2b, Commit, Abort}
 use Rattle.safety.specs.CommitSteps.{View, working, prepared, committed, aborted}
 
 -- what is fixed for all time: the number of acceptors, the leader that owns a ballot above 0, and whether a
@@ -12,7 +12,7 @@ use Rattle.safety.specs.CommitSteps.{View, working, prepared, committed, aborted
 pub record Setting (Tx : Type 0) : Type 0 where
   pub acceptors : ℕ
   pub owner : ℕ → ℕ
-  pub names : Tx → ℕ → Bool
+  pub is_participant : Tx → ℕ → Bool
 
 -- a majority sent phase 2b with v in ballot b (section 4.1)
 pub record IsDecidedIn {Tx : Type 0} (n : ℕ) (Has : Item Tx → Type 0) (tx : Tx) (i b : ℕ) (v : Vote) : Type 0 where
@@ -20,41 +20,41 @@ pub record IsDecidedIn {Tx : Type 0} (n : ℕ) (Has : Item Tx → Type 0) (tx : 
   pub majority : IsMajority n members
   pub accepted : (a : ℕ) → a < n → IsTrue (members a) → Has (P2b tx i b v a)
 
--- in some ballot
+-- an instance has decided v, in some ballot
 abbrev pub IsDecided : {Tx : Type 0} (n : ℕ) (Has : Item Tx → Type 0) (tx : Tx) (i : ℕ) (v : Vote) → Type 0
 IsDecided n Has tx i v = (b : ℕ) × IsDecidedIn n Has tx i b v
 
 -- no member reported an accept
-abbrev pub IsSilent : (n : ℕ) (members : ℕ → Bool) (report : ℕ → Option (ℕ × Vote)) → Type 0
-IsSilent n members report = (a : ℕ) → a < n → IsTrue (members a) → report a ≡ None
+abbrev pub ReportsNoAccept : (n : ℕ) (members : ℕ → Bool) (report : ℕ → Option (ℕ × Vote)) → Type 0
+ReportsNoAccept n members report = (a : ℕ) → a < n → IsTrue (members a) → report a ≡ None
 
 -- the ballot of a report is at most this
-abbrev pub IsAtMost : Option (ℕ × Vote) → ℕ → Type 0
-IsAtMost None top = Unit {0}
-IsAtMost (Some last) top = last.0 ≤ top
+abbrev pub IsBallotAtMost : Option (ℕ × Vote) → ℕ → Type 0
+IsBallotAtMost None top = Unit {0}
+IsBallotAtMost (Some last) top = last.0 ≤ top
 
 -- v was reported by a member, in the greatest ballot that any member reported
-pub record IsGreatest (n : ℕ) (members : ℕ → Bool) (report : ℕ → Option (ℕ × Vote)) (v : Vote) : Type 0 where
+pub record IsGreatestReport (n : ℕ) (members : ℕ → Bool) (report : ℕ → Option (ℕ × Vote)) (v : Vote) : Type 0 where
   pub member : ℕ
   pub top : ℕ
   pub below : member < n
   pub is_in : IsTrue (members member)
   pub says : report member ≡ Some (top, v)
-  pub greatest : (a : ℕ) → a < n → IsTrue (members a) → IsAtMost (report a) top
+  pub greatest : (a : ℕ) → a < n → IsTrue (members a) → IsBallotAtMost (report a) top
 
 -- the value that phase 2a takes from phase 1b of a majority: aborted where none of them accepted anything, else the
 -- value accepted in the greatest ballot (section 4.2)
-pub record IsPick {Tx : Type 0} (n : ℕ) (Has : Item Tx → Type 0) (tx : Tx) (i b : ℕ) (v : Vote) : Type 0 where
+pub record IsMajorityPick {Tx : Type 0} (n : ℕ) (Has : Item Tx → Type 0) (tx : Tx) (i b : ℕ) (v : Vote) : Type 0 where
   pub members : ℕ → Bool
   pub majority : IsMajority n members
   pub report : ℕ → Option (ℕ × Vote)
   pub heard : (a : ℕ) → a < n → IsTrue (members a) → Has (P1b tx i b (report a) a)
-  pub value : ((v ≡ Aborted) × IsSilent n members report) ⊎ IsGreatest n members report v
+  pub value : ((v ≡ Aborted) × ReportsNoAccept n members report) ⊎ IsGreatestReport n members report v
 
 -- the report of acceptor a is an accept that stands, below ballot b
-abbrev pub IsReported : {Tx : Type 0} (Has : Item Tx → Type 0) (tx : Tx) (i b a : ℕ) → Option (ℕ × Vote) → Type 0
-IsReported Has tx i b a None = Unit {0}
-IsReported Has tx i b a (Some last) = (last.0 < b) × Has (Accepted a tx i last.0 last.1)
+abbrev pub IsReportOfAccept : {Tx : Type 0} (Has : Item Tx → Type 0) (tx : Tx) (i b a : ℕ) → Option (ℕ × Vote) → Type 0
+IsReportOfAccept Has tx i b a None = Unit {0}
+IsReportOfAccept Has tx i b a (Some last) = (last.0 < b) × Has (Accepted a tx i last.0 last.1)
 
 -- the ballot c is no greater than the reported one
 abbrev pub IsCovered : Option (ℕ × Vote) → ℕ → Type 0
@@ -62,15 +62,15 @@ IsCovered None c = ⊥
 IsCovered (Some last) c = c ≤ last.0
 
 -- phase 1b: the promise stands, and the report is the accept of the greatest ballot below it (section 4.1)
-pub record IsReport {Tx : Type 0} (Has : Item Tx → Type 0) (tx : Tx) (i b : ℕ) (report : Option (ℕ × Vote)) (a : ℕ) : Type 0 where
+pub record IsPromiseReport {Tx : Type 0} (Has : Item Tx → Type 0) (tx : Tx) (i b : ℕ) (report : Option (ℕ × Vote)) (a : ℕ) : Type 0 where
   pub promised : Has (Promised a tx i b)
-  pub reported : IsReported Has tx i b a report
+  pub reported : IsReportOfAccept Has tx i b a report
   pub covers : {c : ℕ} {v : Vote} → Has (Accepted a tx i c v) → c < b → IsCovered report c
 
 -- phase 2a above ballot 0: the owner of the ballot began it, has picked v, and proposes no other value in it (section 4.1)
 pub record IsProposal {Tx : Type 0} (c : Setting Tx) (Has : Item Tx → Type 0) (tx : Tx) (i b : ℕ) (v : Vote) : Type 0 where
   pub owned : Has (Began (c.owner b) tx b)
-  pub picked : IsPick c.acceptors Has tx i b v
+  pub picked : IsMajorityPick c.acceptors Has tx i b v
   pub alone : {w : Vote} → Has (P2a tx i b w) → w ≡ v
 
 -- an accept: the value was proposed, and no greater ballot was promised (section 4.1)
@@ -80,34 +80,34 @@ pub record IsAcceptable {Tx : Type 0} (Has : Item Tx → Type 0) (a : ℕ) (tx :
 
 -- a vote: the resource manager is a participant, and is working (section 4.2)
 pub record IsFirstVote {Tx : Type 0} (c : Setting Tx) (Has : Item Tx → Type 0) (r : ℕ) (tx : Tx) : Type 0 where
-  pub named : IsTrue (c.names tx r)
+  pub named : IsTrue (c.is_participant tx r)
   pub unvoted : {v : Vote} → ¬ Has (Voted r tx v)
   pub uncommitted : ¬ Has (Committed r tx)
-  pub undropped : ¬ Has (Dropped r tx)
+  pub undropped : ¬ Has (StoredAbort r tx)
 
 -- some participant's instance decided aborted
 abbrev pub IsSomeAborted : {Tx : Type 0} (c : Setting Tx) (Has : Item Tx → Type 0) (tx : Tx) → Type 0
-IsSomeAborted c Has tx = (r : ℕ) × IsTrue (c.names tx r) × IsDecided c.acceptors Has tx r Aborted
+IsSomeAborted c Has tx = (r : ℕ) × IsTrue (c.is_participant tx r) × IsDecided c.acceptors Has tx r Aborted
 
 -- what may be added to what stands (section 4.2). Ballot 0 belongs to the instance's resource manager, and carries its vote
-abbrev pub Allowed : {Tx : Type 0} (c : Setting Tx) (Has : Item Tx → Type 0) → Item Tx → Type 0
-Allowed c Has (Promised a tx i b) = Unit {0}
-Allowed c Has (Accepted a tx i b v) = IsAcceptable Has a tx i b v
-Allowed c Has (Began l tx b) = Unit {0}
-Allowed c Has (Voted r tx v) = IsFirstVote c Has r tx
-Allowed c Has (Committed r tx) = Has (Commit tx) × Has (Voted r tx Prepared)
-Allowed c Has (Dropped r tx) = Has (Abort tx)
-Allowed c Has (P1b tx i b report a) = IsReport Has tx i b report a
-Allowed c Has (P2a tx i zero v) = Has (Voted i tx v)
-Allowed c Has (P2a tx i (suc b) v) = IsProposal c Has tx i (suc b) v
-Allowed c Has (P2b tx i b v a) = Has (Accepted a tx i b v)
-Allowed c Has (Commit tx) = (r : ℕ) → IsTrue (c.names tx r) → IsDecided c.acceptors Has tx r Prepared
-Allowed c Has (Abort tx) = IsSomeAborted c Has tx
+abbrev pub IsAllowed : {Tx : Type 0} (c : Setting Tx) (Has : Item Tx → Type 0) → Item Tx → Type 0
+IsAllowed c Has (Promised a tx i b) = Unit {0}
+IsAllowed c Has (Accepted a tx i b v) = IsAcceptable Has a tx i b v
+IsAllowed c Has (Began l tx b) = Unit {0}
+IsAllowed c Has (Voted r tx v) = IsFirstVote c Has r tx
+IsAllowed c Has (Committed r tx) = Has (Commit tx) × Has (Voted r tx Prepared)
+IsAllowed c Has (StoredAbort r tx) = Has (Abort tx)
+IsAllowed c Has (P1b tx i b report a) = IsPromiseReport Has tx i b report a
+IsAllowed c Has (P2a tx i zero v) = Has (Voted i tx v)
+IsAllowed c Has (P2a tx i (suc b) v) = IsProposal c Has tx i (suc b) v
+IsAllowed c Has (P2b tx i b v a) = Has (Accepted a tx i b v)
+IsAllowed c Has (Commit tx) = (r : ℕ) → IsTrue (c.is_participant tx r) → IsDecided c.acceptors Has tx r Prepared
+IsAllowed c Has (Abort tx) = IsSomeAborted c Has tx
 
 -- what is added, if anything, is allowed
-abbrev pub IsAllowed : {Tx : Type 0} (c : Setting Tx) (Has : Item Tx → Type 0) → Option (Item Tx) → Type 0
-IsAllowed c Has None = Unit {0}
-IsAllowed c Has (Some x) = Allowed c Has x
+abbrev pub IsAllowedIfAny : {Tx : Type 0} (c : Setting Tx) (Has : Item Tx → Type 0) → Option (Item Tx) → Type 0
+IsAllowedIfAny c Has None = Unit {0}
+IsAllowedIfAny c Has (Some x) = IsAllowed c Has x
 
 -- what stands now is what stood and at most what was added
 pub record IsGrown {Tx : Type 0} (Has : Item Tx → Type 0) (added : Option (Item Tx)) (Now : Item Tx → Type 0) : Type 0 where
@@ -116,18 +116,18 @@ pub record IsGrown {Tx : Type 0} (Has : Item Tx → Type 0) (added : Option (Ite
 
 -- the view of resource manager r, by what it has stored
 abbrev pub IsView : {Tx : Type 0} (Has : Item Tx → Type 0) (tx : Tx) (r : ℕ) → View → Type 0
-IsView Has tx r working = ((v : Vote) → ¬ Has (Voted r tx v)) × ¬ Has (Committed r tx) × ¬ Has (Dropped r tx)
-IsView Has tx r prepared = Has (Voted r tx Prepared) × ¬ Has (Committed r tx) × ¬ Has (Dropped r tx)
+IsView Has tx r working = ((v : Vote) → ¬ Has (Voted r tx v)) × ¬ Has (Committed r tx) × ¬ Has (StoredAbort r tx)
+IsView Has tx r prepared = Has (Voted r tx Prepared) × ¬ Has (Committed r tx) × ¬ Has (StoredAbort r tx)
 IsView Has tx r committed = Has (Committed r tx)
-IsView Has tx r aborted = Has (Voted r tx Aborted) ⊎ Has (Dropped r tx)
+IsView Has tx r aborted = Has (Voted r tx Aborted) ⊎ Has (StoredAbort r tx)
 
 -- s is the state of a transaction: the view of each participant
 abbrev pub IsState : {Tx : Type 0} (c : Setting Tx) (Has : Item Tx → Type 0) (tx : Tx) (s : ℕ → View) → Type 0
-IsState c Has tx s = (r : ℕ) → IsTrue (c.names tx r) → IsView Has tx r (s r)
+IsState c Has tx s = (r : ℕ) → IsTrue (c.is_participant tx r) → IsView Has tx r (s r)
 
 -- the resource manager whose view a fact can change
 abbrev pub manager_of : {Tx : Type 0} → Item Tx → Option ℕ
 manager_of (Voted r tx v) = Some r
 manager_of (Committed r tx) = Some r
-manager_of (Dropped r tx) = Some r
+manager_of (StoredAbort r tx) = Some r
 manager_of _ = None

@@ -1,3 +1,4 @@
+pub mod Words
 pub mod CommitSteps
 pub mod Items
 pub mod Invariant
@@ -6,3 +7,4 @@ pub mod Runs
 pub mod Senders
 pub mod Laws
 pub mod Holds
+pub mod Changes

@@ -3,13 +3,12 @@ use Rattle.std.specs.Prelude.{◌≡◌, ℕ, zero, suc, List}
 use Rattle.wire.specs.declared.message.Kind.{Kind}
 use Rattle.wire.specs.declared.message.Kind.TheVariants.{Prepare, P1a, P1b, P2a, P2b, Commit, Abort, Ask}
 use Rattle.ballot.specs.Ballots.{owner_of}
-use Rattle.protocol.specs.declared.NodeId.{NodeId}
-use Rattle.protocol.specs.declared.NodeId.TheVariants.{A, L, R}
+use Rattle.safety.specs.Words.{NodeId, A, L, R}
 use Rattle.protocol.specs.Effects.{Config}
 use Rattle.protocol.specs.Worlds.{Datagram}
-use Rattle.safety.specs.Standing.{Among}
+use Rattle.ballot.specs.Greatest.{IsIn}
 
--- from some leader
+-- the sender is some leader
 abbrev pub IsFromLeader : NodeId → Type 0
 IsFromLeader who = (l : ℕ) × (who ≡ L l)
 
@@ -28,4 +27,4 @@ IsFrom config who (Ask tx rm) = who ≡ R rm
 
 -- each datagram is from the node that its message says
 abbrev pub AreFrom : Config → List Datagram → Type 0
-AreFrom config net = (d : Datagram) → Among net d → IsFrom config d.sender d.message
+AreFrom config net = (d : Datagram) → IsIn net d → IsFrom config d.sender d.message

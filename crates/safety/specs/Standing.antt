@@ -1,53 +1,48 @@
 -- What stands in a world: facts in the records of nodes, messages in datagrams that were ever sent.
-use Rattle.std.specs.Prelude.{◌≡◌, ◌⊎◌, List, [], ◌∷◌, map, Option, Some, None}
-use Rattle.xid.specs.Transactions.{TxParts, names}
+use Rattle.std.specs.Prelude.{List, [], map, Option, Some, None}
+use Rattle.xid.specs.Transactions.{TxParts, is_participant}
 use Rattle.xid.specs.declared.transaction.Vote.{Vote}
 use Rattle.xid.specs.declared.transaction.Vote.TheVariants as votes
 use Rattle.wire.specs.declared.message.Kind.{Kind}
 use Rattle.wire.specs.declared.message.Kind.TheVariants as kinds
+use Rattle.ballot.specs.Greatest.{IsIn}
 use Rattle.ballot.specs.Ballots.{owner_of}
-use Rattle.stable_record.specs.Facts.{Fact, Touched}
-use Rattle.stable_record.specs.Facts as stored
-use Rattle.protocol.specs.declared.NodeId.{NodeId}
-use Rattle.protocol.specs.declared.NodeId.TheVariants.{A, L, R}
+use Rattle.safety.specs.Words.{Fact, Touched, NodeId, A, L, R}
+use Rattle.stable_record.specs.declared.fact.FactKind.TheVariants as stored
 use Rattle.protocol.specs.Effects.{Config}
 use Rattle.protocol.specs.Nodes.{NodeState}
 use Rattle.protocol.specs.Worlds.{World, node_at}
-use Rattle.safety.specs.Items.{Setting, Item, Promised, Accepted, Began, Voted, Committed, Dropped, P1b, P2a, P2b, Commit, Abort}
-
--- one of a list
-abbrev pub Among : {X : Type 0} → List X → X → Type 0
-Among [] x = ⊥
-Among (first ∷ rest) x = (first ≡ x) ⊎ Among rest x
+use Rattle.safety.specs.Items.{Setting, Item, Promised, Accepted, Began, Voted, Committed, StoredAbort, P1b, P2a, P2b, Commit, Abort}
 
 -- what is fixed in a cluster
 abbrev pub setting : Config → Setting TxParts
-setting config = record { acceptors = config.acceptors; owner = owner_of config.leaders; names = names }
+setting config = record { acceptors = config.acceptors; owner = owner_of config.leaders; is_participant = is_participant }
 
 -- a vote stands among the facts of a resource manager
 abbrev pub HasVote : List Fact → TxParts → Vote → Type 0
-HasVote facts tx votes.Prepared = (keys : List Touched) × Among facts (stored.VotePrepared tx keys)
-HasVote facts tx votes.Aborted = Among facts (stored.VoteAborted tx)
+HasVote facts tx votes.Prepared = (keys : List Touched) × IsIn facts (stored.VotePrepared tx keys)
+HasVote facts tx votes.Aborted = IsIn facts (stored.VoteAborted tx)
 
 -- an item stands: facts gives those of each node, sent the messages that were sent
 abbrev pub StandsBy : (facts : NodeId → List Fact) (sent : List Kind) → Item TxParts → Type 0
-StandsBy facts sent (Promised a tx i b) = Among (facts (A a)) (stored.Promise tx i b)
-StandsBy facts sent (Accepted a tx i b v) = Among (facts (A a)) (stored.Accept tx i b v)
-StandsBy facts sent (Began l tx b) = Among (facts (L l)) (stored.Ballot tx b)
+StandsBy facts sent (Promised a tx i b) = IsIn (facts (A a)) (stored.Promise tx i b)
+StandsBy facts sent (Accepted a tx i b v) = IsIn (facts (A a)) (stored.Accept tx i b v)
+StandsBy facts sent (Began l tx b) = IsIn (facts (L l)) (stored.Ballot tx b)
 StandsBy facts sent (Voted r tx v) = HasVote (facts (R r)) tx v
-StandsBy facts sent (Committed r tx) = Among (facts (R r)) (stored.Committed tx)
-StandsBy facts sent (Dropped r tx) = Among (facts (R r)) (stored.Aborted tx)
-StandsBy facts sent (P1b tx i b report a) = Among sent (kinds.P1b tx i b report a)
-StandsBy facts sent (P2a tx i b v) = Among sent (kinds.P2a tx i b v)
-StandsBy facts sent (P2b tx i b v a) = Among sent (kinds.P2b tx i b v a)
-StandsBy facts sent (Commit tx) = Among sent (kinds.Commit tx)
-StandsBy facts sent (Abort tx) = Among sent (kinds.Abort tx)
+StandsBy facts sent (Committed r tx) = IsIn (facts (R r)) (stored.Committed tx)
+StandsBy facts sent (StoredAbort r tx) = IsIn (facts (R r)) (stored.Aborted tx)
+StandsBy facts sent (P1b tx i b report a) = IsIn sent (kinds.P1b tx i b report a)
+StandsBy facts sent (P2a tx i b v) = IsIn sent (kinds.P2a tx i b v)
+StandsBy facts sent (P2b tx i b v a) = IsIn sent (kinds.P2b tx i b v a)
+StandsBy facts sent (Commit tx) = IsIn sent (kinds.Commit tx)
+StandsBy facts sent (Abort tx) = IsIn sent (kinds.Abort tx)
 
 -- the facts of a node, none where there is no such node
 abbrev pub facts_of : Option NodeState → List Fact
 facts_of None = []
 facts_of (Some node) = node.facts
 
+-- the facts of the node of a name in a world
 abbrev pub facts_at : Config → World → NodeId → List Fact
 facts_at config world who = facts_of (node_at config world who)
 

@@ -2,6 +2,11 @@
 //! configurations and all lists of events. The functions have empty bodies; their clauses are the theorems.
 #![tactic(auto)]
 
+/// The claim: what the README promises of the protocol.
 pub mod headline;
+
+/// What slots, views and reachable worlds are.
 pub mod laws;
+
+/// The invariant, part by part.
 pub mod parts;

@@ -1,44 +1,38 @@
 -- What nodes store: one fact at a time, never changed.
-use Rattle.std.specs.Prelude.{◌≡◌, ℕ, ◌<◌, ◌≤◌, ◌^◌, IsTrue, List, [], ◌∷◌, length, Option, IfSome}
+use Rattle.stable_record.specs.declared.fact.Act.{Act}
+use Rattle.stable_record.specs.declared.fact.Touched.{Touched}
+use Rattle.stable_record.specs.declared.fact.FactKind.{FactKind as Fact}
+use Rattle.stable_record.specs.declared.fact.FactKind.TheVariants.{Promise, Accept, Ballot, VotePrepared, VoteAborted, Committed, Aborted}
+use Rattle.std.specs.Prelude.{◌≡◌, ℕ, ◌<◌, ◌≤◌, List, [], ◌∷◌, length}
 use Rattle.std.specs.List.{AllByRecursion}
 use Rattle.std.specs.Cmp.Lexicographic.{slice_cmp}
 use Rattle.std.specs.Ordering.{nat_cmp}
 use Rattle.std.specs.declared.cmp.Ordering.TheVariants.{Less}
+use Rattle.xid.specs.Limits.{most_key, most_value, most_touched}
 use Rattle.xid.specs.Names.{IsBytes}
-use Rattle.xid.specs.Transactions.{TxParts, IsTx, names}
-use Rattle.xid.specs.declared.transaction.Vote.{Vote}
+use Rattle.xid.specs.Transactions.{TxParts, IsTx}
+use Rattle.wire.specs.Messages.{IsInstance, IsBallot, IsLeaderBallot}
 
--- a key that a branch has touched, with its last write of it: none where it only read the key, else the new value or none
-pub record Touched : Type 0 where
-  pub key : List ℕ
-  pub write : Option (Option (List ℕ))
-
--- stored by acceptors: part in a ballot of an instance, a value accepted in it; by leaders: a ballot begun; by resource
--- managers: a vote, with the keys of the branch, and what became of the transaction
-pub data Fact : Type 0 where
-  Promise : (tx : TxParts) (instance ballot : ℕ) → Fact
-  Accept : (tx : TxParts) (instance ballot : ℕ) (vote : Vote) → Fact
-  Ballot : (tx : TxParts) (ballot : ℕ) → Fact
-  VotePrepared : (tx : TxParts) (keys : List Touched) → Fact
-  VoteAborted : (tx : TxParts) → Fact
-  Committed : (tx : TxParts) → Fact
-  Aborted : (tx : TxParts) → Fact
-
--- a key has 1 to 64 bytes
+-- a key: not empty, and not too long
 pub record IsKey (key : List ℕ) : Type 0 where
   pub some : 0 < length key
-  pub few : length key ≤ 64
+  pub few : length key ≤ most_key
   pub bytes : IsBytes key
 
--- a value is at most 256 bytes
+-- a value: not too long
 pub record IsValue (value : List ℕ) : Type 0 where
-  pub few : length value ≤ 256
+  pub few : length value ≤ most_value
   pub bytes : IsBytes value
 
--- a key that fits, with a value that fits where one was put
+-- a value that was put fits
+abbrev pub IsAct : Act → Type 0
+IsAct (Act.Put value) = IsValue value
+IsAct act = Unit {0}
+
+-- a key that fits, with an act that does
 pub record IsTouched (touched : Touched) : Type 0 where
   pub key : IsKey touched.key
-  pub value : IfSome touched.write (λ write. IfSome write IsValue)
+  pub act : IsAct touched.act
 
 -- keys strictly ascending by their bytes
 abbrev pub AreAscending : List Touched → Type 0
@@ -48,32 +42,26 @@ AreAscending (first ∷ second ∷ rest) = (slice_cmp nat_cmp first.key second.k
 
 -- the touched keys of a vote
 pub record AreKeys (keys : List Touched) : Type 0 where
-  pub few : length keys ≤ 64
+  pub few : length keys ≤ most_touched
   pub each : AllByRecursion IsTouched keys
   pub ascending : AreAscending keys
 
--- an instance of a transaction, in a ballot
-pub record IsInstance (tx : TxParts) (instance ballot : ℕ) : Type 0 where
-  pub valid : IsTx tx
-  pub named : IsTrue (names tx instance)
-  pub fits : ballot < 2 ^ 32
-
 -- the facts that a record may hold
 abbrev pub IsFact : Fact → Type 0
-IsFact (Promise tx instance ballot) = IsInstance tx instance ballot
-IsFact (Accept tx instance ballot vote) = IsInstance tx instance ballot
-IsFact (Ballot tx ballot) = IsTx tx × (1 ≤ ballot) × (ballot < 2 ^ 32)
+IsFact (Promise tx instance ballot) = IsInstance tx instance × IsBallot ballot
+IsFact (Accept tx instance ballot vote) = IsInstance tx instance × IsBallot ballot
+IsFact (Ballot tx ballot) = IsTx tx × IsLeaderBallot ballot
 IsFact (VotePrepared tx keys) = IsTx tx × AreKeys keys
 IsFact (VoteAborted tx) = IsTx tx
 IsFact (Committed tx) = IsTx tx
 IsFact (Aborted tx) = IsTx tx
 
 -- the transaction that a fact is about
-abbrev pub tx_of : Fact → TxParts
-tx_of (Promise tx instance ballot) = tx
-tx_of (Accept tx instance ballot vote) = tx
-tx_of (Ballot tx ballot) = tx
-tx_of (VotePrepared tx keys) = tx
-tx_of (VoteAborted tx) = tx
-tx_of (Committed tx) = tx
-tx_of (Aborted tx) = tx
+abbrev pub fact_tx : Fact → TxParts
+fact_tx (Promise tx instance ballot) = tx
+fact_tx (Accept tx instance ballot vote) = tx
+fact_tx (Ballot tx ballot) = tx
+fact_tx (VotePrepared tx keys) = tx
+fact_tx (VoteAborted tx) = tx
+fact_tx (Committed tx) = tx
+fact_tx (Aborted tx) = tx

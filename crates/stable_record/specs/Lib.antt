@@ -1,3 +1,2 @@
 pub mod Facts
-pub mod FactsOf
 pub mod Frames

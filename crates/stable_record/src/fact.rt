@@ -1,9 +1,8 @@
 ghost use Rattle.std.specs.Prelude.{◌≡◌};
 ghost use Rattle.stable_record.specs.Facts.{IsFact};
-ghost use Rattle.stable_record.specs.FactsOf.{fact_of};
 
 use std::marker::Model;
-use xid::{Tx, Vote};
+use xid::{Ballot, Bytes, ManagerNumber, Sequence, Tx, Vote};
 
 /// What a branch last did to a key that it has touched.
 #[derive(Debug, Drop, PartialEq, Eq)]
@@ -11,7 +10,7 @@ pub enum Act {
     /// It only read the key.
     Read,
     /// It put this value.
-    Put(Vec<u8>),
+    Put(Bytes),
     /// It deleted the key.
     Del,
 }
@@ -20,7 +19,7 @@ pub enum Act {
 #[derive(Debug, Drop, PartialEq, Eq)]
 pub struct Touched {
     /// The key.
-    pub key: Vec<u8>,
+    pub key: Bytes,
     /// The last act on it.
     pub act: Act,
 }
@@ -29,13 +28,39 @@ pub struct Touched {
 #[derive(Debug, Drop, PartialEq, Eq)]
 pub enum FactKind {
     /// An acceptor takes part in a ballot of an instance.
-    Promise(Tx, u16, u32),
+    Promise {
+        /// The transaction.
+        tx: Tx,
+        /// The instance.
+        instance: ManagerNumber,
+        /// The ballot.
+        ballot: Ballot,
+    },
     /// An acceptor accepts a value in a ballot of an instance.
-    Accept(Tx, u16, u32, Vote),
+    Accept {
+        /// The transaction.
+        tx: Tx,
+        /// The instance.
+        instance: ManagerNumber,
+        /// The ballot.
+        ballot: Ballot,
+        /// The value.
+        vote: Vote,
+    },
     /// A leader begins a ballot.
-    Ballot(Tx, u32),
-    /// A resource manager votes prepared; its branch has touched these keys.
-    VotePrepared(Tx, Vec<Touched>),
+    Ballot {
+        /// The transaction.
+        tx: Tx,
+        /// The ballot, at least 1.
+        ballot: Ballot,
+    },
+    /// A resource manager votes prepared.
+    VotePrepared {
+        /// The transaction.
+        tx: Tx,
+        /// The keys that its branch has touched, ascending.
+        keys: Sequence<Touched>,
+    },
     /// A resource manager votes aborted.
     VoteAborted(Tx),
     /// A resource manager has learned that the transaction is committed.
@@ -51,29 +76,28 @@ pub struct Fact {
 }
 
 impl Model for Fact {
+    ghost use Rattle.stable_record.specs.declared.fact.FactKind.{FactKind};
     ghost use Rattle.stable_record.specs.Facts.{IsFact};
-    ghost use Rattle.stable_record.specs.Facts as facts;
-    ghost use Rattle.stable_record.specs.FactsOf.{fact_of};
 
-    ghost Value = { facts.Fact };
+    ghost Value = { FactKind };
 
-    ghost view = { λ f. fact_of f.kind };
+    ghost view = { λ fact. fact.kind };
 
-    ghost invariant = { λ f. IsFact (fact_of f.kind) };
+    ghost invariant = { λ fact. IsFact fact.kind };
 }
 
 impl Fact {
     /// The fact of a kind.
     pub fn new(kind: FactKind) -> Fact
-        requires { IsFact (fact_of kind) }
-        ensures { result ≡ fact_of kind }
+        requires { IsFact kind }
+        ensures { result ≡ kind }
     {
         Fact { kind }
     }
 
     /// What it says.
     pub fn kind(&self) -> &FactKind
-        ensures value { fact_of result.now ≡ self.now }
+        ensures value { result.now ≡ self.now }
         ensures valid { IsFact self.now }
     {
         &self.kind

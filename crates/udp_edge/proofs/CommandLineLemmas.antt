@@ -38,12 +38,6 @@ named_rows name_of rows_at (Some b) name rows n r =
     let rows_is : rows_at b ≡ rows = ap (λ (o : Option (List Row)). unwrap_or o []) r in
     ap₂ (λ (x : Text) (y : List Row). Some (x, y)) name_is rows_is
 
--- the name alone
-pub name_of_rows : {B : Type 0} (name_of : B → Text) (rows_at : B → List Row) (o : Option B) (name : Text) (rows : List Row)
-    → option_map (both name_of rows_at) o ≡ Some (name, rows) → option_map name_of o ≡ Some name
-name_of_rows name_of rows_at None name rows h = absurd (cc (h))
-name_of_rows name_of rows_at (Some b) name rows h = ap (option_map (λ (p : Text × List Row). p.0)) h
-
 -- an error among kinds shows that there are some
 pub among_some : (k : ErrorKind) (kinds : Kinds) → IsAmong k kinds → kinds ≢ []
 among_some k [] h e = h

@@ -1,5 +1,5 @@
 -- The command line, in the words of clap.
-use Rattle.std.specs.Prelude.{◌≢◌, ◌⊎◌, ⊤, [], ◌≡◌, ℕ, true, codes, List, Some}
+use Rattle.std.specs.Prelude.{◌≢◌, ⊤, [], ◌≡◌, ℕ, true, codes, List, Some}
 use Rattle.clap.specs.Words.{App, Row, Rule, Text, fault_of, first_of, new_app, new_rule, subcommand_of, with_rule, with_subcommand}
 use Rattle.std.specs.IoError.{error_kind}
 use Rattle.std.specs.declared.io.Error.{Error}
@@ -26,17 +26,22 @@ program_name = new_app (codes "pcommit")
 abbrev pub command_line : App
 command_line = with_subcommand (record program_name { top = record program_name.top { subcommand_required = true } }) run_command.top
 
--- the words name the subcommand `run`, and this path as its file
+-- the words have no fault, and name the subcommand `run`, and this path as its file
 abbrev pub IsRunOf : List Text → Text → Type 0
-IsRunOf words path = (rows : List Row) × (subcommand_of command_line words ≡ Some (codes "run", rows)) × (first_of (codes "FILE") rows ≡ Some path)
+IsRunOf words path = (fault_of command_line words ≡ [])
+    × ((rows : List Row) × (subcommand_of command_line words ≡ Some (codes "run", rows)) × (first_of (codes "FILE") rows ≡ Some path))
+
+-- the words ask for the run of some file
+abbrev pub AsksForRun : List Text → Type 0
+AsksForRun words = (path : Text) × IsRunOf words path
 
 -- what the words ask for
 abbrev pub AsksFor : List Text → Subcommand → Type 0
 AsksFor words (Run file) = IsRunOf words file.now
 
--- the words have a fault, or name no subcommand with its file
+-- the words ask for no run: they have a fault, or name no subcommand with its file
 abbrev pub IsMisuse : List Text → Type 0
-IsMisuse words = (fault_of command_line words ≢ []) ⊎ ((path : Text) → ¬ IsRunOf words path)
+IsMisuse words = (path : Text) → ¬ IsRunOf words path
 
 -- why a command line is rejected
 abbrev pub RejectsLine : List Text → Rejected → Type 0
@@ -49,6 +54,6 @@ RejectsBy error Usage = error_kind error ≢ OutOfMemory
 RejectsBy error NoMemory = error_kind error ≡ OutOfMemory
 
 -- the exit status of a command line that isn't carried out
-abbrev pub status_of : Rejected → ℕ
-status_of Usage = 2
-status_of NoMemory = 3
+abbrev pub exit_status : Rejected → ℕ
+exit_status Usage = 2
+exit_status NoMemory = 3

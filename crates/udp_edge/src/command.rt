@@ -1,5 +1,8 @@
+//! The command line, read by clap.
+
 ghost use Rattle.std.specs.Prelude.{◌≡◌, map, IfOk, IfErr};
-ghost use Rattle.udp_edge.specs.CommandLines.{AsksFor, RejectsLine, RejectsBy};
+ghost use Rattle.clap.specs.Words.{app_of};
+ghost use Rattle.udp_edge.specs.CommandLines.{AsksFor, RejectsLine, RejectsBy, command_line};
 ghost use Rattle.udp_edge.specs.declared.command.Rejected.TheVariants.{NoMemory};
 
 use clap::error::ErrorKind;
@@ -60,14 +63,7 @@ pub fn action<'a, S: AsStr>(alloc: Global, words: &'a [S]) -> Result<Subcommand<
     ensures ok { IfOk result (AsksFor (map S.text words.entry.now)) }
     ensures err { IfErr result (RejectsLine (map S.text words.entry.now)) }
 {
-    let file = Arg::new(alloc, "FILE")
-        .required(true)
-        .action(ArgAction::Set);
-    let run = Command::new(alloc, "run").arg(file)?;
-    let command = Command::new(alloc, "pcommit")
-        .subcommand_required(true)
-        .subcommand(run)?;
-    let matches = match command.try_get_matches_from(words) {
+    let matches = match program_command(alloc)?.try_get_matches_from(words) {
         Ok(matches) => matches,
         Err(error) => {
             return Err(match error.kind() {
@@ -83,4 +79,19 @@ pub fn action<'a, S: AsStr>(alloc: Global, words: &'a [S]) -> Result<Subcommand<
         Some(file) => Ok(Subcommand::Run { file }),
         None => Err(Rejected::Usage),
     }
+}
+
+/// The program's command lines.
+fn program_command<'a>(alloc: Global) -> Result<Command<'a>, Rejected>
+    ensures ok { IfOk result (λ command. app_of command ≡ command_line) }
+    ensures err { IfErr result (λ e. e ≡ NoMemory) }
+{
+    let file = Arg::new(alloc, "FILE")
+        .required(true)
+        .action(ArgAction::Set);
+    let run = Command::new(alloc, "run").arg(file)?;
+    let command = Command::new(alloc, "pcommit")
+        .subcommand_required(true)
+        .subcommand(run)?;
+    Ok(command)
 }

@@ -1,4 +1,6 @@
 use super::*;
+use std::io;
+use std::io::Write;
 use std::test::Fail;
 use xid::Refusal;
 
@@ -40,6 +42,52 @@ fn a_run_is_printed_whole_or_not_at_all(rt: HostRuntime) -> Result<(), Fail> {
         answer_script(alloc, b"stop r0", &mut nothing) == Err(Refusal::BadScript { line: 1 })
     );
     assert!(rt; nothing.is_empty());
+    Ok(())
+}
+
+/// Takes at most seven bytes at a time, after an interruption, and none where it is full.
+#[derive(Drop)]
+struct Narrow {
+    bytes: Vec<u8>,
+    room: usize,
+    is_interrupted: bool,
+}
+
+impl Write for Narrow {
+    fn write(&mut self, buf: &[u8]) -> io::Result<usize> {
+        self.is_interrupted = !self.is_interrupted;
+        if self.is_interrupted {
+            return Err(io::Error::from(io::ErrorKind::Interrupted));
+        }
+        let count = buf.len().min(7).min(self.room);
+        self.bytes.extend_from_slice(&buf[..count])?;
+        self.room -= count;
+        Ok(count)
+    }
+
+    fn flush(&mut self) -> io::Result<()> {
+        Ok(())
+    }
+}
+
+#[test]
+fn a_run_is_printed_in_parts(rt: HostRuntime) -> Result<(), Fail> {
+    let alloc = rt.alloc();
+    let whole = b"cluster acceptors 1 leaders 1 rms 1\nfinal r0\n".as_slice();
+    for room in 0..whole.len() + 1 {
+        let mut out = Narrow {
+            bytes: Vec::new(alloc),
+            room,
+            is_interrupted: false,
+        };
+        let printed = answer_script(alloc, SIZES, &mut out);
+        if room < whole.len() {
+            assert!(rt; printed == Err(Refusal::FileFault));
+        } else {
+            assert!(rt; printed == Ok(()));
+        }
+        assert_eq!(rt; out.bytes.as_slice(), &whole[..room]);
+    }
     Ok(())
 }
 

@@ -2,3 +2,4 @@ pub mod Instances
 pub mod Loop
 pub mod Fields
 pub mod OneSpelling
+pub mod DecodingLemmas

@@ -1,18 +1,18 @@
--- The grammar of messages: the one spelling of each, field by field. Numbers are big endian.
+-- The grammar of messages: the one spelling of each, field by field, in a version. Numbers are big endian.
 use Rattle.std.specs.Prelude.{◌≡◌, ℕ, List, [], ◌∷◌, ◌++◌, length, Option, Some, None}
 use Rattle.std.specs.List.{flat_map}
 use Rattle.byteorder.specs.Endian.{big_bytes}
 use Rattle.xid.specs.Transactions.{TxParts, BranchParts}
 use Rattle.xid.specs.declared.transaction.Vote.{Vote}
 use Rattle.xid.specs.declared.transaction.Vote.TheVariants.{Prepared, Aborted}
-use Rattle.wire.specs.declared.grammar.TheConstants.{VERSION}
 use Rattle.wire.specs.declared.message.Kind.{Kind}
 use Rattle.wire.specs.declared.message.Kind.TheVariants.{Prepare, P1a, P1b, P2a, P2b, Commit, Abort, Ask}
-use Rattle.wire.specs.Messages.{IsMessage, tx_of}
+use Rattle.wire.specs.Messages.{IsMessage, message_tx}
+use Rattle.wire.specs.Versions.{Version, version_2}
 
--- a resource manager's number, and so an instance: one byte
-abbrev pub rm_spelling : ℕ → List ℕ
-rm_spelling rm = rm ∷ []
+-- a resource manager's number, and so an instance: as many bytes as the version says
+abbrev pub rm_spelling : Version → ℕ → List ℕ
+rm_spelling v rm = big_bytes v.rm_width rm
 
 -- a number of 32 bits: four bytes
 abbrev pub number_spelling : ℕ → List ℕ
@@ -23,16 +23,16 @@ abbrev pub component_spelling : List ℕ → List ℕ
 component_spelling xs = length xs ∷ xs
 
 -- a branch: its resource manager, its bqual
-abbrev pub branch_spelling : BranchParts → List ℕ
-branch_spelling b = rm_spelling b.rm ++ component_spelling b.bqual
+abbrev pub branch_spelling : Version → BranchParts → List ℕ
+branch_spelling v b = rm_spelling v b.rm ++ component_spelling b.bqual
 
 -- branches: how many, and each
-abbrev pub branches_spelling : List BranchParts → List ℕ
-branches_spelling bs = length bs ∷ flat_map branch_spelling bs
+abbrev pub branches_spelling : Version → List BranchParts → List ℕ
+branches_spelling v bs = length bs ∷ flat_map (branch_spelling v) bs
 
 -- a transaction: its format, its gtrid, its branches
-abbrev pub tx_spelling : TxParts → List ℕ
-tx_spelling tx = number_spelling tx.format ++ (component_spelling tx.gtrid ++ branches_spelling tx.branches)
+abbrev pub tx_spelling : Version → TxParts → List ℕ
+tx_spelling v tx = number_spelling tx.format ++ (component_spelling tx.gtrid ++ branches_spelling v tx.branches)
 
 -- a vote: one byte
 abbrev pub vote_byte : Vote → ℕ
@@ -44,7 +44,7 @@ abbrev pub report_spelling : Option (ℕ × Vote) → List ℕ
 report_spelling None = number_spelling 0 ++ 0 ∷ []
 report_spelling (Some accepted) = number_spelling accepted.0 ++ vote_byte accepted.1 ∷ []
 
--- the kinds by number
+-- the number of a kind
 abbrev pub kind_byte : Kind → ℕ
 kind_byte (Prepare tx) = 1
 kind_byte (P1a tx rm ballot) = 2
@@ -56,19 +56,19 @@ kind_byte (Abort tx) = 7
 kind_byte (Ask tx rm) = 8
 
 -- what follows the transaction in each kind
-abbrev pub rest_spelling : Kind → List ℕ
-rest_spelling (Prepare tx) = []
-rest_spelling (P1a tx rm ballot) = rm_spelling rm ++ number_spelling ballot
-rest_spelling (P1b tx rm ballot report acceptor) = rm_spelling rm ++ (number_spelling ballot ++ (report_spelling report ++ acceptor ∷ []))
-rest_spelling (P2a tx rm ballot vote) = rm_spelling rm ++ (number_spelling ballot ++ vote_byte vote ∷ [])
-rest_spelling (P2b tx rm ballot vote acceptor) = rm_spelling rm ++ (number_spelling ballot ++ vote_byte vote ∷ acceptor ∷ [])
-rest_spelling (Commit tx) = []
-rest_spelling (Abort tx) = []
-rest_spelling (Ask tx rm) = rm_spelling rm
+abbrev pub rest_spelling : Version → Kind → List ℕ
+rest_spelling v (Prepare tx) = []
+rest_spelling v (P1a tx rm ballot) = rm_spelling v rm ++ number_spelling ballot
+rest_spelling v (P1b tx rm ballot report acceptor) = rm_spelling v rm ++ (number_spelling ballot ++ (report_spelling report ++ acceptor ∷ []))
+rest_spelling v (P2a tx rm ballot vote) = rm_spelling v rm ++ (number_spelling ballot ++ vote_byte vote ∷ [])
+rest_spelling v (P2b tx rm ballot vote acceptor) = rm_spelling v rm ++ (number_spelling ballot ++ vote_byte vote ∷ acceptor ∷ [])
+rest_spelling v (Commit tx) = []
+rest_spelling v (Abort tx) = []
+rest_spelling v (Ask tx rm) = rm_spelling v rm
 
--- a message: version, kind, transaction, rest
+-- a message, in version 2: version, kind, transaction, rest
 abbrev pub spelling : Kind → List ℕ
-spelling k = VERSION ∷ kind_byte k ∷ (tx_spelling (tx_of k) ++ rest_spelling k)
+spelling k = version_2.byte ∷ kind_byte k ∷ (tx_spelling version_2 (message_tx k) ++ rest_spelling version_2 k)
 
 -- bytes spell a message
 pub record Spells (k : Kind) (bytes : List ℕ) : Type 0 where

@@ -1,3 +1,5 @@
 pub mod Messages
+pub mod Versions
 pub mod Grammar
 pub mod Reading
+pub mod Decoding

@@ -1,17 +1,17 @@
--- How fields are taken from the front of bytes: leniently, since what was read is compared with its one spelling.
+-- How fields are taken from the front of bytes, in a version: leniently, since what was read is compared with its one spelling.
 use Rattle.std.specs.Prelude.{ℕ, zero, suc, ◌==◌, cond, nat_lt, List, [], ◌∷◌, length, take, drop, Option, Some, None}
 use Rattle.std.specs.Borrow.{Bor}
 use Rattle.byteorder.specs.Endian.{big_number}
+use Rattle.xid.specs.Limits.{most_component}
 use Rattle.xid.specs.Transactions.{TxParts, BranchParts}
-use Rattle.xid.specs.declared.branches.TheConstants.{MAX_BRANCHES}
-use Rattle.xid.specs.declared.component.TheConstants.{MAX_COMPONENT}
 use Rattle.xid.specs.declared.transaction.Vote.{Vote}
 use Rattle.xid.specs.declared.transaction.Vote.TheVariants.{Prepared, Aborted}
+use Rattle.wire.specs.Versions.{Version, version_2}
 use Rattle.wire.specs.declared.message.Kind.{Kind}
 use Rattle.wire.specs.declared.message.Kind.TheVariants.{Prepare, P1a, P1b, P2a, P2b, Commit, Abort, Ask}
 
 infixl 10 ◌>>=◌
--- one step after another
+-- one step after another: none where a step gives none
 abbrev pub ◌>>=◌ : {A B : Type 0} → Option A → (A → Option B) → Option B
 None >>= f = None
 (Some x) >>= f = f x
@@ -21,68 +21,76 @@ abbrev pub taken : {X : Type 0} → Option (X × Bor (List ℕ)) → Option (X �
 taken None = None
 taken (Some x) = Some (x.0, x.1.now)
 
--- the same where the field is bytes
+-- bytes that were taken, and the bytes after them
 abbrev pub taken_bytes : Option (Bor (List ℕ) × Bor (List ℕ)) → Option (List ℕ × List ℕ)
 taken_bytes None = None
 taken_bytes (Some x) = Some (x.0.now, x.1.now)
 
--- the same of a branch by its parts
+-- a branch that was taken by its parts, and the bytes after it
 abbrev pub taken_branch : Option (ℕ × Bor (List ℕ) × Bor (List ℕ)) → Option (BranchParts × List ℕ)
 taken_branch None = None
 taken_branch (Some x) = Some (record { rm = x.0; bqual = x.1.now }, x.2.now)
 
--- the same of a transaction by its parts
+-- a transaction that was taken by its parts, and the bytes after it
 abbrev pub taken_tx : Option (ℕ × Bor (List ℕ) × List BranchParts × Bor (List ℕ)) → Option (TxParts × List ℕ)
 taken_tx None = None
 taken_tx (Some x) = Some (record { format = x.0; gtrid = x.1.now; branches = x.2 }, x.3.now)
 
--- a byte
+-- a byte at the front, and the bytes after it
 abbrev pub byte_at : List ℕ → Option (ℕ × List ℕ)
 byte_at [] = None
 byte_at (x ∷ xs) = Some (x, xs)
 
--- a number of four bytes
-abbrev pub number_at : List ℕ → Option (ℕ × List ℕ)
-number_at bytes = cond (nat_lt (length bytes) 4) None (Some (big_number 4 bytes, drop 4 bytes))
+-- a number of so many bytes at the front, and the bytes after it
+abbrev pub big_at : ℕ → List ℕ → Option (ℕ × List ℕ)
+big_at width bytes = cond (nat_lt (length bytes) width) None (Some (big_number width bytes, drop width bytes))
 
--- bytes behind their length
+-- a number of 32 bits at the front, and the bytes after it
+abbrev pub number_at : List ℕ → Option (ℕ × List ℕ)
+number_at bytes = big_at 4 bytes
+
+-- a resource manager's number at the front, and the bytes after it
+abbrev pub rm_at : Version → List ℕ → Option (ℕ × List ℕ)
+rm_at v bytes = big_at v.rm_width bytes
+
+-- bytes behind their length at the front, as a gtrid or a bqual stands, and the bytes after them
 unfoldable pub component_at : List ℕ → Option (List ℕ × List ℕ)
 component_at bytes = do
   n ← byte_at bytes
-  cond (nat_lt MAX_COMPONENT n.0) None (cond (nat_lt (length n.1) n.0) None (Some (take n.0 n.1, drop n.0 n.1)))
+  cond (nat_lt most_component n.0) None (cond (nat_lt (length n.1) n.0) None (Some (take n.0 n.1, drop n.0 n.1)))
 
--- a branch
-unfoldable pub branch_at : List ℕ → Option (BranchParts × List ℕ)
-branch_at bytes = do
-  rm ← byte_at bytes
+-- a branch at the front, and the bytes after it
+unfoldable pub branch_at : Version → List ℕ → Option (BranchParts × List ℕ)
+branch_at v bytes = do
+  rm ← rm_at v bytes
   bqual ← component_at rm.1
   Some (record { rm = rm.0; bqual = bqual.0 }, bqual.1)
 
--- so many branches
-unfoldable pub branches_at : ℕ → List ℕ → Option (List BranchParts × List ℕ)
-branches_at zero bytes = Some ([], bytes)
-branches_at (suc n) bytes = do
-  first ← branch_at bytes
-  others ← branches_at n first.1
+-- so many branches at the front, and the bytes after them
+unfoldable pub branches_at : Version → ℕ → List ℕ → Option (List BranchParts × List ℕ)
+branches_at v zero bytes = Some ([], bytes)
+branches_at v (suc n) bytes = do
+  first ← branch_at v bytes
+  others ← branches_at v n first.1
   Some (first.0 ∷ others.0, others.1)
 
--- a transaction
-unfoldable pub tx_at : List ℕ → Option (TxParts × List ℕ)
-tx_at bytes = do
+-- a transaction at the front, and the bytes after it
+unfoldable pub tx_at : Version → List ℕ → Option (TxParts × List ℕ)
+tx_at v bytes = do
   format ← number_at bytes
   gtrid ← component_at format.1
   count ← byte_at gtrid.1
-  cond (nat_lt MAX_BRANCHES count.0) None (do
-    branches ← branches_at count.0 count.1
+  cond (nat_lt v.most_branches count.0) None (do
+    branches ← branches_at v count.0 count.1
     Some (record { format = format.0; gtrid = gtrid.0; branches = branches.0 }, branches.1))
 
--- a vote
+-- a vote at the front, and the bytes after it
 unfoldable pub vote_at : List ℕ → Option (Vote × List ℕ)
 vote_at bytes = do
   v ← byte_at bytes
   cond (v.0 == 1) (Some (Prepared, v.1)) (cond (v.0 == 2) (Some (Aborted, v.1)) None)
 
--- a report: a ballot, and its vote or none
+-- a report at the front, which is a ballot and its vote or none, and the bytes after it
 unfoldable pub report_at : List ℕ → Option (Option (ℕ × Vote) × List ℕ)
 report_at bytes = do
   ballot ← number_at bytes
@@ -91,46 +99,51 @@ report_at bytes = do
     vote ← vote_at ballot.1
     Some (Some (ballot.0, vote.0), vote.1))
 
--- an instance and a ballot
-unfoldable pub instance_at : List ℕ → Option (ℕ × ℕ × List ℕ)
-instance_at bytes = do
-  rm ← byte_at bytes
+-- an instance and a ballot at the front, and the bytes after them
+unfoldable pub instance_at : Version → List ℕ → Option (ℕ × ℕ × List ℕ)
+instance_at v bytes = do
+  rm ← rm_at v bytes
   ballot ← number_at rm.1
   Some (rm.0, ballot.0, ballot.1)
 
--- what follows the transaction in each kind
+-- the message of phase 1a whose fields follow the transaction
 unfoldable pub p1a_at : TxParts → List ℕ → Option Kind
 p1a_at tx bytes = do
-  i ← instance_at bytes
+  i ← instance_at version_2 bytes
   Some (P1a tx i.0 i.1)
 
+-- the message of phase 1b whose fields follow the transaction
 unfoldable pub p1b_at : TxParts → List ℕ → Option Kind
 p1b_at tx bytes = do
-  i ← instance_at bytes
+  i ← instance_at version_2 bytes
   report ← report_at i.2
   acceptor ← byte_at report.1
   Some (P1b tx i.0 i.1 report.0 acceptor.0)
 
+-- the message of phase 2a whose fields follow the transaction
 unfoldable pub p2a_at : TxParts → List ℕ → Option Kind
 p2a_at tx bytes = do
-  i ← instance_at bytes
+  i ← instance_at version_2 bytes
   vote ← vote_at i.2
   Some (P2a tx i.0 i.1 vote.0)
 
+-- the message of phase 2b whose fields follow the transaction
 unfoldable pub p2b_at : TxParts → List ℕ → Option Kind
 p2b_at tx bytes = do
-  i ← instance_at bytes
+  i ← instance_at version_2 bytes
   vote ← vote_at i.2
   acceptor ← byte_at vote.1
   Some (P2b tx i.0 i.1 vote.0 acceptor.0)
 
+-- the ask whose field follows the transaction
 unfoldable pub ask_at : TxParts → List ℕ → Option Kind
 ask_at tx bytes = do
-  rm ← byte_at bytes
+  rm ← rm_at version_2 bytes
   Some (Ask tx rm.0)
 
--- a kind by its number
+-- the message of a kind, by the kind's number, whose fields follow the transaction
 unfoldable pub kind_at : ℕ → TxParts → List ℕ → Option Kind
 kind_at code tx bytes =
-    cond (code == 1) (Some (Prepare tx)) (cond (code == 2) (p1a_at tx bytes) (cond (code == 3) (p1b_at tx bytes) (cond (code == 4) (p2a_at tx bytes)
-    (cond (code == 5) (p2b_at tx bytes) (cond (code == 6) (Some (Commit tx)) (cond (code == 7) (Some (Abort tx)) (cond (code == 8) (ask_at tx bytes) None)))))))
+    cond (code == 1) (Some (Prepare tx)) (cond (code == 2) (p1a_at tx bytes) (cond (code == 3) (p1b_at tx bytes)
+    (cond (code == 4) (p2a_at tx bytes) (cond (code == 5) (p2b_at tx bytes) (cond (code == 6) (Some (Commit tx))
+    (cond (code == 7) (Some (Abort tx)) (cond (code == 8) (ask_at tx bytes) None)))))))

@@ -1,14 +1,34 @@
+use xid::{MAX_BRANCHES, MAX_COMPONENT};
+
 /// The version of the grammar of messages, the first byte of each.
-pub const VERSION: u8 = 1;
+pub const VERSION: u8 = 2;
 
-/// How many bytes a transaction's spelling has at most: format, gtrid, count, and eight branches.
-pub const MAX_TX_BYTES: usize = 598;
+/// How many bytes the number of a resource manager has.
+pub(crate) const RM_BYTES: usize = 2;
 
-/// How many bytes follow the transaction at most.
-pub(crate) const MAX_REST_BYTES: usize = 11;
+/// How many bytes a ballot or a format has.
+pub(crate) const NUMBER_BYTES: usize = 4;
 
-/// How many bytes a message has at most.
-pub const MAX_MESSAGE_BYTES: usize = 611;
+/// How many bytes a gtrid or a bqual has at most, with its length.
+pub(crate) const MAX_COMPONENT_BYTES: usize = 1 + MAX_COMPONENT;
+
+/// How many bytes a branch has at most: its resource manager and its bqual.
+pub(crate) const MAX_BRANCH_BYTES: usize = RM_BYTES + MAX_COMPONENT_BYTES;
+
+/// How many bytes branches have at most: how many there are, and each.
+pub(crate) const MAX_BRANCHES_BYTES: usize = 1 + MAX_BRANCHES * MAX_BRANCH_BYTES;
+
+/// How many bytes a transaction has at most: format, gtrid and branches.
+pub const MAX_TX_BYTES: usize = NUMBER_BYTES + MAX_COMPONENT_BYTES + MAX_BRANCHES_BYTES;
+
+/// How many bytes a report has: a ballot and a vote.
+pub(crate) const REPORT_BYTES: usize = NUMBER_BYTES + 1;
+
+/// How many bytes follow the transaction at most: those of phase 1b, an instance, a ballot, a report and an acceptor.
+pub(crate) const MAX_REST_BYTES: usize = RM_BYTES + NUMBER_BYTES + REPORT_BYTES + 1;
+
+/// How many bytes a message has at most: version, kind, transaction and what follows it.
+pub const MAX_MESSAGE_BYTES: usize = 2 + MAX_TX_BYTES + MAX_REST_BYTES;
 
 /// How many bytes a datagram has at most.
 pub const MAX_DATAGRAM: usize = 1400;

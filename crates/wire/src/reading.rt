@@ -4,14 +4,17 @@ ghost use Rattle.xid.specs.Transactions.{TxParts, IsTx};
 ghost use Rattle.xid.specs.declared.refusals.Refusal.TheVariants.{BadMessage};
 ghost use Rattle.wire.specs.declared.message.Kind.{Kind};
 ghost use Rattle.wire.specs.Messages.{IsMessage};
+ghost use Rattle.wire.specs.Versions.{version_2};
 ghost use Rattle.wire.specs.Grammar.{Spells, spelling, tx_spelling};
-ghost use Rattle.wire.specs.Reading.{taken, taken_bytes, taken_branch, taken_tx, byte_at, number_at, component_at, branch_at, branches_at, tx_at, vote_at, report_at, instance_at, p1a_at, p1b_at, p2a_at, p2b_at, ask_at, kind_at};
+ghost use Rattle.wire.specs.Reading.{taken, taken_bytes, taken_branch, taken_tx, byte_at, number_at, rm_at, component_at, branch_at};
+ghost use Rattle.wire.specs.Reading.{branches_at, tx_at, vote_at, report_at, instance_at, p1a_at, p1b_at, p2a_at, p2b_at, ask_at};
+ghost use Rattle.wire.specs.Reading.{kind_at};
 
-use crate::grammar::MAX_DATAGRAM;
+use crate::grammar::{MAX_DATAGRAM, RM_BYTES};
 use crate::message::{Kind, Message, is_message};
 use crate::writing::encode;
 use byteorder::{BigEndian, ByteOrder};
-use xid::{Branches, MAX_BRANCHES, MAX_COMPONENT, Refusal, Tx, Vote};
+use xid::{Branches, MAX_BRANCHES, MAX_COMPONENT, ManagerNumber, Refusal, Tx, Vote};
 
 /// Takes a byte from the front. Each of these functions answers what it took and what follows it.
 fn take_byte(bytes: &[u8]) -> Option<(u8, &[u8])>
@@ -30,6 +33,15 @@ fn take_number(bytes: &[u8]) -> Option<(u32, &[u8])>
         return None;
     }
     Some((BigEndian::read_u32(bytes), &bytes[4..]))
+}
+
+fn take_rm(bytes: &[u8]) -> Option<(ManagerNumber, &[u8])>
+    ensures { taken result ≡ rm_at version_2 bytes.now }
+{
+    if bytes.len() < RM_BYTES {
+        return None;
+    }
+    Some((BigEndian::read_u16(bytes), &bytes[RM_BYTES..]))
 }
 
 #[tactic(auto, unfolding(crate::specs::Reading::component_at))]
@@ -51,22 +63,22 @@ fn take_component(bytes: &[u8]) -> Option<(&[u8], &[u8])>
 }
 
 #[tactic(auto, unfolding(crate::specs::Reading::branch_at))]
-fn take_branch(bytes: &[u8]) -> Option<(u16, &[u8], &[u8])>
-    ensures value { taken_branch result ≡ branch_at bytes.now }
+fn take_branch(bytes: &[u8]) -> Option<(ManagerNumber, &[u8], &[u8])>
+    ensures value { taken_branch result ≡ branch_at version_2 bytes.now }
     ensures few { MatchOption result (Unit {0}) (λ x. length x.1.now ≤ MAX_COMPONENT) }
 {
-    let Some((rm, rest)) = take_byte(bytes) else {
+    let Some((rm, rest)) = take_rm(bytes) else {
         return None;
     };
     let Some((bqual, rest)) = take_component(rest) else {
         return None;
     };
-    Some((u16::from(rm), bqual, rest))
+    Some((rm, bqual, rest))
 }
 
 fn take_branches(count: u8, bytes: &[u8]) -> Option<(Branches, &[u8])>
     requires { count ≤ MAX_BRANCHES }
-    ensures { taken result ≡ branches_at count bytes.now }
+    ensures { taken result ≡ branches_at version_2 count bytes.now }
 {
     let mut all = Branches::new();
     let mut rest = bytes;
@@ -82,7 +94,7 @@ fn take_branches(count: u8, bytes: &[u8]) -> Option<(Branches, &[u8])>
 
 #[tactic(auto, unfolding(crate::specs::Reading::tx_at))]
 fn take_parts(bytes: &[u8]) -> Option<(u32, &[u8], Branches, &[u8])>
-    ensures { taken_tx result ≡ tx_at bytes.now }
+    ensures { taken_tx result ≡ tx_at version_2 bytes.now }
 {
     let Some((format, rest)) = take_number(bytes) else {
         return None;
@@ -105,8 +117,8 @@ fn take_parts(bytes: &[u8]) -> Option<(u32, &[u8], Branches, &[u8])>
 /// Takes a transaction from the front. Where the bytes begin with a transaction's spelling, it is that transaction; what else
 /// is taken has to be compared with its spelling.
 pub fn take_tx(bytes: &[u8]) -> Option<(Tx, &[u8])>
-    ensures { MatchOption result ((tx : TxParts) (rest : List ℕ) → IsTx tx → bytes.now ≢ tx_spelling tx ++ rest)
-        (λ x. (tx : TxParts) (rest : List ℕ) → IsTx tx → bytes.now ≡ tx_spelling tx ++ rest → (x.0 ≡ tx) × (x.1.now ≡ rest)) }
+    ensures { MatchOption result ((tx : TxParts) (rest : List ℕ) → IsTx tx → bytes.now ≢ tx_spelling version_2 tx ++ rest)
+        (λ x. (tx : TxParts) (rest : List ℕ) → IsTx tx → bytes.now ≡ tx_spelling version_2 tx ++ rest → (x.0 ≡ tx) × (x.1.now ≡ rest)) }
 {
     let Some(parts) = take_parts(bytes) else {
         return None;
@@ -151,33 +163,37 @@ fn take_report(bytes: &[u8]) -> Option<(Option<(u32, Vote)>, &[u8])>
 }
 
 #[tactic(auto, unfolding(crate::specs::Reading::instance_at))]
-fn take_instance(bytes: &[u8]) -> Option<(u16, u32, &[u8])>
-    ensures { option_map (λ x. (x.0, x.1, x.2.now)) result ≡ instance_at bytes.now }
+fn take_instance(bytes: &[u8]) -> Option<(ManagerNumber, u32, &[u8])>
+    ensures { option_map (λ x. (x.0, x.1, x.2.now)) result ≡ instance_at version_2 bytes.now }
 {
-    let Some((rm, rest)) = take_byte(bytes) else {
+    let Some((rm, rest)) = take_rm(bytes) else {
         return None;
     };
     let Some((ballot, rest)) = take_number(rest) else {
         return None;
     };
-    Some((u16::from(rm), ballot, rest))
+    Some((rm, ballot, rest))
 }
 
 #[tactic(auto, unfolding(crate::specs::Reading::p1a_at))]
 fn p1a_of(tx: &Tx, bytes: &[u8]) -> Option<Kind>
     ensures { result ≡ p1a_at tx.now bytes.now }
 {
-    let Some((rm, ballot, _)) = take_instance(bytes) else {
+    let Some((instance, ballot, _)) = take_instance(bytes) else {
         return None;
     };
-    Some(Kind::P1a(*tx, rm, ballot))
+    Some(Kind::P1a {
+        tx: *tx,
+        instance,
+        ballot,
+    })
 }
 
 #[tactic(auto, unfolding(crate::specs::Reading::p1b_at))]
 fn p1b_of(tx: &Tx, bytes: &[u8]) -> Option<Kind>
     ensures { result ≡ p1b_at tx.now bytes.now }
 {
-    let Some((rm, ballot, rest)) = take_instance(bytes) else {
+    let Some((instance, ballot, rest)) = take_instance(bytes) else {
         return None;
     };
     let Some((report, rest)) = take_report(rest) else {
@@ -186,27 +202,38 @@ fn p1b_of(tx: &Tx, bytes: &[u8]) -> Option<Kind>
     let Some((acceptor, _)) = take_byte(rest) else {
         return None;
     };
-    Some(Kind::P1b(*tx, rm, ballot, report, acceptor))
+    Some(Kind::P1b {
+        tx: *tx,
+        instance,
+        ballot,
+        report,
+        acceptor,
+    })
 }
 
 #[tactic(auto, unfolding(crate::specs::Reading::p2a_at))]
 fn p2a_of(tx: &Tx, bytes: &[u8]) -> Option<Kind>
     ensures { result ≡ p2a_at tx.now bytes.now }
 {
-    let Some((rm, ballot, rest)) = take_instance(bytes) else {
+    let Some((instance, ballot, rest)) = take_instance(bytes) else {
         return None;
     };
     let Some((vote, _)) = take_vote(rest) else {
         return None;
     };
-    Some(Kind::P2a(*tx, rm, ballot, vote))
+    Some(Kind::P2a {
+        tx: *tx,
+        instance,
+        ballot,
+        vote,
+    })
 }
 
 #[tactic(auto, unfolding(crate::specs::Reading::p2b_at))]
 fn p2b_of(tx: &Tx, bytes: &[u8]) -> Option<Kind>
     ensures { result ≡ p2b_at tx.now bytes.now }
 {
-    let Some((rm, ballot, rest)) = take_instance(bytes) else {
+    let Some((instance, ballot, rest)) = take_instance(bytes) else {
         return None;
     };
     let Some((vote, rest)) = take_vote(rest) else {
@@ -215,17 +242,23 @@ fn p2b_of(tx: &Tx, bytes: &[u8]) -> Option<Kind>
     let Some((acceptor, _)) = take_byte(rest) else {
         return None;
     };
-    Some(Kind::P2b(*tx, rm, ballot, vote, acceptor))
+    Some(Kind::P2b {
+        tx: *tx,
+        instance,
+        ballot,
+        vote,
+        acceptor,
+    })
 }
 
 #[tactic(auto, unfolding(crate::specs::Reading::ask_at))]
 fn ask_of(tx: &Tx, bytes: &[u8]) -> Option<Kind>
     ensures { result ≡ ask_at tx.now bytes.now }
 {
-    let Some((rm, _)) = take_byte(bytes) else {
+    let Some((rm, _)) = take_rm(bytes) else {
         return None;
     };
-    Some(Kind::Ask(*tx, u16::from(rm)))
+    Some(Kind::Ask { tx: *tx, rm })
 }
 
 /// The kind of a number, with what follows the transaction.

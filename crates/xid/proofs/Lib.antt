@@ -1,4 +1,7 @@
 pub mod Texts
+pub mod Padded
+pub mod CodeLimits
 pub mod GivenBranches
-pub mod XidLaws
+pub mod PushedBranches
+pub mod Deciding
 pub mod TransactionTexts

@@ -1,5 +1,7 @@
 -- Texts that are read: a number's, a component's, and a text cut at a mark.
-use Rattle.std.proofs.Common.{zero, suc, eq-eqb, ◌≡◌, ℕ, ◌*◌, ◌/◌, ◌%◌, ◌<◌, ◌≤◌, ◌^◌, Bool, true, false, not, ◌&&◌, eqb, List, [], ◌∷◌, ◌++◌, length, get_or, take, replicate, Result, Ok, Err, MatchResult, refl, sym, ap, subst, ◌∙◌, arith}
+use Rattle.std.proofs.Common.{zero, suc, eq-eqb, ◌≡◌, ℕ, ◌*◌, ◌/◌, ◌%◌, ◌<◌, ◌≤◌, ◌^◌, Bool, true, false, not, ◌&&◌, eqb, List}
+use Rattle.std.proofs.Common.{[], ◌∷◌, ◌++◌, length, get_or, take, replicate, Result, Ok, Err, MatchResult}
+use Rattle.std.proofs.Common.{refl, sym, ap, subst, ◌∙◌, arith}
 use Rattle.std.specs.Fmt.{decimal}
 use Rattle.std.specs.List.{list_all}
 use Rattle.std.specs.Int.{IsInRange}
@@ -52,14 +54,17 @@ unfolding encode_with
 list_all-hex_text p [] digits bytes = refl
 list_all-hex_text p (x ∷ xs) digits bytes =
     let small : x < 256 = bytes 0 in
-    both_true (p (get_or lower_digits (x / 16) 0)) (p (get_or lower_digits (x % 16) 0) && list_all p (hex_text xs)) (list_all_get p lower_digits (x / 16) 0 (omega arith) digits)
-    (both_true (p (get_or lower_digits (x % 16) 0)) (list_all p (hex_text xs)) (list_all_get p lower_digits (x % 16) 0 (omega arith) digits) (list_all-hex_text p xs digits (IsBytes-tail x xs bytes)))
+    both_true (p (get_or lower_digits (x / 16) 0)) (p (get_or lower_digits (x % 16) 0) && list_all p (hex_text xs))
+    (list_all_get p lower_digits (x / 16) 0 (omega arith) digits)
+    (both_true (p (get_or lower_digits (x % 16) 0)) (list_all p (hex_text xs))
+    (list_all_get p lower_digits (x % 16) 0 (omega arith) digits) (list_all-hex_text p xs digits (IsBytes-tail x xs bytes)))
 
 -- what holds of each digit holds of each byte of a number's text
 pub list_all-decimal : (p : ℕ → Bool) (n : ℕ) → ((c : ℕ) → 48 ≤ c → c ≤ 57 → p c ≡ true) → n < 2 ^ 32 → list_all p (decimal n) ≡ true
 list_all-decimal p n digit lt =
     let own = numerals_by_value (λ ds. (i : ℕ) → i < length ds → IsInRange 48 57 (get_or ds i 0)) tells_by_index in
-    list_all_index p (decimal n) (λ i within. let in_range = digits_decimal own n (omega arith) i within in digit (get_or (decimal n) i 0) (in_range.0) (in_range.1))
+    list_all_index p (decimal n) (λ i within. let in_range = digits_decimal own n (omega arith) i within in
+    digit (get_or (decimal n) i 0) (in_range.0) (in_range.1))
 
 -- ---- a text cut at a mark
 
@@ -76,7 +81,8 @@ cut_same mark (x ∷ a) b [] d p q e =
     absurd (not_itself mark (subst (λ (y : ℕ). not (eqb y mark) ≡ true) x-is (first_true (not (eqb x mark)) (lacks mark a) p)))
 cut_same mark (x ∷ a) b (y ∷ c) d p q e =
     let heads : x ≡ y = cc in
-    let rest = cut_same mark a b c d (second_true (not (eqb x mark)) (lacks mark a) p) (second_true (not (eqb y mark)) (lacks mark c) q) (cc) in
+    let rest = cut_same mark a b c d (second_true (not (eqb x mark)) (lacks mark a) p)
+    (second_true (not (eqb y mark)) (lacks mark c) q) (cc) in
     (ap (λ (t : List ℕ). x ∷ t) rest.0 ∙ ap (λ (z : ℕ). z ∷ c) heads, rest.1)
 
 pub lacks_not : (mark : ℕ) (a b : List ℕ) → lacks mark (a ++ mark ∷ b) ≡ true → ⊥
@@ -122,12 +128,15 @@ decimal_lacks_colon n lt = list_all-decimal (λ byte. not (eqb byte 58)) n (λ c
     digit c low high = grind (arith, nat_tests)
 
 -- an XID's text is cut at its first colon, and the rest at its first, in one way
-pub cut_format : (x : XidParts) (text front rest : List ℕ) → IsXid x → text ≡ xid_text x → (text ≡ front ++ 58 ∷ rest) × (lacks 58 front ≡ true)
+pub cut_format : (x : XidParts) (text front rest : List ℕ) → IsXid x → text ≡ xid_text x
+    → (text ≡ front ++ 58 ∷ rest) × (lacks 58 front ≡ true)
     → (front ≡ decimal x.format) × (rest ≡ hex_text x.gtrid ++ 58 ∷ hex_text x.bqual)
 cut_format x text front rest is e cut =
-    cut_same 58 front rest (decimal x.format) (hex_text x.gtrid ++ 58 ∷ hex_text x.bqual) cut.1 (decimal_lacks_colon x.format (omega (arith, is.format))) (sym cut.0 ∙ e)
+    cut_same 58 front rest (decimal x.format) (hex_text x.gtrid ++ 58 ∷ hex_text x.bqual) cut.1
+    (decimal_lacks_colon x.format (omega (arith, is.format))) (sym cut.0 ∙ e)
 
-pub cut_names : (x : XidParts) (names gtrid bqual : List ℕ) → IsXid x → names ≡ hex_text x.gtrid ++ 58 ∷ hex_text x.bqual → (names ≡ gtrid ++ 58 ∷ bqual) × (lacks 58 gtrid ≡ true)
+pub cut_names : (x : XidParts) (names gtrid bqual : List ℕ) → IsXid x → names ≡ hex_text x.gtrid ++ 58 ∷ hex_text x.bqual
+    → (names ≡ gtrid ++ 58 ∷ bqual) × (lacks 58 gtrid ≡ true)
     → (gtrid ≡ hex_text x.gtrid) × (bqual ≡ hex_text x.bqual)
 cut_names x names gtrid bqual is e cut =
     cut_same 58 gtrid bqual (hex_text x.gtrid) (hex_text x.bqual) cut.1 (hex_lacks_colon x.gtrid is.gtrid.bytes) (sym cut.0 ∙ e)

@@ -1,5 +1,6 @@
 -- Texts of transactions that are read and written: one branch's, and branches with commas between.
-use Rattle.std.proofs.Common.{◌≡◌, ℕ, ◌+◌, ◌<◌, ◌≤◌, ◌^◌, true, not, eqb, List, [], ◌∷◌, ◌++◌, length, get_or, drop, take, Result, Ok, refl, sym, ap, subst, ◌∙◌, append_assoc, add-one, length-drop, arith, decimal}
+use Rattle.std.proofs.Common.{◌≡◌, ℕ, ◌+◌, ◌<◌, ◌≤◌, ◌^◌, true, not, eqb, List, [], ◌∷◌, ◌++◌, length, get_or}
+use Rattle.std.proofs.Common.{drop, take, Result, Ok, refl, sym, ap, subst, ◌∙◌, append_assoc, add-one, length-drop, arith, decimal}
 use Rattle.std.specs.List.{flat_map}
 use Rattle.std.proofs.lemmas.List.{append-nil, take_more, take_all}
 use Rattle.std.proofs.lemmas.List.Concat.{flat_map-cons, flat_map-append}
@@ -11,7 +12,7 @@ use Rattle.hex.specs.Hex.{decode_sized}
 use Rattle.hex.specs.declared.error.FromHexError.{FromHexError}
 use Rattle.xid.specs.Names.{IsBytes}
 use Rattle.xid.specs.Text.{hex_text, lacks}
-use Rattle.xid.specs.Rows.{blank}
+use Rattle.xid.specs.BranchArray.{blank}
 use Rattle.xid.specs.Transactions.{BranchParts, TxParts, IsBranch, AreBranches, IsTx, branch_text, branches_text, tx_text}
 use Rattle.xid.proofs.Texts.{both_true, list_all_join, list_all-hex_text, list_all-decimal, cut_same, lacks_not, length-hex_text}
 
@@ -42,11 +43,9 @@ branch_lacks_comma b is =
 
 -- ---- one branch
 
--- a branch's text has an equals sign, and is cut at its first in one way
-pub has_equals : (b : BranchParts) (text : List ℕ) → text ≡ branch_text b → lacks 61 text ≡ true → ⊥
-has_equals b text e h = lacks_not 61 (decimal b.rm) (hex_text b.bqual) (subst (λ (t : List ℕ). lacks 61 t ≡ true) e h)
-
-pub cut_branch : (b : BranchParts) (text front rest : List ℕ) → IsBranch b → text ≡ branch_text b → (text ≡ front ++ 61 ∷ rest) × (lacks 61 front ≡ true)
+-- a branch's text is cut at its first equals sign in one way
+pub cut_branch : (b : BranchParts) (text front rest : List ℕ) → IsBranch b → text ≡ branch_text b
+    → (text ≡ front ++ 61 ∷ rest) × (lacks 61 front ≡ true)
     → (front ≡ decimal b.rm) × (rest ≡ hex_text b.bqual)
 cut_branch b text front rest is e cut =
     cut_same 61 front rest (decimal b.rm) (hex_text b.bqual) cut.1 (decimal_lacks 61 b.rm no_equals (omega (arith, is.rm))) (sym cut.0 ∙ e)
@@ -65,7 +64,8 @@ hex_same xs ys bx by' e =
     let dy = decode_sized-encode_lower ys (length ys) refl by' in
     ok_same xs ys (sym dx ∙ ap (λ (t : List ℕ). decode_sized t (length ys)) e ∙ dy)
 
-pub branch_same : (rm : ℕ) (bqual : List ℕ) (b : BranchParts) (rm_text bqual_text : List ℕ) → rm < 2 ^ 32 → IsBytes bqual → IsBranch b → (rm_text ≡ decimal b.rm) × (bqual_text ≡ hex_text b.bqual)
+pub branch_same : (rm : ℕ) (bqual : List ℕ) (b : BranchParts) (rm_text bqual_text : List ℕ) → rm < 2 ^ 32 → IsBytes bqual → IsBranch b
+    → (rm_text ≡ decimal b.rm) × (bqual_text ≡ hex_text b.bqual)
     → rm_text ≡ decimal rm → bqual_text ≡ hex_text bqual → record { rm = rm; bqual = bqual } ≡ b
 branch_same rm bqual b rm_text bqual_text lt bytes is cut r q =
     let rms : rm ≡ b.rm = decimal_injective rm b.rm (omega arith) (omega (arith, is.rm)) (sym r ∙ cut.0) in
@@ -81,7 +81,8 @@ joined_more : (b x : BranchParts) (xs : List BranchParts) → branches_text (b �
 joined_more b x xs = ap (λ (t : List ℕ). branch_text b ++ t) (flat_map-cons (λ y. (44 ∷ []) ++ branch_text y) x xs)
 
 -- the first of branches is followed by a comma where there are more
-comma_in : (b : BranchParts) (ds : List BranchParts) (first after : List ℕ) → IsBranch b → branches_text (b ∷ ds) ≡ first ++ 44 ∷ after → lacks 44 first ≡ true
+comma_in : (b : BranchParts) (ds : List BranchParts) (first after : List ℕ) → IsBranch b → branches_text (b ∷ ds) ≡ first ++ 44 ∷ after
+    → lacks 44 first ≡ true
     → (first ≡ branch_text b) × (0 < length ds) × (after ≡ branches_text ds)
 comma_in b [] first after is e h =
     absurd (lacks_not 44 first after (subst (λ (t : List ℕ). lacks 44 t ≡ true) (sym (joined_one b) ∙ e) (branch_lacks_comma b is)))
@@ -89,9 +90,11 @@ comma_in b (x ∷ xs) first after is e h =
     let cut = cut_same 44 first after (branch_text b) (branches_text (x ∷ xs)) h (branch_lacks_comma b is) (sym e ∙ joined_more b x xs) in
     (cut.0, omega arith, cut.1)
 
-last_in : (b : BranchParts) (ds : List BranchParts) → lacks 44 (branches_text (b ∷ ds)) ≡ true → (branches_text (b ∷ ds) ≡ branch_text b) × (length ds ≡ 0)
+last_in : (b : BranchParts) (ds : List BranchParts) → lacks 44 (branches_text (b ∷ ds)) ≡ true
+    → (branches_text (b ∷ ds) ≡ branch_text b) × (length ds ≡ 0)
 last_in b [] h = (joined_one b, refl)
-last_in b (x ∷ xs) h = absurd (lacks_not 44 (branch_text b) (branches_text (x ∷ xs)) (subst (λ (t : List ℕ). lacks 44 t ≡ true) (joined_more b x xs) h))
+last_in b (x ∷ xs) h = absurd (lacks_not 44 (branch_text b) (branches_text (x ∷ xs))
+    (subst (λ (t : List ℕ). lacks 44 t ≡ true) (joined_more b x xs) h))
 
 from_place : (bs : List BranchParts) (n : ℕ) → n < length bs → drop n bs ≡ get_or bs n blank ∷ drop (n + 1) bs
 from_place bs n lt = rw (add-one, drop-cons bs n blank) refl
@@ -102,11 +105,13 @@ pub record Continues (bs : List BranchParts) (n : ℕ) (front : List BranchParts
   pub front_is : front ≡ take n bs
   pub rest_is : rest ≡ branches_text (drop n bs)
 
-pub at_comma : (bs : List BranchParts) (n : ℕ) (front : List BranchParts) (rest first after : List ℕ) → AreBranches bs → Continues bs n front rest → (rest ≡ first ++ 44 ∷ after) × (lacks 44 first ≡ true)
+pub at_comma : (bs : List BranchParts) (n : ℕ) (front : List BranchParts) (rest first after : List ℕ) → AreBranches bs
+    → Continues bs n front rest → (rest ≡ first ++ 44 ∷ after) × (lacks 44 first ≡ true)
     → (first ≡ branch_text (get_or bs n blank)) × Continues bs (n + 1) (front ++ get_or bs n blank ∷ []) after
 at_comma bs n front rest first after are on cut =
     let place = from_place bs n on.more in
-    let here : branches_text (get_or bs n blank ∷ drop (n + 1) bs) ≡ first ++ 44 ∷ after = ap branches_text (sym place) ∙ sym on.rest_is ∙ cut.0 in
+    let here : branches_text (get_or bs n blank ∷ drop (n + 1) bs) ≡ first ++ 44 ∷ after = ap branches_text (sym place)
+    ∙ sym on.rest_is ∙ cut.0 in
     let x = comma_in (get_or bs n blank) (drop (n + 1) bs) first after (are.each n blank on.more) here cut.1 in (
       x.0,
       record {
@@ -116,26 +121,34 @@ at_comma bs n front rest first after are on cut =
       },
     )
 
-pub at_last : (bs : List BranchParts) (n : ℕ) (front : List BranchParts) (rest : List ℕ) → Continues bs n front rest → lacks 44 rest ≡ true
+pub at_end : (bs : List BranchParts) (n : ℕ) (front : List BranchParts) (rest : List ℕ) → Continues bs n front rest → lacks 44 rest ≡ true
     → (rest ≡ branch_text (get_or bs n blank)) × (front ++ get_or bs n blank ∷ [] ≡ bs)
-at_last bs n front rest on h =
+at_end bs n front rest on h =
     let same : rest ≡ branches_text (get_or bs n blank ∷ drop (n + 1) bs) = on.rest_is ∙ ap branches_text (from_place bs n on.more) in
     let last = last_in (get_or bs n blank) (drop (n + 1) bs) (subst (λ (t : List ℕ). lacks 44 t ≡ true) same h) in
-    let whole : length bs ≤ n + 1 = omega (arith, last.1, length-drop (n + 1) bs) in
-    (same ∙ last.0, ap (λ (f : List BranchParts). f ++ get_or bs n blank ∷ []) on.front_is ∙ sym (take_more bs n blank on.more) ∙ take_all (n + 1) bs whole)
+    let whole : length bs ≤ n + 1 = omega (arith, last.1, length-drop (n + 1) bs) in (
+      same ∙ last.0,
+      ap (λ (f : List BranchParts). f ++ get_or bs n blank ∷ []) on.front_is
+          ∙ sym (take_more bs n blank on.more) ∙ take_all (n + 1) bs whole,
+    )
 
 -- each branch with a comma after it
 abbrev pub with_commas : List BranchParts → List ℕ
 with_commas bs = flat_map (λ b. branch_text b ++ 44 ∷ []) bs
 
-pub with_commas-push : (bs : List BranchParts) (b : BranchParts) (text rest first after : List ℕ) → text ≡ with_commas bs ++ rest → rest ≡ first ++ 44 ∷ after → first ≡ branch_text b
+pub with_commas-push : (bs : List BranchParts) (b : BranchParts) (text rest first after : List ℕ) → text ≡ with_commas bs ++ rest
+    → rest ≡ first ++ 44 ∷ after → first ≡ branch_text b
     → text ≡ with_commas (bs ++ b ∷ []) ++ after
 with_commas-push bs b text rest first after e cut is =
-    let pushed : with_commas (bs ++ b ∷ []) ≡ with_commas bs ++ (branch_text b ++ 44 ∷ []) = flat_map-append (λ (c : BranchParts). branch_text c ++ 44 ∷ []) bs (b ∷ []) ∙ ap (λ (t : List ℕ). with_commas bs ++ t) (append-nil (branch_text b ++ 44 ∷ [])) in
+    let pushed : with_commas (bs ++ b ∷ []) ≡ with_commas bs ++ (branch_text b ++ 44 ∷ []) =
+    flat_map-append (λ (c : BranchParts). branch_text c ++ 44 ∷ []) bs (b ∷ [])
+    ∙ ap (λ (t : List ℕ). with_commas bs ++ t) (append-nil (branch_text b ++ 44 ∷ [])) in
     e ∙ ap (λ (t : List ℕ). with_commas bs ++ t) (cut ∙ ap (λ (t : List ℕ). t ++ 44 ∷ after) is)
-    ∙ sym (ap (λ (t : List ℕ). t ++ after) pushed ∙ append_assoc (with_commas bs) (branch_text b ++ 44 ∷ []) after ∙ ap (λ (t : List ℕ). with_commas bs ++ t) (append_assoc (branch_text b) (44 ∷ []) after))
+    ∙ sym (ap (λ (t : List ℕ). t ++ after) pushed ∙ append_assoc (with_commas bs) (branch_text b ++ 44 ∷ []) after
+    ∙ ap (λ (t : List ℕ). with_commas bs ++ t) (append_assoc (branch_text b) (44 ∷ []) after))
 
-some_first : (a : BranchParts) (bs : List BranchParts) (b : BranchParts) → branches_text (a ∷ (bs ++ b ∷ [])) ≡ branch_text a ++ 44 ∷ branches_text (bs ++ b ∷ [])
+some_first : (a : BranchParts) (bs : List BranchParts) (b : BranchParts)
+    → branches_text (a ∷ (bs ++ b ∷ [])) ≡ branch_text a ++ 44 ∷ branches_text (bs ++ b ∷ [])
 some_first a [] b = joined_more a b []
 some_first a (x ∷ xs) b = joined_more a x (xs ++ b ∷ [])
 
@@ -148,23 +161,23 @@ commas_joined (a ∷ bs) b =
     ∙ ap (λ (t : List ℕ). branch_text a ++ 44 ∷ t) (commas_joined bs b)
     ∙ sym (some_first a bs b)
 
-pub last_joined : (bs : List BranchParts) (b : BranchParts) (text rest : List ℕ) → text ≡ with_commas bs ++ rest → rest ≡ branch_text b → text ≡ branches_text (bs ++ b ∷ [])
+pub last_joined : (bs : List BranchParts) (b : BranchParts) (text rest : List ℕ) → text ≡ with_commas bs ++ rest → rest ≡ branch_text b
+    → text ≡ branches_text (bs ++ b ∷ [])
 last_joined bs b text rest e is = e ∙ ap (λ (t : List ℕ). with_commas bs ++ t) is ∙ commas_joined bs b
 
 -- ---- a transaction
 
-pub has_colon : (tx : TxParts) (text : List ℕ) → text ≡ tx_text tx → lacks 58 text ≡ true → ⊥
-has_colon tx text e h = lacks_not 58 (decimal tx.format) (hex_text tx.gtrid ++ 47 ∷ branches_text tx.branches) (subst (λ (t : List ℕ). lacks 58 t ≡ true) e h)
-
 pub cut_tx : (tx : TxParts) (text front rest : List ℕ) → IsTx tx → text ≡ tx_text tx → (text ≡ front ++ 58 ∷ rest) × (lacks 58 front ≡ true)
     → (front ≡ decimal tx.format) × (rest ≡ hex_text tx.gtrid ++ 47 ∷ branches_text tx.branches)
 cut_tx tx text front rest is e cut =
-    cut_same 58 front rest (decimal tx.format) (hex_text tx.gtrid ++ 47 ∷ branches_text tx.branches) cut.1 (decimal_lacks 58 tx.format no_colon (omega (arith, is.format))) (sym cut.0 ∙ e)
+    cut_same 58 front rest (decimal tx.format) (hex_text tx.gtrid ++ 47 ∷ branches_text tx.branches) cut.1
+    (decimal_lacks 58 tx.format no_colon (omega (arith, is.format))) (sym cut.0 ∙ e)
 
 pub has_slash : (tx : TxParts) (text : List ℕ) → text ≡ hex_text tx.gtrid ++ 47 ∷ branches_text tx.branches → lacks 47 text ≡ true → ⊥
 has_slash tx text e h = lacks_not 47 (hex_text tx.gtrid) (branches_text tx.branches) (subst (λ (t : List ℕ). lacks 47 t ≡ true) e h)
 
-pub cut_gtrid : (tx : TxParts) (text front rest : List ℕ) → IsTx tx → text ≡ hex_text tx.gtrid ++ 47 ∷ branches_text tx.branches → (text ≡ front ++ 47 ∷ rest) × (lacks 47 front ≡ true)
+pub cut_gtrid : (tx : TxParts) (text front rest : List ℕ) → IsTx tx → text ≡ hex_text tx.gtrid ++ 47 ∷ branches_text tx.branches
+    → (text ≡ front ++ 47 ∷ rest) × (lacks 47 front ≡ true)
     → (front ≡ hex_text tx.gtrid) × (rest ≡ branches_text tx.branches)
 cut_gtrid tx text front rest is e cut =
     cut_same 47 front rest (hex_text tx.gtrid) (branches_text tx.branches) cut.1 (hex_lacks_slash tx.gtrid is.gtrid.bytes) (sym cut.0 ∙ e)

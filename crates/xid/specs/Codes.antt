@@ -3,7 +3,7 @@ use Rattle.std.specs.Prelude.{ℤ, pos, negsuc}
 use Rattle.xid.specs.declared.codes.XaCode.{XaCode}
 use Rattle.xid.specs.declared.codes.XaCode.TheVariants as code
 
--- the number in the standard; negsuc n is -(n + 1)
+-- a code's number in the standard; negsuc n is -(n + 1)
 abbrev pub code_number : XaCode → ℤ
 code_number code.Ok = pos 0
 code_number code.RbRollback = pos 100

@@ -1,7 +1,9 @@
+pub mod Limits
 pub mod Refusals
 pub mod Codes
 pub mod Names
 pub mod Padding
 pub mod Text
 pub mod Transactions
-pub mod Rows
+pub mod BranchArray
+pub mod Comparing

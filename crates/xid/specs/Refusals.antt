@@ -1,9 +1,10 @@
 -- The refusals by number.
 use Rattle.std.specs.Prelude.{ℕ}
 use Rattle.xid.specs.declared.refusals.Refusal.{Refusal}
-use Rattle.xid.specs.declared.refusals.Refusal.TheVariants.{BadXid, BadTx, BadMessage, Damaged, RecordFault, NoBallot, BadScript, Down, Busy, Full, NoMemory, PortFault, BadConfig, Forged, NoSuch, FileFault}
+use Rattle.xid.specs.declared.refusals.Refusal.TheVariants.{BadXid, BadTx, BadMessage, Damaged, RecordFault, NoBallot, BadScript, Down}
+use Rattle.xid.specs.declared.refusals.Refusal.TheVariants.{Busy, Full, NoMemory, PortFault, BadConfig, Forged, NoSuch, FileFault}
 
--- the number that is printed
+-- a refusal's number, which is printed
 abbrev pub number_of : Refusal → ℕ
 number_of BadXid = 1
 number_of BadTx = 2

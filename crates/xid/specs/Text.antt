@@ -4,7 +4,7 @@ use Rattle.std.specs.List.{list_all}
 use Rattle.hex.specs.Hex.{encode_lower}
 use Rattle.xid.specs.Names.{XidParts}
 
--- each byte as two digits, in lower case
+-- the hex text of bytes: each as two digits, in lower case
 abbrev pub hex_text : List ℕ → List ℕ
 hex_text bytes = encode_lower bytes
 
@@ -12,6 +12,6 @@ hex_text bytes = encode_lower bytes
 abbrev pub lacks : ℕ → List ℕ → Bool
 lacks mark text = list_all (λ byte. not (byte == mark)) text
 
--- format : gtrid : bqual
+-- the one text of an XID, format : gtrid : bqual
 abbrev pub xid_text : XidParts → List ℕ
 xid_text x = decimal x.format ++ 58 ∷ (hex_text x.gtrid ++ 58 ∷ hex_text x.bqual)

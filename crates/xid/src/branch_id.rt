@@ -1,20 +1,24 @@
-ghost use Rattle.std.specs.Prelude.{◌≡◌, ◌≢◌, ℕ, ◌≤◌, ◌<◌, ◌⊎◌, ◌↔◌, MatchOption, ◌++◌, ◌-◌, ◌+◌, List, length, take, drop, replicate, IsTrue, IfOk, IfErr, OnOk, OnErr, pos};
-ghost use Rattle.xid.specs.Names.{XidParts, IsXid, IsComponent};
+ghost use Rattle.std.specs.Prelude.{◌≡◌, ◌≢◌, ℕ, ◌≤◌, ◌<◌, ◌↔◌, MatchOption, ◌++◌, ◌-◌, ◌+◌};
+ghost use Rattle.std.specs.Prelude.{List, length, take, drop, replicate, IsTrue, IfOk, IfErr, OnOk, pos};
+ghost use Rattle.std.specs.Cmp.{partial_order_from_own_ties};
+ghost use Rattle.std.specs.Cmp.Rules.{comparing};
+ghost use Rattle.std.specs.Ordering.{as_partial_cmp};
+ghost use Rattle.std.proofs.Common.{rules};
+ghost use Rattle.xid.specs.Names.{XidParts, IsXid, IsComponent, xid_cmp};
 ghost use Rattle.xid.specs.Text.{xid_text};
 ghost use Rattle.xid.specs.declared.refusals.Refusal.TheVariants.{BadXid, NoMemory};
 
-use crate::component::{Component, MAX_COMPONENT};
+use crate::component::Component;
+use crate::limits::{FORMATS, MAX_COMPONENT};
 use crate::refusals::Refusal;
 use crate::text;
 use itoa::Buffer;
 use std::alloc::Global;
+use std::cmp::Ordering;
 use std::marker::Model;
 
-/// How many formats there are; they are the numbers below.
-pub const FORMATS: u32 = 1 << 31;
-
 /// The name of a transaction branch: a format, a gtrid and a bqual.
-#[derive(Clone, Copy, Debug, PartialEq, Eq, PartialOrd, Ord, Hash)]
+#[derive(Clone, Copy, Debug, PartialEq, Eq, Hash)]
 pub struct Xid {
     format: u32,
     gtrid: Component,
@@ -126,6 +130,37 @@ impl Xid {
         text.extend_from_slice(hex::encode(alloc, self.bqual.as_bytes())?.as_bytes())?;
         out.extend_from_slice(&text)?;
         Ok(())
+    }
+}
+
+impl Ord for Xid {
+    ghost use Rattle.xid.specs.Comparing.{xid_ties};
+
+    ghost cmp = { xid_cmp };
+
+    ghost total = { Prim.search (comparing, rules) };
+
+    ghost matches_partial_cmp = { Prim.search (comparing, rules) };
+
+    ghost matches_eq = { xid_ties };
+
+    fn cmp(&self, other: &Xid) -> Ordering {
+        self.format
+            .cmp(&other.format)
+            .then(self.gtrid.cmp(&other.gtrid))
+            .then(self.bqual.cmp(&other.bqual))
+    }
+}
+
+impl PartialOrd for Xid {
+    ghost use Rattle.xid.specs.Comparing.{xid_ties};
+
+    ghost partial_cmp = { as_partial_cmp xid_cmp };
+
+    ghost laws = { partial_order_from_own_ties (Prim.search (comparing, rules)) xid_ties };
+
+    fn partial_cmp(&self, other: &Xid) -> Option<Ordering> {
+        Some(self.cmp(other))
     }
 }
 

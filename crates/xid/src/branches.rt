@@ -1,28 +1,24 @@
 ghost use Rattle.std.specs.Prelude.{◌≡◌, ◌≢◌, ℕ, ◌+◌, ◌<◌, ◌≤◌, ◌↔◌, List, [], ◌∷◌, ◌++◌, length, map, take, IsTrue, MatchOption};
-ghost use Rattle.std.specs.Cmp.Lexicographic.{slice_cmp, slice_partial_cmp, pointwise};
+ghost use Rattle.std.specs.Cmp.Lexicographic.{slice_cmp, pointwise};
 ghost use Rattle.std.specs.Cmp.{partial_order_from_own_ties};
-ghost use Rattle.std.specs.Cmp.Rules.{comparing, hashing};
-ghost use Rattle.std.specs.Ordering.{nat_cmp, as_partial_cmp};
+ghost use Rattle.std.specs.Cmp.Rules.{comparing};
+ghost use Rattle.std.specs.Ordering.{as_partial_cmp};
 ghost use Rattle.std.specs.Hash as fed;
 ghost use Rattle.std.proofs.Common.{rules};
+ghost use Rattle.xid.specs.Limits.{most_branches, most_component};
 ghost use Rattle.xid.specs.Transactions.{IsBranch, AreBranches};
 
 use crate::branch_id::is_component;
-use crate::component::{Component, MAX_COMPONENT};
+use crate::component::Component;
+use crate::limits::{MAX_BRANCHES, MAX_COMPONENT, MAX_MANAGERS, ManagerNumber};
 use std::cmp::Ordering;
 use std::hash::{Hash, Hasher};
 use std::marker::Model;
 
-/// How many resource managers a system may have; their numbers are those below.
-pub const RM_NUMBERS: u16 = 8;
-
-/// How many branches a transaction may have.
-pub const MAX_BRANCHES: usize = 8;
-
 /// One branch of a transaction: the number of its resource manager, and its bqual.
 #[derive(Clone, Copy, Debug, PartialEq, Eq, PartialOrd, Ord, Hash)]
 pub(crate) struct Branch {
-    rm: u16,
+    rm: ManagerNumber,
     bqual: Component,
 }
 
@@ -38,7 +34,7 @@ impl Model for Branch {
 
 impl Branch {
     /// The number of its resource manager.
-    pub(crate) fn rm(&self) -> u16
+    pub(crate) fn rm(&self) -> ManagerNumber
         ensures { result ≡ self.now.rm }
     {
         self.rm
@@ -63,7 +59,7 @@ impl Branch {
 #[derive(Clone, Copy, Debug)]
 pub struct Branches {
     count: u8,
-    rows: [Branch; MAX_BRANCHES],
+    array: [Branch; MAX_BRANCHES],
 }
 
 impl Model for Branches {
@@ -72,15 +68,15 @@ impl Model for Branches {
 
     ghost Value = { List BranchParts };
 
-    ghost use Rattle.xid.specs.Rows.{AreRows, rows_of, length-shown_rows, rows_of-shown};
+    ghost use Rattle.xid.specs.BranchArray.{IsBranchArray, array_of, count-shown, array-shown};
 
-    ghost view = { λ b. take b.count b.rows };
+    ghost view = { λ b. take b.count b.array };
 
-    ghost invariant = { λ b. AreRows b.count b.rows };
+    ghost invariant = { λ b. IsBranchArray b.count b.array };
 
-    ghost inverse = { λ bs. record { count = length bs; rows = rows_of bs } };
+    ghost inverse = { λ bs. record { count = length bs; array = array_of bs } };
 
-    ghost inverse_ok = { λ b ok i. record { count = length-shown_rows b.count b.rows ok i; rows = rows_of-shown b.count b.rows ok i } };
+    ghost inverse_ok = { λ b ok i. record { count = count-shown b.count b.array ok i; array = array-shown b.count b.array ok i } };
 }
 
 impl Branches {
@@ -92,7 +88,7 @@ impl Branches {
     {
         Branches {
             count: 0,
-            rows: [Branch {
+            array: [Branch {
                 rm: 0,
                 bqual: Component::new(&[]),
             }; MAX_BRANCHES],
@@ -100,21 +96,21 @@ impl Branches {
     }
 
     /// Puts a branch after the others.
-    pub fn push(&mut self, rm: u16, bqual: &[u8])
-        requires room { length self.old < MAX_BRANCHES }
-        requires few { length bqual.now ≤ 64 }
+    pub fn push(&mut self, rm: ManagerNumber, bqual: &[u8])
+        requires room { length self.old < most_branches }
+        requires few { length bqual.now ≤ most_component }
         ensures { self.new ≡ self.old ++ record { rm = rm; bqual = bqual.now } ∷ [] }
     {
         let branch = Branch {
             rm,
             bqual: Component::new(bqual),
         };
-        self.rows[self.count as usize] = branch;
+        self.array[self.count as usize] = branch;
         self.count += 1;
     }
 
     /// The branches of these parts. None where there are more than `MAX_BRANCHES`, or a bqual is longer than 64 bytes.
-    pub(crate) fn of(parts: &[(u16, &[u8])]) -> Option<Branches>
+    pub(crate) fn of(parts: &[(ManagerNumber, &[u8])]) -> Option<Branches>
         ensures { MatchOption result ((bs : List BranchParts) → AreBranches bs → bs ≢ map branch_of parts.now)
             (λ bs. bs ≡ map branch_of parts.now) }
     {
@@ -134,9 +130,9 @@ impl Branches {
     /// Its branches.
     pub(crate) fn as_slice(&self) -> &[Branch]
         ensures branches { result.now ≡ self.now }
-        ensures few { length self.now ≤ MAX_BRANCHES }
+        ensures few { length self.now ≤ most_branches }
     {
-        &self.rows[..self.count as usize]
+        &self.array[..self.count as usize]
     }
 }
 
@@ -144,12 +140,12 @@ impl Branches {
 fn is_branch(branch: &Branch) -> bool
     ensures { IsTrue result ↔ IsBranch branch.now }
 {
-    branch.rm < RM_NUMBERS && is_component(branch.bqual.as_bytes())
+    branch.rm < MAX_MANAGERS && is_component(branch.bqual.as_bytes())
 }
 
 /// Whether there is a branch, none is wrong, and the resource managers ascend strictly.
 pub(crate) fn are_branches(branches: &[Branch]) -> bool
-    requires { length branches.now ≤ MAX_BRANCHES }
+    requires { length branches.now ≤ most_branches }
     ensures { IsTrue result ↔ AreBranches branches.now }
 {
     if branches.is_empty() {
@@ -167,10 +163,7 @@ pub(crate) fn are_branches(branches: &[Branch]) -> bool
 }
 
 impl PartialEq for Branches {
-    ghost use Rattle.xid.specs.Rows.{branch_eq};
-    ghost use Rattle.std.specs.Cmp.Lexicographic.{pointwise};
-    ghost use Rattle.std.specs.Cmp.Rules.{comparing};
-    ghost use Rattle.std.proofs.Common.{rules};
+    ghost use Rattle.xid.specs.Transactions.{branch_eq};
 
     ghost eq = { pointwise branch_eq };
 
@@ -186,18 +179,14 @@ impl Eq for Branches {
 }
 
 impl Ord for Branches {
-    ghost use Rattle.xid.specs.Rows.{branch_cmp};
-    ghost use Rattle.std.specs.Cmp.Lexicographic.{slice_cmp};
-    ghost use Rattle.std.specs.Cmp.Rules.{comparing};
-    ghost use Rattle.std.proofs.Common.{rules};
+    ghost use Rattle.xid.specs.Transactions.{branch_cmp};
+    ghost use Rattle.xid.specs.Comparing.{branches_tie};
 
     ghost cmp = { slice_cmp branch_cmp };
 
     ghost total = { Prim.search (comparing, rules) };
 
     ghost matches_partial_cmp = { Prim.search (comparing, rules) };
-
-    ghost use Rattle.xid.specs.Rows.{branches_tie};
 
     ghost matches_eq = { branches_tie };
 
@@ -207,16 +196,10 @@ impl Ord for Branches {
 }
 
 impl PartialOrd for Branches {
-    ghost use Rattle.xid.specs.Rows.{branch_cmp};
-    ghost use Rattle.std.specs.Cmp.Lexicographic.{slice_cmp};
-    ghost use Rattle.std.specs.Cmp.{partial_order_from_own_ties};
-    ghost use Rattle.std.specs.Ordering.{as_partial_cmp};
-    ghost use Rattle.std.specs.Cmp.Rules.{comparing};
-    ghost use Rattle.std.proofs.Common.{rules};
+    ghost use Rattle.xid.specs.Transactions.{branch_cmp};
+    ghost use Rattle.xid.specs.Comparing.{branches_tie};
 
     ghost partial_cmp = { as_partial_cmp (slice_cmp branch_cmp) };
-
-    ghost use Rattle.xid.specs.Rows.{branches_tie};
 
     ghost laws = { partial_order_from_own_ties (Prim.search (comparing, rules)) branches_tie };
 
@@ -226,8 +209,8 @@ impl PartialOrd for Branches {
 }
 
 impl Hash for Branches {
-    ghost use Rattle.xid.specs.Rows.{branch_fed, branches_alike};
-    ghost use Rattle.std.specs.Hash as fed;
+    ghost use Rattle.xid.specs.Transactions.{branch_fed};
+    ghost use Rattle.xid.specs.Comparing.{branches_alike};
 
     ghost hash_input = { fed.slice branch_fed };
 

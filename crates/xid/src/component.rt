@@ -1,17 +1,16 @@
-ghost use Rattle.std.specs.Prelude.{◌≡◌, ℕ, ◌≤◌, length, take, IsTrue, ◌==◌};
-ghost use Rattle.std.specs.Cmp.Lexicographic.{slice_cmp, slice_partial_cmp, pointwise};
+ghost use Rattle.std.specs.Prelude.{◌≡◌, ℕ, ◌≤◌, length, take, ◌==◌};
+ghost use Rattle.std.specs.Cmp.Lexicographic.{slice_cmp, pointwise};
 ghost use Rattle.std.specs.Cmp.{partial_order_from_own_ties};
 ghost use Rattle.std.specs.Cmp.Rules.{comparing, hashing};
 ghost use Rattle.std.specs.Ordering.{nat_cmp, as_partial_cmp};
 ghost use Rattle.std.specs.Hash as fed;
 ghost use Rattle.std.proofs.Common.{rules};
+ghost use Rattle.xid.specs.Limits.{most_component};
 
+use crate::limits::MAX_COMPONENT;
 use std::cmp::Ordering;
 use std::hash::{Hash, Hasher};
 use std::marker::Model;
-
-/// How many bytes a component may have.
-pub const MAX_COMPONENT: usize = 64;
 
 /// A gtrid or a bqual, with its bytes in place. What is past its length is zero.
 #[derive(Clone, Copy, Debug)]
@@ -38,7 +37,7 @@ impl Model for Component {
 impl Component {
     /// The bytes as a component.
     pub fn new(bytes: &[u8]) -> Component
-        requires { length bytes.now ≤ 64 }
+        requires { length bytes.now ≤ most_component }
         ensures { result ≡ bytes.now }
     {
         let mut all = [0; MAX_COMPONENT];
@@ -52,7 +51,7 @@ impl Component {
     /// Its bytes.
     pub fn as_bytes(&self) -> &[u8]
         ensures bytes { result.now ≡ self.now }
-        ensures few { length self.now ≤ 64 }
+        ensures few { length self.now ≤ most_component }
     {
         &self.bytes[..self.len as usize]
     }

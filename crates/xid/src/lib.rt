@@ -1,21 +1,27 @@
-//! The names of X/Open XA: transaction branches and transactions, with one text for each, and the refusals that
-//! the whole system answers with.
+//! The names of X/Open XA: transaction branches and transactions, with one text for each; and what the whole system
+//! shares: its limits, and the refusals that it answers with.
 #![tactic(auto)]
 
 mod branch_id;
 mod branches;
 mod codes;
 mod component;
+mod limits;
 mod refusals;
+mod sequence;
 pub mod text;
 mod transaction;
 mod transaction_text;
 
 pub use branch_id::Xid;
-pub use branches::{Branches, MAX_BRANCHES, RM_NUMBERS};
+pub use branches::Branches;
 pub use codes::XaCode;
-pub use component::MAX_COMPONENT;
+pub use limits::{
+    Ballot, FORMATS, MAX_ACCEPTORS, MAX_BRANCHES, MAX_COMPONENT, MAX_KEY, MAX_LEADERS,
+    MAX_MANAGERS, MAX_TOUCHED, MAX_VALUE, ManagerNumber,
+};
 pub use refusals::Refusal;
+pub use sequence::{Bytes, Sequence};
 pub use transaction::{Tx, Vote};
 
 #[cfg(test)]

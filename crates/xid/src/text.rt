@@ -2,10 +2,12 @@
 //! each value has one text.
 
 ghost use Rattle.std.specs.Prelude.{◌≡◌, ◌≢◌, ℕ, ◌+◌, ◌<◌, ◌^◌, List, ◌∷◌, ◌++◌, ◌≤◌, ◌↔◌, IsTrue, length, true, decimal, MatchOption};
+ghost use Rattle.xid.specs.Limits.{most_component};
 ghost use Rattle.xid.specs.Names.{IsBytes, IsComponent};
 ghost use Rattle.xid.specs.Text.{hex_text, lacks};
 
-use crate::component::{Component, MAX_COMPONENT};
+use crate::component::Component;
+use crate::limits::MAX_COMPONENT;
 use itoa::Buffer;
 
 /// The number below 2^32 whose text this is: decimal digits, with no leading zero.
@@ -41,7 +43,7 @@ pub fn split_once(text: &[u8], mark: u8) -> Option<(&[u8], &[u8])>
 
 /// Whether the text is the one hex text of these bytes.
 fn is_hex_text(bytes: &[u8], text: &[u8]) -> bool
-    requires { length bytes.now ≤ 64 }
+    requires { length bytes.now ≤ most_component }
     ensures { IsTrue result ↔ (text.now ≡ hex_text bytes.now) }
 {
     let mut again = [0; 2 * MAX_COMPONENT];

@@ -1,18 +1,26 @@
-ghost use Rattle.std.specs.Prelude.{◌≡◌, ◌↔◌, IsTrue, ◌≢◌, ◌++◌, OnOk, ℕ, ◌≤◌, ◌<◌, List, length, map, slice_index, IfOk, IfErr, MatchOption, pos};
+ghost use Rattle.std.specs.Prelude.{◌≡◌, ◌↔◌, IsTrue, ◌≢◌, ◌++◌, OnOk, ℕ, ◌≤◌, ◌<◌, List, length, map, slice_index};
+ghost use Rattle.std.specs.Prelude.{IfOk, IfErr, MatchOption, pos};
+ghost use Rattle.std.specs.Cmp.{partial_order_from_own_ties, partial_order_from_total};
+ghost use Rattle.std.specs.Cmp.Rules.{comparing};
+ghost use Rattle.std.specs.Ordering.{as_partial_cmp};
+ghost use Rattle.std.proofs.Common.{rules};
 ghost use Rattle.xid.specs.declared.refusals.Refusal.TheVariants.{BadTx, NoMemory};
+ghost use Rattle.xid.specs.Limits.{most_component, most_managers};
 
-use crate::branch_id::{FORMATS, Xid, is_component};
-use crate::branches::{Branches, RM_NUMBERS, are_branches};
+use crate::branch_id::{Xid, is_component};
+use crate::branches::{Branches, are_branches};
 use crate::component::Component;
+use crate::limits::{FORMATS, ManagerNumber};
 use crate::refusals::Refusal;
 use crate::transaction_text::{tx_of, write_branches};
 use itoa::Buffer;
 use std::alloc::Global;
+use std::cmp::Ordering;
 use std::marker::Model;
 
 /// The name of a transaction: a format, a gtrid, and for each resource manager that takes part the bqual of its
 /// branch, resource managers strictly ascending. Two lists make two transactions.
-#[derive(Clone, Copy, Debug, PartialEq, Eq, PartialOrd, Ord, Hash)]
+#[derive(Clone, Copy, Debug, PartialEq, Eq, Hash)]
 pub struct Tx {
     format: u32,
     gtrid: Component,
@@ -32,11 +40,16 @@ impl Model for Tx {
 }
 
 impl Tx {
-    ghost use Rattle.xid.specs.Transactions.{TxParts, BranchParts, IsTx, branch_at, branch_of, names, participants, xid_at, tx_text};
+    ghost use Rattle.xid.specs.Transactions.{TxParts, BranchParts, IsTx, nth_branch, branch_of};
+    ghost use Rattle.xid.specs.Transactions.{is_participant, participants, xid_at, tx_text};
 
     /// The transaction of these parts, each branch by its resource manager's number and its bqual. Refused (`BadTx`): no branch
-    /// or more than 8, a number above 7, numbers that don't ascend strictly, and a format or a length that no XID has.
-    pub fn new(format: i64, gtrid: &[u8], branches: &[(u16, &[u8])]) -> Result<Tx, Refusal>
+    /// or more than 16, a number above 63, numbers that don't ascend strictly, and a format or a length that no XID has.
+    pub fn new(
+        format: i64,
+        gtrid: &[u8],
+        branches: &[(ManagerNumber, &[u8])],
+    ) -> Result<Tx, Refusal>
         ensures ok { IfOk result (λ tx. IsTx tx × (format ≡ pos tx.format) × (tx.gtrid ≡ gtrid.now)
             × (tx.branches ≡ map branch_of branches.now)) }
         ensures err { IfErr result (λ e. (e ≡ BadTx) × ((tx : TxParts) → IsTx tx → format ≡ pos tx.format
@@ -54,7 +67,8 @@ impl Tx {
     /// The same of branches that stand in place.
     pub fn from_branches(format: u32, gtrid: &[u8], branches: &Branches) -> Result<Tx, Refusal>
         ensures ok { IfOk result (λ tx. IsTx tx × (tx ≡ record { format = format; gtrid = gtrid.now; branches = branches.now })) }
-        ensures err { IfErr result (λ e. (e ≡ BadTx) × (IsTx (record { format = format; gtrid = gtrid.now; branches = branches.now }) → ⊥)) }
+        ensures err { IfErr result (λ e. (e ≡ BadTx)
+            × (IsTx (record { format = format; gtrid = gtrid.now; branches = branches.now }) → ⊥)) }
     {
         if format >= FORMATS || !is_component(gtrid) || !are_branches(branches.as_slice()) {
             return Err(Refusal::BadTx);
@@ -91,11 +105,11 @@ impl Tx {
     }
 
     /// The number of the resource manager of a branch, by the branch's place.
-    pub fn rm(&self, i: usize) -> u16
+    pub fn rm(&self, i: usize) -> ManagerNumber
         requires { i < length self.now.branches }
         ensures value { result ≡ slice_index (participants self.now) i }
-        ensures branch { result ≡ (branch_at self.now i).rm }
-        ensures below { result < RM_NUMBERS }
+        ensures branch { result ≡ (nth_branch self.now i).rm }
+        ensures below { result < most_managers }
         ensures valid { IsTx self.now }
     {
         self.branches.as_slice()[i].rm()
@@ -104,15 +118,15 @@ impl Tx {
     /// The bqual of a branch, by the branch's place: 1 to 64 bytes.
     pub fn bqual(&self, i: usize) -> &[u8]
         requires { i < length self.now.branches }
-        ensures value { result.now ≡ (branch_at self.now i).bqual }
-        ensures few { length result.now ≤ 64 }
+        ensures value { result.now ≡ (nth_branch self.now i).bqual }
+        ensures few { length result.now ≤ most_component }
         ensures valid { IsTx self.now }
     {
         self.branches.as_slice()[i].bqual()
     }
 
     /// The XID of a resource manager's branch, where it takes part.
-    pub fn branch(&self, rm: u16) -> Option<Xid>
+    pub fn branch(&self, rm: ManagerNumber) -> Option<Xid>
         ensures value { result ≡ xid_at self.now rm }
         ensures valid { IsTx self.now }
     {
@@ -125,8 +139,8 @@ impl Tx {
     }
 
     /// Whether a resource manager takes part.
-    pub fn names(&self, rm: u16) -> bool
-        ensures value { result ≡ names self.now rm }
+    pub fn is_participant(&self, rm: ManagerNumber) -> bool
+        ensures value { result ≡ is_participant self.now rm }
         ensures valid { IsTx self.now }
     {
         self.branches
@@ -168,8 +182,41 @@ impl Tx {
     }
 }
 
+impl Ord for Tx {
+    ghost use Rattle.xid.specs.Transactions.{tx_cmp};
+    ghost use Rattle.xid.specs.Comparing.{tx_ties, tx_total};
+
+    ghost cmp = { tx_cmp };
+
+    ghost total = { tx_total };
+
+    ghost matches_partial_cmp = { Prim.search (comparing, rules) };
+
+    ghost matches_eq = { tx_ties };
+
+    fn cmp(&self, other: &Tx) -> Ordering {
+        self.format
+            .cmp(&other.format)
+            .then(self.gtrid.cmp(&other.gtrid))
+            .then(self.branches.cmp(&other.branches))
+    }
+}
+
+impl PartialOrd for Tx {
+    ghost use Rattle.xid.specs.Transactions.{tx_cmp};
+    ghost use Rattle.xid.specs.Comparing.{tx_ties, tx_total};
+
+    ghost partial_cmp = { as_partial_cmp tx_cmp };
+
+    ghost laws = { partial_order_from_own_ties (partial_order_from_total tx_total) tx_ties };
+
+    fn partial_cmp(&self, other: &Tx) -> Option<Ordering> {
+        Some(self.cmp(other))
+    }
+}
+
 /// What a resource manager votes, and what an instance of consensus decides.
-#[derive(Clone, Copy, Debug, PartialEq, Eq, PartialOrd, Ord, Hash)]
+#[derive(Clone, Copy, Debug, PartialEq, Eq, Hash)]
 pub enum Vote {
     /// Prepared to commit.
     Prepared,

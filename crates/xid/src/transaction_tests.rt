@@ -1,4 +1,4 @@
-use crate::{Refusal, Tx, XaCode, Xid, text};
+use crate::{Bytes, Refusal, Sequence, Tx, XaCode, Xid, text};
 use std::process::Abort;
 use std::test::Fail;
 
@@ -14,15 +14,21 @@ fn refused(rt: &impl Abort, tx: Result<Tx, Refusal>) {
 
 #[test]
 fn names_of_branches(rt: HostRuntime) {
-    assert!(rt; Xid::new(0, &LONG[..64], &LONG[..64]).is_ok());
-    assert!(rt; Xid::new(2147483647, b"t", b"b").is_ok());
     for (format, gtrid, bqual) in [
+        (0, &LONG[..1], &LONG[..1]),
+        (2147483647, &LONG[..1], &LONG[..1]),
+        (0, &LONG[..64], &LONG[..1]),
+        (0, &LONG[..1], &LONG[..64]),
+    ] {
+        assert!(rt; Xid::new(format, gtrid, bqual).is_ok());
+    }
+    for (format, gtrid, bqual) in [
+        (-1, &LONG[..1], &LONG[..1]),
+        (2147483648, &LONG[..1], &LONG[..1]),
         (0, &LONG[..65], &LONG[..1]),
         (0, &LONG[..1], &LONG[..65]),
         (0, &LONG[..0], &LONG[..1]),
         (0, &LONG[..1], &LONG[..0]),
-        (-1, &LONG[..1], &LONG[..1]),
-        (2147483648, &LONG[..1], &LONG[..1]),
     ] {
         assert_eq!(rt; Xid::new(format, gtrid, bqual), Err(Refusal::BadXid));
     }
@@ -32,29 +38,26 @@ fn names_of_branches(rt: HostRuntime) {
 fn names_of_transactions(rt: HostRuntime) {
     assert!(rt; small().is_ok());
     let b = b"b".as_slice();
+    assert!(rt; Tx::new(0, b"t", &[(63, b)]).is_ok());
+    assert!(rt; Tx::new(2147483647, b"t", &[(0, b)]).is_ok());
+    assert!(rt; Tx::new(1, &LONG[..64], &[(0, b)]).is_ok());
+    assert!(rt; Tx::new(1, b"t", &[(0, &LONG[..64])]).is_ok());
     refused(&rt, Tx::new(1, b"t", &[]));
     refused(&rt, Tx::new(1, b"t", &[(1, b), (0, b)]));
     refused(&rt, Tx::new(1, b"t", &[(0, b), (0, b)]));
-    refused(&rt, Tx::new(1, b"t", &[(8, b)]));
+    refused(&rt, Tx::new(1, b"t", &[(64, b)]));
     refused(&rt, Tx::new(1, b"t", &[(0, &LONG[..65])]));
     refused(&rt, Tx::new(1, b"t", &[(0, &LONG[..0])]));
     refused(&rt, Tx::new(1, &LONG[..65], &[(0, b)]));
     refused(&rt, Tx::new(1, &LONG[..0], &[(0, b)]));
     refused(&rt, Tx::new(-1, b"t", &[(0, b)]));
     refused(&rt, Tx::new(2147483648, b"t", &[(0, b)]));
-    let nine = [
-        (0, b),
-        (1, b),
-        (2, b),
-        (3, b),
-        (4, b),
-        (5, b),
-        (6, b),
-        (7, b),
-        (8, b),
-    ];
-    refused(&rt, Tx::new(1, b"t", &nine));
-    assert!(rt; Tx::new(1, b"t", &nine[..8]).is_ok());
+    let mut seventeen = [(0, b); 17];
+    for i in 0..17 {
+        seventeen[i as usize] = (i, b);
+    }
+    refused(&rt, Tx::new(1, b"t", &seventeen));
+    assert!(rt; Tx::new(1, b"t", &seventeen[..16]).is_ok());
 }
 
 #[test]
@@ -65,7 +68,7 @@ fn parts(rt: HostRuntime) -> Result<(), Fail> {
     assert_eq!(rt; tx.count(), 2);
     assert_eq!(rt; tx.rm(1), 1);
     assert_eq!(rt; tx.bqual(1), b"b2".as_slice());
-    assert!(rt; tx.names(0) && !tx.names(2));
+    assert!(rt; tx.is_participant(0) && !tx.is_participant(2));
     assert_eq!(rt; tx.branch(0), Some(Xid::new(1, b"t1", b"b1")?));
     assert_eq!(rt; tx.branch(7), None);
     Ok(())
@@ -77,12 +80,18 @@ fn order(rt: HostRuntime) -> Result<(), Fail> {
     let fewer = Tx::new(1, b"t1", &[(0, b"b1".as_slice())])?;
     let other = Tx::new(1, b"t1", &[(1, b"b1".as_slice())])?;
     assert!(rt; fewer < tx && tx < other);
+    assert!(rt; other < Tx::new(1, b"t2", &[(0, b"b".as_slice())])?);
+    assert!(rt; other < Tx::new(2, b"t", &[(0, b"b".as_slice())])?);
     assert!(rt; tx == small()? && tx != fewer);
+    let x = Xid::new(1, b"t1", b"b1")?;
+    assert!(rt; x < Xid::new(1, b"t1", b"b2")? && x < Xid::new(1, b"t2", b"b")?);
+    assert!(rt; x < Xid::new(2, b"t", b"b")?);
     Ok(())
 }
 
 #[test]
 fn texts(rt: HostRuntime) -> Result<(), Fail> {
+    assert!(rt; Tx::read(b"2147483647:7431/63=6231").is_ok());
     let text = b"1:7431/0=6231,1=6232";
     let tx = Tx::read(text)?;
     assert!(rt; tx == small()?);
@@ -96,7 +105,7 @@ fn texts(rt: HostRuntime) -> Result<(), Fail> {
         b"1:7431/0=6231,1=6232,".as_slice(),
         b"1:7431/1=6232,0=6231".as_slice(),
         b"1:7431/0=6231,0=6232".as_slice(),
-        b"1:7431/0=6231,8=6232".as_slice(),
+        b"1:7431/0=6231,64=6232".as_slice(),
         b"1:7431/0=6231,01=6232".as_slice(),
         b"1:7431/0=6231,1=623A".as_slice(),
         b"1:7431/".as_slice(),
@@ -120,6 +129,7 @@ fn parts_of_branches(rt: HostRuntime) -> Result<(), Fail> {
     let full = Xid::new(1, &LONG[..64], &LONG[..64])?;
     assert!(rt; full.area().iter().all(|byte| *byte == LONG[0]));
     assert!(rt; Xid::read(b"1:7431:62")? == x);
+    assert!(rt; Xid::read(b"2147483647:7431:62").is_ok());
     let mut out = [b' '].to_vec(alloc)?;
     x.write(alloc, &mut out)?;
     assert_eq!(rt; out.as_slice(), b" 1:7431:62".as_slice());
@@ -164,5 +174,44 @@ fn numbers_and_marks(rt: HostRuntime) -> Result<(), Fail> {
     assert_eq!(rt; before, b"a".as_slice());
     assert_eq!(rt; after, b"b=c".as_slice());
     assert!(rt; text::split_once(b"abc", b'=').is_none());
+    Ok(())
+}
+
+#[test]
+fn printed_refusals(rt: HostRuntime) -> Result<(), Fail> {
+    for (refusal, text) in [
+        (Refusal::BadXid, "refused 1"),
+        (Refusal::BadTx, "refused 2"),
+        (Refusal::BadMessage, "refused 3"),
+        (Refusal::Damaged, "refused 4"),
+        (Refusal::RecordFault, "refused 5"),
+        (Refusal::NoBallot, "refused 6"),
+        (Refusal::BadScript { line: 42 }, "refused 7 line 42"),
+        (Refusal::Down, "refused 8"),
+        (Refusal::Busy, "refused 9"),
+        (Refusal::Full, "refused 10"),
+        (Refusal::NoMemory, "refused 11"),
+        (Refusal::PortFault, "refused 12"),
+        (Refusal::BadConfig, "refused 13"),
+        (Refusal::Forged, "refused 14"),
+        (Refusal::NoSuch, "refused 15"),
+        (Refusal::FileFault, "refused 16"),
+    ] {
+        assert_eq!(rt; format!(in rt.alloc(); "{refusal}")?.as_str(), text);
+    }
+    Ok(())
+}
+
+#[test]
+fn sequences(rt: HostRuntime) -> Result<(), Fail> {
+    let alloc = rt.alloc();
+    let bytes = Bytes::copy_of(alloc, b"ab")?;
+    assert_eq!(rt; bytes.as_slice(), b"ab".as_slice());
+    assert!(rt;
+        bytes == Sequence::new(b"ab".to_vec(alloc)?) && bytes != Bytes::copy_of(alloc, b"ba")?
+    );
+    let mut items = bytes.into_vec();
+    items.push(b'c')?;
+    assert_eq!(rt; items.as_slice(), b"abc".as_slice());
     Ok(())
 }

@@ -2,11 +2,13 @@
 
 ghost use Rattle.std.specs.Prelude.{◌≡◌, ◌≢◌, ℕ, List, ◌++◌, ◌≤◌, length, IfErr, OnOk, MatchOption};
 ghost use Rattle.std.specs.Option.{IfSome};
+ghost use Rattle.xid.specs.Limits.{most_component};
 ghost use Rattle.xid.specs.Transactions.{TxParts, BranchParts, IsTx, IsBranch, AreBranches, branch_text, branches_text, tx_text};
 ghost use Rattle.xid.specs.declared.refusals.Refusal.TheVariants.{NoMemory};
 
-use crate::branches::{Branch, Branches, MAX_BRANCHES, RM_NUMBERS};
+use crate::branches::{Branch, Branches};
 use crate::component::Component;
+use crate::limits::{MAX_BRANCHES, MAX_MANAGERS, ManagerNumber};
 use crate::refusals::Refusal;
 use crate::text;
 use crate::transaction::Tx;
@@ -14,9 +16,9 @@ use itoa::Buffer;
 use std::alloc::Global;
 
 /// The resource manager's number and the bqual of the branch whose text this is, as `0=6231`.
-fn branch_of(text: &[u8]) -> Option<(u16, Component)>
+fn branch_of(text: &[u8]) -> Option<(ManagerNumber, Component)>
     ensures text { MatchOption result ((b : BranchParts) → IsBranch b → text.now ≢ branch_text b)
-        (λ b. (text.now ≡ branch_text (record { rm = b.0; bqual = b.1 })) × (length b.1 ≤ 64)) }
+        (λ b. (text.now ≡ branch_text (record { rm = b.0; bqual = b.1 })) × (length b.1 ≤ most_component)) }
     ensures same { IfSome result (λ b. (x : BranchParts) → IsBranch x → text.now ≡ branch_text x
         → record { rm = b.0; bqual = b.1 } ≡ x) }
 {
@@ -26,13 +28,13 @@ fn branch_of(text: &[u8]) -> Option<(u16, Component)>
     let Some(rm) = text::number(rm) else {
         return None;
     };
-    if rm >= u32::from(RM_NUMBERS) {
+    if rm >= u32::from(MAX_MANAGERS) {
         return None;
     }
     let Some(bqual) = text::component(bqual) else {
         return None;
     };
-    Some((rm as u16, bqual))
+    Some((rm as ManagerNumber, bqual))
 }
 
 /// The branches whose text this is, with commas between.

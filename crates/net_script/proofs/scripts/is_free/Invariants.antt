@@ -1,7 +1,6 @@
 use Rattle.std.proofs.Common.{◌≡◌, take}
 use Rattle.std.specs.List.{All}
-use Rattle.net_script.specs.Values.{table_of}
 use Rattle.net_script.proofs.scripts.is_free.Given as goal
 
 abbrev pub invariant-loop-table : goal.invariant-loop-table
-invariant-loop-table l = All (λ table. (table_of table).rm ≡ l.rm → ⊥) (take l.table-index l.tables)
+invariant-loop-table l = All (λ table. table.rm ≡ l.rm → ⊥) (take l.table-index l.tables)

@@ -1,4 +1,4 @@
-use Rattle.net_script.specs.Words.{lines}
+use Rattle.net_script.specs.Lines.{lines}
 use Rattle.net_script.proofs.LawLemmas.{one_script, spelled_has_no_fault, one_fault}
 use Rattle.net_script.proofs.scripts.one_reading.Goals as goal
 

@@ -1,10 +1,10 @@
 use Rattle.std.proofs.Common.{◌≡◌, ◌++◌, length}
-use Rattle.net_script.specs.Words.{words}
-use Rattle.net_script.specs.Items.{AreRows, rows_of, rows_words}
+use Rattle.net_script.specs.Lines.{words}
+use Rattle.net_script.specs.Items.{AreRows, rows_words}
 use Rattle.net_script.proofs.tables.read_rows.Given as goal
 
 abbrev pub invariant-loop-word : goal.invariant-loop-word
-invariant-loop-word l = (words l.args ≡ rows_words (rows_of l.rows) ++ words l.rest) × AreRows (rows_of l.rows)
+invariant-loop-word l = (words l.args ≡ rows_words l.rows.items ++ words l.rest) × AreRows l.rows.items
 
 abbrev pub decreases-loop-word : goal.decreases-loop-word
 decreases-loop-word l = length l.rest

@@ -1,5 +1,5 @@
 use Rattle.std.proofs.Common.{◌≡◌, ◌≤◌, length}
-use Rattle.net_script.specs.Words.{words}
+use Rattle.net_script.specs.Lines.{words}
 use Rattle.net_script.proofs.words.next_word.Given as goal
 
 abbrev pub invariant-loop-piece : goal.invariant-loop-piece

@@ -1,4 +1,4 @@
-use Rattle.safety.proofs.Ever.{consistent}
+use Rattle.safety.proofs.World.Reachable.{consistent}
 use Rattle.safety.proofs.headline.consistent.Goals as goal
 
 pub returns : goal.returns

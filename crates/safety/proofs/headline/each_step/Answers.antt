@@ -1,4 +1,4 @@
-use Rattle.safety.proofs.Ever.{steps}
+use Rattle.safety.proofs.World.Reachable.{steps}
 use Rattle.safety.proofs.headline.each_step.Goals as goal
 
 pub returns : goal.returns

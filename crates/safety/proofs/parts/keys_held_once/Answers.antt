@@ -1,4 +1,4 @@
-use Rattle.safety.proofs.Held.{held_once, named_once, in_order}
+use Rattle.safety.proofs.Manager.Holds.{held_once, named_once, in_order}
 use Rattle.safety.proofs.parts.keys_held_once.Goals as goal
 
 pub returns-clause-keys : goal.returns-clause-keys

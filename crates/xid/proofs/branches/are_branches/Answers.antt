@@ -8,7 +8,8 @@ pub returns-then-rm : goal.returns-then-rm
 returns-then-rm c = (
   λ (t : IsTrue false). absurd (cc (t)),
   λ is.
-      let up = ascends_at c.args.branches.now c.loop-i.i c.index-branches-i-then-i-gt0.result c.index-branches-i.result is c.if-i-gt0.true c.loop-i-test.true in
+      let up = ascends_at c.args.branches.now c.loop-i.i c.index-branches-i-then-i-gt0.result c.index-branches-i.result is c.if-i-gt0.true
+      c.loop-i-test.true in
       let before = ap (λ (b : BranchParts). b.rm) c.index-branches-i-then-i-gt0.is in
       let here = ap (λ (b : BranchParts). b.rm) c.index-branches-i.is in
       absurd (omega (arith, c.rm.ensures, c.rm-then-i-gt0.ensures)),

@@ -22,4 +22,5 @@ returns-in_default-component-clause-text c = λ b is e.
 pub returns-clause-same : goal.returns-clause-same
 returns-clause-same c = λ b is e.
     let cut = cut_branch b c.args.text.now c.in-Some.rm.now c.in-Some.bqual.now is e c.in-Some.ensures in
-    branch_same c.in-Some-number.rm c.in-Some-component.bqual b c.in-Some.rm.now c.in-Some.bqual.now (omega arith) c.in-Some-component.ensures.0.bytes is cut c.in-Some-number.ensures c.in-Some-component.ensures.1
+    branch_same c.in-Some-number.rm c.in-Some-component.bqual b c.in-Some.rm.now c.in-Some.bqual.now (omega arith)
+    c.in-Some-component.ensures.0.bytes is cut c.in-Some-number.ensures c.in-Some-component.ensures.1

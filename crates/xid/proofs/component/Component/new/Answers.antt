@@ -1,4 +1,4 @@
-use Rattle.xid.specs.Padding.{padded-made}
+use Rattle.xid.proofs.Padded.{padded-made}
 use Rattle.xid.proofs.component.Component.new.Goals as goal
 
 pub invariant_of-result : goal.invariant_of-result

@@ -1,0 +1,47 @@
+-- Values that have one text each, one after another.
+use Rattle.std.proofs.Common.{◌≡◌, List, [], ◌∷◌, ◌++◌, map, refl}
+use Rattle.std.specs.List.{All}
+use Rattle.std.proofs.lemmas.List.Elements.{All-head, All-tail}
+
+-- no two values in range have the same text
+pub record HasOneText {X W : Type 0} (IsIn : X → Type 0) (text : X → W) : Type 0 where
+  pub same : (x y : X) → IsIn x → IsIn y → text x ≡ text y → x ≡ y
+
+pub texts_injective : {X W : Type 0} {IsIn : X → Type 0} {text : X → W} → HasOneText IsIn text → (xs ys : List X) → All IsIn xs
+    → All IsIn ys
+    → map text xs ≡ map text ys → xs ≡ ys
+texts_injective one [] [] p q e = refl
+texts_injective one [] (y ∷ ys) p q e = absurd (cc)
+texts_injective one (x ∷ xs) [] p q e = absurd (cc)
+texts_injective {IsIn = IsIn} one (x ∷ xs) (y ∷ ys) p q e =
+    let head : x ≡ y = one.same x y (All-head IsIn x xs p) (All-head IsIn y ys q) (cc) in
+    let tail : xs ≡ ys = texts_injective one xs ys (All-tail IsIn x xs p) (All-tail IsIn y ys q) (cc) in
+    cc
+
+-- values go on after some first ones: the next has this text, and the later ones have those
+pub record GoesOn {X W : Type 0} (IsIn : X → Type 0) (text : X → W) (xs ys : List X) (word : W) (rest : List W) : Type 0 where
+  pub next : X
+  pub later : List X
+  pub valid : IsIn next
+  pub parts : ys ≡ xs ++ next ∷ later
+  pub says : word ≡ text next
+  pub says_later : rest ≡ map text later
+
+pub texts_go_on : {X W : Type 0} {IsIn : X → Type 0} {text : X → W} → HasOneText IsIn text → (xs ys : List X) (word : W) (rest : List W)
+    → All IsIn xs × All IsIn ys → map text xs ++ word ∷ rest ≡ map text ys → GoesOn IsIn text xs ys word rest
+texts_go_on one [] [] word rest are e = absurd (cc)
+texts_go_on {IsIn = IsIn} one [] (y ∷ ys) word rest are e =
+    record { next = y; later = ys; valid = All-head IsIn y ys are.1; parts = refl; says = cc; says_later = cc }
+texts_go_on one (x ∷ xs) [] word rest are e = absurd (cc)
+texts_go_on {IsIn = IsIn} one (x ∷ xs) (y ∷ ys) word rest are e =
+    let head : x ≡ y = one.same x y (All-head IsIn x xs are.0) (All-head IsIn y ys are.1) (cc) in
+    let more = texts_go_on one xs ys word rest (All-tail IsIn x xs are.0, All-tail IsIn y ys are.1) (cc) in
+    let parts : ys ≡ xs ++ more.next ∷ more.later = more.parts in
+    record {
+      next = more.next;
+      later = more.later;
+      valid = more.valid;
+      parts = cc;
+      says = more.says;
+      says_later = more.says_later;
+    }

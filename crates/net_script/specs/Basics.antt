@@ -1,0 +1,28 @@
+-- The words of the system that scripts and traces print. Variants whose names another type has too are written behind their type.
+pub use Rattle.xid.specs.Names.{XidParts, IsBytes, IsXid}
+pub use Rattle.xid.specs.Transactions.{TxParts, tx_text}
+pub use Rattle.xid.specs.Text.{hex_text, xid_text}
+pub use Rattle.xid.specs.Codes.{code_number}
+pub use Rattle.xid.specs.Refusals.{number_of}
+pub use Rattle.xid.specs.declared.refusals.Refusal.{Refusal}
+pub use Rattle.xid.specs.declared.refusals.Refusal.TheVariants.{NoMemory, BadScript}
+pub use Rattle.xid.specs.declared.transaction.Vote.{Vote}
+pub use Rattle.wire.specs.Messages.{message_tx}
+pub use Rattle.wire.specs.declared.message.Kind.{Kind}
+pub use Rattle.wire.specs.declared.message.Kind.TheVariants.{Prepare, P1a, P1b, P2a, P2b, Commit, Abort}
+pub use Rattle.protocol.specs.declared.answers.Answer.{Answer}
+pub use Rattle.protocol.specs.declared.answers.Answer.TheVariants.{Done, Code, Value, NoValue, Xids, Stands, Refused}
+pub use Rattle.protocol.specs.declared.events.Event.{Event}
+pub use Rattle.protocol.specs.declared.events.Event.TheVariants.{Ask, Deliver, Lose, Cut, Noise, Tear, Restart, Compact}
+pub use Rattle.protocol.specs.declared.events.Change.{Change}
+pub use Rattle.protocol.specs.declared.events.Sent.{Sent}
+pub use Rattle.protocol.specs.declared.events.Step.{Step}
+pub use Rattle.protocol.specs.declared.nodes.NodeId.{NodeId}
+pub use Rattle.protocol.specs.declared.nodes.NodeId.TheVariants.{A, L, R}
+pub use Rattle.protocol.specs.declared.requests.Action.{Action}
+pub use Rattle.protocol.specs.declared.requests.Action.TheVariants.{Start, Put, Del, Get, End, EndFail, Rollback}
+pub use Rattle.protocol.specs.declared.requests.Request.{Request}
+pub use Rattle.protocol.specs.declared.requests.Request.TheVariants.{Call, Recover, Timeout}
+pub use Rattle.protocol.specs.declared.rows.Row.{Row}
+pub use Rattle.protocol.specs.declared.states.Standing.{Standing}
+pub use Rattle.protocol.specs.declared.states.View.{View}

@@ -1,0 +1,44 @@
+-- The words of messages, as a trace prints them.
+use Rattle.std.specs.Prelude.{ℕ, List, [], ◌∷◌, ◌++◌, codes, decimal, Option, Some, None}
+use Rattle.net_script.specs.Basics.{tx_text, message_tx, Vote, Kind, Prepare, P1a, P1b, P2a, P2b, Commit, Abort, A, R}
+use Rattle.net_script.specs.Lines.{node_text}
+
+-- a vote
+abbrev pub vote_text : Vote → List ℕ
+vote_text Vote.Prepared = codes "prepared"
+vote_text Vote.Aborted = codes "aborted"
+
+-- a report of phase 1b: the ballot accepted last and its vote, or `none`
+abbrev pub report_words : Option (ℕ × Vote) → List (List ℕ)
+report_words None = codes "none" ∷ []
+report_words (Some accepted) = decimal accepted.0 ∷ vote_text accepted.1 ∷ []
+
+-- an instance, and a ballot
+abbrev pub ballot_words : ℕ → ℕ → List (List ℕ)
+ballot_words rm ballot = node_text (R rm) ∷ decimal ballot ∷ []
+
+-- the first word of a message
+abbrev pub message_word : Kind → List ℕ
+message_word (Prepare tx) = codes "prepare"
+message_word (P1a tx rm ballot) = codes "p1a"
+message_word (P1b tx rm ballot report acceptor) = codes "p1b"
+message_word (P2a tx rm ballot vote) = codes "p2a"
+message_word (P2b tx rm ballot vote acceptor) = codes "p2b"
+message_word (Commit tx) = codes "commit"
+message_word (Abort tx) = codes "abort"
+message_word (Kind.Ask tx rm) = codes "ask"
+
+-- the words of a message after its transaction
+abbrev pub message_args : Kind → List (List ℕ)
+message_args (Prepare tx) = []
+message_args (P1a tx rm ballot) = ballot_words rm ballot
+message_args (P1b tx rm ballot report acceptor) = ballot_words rm ballot ++ report_words report ++ node_text (A acceptor) ∷ []
+message_args (P2a tx rm ballot vote) = ballot_words rm ballot ++ vote_text vote ∷ []
+message_args (P2b tx rm ballot vote acceptor) = ballot_words rm ballot ++ vote_text vote ∷ node_text (A acceptor) ∷ []
+message_args (Commit tx) = []
+message_args (Abort tx) = []
+message_args (Kind.Ask tx rm) = node_text (R rm) ∷ []
+
+-- the words of a message
+abbrev pub message_words : Kind → List (List ℕ)
+message_words message = message_word message ∷ tx_text (message_tx message) ∷ message_args message

@@ -1,0 +1,101 @@
+ghost use Rattle.std.specs.Prelude.{◌≡◌, [], ◌∷◌, None};
+ghost use Rattle.protocol.specs.declared.answers.Answer.TheVariants.{Done};
+
+use crate::answers::Answer;
+use crate::nodes::NodeId;
+use stable_record::Fact;
+use std::marker::Model;
+use std::slice;
+use wire::Message;
+
+/// Whom a message is for.
+#[derive(Clone, Copy, Debug, PartialEq, Eq)]
+pub enum Address {
+    /// One node.
+    Node(NodeId),
+    /// Each acceptor.
+    Acceptors,
+    /// Each leader.
+    Leaders,
+    /// Each resource manager of the message's transaction.
+    Managers,
+}
+
+/// A message to send, and whom it is for.
+#[derive(Clone, Copy, Debug, PartialEq, Eq)]
+pub struct Outgoing {
+    /// Whom it is for.
+    pub to: Address,
+    /// The message.
+    pub message: Message,
+}
+
+/// Messages to send, in order, which a contract sees as the list of them. To make them takes no memory.
+#[derive(Clone, Copy, Debug)]
+pub struct Sends {
+    only: Option<Outgoing>,
+}
+
+impl Model for Sends {
+    ghost use Rattle.std.specs.Prelude.{List};
+    ghost use Rattle.protocol.specs.declared.decisions.Outgoing.{Outgoing};
+    ghost use Rattle.protocol.specs.Sending.{listed, first_listed};
+
+    ghost Value = { List Outgoing };
+
+    ghost view = { λ sends. listed sends.only };
+
+    ghost inverse = { λ outgoing. record { only = first_listed outgoing } };
+}
+
+impl Sends {
+    /// Nothing to send.
+    pub fn none() -> Sends
+        ensures { result ≡ [] }
+    {
+        Sends { only: None }
+    }
+
+    /// One message.
+    pub fn one(outgoing: Outgoing) -> Sends
+        ensures { result ≡ outgoing ∷ [] }
+    {
+        Sends {
+            only: Some(outgoing),
+        }
+    }
+
+    /// The messages.
+    pub fn as_slice(&self) -> &[Outgoing]
+        ensures { result.now ≡ self.now }
+    {
+        match &self.only {
+            None => &[],
+            Some(outgoing) => slice::from_ref(outgoing),
+        }
+    }
+}
+
+/// What a part of a node decides on an input.
+#[derive(Debug, Drop)]
+pub struct Decision {
+    /// What the input is answered.
+    pub answer: Answer,
+    /// The fact to store, if there is one. Nothing is sent before it is stored.
+    pub fact: Option<Fact>,
+    /// What to send then, in order.
+    pub sends: Sends,
+}
+
+impl Decision {
+    /// Ok, nothing to store, and nothing to send.
+    pub fn nothing() -> Decision
+        ensures { result ≡ record { answer = Done; fact = None; sends = [] } }
+    {
+        Decision {
+            answer: Answer::Done,
+            fact: None,
+            sends: Sends::none(),
+        }
+    }
+}

@@ -1,0 +1,3 @@
+pub mod StandingSlots
+pub mod Slots
+pub mod Effects

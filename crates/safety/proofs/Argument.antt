@@ -1,0 +1,5 @@
+pub mod Preservation
+pub mod Agreement
+pub mod Views
+pub mod Additions
+pub mod Events

@@ -1,0 +1,38 @@
+-- What all roles say of facts and of messages.
+use Rattle.std.proofs.Common.{◌≡◌, ℕ, ◌≤◌, Bool, true, if◌then◌else◌, List, [], ◌∷◌, ◌++◌, Option, Some, None, refl, sym, ap}
+use Rattle.std.specs.Prelude.{map, option_to_list}
+use Rattle.std.proofs.lemmas.List.{append-nil}
+use Rattle.xid.specs.Transactions.{TxParts}
+use Rattle.xid.specs.declared.transaction.Vote.{Vote}
+use Rattle.xid.specs.declared.transaction.Vote.TheVariants.{Prepared, Aborted}
+use Rattle.wire.specs.declared.message.Kind.{Kind}
+use Rattle.safety.specs.Words.{Fact, Outgoing}
+use Rattle.stable_record.specs.declared.fact.FactKind.TheVariants as stored
+use Rattle.protocol.specs.Facts.{vote_eq, last_ballot, ballot_begun}
+use Rattle.xid.proofs.Deciding.{tx_self}
+use Rattle.ballot.specs.Greatest.{IsIn}
+use Rattle.ballot.proofs.Greatest.{at_most_greatest}
+
+-- the facts with one more, if there is one
+abbrev pub with_fact : List Fact → Option Fact → List Fact
+with_fact facts None = facts
+with_fact facts (Some fact) = facts ++ fact ∷ []
+
+pub with_fact_is : (facts : List Fact) (fact : Option Fact) → with_fact facts fact ≡ facts ++ option_to_list fact
+with_fact_is facts None = sym (append-nil facts)
+with_fact_is facts (Some fact) = refl
+
+-- the messages of an effect
+abbrev pub messages_of : List Outgoing → List Kind
+messages_of sends = map (λ send. send.message) sends
+
+pub vote_eq-is : (v w : Vote) → vote_eq v w ≡ true → v ≡ w
+vote_eq-is Prepared Prepared e = refl
+vote_eq-is Aborted Aborted e = refl
+vote_eq-is Prepared Aborted e = absurd (cc (e))
+vote_eq-is Aborted Prepared e = absurd (cc (e))
+
+-- a ballot that was begun is at most the greatest
+pub begun_below : (facts : List Fact) (tx : TxParts) (b : ℕ) → IsIn facts (stored.Ballot tx b) → b ≤ last_ballot facts tx
+begun_below facts tx b h =
+    at_most_greatest (ballot_begun tx) facts (stored.Ballot tx b) b h (ap (λ (t : Bool). if t then Some b else None) (tx_self tx))

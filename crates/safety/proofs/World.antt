@@ -1,0 +1,9 @@
+pub mod Growth
+pub mod AllowedEffects
+pub mod SafeSteps
+pub mod Outcomes
+pub mod NodeRules
+pub mod Events
+pub mod Reachable
+pub mod NodePlaces
+pub mod Changes

@@ -1,0 +1,222 @@
+"""Tries each wrong rule NAME.rule on a copy of crates/protocol/specs.
+
+A rule has a line 'wrong:', what is wrong in a sentence; and edits: 'file:' a file of crates/protocol, then pairs of 'old:', a text that
+stands once in it, and 'new:', in whose place several 'new:' lines are several lines. Beside it NAME.run is a run that goes wrong:
+`goes_wrong`, which the prover computes, ends in what must never be. A rule that has none has a line 'note:', why.
+
+First the right definitions must be proved, and each run must be refused under them, as its last word says otherwise. Then, for each
+rule, the run alone must be proved under the wrong definitions, which so elaborate; and a worked run of crates/protocol or a lemma of
+crates/safety must be refused. The last line is 'N passed, M failed'.
+"""
+import os
+import re
+import shutil
+import subprocess
+import sys
+import tempfile
+import time
+from concurrent.futures import ThreadPoolExecutor
+from queue import Queue
+
+HERE = os.path.dirname(os.path.realpath(__file__))
+ROOT = os.path.dirname(os.path.dirname(HERE))
+CRATES = ("xid", "wire", "stable_record", "ballot", "protocol", "safety")
+RT = os.environ.get("RT", "rt").split()
+JOBS = int(os.environ.get("JOBS", "2"))
+ERROR = re.compile(r"^(?:\./)?(\S+):(\d+):\d+: error: (.*)")
+
+
+class BadRule(Exception):
+    """Why a rule shows nothing."""
+
+
+class Check:
+    """What `rt check` said of a crate: whether it is proved, and its errors by file, line and text."""
+
+    def __init__(self, crate):
+        self.crate = crate
+        told = subprocess.run([*RT, "check"], cwd=crate, text=True, stdout=subprocess.PIPE, stderr=subprocess.STDOUT, timeout=3600)
+        self.lines = told.stdout.splitlines()
+        self.proved = told.returncode == 0 and any(line.startswith("logic=proved") for line in self.lines)
+        self.errors = [found.groups() for found in map(ERROR.match, self.lines) if found]
+
+        proofs = [error for error in self.errors if error[0].startswith("proofs/")]
+        self.is_refusal = bool(proofs) and len(proofs) == len(self.errors)
+        strange = f"errors that show nothing: {self.errors[:1] or self.lines[-3:]}"
+        self.refused_by = self.lemma_at(*proofs[0]) if self.is_refusal else strange
+
+    def lemma_at(self, file, line, text):
+        """The lemma of an error, as 'File: lemma'."""
+        named = re.match(r"`([^`]+)`: ", text)
+        above = read(f"{self.crate}/{file}").splitlines()[:int(line)]
+        heads = re.findall(r"^ *(?:pub )?([\w-]+) .*[:=] ", "\n".join(line for line in above if "--" not in line), re.MULTILINE)
+        return f"{file[len('proofs/'):-len('.antt')]}: {named[1] if named else heads[-1]}"
+
+
+def read(file):
+    with open(file, encoding="utf-8") as it:
+        return it.read()
+
+
+def write(file, text):
+    with open(file, "w", encoding="utf-8") as it:
+        it.write(text)
+
+
+def has_run(name):
+    return os.path.exists(f"{HERE}/{name}.run")
+
+
+def parse_rule(name):
+    """The files of a rule, and of each the pairs of texts."""
+    edits, file, words = {}, None, set()
+    for line in read(f"{HERE}/{name}.rule").splitlines():
+        word, _, text = line.partition(":")
+        text = text[1:]
+        words.add(word)
+        if word == "file":
+            file = edits.setdefault(text, [])
+        elif word == "old":
+            file.append([text, None])
+        elif word == "new":
+            last = file[-1]
+            last[1] = text if last[1] is None else last[1] + "\n" + text
+        elif word not in ("wrong", "note"):
+            raise BadRule(f"no such line: {line}")
+    if "wrong" not in words or not edits or not (has_run(name) or "note" in words):
+        raise BadRule("it wants a line 'wrong:', an edit, and a run or a note why there is none")
+    return edits
+
+
+class Scratch:
+    """A copy of the crates."""
+
+    def __init__(self, folder, source):
+        self.folder = folder
+        self.protocol = f"{folder}/crates/protocol"
+        self.safety = f"{folder}/crates/safety"
+        os.makedirs(f"{folder}/crates")
+        for crate in CRATES:
+            shutil.copytree(f"{source}/crates/{crate}", f"{folder}/crates/{crate}", symlinks=True)
+        lines = re.findall(r"^(\w+)(.*\n)", read(f"{source}/crates.txt"), re.MULTILINE)
+        write(f"{folder}/crates.txt", "".join(name + rest for name, rest in lines if name in CRATES))
+        proofs = f"{ROOT}/crates/protocol/proofs"
+        named = re.findall(r"^(?:pub )?mod (\w+)", read(f"{proofs}/Lib.antt"), re.MULTILINE)
+        self.modules = {name: read(f"{proofs}/{name}.antt") for name in named}
+        self.lemmas = self.cited_lemmas()
+
+    def cited_lemmas(self):
+        """The modules of protocol's proofs that safety builds on: the others are worked runs."""
+        text = "".join(read(f"{at}/{name}") for at, _, names in os.walk(self.safety) if "/out" not in at for name in names
+                       if name.endswith((".antt", ".rt")))
+        cited = set()
+        while True:
+            more = set(re.findall(r"Rattle\.protocol\.proofs\.(\w+)", text)) - cited
+            if not more:
+                return {name: text for name, text in self.modules.items() if name in cited}
+            cited |= more
+            text = "".join(self.modules[name] for name in more)
+
+    def set_proofs(self, modules):
+        """Makes these modules, texts by name, all of protocol's proofs."""
+        proofs = f"{self.protocol}/proofs"
+        for name in os.listdir(proofs):
+            if name.endswith(".antt"):
+                os.remove(f"{proofs}/{name}")
+        for name, text in modules.items():
+            write(f"{proofs}/{name}.antt", text)
+        write(f"{proofs}/Lib.antt", "".join(f"pub mod {name}\n" for name in modules))
+
+    def check_runs(self, runs):
+        """Checks protocol with runs, texts by module, and nothing else but their words and what safety builds on."""
+        words = {"RowWords": self.modules["RowWords"], "RunWords": read(f"{HERE}/RunWords.run")} if runs else {}
+        self.set_proofs({**self.lemmas, **words, **runs})
+        return Check(self.protocol)
+
+    def check_worked_runs(self):
+        self.set_proofs(self.modules)
+        return Check(self.protocol)
+
+    def check_safety(self):
+        self.set_proofs(self.lemmas)
+        return Check(self.safety)
+
+    def try_rule(self, name):
+        """Which proofs refuse a rule."""
+        before = {}
+        try:
+            for file, pairs in parse_rule(name).items():
+                path = f"{self.protocol}/{file}"
+                before[path] = text = read(path)
+                for old, new in pairs:
+                    if text.count(old) != 1:
+                        raise BadRule(f"{file}: stands {text.count(old)} times: {old}")
+                    text = text.replace(old, new)
+                write(path, text)
+            runs = {"GoesWrong": read(f"{HERE}/{name}.run")} if has_run(name) else {}
+            alone = self.check_runs(runs)
+            if not alone.proved:
+                raise BadRule(f"with the run alone: {alone.errors[:1] or alone.lines[-3:]}")
+            checks = {"worked run": self.check_worked_runs(), "safety": self.check_safety()}
+            refused = [check for check in checks.values() if not check.proved]
+            if not refused or not all(check.is_refusal for check in refused):
+                raise BadRule(next((check.refused_by for check in refused if not check.is_refusal), "nothing refuses it"))
+            return ", ".join(f"{kind} {check.refused_by}" for kind, check in checks.items() if not check.proved)
+        finally:
+            for path, text in before.items():
+                write(path, text)
+
+
+def module_of(name):
+    return "".join(word.capitalize() for word in name.split("_"))
+
+
+def try_right_rules(scratch, names):
+    """Proves the right definitions, and says of which rules the run is not refused under them."""
+    for check in (scratch.check_worked_runs(), scratch.check_safety()):
+        if not check.proved:
+            sys.exit(f"the right definitions aren't proved: {check.crate}: {(check.errors or check.lines)[:3]}")
+    runs = {module_of(name): read(f"{HERE}/{name}.run") for name in names if has_run(name)}
+    errors = scratch.check_runs(runs).errors
+    wanted = {f"proofs/{module}.antt" for module in runs}
+    strange = [error for error in errors if error[0] not in wanted or not error[2].startswith("`goes_wrong`: ")]
+    return {name: f"with the right rule its run is not refused as it must be: {strange[:1]}" for name in names if module_of(name) in runs
+            and (f"proofs/{module_of(name)}.antt" not in {file for file, _, _ in errors} or strange)}
+
+
+def main():
+    files = [os.path.splitext(file) for file in os.listdir(HERE)]
+    rules = {name for name, kind in files if kind == ".rule"}
+    if strays := {name for name, kind in files if kind == ".run"} - rules - {"RunWords"}:
+        sys.exit(f"runs without a rule: {', '.join(sorted(strays))}")
+    names = sys.argv[1:] or sorted(rules)
+    began = time.monotonic()
+    with tempfile.TemporaryDirectory() as folder:
+        first = Scratch(f"{folder}/0", ROOT)
+        failures = try_right_rules(first, names)
+        print(f"the right definitions: proved, in {time.monotonic() - began:.0f} s", flush=True)
+        free = Queue()
+        for it in [first, *(Scratch(f"{folder}/{n}", first.folder) for n in range(1, JOBS))]:
+            free.put(it)
+
+        def try_one(name):
+            scratch, start = free.get(), time.monotonic()
+            try:
+                told, well = scratch.try_rule(name), True
+                if name in failures:
+                    raise BadRule(failures[name])
+            except (BadRule, OSError, IndexError, TypeError) as why:
+                told, well = f"FAILED: {why}", False
+            finally:
+                free.put(scratch)
+            print(f"{name}: {'refused by ' if well else ''}{told} ({time.monotonic() - start:.0f} s)", flush=True)
+            return well
+
+        with ThreadPoolExecutor(JOBS) as pool:
+            passed = list(pool.map(try_one, names))
+    print(f"{passed.count(True)} passed, {passed.count(False)} failed")
+    sys.exit(not all(passed))
+
+
+if __name__ == "__main__":
+    main()
