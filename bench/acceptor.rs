@@ -1,5 +1,6 @@
-//! An acceptor takes phase 2a messages: `bench_acceptor TRANSACTIONS BALLOTS REPETITIONS`.
-//! In each ballot, beginning with 0, each transaction's message is decided, and its fact made ready and played. A repetition
+//! An acceptor takes phase 2a messages of transactions with two branches:
+//! `bench_acceptor plain|bundled TRANSACTIONS BALLOTS REPETITIONS`.
+//! In each ballot, beginning with 0, each transaction's two messages are decided, and their facts made ready and played. A repetition
 //! begins with an acceptor that has played nothing. Prints how many facts were played, and a sum of what was sent last.
 #![tactic(auto)]
 
@@ -9,16 +10,21 @@ use protocol::{Decision, Sends};
 use std::alloc::Global;
 use std::env;
 use wire::{Kind, MAX_DATAGRAM, Message, encode, is_message};
-use xid::{Ballot, Refusal, Tx, Vote};
+use xid::{Ballot, ManagerNumber, Refusal, Tx, Vote};
 
-const USAGE: &str = "usage: bench_acceptor TRANSACTIONS BALLOTS REPETITIONS";
+const USAGE: &str = "usage: bench_acceptor plain|bundled TRANSACTIONS BALLOTS REPETITIONS";
 
-/// The message of a transaction on one branch, whose gtrid is a number of 4 bytes.
-fn message_of(number: u32, ballot: Ballot) -> Result<Message, Refusal> {
-    let tx = Tx::new(1, &number.to_be_bytes(), &[(0, b"a".as_slice())])?;
+/// The message of an instance of a transaction, whose gtrid is a number of 4 bytes.
+fn message_of(
+    number: u32,
+    instance: ManagerNumber,
+    ballot: Ballot,
+) -> Result<Message, Refusal> {
+    let branches = [(0, b"a".as_slice()), (1, b"b".as_slice())];
+    let tx = Tx::new(1, &number.to_be_bytes(), &branches)?;
     let kind = Kind::P2a {
         tx,
-        instance: 0,
+        instance,
         ballot,
         vote: Vote::Prepared,
     };
@@ -33,7 +39,8 @@ fn messages_of(alloc: Global, transactions: u32, ballots: Ballot) -> Result<Vec<
     let mut messages = Vec::new(alloc);
     for ballot in 0..ballots {
         for number in 0..transactions {
-            messages.push(message_of(number, ballot)?)?;
+            messages.push(message_of(number, 0, ballot)?)?;
+            messages.push(message_of(number, 1, ballot)?)?;
         }
     }
     Ok(messages)
@@ -52,8 +59,8 @@ fn sum_of(message: &Message) -> u64 {
 
 /// An acceptor decides on each message, and plays what is to be stored. Answers how many facts it played, and the sum of the
 /// message that it sent last.
-fn play_all(alloc: Global, messages: &[Message]) -> Result<(u64, u64), Refusal> {
-    let mut acceptor = Acceptor::new(alloc, 0, 1);
+fn play_all(alloc: Global, bundled: bool, messages: &[Message]) -> Result<(u64, u64), Refusal> {
+    let mut acceptor = Acceptor::new(alloc, 0, 1, bundled);
     let mut played: u64 = 0;
     let mut sent = Sends::none();
     for message in messages {
@@ -73,14 +80,15 @@ fn play_all(alloc: Global, messages: &[Message]) -> Result<(u64, u64), Refusal> 
 fn main(rt: HostRuntime) -> anyhow::Result<()> {
     let alloc = rt.alloc();
     let words: Vec<String> = env::args(&rt)?.collect(alloc)?;
-    let [_, transactions, ballots, repetitions] = words.as_slice() else {
+    let [_, kind, transactions, ballots, repetitions] = words.as_slice() else {
         bail!("{USAGE}");
     };
+    let bundled = kind.as_str() == "bundled";
     let messages = messages_of(alloc, transactions.parse::<u32>()?, ballots.parse::<u32>()?)?;
     let mut played: u64 = 0;
     let mut sum: u64 = 0;
     for _ in 0..repetitions.parse::<u32>()? {
-        let (facts, bytes) = play_all(alloc, &messages)?;
+        let (facts, bytes) = play_all(alloc, bundled, &messages)?;
         played = played.wrapping_add(facts);
         sum = sum.wrapping_add(bytes);
     }

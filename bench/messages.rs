@@ -1,4 +1,4 @@
-//! Encodes or decodes messages over and over: `bench_messages encode|decode prepare|p2a|p2a-of-three|p1b ROUNDS`.
+//! Encodes or decodes messages over and over: `bench_messages encode|decode prepare|p2a|p2a-of-three|p2b|p1b|b1b ROUNDS`.
 //! A round takes 8 messages of one size, whose transactions differ in their format. Prints how many messages were taken,
 //! how many bytes each has, and a sum of what came out.
 #![tactic(auto)]
@@ -6,10 +6,10 @@
 use anyhow::bail;
 use std::alloc::Global;
 use std::env;
-use wire::{Kind, MAX_DATAGRAM, Message, decode, encode, is_message};
+use wire::{InstanceReport, Items, Kind, MAX_DATAGRAM, Message, decode, encode, is_message};
 use xid::{MAX_BRANCHES, MAX_COMPONENT, Refusal, Tx, Vote};
 
-const USAGE: &str = "usage: bench_messages encode|decode prepare|p2a|p2a-of-three|p1b ROUNDS";
+const USAGE: &str = "usage: bench_messages encode|decode prepare|p2a|p2a-of-three|p2b|p1b|b1b ROUNDS";
 
 /// Prepare of the worked spellings, where the format is 1.
 fn prepare(format: i64) -> Result<Kind, Refusal> {
@@ -41,21 +41,57 @@ fn p2a_of_three(format: i64) -> Result<Kind, Refusal> {
     })
 }
 
-/// The longest message: phase 1b on 16 branches, with names of 64 bytes.
-fn p1b(format: i64) -> Result<Kind, Refusal> {
+/// Phase 2b on two branches, with names of one byte.
+fn p2b(format: i64) -> Result<Kind, Refusal> {
+    let branches = [(0, b"a".as_slice()), (1, b"b".as_slice())];
+    Ok(Kind::P2b {
+        tx: Tx::new(format, b"t", &branches)?,
+        instance: 1,
+        ballot: 0,
+        vote: Vote::Prepared,
+        acceptor: 2,
+    })
+}
+
+/// A transaction of 16 branches, with names of 64 bytes.
+fn longest(format: i64) -> Result<Tx, Refusal> {
     let name = [200; MAX_COMPONENT];
     let b = name.as_slice();
     let mut branches = [(0, b); MAX_BRANCHES];
     for rm in 0..16 {
         branches[rm as usize] = (rm, b);
     }
-    let tx = Tx::new(format, b, &branches)?;
+    Tx::new(format, b, &branches)
+}
+
+/// Phase 1b on 16 branches, with names of 64 bytes.
+fn p1b(format: i64) -> Result<Kind, Refusal> {
     Ok(Kind::P1b {
-        tx,
+        tx: longest(format)?,
         instance: 15,
         ballot: 9,
         report: Some((8, Vote::Aborted)),
         acceptor: 6,
+    })
+}
+
+/// The longest message: the bundle of phase 1b on 16 branches, with names of 64 bytes.
+fn b1b(format: i64) -> Result<Kind, Refusal> {
+    let report = Some((8, Vote::Aborted));
+    let mut reports = Items::one(InstanceReport {
+        instance: 0,
+        report,
+    });
+    for instance in 1..16 {
+        if reports.as_slice().len() < MAX_BRANCHES {
+            reports.push(InstanceReport { instance, report });
+        }
+    }
+    Ok(Kind::B1b {
+        tx: longest(format)?,
+        ballot: 9,
+        acceptor: 6,
+        reports,
     })
 }
 
@@ -67,7 +103,9 @@ fn round_of(alloc: Global, case: &str) -> Result<Vec<Message>, Refusal> {
             "prepare" => prepare(format)?,
             "p2a" => p2a(format)?,
             "p2a-of-three" => p2a_of_three(format)?,
+            "p2b" => p2b(format)?,
             "p1b" => p1b(format)?,
+            "b1b" => b1b(format)?,
             _ => return Err(Refusal::BadMessage),
         };
         if !is_message(&kind) {

@@ -1,1 +1,6 @@
-pub mod SlotSteps
+pub mod Instances
+pub mod Promises
+pub mod Reports
+pub mod Played
+pub mod Rows
+pub mod Standing

@@ -1,60 +1,63 @@
-ghost use Rattle.std.specs.Prelude.{◌≡◌, ℕ, ◌<◌, [], true, IfSome};
+ghost use Rattle.std.specs.Prelude.{◌≡◌, ℕ, ◌<◌, []};
 ghost use Rattle.xid.specs.Limits.{most_acceptors};
 ghost use Rattle.wire.specs.Messages.{IsMessage};
-ghost use Rattle.wire.specs.declared.message.Kind.TheVariants.{P1a, P2a};
-ghost use Rattle.protocol.specs.Acceptors.{on_1a, on_2a, on_acceptor_message, plays_at_acceptor};
-ghost use Rattle.protocol.specs.Effects.{Config, decision_of};
+ghost use Rattle.wire.specs.declared.message.Kind.TheVariants.{P1a, P2a, B1a};
+ghost use Rattle.stable_record.specs.Facts.{fact_tx};
+ghost use Rattle.protocol.specs.Acceptors.{on_1a, on_b1a, on_2a, on_acceptor_message};
+ghost use Rattle.protocol.specs.Effects.{Config};
 ghost use Rattle.protocol.specs.Parts.{IsMadeReady, IsPlayed};
-ghost use Rattle.acceptor.specs.Acceptors.{acceptor_part};
+ghost use Rattle.acceptor.specs.Acceptors.{acceptor_part, StandsFor, Decides};
 
-use crate::slots::{is_accepted, plays, slot_of};
-use ballot::owner;
-use protocol::{Address, Answer, Decision, NodeId, Outgoing, Sends};
-use stable_record::{Fact, FactKind};
+use crate::bundles::Accepted;
+use crate::rules::{Seat, on_1a, on_2a, on_b1a};
+use crate::slots::{plays, tx_of};
+use crate::table::Table;
+use protocol::Decision;
+use stable_record::Fact;
 use std::alloc::Global;
 use std::marker::Model;
 use wire::{Kind, Message};
 use xid::{Ballot, ManagerNumber, Refusal, Tx, Vote};
 
-/// An acceptor: its number, how many leaders there are, and the facts that it has played.
+/// An acceptor: its number, how many leaders there are, whether the cluster is bundled, and a slot for each instance of each
+/// transaction that it has seen.
 #[derive(Debug, Drop)]
 pub struct Acceptor {
-    number: u8,
-    leaders: u8,
-    facts: Vec<Fact>,
+    seat: Seat,
+    table: Table,
 }
 
 impl Model for Acceptor {
-    ghost use Rattle.std.specs.Prelude.{◌-◌, ◌<◌, vec_len};
+    ghost use Rattle.std.specs.Prelude.{◌<◌};
     ghost use Rattle.xid.specs.Limits.{most_acceptors};
-    ghost use Rattle.std.specs.Vec.{vec_capacity};
     ghost use Rattle.acceptor.specs.Acceptors.{AcceptorParts};
 
     ghost Value = { AcceptorParts };
 
     ghost view = { λ a. record {
-      number = a.number;
-      leaders = a.leaders;
-      facts = a.facts.items;
-      room = vec_capacity a.facts - vec_len a.facts;
+      number = a.seat.number;
+      leaders = a.seat.leaders;
+      bundled = a.seat.bundled;
+      table = a.table;
     } };
 
-    ghost invariant = { λ a. (a.number < most_acceptors) × (0 < a.leaders) };
+    ghost invariant = { λ a. (a.seat.number < most_acceptors) × (0 < a.seat.leaders) };
 }
 
 impl Acceptor {
-    /// An acceptor that has played nothing.
-    pub fn new(alloc: Global, number: u8, leaders: u8) -> Acceptor
+    /// An acceptor that has played nothing. It takes no memory.
+    pub fn new(alloc: Global, number: u8, leaders: u8, bundled: bool) -> Acceptor
         requires number { number < most_acceptors }
         requires leaders { 0 < leaders }
-        ensures number { result.number ≡ number }
-        ensures leaders { result.leaders ≡ leaders }
-        ensures facts { result.facts ≡ [] }
+        ensures { (config : Config) → leaders ≡ config.leaders → bundled ≡ config.bundled → StandsFor config number result [] }
     {
         Acceptor {
-            number,
-            leaders,
-            facts: Vec::new(alloc),
+            seat: Seat {
+                number,
+                leaders,
+                bundled,
+            },
+            table: Table::new(alloc),
         }
     }
 
@@ -62,84 +65,39 @@ impl Acceptor {
     /// owner. Else nothing. It takes no memory.
     pub fn on_1a(&self, tx: &Tx, instance: ManagerNumber, ballot: Ballot) -> Decision
         requires { IsMessage (P1a tx.now instance ballot) }
-        ensures effect { (config : Config) → config.leaders ≡ self.now.leaders
-            → result ≡ decision_of (on_1a config self.now.number self.now.facts tx.now instance ballot) }
-        ensures plays { IfSome result.fact (λ fact. plays_at_acceptor self.now.facts fact ≡ true) }
+        ensures { Decides self.now result (λ config a slots. on_1a config a slots tx.now instance ballot) }
     {
-        let slot = slot_of(&self.facts, tx, instance);
-        if ballot <= slot.mbal {
-            return Decision::nothing();
-        }
-        let message = Kind::P1b {
-            tx: *tx,
-            instance,
-            ballot,
-            report: slot.report,
-            acceptor: self.number,
-        };
-        let promise = FactKind::Promise {
-            tx: *tx,
-            instance,
-            ballot,
-        };
-        Decision {
-            answer: Answer::Done,
-            fact: Some(Fact::new(promise)),
-            sends: Sends::one(Outgoing {
-                to: Address::Node(NodeId::L(owner(ballot, self.leaders))),
-                message: Message::new(message),
-            }),
-        }
+        on_1a(self.seat, tx, self.table.slots_of(tx), instance, ballot)
     }
 
-    /// Phase 2a: no lower than any ballot before, the value is accepted, and all leaders are told; the accept is to be
-    /// stored where it isn't what stands. Else nothing. It takes no memory.
+    /// Phase 1a of all instances: where some stands below the ballot, one promise for all of these is to be stored, and they are
+    /// reported to the ballot's owner. Else nothing. It takes no memory.
+    pub fn on_b1a(&self, tx: &Tx, ballot: Ballot) -> Decision
+        requires { IsMessage (B1a tx.now ballot) }
+        ensures { Decides self.now result (λ config a slots. on_b1a config a slots tx.now ballot) }
+    {
+        on_b1a(self.seat, tx, self.table.slots_of(tx), ballot)
+    }
+
+    /// Phase 2a: no lower than any ballot before, the value is accepted, and all leaders are told, in a bundled cluster of every
+    /// instance that has a value, once all have one or this one is aborted; the accept is to be stored where it isn't what stands.
+    /// Else nothing. It takes no memory.
     pub fn on_2a(&self, tx: &Tx, instance: ManagerNumber, ballot: Ballot, vote: Vote) -> Decision
         requires { IsMessage (P2a tx.now instance ballot vote) }
-        ensures effect { result ≡ decision_of (on_2a self.now.number self.now.facts tx.now instance ballot vote) }
-        ensures plays { IfSome result.fact (λ fact. plays_at_acceptor self.now.facts fact ≡ true) }
+        ensures { Decides self.now result (λ config a slots. on_2a config a slots tx.now instance ballot vote) }
     {
-        let slot = slot_of(&self.facts, tx, instance);
-        if ballot < slot.mbal {
-            return Decision::nothing();
-        }
-        let message = Kind::P2b {
-            tx: *tx,
-            instance,
-            ballot,
-            vote,
-            acceptor: self.number,
-        };
-        let told = Sends::one(Outgoing {
-            to: Address::Leaders,
-            message: Message::new(message),
-        });
-        if is_accepted(&slot, ballot, vote) {
-            return Decision {
-                answer: Answer::Done,
-                fact: None,
-                sends: told,
-            };
-        }
-        let accept = FactKind::Accept {
-            tx: *tx,
+        let accepted = Accepted {
             instance,
             ballot,
             vote,
         };
-        Decision {
-            answer: Answer::Done,
-            fact: Some(Fact::new(accept)),
-            sends: told,
-        }
+        on_2a(self.seat, tx, self.table.slots_of(tx), accepted)
     }
 
-    /// What it does on a message: on phase 1a and 2a what `on_1a` and `on_2a` say, on every other nothing. That the message names none but
-    /// nodes of the cluster is asked before, by the node.
+    /// What it does on a message: on phases 1a and 2a what `on_1a`, `on_b1a` and `on_2a` say, on every other nothing. That the message
+    /// is of this kind of cluster and names none but nodes of it is asked before, by the node.
     pub fn on_message(&self, message: &Message) -> Decision
-        ensures effect { (config : Config) → config.leaders ≡ self.now.leaders
-            → result ≡ decision_of (on_acceptor_message config self.now.number self.now.facts message.now) }
-        ensures plays { IfSome result.fact (λ fact. plays_at_acceptor self.now.facts fact ≡ true) }
+        ensures { Decides self.now result (λ config a slots. on_acceptor_message config a slots message.now) }
     {
         match message.kind() {
             Kind::P1a {
@@ -147,6 +105,7 @@ impl Acceptor {
                 instance,
                 ballot,
             } => self.on_1a(tx, *instance, *ballot),
+            Kind::B1a { tx, ballot } => self.on_b1a(tx, *ballot),
             Kind::P2a {
                 tx,
                 instance,
@@ -157,25 +116,52 @@ impl Acceptor {
         }
     }
 
-    /// Makes room for a fact, so that `play` of it right afterwards takes no memory. At `NoMemory`, the only refusal,
-    /// and else too, the facts played are as they were.
+    /// Makes itself ready for a fact: its transaction is seen, so that `play` of it takes no memory. At `NoMemory`, the only refusal,
+    /// and else too, each slot is as it was.
     pub fn ready(&mut self, fact: &Fact) -> Result<(), Refusal>
         ensures { (config : Config) (number : ℕ) → IsMadeReady (acceptor_part config number) self.old self.new fact.now result }
     {
-        let _ = fact;
-        self.facts.reserve(1)?;
-        Ok(())
+        match self.table.see(tx_of(fact)) {
+            Ok(_) => Ok(()),
+            Err(_) => Err(Refusal::NoMemory),
+        }
     }
 
-    /// Plays a fact that is stored. Refused (`Damaged`) where its condition on the facts before it doesn't hold, and
-    /// (`NoMemory`) where no room was made and none is left; then the facts played are as they were.
+    /// Plays a fact that is stored. Refused (`Damaged`) where its condition on the slots doesn't hold, and (`NoMemory`) where it wasn't
+    /// made ready for it; then each slot is as it was.
     pub fn play(&mut self, fact: Fact) -> Result<(), Refusal>
         ensures { (config : Config) (number : ℕ) → IsPlayed (acceptor_part config number) self.old self.new fact result }
     {
-        if !plays(&self.facts, &fact) {
+        self.play_by(&fact)
+    }
+
+    /// Plays a fact, as `play` says.
+    fn play_by(&mut self, fact: &Fact) -> Result<(), Refusal>
+        ensures { (config : Config) (number : ℕ) → IsPlayed (acceptor_part config number) self.old self.new fact.now result }
+    {
+        let tx = tx_of(fact);
+        let Some(number) = self.table.number_of(tx) else {
+            return self.play_first(tx, fact);
+        };
+        if !plays(self.table.slots(number), fact) {
             return Err(Refusal::Damaged);
         }
-        self.facts.push(fact)?;
+        self.table.change(number, fact);
+        Ok(())
+    }
+
+    /// Plays a fact of a transaction that may not have been seen.
+    fn play_first(&mut self, tx: &Tx, fact: &Fact) -> Result<(), Refusal>
+        requires { tx.now ≡ fact_tx fact.now }
+        ensures { (config : Config) (number : ℕ) → IsPlayed (acceptor_part config number) self.old self.new fact.now result }
+    {
+        if !plays(self.table.slots_of(tx), fact) {
+            return Err(Refusal::Damaged);
+        }
+        let Ok(number) = self.table.see(tx) else {
+            return Err(Refusal::NoMemory);
+        };
+        self.table.change(number, fact);
         Ok(())
     }
 }

@@ -1,116 +1,216 @@
-ghost use Rattle.std.specs.Prelude.{◌≡◌, ℕ, ◌<◌};
-ghost use Rattle.protocol.specs.Acceptors.{is_accepted as is_accepted_lem, plays_at_acceptor};
-ghost use Rattle.protocol.specs.Facts.{instance_eq, slot};
-ghost use Rattle.stable_record.specs.declared.fact.FactKind.TheVariants.{Promise, Accept};
+ghost use Rattle.std.specs.Prelude.{◌≡◌, ℕ, ◌<◌, map};
+ghost use Rattle.xid.specs.Transactions.{IsTx};
 ghost use Rattle.wire.specs.Messages.{IsReportBelow};
-ghost use Rattle.acceptor.specs.Slots.{after_fact};
+ghost use Rattle.ballot.specs.Slots.{empty_slot, promised, accepted_in};
+ghost use Rattle.stable_record.specs.declared.fact.FactKind.TheVariants.{Promise, Accept};
+ghost use Rattle.stable_record.specs.Facts.{fact_tx, IsFact};
+ghost use Rattle.protocol.specs.Acceptors.{is_accepted as is_accepted_in, plays_at_acceptor};
+ghost use Rattle.acceptor.specs.Slots.{IsKept, place_of as place_in_tx, slot_at as slot_at_place, slot_of as slot_of_instance, slots_of};
+ghost use Rattle.acceptor.specs.Slots.{slots_after};
 
+use crate::bundles::reports_below;
 use ballot::Slot;
 use stable_record::{Fact, FactKind};
+use std::marker::Model;
 use xid::{Ballot, ManagerNumber, Tx, Vote};
 
-/// Whether two instances of transactions are the same.
-fn is_instance(tx: &Tx, instance: ManagerNumber, other: &Tx, number: ManagerNumber) -> bool
-    ensures { result ≡ instance_eq tx.now instance other.now number }
-{
-    instance == number && tx.is_same(other)
+/// A slot as it is kept: what it accepted last is no higher than the greatest ballot that it took part in.
+#[derive(Clone, Copy, Debug)]
+pub struct KeptSlot {
+    slot: Slot,
 }
 
-/// A slot of an instance after one more fact.
-fn after(slot: Slot, fact: &Fact, tx: &Tx, instance: ManagerNumber) -> Slot
-    ensures { result ≡ after_fact tx.now instance slot fact.now }
-{
-    match fact.kind() {
-        FactKind::Promise {
-            tx: other,
-            instance: number,
-            ballot,
-        } => {
-            if !is_instance(tx, instance, other, *number) {
-                return slot;
-            }
-            Slot {
-                mbal: slot.mbal.max(*ballot),
-                report: slot.report,
-            }
-        }
-        FactKind::Accept {
-            tx: other,
-            instance: number,
-            ballot,
-            vote,
-        } => {
-            if !is_instance(tx, instance, other, *number) {
-                return slot;
-            }
-            Slot {
-                mbal: (*ballot).max(slot.mbal),
-                report: Some((*ballot, *vote)),
-            }
-        }
-        _ => slot,
+impl Model for KeptSlot {
+    ghost use Rattle.ballot.specs.declared.slot.Slot.{Slot};
+    ghost use Rattle.acceptor.specs.Slots.{IsKept};
+
+    ghost Value = { Slot };
+
+    ghost view = { λ kept. kept.slot };
+
+    ghost invariant = { λ kept. IsKept kept.slot };
+
+    ghost inverse = { λ slot. record { slot = slot } };
+}
+
+impl KeptSlot {
+    /// A slot at first.
+    pub fn new() -> KeptSlot
+        ensures { result ≡ empty_slot }
+    {
+        KeptSlot { slot: Slot::new() }
+    }
+
+    /// The slot.
+    pub fn get(&self) -> Slot
+        ensures value { result ≡ self.now }
+        ensures kept { IsKept self.now }
+    {
+        self.slot
+    }
+
+    /// Takes part in a ballot that is greater than every one before. Else nothing changes.
+    pub fn promise(&mut self, ballot: Ballot)
+        ensures { self.new ≡ promised ballot self.old }
+    {
+        self.slot.promise(ballot);
+    }
+
+    /// Accepts a value in a ballot that is no less than every one before. Else nothing changes.
+    pub fn accept(&mut self, ballot: Ballot, vote: Vote)
+        ensures { self.new ≡ accepted_in ballot vote self.old }
+    {
+        self.slot.accept(ballot, vote);
     }
 }
 
-/// What the facts say of an instance.
-pub fn slot_of(facts: &[Fact], tx: &Tx, instance: ManagerNumber) -> Slot
-    ensures value { result ≡ slot facts.now tx.now instance }
+/// The place of an instance among the branches of a transaction, or how many there are where it is none of its instances.
+pub fn place_of(tx: &Tx, instance: ManagerNumber) -> usize
+    ensures { result ≡ place_in_tx tx.now instance }
+{
+    let count = tx.count();
+    for place in 0..count {
+        if tx.rm(place) == instance {
+            return place;
+        }
+    }
+    count
+}
+
+/// The slot at a place, one at first where none is kept.
+pub fn slot_at(slots: &[KeptSlot], place: usize) -> Slot
+    ensures value { result ≡ slot_at_place slots.now place }
+    ensures kept { IsKept result }
+{
+    match slots.get(place) {
+        Some(kept) => kept.get(),
+        None => KeptSlot::new().get(),
+    }
+}
+
+/// The slot of an instance of a transaction, of which these are the slots.
+pub fn slot_of(tx: &Tx, slots: &[KeptSlot], instance: ManagerNumber) -> Slot
+    ensures value { result ≡ slot_of_instance tx.now slots.now instance }
     ensures below { (b : ℕ) → result.mbal < b → IsReportBelow b result.report }
 {
-    let mut slot = Slot::new();
-    for fact in facts {
-        slot = after(slot, fact, tx, instance);
-    }
-    slot
+    slot_at(slots, place_of(tx, instance))
 }
 
 /// Whether a slot already stands at a ballot with this value accepted in it.
 pub fn is_accepted(slot: &Slot, ballot: Ballot, vote: Vote) -> bool
-    ensures { result ≡ is_accepted_lem slot.now ballot vote }
+    ensures { result ≡ is_accepted_in slot.now ballot vote }
 {
     slot.mbal == ballot && slot.report == Some((ballot, vote))
 }
 
-/// Whether a promise's condition on the facts before it holds: it is above every ballot before.
-fn can_promise(facts: &[Fact], tx: &Tx, instance: ManagerNumber, ballot: Ballot) -> bool
-    ensures { result ≡ plays_at_acceptor facts.now (Promise tx.now instance ballot) }
+/// The transaction of a fact.
+pub fn tx_of(fact: &Fact) -> &Tx
+    ensures value { result.now ≡ fact_tx fact.now }
+    ensures valid { IsTx result.now }
+    ensures fact { IsFact fact.now }
 {
-    if !tx.is_participant(instance) {
-        return false;
-    }
-    slot_of(facts, tx, instance).mbal < ballot
+    let tx = match fact.kind() {
+        FactKind::Promise { tx, .. } => tx,
+        FactKind::Accept { tx, .. } => tx,
+        FactKind::Ballot { tx, .. } => tx,
+        FactKind::VotePrepared { tx, .. } => tx,
+        FactKind::VoteAborted(tx) => tx,
+        FactKind::Committed(tx) => tx,
+        FactKind::Aborted(tx) => tx,
+        FactKind::PromiseAll { tx, .. } => tx,
+    };
+    let _ = tx.count();
+    tx
 }
 
-/// Whether an accept's condition on the facts before it holds: it is no lower than any ballot before, and new.
-fn can_accept(facts: &[Fact], tx: &Tx, instance: ManagerNumber, ballot: Ballot, vote: Vote) -> bool
-    ensures { result ≡ plays_at_acceptor facts.now (Accept tx.now instance ballot vote) }
+/// Whether a promise plays: the transaction has the instance, which stands below the ballot.
+fn can_promise(tx: &Tx, slots: &[KeptSlot], instance: ManagerNumber, ballot: Ballot) -> bool
+    ensures { result ≡ plays_at_acceptor (slots_of tx.now slots.now) (Promise tx.now instance ballot) }
 {
     if !tx.is_participant(instance) {
         return false;
     }
-    let slot = slot_of(facts, tx, instance);
+    slot_of(tx, slots, instance).mbal < ballot
+}
+
+/// Whether an accept plays: the transaction has the instance, which stands no higher than the ballot, and the accept is new.
+fn can_accept(
+    tx: &Tx,
+    slots: &[KeptSlot],
+    instance: ManagerNumber,
+    ballot: Ballot,
+    vote: Vote,
+) -> bool
+    ensures { result ≡ plays_at_acceptor (slots_of tx.now slots.now) (Accept tx.now instance ballot vote) }
+{
+    if !tx.is_participant(instance) {
+        return false;
+    }
+    let slot = slot_of(tx, slots, instance);
     if ballot < slot.mbal {
         return false;
     }
     !is_accepted(&slot, ballot, vote)
 }
 
-/// Whether a fact's condition on the facts before it holds. A fact that is no acceptor's never plays.
-pub fn plays(facts: &[Fact], fact: &Fact) -> bool
-    ensures { result ≡ plays_at_acceptor facts.now fact.now }
+/// Whether the condition of a fact holds of its transaction's slots: a promise is above every ballot before, an accept no lower
+/// than any, and new, both of an instance of the transaction. A fact that is no acceptor's never plays.
+pub fn plays(slots: &[KeptSlot], fact: &Fact) -> bool
+    ensures { result ≡ plays_at_acceptor (slots_of (fact_tx fact.now) slots.now) fact.now }
 {
     match fact.kind() {
         FactKind::Promise {
             tx,
             instance,
             ballot,
-        } => can_promise(facts, tx, *instance, *ballot),
+        } => can_promise(tx, slots, *instance, *ballot),
         FactKind::Accept {
             tx,
             instance,
             ballot,
             vote,
-        } => { can_accept(facts, tx, *instance, *ballot, *vote) }
+        } => can_accept(tx, slots, *instance, *ballot, *vote),
+        FactKind::PromiseAll { tx, ballot } => reports_below(tx, slots, *ballot).is_some(),
         _ => false,
+    }
+}
+
+/// Takes part in a ballot in each slot that stands below it.
+fn promise_all(slots: &mut [KeptSlot], ballot: Ballot)
+    ensures { slots.new ≡ map (promised ballot) slots.old }
+{
+    for place in 0..slots.len() {
+        slots[place].promise(ballot);
+    }
+}
+
+/// Changes a transaction's slots by a fact of it.
+pub fn change(slots: &mut [KeptSlot], fact: &Fact)
+    ensures { slots.new ≡ slots_after (fact_tx fact.now) slots.old fact.now }
+{
+    match fact.kind() {
+        FactKind::Promise {
+            tx,
+            instance,
+            ballot,
+        } => {
+            let place = place_of(tx, *instance);
+            if place < slots.len() {
+                slots[place].promise(*ballot);
+            }
+        }
+        FactKind::Accept {
+            tx,
+            instance,
+            ballot,
+            vote,
+        } => {
+            let place = place_of(tx, *instance);
+            if place < slots.len() {
+                slots[place].accept(*ballot, *vote);
+            }
+        }
+        FactKind::PromiseAll { ballot, .. } => promise_all(slots, *ballot),
+        _ => {}
     }
 }

@@ -19,7 +19,7 @@ use Rattle.protocol.specs.declared.states.BranchState.{BranchState}
 use Rattle.xid.specs.Limits.{most_touched}
 use Rattle.protocol.specs.Branches.{BranchView, no_branch, is_write, hinders_use, hinders, key_of, key_fits}
 use Rattle.protocol.specs.Branches.{value_fits, call_answer, touch_answer, is_done, by_state, rollback_answer, get_answer, read_of}
-use Rattle.protocol.specs.Managers.{Branch, branch_at, has_key, is_hindered, with_touched}
+use Rattle.protocol.specs.Managers.{Branch, view_named, has_key, is_hindered, with_touched}
 use Rattle.branch_table.specs.OneCall.{IsHindered, SameView, view_after, Leaves, view_with_act, view_after_done}
 use Rattle.branch_table.specs.Tables.{TableState, AreTableBranches, is_active, can_be_rolled_back, place_in, Steps}
 use Rattle.branch_table.specs.Admission.{end_action, end_state, end_code, Meets, Admits, Touches}
@@ -44,7 +44,7 @@ placed bs x at b e read =
       before = found.2;
     }
 
-pub unplaced : (bs : List Branch) (x : XidParts) → place_in bs x ≡ None → branch_at bs x ≡ no_branch
+pub unplaced : (bs : List Branch) (x : XidParts) → place_in bs x ≡ None → view_named bs x ≡ no_branch
 unplaced bs x e = view_absent bs x (nowhere (is_of x) bs e)
 
 pub same : (v : BranchView) → SameView v v
@@ -66,15 +66,15 @@ with_branches t branches = record { rows = t.rows; branches = branches }
 
 -- a call that wasn't done leaves all
 leaves_all : (t : TableState) (x : XidParts) (action : Action) (answer : Answer) → is_done action answer ≡ false
-    → Leaves (branch_at t.branches) (branch_at t.branches) x action answer
+    → Leaves (view_named t.branches) (view_named t.branches) x action answer
 leaves_all t x action answer e = record {
-  own = rw e (same (branch_at t.branches x));
-  others = λ other _. same (branch_at t.branches other);
+  own = rw e (same (view_named t.branches x));
+  others = λ other _. same (view_named t.branches other);
 }
 
 -- a call that was done leaves its own branch so, and all others
 leaves_own : (old new : List Branch) (x : XidParts) (action : Action) (answer : Answer) (v : BranchView) → ShowsOnly old new x v
-    → SameView v (view_after (branch_at old x) action answer) → Leaves (branch_at old) (branch_at new) x action answer
+    → SameView v (view_after (view_named old x) action answer) → Leaves (view_named old) (view_named new) x action answer
 leaves_own old new x action answer v shows same_view = record {
   own = rw shows.own same_view;
   others = λ other apart. same_from _ _ (shows.others other apart);
@@ -82,9 +82,9 @@ leaves_own old new x action answer v shows same_view = record {
 
 -- a call on no key that isn't done
 keyless_undone : (t : TableState) (x : XidParts) (action : Action) (answer : Answer) → IsKeyless action
-    → call_answer t.rows (branch_at t.branches x) false action ≡ answer → is_done action answer ≡ false → Steps t t x action answer
+    → call_answer t.rows (view_named t.branches x) false action ≡ answer → is_done action answer ≡ false → Steps t t x action answer
 keyless_undone t x action answer keyless e undone = record {
-  answers = (false, never action (branch_at t.branches) x keyless, sym e);
+  answers = (false, never action (view_named t.branches) x keyless, sym e);
   leaves = leaves_all t x action answer undone;
   rows = refl;
 }
@@ -118,7 +118,7 @@ pub start_done : (t : TableState) (x : XidParts) → place_in t.branches x ≡ N
 start_done t x e =
     let absent = nowhere (is_of x) t.branches e in
     record {
-      answers = (false, never Start (branch_at t.branches) x (λ _. refl), sym (rw (view_absent t.branches x absent) refl));
+      answers = (false, never Start (view_named t.branches) x (λ _. refl), sym (rw (view_absent t.branches x absent) refl));
       leaves =
           leaves_own t.branches _ x Start (Code code.Ok) (view_of (started_branch x)) (shows_push t.branches (started_branch x) absent)
           (record { state = refl; touched = λ _. refl; count = refl; act = λ _. refl });
@@ -159,13 +159,13 @@ either_end ending.Fail = record { keyless = λ _. refl; answers = λ _ _. refl; 
 pub end_absent : (t : TableState) (x : XidParts) (e : Ending) → place_in t.branches x ≡ None → Steps t t x (end_action e) (Code code.Nota)
 end_absent t x e none =
     keyless_undone t x (end_action e) (Code code.Nota) (either_end e).keyless
-    ((either_end e).answers t.rows (branch_at t.branches x) ∙ rw (unplaced t.branches x none) refl) (either_end e).nota
+    ((either_end e).answers t.rows (view_named t.branches x) ∙ rw (unplaced t.branches x none) refl) (either_end e).nota
 
 pub end_ended : (t : TableState) (x : XidParts) (e : Ending) (at : ℕ) (b : Branch) → IsPlace t.branches x at b → is_active b.state ≡ false
     → Steps t t x (end_action e) (Code code.Proto)
 end_ended t x e at b place ended =
     keyless_undone t x (end_action e) (Code code.Proto) (either_end e).keyless
-    ((either_end e).answers t.rows (branch_at t.branches x)
+    ((either_end e).answers t.rows (view_named t.branches x)
     ∙ rw (view_here t.branches x at b place) (ended_answer b.state (Code code.Nota) (Code (end_code e)) (Code code.Proto) ended))
     (either_end e).proto
 
@@ -177,8 +177,8 @@ end_done t x e at b place active =
     record {
       answers = (
         false,
-        never (end_action e) (branch_at t.branches) x (either_end e).keyless,
-        sym ((either_end e).answers t.rows (branch_at t.branches x)
+        never (end_action e) (view_named t.branches) x (either_end e).keyless,
+        sym ((either_end e).answers t.rows (view_named t.branches x)
             ∙ rw shows (active_answer b.state (Code code.Nota) (Code (end_code e)) (Code code.Proto) active)),
       );
       leaves =
@@ -228,7 +228,7 @@ pub rollback_done : (t : TableState) (x : XidParts) (at : ℕ) (b : Branch) → 
 rollback_done t x at b are place e = record {
   answers = (
     false,
-    never Rollback (branch_at t.branches) x (λ _. refl),
+    never Rollback (view_named t.branches) x (λ _. refl),
     sym (rw (view_here t.branches x at b place) (ended_rollback b.state e)),
   );
   leaves = leaves_own t.branches _ x Rollback (Code code.Ok) no_branch (shows_remove t.branches x at b are.distinct place) (same no_branch);
@@ -252,7 +252,7 @@ module _ (bs : List Branch) (x : XidParts) (writes : Bool) (key : List ℕ) wher
   abbrev busy : Bool
   busy = is_hindered (hinders_use writes key) bs x
 
-  meets_by : (admitted answer : Answer) → AreTableBranches bs → touch_answer (branch_at bs x) busy key admitted ≡ answer
+  meets_by : (admitted answer : Answer) → AreTableBranches bs → touch_answer (view_named bs x) busy key admitted ≡ answer
       → Meets bs x writes key admitted answer
   meets_by admitted answer are e = (busy, hindered_decides (hinders_use writes key) (none_hinders_use writes key) bs x are, e)
 
@@ -265,7 +265,7 @@ module _ (bs : List Branch) (x : XidParts) (writes : Bool) (key : List ℕ) wher
     answer_within answer = cond busy (Refused Busy) (cond (has_room b key) answer (Refused Full))
 
     -- what a branch at its place answers
-    answer_by_state : IsPlace bs x at b → (admitted : Answer) → touch_answer (branch_at bs x) busy key admitted
+    answer_by_state : IsPlace bs x at b → (admitted : Answer) → touch_answer (view_named bs x) busy key admitted
         ≡ by_state (Some b.state) (Code code.Nota) (answer_within admitted) (Code code.Proto)
     answer_by_state place admitted = rw (view_here bs x at b place) refl
 
@@ -275,7 +275,7 @@ module _ (bs : List Branch) (x : XidParts) (writes : Bool) (key : List ℕ) wher
         (answer_by_state facts.1 answer ∙ ended_answer b.state (Code code.Nota) _ (Code code.Proto) ended)
 
     active_within : IsActiveAt bs x at b → (admitted : Answer)
-        → touch_answer (branch_at bs x) busy key admitted ≡ answer_within admitted
+        → touch_answer (view_named bs x) busy key admitted ≡ answer_within admitted
     active_within is admitted =
         answer_by_state is.place admitted ∙ active_answer b.state (Code code.Nota) _ (Code code.Proto) is.active
 
@@ -358,7 +358,7 @@ denied_undone action v busy key none =
 
 -- a key or a value of a length that doesn't fit
 pub key_inval : (t : TableState) (x : XidParts) (action : Action) (key : List ℕ) → AreTableBranches t.branches → key_of action ≡ Some key
-    → ((busy : Bool) → call_answer t.rows (branch_at t.branches x) busy action ≡ Code code.Inval) → Steps t t x action (Code code.Inval)
+    → ((busy : Bool) → call_answer t.rows (view_named t.branches x) busy action ≡ Code code.Inval) → Steps t t x action (Code code.Inval)
 key_inval t x action key are key-is inval = record {
   answers =
       let busy = is_hindered (hinders action) t.branches x in
@@ -369,7 +369,7 @@ key_inval t x action key are key-is inval = record {
 
 -- a branch that is not there or not active, another one that hinders, or no room
 pub key_denied : {action : Action} {key : List ℕ} {act : Act} {answer : Answer} (t : TableState) (x : XidParts) (denial : Answer)
-    → IsKeyCall t.rows (branch_at t.branches x) action key act answer → Admits t.branches x (is_write act) key (Err denial)
+    → IsKeyCall t.rows (view_named t.branches x) action key act answer → Admits t.branches x (is_write act) key (Err denial)
     → Steps t t x action denial
 key_denied {action} {key} {act} {answer} t x denial call admits =
     let met = admits answer in
@@ -378,13 +378,13 @@ key_denied {action} {key} {act} {answer} t x denial call admits =
       answers = (met.0, rw call.hindered met.1, sym (call.answers met.0 ∙ met.2));
       leaves = leaves_all t x action denial
           (subst (λ (a : Answer). is_done action a ≡ false) other.2
-          (denied_undone action (branch_at t.branches x) other.0 key (undone action key call.key_is)));
+          (denied_undone action (view_named t.branches x) other.0 key (undone action key call.key_is)));
       rows = refl;
     }
 
 -- a call that is done
 pub key_done : {action : Action} {key : List ℕ} {act : Act} {answer : Answer} (t : TableState) (x : XidParts) (at : ℕ) (bs : List Branch)
-    → AreTableBranches t.branches × IsKeyCall t.rows (branch_at t.branches x) action key act answer
+    → AreTableBranches t.branches × IsKeyCall t.rows (view_named t.branches x) action key act answer
     → Admits t.branches x (is_write act) key (Ok at)
     → Touches t.branches bs at key act → Steps t (with_branches t bs) x action answer
 key_done {action} {key} {act} {answer} t x at bs facts admits touched =
@@ -398,7 +398,7 @@ key_done {action} {key} {act} {answer} t x at bs facts admits touched =
       leaves =
           rw touched.2
           (leaves_own t.branches _ x action answer (view_of new) (shows_set t.branches x at b new place place.own)
-          (rw (call.done, call.leaves (branch_at t.branches x), view_here t.branches x at b place)
+          (rw (call.done, call.leaves (view_named t.branches x), view_here t.branches x at b place)
           (shows_touched b key act (ascends_there t.branches x at b place facts.0))));
       rows = refl;
     }
@@ -414,5 +414,5 @@ touch_keeps old new x at key act facts =
 
 -- what a get reads at its branch
 pub read_at : (rows : List Row) (bs : List Branch) (x : XidParts) (key : List ℕ) (at : ℕ) (b : Branch) → IsPlace bs x at b
-    → read_of rows (branch_at bs x) key ≡ read_of rows (view_of b) key
+    → read_of rows (view_named bs x) key ≡ read_of rows (view_of b) key
 read_at rows bs x key at b place = ap (λ (v : BranchView). read_of rows v key) (view_here bs x at b place)

@@ -12,7 +12,7 @@ use Rattle.stable_record.specs.Facts.{AreAscending}
 use Rattle.protocol.specs.declared.requests.Action.{Action}
 use Rattle.protocol.specs.declared.requests.Action.TheVariants.{Start, Put, Del, Get, End, EndFail, Rollback}
 use Rattle.protocol.specs.Branches.{BranchView, no_branch, hinders_use, hinders}
-use Rattle.protocol.specs.Managers.{Branch, view_by, branch_at, is_hindered, with_touched}
+use Rattle.protocol.specs.Managers.{Branch, view_by, view_named, is_hindered, with_touched}
 use Rattle.protocol.proofs.TouchedKeys.{has_touched, counts_touched, acts_touched, changed_ascends}
 use Rattle.branch_table.specs.OneCall.{SameView, view_with_act, IsHindered}
 use Rattle.branch_table.specs.Tables.{AreTableBranches}
@@ -36,8 +36,8 @@ pub record IsPlace (bs : List Branch) (x : XidParts) (i : ℕ) (b : Branch) : Ty
 
 -- x shows as a view now, and all others as before
 pub record ShowsOnly (old new : List Branch) (x : XidParts) (v : BranchView) : Type 0 where
-  pub own : branch_at new x ≡ v
-  pub others : (y : XidParts) → y ≢ x → branch_at new y ≡ branch_at old y
+  pub own : view_named new x ≡ v
+  pub others : (y : XidParts) → y ≢ x → view_named new y ≡ view_named old y
 
 IsPlace-tail : (c : Branch) (bs : List Branch) (x : XidParts) (i : ℕ) (b : Branch) → IsPlace (c ∷ bs) x (suc i) b → IsPlace bs x i b
 IsPlace-tail c bs x i b place = record {
@@ -63,13 +63,13 @@ ShowsOnly-cons c old new x v other shows = record {
   others = λ y apart. ap (λ (w : BranchView). cond (is_of y c) (view_of c) w) (shows.others y apart);
 }
 
-pub view_here : (bs : List Branch) (x : XidParts) (i : ℕ) (b : Branch) → IsPlace bs x i b → branch_at bs x ≡ view_of b
+pub view_here : (bs : List Branch) (x : XidParts) (i : ℕ) (b : Branch) → IsPlace bs x i b → view_named bs x ≡ view_of b
 view_here [] x i b place = absurd (omega (arith, place.within))
 view_here (c ∷ bs) x zero b place =
-    subst (λ (d : Branch). cond (is_of x d) (view_of d) (branch_at bs x) ≡ view_of b) place.read (rw place.own refl)
+    subst (λ (d : Branch). cond (is_of x d) (view_of d) (view_named bs x) ≡ view_of b) place.read (rw place.own refl)
 view_here (c ∷ bs) x (suc i) b place = rw (place.before 0 (omega arith)) (view_here bs x i b (IsPlace-tail c bs x i b place))
 
-pub view_absent : (bs : List Branch) (x : XidParts) → list_any (is_of x) bs ≡ false → branch_at bs x ≡ no_branch
+pub view_absent : (bs : List Branch) (x : XidParts) → list_any (is_of x) bs ≡ false → view_named bs x ≡ no_branch
 view_absent [] x e = refl
 view_absent (b ∷ bs) x e =
     let parts = or_parts (is_of x b) (list_any (is_of x) bs) e in
@@ -106,7 +106,7 @@ absent_after (c ∷ bs) x apart =
     (absent_after bs x apart.1)
 
 absent_own : (c : Branch) (bs : List Branch) (x : XidParts) → IsDistinct xid_eq (names (c ∷ bs)) → is_of x c ≡ true
-    → branch_at bs x ≡ no_branch
+    → view_named bs x ≡ no_branch
 unfolding IsDistinct
 absent_own c bs x distinct own =
     view_absent bs x
@@ -207,13 +207,13 @@ module _ (test : BranchView → Bool) (none : test no_branch ≡ false) where
 
   -- what shows of a later branch shows of the list
   shows_later : (b : Branch) (bs : List Branch) (y : XidParts) → IsDistinct xid_eq (names (b ∷ bs))
-      → test (branch_at bs y) ≡ true → test (branch_at (b ∷ bs) y) ≡ true
+      → test (view_named bs y) ≡ true → test (view_named (b ∷ bs) y) ≡ true
   shows_later b bs y distinct shown =
-      cond_both (xid_eq b.xid y) (view_of b) (branch_at bs y) (λ (v : BranchView). test v ≡ true)
+      cond_both (xid_eq b.xid y) (view_of b) (view_named bs y) (λ (v : BranchView). test v ≡ true)
       (λ own. absurd (both_ways _ (ap test (absent_own b bs y distinct own) ∙ none) shown)) (λ other. shown)
 
   hindered_from : (bs : List Branch) (x : XidParts) → IsDistinct xid_eq (names bs) → list_any (is_other x) bs ≡ true
-      → IsHindered test (branch_at bs) x
+      → IsHindered test (view_named bs) x
   unfolding IsDistinct
   hindered_from [] x distinct e = absurd (cc (e))
   hindered_from (b ∷ bs) x distinct e = elim (or_cases (is_other x b) (list_any (is_other x) bs) e) [
@@ -226,11 +226,11 @@ module _ (test : BranchView → Bool) (none : test no_branch ≡ false) where
   ]
 
   -- where another branch hinders, the test says so
-  pub hindered_to : (bs : List Branch) (x y : XidParts) → y ≢ x → test (branch_at bs y) ≡ true → is_hindered test bs x ≡ true
+  pub hindered_to : (bs : List Branch) (x y : XidParts) → y ≢ x → test (view_named bs y) ≡ true → is_hindered test bs x ≡ true
   hindered_to [] x y apart shown = absurd (both_ways (test no_branch) none shown)
   hindered_to (b ∷ bs) x y apart shown =
       let goal = λ (v : BranchView). test v ≡ true → is_hindered test (b ∷ bs) x ≡ true in
-      cond_both (xid_eq b.xid y) (view_of b) (branch_at bs y) goal
+      cond_both (xid_eq b.xid y) (view_of b) (view_named bs y) goal
       (λ own here.
       let other : xid_eq b.xid x ≡ false = xid_other b.xid x (λ e. apart (sym ((xid_decides b.xid y).0 own) ∙ e)) in
       or_left (is_other x b) (list_any (is_other x) bs) (ap (λ (t : Bool). not t && test (view_of b)) other ∙ here))
@@ -238,7 +238,7 @@ module _ (test : BranchView → Bool) (none : test no_branch ≡ false) where
 
   -- the test that some other branch hinders
   pub hindered_decides : (bs : List Branch) (x : XidParts) → AreTableBranches bs
-      → Decides (is_hindered test bs x) (IsHindered test (branch_at bs) x)
+      → Decides (is_hindered test bs x) (IsHindered test (view_named bs) x)
   hindered_decides bs x are = (hindered_from bs x are.distinct, λ is. hindered_to bs x is.0 is.1 is.2)
 
 -- ---- one more act on a key of a branch

@@ -10,7 +10,7 @@ use Rattle.protocol.specs.declared.requests.Action.{Action}
 use Rattle.protocol.specs.declared.requests.Action.TheVariants.{End, EndFail}
 use Rattle.protocol.specs.declared.states.BranchState.{BranchState}
 use Rattle.protocol.specs.Branches.{hinders_use, touch_answer}
-use Rattle.protocol.specs.Managers.{Branch, branch_at, with_touched}
+use Rattle.protocol.specs.Managers.{Branch, view_named, with_touched}
 use Rattle.branch_table.specs.OneCall.{IsHindered}
 use Rattle.branch_table.specs.Tables.{place_in}
 use Rattle.branch_table.specs.declared.branch.Access.{Access}
@@ -41,8 +41,8 @@ is_writing access.Write = true
 -- a call that writes or reads a key gets this answer, where `admitted` is that of one which is let in
 abbrev pub Meets : List Branch → XidParts → (writes : Bool) → (key : List ℕ) → (admitted answer : Answer) → Type 0
 Meets branches x writes key admitted answer =
-    (busy : Bool) × Decides busy (IsHindered (hinders_use writes key) (branch_at branches) x)
-    × (touch_answer (branch_at branches x) busy key admitted ≡ answer)
+    (busy : Bool) × Decides busy (IsHindered (hinders_use writes key) (view_named branches) x)
+    × (touch_answer (view_named branches x) busy key admitted ≡ answer)
 
 -- a call on a key is let in at its branch's place, or gets an answer, whatever it asks
 abbrev pub Admits : List Branch → XidParts → (writes : Bool) → List ℕ → Result ℕ Answer → Type 0

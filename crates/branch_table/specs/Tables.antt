@@ -7,7 +7,7 @@ use Rattle.protocol.specs.declared.answers.Answer.{Answer}
 use Rattle.protocol.specs.declared.requests.Action.{Action}
 use Rattle.protocol.specs.declared.rows.Row.{Row}
 use Rattle.protocol.specs.declared.states.BranchState.{BranchState}
-use Rattle.protocol.specs.Managers.{Branch, branch_at}
+use Rattle.protocol.specs.Managers.{Branch, view_named}
 use Rattle.branch_table.specs.OneCall.{Answers, Leaves}
 
 -- what a resource manager has in memory: the rows of its table, and its branches
@@ -37,6 +37,6 @@ pub record AreTableBranches (branches : List Branch) : Type 0 where
 
 -- one call on branch x was answered, and has left what the table of client calls says
 pub record Steps (old new : TableState) (x : XidParts) (action : Action) (answer : Answer) : Type 0 where
-  pub answers : Answers old.rows (branch_at old.branches) x action answer
-  pub leaves : Leaves (branch_at old.branches) (branch_at new.branches) x action answer
+  pub answers : Answers old.rows (view_named old.branches) x action answer
+  pub leaves : Leaves (view_named old.branches) (view_named new.branches) x action answer
   pub rows : new.rows ≡ old.rows

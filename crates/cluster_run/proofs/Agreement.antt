@@ -11,7 +11,7 @@ use Rattle.xid.proofs.Deciding.{xid_decides, xid_apart}
 use Rattle.cluster_run.specs.Words.{BranchState, Act, Touched, R, Ask, Step, Action, Start, Put, Del, Get, End, EndFail, Rollback, Call}
 use Rattle.cluster_run.specs.Words.{Answer, Row}
 use Rattle.protocol.specs.Branches.{BranchView, no_branch, key_of, call_answer, is_done}
-use Rattle.protocol.specs.Managers.{Branch, branch_at, last_act}
+use Rattle.protocol.specs.Managers.{Branch, view_named, last_act}
 use Rattle.branch_table.specs.OneCall.{SameView, Answers, view_after_done, view_after, Leaves}
 use Rattle.branch_table.proofs.Views.{view_of}
 use Rattle.cluster_run.specs.LookingBack.{Answered, was_done, is_start, is_end, is_end_fail, is_rollback, is_some_done}
@@ -35,9 +35,9 @@ abbrev pub IsPlain : BranchView → Type 0
 IsPlain v = v.state ≡ None → v ≡ no_branch
 
 -- so it is of the branches of a list
-pub plain_at : (bs : List Branch) (x : XidParts) → IsPlain (branch_at bs x)
+pub plain_at : (bs : List Branch) (x : XidParts) → IsPlain (view_named bs x)
 plain_at [] x = λ e. refl
-plain_at (b ∷ bs) x = cond_both (xid_eq b.xid x) (view_of b) (branch_at bs x) IsPlain (λ own e. absurd (cc (e))) (λ other. plain_at bs x)
+plain_at (b ∷ bs) x = cond_both (xid_eq b.xid x) (view_of b) (view_named bs x) IsPlain (λ own e. absurd (cc (e))) (λ other. plain_at bs x)
 
 -- ---- a stretch of calls, and one more in front
 

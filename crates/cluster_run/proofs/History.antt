@@ -13,7 +13,7 @@ use Rattle.branch_table.specs.OneCall.{Answers, Leaves}
 use Rattle.branch_table.specs.Tables.{TableState, Steps}
 use Rattle.net_script.specs.declared.values.Table.{Table}
 use Rattle.protocol.specs.Rows.{IsTableOf}
-use Rattle.protocol.specs.Managers.{branch_at}
+use Rattle.protocol.specs.Managers.{view_named}
 use Rattle.cluster_run.proofs.Agreement.{IsPlain, plain_at, branches_back-call, branches_back-elsewhere}
 
 -- what has happened after these steps too, the newest first
@@ -34,7 +34,7 @@ answers-push tables history (first ∷ steps) step h e = (h.0, answers-push tabl
 pub record IsAfter (start managers : List TableState) (steps : List Step) : Type 0 where
   pub rows : tables_of managers ≡ tables_of start
   pub shows : (rm : ℕ) (d : TableState) → rm < length managers
-      → branch_at (get_or managers rm d).branches ≡ branches_back (history_after [] steps) rm
+      → view_named (get_or managers rm d).branches ≡ branches_back (history_after [] steps) rm
   pub answers : AreSteps (tables_of start) [] steps
 
 -- one more event
@@ -94,27 +94,27 @@ module _ (start managers : List TableState) (steps : List Step) (so_far : IsAfte
       abbrev old : TableState
       old = get_or managers rm t
 
-      back : branch_at old.branches ≡ branches_back history rm
+      back : view_named old.branches ≡ branches_back history rm
       back = so_far.shows rm t lt
 
       answers : Answers old.rows (branches_back history rm) x action answer
       answers = subst (λ (way : XidParts → _). Answers old.rows way x action answer) back called.answers
 
-      own_shows_back : branch_at t.branches ≡ branches_back (step ∷ history) rm
+      own_shows_back : view_named t.branches ≡ branches_back (step ∷ history) rm
       own_shows_back =
-          branches_back-call rm x action answer history old.rows (branch_at t.branches) answers
-          (subst (λ (way : XidParts → _). Leaves way (branch_at t.branches) x action answer) back called.leaves)
+          branches_back-call rm x action answer history old.rows (view_named t.branches) answers
+          (subst (λ (way : XidParts → _). Leaves way (view_named t.branches) x action answer) back called.leaves)
           (subst (λ (way : XidParts → _). (y : XidParts) → IsPlain (way y)) back (plain_at old.branches))
 
-      shows_after : (q : ℕ) (d : TableState) → q < length managers → branch_at (get_or new q d).branches ≡ branches_back (step ∷ history) q
+      shows_after : (q : ℕ) (d : TableState) → q < length managers → view_named (get_or new q d).branches ≡ branches_back (step ∷ history) q
       shows_after q d less = elim (cases_eq q rm) [
         | inl same ↦
             let here : get_or (set managers rm t) q d ≡ t =
             ap (λ (k : ℕ). get_or (set managers rm t) k d) same ∙ get_or-set_same managers rm t d lt in
-            rw set_is (ap (λ (m : TableState). branch_at m.branches) here ∙ own_shows_back
+            rw set_is (ap (λ (m : TableState). view_named m.branches) here ∙ own_shows_back
             ∙ ap (λ (k : ℕ). branches_back (step ∷ history) k) (sym same))
         | inr apart ↦
-            rw set_is (ap (λ (m : TableState). branch_at m.branches) (get_or-set_other managers rm q t d apart) ∙ so_far.shows q d less
+            rw set_is (ap (λ (m : TableState). view_named m.branches) (get_or-set_other managers rm q t d apart) ∙ so_far.shows q d less
             ∙ sym (branches_back-elsewhere rm x action answer history q (λ same. apart (sym same))))
       ]
 

@@ -1,28 +1,28 @@
 -- What a client call of the machine leaves is what one call leaves.
 use Rattle.std.proofs.Common.{◌≡◌, ◌≢◌, ◌⊎◌, inl, inr, ◌∙◌, Bool, true, false, not, if◌then◌else◌, cond, List, [], ◌∷◌, ◌++◌, ◌&&◌}
-use Rattle.std.proofs.Common.{◌||◌, map, Option, Some, None, refl, sym, ap, subst, ℕ, arith, Contains}
+use Rattle.std.proofs.Common.{map, Option, Some, None, refl, sym, ap, subst, ℕ}
 use Rattle.std.specs.Prelude.{filter_map}
 use Rattle.std.specs.Bool.{Decides}
 use Rattle.std.specs.List.{AllByRecursion, cons_option, list_any}
 use Rattle.std.specs.Option.{option_map}
-use Rattle.std.proofs.lemmas.Bool.{cond_both, and_parts, not-false, or_cases, or_from, or_left, or_right}
-use Rattle.std.proofs.lemmas.List.Elements.{Contains-append_right}
+use Rattle.std.proofs.lemmas.Bool.{cond_both, cond-true, and_parts, not-false, or_cases, or_from}
 use Rattle.xid.specs.Names.{XidParts, xid_eq}
 use Rattle.xid.specs.Transactions.{xid_at}
 use Rattle.xid.proofs.Deciding.{not_true, xid_self, xid_decides, xid_other, xid_apart}
 use Rattle.cluster_run.specs.Words.{Fact, Act, BranchState, Action, Start, Put, Del, Get, End, EndFail, Rollback, Answer, Row}
 use Rattle.stable_record.specs.Facts.{AreAscending}
+use Rattle.protocol.specs.Managers.{stored_votes}
 use Rattle.protocol.specs.declared.states.BranchState.TheVariants.{Active, Prepared}
 use Rattle.protocol.specs.Branches.{BranchView, no_branch, hinders, call_answer, is_done}
 use Rattle.protocol.specs.Facts.{Bound, bound_branches, is_spent}
-use Rattle.protocol.specs.Managers.{Branch, all_branches, branch_at, is_hindered, branch_after, branches_without, after_call}
+use Rattle.protocol.specs.Managers.{Branch, all_branches, view_named, is_hindered, branch_after, branches_without, after_call}
 use Rattle.protocol.specs.Managers.{named_answer, on_call}
 use Rattle.protocol.specs.Tables.{table}
 use Rattle.protocol.proofs.TouchedKeys.{changed_ascends}
 use Rattle.branch_table.specs.OneCall.{SameView, IsHindered, Leaves, view_after_done}
 use Rattle.branch_table.proofs.Views.{is_of, view_of, shows_push, shows_touched, none_hinders, hindered_to}
 use Rattle.branch_table.proofs.CallSteps.{same, same_from}
-use Rattle.safety.specs.Holds.{AreInOrder, AreNamedOnce}
+use Rattle.safety.specs.Holds.{AreInOrder, AreNamedOnce, IsIn, names_of}
 use Rattle.safety.proofs.Manager.Keys.{changed_name}
 use Rattle.cluster_run.specs.MachineCalls.{branch_view, IsOneCall, AnswersNamed}
 use Rattle.cluster_run.proofs.DoneCalls.{IsReadyFor, ready}
@@ -38,17 +38,17 @@ done_named false rows v busy action done = done
 
 -- a name is that of a prepared branch, whatever stands after those, or it isn't
 abbrev IsOver : List Branch → XidParts → Type 0
-IsOver prepared x = ((branches : List Branch) → branch_at (prepared ++ branches) x ≡ branch_at branches x)
-    ⊎ ((v : BranchView) × (v.state ≡ Some Prepared) × ((branches : List Branch) → branch_at (prepared ++ branches) x ≡ v))
+IsOver prepared x = ((branches : List Branch) → view_named (prepared ++ branches) x ≡ view_named branches x)
+    ⊎ ((v : BranchView) × (v.state ≡ Some Prepared) × ((branches : List Branch) → view_named (prepared ++ branches) x ≡ v))
 
 over_by : (p : Branch) (prepared : List Branch) (x : XidParts) → p.state ≡ Prepared → IsOver prepared x → (t : Bool) → xid_eq p.xid x ≡ t
     → IsOver (p ∷ prepared) x
 over_by p prepared x is rest true e =
-    inr (view_of p, ap Some is, λ branches. ap (λ (b : Bool). cond b (view_of p) (branch_at (prepared ++ branches) x)) e)
+    inr (view_of p, ap Some is, λ branches. ap (λ (b : Bool). cond b (view_of p) (view_named (prepared ++ branches) x)) e)
 over_by p prepared x is (inl through) false e =
-    inl (λ branches. ap (λ (b : Bool). cond b (view_of p) (branch_at (prepared ++ branches) x)) e ∙ through branches)
+    inl (λ branches. ap (λ (b : Bool). cond b (view_of p) (view_named (prepared ++ branches) x)) e ∙ through branches)
 over_by p prepared x is (inr stops) false e =
-    inr (stops.0, stops.1, λ branches. ap (λ (b : Bool). cond b (view_of p) (branch_at (prepared ++ branches) x)) e ∙ stops.2 branches)
+    inr (stops.0, stops.1, λ branches. ap (λ (b : Bool). cond b (view_of p) (view_named (prepared ++ branches) x)) e ∙ stops.2 branches)
 
 over : (prepared : List Branch) (x : XidParts) → AllByRecursion (λ (p : Branch). p.state ≡ Prepared) prepared → IsOver prepared x
 over [] x are = inl (λ branches. refl)
@@ -91,35 +91,35 @@ module _ (x : XidParts) (action : Action) where
   step branch = if xid_eq branch.xid x then branch_after action branch else branch
 
   mapped_by : (b : Branch) (bs : List Branch) → SameView (view_of (branch_after action b)) (view_after_done (view_of b) action)
-      → ((branch_at bs x).state ≡ Some Active → SameView (branch_at (map step bs) x) (view_after_done (branch_at bs x) action))
+      → ((view_named bs x).state ≡ Some Active → SameView (view_named (map step bs) x) (view_after_done (view_named bs x) action))
       → (t : Bool) → xid_eq b.xid x ≡ t
-      → (cond t (view_of b) (branch_at bs x)).state ≡ Some Active
-      → SameView (branch_at (cond t (branch_after action b) b ∷ map step bs) x)
-      (view_after_done (cond t (view_of b) (branch_at bs x)) action)
+      → (cond t (view_of b) (view_named bs x)).state ≡ Some Active
+      → SameView (view_named (cond t (branch_after action b) b ∷ map step bs) x)
+      (view_after_done (cond t (view_of b) (view_named bs x)) action)
   mapped_by b bs changed rest true e active =
       let own : xid_eq (branch_after action b).xid x ≡ true = ap (λ (y : XidParts). xid_eq y x) (changed_name action b) ∙ e in
       subst
-      (λ (t : Bool). SameView (cond t (view_of (branch_after action b)) (branch_at (map step bs) x)) (view_after_done (view_of b) action))
+      (λ (t : Bool). SameView (cond t (view_of (branch_after action b)) (view_named (map step bs) x)) (view_after_done (view_of b) action))
       (sym own) changed
   mapped_by b bs changed rest false e active =
-      subst (λ (t : Bool). SameView (cond t (view_of b) (branch_at (map step bs) x)) (view_after_done (branch_at bs x) action)) (sym e)
+      subst (λ (t : Bool). SameView (cond t (view_of b) (view_named (map step bs) x)) (view_after_done (view_named bs x) action)) (sym e)
       (rest active)
 
-  mapped_own : (bs : List Branch) → IsChange action → AreInOrder bs → (branch_at bs x).state ≡ Some Active
-      → SameView (branch_at (map step bs) x) (view_after_done (branch_at bs x) action)
+  mapped_own : (bs : List Branch) → IsChange action → AreInOrder bs → (view_named bs x).state ≡ Some Active
+      → SameView (view_named (map step bs) x) (view_after_done (view_named bs x) action)
   mapped_own [] is ordered active = absurd (cc (active))
   mapped_own (b ∷ bs) is ordered active =
       mapped_by b bs (changed_shows action b is ordered.0) (mapped_own bs is ordered.1) (xid_eq b.xid x) refl active
 
-  mapped_other : (bs : List Branch) (y : XidParts) → y ≢ x → branch_at (map step bs) y ≡ branch_at bs y
+  mapped_other : (bs : List Branch) (y : XidParts) → y ≢ x → view_named (map step bs) y ≡ view_named bs y
   mapped_other [] y apart = refl
   mapped_other (b ∷ bs) y apart =
-      cond_both (xid_eq b.xid x) (branch_after action b) b (λ (c : Branch). branch_at (c ∷ map step bs) y ≡ branch_at (b ∷ bs) y)
+      cond_both (xid_eq b.xid x) (branch_after action b) b (λ (c : Branch). view_named (c ∷ map step bs) y ≡ view_named (b ∷ bs) y)
       (λ own.
       let away : xid_eq b.xid y ≡ false = xid_other b.xid y (λ f. apart (sym f ∙ (xid_decides b.xid x).0 own)) in
       let also : xid_eq (branch_after action b).xid y ≡ false = ap (λ (z : XidParts). xid_eq z y) (changed_name action b) ∙ away in
-      ap (λ (t : Bool). cond t (view_of (branch_after action b)) (branch_at (map step bs) y)) also ∙ mapped_other bs y apart
-      ∙ sym (ap (λ (t : Bool). cond t (view_of b) (branch_at bs y)) away))
+      ap (λ (t : Bool). cond t (view_of (branch_after action b)) (view_named (map step bs) y)) also ∙ mapped_other bs y apart
+      ∙ sym (ap (λ (t : Bool). cond t (view_of b) (view_named bs y)) away))
       (λ other. ap (λ (v : BranchView). cond (xid_eq b.xid y) (view_of b) v) (mapped_other bs y apart))
 
   mapped_ordered : (bs : List Branch) → AreInOrder bs → AreInOrder (map step bs)
@@ -135,10 +135,10 @@ abbrev fresh : XidParts → Branch
 fresh x = record { xid = x; state = Active; keys = [] }
 
 -- a name that shows no branch is that of none
-name_of_none : (x : XidParts) (bs : List Branch) → (branch_at bs x).state ≡ None → list_any (is_of x) bs ≡ false
+name_of_none : (x : XidParts) (bs : List Branch) → (view_named bs x).state ≡ None → list_any (is_of x) bs ≡ false
 name_of_none x [] none = refl
 name_of_none x (b ∷ bs) none =
-    cond_both (xid_eq b.xid x) (view_of b) (branch_at bs x) (λ (v : BranchView). v.state ≡ None → list_any (is_of x) (b ∷ bs) ≡ false)
+    cond_both (xid_eq b.xid x) (view_of b) (view_named bs x) (λ (v : BranchView). v.state ≡ None → list_any (is_of x) (b ∷ bs) ≡ false)
     (λ own here. absurd (cc (here))) (λ other later. or_from (xid_eq b.xid x) (list_any (is_of x) bs) other (name_of_none x bs later)) none
 
 started_ordered : (x : XidParts) (bs : List Branch) → AreInOrder bs → AreInOrder (bs ++ fresh x ∷ [])
@@ -147,23 +147,23 @@ started_ordered x (b ∷ bs) ordered = (ordered.0, started_ordered x bs ordered.
 
 -- ---- a branch taken away
 
-gone_own : (x : XidParts) (bs : List Branch) → branch_at (branches_without bs x) x ≡ no_branch
+gone_own : (x : XidParts) (bs : List Branch) → view_named (branches_without bs x) x ≡ no_branch
 gone_own x [] = refl
 gone_own x (b ∷ bs) =
     let rest = branches_without bs x in
-    cond_both (not (xid_eq b.xid x)) (b ∷ rest) rest (λ (left : List Branch). branch_at left x ≡ no_branch)
-    (λ kept. ap (λ (t : Bool). cond t (view_of b) (branch_at rest x)) (not_true (xid_eq b.xid x) kept) ∙ gone_own x bs)
+    cond_both (not (xid_eq b.xid x)) (b ∷ rest) rest (λ (left : List Branch). view_named left x ≡ no_branch)
+    (λ kept. ap (λ (t : Bool). cond t (view_of b) (view_named rest x)) (not_true (xid_eq b.xid x) kept) ∙ gone_own x bs)
     (λ cut. gone_own x bs)
 
-gone_other : (x y : XidParts) (bs : List Branch) → y ≢ x → branch_at (branches_without bs x) y ≡ branch_at bs y
+gone_other : (x y : XidParts) (bs : List Branch) → y ≢ x → view_named (branches_without bs x) y ≡ view_named bs y
 gone_other x y [] apart = refl
 gone_other x y (b ∷ bs) apart =
     let rest = branches_without bs x in
-    cond_both (not (xid_eq b.xid x)) (b ∷ rest) rest (λ (left : List Branch). branch_at left y ≡ branch_at (b ∷ bs) y)
+    cond_both (not (xid_eq b.xid x)) (b ∷ rest) rest (λ (left : List Branch). view_named left y ≡ view_named (b ∷ bs) y)
     (λ kept. ap (λ (v : BranchView). cond (xid_eq b.xid y) (view_of b) v) (gone_other x y bs apart))
     (λ cut.
     let away : xid_eq b.xid y ≡ false = xid_other b.xid y (λ f. apart (sym f ∙ (xid_decides b.xid x).0 (not-false (xid_eq b.xid x) cut))) in
-    gone_other x y bs apart ∙ sym (ap (λ (t : Bool). cond t (view_of b) (branch_at bs y)) away))
+    gone_other x y bs apart ∙ sym (ap (λ (t : Bool). cond t (view_of b) (view_named bs y)) away))
 
 gone_ordered : (x : XidParts) (bs : List Branch) → AreInOrder bs → AreInOrder (branches_without bs x)
 gone_ordered x [] ordered = tt
@@ -174,11 +174,11 @@ gone_ordered x (b ∷ bs) ordered =
 
 -- what a call that is done leaves of the branches that aren't prepared
 pub record IsLeft (x : XidParts) (action : Action) (old new : List Branch) : Type 0 where
-  pub own : SameView (branch_at new x) (view_after_done (branch_at old x) action)
-  pub others : (y : XidParts) → y ≢ x → branch_at new y ≡ branch_at old y
+  pub own : SameView (view_named new x) (view_after_done (view_named old x) action)
+  pub others : (y : XidParts) → y ≢ x → view_named new y ≡ view_named old y
   pub ordered : AreInOrder new
 
-mapped_left : (x : XidParts) (action : Action) (bs : List Branch) → IsChange action → AreInOrder bs → (branch_at bs x).state ≡ Some Active
+mapped_left : (x : XidParts) (action : Action) (bs : List Branch) → IsChange action → AreInOrder bs → (view_named bs x).state ≡ Some Active
     → IsLeft x action bs (map (step x action) bs)
 mapped_left x action bs is ordered active = record {
   own = mapped_own x action bs is ordered active;
@@ -186,10 +186,10 @@ mapped_left x action bs is ordered active = record {
   ordered = mapped_ordered x action bs ordered;
 }
 
-left_by : (x : XidParts) (action : Action) (bs : List Branch) → AreInOrder bs → IsReadyFor action (branch_at bs x).state
+left_by : (x : XidParts) (action : Action) (bs : List Branch) → AreInOrder bs → IsReadyFor action (view_named bs x).state
     → IsLeft x action bs (after_call bs x action)
 left_by x Start bs ordered none = record {
-  own = subst (λ (v : BranchView). SameView v (view_after_done (branch_at bs x) Start))
+  own = subst (λ (v : BranchView). SameView v (view_after_done (view_named bs x) Start))
       (sym (shows_push bs (fresh x) (name_of_none x bs none)).own)
       (record { state = refl; touched = λ key. refl; count = refl; act = λ key. refl });
   others = (shows_push bs (fresh x) (name_of_none x bs none)).others;
@@ -223,14 +223,14 @@ module _ (rm : ℕ) (facts : List Fact) where
   each_over x = over (prepared_in rm (bound_branches facts)) x (all_prepared rm (bound_branches facts))
 
   through_own : (x : XidParts) (action : Action) (old : List Branch) → IsReadyFor action (branch_view rm facts old x).state
-      → (branches : List Branch) → branch_view rm facts branches x ≡ branch_at branches x
+      → (branches : List Branch) → branch_view rm facts branches x ≡ view_named branches x
   through_own x action old is = elim (each_over x) [
     | inl through ↦ through
     | inr stops ↦
         absurd (never_prepared action (stops.0).state stops.1 (subst (λ (v : BranchView). IsReadyFor action v.state) (stops.2 old) is))
   ]
 
-  others_left : (y : XidParts) (old new : List Branch) → branch_at new y ≡ branch_at old y
+  others_left : (y : XidParts) (old new : List Branch) → view_named new y ≡ view_named old y
       → branch_view rm facts new y ≡ branch_view rm facts old y
   others_left y old new kept = elim (each_over y) [
     | inl through ↦ through new ∙ kept ∙ sym (through old)
@@ -251,7 +251,7 @@ module _ (rm : ℕ) (facts : List Fact) where
         let left = left_by x action branches ordered (subst (λ (u : BranchView). IsReadyFor action u.state) (through branches) is) in
         let own : SameView (branch_view rm facts new x) (view_after_done v action) =
         subst (λ (u : BranchView). SameView u (view_after_done v action)) (sym (through new))
-        (subst (λ (u : BranchView). SameView (branch_at new x) (view_after_done u action)) (sym (through branches)) left.own) in (
+        (subst (λ (u : BranchView). SameView (view_named new x) (view_after_done u action)) (sym (through branches)) left.own) in (
           record {
             own = subst (λ (t : Bool). SameView (branch_view rm facts new x) (cond t (view_after_done v action) v)) (sym done) own;
             others = λ y apart. same_from _ _ (others_left y branches new (left.others y apart));
@@ -270,9 +270,10 @@ module _ (rm : ℕ) (facts : List Fact) where
     )
 
     -- a client call of the machine is one call
-    pub call_is : (first : List Row) → IsOneCall rm facts branches x action (on_call rm first facts branches x action)
+    pub call_is : (first : List Row) → IsOneCall rm facts branches x action (on_call rm (stored_votes rm facts)
+        (table first facts) branches x action)
     call_is first =
-        let busy = is_hindered (hinders action) (all_branches rm facts branches) x in
+        let busy = is_hindered (hinders action) (all_branches rm (bound_branches facts) branches) x in
         let answer = named_answer (is_spent rm facts x) (table first facts) v busy action in
         let both = cond_both (is_done action answer) new branches
         (λ (after : List Branch). Leaves (branch_view rm facts branches) (branch_view rm facts after) x action answer × AreInOrder after)
@@ -283,28 +284,26 @@ module _ (rm : ℕ) (facts : List Fact) where
 
 -- ---- the answer
 
-in_front : (b : Branch) (bs : List Branch) → Contains (b ∷ bs) b
-in_front b bs = (0, omega arith, refl)
-
-further_on : (b : Branch) (bs : List Branch) (c : Branch) → Contains bs c → Contains (b ∷ bs) c
-further_on b bs c h = Contains-append_right (b ∷ []) bs c h
-
--- a branch whose name no other has shows at its name
-own_shows : (bs : List Branch) (b : Branch) → ((c : Branch) → Contains bs c → c.xid ≡ b.xid → c ≡ b)
-    → list_any (λ c. xid_eq c.xid b.xid) bs ≡ true → branch_at bs b.xid ≡ view_of b
-own_shows [] b once there = absurd (cc (there))
-own_shows (c ∷ bs) b once there =
-    let own = xid_eq c.xid b.xid in
-    cond_both own (view_of c) (branch_at bs b.xid) (λ (u : BranchView). u ≡ view_of b)
-    (λ same. ap view_of (once c (in_front c bs) ((xid_decides c.xid b.xid).0 same)))
-    (λ other. own_shows bs b (λ d k. once d (further_on c bs d k))
-    (subst (λ (t : Bool). (t || list_any (λ d. xid_eq d.xid b.xid) bs) ≡ true) other there))
+-- a branch shows at its name, as no other has it
+own_shows : (bs : List Branch) (b : Branch) → AreNamedOnce bs → IsIn bs b → view_named bs b.xid ≡ view_of b
+own_shows [] b once there = absurd there
+own_shows (c ∷ bs) b once (inl e) =
+    ap (λ (d : Branch). view_named (c ∷ bs) d.xid) (sym e)
+    ∙ cond-true (xid_eq c.xid c.xid) (view_of c) (view_named bs c.xid) (xid_self c.xid) ∙ ap view_of e
+own_shows (c ∷ bs) b once (inr there) =
+    cond_both (xid_eq c.xid b.xid) (view_of c) (view_named bs b.xid) (λ (u : BranchView). u ≡ view_of b)
+    (λ same. absurd (once.0 (subst (IsIn (names_of bs)) (sym ((xid_decides c.xid b.xid).0 same)) (name_among bs b there))))
+    (λ other. own_shows bs b once.1 there)
+  where
+    name_among : (ds : List Branch) (d : Branch) → IsIn ds d → IsIn (names_of ds) d.xid
+    name_among [] d h = absurd h
+    name_among (e ∷ ds) d (inl same) = inl (ap (λ (f : Branch). f.xid) same)
+    name_among (e ∷ ds) d (inr h) = inr (name_among ds d h)
 
 -- a branch of another name that hinders
 record IsHinderer (test : BranchView → Bool) (bs : List Branch) (x : XidParts) : Type 0 where
   branch : Branch
-  there : Contains bs branch
-  named : list_any (λ c. xid_eq c.xid branch.xid) bs ≡ true
+  there : IsIn bs branch
   hindering : (not (xid_eq branch.xid x) && test (view_of branch)) ≡ true
 
 module _ (test : BranchView → Bool) (none : test no_branch ≡ false) where
@@ -314,34 +313,26 @@ module _ (test : BranchView → Bool) (none : test no_branch ≡ false) where
   hinderer_in : (bs : List Branch) (x : XidParts) → is_hindered test bs x ≡ true → IsHinderer test bs x
   hinderer_in [] x e = absurd (cc (e))
   hinderer_in (b ∷ bs) x e = elim (or_cases (is_other x b) (list_any (is_other x) bs) e) [
-    | inl here ↦ record {
-      branch = b;
-      there = in_front b bs;
-      named = or_left (xid_eq b.xid b.xid) (list_any (λ c. xid_eq c.xid b.xid) bs) (xid_self b.xid);
-      hindering = here;
-    }
-    | inr later ↦ let rest = hinderer_in bs x later in record {
-      branch = rest.branch;
-      there = further_on b bs rest.branch rest.there;
-      named = or_right (xid_eq b.xid rest.branch.xid) (list_any (λ c. xid_eq c.xid rest.branch.xid) bs) rest.named;
-      hindering = rest.hindering;
-    }
+    | inl here ↦ record { branch = b; there = inl refl; hindering = here }
+    | inr later ↦ let rest = hinderer_in bs x later in
+        record { branch = rest.branch; there = inr rest.there; hindering = rest.hindering }
   ]
 
-  hindered_by_test : (bs : List Branch) (x : XidParts) → AreNamedOnce bs → is_hindered test bs x ≡ true → IsHindered test (branch_at bs) x
+  hindered_by_test : (bs : List Branch) (x : XidParts) → AreNamedOnce bs → is_hindered test bs x ≡ true → IsHindered test (view_named bs) x
   hindered_by_test bs x once e =
       let by = hinderer_in bs x e in
       let parts = and_parts (not (xid_eq by.branch.xid x)) (test (view_of by.branch)) by.hindering in (
         by.branch.xid,
         xid_apart by.branch.xid x (not_true (xid_eq by.branch.xid x) parts.0),
-        ap test (own_shows bs by.branch (λ c h. once c by.branch h by.there) by.named) ∙ parts.1,
+        ap test (own_shows bs by.branch once by.there) ∙ parts.1,
       )
 
-  busy_decides : (bs : List Branch) (x : XidParts) → AreNamedOnce bs → Decides (is_hindered test bs x) (IsHindered test (branch_at bs) x)
+  busy_decides : (bs : List Branch) (x : XidParts) → AreNamedOnce bs → Decides (is_hindered test bs x) (IsHindered test (view_named bs) x)
   busy_decides bs x once = (hindered_by_test bs x once, λ is. hindered_to test none bs x is.0 is.1 is.2)
 
 answers_by : (spent : Bool) (rows : List Row) (bs : List Branch) (x : XidParts) (action : Action) → AreNamedOnce bs
-    → AnswersNamed spent rows (branch_at bs) x action (named_answer spent rows (branch_at bs x) (is_hindered (hinders action) bs x) action)
+    → AnswersNamed spent rows (view_named bs) x action (named_answer spent rows (view_named bs x) (is_hindered
+    (hinders action) bs x) action)
 answers_by true rows bs x Start once = refl
 answers_by true rows bs x action once =
     (is_hindered (hinders action) bs x, busy_decides (hinders action) (none_hinders action) bs x once, refl)
@@ -349,9 +340,10 @@ answers_by false rows bs x action once =
     (is_hindered (hinders action) bs x, busy_decides (hinders action) (none_hinders action) bs x once, refl)
 
 -- it is answered as one call is
-pub answered_is : (rm : ℕ) (first : List Row) (facts : List Fact) (branches : List Branch) → AreNamedOnce (all_branches rm facts branches)
+pub answered_is : (rm : ℕ) (first : List Row) (facts : List Fact) (branches : List Branch)
+    → AreNamedOnce (all_branches rm (bound_branches facts) branches)
     → (x : XidParts) (action : Action)
     → AnswersNamed (is_spent rm facts x) (table first facts) (branch_view rm facts branches) x action
-    (on_call rm first facts branches x action).answer
+    (on_call rm (stored_votes rm facts) (table first facts) branches x action).answer
 answered_is rm first facts branches once x action =
-    answers_by (is_spent rm facts x) (table first facts) (all_branches rm facts branches) x action once
+    answers_by (is_spent rm facts x) (table first facts) (all_branches rm (bound_branches facts) branches) x action once

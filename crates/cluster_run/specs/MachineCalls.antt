@@ -3,15 +3,16 @@ use Rattle.std.specs.Prelude.{◌≡◌, ℕ, Bool, true, List}
 use Rattle.xid.specs.Names.{XidParts}
 use Rattle.xid.specs.declared.codes.XaCode.TheVariants as code
 use Rattle.cluster_run.specs.Words.{Fact, Action, Start, Answer, Code, Row}
+use Rattle.protocol.specs.Facts.{bound_branches}
 use Rattle.protocol.specs.Branches.{BranchView}
 use Rattle.protocol.specs.Effects.{Effect}
-use Rattle.protocol.specs.Managers.{Branch, all_branches, branch_at}
+use Rattle.protocol.specs.Managers.{Branch, all_branches, view_named}
 use Rattle.branch_table.specs.OneCall.{Answers, Leaves}
 use Rattle.safety.specs.Holds.{AreInOrder}
 
 -- how the branches of resource manager rm show, those that are prepared among them
 abbrev pub branch_view : (rm : ℕ) → List Fact → List Branch → XidParts → BranchView
-branch_view rm facts branches = branch_at (all_branches rm facts branches)
+branch_view rm facts branches = view_named (all_branches rm (bound_branches facts) branches)
 
 -- the effect of a call on branch x is that of one call: the answer that it gives, what that leaves, and the keys in order again
 pub record IsOneCall (rm : ℕ) (facts : List Fact) (branches : List Branch) (x : XidParts) (action : Action)

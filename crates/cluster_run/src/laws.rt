@@ -2,6 +2,7 @@
 ghost use Rattle.std.specs.Prelude.{◌≡◌, ℕ, List, Some};
 ghost use Rattle.xid.specs.Names.{XidParts};
 ghost use Rattle.cluster_run.specs.Words.{R, Action, Row};
+ghost use Rattle.protocol.specs.Managers.{stored_votes};
 ghost use Rattle.protocol.specs.Effects.{Config};
 ghost use Rattle.protocol.specs.Facts.{is_spent};
 ghost use Rattle.protocol.specs.Managers.{on_call};
@@ -16,9 +17,9 @@ ghost use Rattle.cluster_run.specs.MachineCalls.{IsOneCall, AnswersNamed, branch
 pub fn calls_are_one_call()
     ensures left { (config : Config) (world : World) → IsReachable config world → (rm : ℕ) (node : NodeState)
         → node_at config world (R rm) ≡ Some node → (first : List Row) (x : XidParts) (action : Action)
-        → IsOneCall rm node.facts node.memory.branches x action (on_call rm first node.facts node.memory.branches x action) }
+        → IsOneCall rm node.facts node.memory.branches x action (on_call rm (stored_votes rm node.facts) (table first node.facts) node.memory.branches x action) }
     ensures answered { (config : Config) (world : World) → IsReachable config world → (rm : ℕ) (node : NodeState)
         → node_at config world (R rm) ≡ Some node → (first : List Row) (x : XidParts) (action : Action)
         → AnswersNamed (is_spent rm node.facts x) (table first node.facts) (branch_view rm node.facts node.memory.branches) x action
-        (on_call rm first node.facts node.memory.branches x action).answer }
+        (on_call rm (stored_votes rm node.facts) (table first node.facts) node.memory.branches x action).answer }
 {}

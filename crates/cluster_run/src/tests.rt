@@ -17,8 +17,33 @@ fn first_branch(rt: HostRuntime) {
     prints(
         &rt,
         rt.alloc(),
-        b"cluster acceptors 1 leaders 1 rms 1\ntable r0 6b=30\nstart r0 1:74:61\nget r0 1:74:61 6b\nput r0 1:74:61 6b 31\nget r0 1:74:61 6b\ndel r0 1:74:61 6b\nget r0 1:74:61 6b\nend r0 1:74:61\nget r0 1:74:61 6b\nrollback r0 1:74:61\nget r0 1:74:61 6b\n",
-        b"cluster acceptors 1 leaders 1 rms 1\ntable r0 6b=30\nstart r0 1:74:61 -> 0\nget r0 1:74:61 6b -> value 30\nput r0 1:74:61 6b 31 -> 0\nget r0 1:74:61 6b -> value 31\ndel r0 1:74:61 6b -> 0\nget r0 1:74:61 6b -> none\nend r0 1:74:61 -> 0\nget r0 1:74:61 6b -> -6\nrollback r0 1:74:61 -> 0\nget r0 1:74:61 6b -> -4\nfinal r0 6b=30\n",
+        b"\
+          cluster acceptors 1 leaders 1 rms 1\n\
+          table r0 6b=30\n\
+          start r0 1:74:61\n\
+          get r0 1:74:61 6b\n\
+          put r0 1:74:61 6b 31\n\
+          get r0 1:74:61 6b\n\
+          del r0 1:74:61 6b\n\
+          get r0 1:74:61 6b\n\
+          end r0 1:74:61\n\
+          get r0 1:74:61 6b\n\
+          rollback r0 1:74:61\n\
+          get r0 1:74:61 6b\n",
+        b"\
+          cluster acceptors 1 leaders 1 rms 1\n\
+          table r0 6b=30\n\
+          start r0 1:74:61 -> 0\n\
+          get r0 1:74:61 6b -> value 30\n\
+          put r0 1:74:61 6b 31 -> 0\n\
+          get r0 1:74:61 6b -> value 31\n\
+          del r0 1:74:61 6b -> 0\n\
+          get r0 1:74:61 6b -> none\n\
+          end r0 1:74:61 -> 0\n\
+          get r0 1:74:61 6b -> -6\n\
+          rollback r0 1:74:61 -> 0\n\
+          get r0 1:74:61 6b -> -4\n\
+          final r0 6b=30\n",
     );
 }
 
@@ -37,8 +62,38 @@ fn two_managers(rt: HostRuntime) {
     prints(
         &rt,
         rt.alloc(),
-        b"cluster acceptors 7 leaders 4 rms 2\ntable r1 6c=- 6b=31\nstart r0 1:74:61\nput r0 1:74:61 6b 32\nstart r1 1:74:61\nstart r1 1:74:62\nget r1 1:74:62 6b\ndel r1 1:74:61 6b\nput r1 1:74:62 - 31\nend r1 1:74:62 fail\nrecover r1\nrecover r2\nstart r2 1:74:61\nstart r1 1:74:61\n",
-        b"cluster acceptors 7 leaders 4 rms 2\ntable r1 6c=- 6b=31\nstart r0 1:74:61 -> 0\nput r0 1:74:61 6b 32 -> 0\nstart r1 1:74:61 -> 0\nstart r1 1:74:62 -> 0\nget r1 1:74:62 6b -> value 31\ndel r1 1:74:61 6b -> refused 9\nput r1 1:74:62 - 31 -> -5\nend r1 1:74:62 fail -> 100\nrecover r1 -> xids\nrecover r2 -> refused 15\nstart r2 1:74:61 -> refused 15\nstart r1 1:74:61 -> -8\nfinal r0\nfinal r1 6b=31 6c=-\n",
+        b"\
+          cluster acceptors 7 leaders 4 rms 2\n\
+          table r1 6c=- 6b=31\n\
+          start r0 1:74:61\n\
+          put r0 1:74:61 6b 32\n\
+          start r1 1:74:61\n\
+          start r1 1:74:62\n\
+          get r1 1:74:62 6b\n\
+          del r1 1:74:61 6b\n\
+          put r1 1:74:62 - 31\n\
+          end r1 1:74:62 fail\n\
+          recover r1\n\
+          recover r2\n\
+          start r2 1:74:61\n\
+          start r1 1:74:61\n",
+        b"\
+          cluster acceptors 7 leaders 4 rms 2\n\
+          table r1 6c=- 6b=31\n\
+          start r0 1:74:61 -> 0\n\
+          put r0 1:74:61 6b 32 -> 0\n\
+          start r1 1:74:61 -> 0\n\
+          start r1 1:74:62 -> 0\n\
+          get r1 1:74:62 6b -> value 31\n\
+          del r1 1:74:61 6b -> refused 9\n\
+          put r1 1:74:62 - 31 -> -5\n\
+          end r1 1:74:62 fail -> 100\n\
+          recover r1 -> xids\n\
+          recover r2 -> refused 15\n\
+          start r2 1:74:61 -> refused 15\n\
+          start r1 1:74:61 -> -8\n\
+          final r0\n\
+          final r1 6b=31 6c=-\n",
     );
 }
 

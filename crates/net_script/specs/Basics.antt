@@ -9,7 +9,9 @@ pub use Rattle.xid.specs.declared.refusals.Refusal.TheVariants.{NoMemory, BadScr
 pub use Rattle.xid.specs.declared.transaction.Vote.{Vote}
 pub use Rattle.wire.specs.Messages.{message_tx}
 pub use Rattle.wire.specs.declared.message.Kind.{Kind}
-pub use Rattle.wire.specs.declared.message.Kind.TheVariants.{Prepare, P1a, P1b, P2a, P2b, Commit, Abort}
+pub use Rattle.wire.specs.declared.message.Kind.TheVariants.{Prepare, P1a, P1b, P2a, P2b, Commit, Abort, B1a, B1b, B2b}
+pub use Rattle.wire.specs.declared.items.InstanceReport.{InstanceReport}
+pub use Rattle.wire.specs.declared.items.InstanceAccept.{InstanceAccept}
 pub use Rattle.protocol.specs.declared.answers.Answer.{Answer}
 pub use Rattle.protocol.specs.declared.answers.Answer.TheVariants.{Done, Code, Value, NoValue, Xids, Stands, Refused}
 pub use Rattle.protocol.specs.declared.events.Event.{Event}

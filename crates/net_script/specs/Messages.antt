@@ -1,6 +1,7 @@
 -- The words of messages, as a trace prints them.
-use Rattle.std.specs.Prelude.{ℕ, List, [], ◌∷◌, ◌++◌, codes, decimal, Option, Some, None}
-use Rattle.net_script.specs.Basics.{tx_text, message_tx, Vote, Kind, Prepare, P1a, P1b, P2a, P2b, Commit, Abort, A, R}
+use Rattle.std.specs.Prelude.{ℕ, List, [], ◌∷◌, ◌++◌, map, codes, decimal, Option, Some, None}
+use Rattle.net_script.specs.Basics.{tx_text, message_tx, Vote, Kind, Prepare, P1a, P1b, P2a, P2b, Commit, Abort, B1a, B1b, B2b, A, R}
+use Rattle.net_script.specs.Basics.{InstanceReport, InstanceAccept}
 use Rattle.net_script.specs.Lines.{node_text}
 
 -- a vote
@@ -17,6 +18,23 @@ report_words (Some accepted) = decimal accepted.0 ∷ vote_text accepted.1 ∷ [
 abbrev pub ballot_words : ℕ → ℕ → List (List ℕ)
 ballot_words rm ballot = node_text (R rm) ∷ decimal ballot ∷ []
 
+-- in an item of a bundle: BAL:VAL
+abbrev pub accepted_text : ℕ → Vote → List ℕ
+accepted_text ballot vote = decimal ballot ++ 58 ∷ vote_text vote
+
+-- the report of an item: BAL:VAL, or `none`
+abbrev pub report_text : Option (ℕ × Vote) → List ℕ
+report_text None = codes "none"
+report_text (Some accepted) = accepted_text accepted.0 accepted.1
+
+-- an item of phase 1b: its instance, a colon, its report
+abbrev pub report_item_text : InstanceReport → List ℕ
+report_item_text item = node_text (R item.instance) ++ 58 ∷ report_text item.report
+
+-- an item of phase 2b: its instance, a colon, its ballot and its vote
+abbrev pub accept_item_text : InstanceAccept → List ℕ
+accept_item_text item = node_text (R item.instance) ++ 58 ∷ accepted_text item.ballot item.vote
+
 -- the first word of a message
 abbrev pub message_word : Kind → List ℕ
 message_word (Prepare tx) = codes "prepare"
@@ -27,6 +45,9 @@ message_word (P2b tx rm ballot vote acceptor) = codes "p2b"
 message_word (Commit tx) = codes "commit"
 message_word (Abort tx) = codes "abort"
 message_word (Kind.Ask tx rm) = codes "ask"
+message_word (B1a tx ballot) = codes "b1a"
+message_word (B1b tx ballot acceptor reports) = codes "b1b"
+message_word (B2b tx acceptor accepts) = codes "b2b"
 
 -- the words of a message after its transaction
 abbrev pub message_args : Kind → List (List ℕ)
@@ -38,6 +59,9 @@ message_args (P2b tx rm ballot vote acceptor) = ballot_words rm ballot ++ vote_t
 message_args (Commit tx) = []
 message_args (Abort tx) = []
 message_args (Kind.Ask tx rm) = node_text (R rm) ∷ []
+message_args (B1a tx ballot) = decimal ballot ∷ []
+message_args (B1b tx ballot acceptor reports) = decimal ballot ∷ node_text (A acceptor) ∷ map report_item_text reports
+message_args (B2b tx acceptor accepts) = node_text (A acceptor) ∷ map accept_item_text accepts
 
 -- the words of a message
 abbrev pub message_words : Kind → List (List ℕ)

@@ -97,7 +97,7 @@ pub(crate) fn put_sent(alloc: Global, out: &mut Vec<u8>, sent: &Sent) -> Result<
     put_number(out, sent.number)?;
     put_node(out, sent.sender)?;
     put_node(out, sent.receiver)?;
-    put_message(alloc, out, &sent.message)?;
+    put_message(alloc, out, sent.message.kind())?;
     out.push(b'\n')?;
     Ok(())
 }

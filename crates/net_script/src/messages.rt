@@ -1,14 +1,16 @@
 //! Messages, as a trace prints them.
 
-ghost use Rattle.std.specs.Prelude.{◌≡◌, ◌++◌, IfErr, OnOk};
+ghost use Rattle.std.specs.Prelude.{◌≡◌, ◌++◌, ◌∷◌, map, IfErr, OnOk};
 ghost use Rattle.net_script.specs.Basics.{NoMemory};
 ghost use Rattle.net_script.specs.Messages.{vote_text, report_words, ballot_words, message_word, message_args, message_words};
+ghost use Rattle.net_script.specs.Messages.{accepted_text, report_item_text, accept_item_text};
 ghost use Rattle.net_script.specs.Traces.{spaced_words};
 
 use crate::pieces::{put_manager, put_node, put_number, put_tx, put_word};
+use itoa::Buffer;
 use protocol::NodeId;
 use std::alloc::Global;
-use wire::{Kind, Message};
+use wire::{InstanceAccept, InstanceReport, Kind};
 use xid::{Ballot, ManagerNumber, Refusal, Vote};
 
 /// The word of a vote.
@@ -44,6 +46,65 @@ fn put_ballot(out: &mut Vec<u8>, rm: ManagerNumber, ballot: Ballot) -> Result<()
     Ok(())
 }
 
+/// A colon, and the ballot and the vote of an item.
+fn put_accepted(out: &mut Vec<u8>, ballot: Ballot, vote: Vote) -> Result<(), Refusal>
+    ensures ok { OnOk result (out.new.items ≡ out.old.items ++ 58 ∷ accepted_text ballot vote) }
+    ensures err { IfErr result (λ e. e ≡ NoMemory) }
+{
+    let mut digits = Buffer::new();
+    out.push(b':')?;
+    out.extend_from_slice(digits.format(ballot).as_bytes())?;
+    out.push(b':')?;
+    out.extend_from_slice(vote_word(vote))?;
+    Ok(())
+}
+
+/// An item of phase 1b.
+fn put_report_item(out: &mut Vec<u8>, item: &InstanceReport) -> Result<(), Refusal>
+    ensures ok { OnOk result (out.new.items ≡ out.old.items ++ 32 ∷ report_item_text item.now) }
+    ensures err { IfErr result (λ e. e ≡ NoMemory) }
+{
+    put_manager(out, usize::from(item.instance))?;
+    let Some((ballot, vote)) = item.report else {
+        out.extend_from_slice(b":none")?;
+        return Ok(());
+    };
+    put_accepted(out, ballot, vote)?;
+    Ok(())
+}
+
+/// The items of phase 1b.
+fn put_reports(out: &mut Vec<u8>, reports: &[InstanceReport]) -> Result<(), Refusal>
+    ensures ok { OnOk result (out.new.items ≡ out.old.items ++ spaced_words (map report_item_text reports.now)) }
+    ensures err { IfErr result (λ e. e ≡ NoMemory) }
+{
+    for item in reports {
+        put_report_item(out, item)?;
+    }
+    Ok(())
+}
+
+/// An item of phase 2b.
+fn put_accept_item(out: &mut Vec<u8>, item: &InstanceAccept) -> Result<(), Refusal>
+    ensures ok { OnOk result (out.new.items ≡ out.old.items ++ 32 ∷ accept_item_text item.now) }
+    ensures err { IfErr result (λ e. e ≡ NoMemory) }
+{
+    put_manager(out, usize::from(item.instance))?;
+    put_accepted(out, item.ballot, item.vote)?;
+    Ok(())
+}
+
+/// The items of phase 2b.
+fn put_accepts(out: &mut Vec<u8>, accepts: &[InstanceAccept]) -> Result<(), Refusal>
+    ensures ok { OnOk result (out.new.items ≡ out.old.items ++ spaced_words (map accept_item_text accepts.now)) }
+    ensures err { IfErr result (λ e. e ≡ NoMemory) }
+{
+    for item in accepts {
+        put_accept_item(out, item)?;
+    }
+    Ok(())
+}
+
 /// The first word of a message.
 fn kind_word(kind: &Kind) -> &'static [u8]
     ensures { result.now ≡ message_word kind.now }
@@ -57,6 +118,9 @@ fn kind_word(kind: &Kind) -> &'static [u8]
         Kind::Commit(_) => b"commit",
         Kind::Abort(_) => b"abort",
         Kind::Ask { .. } => b"ask",
+        Kind::B1a { .. } => b"b1a",
+        Kind::B1b { .. } => b"b1b",
+        Kind::B2b { .. } => b"b2b",
     }
 }
 
@@ -104,20 +168,34 @@ fn put_kind_args(out: &mut Vec<u8>, kind: &Kind) -> Result<(), Refusal>
             put_node(out, NodeId::A(*acceptor))?;
         }
         Kind::Ask { rm, .. } => put_manager(out, usize::from(*rm))?,
+        Kind::B1a { ballot, .. } => put_number(out, *ballot)?,
+        Kind::B1b {
+            ballot,
+            acceptor,
+            reports,
+            ..
+        } => {
+            put_number(out, *ballot)?;
+            put_node(out, NodeId::A(*acceptor))?;
+            put_reports(out, reports.as_slice())?;
+        }
+        Kind::B2b {
+            acceptor,
+            accepts,
+            ..
+        } => {
+            put_node(out, NodeId::A(*acceptor))?;
+            put_accepts(out, accepts.as_slice())?;
+        }
     }
     Ok(())
 }
 
 /// A message.
-pub(crate) fn put_message(
-    alloc: Global,
-    out: &mut Vec<u8>,
-    message: &Message,
-) -> Result<(), Refusal>
-    ensures ok { OnOk result (out.new.items ≡ out.old.items ++ spaced_words (message_words message.now)) }
+pub(crate) fn put_message(alloc: Global, out: &mut Vec<u8>, kind: &Kind) -> Result<(), Refusal>
+    ensures ok { OnOk result (out.new.items ≡ out.old.items ++ spaced_words (message_words kind.now)) }
     ensures err { IfErr result (λ e. e ≡ NoMemory) }
 {
-    let kind = message.kind();
     put_word(out, kind_word(kind))?;
     put_tx(alloc, out, kind.tx())?;
     put_kind_args(out, kind)?;

@@ -1,8 +1,9 @@
+use crate::messages::put_message;
 use crate::{Script, Sizes, Table, Trace, read_script, write_trace};
 use protocol::{Action, Answer, Change, Event, NodeId, Request, Row, Sent, Standing, Step, View};
 use std::alloc::{AllocError, Global};
 use std::test::*;
-use wire::{Kind, Message, is_message};
+use wire::{InstanceAccept, InstanceReport, Items, Kind, Message, is_message};
 use xid::{Ballot, Bytes, ManagerNumber, Refusal, Sequence, Tx, Vote, XaCode, Xid};
 
 /// The line at fault, or 0 where the text is read.
@@ -556,6 +557,85 @@ fn writes_each_message(rt: HostRuntime) -> Result<(), Fail> {
           sent 9 a255 l0 commit 1:74/0=61,1=62\n\
           sent 9 a255 l0 abort 1:74/0=61,1=62\n\
           sent 9 a255 l0 ask 1:74/0=61,1=62 r1\n";
+    assert_eq!(rt; lines.as_slice(), want.as_slice());
+    Ok(())
+}
+
+/// The bundles of a take-over: phase 1a, what the first acceptor reports, and what it tells of phase 2b.
+fn takeover_bundles() -> Result<[Kind; 3], Refusal> {
+    let tx = worked_tx()?;
+    let mut reports = Items::one(InstanceReport {
+        instance: 0,
+        report: Some((0, Vote::Prepared)),
+    });
+    reports.push(InstanceReport {
+        instance: 1,
+        report: None,
+    });
+    let mut accepts = Items::one(InstanceAccept {
+        instance: 0,
+        ballot: 1,
+        vote: Vote::Prepared,
+    });
+    accepts.push(InstanceAccept {
+        instance: 1,
+        ballot: 1,
+        vote: Vote::Aborted,
+    });
+    Ok([
+        Kind::B1a { tx, ballot: 1 },
+        Kind::B1b {
+            tx,
+            ballot: 1,
+            acceptor: 0,
+            reports,
+        },
+        Kind::B2b {
+            tx,
+            acceptor: 0,
+            accepts,
+        },
+    ])
+}
+
+#[test]
+fn writes_each_bundle(rt: HostRuntime) -> Result<(), Fail> {
+    let alloc = rt.alloc();
+    let mut words = Vec::new(alloc);
+    for kind in takeover_bundles().ok().ok_or("it is a transaction")? {
+        put_message(alloc, &mut words, &kind).ok().ok_or("memory")?;
+        words.push(b'\n')?;
+    }
+    let want = b" b1a 1:74/0=61,1=62 1\n\
+          \x20b1b 1:74/0=61,1=62 1 a0 r0:0:prepared r1:none\n\
+          \x20b2b 1:74/0=61,1=62 a0 r0:1:prepared r1:1:aborted\n";
+    assert_eq!(rt; words.as_slice(), want.as_slice());
+    Ok(())
+}
+
+#[test]
+fn sends_each_bundle(rt: HostRuntime) -> Result<(), Fail> {
+    let alloc = rt.alloc();
+    let mut sent = Vec::new(alloc);
+    for kind in takeover_bundles().ok().ok_or("it is a transaction")? {
+        sent.push(
+            datagram(9, NodeId::A(0), NodeId::L(0), kind)
+                .ok()
+                .ok_or("it is a message")?,
+        )?;
+    }
+    let mut steps = Vec::new(alloc);
+    steps.push(Step {
+        event: Event::Deliver { number: 6 },
+        answer: Answer::Done,
+        now: None,
+        sent: Sequence::new(sent),
+    })?;
+    let lines = lines_of(alloc, Sequence::new(steps)).ok().ok_or("memory")?;
+    let want = b"deliver 6 -> ok\n\
+          sent 9 a0 l0 b1a 1:74/0=61,1=62 1\n\
+          sent 9 a0 l0 b1b 1:74/0=61,1=62 1 a0 r0:0:prepared r1:none\n\
+          sent 9 a0 l0 b2b 1:74/0=61,1=62 a0 r0:1:prepared r1:1:aborted\n";
     assert_eq!(rt; lines.as_slice(), want.as_slice());
     Ok(())
 }

@@ -12,7 +12,8 @@ c = cluster 3 1 1
 abbrev before : List Event
 before = timeout (L 0) one ∷ Deliver 1 ∷ Deliver 2 ∷ Restart (L 0) ∷ []
 
-pub begins_one : (next c [] (timeout (L 0) one)).sent ≡ sent_by (L 0) (A 0) (P1a one 0 1) ∷ sent_by (L 0) (A 1) (P1a one 0 1) ∷ sent_by (L 0) (A 2) (P1a one 0 1) ∷ []
+pub begins_one : (next c [] (timeout (L 0) one)).sent ≡ sent_by (L 0) (A 0) (P1a one 0 1) ∷ sent_by (L 0) (A 1) (P1a one 0 1)
+    ∷ sent_by (L 0) (A 2) (P1a one 0 1) ∷ []
 begins_one = refl
 
 pub reports : (next c (timeout (L 0) one ∷ []) (Deliver 1)).sent ≡ sent_by (A 0) (L 0) (P1b one 0 1 None 0) ∷ []

@@ -20,8 +20,10 @@ pub takes_over : (next c (two_ended ++ Deliver 1 ∷ Deliver 3 ∷ Deliver 4 ∷
     ∷ sent_by (L 0) (A 0) (P1a two 1 1) ∷ sent_by (L 0) (A 1) (P1a two 1 1) ∷ sent_by (L 0) (A 2) (P1a two 1 1) ∷ []
 takes_over = refl
 
-pub picks_aborted : (next c (two_ended ++ Deliver 1 ∷ Deliver 3 ∷ Deliver 4 ∷ timeout (L 0) two ∷ Deliver 11 ∷ Deliver 12 ∷ Deliver 14 ∷ []) (Deliver 15)).sent
-    ≡ sent_by (L 0) (A 0) (P2a two 1 1 votes.Aborted) ∷ sent_by (L 0) (A 1) (P2a two 1 1 votes.Aborted) ∷ sent_by (L 0) (A 2) (P2a two 1 1 votes.Aborted) ∷ []
+pub picks_aborted : (next c (two_ended ++ Deliver 1 ∷ Deliver 3 ∷ Deliver 4 ∷ timeout (L 0) two ∷ Deliver 11 ∷ Deliver 12 ∷ Deliver 14
+    ∷ []) (Deliver 15)).sent
+    ≡ sent_by (L 0) (A 0) (P2a two 1 1 votes.Aborted) ∷ sent_by (L 0) (A 1) (P2a two 1 1 votes.Aborted)
+    ∷ sent_by (L 0) (A 2) (P2a two 1 1 votes.Aborted) ∷ []
 picks_aborted = refl
 
 -- the vote comes after the take-over asked

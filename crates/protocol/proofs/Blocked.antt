@@ -6,7 +6,8 @@ use Rattle.wire.specs.declared.message.Kind.TheVariants.{P2a, P2b, Ask}
 use Rattle.protocol.specs.declared.states.Standing.TheVariants as standings
 use Rattle.protocol.specs.Words.{A, L, R, Done, Code, Xids, Stands, Event, Deliver, Rollback}
 use Rattle.protocol.specs.Effects.{Config}
-use Rattle.protocol.proofs.RowWords.{x, one, cluster, next, answers, tables, deliveries, call, recover, sent_by, ok, one_ended, status, timeout, view}
+use Rattle.protocol.proofs.RowWords.{x, one, cluster, next, answers, tables, deliveries, call, recover, sent_by, ok, one_ended, status}
+use Rattle.protocol.proofs.RowWords.{timeout, view}
 
 abbrev c : Config
 c = cluster 1 1 1
@@ -21,7 +22,8 @@ answered = refl
 pub told : (next c (one_ended ++ deliveries 1 1) (Deliver 2)).sent ≡ sent_by (A 0) (L 0) (P2b one 0 0 votes.Prepared 0) ∷ []
 told = refl
 
-pub asks : (next c (one_ended ++ deliveries 1 2) (timeout (R 0) one)).sent ≡ sent_by (R 0) (A 0) (P2a one 0 0 votes.Prepared) ∷ sent_by (R 0) (L 0) (Ask one 0) ∷ []
+pub asks : (next c (one_ended ++ deliveries 1 2) (timeout (R 0) one)).sent ≡ sent_by (R 0) (A 0) (P2a one 0 0 votes.Prepared)
+    ∷ sent_by (R 0) (L 0) (Ask one 0) ∷ []
 asks = refl
 
 pub final : tables c events ≡ [] ∷ []

@@ -13,7 +13,8 @@ abbrev c : Config
 c = cluster 1 1 1
 
 abbrev before : List Event
-before = call 0 x Start ∷ call 0 x (put 0x6b 0x31) ∷ call 0 z Start ∷ call 0 z (put 0x6b 0x32) ∷ call 0 z (Get (0x6b ∷ [])) ∷ commit 0 one ∷ []
+before = call 0 x Start ∷ call 0 x (put 0x6b 0x31) ∷ call 0 z Start ∷ call 0 z (put 0x6b 0x32) ∷ call 0 z (Get (0x6b ∷ []))
+    ∷ commit 0 one ∷ []
 
 pub answered : answers c (before ++ Deliver 1 ∷ call 0 z (put 0x6b 0x32) ∷ [])
     ≡ ok ∷ ok ∷ ok ∷ Refused Busy ∷ Refused Busy ∷ Stands standings.Undecided ∷ Done ∷ ok ∷ []

@@ -7,7 +7,8 @@ use Rattle.wire.specs.declared.message.Kind.TheVariants.{P2a}
 use Rattle.protocol.specs.declared.states.Standing.TheVariants as standings
 use Rattle.protocol.specs.Words.{A, L, R, Done, Code, Stands, Refused, Event, Deliver, Tear, Restart, Compact, Start}
 use Rattle.protocol.specs.Effects.{Config}
-use Rattle.protocol.proofs.RowWords.{x, two, row, cluster, cluster_with_row, next, answers, tables, deliveries, call, view, sent_by, two_ended, one_ended}
+use Rattle.protocol.proofs.RowWords.{x, two, row, cluster, cluster_with_row, next, answers, tables, deliveries, call, view, sent_by}
+use Rattle.protocol.proofs.RowWords.{two_ended, one_ended}
 
 abbrev c : Config
 c = cluster_with_row 3 1 2
@@ -22,7 +23,8 @@ pub answered : drop 23 (answers c (before ++ after)) ≡ Done ∷ Done ∷ Stand
 answered = refl
 
 pub votes_again : (next c (before ++ after) (Deliver 1)).sent
-    ≡ sent_by (R 0) (A 0) (P2a two 0 0 votes.Prepared) ∷ sent_by (R 0) (A 1) (P2a two 0 0 votes.Prepared) ∷ sent_by (R 0) (A 2) (P2a two 0 0 votes.Prepared) ∷ []
+    ≡ sent_by (R 0) (A 0) (P2a two 0 0 votes.Prepared) ∷ sent_by (R 0) (A 1) (P2a two 0 0 votes.Prepared)
+    ∷ sent_by (R 0) (A 2) (P2a two 0 0 votes.Prepared) ∷ []
 votes_again = refl
 
 pub final : tables c (before ++ after) ≡ (row 0x6b 0x31 ∷ []) ∷ (row 0x6d 0x32 ∷ []) ∷ []
@@ -35,5 +37,6 @@ d = cluster 1 1 1
 abbrev torn : List Event
 torn = Tear (R 0) 0 ∷ Compact (R 0) ∷ Deliver 1 ∷ Compact (R 0) ∷ Restart (R 0) ∷ Compact (A 0) ∷ Compact (L 0) ∷ Compact (R 1) ∷ []
 
-pub torn_after : drop 4 (answers d (one_ended ++ torn)) ≡ Done ∷ Done ∷ Refused RecordFault ∷ Refused Down ∷ Done ∷ Done ∷ Done ∷ Refused NoSuch ∷ []
+pub torn_after : drop 4 (answers d (one_ended ++ torn)) ≡ Done ∷ Done ∷ Refused RecordFault ∷ Refused Down ∷ Done ∷ Done ∷ Done
+    ∷ Refused NoSuch ∷ []
 torn_after = refl

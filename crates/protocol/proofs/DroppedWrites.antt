@@ -12,7 +12,8 @@ abbrev c : Config
 c = cluster 1 1 1
 
 abbrev before : List Event
-before = call 0 x Start ∷ call 0 x (put 0x6b 0x31) ∷ Restart (R 0) ∷ call 0 x (put 0x6b 0x32) ∷ call 0 x Start ∷ call 0 x (put 0x6c 0x33) ∷ call 0 x End ∷ commit 0 one ∷ []
+before = call 0 x Start ∷ call 0 x (put 0x6b 0x31) ∷ Restart (R 0) ∷ call 0 x (put 0x6b 0x32) ∷ call 0 x Start ∷ call 0 x (put 0x6c 0x33)
+    ∷ call 0 x End ∷ commit 0 one ∷ []
 
 pub answered : answers c before ≡ ok ∷ ok ∷ Done ∷ Code codes.Nota ∷ ok ∷ ok ∷ ok ∷ Stands standings.Undecided ∷ []
 answered = refl

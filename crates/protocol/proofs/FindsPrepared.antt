@@ -23,14 +23,17 @@ proposed = taken_over ++ deliveries 27 4
 abbrev told : List Event
 told = proposed ++ Deliver 31 ∷ Deliver 32 ∷ Deliver 34 ∷ Deliver 35 ∷ Deliver 38 ∷ Deliver 40 ∷ Deliver 42 ∷ []
 
-pub to_both : (next c (two_ended ++ deliveries 1 7) (Deliver 8)).sent ≡ sent_by (A 2) (L 0) (P2b two 1 0 votes.Prepared 2) ∷ sent_by (A 2) (L 1) (P2b two 1 0 votes.Prepared 2) ∷ []
+pub to_both : (next c (two_ended ++ deliveries 1 7) (Deliver 8)).sent ≡ sent_by (A 2) (L 0) (P2b two 1 0 votes.Prepared 2)
+    ∷ sent_by (A 2) (L 1) (P2b two 1 0 votes.Prepared 2) ∷ []
 to_both = refl
 
-pub its_own_ballot : (next c (voted ++ timeout (L 1) two ∷ []) (Deliver 21)).sent ≡ sent_by (A 0) (L 1) (P1b two 0 2 (Some (0, votes.Prepared)) 0) ∷ []
+pub its_own_ballot : (next c (voted ++ timeout (L 1) two ∷ []) (Deliver 21)).sent
+    ≡ sent_by (A 0) (L 1) (P1b two 0 2 (Some (0, votes.Prepared)) 0) ∷ []
 its_own_ballot = refl
 
 pub picks_prepared : (next c (taken_over ++ deliveries 27 1) (Deliver 28)).sent
-    ≡ sent_by (L 1) (A 0) (P2a two 0 2 votes.Prepared) ∷ sent_by (L 1) (A 1) (P2a two 0 2 votes.Prepared) ∷ sent_by (L 1) (A 2) (P2a two 0 2 votes.Prepared) ∷ []
+    ≡ sent_by (L 1) (A 0) (P2a two 0 2 votes.Prepared) ∷ sent_by (L 1) (A 1) (P2a two 0 2 votes.Prepared)
+    ∷ sent_by (L 1) (A 2) (P2a two 0 2 votes.Prepared) ∷ []
 picks_prepared = refl
 
 pub waits_for_both : (next c (proposed ++ Deliver 31 ∷ Deliver 32 ∷ Deliver 34 ∷ Deliver 35 ∷ Deliver 38 ∷ []) (Deliver 40)).sent ≡ []

@@ -17,3 +17,7 @@ pub mod NoiseAndCuts
 pub mod ManyManagers
 pub mod Same
 pub mod TouchedKeys
+pub mod BundledCommit
+pub mod BundledTakeover
+pub mod ToldAgain
+pub mod Faults

@@ -4,7 +4,7 @@ use Rattle.std.specs.List.{range_with_len}
 use Rattle.xid.specs.declared.refusals.Refusal.TheVariants.{BadMessage, Forged, NoSuch}
 use Rattle.wire.specs.Versions.{version_1}
 use Rattle.wire.specs.Grammar.{spelling, tx_spelling}
-use Rattle.wire.specs.Reading.{component_at, branch_at, branches_at, tx_at, kind_at}
+use Rattle.wire.specs.Reading.{component_at, branch_at, list_at, tx_at, kind_at}
 use Rattle.wire.specs.declared.message.Kind.TheVariants.{Prepare}
 use Rattle.protocol.specs.Words.{R, Refused, Event, Deliver, Lose, Cut, Noise}
 use Rattle.protocol.specs.Effects.{Config}
@@ -40,11 +40,11 @@ beginnings = refl
 
 pub whole_is_no_cut : drop 24 (answers c disturbed) ≡
     Refused NoSuch ∷ Refused NoSuch ∷ Refused BadMessage ∷ Refused BadMessage ∷ Refused BadMessage ∷ Refused Forged ∷ []
-unfolding component_at branch_at branches_at tx_at kind_at
+unfolding component_at branch_at list_at tx_at kind_at
 whole_is_no_cut = refl
 
 pub nothing_changed : run c disturbed ≡ run c two_ended
-unfolding component_at branch_at branches_at tx_at kind_at
+unfolding component_at branch_at list_at tx_at kind_at
 nothing_changed = refl
 
 pub lost_once : map (λ datagram. datagram.marked) (run c (two_ended ++ Lose 1 ∷ [])).net ≡ true ∷ false ∷ []
@@ -54,5 +54,5 @@ pub no_third : (next c two_ended (Lose 3)).answer ≡ Refused NoSuch
 no_third = refl
 
 pub final : tables c disturbed ≡ (row 0x6b 0x30 ∷ []) ∷ [] ∷ []
-unfolding component_at branch_at branches_at tx_at kind_at
+unfolding component_at branch_at list_at tx_at kind_at
 final = refl

@@ -21,7 +21,8 @@ pub first_votes : (next c two_ended (Deliver 1)).now ≡ changes 0 two views.Pre
 first_votes = refl
 
 pub second_votes : (next c (two_ended ++ deliveries 1 1) (Deliver 2)).sent
-    ≡ sent_by (R 1) (A 0) (P2a two 1 0 votes.Prepared) ∷ sent_by (R 1) (A 1) (P2a two 1 0 votes.Prepared) ∷ sent_by (R 1) (A 2) (P2a two 1 0 votes.Prepared) ∷ []
+    ≡ sent_by (R 1) (A 0) (P2a two 1 0 votes.Prepared) ∷ sent_by (R 1) (A 1) (P2a two 1 0 votes.Prepared)
+    ∷ sent_by (R 1) (A 2) (P2a two 1 0 votes.Prepared) ∷ []
 second_votes = refl
 
 pub accepted : (next c (two_ended ++ deliveries 1 7) (Deliver 8)).sent ≡ sent_by (A 2) (L 0) (P2b two 1 0 votes.Prepared 2) ∷ []
@@ -30,7 +31,8 @@ accepted = refl
 pub one_short : (next c (two_ended ++ deliveries 1 11) (Deliver 12)).sent ≡ []
 one_short = refl
 
-pub decided : (next c (two_ended ++ deliveries 1 12) (Deliver 13)).sent ≡ sent_by (L 0) (R 0) (Commit two) ∷ sent_by (L 0) (R 1) (Commit two) ∷ []
+pub decided : (next c (two_ended ++ deliveries 1 12) (Deliver 13)).sent ≡ sent_by (L 0) (R 0) (Commit two)
+    ∷ sent_by (L 0) (R 1) (Commit two) ∷ []
 decided = refl
 
 pub first_commits : (next c (two_ended ++ deliveries 1 14) (Deliver 15)).now ≡ changes 0 two views.Committed

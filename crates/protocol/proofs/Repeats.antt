@@ -33,7 +33,8 @@ pub accepted_before : (next c (committed ++ again) (Deliver 8)).sent ≡ sent_by
 accepted_before = refl
 
 pub voted_before : (next c (committed ++ again) (Deliver 2)).sent
-    ≡ sent_by (R 1) (A 0) (P2a two 1 0 votes.Prepared) ∷ sent_by (R 1) (A 1) (P2a two 1 0 votes.Prepared) ∷ sent_by (R 1) (A 2) (P2a two 1 0 votes.Prepared) ∷ []
+    ≡ sent_by (R 1) (A 0) (P2a two 1 0 votes.Prepared) ∷ sent_by (R 1) (A 1) (P2a two 1 0 votes.Prepared)
+    ∷ sent_by (R 1) (A 2) (P2a two 1 0 votes.Prepared) ∷ []
 voted_before = refl
 
 pub datagrams : length (run c (committed ++ again)).net ≡ 28

@@ -1,11 +1,12 @@
 -- Words for worked runs: the names and transactions in them, and what a run shows of itself.
-use Rattle.std.specs.Prelude.{ℕ, false, List, [], ◌∷◌, map, Option, Some}
+use Rattle.std.specs.Prelude.{ℕ, true, false, List, [], ◌∷◌, map, Option, Some}
 use Rattle.xid.specs.Names.{XidParts}
 use Rattle.xid.specs.Transactions.{TxParts}
 use Rattle.wire.specs.declared.message.Kind.{Kind}
 use Rattle.xid.specs.declared.codes.XaCode.TheVariants as codes
 use Rattle.std.specs.List.{range_with_len}
-use Rattle.protocol.specs.Words.{NodeId, L, R, View, Answer, Code, Action, Start, Put, End, Row, Request, Call, Recover, Timeout, Event, Ask, Deliver, Change}
+use Rattle.protocol.specs.Words.{NodeId, L, R, View, Answer, Code, Action, Start, Put, End, Row, Request, Call, Recover, Timeout, Event}
+use Rattle.protocol.specs.Words.{Ask, Deliver, Change}
 use Rattle.protocol.specs.Effects.{Config}
 use Rattle.protocol.specs.Nodes.{NoFault}
 use Rattle.protocol.specs.Worlds.{Occurrence, World, Datagram, StepResult, opening, trace, world_after, world_step, table_at}
@@ -33,13 +34,17 @@ other_one = record { format = 1; gtrid = 0x75 ∷ []; branches = record { rm = 0
 
 -- a cluster of so many, with no rows; and with 6b=30 at r0
 abbrev pub cluster : ℕ → ℕ → ℕ → Config
-cluster a l r = record { acceptors = a; leaders = l; managers = r; tables = [] }
+cluster a l r = record { acceptors = a; leaders = l; managers = r; bundled = false; tables = [] }
 
 abbrev pub row : ℕ → ℕ → Row
 row key value = record { key = key ∷ []; value = value ∷ [] }
 
 abbrev pub cluster_with_row : ℕ → ℕ → ℕ → Config
-cluster_with_row a l r = record { acceptors = a; leaders = l; managers = r; tables = (row 0x6b 0x30 ∷ []) ∷ [] }
+cluster_with_row a l r = record { acceptors = a; leaders = l; managers = r; bundled = false; tables = (row 0x6b 0x30 ∷ []) ∷ [] }
+
+-- the same with bundles
+abbrev pub with_bundles : Config → Config
+with_bundles config = record config { bundled = true }
 
 -- an event that goes well
 abbrev pub well : Event → Occurrence
@@ -93,7 +98,8 @@ view rm tx = Ask (R rm) (Request.View tx)
 
 -- the calls of a transaction at two resource managers, up to its commit; and at one
 abbrev pub two_ended : List Event
-two_ended = call 0 x Start ∷ call 0 x (put 0x6b 0x31) ∷ call 0 x End ∷ call 1 y Start ∷ call 1 y (put 0x6d 0x32) ∷ call 1 y End ∷ commit 0 two ∷ []
+two_ended = call 0 x Start ∷ call 0 x (put 0x6b 0x31) ∷ call 0 x End ∷ call 1 y Start ∷ call 1 y (put 0x6d 0x32) ∷ call 1 y End
+    ∷ commit 0 two ∷ []
 
 abbrev pub one_ended : List Event
 one_ended = call 0 x Start ∷ call 0 x (put 0x6b 0x31) ∷ call 0 x End ∷ commit 0 one ∷ []

@@ -10,4 +10,8 @@ pub instance_eq-same : (tx : TxParts) (i : ℕ) → instance_eq tx i tx i ≡ tr
 instance_eq-same tx i = and_from (i == i) (tx_eq tx tx) (eq-eqb i i refl) (tx_self tx)
 
 pub instance_eq-is : (tx other : TxParts) (i j : ℕ) → instance_eq tx i other j ≡ true → (tx ≡ other) × (i ≡ j)
-instance_eq-is tx other i j e = ((tx_decides tx other).0 (second_so (i == j) (tx_eq tx other) e), eqb-true i j (first_so (i == j) (tx_eq tx other) e))
+instance_eq-is tx other i j e = (
+  (tx_decides tx other).0 (second_so (i == j) (tx_eq tx other) e),
+  eqb-true i j (first_so (i == j)
+      (tx_eq tx other) e),
+)

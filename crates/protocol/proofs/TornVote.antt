@@ -57,8 +57,10 @@ nothing_sent = refl
 pub votes_aborted : (next c (torn_at 23 ++ Deliver 1 ∷ Restart (R 0) ∷ []) (Deliver 1)).now ≡ changes 0 one views.Aborted
 votes_aborted = refl
 
-pub sends_aborted : (next c (torn_at 23 ++ Deliver 1 ∷ Restart (R 0) ∷ []) (Deliver 1)).sent ≡ sent_by (R 0) (A 0) (P2a one 0 0 votes.Aborted) ∷ []
+pub sends_aborted : (next c (torn_at 23 ++ Deliver 1 ∷ Restart (R 0) ∷ []) (Deliver 1)).sent
+    ≡ sent_by (R 0) (A 0) (P2a one 0 0 votes.Aborted) ∷ []
 sends_aborted = refl
 
-pub sends_again : (next c (torn_at 1000 ++ Deliver 1 ∷ Restart (R 0) ∷ []) (Deliver 1)).sent ≡ sent_by (R 0) (A 0) (P2a one 0 0 votes.Prepared) ∷ []
+pub sends_again : (next c (torn_at 1000 ++ Deliver 1 ∷ Restart (R 0) ∷ []) (Deliver 1)).sent
+    ≡ sent_by (R 0) (A 0) (P2a one 0 0 votes.Prepared) ∷ []
 sends_again = refl

@@ -139,7 +139,8 @@ acts_touched (t ∷ keys) key other act ascending =
     cond_both (bytes_eq t.key key) _ _ goal
     (λ same. subst
     (λ (k : List ℕ). cond (bytes_eq key other) (last_act t.act act) (act_on keys other)
-    ≡ cond (bytes_eq key other) (last_act (cond (bytes_eq k other) t.act (act_on keys other)) act) (cond (bytes_eq k other) t.act (act_on keys other)))
+    ≡ cond (bytes_eq key other) (last_act (cond (bytes_eq k other) t.act (act_on keys other)) act) (cond (bytes_eq k other) t.act
+    (act_on keys other)))
     (sym ((bytes_eq-Decides t.key key).0 same)) (in_its_place (bytes_eq key other) act t.act (act_on keys other)))
     (λ apart. cond_both (is_lt (slice_cmp nat_cmp key t.key)) _ _ goal
     (λ here. in_front (bytes_eq key other) act (act_on (t ∷ keys) other)

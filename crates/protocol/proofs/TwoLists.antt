@@ -13,7 +13,8 @@ c = cluster 1 1 2
 abbrev before : List Event
 before = call 0 x Start ∷ call 0 x End ∷ commit 0 one ∷ commit 0 two ∷ []
 
-pub both_asked : (next c (call 0 x Start ∷ call 0 x End ∷ commit 0 one ∷ []) (commit 0 two)).sent ≡ sent_by (L 0) (R 0) (Prepare two) ∷ sent_by (L 0) (R 1) (Prepare two) ∷ []
+pub both_asked : (next c (call 0 x Start ∷ call 0 x End ∷ commit 0 one ∷ []) (commit 0 two)).sent ≡ sent_by (L 0) (R 0) (Prepare two)
+    ∷ sent_by (L 0) (R 1) (Prepare two) ∷ []
 both_asked = refl
 
 pub first_binds : (next c before (Deliver 1)).now ≡ changes 0 one views.Prepared

@@ -12,7 +12,9 @@ pub use Rattle.xid.specs.declared.transaction.Vote.{Vote}
 pub use Rattle.wire.specs.Grammar.{spelling}
 pub use Rattle.wire.specs.Messages.{message_tx}
 pub use Rattle.wire.specs.declared.message.Kind.{Kind}
-pub use Rattle.wire.specs.declared.message.Kind.TheVariants.{Prepare, P1a, P1b, P2a, P2b, Commit, Abort, Ask}
+pub use Rattle.wire.specs.declared.items.InstanceReport.{InstanceReport}
+pub use Rattle.wire.specs.declared.items.InstanceAccept.{InstanceAccept}
+pub use Rattle.wire.specs.declared.message.Kind.TheVariants.{Prepare, P1a, P1b, P2a, P2b, Commit, Abort, Ask, B1a, B1b, B2b}
 pub use Rattle.wire.specs.Decoding.{spells_message}
 pub use Rattle.stable_record.specs.declared.fact.Act.{Act}
 pub use Rattle.stable_record.specs.declared.fact.Touched.{Touched}

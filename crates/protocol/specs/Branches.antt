@@ -1,10 +1,12 @@
 -- The table of client calls: which answer each gets, over any way to look at branches. The names of states are those of X/Open XA
 -- (C193), chapter "State Tables", and the codes those of its chapter "The xa.h Header"; which call is answered by which code in which
 -- state, and keys, holds and tables, are this project's own.
-use Rattle.std.specs.Prelude.{ℕ, Bool, true, false, ◌&&◌, ◌||◌, nat_lt, nat_le, if◌then◌else◌, List, [], ◌∷◌, length, Option, Some, None, is_none}
+use Rattle.std.specs.Prelude.{ℕ, Bool, true, false, ◌&&◌, ◌||◌, nat_lt, nat_le, if◌then◌else◌, List, [], ◌∷◌, length, Option, Some, None}
+use Rattle.std.specs.Prelude.{is_none}
 use Rattle.xid.specs.Limits.{most_key, most_value, most_touched}
 use Rattle.protocol.specs.Basics.{bytes_eq, XaCode, Refusal, Act}
-use Rattle.protocol.specs.Words.{BranchState, Action, Answer, Row, Start, End, EndFail, Rollback, Put, Del, Get, Code, Value, NoValue, Refused}
+use Rattle.protocol.specs.Words.{BranchState, Action, Answer, Row, Start, End, EndFail, Rollback, Put, Del, Get, Code, Value, NoValue}
+use Rattle.protocol.specs.Words.{Refused}
 
 -- a branch as it shows: its state, if it exists; which keys it has touched, and how many; and its last act on a key, which is to
 -- read it where it has written nothing there

@@ -1,7 +1,8 @@
 -- What the facts of a record say of acceptors' slots, leaders' ballots and resource managers' views (Gray and Lamport, "Consensus
 -- on Transaction Commit", ACM TODS 31(1), 2006, section 4). A list of facts has the oldest first, as they were stored.
 use Rattle.std.specs.Prelude.{ℕ, Bool, true, false, not, ◌&&◌, ◌||◌, ◌==◌, if◌then◌else◌, List, filter, filter_map, Option, Some, None}
-use Rattle.protocol.specs.Basics.{list_any, last_or, XidParts, xid_eq, tx_eq, TxParts, xid_at, Vote, Fact, Touched, fact_tx, Report, is_prepared, Slot}
+use Rattle.protocol.specs.Basics.{list_any, last_or, XidParts, xid_eq, tx_eq, TxParts, is_participant, xid_at, Vote, Fact, Touched, fact_tx}
+use Rattle.protocol.specs.Basics.{Report, is_prepared, Slot}
 use Rattle.ballot.specs.Greatest.{greatest}
 use Rattle.protocol.specs.Words.{View}
 
@@ -13,6 +14,7 @@ instance_eq tx i other j = (i == j) && tx_eq tx other
 abbrev pub ballot_joined : TxParts → ℕ → Fact → Option ℕ
 ballot_joined tx i (Fact.Promise other j b) = if instance_eq tx i other j then Some b else None
 ballot_joined tx i (Fact.Accept other j b v) = if instance_eq tx i other j then Some b else None
+ballot_joined tx i (Fact.PromiseAll other b) = if is_participant tx i && tx_eq tx other then Some b else None
 ballot_joined tx i fact = None
 
 -- what a fact has the acceptor accept of an instance

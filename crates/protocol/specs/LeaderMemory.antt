@@ -1,7 +1,9 @@
 -- What a leader has since its last restart, and what follows from it.
 -- Gray and Lamport, "Consensus on Transaction Commit", ACM TODS 31(1), 2006, section 4.
-use Rattle.std.specs.Prelude.{ℕ, Bool, true, false, not, ◌&&◌, ◌||◌, ◌==◌, if◌then◌else◌, List, [], ◌∷◌, filter, filter_map, find, Option, Some, None}
-use Rattle.protocol.specs.Basics.{list_any, list_all, option_map, tx_eq, TxParts, participants, Vote, message_tx, Kind, P1b, P2a, P2b, Fact, fact_tx, Report, pick, is_majority}
+use Rattle.std.specs.Prelude.{ℕ, Bool, true, false, not, ◌&&◌, ◌||◌, ◌==◌, nat_lt, if◌then◌else◌, List, [], ◌∷◌, ◌++◌, filter, filter_map}
+use Rattle.std.specs.Prelude.{find, Option, Some, None}
+use Rattle.protocol.specs.Basics.{list_any, list_all, option_map, tx_eq, TxParts, participants, Vote, message_tx, Kind, P1b, P2a, P2b}
+use Rattle.protocol.specs.Basics.{Report, pick, is_majority}
 use Rattle.protocol.specs.Words.{Status}
 use Rattle.protocol.specs.Facts.{instance_eq, vote_eq}
 
@@ -71,17 +73,21 @@ abbrev pub is_decided : ℕ → List Kind → TxParts → ℕ → Vote → Bool
 is_decided n heard tx i v =
     list_any (λ b. is_majority n (λ a. list_any (is_accept_of tx i b v a) heard)) (filter_map (ballot_told tx i v) heard)
 
+-- a leader's greatest stored ballot of each transaction, 0 where there is none
+abbrev pub StoredBallots : Type 0
+StoredBallots = TxParts → ℕ
+
 -- a leader knows the transactions that it met, and those of its stored ballots
-abbrev pub is_known : List Fact → LeaderMemory → TxParts → Bool
-is_known facts memory tx = list_any (tx_eq tx) memory.met || list_any (λ fact. tx_eq tx (fact_tx fact)) facts
+abbrev pub is_known : StoredBallots → LeaderMemory → TxParts → Bool
+is_known stored memory tx = list_any (tx_eq tx) memory.met || nat_lt 0 (stored tx)
 
 -- aborted where some instance has decided aborted, committed where every instance has decided prepared; else undecided where the
 -- leader knows the transaction, and unknown where it doesn't
-abbrev pub status_of : ℕ → List Fact → LeaderMemory → TxParts → Status
-status_of n facts memory tx =
+abbrev pub status_of : ℕ → StoredBallots → LeaderMemory → TxParts → Status
+status_of n stored memory tx =
     if list_any (λ i. is_decided n memory.heard tx i Vote.Aborted) (participants tx) then Status.Aborted
     else if list_all (λ i. is_decided n memory.heard tx i Vote.Prepared) (participants tx) then Status.Committed
-    else if is_known facts memory tx then Status.Undecided
+    else if is_known stored memory tx then Status.Undecided
     else Status.Unknown
 
 -- a transaction met
@@ -91,6 +97,18 @@ with_met tx memory = if list_any (tx_eq tx) memory.met then memory else record m
 -- a message heard
 abbrev pub with_heard : Kind → LeaderMemory → LeaderMemory
 with_heard message memory = record memory { heard = message ∷ memory.heard }
+
+-- whether a message counts already: phase 1b once for an acceptor, instance and ballot, phase 2b once for these and the value
+abbrev pub is_counted : List Kind → Kind → Bool
+is_counted heard (P1b tx i b report a) = has_reported heard tx i b a
+is_counted heard (P2b tx i b v a) = list_any (is_accept_of tx i b v a) heard
+is_counted heard message = true
+
+-- messages heard, each that doesn't count already
+abbrev pub with_all_heard : List Kind → LeaderMemory → LeaderMemory
+with_all_heard [] memory = memory
+with_all_heard (message ∷ rest) memory =
+    with_all_heard rest (if is_counted memory.heard message then memory else with_heard message memory)
 
 -- whether a message is of phase 1b
 abbrev pub is_phase_1b : Kind → Bool
@@ -105,6 +123,6 @@ with_begun tx b memory = record memory {
   proposed = filter (λ message. not (tx_eq tx (message_tx message))) memory.proposed;
 }
 
--- a value proposed
-abbrev pub with_proposed : Kind → LeaderMemory → LeaderMemory
-with_proposed message memory = record memory { proposed = message ∷ memory.proposed }
+-- values proposed
+abbrev pub with_proposed : List Kind → LeaderMemory → LeaderMemory
+with_proposed proposals memory = record memory { proposed = proposals ++ memory.proposed }

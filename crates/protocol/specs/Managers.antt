@@ -1,12 +1,36 @@
 -- The rules of a resource manager: client calls by the table of `Branches`, and messages after Gray and Lamport, "Consensus on
 -- Transaction Commit", ACM TODS 31(1), 2006, section 4.2.
-use Rattle.std.specs.Prelude.{ℕ, Bool, true, false, not, ◌&&◌, if◌then◌else◌, List, [], ◌∷◌, ◌++◌, length, map, filter, filter_map, find, fold, Option, Some, None, is_some, is_none}
-use Rattle.protocol.specs.Basics.{slice_cmp, list_any, option_map, option_map_or, nat_cmp, is_lt, bytes_eq, XidParts, xid_eq, xid_cmp, TxParts, is_participant, xid_at, XaCode, Refusal, Vote, Kind, Prepare, P2a, Commit, Abort, Fact, Act, Touched}
-use Rattle.protocol.specs.Words.{BranchState, Action, Answer, Row, Start, End, EndFail, Rollback, Put, Del, Get, Code, Xids, Stands, Refused, Outgoing, Acceptors, Leaders}
+use Rattle.std.specs.Prelude.{ℕ, Bool, true, false, not, ◌&&◌, if◌then◌else◌, List, [], ◌∷◌, ◌++◌, length, map, filter, filter_map, find}
+use Rattle.std.specs.Prelude.{fold, Option, Some, None, is_some, is_none}
+use Rattle.protocol.specs.Basics.{slice_cmp, list_any, option_map, option_map_or, nat_cmp, is_lt, bytes_eq, XidParts, xid_eq, xid_cmp}
+use Rattle.protocol.specs.Basics.{TxParts, is_participant, xid_at, XaCode, Refusal, Vote, Kind, Prepare, P2a, Commit, Abort, Fact, Act}
+use Rattle.protocol.specs.Basics.{Touched}
+use Rattle.protocol.specs.Words.{BranchState, View, Action, Answer, Row, Start, End, EndFail, Rollback, Put, Del, Get, Code, Xids, Stands}
+use Rattle.protocol.specs.Words.{Refused, Outgoing, Acceptors, Leaders}
 use Rattle.protocol.specs.Branches.{BranchView, no_branch, is_write, hinders_use, hinders, call_answer, is_done}
-use Rattle.protocol.specs.Facts.{vote_in, is_ended, view, is_prepared_view, is_open_view, is_spent, bound_branches}
-use Rattle.protocol.specs.Tables.{table}
+use Rattle.protocol.specs.Facts.{Bound, vote_in, is_ended, view, is_prepared_view, is_open_view, is_spent, bound_branches}
 use Rattle.protocol.specs.Effects.{Config, Effect, answer_only, no_effect, sends_only, stores, to, is_inside, view_standing}
+
+-- ---- what is stored
+
+-- what the rules ask of what a resource manager has stored: its vote on a transaction, whether an outcome is stored, where it stands,
+-- whether a name is spent, and the prepared branches
+pub record StoredVotes : Type 0 where
+  pub vote : TxParts → Option Vote
+  pub is_ended : TxParts → Bool
+  pub view : TxParts → View
+  pub is_spent : XidParts → Bool
+  pub bound : List Bound
+
+-- as the facts say
+abbrev pub stored_votes : ℕ → List Fact → StoredVotes
+stored_votes rm facts = record {
+  vote = vote_in facts;
+  is_ended = is_ended facts;
+  view = view facts;
+  is_spent = is_spent rm facts;
+  bound = bound_branches facts;
+}
 
 -- ---- branches as they stand
 
@@ -38,10 +62,10 @@ abbrev pub act_on : List Touched → List ℕ → Act
 act_on [] key = Act.Read
 act_on (first ∷ keys) key = if bytes_eq first.key key then first.act else act_on keys key
 
--- the branches: those that the facts hold as prepared, then the others
-abbrev pub all_branches : ℕ → List Fact → List Branch → List Branch
-all_branches rm facts branches =
-    filter_map (λ bound. option_map (λ x. record { xid = x; state = BranchState.Prepared; keys = bound.keys }) (xid_at bound.tx rm)) (bound_branches facts)
+-- the branches: the prepared ones, then the others
+abbrev pub all_branches : ℕ → List Bound → List Branch → List Branch
+all_branches rm bound branches =
+    filter_map (λ one. option_map (λ x. record { xid = x; state = BranchState.Prepared; keys = one.keys }) (xid_at one.tx rm)) bound
     ++ branches
 
 -- how a branch shows that is in a state and has touched keys
@@ -49,9 +73,9 @@ abbrev pub view_by : BranchState → List Touched → BranchView
 view_by state keys = record { state = Some state; touched = λ key. has_key key keys; count = length keys; act = act_on keys }
 
 -- how the branch of a name shows
-abbrev pub branch_at : List Branch → XidParts → BranchView
-branch_at [] x = no_branch
-branch_at (branch ∷ branches) x = if xid_eq branch.xid x then view_by branch.state branch.keys else branch_at branches x
+abbrev pub view_named : List Branch → XidParts → BranchView
+view_named [] x = no_branch
+view_named (branch ∷ branches) x = if xid_eq branch.xid x then view_by branch.state branch.keys else view_named branches x
 
 -- whether some branch of another name hinders, which is tested of what shows of it
 abbrev pub is_hindered : (test : BranchView → Bool) → List Branch → XidParts → Bool
@@ -84,10 +108,10 @@ named_answer true rows branch busy Start = Code XaCode.DupId
 named_answer spent rows branch busy action = call_answer rows branch busy action
 
 -- a client call
-abbrev pub on_call : ℕ → (first : List Row) → List Fact → List Branch → XidParts → Action → Effect (List Branch)
-on_call rm first facts branches x action =
-    let all = all_branches rm facts branches in
-    let answer = named_answer (is_spent rm facts x) (table first facts) (branch_at all x) (is_hindered (hinders action) all x) action in
+abbrev pub on_call : ℕ → StoredVotes → List Row → List Branch → XidParts → Action → Effect (List Branch)
+on_call rm stored rows branches x action =
+    let all = all_branches rm stored.bound branches in
+    let answer = named_answer (stored.is_spent x) rows (view_named all x) (is_hindered (hinders action) all x) action in
     answer_only (if is_done action answer then after_call branches x action else branches) answer
 
 -- a name among names in ascending order
@@ -96,14 +120,15 @@ insert_xid x [] = x ∷ []
 insert_xid x (y ∷ xs) = if is_lt (xid_cmp x y) then x ∷ y ∷ xs else y ∷ insert_xid x xs
 
 -- the names of the prepared branches, ascending
-abbrev pub on_recover : ℕ → List Fact → List Branch → Effect (List Branch)
-on_recover rm facts branches =
-    answer_only branches (Xids (fold (λ xs x. insert_xid x xs) [] (filter_map (λ bound. xid_at bound.tx rm) (bound_branches facts))))
+abbrev pub on_recover : ℕ → StoredVotes → List Branch → Effect (List Branch)
+on_recover rm stored branches =
+    answer_only branches (Xids (fold (λ xs x. insert_xid x xs) [] (filter_map (λ bound. xid_at bound.tx rm) stored.bound)))
 
 -- where this resource manager stands in a transaction that names it
-abbrev pub on_view_call : Config → ℕ → List Fact → List Branch → TxParts → Effect (List Branch)
-on_view_call config rm facts branches tx =
-    answer_only branches (if is_inside config tx && is_participant tx rm then Stands (view_standing (view facts tx)) else Refused Refusal.BadTx)
+abbrev pub on_view_call : Config → ℕ → StoredVotes → List Branch → TxParts → Effect (List Branch)
+on_view_call config rm stored branches tx =
+    let known = is_inside config tx && is_participant tx rm in
+    answer_only branches (if known then Stands (view_standing (stored.view tx)) else Refused Refusal.BadTx)
 
 -- ---- messages
 
@@ -129,54 +154,58 @@ first_vote rm branches tx x spent idle =
     stores (branches_without branches x) (Fact.VoteAborted tx) (vote_sent rm tx (Some Vote.Aborted))
 
 -- Prepare: a vote that is stored is sent again; where an outcome is stored, nothing; else the first vote
-abbrev pub on_prepare : ℕ → List Fact → List Branch → TxParts → XidParts → Effect (List Branch)
-on_prepare rm facts branches tx x =
-    if is_some (vote_in facts tx) then sends_only branches (vote_sent rm tx (vote_in facts tx))
-    else if is_ended facts tx then no_effect branches
-    else first_vote rm branches tx x (is_spent rm facts x) (idle_keys branches x)
+abbrev pub on_prepare : ℕ → StoredVotes → List Branch → TxParts → XidParts → Effect (List Branch)
+on_prepare rm stored branches tx x =
+    if is_some (stored.vote tx) then sends_only branches (vote_sent rm tx (stored.vote tx))
+    else if stored.is_ended tx then no_effect branches
+    else first_vote rm branches tx x (stored.is_spent x) (idle_keys branches x)
 
 -- Commit, where this resource manager is prepared: it is stored, and the branch ends with its writes in the table
-abbrev pub on_commit : List Fact → List Branch → TxParts → Effect (List Branch)
-on_commit facts branches tx = if is_prepared_view (view facts tx) then stores branches (Fact.Committed tx) [] else no_effect branches
+abbrev pub on_commit : StoredVotes → List Branch → TxParts → Effect (List Branch)
+on_commit stored branches tx = if is_prepared_view (stored.view tx) then stores branches (Fact.Committed tx) [] else no_effect branches
 
 -- Abort, where it is working or prepared: it is stored, and the branch ends without effect, unless it is bound to another
 -- transaction
-abbrev pub on_abort : List Fact → List Branch → TxParts → XidParts → Effect (List Branch)
-on_abort facts branches tx x = if is_open_view (view facts tx) then stores (branches_without branches x) (Fact.Aborted tx) [] else no_effect branches
+abbrev pub on_abort : StoredVotes → List Branch → TxParts → XidParts → Effect (List Branch)
+on_abort stored branches tx x =
+    if is_open_view (stored.view tx) then stores (branches_without branches x) (Fact.Aborted tx) [] else no_effect branches
 
 -- what a resource manager does on a message, by the name x that its transaction has here, if it has one
-abbrev pub on_manager_message : ℕ → List Fact → List Branch → Option XidParts → Kind → Effect (List Branch)
-on_manager_message rm facts branches (Some x) (Prepare tx) = on_prepare rm facts branches tx x
-on_manager_message rm facts branches (Some x) (Commit tx) = on_commit facts branches tx
-on_manager_message rm facts branches (Some x) (Abort tx) = on_abort facts branches tx x
-on_manager_message rm facts branches name message = no_effect branches
+abbrev pub on_manager_message : ℕ → StoredVotes → List Branch → Option XidParts → Kind → Effect (List Branch)
+on_manager_message rm stored branches (Some x) (Prepare tx) = on_prepare rm stored branches tx x
+on_manager_message rm stored branches (Some x) (Commit tx) = on_commit stored branches tx
+on_manager_message rm stored branches (Some x) (Abort tx) = on_abort stored branches tx x
+on_manager_message rm stored branches name message = no_effect branches
 
 -- a timeout: a stored vote is sent again, and where this resource manager is prepared all leaders are asked
-abbrev pub on_manager_timeout : Config → ℕ → List Fact → List Branch → TxParts → Effect (List Branch)
-on_manager_timeout config rm facts branches tx =
-    let asked = if is_prepared_view (view facts tx) then to Leaders (Kind.Ask tx rm) ∷ [] else [] in
-    if is_inside config tx then sends_only branches (vote_sent rm tx (vote_in facts tx) ++ asked) else answer_only branches (Refused Refusal.BadTx)
+abbrev pub on_manager_timeout : Config → ℕ → StoredVotes → List Branch → TxParts → Effect (List Branch)
+on_manager_timeout config rm stored branches tx =
+    let asked = if is_prepared_view (stored.view tx) then to Leaders (Kind.Ask tx rm) ∷ [] else [] in
+    if is_inside config tx
+    then sends_only branches (vote_sent rm tx (stored.vote tx) ++ asked)
+    else answer_only branches (Refused Refusal.BadTx)
 
 -- neither a vote nor an outcome of the transaction is stored
-abbrev pub is_new : List Fact → TxParts → Bool
-is_new facts tx = is_none (vote_in facts tx) && not (is_ended facts tx)
+abbrev pub is_new : StoredVotes → TxParts → Bool
+is_new stored tx = is_none (stored.vote tx) && not (stored.is_ended tx)
 
 -- whether the name that a transaction has here is spent
-abbrev pub is_name_spent : ℕ → List Fact → TxParts → Bool
-is_name_spent rm facts tx = option_map_or (is_spent rm facts) (xid_at tx rm) false
+abbrev pub is_name_spent : ℕ → StoredVotes → TxParts → Bool
+is_name_spent rm stored tx = option_map_or stored.is_spent (xid_at tx rm) false
 
 -- whether a prepared branch hinders a use of these keys: it has touched one of them too, and not both have only read it
-abbrev pub is_some_held : List Fact → List Touched → Bool
-is_some_held facts keys =
-    list_any (λ bound. list_any (λ touched. hinders_use (is_write touched.act) touched.key (view_by BranchState.Prepared bound.keys)) keys)
-    (bound_branches facts)
+abbrev pub is_some_held : List Bound → List Touched → Bool
+is_some_held bound keys =
+    list_any (λ one. list_any (λ touched. hinders_use (is_write touched.act) touched.key (view_by BranchState.Prepared one.keys)) keys)
+    bound
 
--- what the record of resource manager rm may hold after some facts: a vote on a transaction that names it, of which neither a vote nor
--- an outcome is stored, prepared where name and keys are free; an outcome where it is still open, committed where it is prepared
-abbrev pub plays_at_manager : (rm : ℕ) → List Fact → Fact → Bool
-plays_at_manager rm facts (Fact.VotePrepared tx keys) =
-    is_participant tx rm && is_new facts tx && not (is_name_spent rm facts tx) && not (is_some_held facts keys)
-plays_at_manager rm facts (Fact.VoteAborted tx) = is_participant tx rm && is_new facts tx
-plays_at_manager rm facts (Fact.Committed tx) = is_prepared_view (view facts tx)
-plays_at_manager rm facts (Fact.Aborted tx) = is_participant tx rm && is_open_view (view facts tx)
-plays_at_manager rm facts fact = false
+-- what the record of resource manager rm may hold, by what is stored before: a vote on a transaction that names it, of which neither a
+-- vote nor an outcome is stored, prepared where name and keys are free; an outcome where it is still open, committed where it is
+-- prepared
+abbrev pub plays_at_manager : (rm : ℕ) → StoredVotes → Fact → Bool
+plays_at_manager rm stored (Fact.VotePrepared tx keys) =
+    is_participant tx rm && is_new stored tx && not (is_name_spent rm stored tx) && not (is_some_held stored.bound keys)
+plays_at_manager rm stored (Fact.VoteAborted tx) = is_participant tx rm && is_new stored tx
+plays_at_manager rm stored (Fact.Committed tx) = is_prepared_view (stored.view tx)
+plays_at_manager rm stored (Fact.Aborted tx) = is_participant tx rm && is_open_view (stored.view tx)
+plays_at_manager rm stored fact = false

@@ -1,12 +1,16 @@
 -- One node: its facts, whether it is up, an armed tear of its record, and its memory; and one input with its fate.
-use Rattle.std.specs.Prelude.{ℕ, Bool, true, false, not, ◌&&◌, nat_lt, nat_le, if◌then◌else◌, List, [], ◌∷◌, ◌++◌, slice_get, Option, Some, None, unwrap_or}
-use Rattle.protocol.specs.Basics.{xid_at, XaCode, Refusal, message_tx, Kind, P1b, P2b, Fact, frame_length}
+use Rattle.std.specs.Prelude.{ℕ, Bool, true, false, not, ◌&&◌, nat_lt, nat_le, if◌then◌else◌, List, [], ◌∷◌, ◌++◌, slice_get, Option, Some}
+use Rattle.std.specs.Prelude.{None, unwrap_or}
+use Rattle.protocol.specs.Basics.{xid_at, XaCode, Refusal, message_tx, Kind, P1a, P1b, P2b, B1a, B1b, B2b, Fact, frame_length}
 use Rattle.protocol.specs.Words.{NodeId, A, L, R, Request, Call, Recover, Timeout, Answer, Done, Code, Refused, Outgoing, Row}
+use Rattle.protocol.specs.Facts.{slot, last_ballot}
 use Rattle.protocol.specs.LeaderMemory.{LeaderMemory, nothing_heard}
+use Rattle.protocol.specs.Tables.{table}
 use Rattle.protocol.specs.Effects.{Config, Effect, answer_only, no_effect, is_inside}
 use Rattle.protocol.specs.Acceptors.{on_acceptor_message, plays_at_acceptor}
 use Rattle.protocol.specs.Leaders.{on_commit_call, on_leader_timeout, on_status_call, on_leader_message, plays_at_leader}
-use Rattle.protocol.specs.Managers.{Branch, on_call, on_recover, on_view_call, on_manager_message, on_manager_timeout, plays_at_manager}
+use Rattle.protocol.specs.Managers.{Branch, stored_votes, on_call, on_recover, on_view_call, on_manager_message, on_manager_timeout}
+use Rattle.protocol.specs.Managers.{plays_at_manager}
 
 -- what is lost with a restart: what a leader has, and the branches of a resource manager that aren't prepared
 pub record Memory : Type 0 where
@@ -60,11 +64,24 @@ accepts_input who input = true
 abbrev pub is_acceptor_inside : Config → Kind → Bool
 is_acceptor_inside config (P1b tx i b report a) = nat_lt a config.acceptors
 is_acceptor_inside config (P2b tx i b v a) = nat_lt a config.acceptors
+is_acceptor_inside config (B1b tx b a reports) = nat_lt a config.acceptors
+is_acceptor_inside config (B2b tx a accepts) = nat_lt a config.acceptors
 is_acceptor_inside config message = true
 
--- a message that names none but nodes of the cluster
+-- phases 1a, 1b and 2b go in bundles in a bundled cluster, and for each instance alone in every other
+abbrev pub is_form_of : (bundled : Bool) → Kind → Bool
+is_form_of bundled (P1a tx i b) = not bundled
+is_form_of bundled (P1b tx i b report a) = not bundled
+is_form_of bundled (P2b tx i b v a) = not bundled
+is_form_of bundled (B1a tx b) = bundled
+is_form_of bundled (B1b tx b a reports) = bundled
+is_form_of bundled (B2b tx a accepts) = bundled
+is_form_of bundled message = true
+
+-- a message of the cluster: it names none but nodes of the cluster, and has a form that goes there. Rules take no other
 abbrev pub is_message_inside : Config → Kind → Bool
-is_message_inside config message = is_inside config (message_tx message) && is_acceptor_inside config message
+is_message_inside config message =
+    is_inside config (message_tx message) && is_acceptor_inside config message && is_form_of config.bundled message
 
 -- the effect on a node of what its role makes of it
 abbrev pub in_memory : {M : Type 0} → (M → Memory) → Effect M → Effect Memory
@@ -78,11 +95,13 @@ of_leader memory = in_memory (λ leader. record memory { leader = leader })
 abbrev pub of_manager : Memory → Effect (List Branch) → Effect Memory
 of_manager memory = in_memory (λ branches. record memory { branches = branches })
 
--- what a node does on a message that names none but nodes of the cluster; an acceptor keeps nothing in memory
+-- what a node does on a message of the cluster: an acceptor by its slots, a leader by its stored ballots, a resource manager by what
+-- its facts say. An acceptor keeps nothing in memory
 abbrev pub on_message : Config → NodeId → List Fact → Memory → Kind → Effect Memory
-on_message config (A a) facts memory message = in_memory (λ none. memory) (on_acceptor_message config a facts message)
-on_message config (L l) facts memory message = of_leader memory (on_leader_message config facts memory.leader message)
-on_message config (R rm) facts memory message = of_manager memory (on_manager_message rm facts memory.branches (xid_at (message_tx message) rm) message)
+on_message config (A a) facts memory message = in_memory (λ none. memory) (on_acceptor_message config a (slot facts) message)
+on_message config (L l) facts memory message = of_leader memory (on_leader_message config (last_ballot facts) memory.leader message)
+on_message config (R rm) facts memory message =
+    of_manager memory (on_manager_message rm (stored_votes rm facts) memory.branches (xid_at (message_tx message) rm) message)
 
 -- the first contents of a resource manager's table
 abbrev pub first_rows : Config → ℕ → List Row
@@ -90,14 +109,16 @@ first_rows config rm = unwrap_or (slice_get config.tables rm) []
 
 -- what a node that is up does on a request
 abbrev pub on_request : Config → NodeId → List Fact → Memory → Request → Effect Memory
-on_request config (L l) facts memory (Request.Commit tx) = of_leader memory (on_commit_call config facts memory.leader tx)
-on_request config (L l) facts memory (Request.Status tx) = of_leader memory (on_status_call config facts memory.leader tx)
-on_request config (L l) facts memory (Timeout tx) = of_leader memory (on_leader_timeout config l facts memory.leader tx)
+on_request config (L l) facts memory (Request.Commit tx) = of_leader memory (on_commit_call config (last_ballot facts) memory.leader tx)
+on_request config (L l) facts memory (Request.Status tx) = of_leader memory (on_status_call config (last_ballot facts) memory.leader tx)
+on_request config (L l) facts memory (Timeout tx) = of_leader memory (on_leader_timeout config l (last_ballot facts) memory.leader tx)
 on_request config (R rm) facts memory (Call x action) =
-    of_manager memory (on_call rm (first_rows config rm) facts memory.branches x action)
-on_request config (R rm) facts memory Recover = of_manager memory (on_recover rm facts memory.branches)
-on_request config (R rm) facts memory (Request.View tx) = of_manager memory (on_view_call config rm facts memory.branches tx)
-on_request config (R rm) facts memory (Timeout tx) = of_manager memory (on_manager_timeout config rm facts memory.branches tx)
+    of_manager memory (on_call rm (stored_votes rm facts) (table (first_rows config rm) facts) memory.branches x action)
+on_request config (R rm) facts memory Recover = of_manager memory (on_recover rm (stored_votes rm facts) memory.branches)
+on_request config (R rm) facts memory (Request.View tx) =
+    of_manager memory (on_view_call config rm (stored_votes rm facts) memory.branches tx)
+on_request config (R rm) facts memory (Timeout tx) =
+    of_manager memory (on_manager_timeout config rm (stored_votes rm facts) memory.branches tx)
 on_request config who facts memory request = answer_only memory (Refused Refusal.NoSuch)
 
 -- what a node that is up does on an input
@@ -160,9 +181,9 @@ node_step config who node input fault =
 
 -- whether a fact plays at a node, after the facts
 abbrev pub plays : Config → NodeId → List Fact → Fact → Bool
-plays config (A a) facts fact = plays_at_acceptor facts fact
-plays config (L l) facts fact = plays_at_leader config.leaders l facts fact
-plays config (R rm) facts fact = plays_at_manager rm facts fact
+plays config (A a) facts fact = plays_at_acceptor (slot facts) fact
+plays config (L l) facts fact = plays_at_leader config.leaders l (last_ballot facts) fact
+plays config (R rm) facts fact = plays_at_manager rm (stored_votes rm facts) fact
 
 -- whether facts play, one after the other, after those before
 abbrev pub all_play : Config → NodeId → (before facts : List Fact) → Bool

@@ -1,11 +1,15 @@
 -- All nodes, and every datagram that was ever sent; and one event.
-use Rattle.std.specs.Prelude.{ℕ, zero, suc, ◌+◌, Bool, true, false, ◌==◌, nat_lt, if◌then◌else◌, List, [], ◌∷◌, ◌++◌, length, map, replicate, slice_get, Option, Some, None}
-use Rattle.protocol.specs.Basics.{flat_map, slice_set, option_map_or, option_and_then, Refusal, spelling, message_tx, spells_message, Kind, Fact, fact_tx}
-use Rattle.protocol.specs.Words.{NodeId, A, L, R, View, Row, Outgoing, Answer, Done, Refused, Event, Ask, Deliver, Lose, Cut, Noise, Tear, Restart, Compact, Change, Sent, Step}
+use Rattle.std.specs.Prelude.{ℕ, zero, suc, ◌+◌, Bool, true, false, ◌==◌, nat_lt, if◌then◌else◌, List, [], ◌∷◌, ◌++◌, length, map}
+use Rattle.std.specs.Prelude.{replicate, slice_get, Option, Some, None}
+use Rattle.protocol.specs.Basics.{flat_map, slice_set, option_map_or, option_and_then, Refusal, spelling, message_tx, spells_message, Kind}
+use Rattle.protocol.specs.Basics.{Fact, fact_tx}
+use Rattle.protocol.specs.Words.{NodeId, A, L, R, View, Row, Outgoing, Answer, Done, Refused, Event, Ask, Deliver, Lose, Cut, Noise, Tear}
+use Rattle.protocol.specs.Words.{Restart, Compact, Change, Sent, Step}
 use Rattle.protocol.specs.Facts.{view}
 use Rattle.protocol.specs.Tables.{table}
 use Rattle.protocol.specs.Effects.{Config, receivers}
-use Rattle.protocol.specs.Nodes.{NodeState, new_node, Input, Asked, Received, ReceivedNoise, Fault, first_rows, Outcome, node_step, restart_outcome, compact_outcome, NoMemoryBefore}
+use Rattle.protocol.specs.Nodes.{NodeState, new_node, Input, Asked, Received, ReceivedNoise, Fault, first_rows, Outcome, node_step}
+use Rattle.protocol.specs.Nodes.{restart_outcome, compact_outcome, NoMemoryBefore}
 
 -- a datagram that was sent; one that was handed over or lost is marked
 pub record Datagram : Type 0 where
@@ -100,19 +104,25 @@ mark_at (d ∷ net) zero = d ∷ net
 mark_at (d ∷ net) (suc zero) = record d { marked = true } ∷ net
 mark_at (d ∷ net) (suc (suc n)) = d ∷ mark_at net (suc n)
 
+-- a world with a datagram marked
+abbrev pub with_mark : World → ℕ → World
+with_mark world n = record world { net = mark_at world.net n }
+
 -- the first k bytes handed over: they are fewer than all, and spell no message
 abbrev pub cut_result : Config → World → ℕ → ℕ → Fault → StepResult
 cut_result config world n k fault =
     if_found world (λ d.
-    if nat_lt k (length (spelling d.message)) then at_node config world d.receiver ReceivedNoise fault else answer_result world (Refused Refusal.NoSuch))
+    if nat_lt k (length (spelling d.message))
+    then at_node config world d.receiver ReceivedNoise fault
+    else answer_result world (Refused Refusal.NoSuch))
     (datagram_at world.net n)
 
 -- what comes of an event that reaches its node, if it has one
 abbrev pub dispatch : Config → World → Event → Fault → StepResult
 dispatch config world (Ask who request) fault = at_node config world who (Asked request) fault
 dispatch config world (Deliver n) fault =
-    if_found world (λ d. at_node config (record world { net = mark_at world.net n }) d.receiver (Received d.message) fault) (datagram_at world.net n)
-dispatch config world (Lose n) fault = if_found world (λ d. answer_result (record world { net = mark_at world.net n }) Done) (datagram_at world.net n)
+    if_found world (λ d. at_node config (with_mark world n) d.receiver (Received d.message) fault) (datagram_at world.net n)
+dispatch config world (Lose n) fault = if_found world (λ d. answer_result (with_mark world n) Done) (datagram_at world.net n)
 dispatch config world (Cut n k) fault = cut_result config world n k fault
 dispatch config world (Noise who bytes) fault =
     if spells_message bytes

@@ -6,52 +6,64 @@ use wire::Message;
 use xid::{Bytes, Sequence, Tx};
 
 /// What can happen in a cluster. Datagrams are numbered from 1 as they are sent, and are kept.
+///
+/// A refused event changes nothing, but where a line below says otherwise. Any event may be refused for want of memory (`NoMemory`):
+/// before its node is reached nothing changes; at the node, the node is down from then on, without its memory, and nothing was stored
+/// or sent (a datagram that was handed over is marked). A node that is down stays so until it is restarted.
 #[derive(Debug, Drop)]
 pub enum Event {
-    /// A node is asked something.
+    /// A node is asked something. Refused: no such node, or a kind of node that doesn't take the request (`NoSuch`); it is down (`Down`,
+    /// or the code `RmFail`); and what the request says.
     Ask {
         /// The node.
         node: NodeId,
         /// What it is asked.
         request: Request,
     },
-    /// A datagram is handed to its receiver, and marked.
+    /// A datagram is handed to its receiver, and marked. Refused: no such datagram (`NoSuch`); the receiver is down (`Down`), and the
+    /// datagram is marked all the same; an append fails (`RecordFault`): marked, nothing is sent, and the receiver is down, its fact
+    /// stored where the whole frame was kept.
     Deliver {
         /// The datagram's number.
         number: u32,
     },
-    /// A datagram is marked without that; it may still be delivered later.
+    /// A datagram is marked without that; it may still be delivered later. Refused: no such datagram (`NoSuch`).
     Lose {
         /// The datagram's number.
         number: u32,
     },
-    /// The first bytes of a datagram are handed to its receiver, fewer than all.
+    /// The first bytes of a datagram are handed to its receiver, fewer than all. It is always refused, and the datagram isn't marked: no
+    /// such datagram, or one of no more bytes (`NoSuch`); the receiver is down (`Down`); else the bytes spell no message (`BadMessage`).
     Cut {
         /// The datagram's number.
         number: u32,
         /// How many bytes.
         bytes: u32,
     },
-    /// Bytes come to a node that nobody sent. Where they spell a message they are refused.
+    /// Bytes come to a node that nobody sent. They are always refused: no such node (`NoSuch`); they spell a message (`Forged`); the node
+    /// is down (`Down`); else they spell no message (`BadMessage`).
     Noise {
         /// The node.
         node: NodeId,
         /// The bytes.
         bytes: Bytes,
     },
-    /// The node's next append stops after some bytes of its frame. A second tear replaces the first.
+    /// The node's next append stops after some bytes of its frame. A second tear replaces the first; a restart leaves it armed. Refused:
+    /// no such node (`NoSuch`).
     Tear {
         /// The node.
         node: NodeId,
         /// How many bytes of the frame are kept.
         bytes: u32,
     },
-    /// A node reads its record and goes on from there.
+    /// A node, up or down, reads its record and goes on from there, with nothing in memory. Refused: no such node (`NoSuch`); its record
+    /// fails (`RecordFault`), or holds facts that don't play (`Damaged`): the node is down, and its record as it was.
     Restart {
         /// The node.
         node: NodeId,
     },
-    /// A node replaces its record by a shorter one that says the same of it.
+    /// A node replaces its record by a shorter one that says the same of it. Refused: no such node (`NoSuch`); it is down (`Down`); its
+    /// record fails (`RecordFault`): the node is down, and its record says what it said.
     Compact {
         /// The node.
         node: NodeId,

@@ -7,3 +7,4 @@ pub mod Acceptor
 pub mod Leader
 pub mod Manager
 pub mod World
+pub mod WellFormed

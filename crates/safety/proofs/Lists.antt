@@ -2,7 +2,7 @@
 use Rattle.std.proofs.Common.{◌≡◌, ◌⊎◌, inl, inr, ◌∙◌, Bool, true, false, List, [], ◌∷◌, ◌++◌, Option, Some, None, unwrap_or}
 use Rattle.std.proofs.Common.{refl, sym, ap, subst, arith}
 use Rattle.std.specs.Prelude.{map, filter, filter_map, find, Contains}
-use Rattle.std.specs.List.{list_any, list_all, flat_map, cons_option}
+use Rattle.std.specs.List.{AllByRecursion, list_any, list_all, flat_map, cons_option}
 use Rattle.std.proofs.lemmas.Bool.{cond_both, or_cases, or_left, or_right, both_ways, and_parts}
 use Rattle.ballot.specs.Greatest.{IsIn}
 use Rattle.safety.proofs.Argument.Additions.{Contains-head, Contains-tail, Contains-cases}
@@ -177,3 +177,24 @@ module _ {X : Type 0} (p : X → Bool) where
 
   pub find_any : (y : X) (xs : List X) → find p xs ≡ Some y → list_any p xs ≡ true
   find_any y xs e = let found = found_among xs y e in found_any p xs y found.0 found.1
+
+-- ---- what holds of each
+
+pub all_in : {X : Type 0} (P : X → Type 0) (xs : List X) → AllByRecursion P xs → (x : X) → IsIn xs x → P x
+all_in P [] all x h = absurd h
+all_in P (y ∷ ys) all x (inl e) = subst P e all.0
+all_in P (y ∷ ys) all x (inr h) = all_in P ys all.1 x h
+
+pub all_each : {X : Type 0} (P : X → Type 0) (xs : List X) → ((x : X) → IsIn xs x → P x) → AllByRecursion P xs
+all_each P [] each = tt
+all_each P (x ∷ xs) each = (each x (inl refl), all_each P xs (λ y h. each y (inr h)))
+
+pub all_mapped : {X Y : Type 0} (P : Y → Type 0) (f : X → Y) (xs : List X) → ((x : X) → IsIn xs x → P (f x))
+    → AllByRecursion P (map f xs)
+all_mapped P f [] each = tt
+all_mapped P f (x ∷ xs) each = (each x (inl refl), all_mapped P f xs (λ y h. each y (inr h)))
+
+pub all_joined : {X : Type 0} (P : X → Type 0) (xs ys : List X) → AllByRecursion P xs → AllByRecursion P ys
+    → AllByRecursion P (xs ++ ys)
+all_joined P [] ys first second = second
+all_joined P (x ∷ xs) ys first second = (first.0, all_joined P xs ys first.1 second)

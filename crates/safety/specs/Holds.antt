@@ -1,7 +1,9 @@
 -- What holds of the branches of a resource manager.
-use Rattle.std.specs.Prelude.{◌≡◌, ◌≢◌, ℕ, true, List, Contains}
+use Rattle.std.specs.Prelude.{◌≡◌, ◌≢◌, ℕ, true, List, [], ◌∷◌, map, Contains}
 use Rattle.std.specs.List.{AllByRecursion}
 use Rattle.stable_record.specs.Facts.{AreAscending}
+use Rattle.xid.specs.Names.{XidParts}
+pub use Rattle.ballot.specs.Greatest.{IsIn}
 use Rattle.protocol.specs.Branches.{is_write}
 use Rattle.protocol.specs.Managers.{Branch, act_on, has_key}
 
@@ -10,9 +12,18 @@ abbrev pub AreHeldOnce : List Branch → Type 0
 AreHeldOnce branches = (b c : Branch) → Contains branches b → Contains branches c → b.xid ≢ c.xid
     → (key : List ℕ) → is_write (act_on b.keys key) ≡ true → ¬ (has_key key c.keys ≡ true)
 
+-- no name stands twice in a list
+abbrev pub AreDistinct : List XidParts → Type 0
+AreDistinct [] = Unit {0}
+AreDistinct (x ∷ xs) = (¬ IsIn xs x) × AreDistinct xs
+
+-- the names of branches
+abbrev pub names_of : List Branch → List XidParts
+names_of branches = map (λ branch. branch.xid) branches
+
 -- no name has two branches
 abbrev pub AreNamedOnce : List Branch → Type 0
-AreNamedOnce branches = (b c : Branch) → Contains branches b → Contains branches c → b.xid ≡ c.xid → b ≡ c
+AreNamedOnce branches = AreDistinct (names_of branches)
 
 -- the touched keys of each branch stand ascending
 abbrev pub AreInOrder : List Branch → Type 0

@@ -9,7 +9,7 @@ use Rattle.safety.specs.Words.{Fact, View}
 use Rattle.stable_record.specs.declared.fact.FactKind.TheVariants as stored
 use Rattle.protocol.specs.declared.states.View.TheVariants as views
 use Rattle.ballot.specs.Greatest.{IsIn}
-use Rattle.safety.specs.Standing.{HasVote}
+use Rattle.safety.specs.Standing.{HasVote, IsPromised}
 
 -- what was accepted last is the accept of the greatest ballot; nothing, where there is no accept
 abbrev pub IsGreatestAccept : List Fact → TxParts → ℕ → Report → Type 0
@@ -19,12 +19,12 @@ IsGreatestAccept facts tx i (Some last) =
 
 -- some promise or accept has the ballot; or it is 0
 abbrev pub IsJoinedBallot : List Fact → TxParts → ℕ → ℕ → Type 0
-IsJoinedBallot facts tx i b = (b ≡ 0) ⊎ IsIn facts (stored.Promise tx i b) ⊎ ((v : Vote) × IsIn facts (stored.Accept tx i b v))
+IsJoinedBallot facts tx i b = (b ≡ 0) ⊎ IsPromised facts tx i b ⊎ ((v : Vote) × IsIn facts (stored.Accept tx i b v))
 
 -- mbal is the greatest ballot of a promise or an accept, 0 where there is none; and the report is the greatest accept
 pub record IsSlot (facts : List Fact) (tx : TxParts) (i : ℕ) (s : Slot) : Type 0 where
   pub joined : IsJoinedBallot facts tx i s.mbal
-  pub promised : (b : ℕ) → IsIn facts (stored.Promise tx i b) → b ≤ s.mbal
+  pub promised : (b : ℕ) → IsPromised facts tx i b → b ≤ s.mbal
   pub accepted : (b : ℕ) (v : Vote) → IsIn facts (stored.Accept tx i b v) → b ≤ s.mbal
   pub last : IsGreatestAccept facts tx i s.report
 

@@ -8,3 +8,4 @@ pub mod Senders
 pub mod Laws
 pub mod Holds
 pub mod Changes
+pub mod Forms

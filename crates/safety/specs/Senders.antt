@@ -5,6 +5,7 @@ use Rattle.wire.specs.declared.message.Kind.TheVariants.{Prepare, P1a, P1b, P2a,
 use Rattle.ballot.specs.Ballots.{owner_of}
 use Rattle.safety.specs.Words.{NodeId, A, L, R}
 use Rattle.protocol.specs.Effects.{Config}
+use Rattle.protocol.specs.StandsFor.{stands_for}
 use Rattle.protocol.specs.Worlds.{Datagram}
 use Rattle.ballot.specs.Greatest.{IsIn}
 
@@ -12,8 +13,8 @@ use Rattle.ballot.specs.Greatest.{IsIn}
 abbrev pub IsFromLeader : NodeId → Type 0
 IsFromLeader who = (l : ℕ) × (who ≡ L l)
 
--- phase 1a and, above ballot 0, phase 2a are from the ballot's owner, phase 2a of ballot 0 from the instance's resource manager,
--- phases 1b and 2b from the acceptor that they name
+-- of the paper's messages, phase 1a and, above ballot 0, phase 2a are from the ballot's owner, phase 2a of ballot 0 from the instance's
+-- resource manager, phases 1b and 2b from the acceptor that they name
 abbrev pub IsFrom : Config → NodeId → Kind → Type 0
 IsFrom config who (Prepare tx) = IsFromLeader who
 IsFrom config who (P1a tx i b) = who ≡ L (owner_of config.leaders b)
@@ -24,7 +25,8 @@ IsFrom config who (P2b tx i b v a) = who ≡ A a
 IsFrom config who (Commit tx) = IsFromLeader who
 IsFrom config who (Abort tx) = IsFromLeader who
 IsFrom config who (Ask tx rm) = who ≡ R rm
+IsFrom config who bundle = Unit {0}
 
--- each datagram is from the node that its message says
+-- each of the paper's messages that a datagram stands for is from the node that it says
 abbrev pub AreFrom : Config → List Datagram → Type 0
-AreFrom config net = (d : Datagram) → IsIn net d → IsFrom config d.sender d.message
+AreFrom config net = (d : Datagram) → IsIn net d → (m : Kind) → IsIn (stands_for d.message) m → IsFrom config d.sender m

@@ -1,5 +1,6 @@
 -- What stands in a world: facts in the records of nodes, messages in datagrams that were ever sent.
-use Rattle.std.specs.Prelude.{List, [], map, Option, Some, None}
+use Rattle.std.specs.Prelude.{◌⊎◌, ℕ, IsTrue, List, [], Option, Some, None}
+use Rattle.std.specs.List.{flat_map}
 use Rattle.xid.specs.Transactions.{TxParts, is_participant}
 use Rattle.xid.specs.declared.transaction.Vote.{Vote}
 use Rattle.xid.specs.declared.transaction.Vote.TheVariants as votes
@@ -11,6 +12,7 @@ use Rattle.safety.specs.Words.{Fact, Touched, NodeId, A, L, R}
 use Rattle.stable_record.specs.declared.fact.FactKind.TheVariants as stored
 use Rattle.protocol.specs.Effects.{Config}
 use Rattle.protocol.specs.Nodes.{NodeState}
+use Rattle.protocol.specs.StandsFor.{stands_for}
 use Rattle.protocol.specs.Worlds.{World, node_at}
 use Rattle.safety.specs.Items.{Setting, Item, Promised, Accepted, Began, Voted, Committed, StoredAbort, P1b, P2a, P2b, Commit, Abort}
 
@@ -23,9 +25,13 @@ abbrev pub HasVote : List Fact → TxParts → Vote → Type 0
 HasVote facts tx votes.Prepared = (keys : List Touched) × IsIn facts (stored.VotePrepared tx keys)
 HasVote facts tx votes.Aborted = IsIn facts (stored.VoteAborted tx)
 
--- an item stands: facts gives those of each node, sent the messages that were sent
+-- a promise of an instance stands among the facts of an acceptor: its own, or one for all instances of the transaction
+abbrev pub IsPromised : List Fact → TxParts → ℕ → ℕ → Type 0
+IsPromised facts tx i b = IsIn facts (stored.Promise tx i b) ⊎ (IsTrue (is_participant tx i) × IsIn facts (stored.PromiseAll tx b))
+
+-- an item stands: facts gives those of each node, sent the paper's messages that were sent
 abbrev pub StandsBy : (facts : NodeId → List Fact) (sent : List Kind) → Item TxParts → Type 0
-StandsBy facts sent (Promised a tx i b) = IsIn (facts (A a)) (stored.Promise tx i b)
+StandsBy facts sent (Promised a tx i b) = IsPromised (facts (A a)) tx i b
 StandsBy facts sent (Accepted a tx i b v) = IsIn (facts (A a)) (stored.Accept tx i b v)
 StandsBy facts sent (Began l tx b) = IsIn (facts (L l)) (stored.Ballot tx b)
 StandsBy facts sent (Voted r tx v) = HasVote (facts (R r)) tx v
@@ -46,9 +52,9 @@ facts_of (Some node) = node.facts
 abbrev pub facts_at : Config → World → NodeId → List Fact
 facts_at config world who = facts_of (node_at config world who)
 
--- the messages of the datagrams that were ever sent
+-- the paper's messages of the datagrams that were ever sent
 abbrev pub sent_in : World → List Kind
-sent_in world = map (λ datagram. datagram.message) world.net
+sent_in world = flat_map (λ datagram. stands_for datagram.message) world.net
 
 -- an item stands in a world
 abbrev pub Stands : Config → World → Item TxParts → Type 0

@@ -10,3 +10,6 @@ pub mod laws;
 
 /// The invariant, part by part.
 pub mod parts;
+
+/// What is sent and stored has the form of messages and facts.
+pub mod forms;

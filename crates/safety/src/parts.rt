@@ -10,6 +10,7 @@ ghost use Rattle.ballot.specs.Ballots.{owner_of};
 ghost use Rattle.ballot.specs.Choice.{Report};
 ghost use Rattle.safety.specs.Changes.{SaysItsChange};
 ghost use Rattle.safety.specs.Words.{A, L, R, Event};
+ghost use Rattle.protocol.specs.Facts.{bound_branches};
 ghost use Rattle.protocol.specs.Effects.{Config};
 ghost use Rattle.protocol.specs.Facts.{slot, last_ballot};
 ghost use Rattle.protocol.specs.Managers.{all_branches};
@@ -113,9 +114,9 @@ pub fn outcomes_were_decided()
 /// has put or deleted, and no two have one name; and the touched keys of those in its memory stand ascending.
 pub fn keys_held_once()
     ensures keys { (config : Config) (world : World) → IsReachable config world → (rm : ℕ) (node : NodeState)
-        → node_at config world (R rm) ≡ Some node → AreHeldOnce (all_branches rm node.facts node.memory.branches) }
+        → node_at config world (R rm) ≡ Some node → AreHeldOnce (all_branches rm (bound_branches node.facts) node.memory.branches) }
     ensures names { (config : Config) (world : World) → IsReachable config world → (rm : ℕ) (node : NodeState)
-        → node_at config world (R rm) ≡ Some node → AreNamedOnce (all_branches rm node.facts node.memory.branches) }
+        → node_at config world (R rm) ≡ Some node → AreNamedOnce (all_branches rm (bound_branches node.facts) node.memory.branches) }
     ensures order { (config : Config) (world : World) → IsReachable config world → (rm : ℕ) (node : NodeState)
         → node_at config world (R rm) ≡ Some node → AreInOrder node.memory.branches }
 {}

@@ -5,7 +5,7 @@ use Rattle.wire.specs.Grammar.{tx_spelling}
 use Rattle.stable_record.specs.declared.fact.Act.{Act}
 use Rattle.stable_record.specs.declared.fact.Touched.{Touched}
 use Rattle.stable_record.specs.declared.fact.FactKind.{FactKind as Fact}
-use Rattle.stable_record.specs.declared.fact.FactKind.TheVariants.{Promise, Accept, Ballot, VotePrepared}
+use Rattle.stable_record.specs.declared.fact.FactKind.TheVariants.{Promise, Accept, Ballot, VotePrepared, PromiseAll}
 use Rattle.stable_record.specs.Facts.{fact_tx}
 
 -- the value of a put, with its length
@@ -22,6 +22,7 @@ abbrev pub rest_length : Version → Fact → ℕ
 rest_length v (Promise tx i b) = v.rm_width + 4
 rest_length v (Accept tx i b vote) = v.rm_width + 5
 rest_length v (Ballot tx b) = 4
+rest_length v (PromiseAll tx b) = 4
 rest_length v (VotePrepared tx keys) = 1 + sum (map touched_length keys)
 rest_length v fact = 0
 

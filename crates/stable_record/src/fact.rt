@@ -67,6 +67,33 @@ pub enum FactKind {
     Committed(Tx),
     /// A resource manager has learned that the transaction is aborted.
     Aborted(Tx),
+    /// An acceptor takes part in a ballot of every instance that stands below it.
+    PromiseAll {
+        /// The transaction.
+        tx: Tx,
+        /// The ballot, at least 1.
+        ballot: Ballot,
+    },
+}
+
+impl FactKind {
+    ghost use Rattle.stable_record.specs.Facts.{fact_tx};
+
+    /// The transaction that it is about.
+    pub fn tx(&self) -> &Tx
+        ensures { result.now ≡ fact_tx self.now }
+    {
+        match self {
+            FactKind::Promise { tx, .. } => tx,
+            FactKind::Accept { tx, .. } => tx,
+            FactKind::Ballot { tx, .. } => tx,
+            FactKind::VotePrepared { tx, .. } => tx,
+            FactKind::VoteAborted(tx) => tx,
+            FactKind::Committed(tx) => tx,
+            FactKind::Aborted(tx) => tx,
+            FactKind::PromiseAll { tx, .. } => tx,
+        }
+    }
 }
 
 /// A fact: a kind of which all ranges and relations hold.
@@ -101,5 +128,13 @@ impl Fact {
         ensures valid { IsFact self.now }
     {
         &self.kind
+    }
+
+    /// What it says, and the fact is no more.
+    pub fn into_kind(self) -> FactKind
+        ensures value { result ≡ self }
+        ensures valid { IsFact self }
+    {
+        self.kind
     }
 }

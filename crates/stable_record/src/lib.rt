@@ -1,7 +1,22 @@
-//! What nodes store: facts, one after the other.
+//! What nodes store: facts, one after the other, as frames in a record.
 #![tactic(auto)]
 
+mod entry;
 mod fact;
+mod failing;
+mod frames;
 pub mod laws;
+mod memory;
+mod reading;
+mod record;
+mod writing;
 
+pub use entry::{Entry, EntryKind};
 pub use fact::{Act, Fact, FactKind, Touched};
+pub use failing::{FailRecord, Leaves};
+pub use frames::{MAX_BODY, entries};
+pub use memory::MemRecord;
+pub use record::{Record, RecordError, Tear};
+
+#[cfg(test)]
+mod tests;

@@ -1,5 +1,12 @@
+pub mod Ascending
 pub mod Instances
 pub mod Loop
+pub mod TakenItems
+pub mod Bundles
 pub mod Fields
+pub mod Spelled
+pub mod SpelledKinds
 pub mod OneSpelling
 pub mod DecodingLemmas
+pub mod PushedItems
+pub mod TakenTx

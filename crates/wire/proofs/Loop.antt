@@ -1,46 +1,59 @@
--- Taking branches one after the other, as a loop does.
-use Rattle.std.proofs.Common.{◌≡◌, ℕ, suc, ◌-◌, ◌+◌, ◌≤◌, ◌<◌, List, [], ◌∷◌, ◌++◌, Option, Some, None, refl, sym, ap, ◌∙◌}
+-- Taking values one after the other, as a loop does.
+use Rattle.std.proofs.Common.{◌≡◌, ℕ, zero, suc, ◌-◌, ◌+◌, ◌≤◌, ◌<◌, Bool, true, ◌&&◌, List, length, get_or, drop, [], ◌∷◌, ◌++◌, Option, Some, None, refl, sym, ap, ◌∙◌}
 use Rattle.std.proofs.Common.{append_assoc, arith}
+use Rattle.std.specs.List.{list_all}
 use Rattle.std.proofs.lemmas.List.{append-nil}
-use Rattle.xid.specs.Transactions.{BranchParts}
-use Rattle.wire.specs.Versions.{version_2}
-use Rattle.wire.specs.Reading.{◌>>=◌, branch_at, branches_at}
+use Rattle.wire.specs.Reading.{◌>>=◌, list_at}
 
 -- what was taken before, and what is still taken
-abbrev pub with_front : List BranchParts → Option (List BranchParts × List ℕ) → Option (List BranchParts × List ℕ)
+abbrev pub with_front : {X : Type 0} → List X → Option (List X × List ℕ) → Option (List X × List ℕ)
 with_front front read = read >>= λ x. Some (front ++ x.0, x.1)
 
-regroup : (front : List BranchParts) (b : BranchParts) (read : Option (List BranchParts × List ℕ))
-    → with_front front (read >>= λ x. Some (b ∷ x.0, x.1)) ≡ with_front (front ++ b ∷ []) read
-regroup front b (Some x) = ap (λ (bs : List BranchParts). Some (bs, x.1)) (simp append_assoc)
-regroup front b None = refl
+regroup : {X : Type 0} (front : List X) (x : X) (read : Option (List X × List ℕ))
+    → with_front front (read >>= λ y. Some (x ∷ y.0, y.1)) ≡ with_front (front ++ x ∷ []) read
+regroup {X} front x (Some y) = ap (λ (xs : List X). Some (xs, y.1)) (simp append_assoc)
+regroup front x None = refl
 
-pub goes_on : (front : List BranchParts) (count i : ℕ) (bytes : List ℕ) (b : BranchParts) (after : List ℕ)
-    (total : Option (List BranchParts × List ℕ)) → i < count → branch_at version_2 bytes ≡ Some (b, after)
-    → with_front front (branches_at version_2 (count - i) bytes) ≡ total
-    → with_front (front ++ b ∷ []) (branches_at version_2 (count - (i + 1)) after) ≡ total
-unfolding branches_at
-goes_on front count i bytes b after total lt h so_far =
-    let k : count - i ≡ suc (count - (i + 1)) = omega arith in
-    let left : Option (List BranchParts × List ℕ) = branches_at version_2 (count - (i + 1)) after in
-    let one : with_front front (branches_at version_2 (count - i) bytes) ≡ with_front (front ++ b ∷ []) left =
-    rw (k, h) (regroup front b left) in
-    sym one ∙ so_far
+module _ {X : Type 0} (one : List ℕ → Option (X × List ℕ)) (front : List X) (count i : ℕ) (bytes : List ℕ)
+    (total : Option (List X × List ℕ)) where
+  pub goes_on : (x : X) (after : List ℕ) → i < count → one bytes ≡ Some (x, after)
+      → with_front front (list_at one (count - i) bytes) ≡ total
+      → with_front (front ++ x ∷ []) (list_at one (count - (i + 1)) after) ≡ total
+  unfolding list_at
+  goes_on x after lt h so_far =
+      let k : count - i ≡ suc (count - (i + 1)) = omega arith in
+      let left : Option (List X × List ℕ) = list_at one (count - (i + 1)) after in
+      let taken : with_front front (list_at one (count - i) bytes) ≡ with_front (front ++ x ∷ []) left =
+      rw (k, h) (regroup front x left) in
+      sym taken ∙ so_far
 
-pub ends : (front : List BranchParts) (count i : ℕ) (bytes : List ℕ) (total : Option (List BranchParts × List ℕ)) → i < count
-    → branch_at version_2 bytes ≡ None
-    → with_front front (branches_at version_2 (count - i) bytes) ≡ total → total ≡ None
-unfolding branches_at
-ends front count i bytes total lt h so_far =
-    let k : count - i ≡ suc (count - (i + 1)) = omega arith in
-    let one : with_front front (branches_at version_2 (count - i) bytes) ≡ None = rw (k, h) refl in
-    sym so_far ∙ one
+  pub ends : i < count → one bytes ≡ None → with_front front (list_at one (count - i) bytes) ≡ total → total ≡ None
+  unfolding list_at
+  ends lt h so_far =
+      let k : count - i ≡ suc (count - (i + 1)) = omega arith in
+      let taken : with_front front (list_at one (count - i) bytes) ≡ None = rw (k, h) refl in
+      sym so_far ∙ taken
 
-pub is_done : (front : List BranchParts) (count i : ℕ) (bytes : List ℕ) (total : Option (List BranchParts × List ℕ)) → count ≤ i
-    → with_front front (branches_at version_2 (count - i) bytes) ≡ total → total ≡ Some (front, bytes)
-unfolding branches_at
-is_done front count i bytes total le so_far =
-    let k : count - i ≡ 0 = omega arith in
-    let one : with_front front (branches_at version_2 (count - i) bytes) ≡ Some (front, bytes) =
-    rw k (ap (λ (bs : List BranchParts). Some (bs, bytes)) (append-nil front)) in
-    sym so_far ∙ one
+  pub is_done : count ≤ i → with_front front (list_at one (count - i) bytes) ≡ total → total ≡ Some (front, bytes)
+  unfolding list_at
+  is_done le so_far =
+      let k : count - i ≡ 0 = omega arith in
+      let taken : with_front front (list_at one (count - i) bytes) ≡ Some (front, bytes) =
+      rw k (ap (λ (xs : List X). Some (xs, bytes)) (append-nil front)) in
+      sym so_far ∙ taken
+
+-- a test of all that is left asks the first, and all that is left after it
+pub all_next : {X : Type 0} (p : X → Bool) (xs : List X) (i : ℕ) (d : X) → i < length xs
+    → list_all p (drop i xs) ≡ (p (get_or xs i d) && list_all p (drop (i + 1) xs))
+all_next p [] i d lt = absurd (omega arith)
+all_next p (x ∷ xs) zero d lt = refl
+all_next p (x ∷ xs) (suc i) d lt =
+    let e : suc i + 1 ≡ suc (i + 1) = omega arith in
+    rw e (all_next p xs i d (omega arith))
+
+-- nothing is left
+pub none_left : {X : Type 0} (p : X → Bool) (xs : List X) (i : ℕ) → length xs ≤ i → list_all p (drop i xs) ≡ true
+none_left p [] zero le = refl
+none_left p [] (suc i) le = refl
+none_left p (x ∷ xs) zero le = absurd (omega arith)
+none_left p (x ∷ xs) (suc i) le = none_left p xs i (omega arith)

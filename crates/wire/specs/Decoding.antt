@@ -6,8 +6,9 @@ use Rattle.xid.specs.Limits.{most_acceptors, most_managers, most_branches, most_
 use Rattle.xid.specs.Transactions.{TxParts, BranchParts, rm_numbers, is_participant}
 use Rattle.xid.specs.declared.transaction.Vote.{Vote}
 use Rattle.wire.specs.declared.message.Kind.{Kind}
-use Rattle.wire.specs.declared.message.Kind.TheVariants.{Prepare, P1a, P1b, P2a, P2b, Commit, Abort, Ask}
-use Rattle.wire.specs.Versions.{version_2}
+use Rattle.wire.specs.declared.message.Kind.TheVariants.{Prepare, P1a, P1b, P2a, P2b, Commit, Abort, Ask, B1a, B1b, B2b}
+use Rattle.wire.specs.Versions.{Version, version_2}
+use Rattle.wire.specs.Messages.{reported_instances, accepted_instances}
 use Rattle.wire.specs.Grammar.{spelling}
 use Rattle.wire.specs.Reading.{◌>>=◌, byte_at, tx_at, kind_at}
 
@@ -31,9 +32,24 @@ is_tx tx =
     nat_lt tx.format formats && is_component tx.gtrid && nat_lt 0 (length tx.branches) && nat_le (length tx.branches) most_branches
     && list_all is_branch tx.branches && is_ascending (rm_numbers tx.branches)
 
+-- whether a version can name the resource managers of branches
+abbrev pub are_managers : Version → List BranchParts → Bool
+are_managers v branches = list_all (λ b. nat_lt b.rm v.most_managers) branches
+
+-- the transaction of a version whose spelling is at the front, and the bytes after it
+unfoldable pub tx_in : Version → List ℕ → Option (TxParts × List ℕ)
+tx_in v bytes = do
+  tx ← tx_at v bytes
+  cond (is_tx tx.0) (cond (are_managers v tx.0.branches) (Some tx) None) None
+
 -- whether an instance is one of the transaction's
 abbrev pub is_instance : TxParts → ℕ → Bool
 is_instance tx instance = is_tx tx && is_participant tx instance
+
+-- whether these are the instances of a bundle's items
+abbrev pub are_instances : TxParts → List ℕ → Bool
+are_instances tx instances =
+    is_tx tx && nat_le 1 (length instances) && list_all (λ rm. is_participant tx rm) instances && is_ascending instances
 
 -- whether a number is a ballot
 abbrev pub is_ballot : ℕ → Bool
@@ -63,6 +79,12 @@ is_message (P2b tx instance ballot vote acceptor) = is_instance tx instance && i
 is_message (Commit tx) = is_tx tx
 is_message (Abort tx) = is_tx tx
 is_message (Ask tx rm) = is_instance tx rm
+is_message (B1a tx ballot) = is_tx tx && is_leader_ballot ballot
+is_message (B1b tx ballot acceptor reports) =
+    are_instances tx (reported_instances reports) && is_leader_ballot ballot && is_acceptor acceptor
+    && list_all (λ item. is_report ballot item.report) reports
+is_message (B2b tx acceptor accepts) =
+    are_instances tx (accepted_instances accepts) && is_acceptor acceptor && list_all (λ item. is_ballot item.ballot) accepts
 
 -- the message that bytes spell, if they spell one: its fields are taken from the front, and its one spelling is compared
 abbrev pub message_at : List ℕ → Option Kind
@@ -71,7 +93,7 @@ message_at bytes = do
   code ← byte_at version.1
   tx ← tx_at version_2 code.1
   kind ← kind_at code.0 tx.0 tx.1
-  cond (is_message kind && bytes_eq (spelling kind) bytes) (Some kind) None
+  cond (is_message kind.0 && bytes_eq (spelling kind.0) bytes) (Some kind.0) None
 
 -- whether bytes spell a message
 abbrev pub spells_message : List ℕ → Bool

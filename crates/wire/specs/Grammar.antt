@@ -5,8 +5,10 @@ use Rattle.byteorder.specs.Endian.{big_bytes}
 use Rattle.xid.specs.Transactions.{TxParts, BranchParts}
 use Rattle.xid.specs.declared.transaction.Vote.{Vote}
 use Rattle.xid.specs.declared.transaction.Vote.TheVariants.{Prepared, Aborted}
+use Rattle.wire.specs.declared.items.InstanceReport.{InstanceReport}
+use Rattle.wire.specs.declared.items.InstanceAccept.{InstanceAccept}
 use Rattle.wire.specs.declared.message.Kind.{Kind}
-use Rattle.wire.specs.declared.message.Kind.TheVariants.{Prepare, P1a, P1b, P2a, P2b, Commit, Abort, Ask}
+use Rattle.wire.specs.declared.message.Kind.TheVariants.{Prepare, P1a, P1b, P2a, P2b, Commit, Abort, Ask, B1a, B1b, B2b}
 use Rattle.wire.specs.Messages.{IsMessage, message_tx}
 use Rattle.wire.specs.Versions.{Version, version_2}
 
@@ -54,17 +56,33 @@ kind_byte (P2b tx rm ballot vote acceptor) = 5
 kind_byte (Commit tx) = 6
 kind_byte (Abort tx) = 7
 kind_byte (Ask tx rm) = 8
+kind_byte (B1a tx ballot) = 10
+kind_byte (B1b tx ballot acceptor reports) = 11
+kind_byte (B2b tx acceptor accepts) = 12
+
+-- an item of phase 1b: its instance, its report
+abbrev pub report_item_spelling : Version → InstanceReport → List ℕ
+report_item_spelling v item = rm_spelling v item.instance ++ report_spelling item.report
+
+-- an item of phase 2b: its instance, its ballot, its vote
+abbrev pub accept_item_spelling : Version → InstanceAccept → List ℕ
+accept_item_spelling v item = rm_spelling v item.instance ++ (number_spelling item.ballot ++ vote_byte item.vote ∷ [])
 
 -- what follows the transaction in each kind
 abbrev pub rest_spelling : Version → Kind → List ℕ
 rest_spelling v (Prepare tx) = []
 rest_spelling v (P1a tx rm ballot) = rm_spelling v rm ++ number_spelling ballot
-rest_spelling v (P1b tx rm ballot report acceptor) = rm_spelling v rm ++ (number_spelling ballot ++ (report_spelling report ++ acceptor ∷ []))
+rest_spelling v (P1b tx rm ballot report acceptor) = rm_spelling v rm
+    ++ (number_spelling ballot ++ (report_spelling report ++ acceptor ∷ []))
 rest_spelling v (P2a tx rm ballot vote) = rm_spelling v rm ++ (number_spelling ballot ++ vote_byte vote ∷ [])
 rest_spelling v (P2b tx rm ballot vote acceptor) = rm_spelling v rm ++ (number_spelling ballot ++ vote_byte vote ∷ acceptor ∷ [])
 rest_spelling v (Commit tx) = []
 rest_spelling v (Abort tx) = []
 rest_spelling v (Ask tx rm) = rm_spelling v rm
+rest_spelling v (B1a tx ballot) = number_spelling ballot
+rest_spelling v (B1b tx ballot acceptor reports) =
+    number_spelling ballot ++ acceptor ∷ length reports ∷ flat_map (report_item_spelling v) reports
+rest_spelling v (B2b tx acceptor accepts) = acceptor ∷ length accepts ∷ flat_map (accept_item_spelling v) accepts
 
 -- a message, in version 2: version, kind, transaction, rest
 abbrev pub spelling : Kind → List ℕ

@@ -1,3 +1,4 @@
+pub mod ItemArray
 pub mod Messages
 pub mod Versions
 pub mod Grammar

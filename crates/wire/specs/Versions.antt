@@ -3,6 +3,8 @@ use Rattle.std.specs.Prelude.{ℕ, ◌<◌, ◌≤◌, ◌^◌, length}
 use Rattle.std.specs.List.{All}
 use Rattle.xid.specs.Limits as limit
 use Rattle.xid.specs.Transactions.{TxParts, IsTx}
+use Rattle.wire.specs.declared.grammar.VersionNumber.{VersionNumber}
+use Rattle.wire.specs.declared.grammar.VersionNumber.TheVariants.{First, Second}
 
 -- a version: its byte, in how many bytes the number of a resource manager stands, and the limits on transactions
 pub record Version : Type 0 where
@@ -18,6 +20,11 @@ version_1 = record { byte = 1; rm_width = 1; most_branches = 8; most_managers = 
 -- the version of today
 abbrev pub version_2 : Version
 version_2 = record { byte = 2; rm_width = 2; most_branches = limit.most_branches; most_managers = limit.most_managers }
+
+-- the version of a number
+abbrev pub version_of : VersionNumber → Version
+version_of First = version_1
+version_of Second = version_2
 
 -- each number of a resource manager has room
 abbrev pub IsWide : Version → Type 0

@@ -3,6 +3,15 @@ use xid::{MAX_BRANCHES, MAX_COMPONENT};
 /// The version of the grammar of messages, the first byte of each.
 pub const VERSION: u8 = 2;
 
+/// A version of the formats, by its number. Messages have the second alone; records may hold what the first wrote.
+#[derive(Clone, Copy, Debug, PartialEq, Eq)]
+pub enum VersionNumber {
+    /// The first, for 8 resource managers.
+    First,
+    /// The second, for 64.
+    Second,
+}
+
 /// How many bytes the number of a resource manager has.
 pub(crate) const RM_BYTES: usize = 2;
 
@@ -24,8 +33,14 @@ pub const MAX_TX_BYTES: usize = NUMBER_BYTES + MAX_COMPONENT_BYTES + MAX_BRANCHE
 /// How many bytes a report has: a ballot and a vote.
 pub(crate) const REPORT_BYTES: usize = NUMBER_BYTES + 1;
 
-/// How many bytes follow the transaction at most: those of phase 1b, an instance, a ballot, a report and an acceptor.
-pub(crate) const MAX_REST_BYTES: usize = RM_BYTES + NUMBER_BYTES + REPORT_BYTES + 1;
+/// How many bytes an item of a bundle has: an instance, and a ballot and a vote.
+pub(crate) const ITEM_BYTES: usize = RM_BYTES + REPORT_BYTES;
+
+/// How many bytes the items of a bundle have at most, with their count.
+pub(crate) const MAX_ITEMS_BYTES: usize = 1 + MAX_BRANCHES * ITEM_BYTES;
+
+/// How many bytes follow the transaction at most: those of a bundle of phase 1b, a ballot, an acceptor and items.
+pub(crate) const MAX_REST_BYTES: usize = NUMBER_BYTES + 1 + MAX_ITEMS_BYTES;
 
 /// How many bytes a message has at most: version, kind, transaction and what follows it.
 pub const MAX_MESSAGE_BYTES: usize = 2 + MAX_TX_BYTES + MAX_REST_BYTES;

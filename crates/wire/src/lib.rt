@@ -2,15 +2,17 @@
 #![tactic(auto)]
 
 mod grammar;
+mod items;
 mod laws;
 mod message;
 mod reading;
 mod writing;
 
-pub use grammar::{MAX_DATAGRAM, MAX_MESSAGE_BYTES, MAX_TX_BYTES, VERSION};
+pub use grammar::{MAX_DATAGRAM, MAX_MESSAGE_BYTES, MAX_TX_BYTES, VERSION, VersionNumber};
+pub use items::{InstanceAccept, InstanceReport, Items};
 pub use laws::{message_at_is_exact, spelling_laws};
 pub use message::{Kind, Message, is_message};
-pub use reading::{decode, take_tx};
+pub use reading::{decode, take_byte, take_component, take_number, take_rm, take_tx, take_vote};
 pub use writing::{encode, put_tx};
 
 #[cfg(test)]

@@ -1,6 +1,10 @@
-ghost use Rattle.std.specs.Prelude.{◌≡◌, ◌↔◌, IsTrue};
-ghost use Rattle.wire.specs.Messages.{IsMessage, IsReportBelow};
+ghost use Rattle.std.specs.Prelude.{◌≡◌, ◌↔◌, ◌<◌, ◌≤◌, IsTrue, length};
+ghost use Rattle.std.specs.List.{AllByRecursion};
+ghost use Rattle.xid.specs.Transactions.{IsTx};
+ghost use Rattle.wire.specs.Grammar.{kind_byte};
+ghost use Rattle.wire.specs.Messages.{IsMessage, IsBallot, IsReportBelow, AreInstances, reported_instances, accepted_instances};
 
+use crate::items::{InstanceAccept, InstanceReport, Items};
 use std::marker::Model;
 use xid::{Ballot, MAX_ACCEPTORS, ManagerNumber, Tx, Vote};
 
@@ -49,10 +53,27 @@ pub enum Kind {
         tx: Tx,
         rm: ManagerNumber,
     },
+    /// Phase 1a of all instances of the transaction, in one bundle: take part in a ballot, at least 1.
+    B1a {
+        tx: Tx,
+        ballot: Ballot,
+    },
+    /// Phase 1b of some instances of the transaction, ascending, in one bundle: the acceptor takes part in the ballot in these.
+    B1b {
+        tx: Tx,
+        ballot: Ballot,
+        acceptor: u8,
+        reports: Items<InstanceReport>,
+    },
+    /// Phase 2b of some instances of the transaction, ascending, in one bundle: the acceptor accepted these votes.
+    B2b {
+        tx: Tx,
+        acceptor: u8,
+        accepts: Items<InstanceAccept>,
+    },
 }
 
 impl Kind {
-    ghost use Rattle.xid.specs.Transactions.{IsTx};
     ghost use Rattle.wire.specs.Messages.{message_tx};
 
     /// The transaction that it is about.
@@ -69,6 +90,9 @@ impl Kind {
             Kind::Commit(tx) => tx,
             Kind::Abort(tx) => tx,
             Kind::Ask { tx, .. } => tx,
+            Kind::B1a { tx, .. } => tx,
+            Kind::B1b { tx, .. } => tx,
+            Kind::B2b { tx, .. } => tx,
         };
         let _ = tx.count();
         tx
@@ -85,8 +109,80 @@ fn is_report_below(report: Option<(Ballot, Vote)>, ballot: Ballot) -> bool
     }
 }
 
-/// Whether a kind is a message: its instance or resource manager is one that the transaction names, the ballot of phase 1 is
-/// at least 1, a reported ballot is below it, and the acceptor's number is one.
+/// Whether instances are of the transaction and ascend strictly, and the reported ballots are below this one.
+fn are_reports(tx: &Tx, ballot: Ballot, reports: &[InstanceReport]) -> bool
+    requires valid { IsTx tx.now }
+    requires some { 1 ≤ length reports.now }
+    ensures { IsTrue result ↔ (AreInstances tx.now (reported_instances reports.now)
+        × AllByRecursion (λ item. IsReportBelow ballot item.report) reports.now) }
+{
+    for (i, item) in reports.iter().enumerate() {
+        if !tx.is_participant(item.instance) {
+            return false;
+        }
+        if !is_report_below(item.report, ballot) {
+            return false;
+        }
+        if i > 0 && reports[i - 1].instance >= item.instance {
+            return false;
+        }
+    }
+    true
+}
+
+/// Whether instances are of the transaction and ascend strictly.
+fn are_accepts(tx: &Tx, accepts: &[InstanceAccept]) -> bool
+    requires valid { IsTx tx.now }
+    requires some { 1 ≤ length accepts.now }
+    ensures { IsTrue result ↔ (AreInstances tx.now (accepted_instances accepts.now)
+        × AllByRecursion (λ item. IsBallot item.ballot) accepts.now) }
+{
+    for (i, item) in accepts.iter().enumerate() {
+        let _ballot = item.ballot;
+        if !tx.is_participant(item.instance) {
+            return false;
+        }
+        if i > 0 && accepts[i - 1].instance >= item.instance {
+            return false;
+        }
+    }
+    true
+}
+
+/// Whether a bundle is a message.
+fn is_bundle(kind: &Kind) -> bool
+    requires { 9 < kind_byte kind.now }
+    ensures { IsTrue result ↔ IsMessage kind.now }
+{
+    let tx = kind.tx();
+    match *kind {
+        Kind::Prepare(_) => false,
+        Kind::P1a { .. } => false,
+        Kind::P1b { .. } => false,
+        Kind::P2a { .. } => false,
+        Kind::P2b { .. } => false,
+        Kind::Commit(_) => false,
+        Kind::Abort(_) => false,
+        Kind::Ask { .. } => false,
+        Kind::B1a { ballot, .. } => ballot >= 1,
+        Kind::B1b {
+            ballot,
+            acceptor,
+            reports,
+            ..
+        } => {
+            ballot >= 1 && acceptor < MAX_ACCEPTORS && are_reports(tx, ballot, reports.as_slice())
+        }
+        Kind::B2b {
+            acceptor,
+            accepts,
+            ..
+        } => acceptor < MAX_ACCEPTORS && are_accepts(tx, accepts.as_slice()),
+    }
+}
+
+/// Whether a kind is a message: its instances or its resource manager are ones that the transaction names, those of a bundle
+/// ascending, the ballot of phase 1 is at least 1, each reported ballot is below it, and the acceptor's number is one.
 pub fn is_message(kind: &Kind) -> bool
     ensures { IsTrue result ↔ IsMessage kind.now }
 {
@@ -124,6 +220,9 @@ pub fn is_message(kind: &Kind) -> bool
         Kind::Commit(_) => true,
         Kind::Abort(_) => true,
         Kind::Ask { rm, .. } => tx.is_participant(rm),
+        Kind::B1a { .. } => is_bundle(kind),
+        Kind::B1b { .. } => is_bundle(kind),
+        Kind::B2b { .. } => is_bundle(kind),
     }
 }
 

@@ -1,23 +1,27 @@
-ghost use Rattle.std.specs.Prelude.{◌≡◌, ◌≢◌, ℕ, ◌≤◌, ◌++◌, ◌↔◌, List, Some, IsTrue, IfOk, IfErr, MatchOption, length};
+ghost use Rattle.std.specs.Prelude.{◌≡◌, ◌≢◌, ℕ, ◌<◌, ◌≤◌, ◌++◌, ◌∷◌, [], ◌⊎◌, List, IfOk, IfErr, MatchOption, length};
 ghost use Rattle.std.specs.Option.{option_map};
 ghost use Rattle.xid.specs.Transactions.{TxParts, IsTx};
 ghost use Rattle.xid.specs.declared.refusals.Refusal.TheVariants.{BadMessage};
 ghost use Rattle.wire.specs.declared.message.Kind.{Kind};
 ghost use Rattle.wire.specs.Messages.{IsMessage};
-ghost use Rattle.wire.specs.Versions.{version_2};
+ghost use Rattle.wire.specs.Versions.{version_1, version_2, version_of};
+ghost use Rattle.wire.specs.Decoding.{tx_in, are_managers};
 ghost use Rattle.wire.specs.Grammar.{Spells, spelling, tx_spelling};
-ghost use Rattle.wire.specs.Reading.{taken, taken_bytes, taken_branch, taken_tx, byte_at, number_at, rm_at, component_at, branch_at};
-ghost use Rattle.wire.specs.Reading.{branches_at, tx_at, vote_at, report_at, instance_at, p1a_at, p1b_at, p2a_at, p2b_at, ask_at};
-ghost use Rattle.wire.specs.Reading.{kind_at};
+ghost use Rattle.wire.specs.Reading.{taken, taken_bytes, taken_branch, taken_branches, taken_tx, byte_at, number_at, rm_at, component_at};
+ghost use Rattle.wire.specs.Reading.{branch_at};
+ghost use Rattle.wire.specs.Reading.{branches_at, tx_at, vote_at, report_at, instance_at, report_item_at, accept_item_at, list_at};
+ghost use Rattle.wire.specs.Reading.{with_first};
+ghost use Rattle.wire.specs.Reading.{items_at, p1a_at, p1b_at, p2a_at, p2b_at, ask_at, b1a_at, b1b_at, b2b_at, kind_at, end_at, whole};
 
-use crate::grammar::{MAX_DATAGRAM, RM_BYTES};
+use crate::grammar::{RM_BYTES, VERSION, VersionNumber};
+use crate::items::{InstanceAccept, InstanceReport, Items};
 use crate::message::{Kind, Message, is_message};
-use crate::writing::encode;
 use byteorder::{BigEndian, ByteOrder};
-use xid::{Branches, MAX_BRANCHES, MAX_COMPONENT, ManagerNumber, Refusal, Tx, Vote};
+use xid::{Branches, MAX_BRANCHES, MAX_COMPONENT, MAX_MANAGERS, ManagerNumber, Refusal, Tx, Vote};
 
-/// Takes a byte from the front. Each of these functions answers what it took and what follows it.
-fn take_byte(bytes: &[u8]) -> Option<(u8, &[u8])>
+/// Takes a byte from the front. Each of these functions answers what it took and what follows it, and None where it doesn't
+/// stand there.
+pub fn take_byte(bytes: &[u8]) -> Option<(u8, &[u8])>
     ensures { taken result ≡ byte_at bytes.now }
 {
     let [first, rest @ ..] = bytes else {
@@ -26,7 +30,8 @@ fn take_byte(bytes: &[u8]) -> Option<(u8, &[u8])>
     Some((*first, rest))
 }
 
-fn take_number(bytes: &[u8]) -> Option<(u32, &[u8])>
+/// Takes a number of 32 bits from the front.
+pub fn take_number(bytes: &[u8]) -> Option<(u32, &[u8])>
     ensures { taken result ≡ number_at bytes.now }
 {
     if bytes.len() < 4 {
@@ -35,7 +40,26 @@ fn take_number(bytes: &[u8]) -> Option<(u32, &[u8])>
     Some((BigEndian::read_u32(bytes), &bytes[4..]))
 }
 
-fn take_rm(bytes: &[u8]) -> Option<(ManagerNumber, &[u8])>
+/// Takes the number of a resource manager from the front, in as many bytes as it has in a version.
+pub fn take_rm(version: VersionNumber, bytes: &[u8]) -> Option<(ManagerNumber, &[u8])>
+    ensures { taken result ≡ rm_at (version_of version) bytes.now }
+{
+    match version {
+        VersionNumber::First => take_short_rm(bytes),
+        VersionNumber::Second => take_long_rm(bytes),
+    }
+}
+
+fn take_short_rm(bytes: &[u8]) -> Option<(ManagerNumber, &[u8])>
+    ensures { taken result ≡ rm_at version_1 bytes.now }
+{
+    let [first, rest @ ..] = bytes else {
+        return None;
+    };
+    Some((*first as ManagerNumber, rest))
+}
+
+fn take_long_rm(bytes: &[u8]) -> Option<(ManagerNumber, &[u8])>
     ensures { taken result ≡ rm_at version_2 bytes.now }
 {
     if bytes.len() < RM_BYTES {
@@ -44,8 +68,9 @@ fn take_rm(bytes: &[u8]) -> Option<(ManagerNumber, &[u8])>
     Some((BigEndian::read_u16(bytes), &bytes[RM_BYTES..]))
 }
 
+/// Takes at most 64 bytes from the front, which stand behind their length, a byte.
 #[tactic(auto, unfolding(crate::specs::Reading::component_at))]
-fn take_component(bytes: &[u8]) -> Option<(&[u8], &[u8])>
+pub fn take_component(bytes: &[u8]) -> Option<(&[u8], &[u8])>
     ensures value { taken_bytes result ≡ component_at bytes.now }
     ensures few { MatchOption result (Unit {0}) (λ x. length x.0.now ≤ MAX_COMPONENT) }
 {
@@ -63,11 +88,11 @@ fn take_component(bytes: &[u8]) -> Option<(&[u8], &[u8])>
 }
 
 #[tactic(auto, unfolding(crate::specs::Reading::branch_at))]
-fn take_branch(bytes: &[u8]) -> Option<(ManagerNumber, &[u8], &[u8])>
-    ensures value { taken_branch result ≡ branch_at version_2 bytes.now }
+fn take_branch(version: VersionNumber, bytes: &[u8]) -> Option<(ManagerNumber, &[u8], &[u8])>
+    ensures value { taken_branch result ≡ branch_at (version_of version) bytes.now }
     ensures few { MatchOption result (Unit {0}) (λ x. length x.1.now ≤ MAX_COMPONENT) }
 {
-    let Some((rm, rest)) = take_rm(bytes) else {
+    let Some((rm, rest)) = take_rm(version, bytes) else {
         return None;
     };
     let Some((bqual, rest)) = take_component(rest) else {
@@ -76,25 +101,58 @@ fn take_branch(bytes: &[u8]) -> Option<(ManagerNumber, &[u8], &[u8])>
     Some((rm, bqual, rest))
 }
 
-fn take_branches(count: u8, bytes: &[u8]) -> Option<(Branches, &[u8])>
-    requires { count ≤ MAX_BRANCHES }
-    ensures { taken result ≡ branches_at version_2 count bytes.now }
+/// Puts branches after those that stand in place, none at first, and answers what follows them.
+fn take_branches<'a>(
+    version: VersionNumber,
+    count: u8,
+    all: &mut Branches,
+    bytes: &'a [u8],
+) -> Option<&'a [u8]>
+    requires none { all.old ≡ [] }
+    requires few { count ≤ MAX_BRANCHES }
+    ensures { taken_branches all.new result ≡ branches_at (version_of version) count bytes.now }
 {
-    let mut all = Branches::new();
     let mut rest = bytes;
     for _ in 0..count {
-        let Some((rm, bqual, after)) = take_branch(rest) else {
+        let Some((rm, bqual, after)) = take_branch(version, rest) else {
             return None;
         };
         all.push(rm, bqual);
         rest = after;
     }
-    Some((all, rest))
+    Some(rest)
 }
 
+/// How many branches a transaction has at most in a version.
+fn most_branches(version: VersionNumber) -> usize
+    ensures value { result ≡ (version_of version).most_branches }
+    ensures few { result ≤ MAX_BRANCHES }
+{
+    match version {
+        VersionNumber::First => 8,
+        VersionNumber::Second => MAX_BRANCHES,
+    }
+}
+
+/// The number below which the numbers of resource managers are in a version.
+fn most_managers(version: VersionNumber) -> ManagerNumber
+    ensures { result ≡ (version_of version).most_managers }
+{
+    match version {
+        VersionNumber::First => 8,
+        VersionNumber::Second => MAX_MANAGERS,
+    }
+}
+
+/// The format and the gtrid of a transaction, and what follows it. Its branches are put in place.
 #[tactic(auto, unfolding(crate::specs::Reading::tx_at))]
-fn take_parts(bytes: &[u8]) -> Option<(u32, &[u8], Branches, &[u8])>
-    ensures { taken_tx result ≡ tx_at version_2 bytes.now }
+fn take_parts<'a>(
+    version: VersionNumber,
+    branches: &mut Branches,
+    bytes: &'a [u8],
+) -> Option<(u32, &'a [u8], &'a [u8])>
+    requires { branches.old ≡ [] }
+    ensures { taken_tx branches.new result ≡ tx_at (version_of version) bytes.now }
 {
     let Some((format, rest)) = take_number(bytes) else {
         return None;
@@ -105,32 +163,50 @@ fn take_parts(bytes: &[u8]) -> Option<(u32, &[u8], Branches, &[u8])>
     let Some((count, rest)) = take_byte(rest) else {
         return None;
     };
-    if count as usize > MAX_BRANCHES {
+    if count as usize > most_branches(version) {
         return None;
     }
-    let Some((branches, rest)) = take_branches(count, rest) else {
+    let Some(rest) = take_branches(version, count, branches, rest) else {
         return None;
     };
-    Some((format, gtrid, branches, rest))
+    Some((format, gtrid, rest))
 }
 
-/// Takes a transaction from the front. Where the bytes begin with a transaction's spelling, it is that transaction; what else
-/// is taken has to be compared with its spelling.
-pub fn take_tx(bytes: &[u8]) -> Option<(Tx, &[u8])>
-    ensures { MatchOption result ((tx : TxParts) (rest : List ℕ) → IsTx tx → bytes.now ≢ tx_spelling version_2 tx ++ rest)
-        (λ x. (tx : TxParts) (rest : List ℕ) → IsTx tx → bytes.now ≡ tx_spelling version_2 tx ++ rest → (x.0 ≡ tx) × (x.1.now ≡ rest)) }
+/// Whether a version can name the resource managers of a transaction.
+fn are_managers(version: VersionNumber, tx: &Tx) -> bool
+    ensures { result ≡ are_managers (version_of version) tx.now.branches }
 {
-    let Some(parts) = take_parts(bytes) else {
-        return None;
-    };
-    let Ok(tx) = Tx::from_branches(parts.0, parts.1, &parts.2) else {
-        return None;
-    };
-    Some((tx, parts.3))
+    let most = most_managers(version);
+    for i in 0..tx.count() {
+        if tx.rm(i) >= most {
+            return false;
+        }
+    }
+    true
 }
 
+/// Takes a transaction from the front, whose spelling in a version stands there, and answers it and what follows it. None where
+/// the bytes begin with no spelling of a transaction that the version can name.
+pub fn take_tx(version: VersionNumber, bytes: &[u8]) -> Option<(Tx, &[u8])>
+    ensures { taken result ≡ tx_in (version_of version) bytes.now }
+{
+    let mut branches = Branches::new();
+    let Some((format, gtrid, rest)) = take_parts(version, &mut branches, bytes) else {
+        return None;
+    };
+    if !Tx::are_parts(format, gtrid, &branches) {
+        return None;
+    }
+    let tx = Tx::of_parts(format, gtrid, &branches);
+    if !are_managers(version, &tx) {
+        return None;
+    }
+    Some((tx, rest))
+}
+
+/// Takes a vote from the front, a byte: 1 prepared, 2 aborted.
 #[tactic(auto, unfolding(crate::specs::Reading::vote_at))]
-fn take_vote(bytes: &[u8]) -> Option<(Vote, &[u8])>
+pub fn take_vote(bytes: &[u8]) -> Option<(Vote, &[u8])>
     ensures { taken result ≡ vote_at bytes.now }
 {
     let Some((vote, rest)) = take_byte(bytes) else {
@@ -154,7 +230,10 @@ fn take_report(bytes: &[u8]) -> Option<(Option<(u32, Vote)>, &[u8])>
         return None;
     };
     if vote == 0 {
-        return Some((None, after));
+        if ballot == 0 {
+            return Some((None, after));
+        }
+        return None;
     }
     let Some((vote, after)) = take_vote(rest) else {
         return None;
@@ -166,7 +245,7 @@ fn take_report(bytes: &[u8]) -> Option<(Option<(u32, Vote)>, &[u8])>
 fn take_instance(bytes: &[u8]) -> Option<(ManagerNumber, u32, &[u8])>
     ensures { option_map (λ x. (x.0, x.1, x.2.now)) result ≡ instance_at version_2 bytes.now }
 {
-    let Some((rm, rest)) = take_rm(bytes) else {
+    let Some((rm, rest)) = take_rm(VersionNumber::Second, bytes) else {
         return None;
     };
     let Some((ballot, rest)) = take_number(rest) else {
@@ -175,11 +254,135 @@ fn take_instance(bytes: &[u8]) -> Option<(ManagerNumber, u32, &[u8])>
     Some((rm, ballot, rest))
 }
 
+#[tactic(auto, unfolding(crate::specs::Reading::report_item_at))]
+fn take_report_item(bytes: &[u8]) -> Option<(InstanceReport, &[u8])>
+    ensures { taken result ≡ report_item_at bytes.now }
+{
+    let Some((instance, rest)) = take_rm(VersionNumber::Second, bytes) else {
+        return None;
+    };
+    let Some((report, rest)) = take_report(rest) else {
+        return None;
+    };
+    Some((InstanceReport { instance, report }, rest))
+}
+
+#[tactic(auto, unfolding(crate::specs::Reading::accept_item_at))]
+fn take_accept_item(bytes: &[u8]) -> Option<(InstanceAccept, &[u8])>
+    ensures { taken result ≡ accept_item_at bytes.now }
+{
+    let Some((instance, ballot, rest)) = take_instance(bytes) else {
+        return None;
+    };
+    let Some((vote, rest)) = take_vote(rest) else {
+        return None;
+    };
+    Some((
+        InstanceAccept {
+            instance,
+            ballot,
+            vote,
+        },
+        rest,
+    ))
+}
+
+fn more_reports(
+    first: InstanceReport,
+    count: u8,
+    bytes: &[u8],
+) -> Option<(Items<InstanceReport>, &[u8])>
+    requires { count < MAX_BRANCHES }
+    ensures { taken result ≡ with_first first (list_at report_item_at count bytes.now) }
+{
+    let mut all = Items::one(first);
+    let mut rest = bytes;
+    for _ in 0..count {
+        let Some((item, after)) = take_report_item(rest) else {
+            return None;
+        };
+        all.push(item);
+        rest = after;
+    }
+    Some((all, rest))
+}
+
+fn more_accepts(
+    first: InstanceAccept,
+    count: u8,
+    bytes: &[u8],
+) -> Option<(Items<InstanceAccept>, &[u8])>
+    requires { count < MAX_BRANCHES }
+    ensures { taken result ≡ with_first first (list_at accept_item_at count bytes.now) }
+{
+    let mut all = Items::one(first);
+    let mut rest = bytes;
+    for _ in 0..count {
+        let Some((item, after)) = take_accept_item(rest) else {
+            return None;
+        };
+        all.push(item);
+        rest = after;
+    }
+    Some((all, rest))
+}
+
+#[tactic(auto, unfolding(crate::specs::Reading::items_at))]
+fn take_reports(bytes: &[u8]) -> Option<(Items<InstanceReport>, &[u8])>
+    ensures { taken result ≡ items_at report_item_at bytes.now }
+{
+    let Some((count, rest)) = take_byte(bytes) else {
+        return None;
+    };
+    if count == 0 {
+        return None;
+    }
+    if count as usize > MAX_BRANCHES {
+        return None;
+    }
+    let Some((first, rest)) = take_report_item(rest) else {
+        return None;
+    };
+    more_reports(first, count - 1, rest)
+}
+
+#[tactic(auto, unfolding(crate::specs::Reading::items_at))]
+fn take_accepts(bytes: &[u8]) -> Option<(Items<InstanceAccept>, &[u8])>
+    ensures { taken result ≡ items_at accept_item_at bytes.now }
+{
+    let Some((count, rest)) = take_byte(bytes) else {
+        return None;
+    };
+    if count == 0 {
+        return None;
+    }
+    if count as usize > MAX_BRANCHES {
+        return None;
+    }
+    let Some((first, rest)) = take_accept_item(rest) else {
+        return None;
+    };
+    more_accepts(first, count - 1, rest)
+}
+
+/// Takes the end.
+fn take_end(bytes: &[u8]) -> Option<()>
+    ensures { result ≡ end_at bytes.now }
+{
+    let [] = bytes else {
+        return None;
+    };
+    Some(())
+}
+
 #[tactic(auto, unfolding(crate::specs::Reading::p1a_at))]
 fn p1a_of(tx: &Tx, bytes: &[u8]) -> Option<Kind>
-    ensures { result ≡ p1a_at tx.now bytes.now }
+    ensures { result ≡ whole (p1a_at tx.now bytes.now) }
 {
-    let Some((instance, ballot, _)) = take_instance(bytes) else {
+    let Some((instance, ballot, rest)) = take_instance(bytes) else {
+        return None;
+    };
+    let Some(()) = take_end(rest) else {
         return None;
     };
     Some(Kind::P1a {
@@ -191,7 +394,7 @@ fn p1a_of(tx: &Tx, bytes: &[u8]) -> Option<Kind>
 
 #[tactic(auto, unfolding(crate::specs::Reading::p1b_at))]
 fn p1b_of(tx: &Tx, bytes: &[u8]) -> Option<Kind>
-    ensures { result ≡ p1b_at tx.now bytes.now }
+    ensures { result ≡ whole (p1b_at tx.now bytes.now) }
 {
     let Some((instance, ballot, rest)) = take_instance(bytes) else {
         return None;
@@ -199,7 +402,10 @@ fn p1b_of(tx: &Tx, bytes: &[u8]) -> Option<Kind>
     let Some((report, rest)) = take_report(rest) else {
         return None;
     };
-    let Some((acceptor, _)) = take_byte(rest) else {
+    let Some((acceptor, rest)) = take_byte(rest) else {
+        return None;
+    };
+    let Some(()) = take_end(rest) else {
         return None;
     };
     Some(Kind::P1b {
@@ -213,12 +419,15 @@ fn p1b_of(tx: &Tx, bytes: &[u8]) -> Option<Kind>
 
 #[tactic(auto, unfolding(crate::specs::Reading::p2a_at))]
 fn p2a_of(tx: &Tx, bytes: &[u8]) -> Option<Kind>
-    ensures { result ≡ p2a_at tx.now bytes.now }
+    ensures { result ≡ whole (p2a_at tx.now bytes.now) }
 {
     let Some((instance, ballot, rest)) = take_instance(bytes) else {
         return None;
     };
-    let Some((vote, _)) = take_vote(rest) else {
+    let Some((vote, rest)) = take_vote(rest) else {
+        return None;
+    };
+    let Some(()) = take_end(rest) else {
         return None;
     };
     Some(Kind::P2a {
@@ -231,7 +440,7 @@ fn p2a_of(tx: &Tx, bytes: &[u8]) -> Option<Kind>
 
 #[tactic(auto, unfolding(crate::specs::Reading::p2b_at))]
 fn p2b_of(tx: &Tx, bytes: &[u8]) -> Option<Kind>
-    ensures { result ≡ p2b_at tx.now bytes.now }
+    ensures { result ≡ whole (p2b_at tx.now bytes.now) }
 {
     let Some((instance, ballot, rest)) = take_instance(bytes) else {
         return None;
@@ -239,7 +448,10 @@ fn p2b_of(tx: &Tx, bytes: &[u8]) -> Option<Kind>
     let Some((vote, rest)) = take_vote(rest) else {
         return None;
     };
-    let Some((acceptor, _)) = take_byte(rest) else {
+    let Some((acceptor, rest)) = take_byte(rest) else {
+        return None;
+    };
+    let Some(()) = take_end(rest) else {
         return None;
     };
     Some(Kind::P2b {
@@ -253,72 +465,142 @@ fn p2b_of(tx: &Tx, bytes: &[u8]) -> Option<Kind>
 
 #[tactic(auto, unfolding(crate::specs::Reading::ask_at))]
 fn ask_of(tx: &Tx, bytes: &[u8]) -> Option<Kind>
-    ensures { result ≡ ask_at tx.now bytes.now }
+    ensures { result ≡ whole (ask_at tx.now bytes.now) }
 {
-    let Some((rm, _)) = take_rm(bytes) else {
+    let Some((rm, rest)) = take_rm(VersionNumber::Second, bytes) else {
+        return None;
+    };
+    let Some(()) = take_end(rest) else {
         return None;
     };
     Some(Kind::Ask { tx: *tx, rm })
 }
 
-/// The kind of a number, with what follows the transaction.
-#[tactic(auto, unfolding(crate::specs::Reading::kind_at))]
-fn kind_from(code: u8, tx: &Tx, bytes: &[u8]) -> Option<Kind>
-    ensures { result ≡ kind_at code tx.now bytes.now }
+#[tactic(auto, unfolding(crate::specs::Reading::b1a_at))]
+fn b1a_of(tx: &Tx, bytes: &[u8]) -> Option<Kind>
+    ensures { result ≡ whole (b1a_at tx.now bytes.now) }
 {
+    let Some((ballot, rest)) = take_number(bytes) else {
+        return None;
+    };
+    let Some(()) = take_end(rest) else {
+        return None;
+    };
+    Some(Kind::B1a { tx: *tx, ballot })
+}
+
+#[tactic(auto, unfolding(crate::specs::Reading::b1b_at))]
+fn b1b_of(tx: &Tx, bytes: &[u8]) -> Option<Kind>
+    ensures { result ≡ whole (b1b_at tx.now bytes.now) }
+{
+    let Some((ballot, rest)) = take_number(bytes) else {
+        return None;
+    };
+    let Some((acceptor, rest)) = take_byte(rest) else {
+        return None;
+    };
+    let Some((reports, rest)) = take_reports(rest) else {
+        return None;
+    };
+    let Some(()) = take_end(rest) else {
+        return None;
+    };
+    Some(Kind::B1b {
+        tx: *tx,
+        ballot,
+        acceptor,
+        reports,
+    })
+}
+
+#[tactic(auto, unfolding(crate::specs::Reading::b2b_at))]
+fn b2b_of(tx: &Tx, bytes: &[u8]) -> Option<Kind>
+    ensures { result ≡ whole (b2b_at tx.now bytes.now) }
+{
+    let Some((acceptor, rest)) = take_byte(bytes) else {
+        return None;
+    };
+    let Some((accepts, rest)) = take_accepts(rest) else {
+        return None;
+    };
+    let Some(()) = take_end(rest) else {
+        return None;
+    };
+    Some(Kind::B2b {
+        tx: *tx,
+        acceptor,
+        accepts,
+    })
+}
+
+/// The kind of a number that is a transaction alone.
+#[tactic(auto, unfolding(crate::specs::Reading::kind_at))]
+fn bare_of(code: u8, tx: &Tx, bytes: &[u8]) -> Option<Kind>
+    requires { (code ≡ 1) ⊎ (code ≡ 6) ⊎ (code ≡ 7) }
+    ensures { result ≡ whole (kind_at code tx.now bytes.now) }
+{
+    let Some(()) = take_end(bytes) else {
+        return None;
+    };
     match code {
         1 => Some(Kind::Prepare(*tx)),
+        6 => Some(Kind::Commit(*tx)),
+        _ => Some(Kind::Abort(*tx)),
+    }
+}
+
+/// The kind of a number, with what follows the transaction, to the end.
+#[tactic(auto, unfolding(crate::specs::Reading::kind_at))]
+fn kind_from(code: u8, tx: &Tx, bytes: &[u8]) -> Option<Kind>
+    ensures { result ≡ whole (kind_at code tx.now bytes.now) }
+{
+    match code {
+        1 => bare_of(1, tx, bytes),
         2 => p1a_of(tx, bytes),
         3 => p1b_of(tx, bytes),
         4 => p2a_of(tx, bytes),
         5 => p2b_of(tx, bytes),
-        6 => Some(Kind::Commit(*tx)),
-        7 => Some(Kind::Abort(*tx)),
+        6 => bare_of(6, tx, bytes),
+        7 => bare_of(7, tx, bytes),
         8 => ask_of(tx, bytes),
+        10 => b1a_of(tx, bytes),
+        11 => b1b_of(tx, bytes),
+        12 => b2b_of(tx, bytes),
         _ => None,
     }
 }
 
-/// The kind that these bytes spell, if they spell a message.
-fn kind_of(bytes: &[u8]) -> Option<Kind>
-    ensures { (k : Kind) → IsMessage k → bytes.now ≡ spelling k → result ≡ Some k }
+/// The number of the kind, and what follows it, behind the version.
+fn take_code(bytes: &[u8]) -> Option<(u8, &[u8])>
+    ensures { MatchOption result ((k : Kind) → bytes.now ≢ spelling k) (λ x. bytes.now ≡ version_2.byte ∷ x.0 ∷ x.1.now) }
 {
-    let Some((_version, rest)) = take_byte(bytes) else {
+    let [VERSION, code, rest @ ..] = bytes else {
         return None;
     };
-    let Some((code, rest)) = take_byte(rest) else {
-        return None;
-    };
-    let Some(taken) = take_tx(rest) else {
-        return None;
-    };
-    kind_from(code, &taken.0, taken.1)
+    Some((*code, rest))
 }
 
-/// Whether these bytes are the spelling of a message.
-fn is_spelling(message: &Message, bytes: &[u8]) -> bool
-    ensures { IsTrue result ↔ (bytes.now ≡ spelling message.now) }
-{
-    let mut again = [0; MAX_DATAGRAM];
-    let len = encode(message, &mut again);
-    &again[..len] == bytes
-}
-
-/// The message that these bytes spell. All other bytes are refused (`BadMessage`). It is read leniently and compared with its
-/// one spelling.
+/// The message that these bytes spell. All other bytes are refused (`BadMessage`).
 pub fn decode(bytes: &[u8]) -> Result<Message, Refusal>
     ensures ok { IfOk result (λ m. Spells m bytes.now) }
     ensures err { IfErr result (λ e. (e ≡ BadMessage) × ((k : Kind) → IsMessage k → bytes.now ≢ spelling k)) }
 {
-    let Some(kind) = kind_of(bytes) else {
+    let Some((code, rest)) = take_code(bytes) else {
         return Err(Refusal::BadMessage);
     };
-    if !is_message(&kind) {
+    let mut branches = Branches::new();
+    let Some((format, gtrid, rest)) = take_parts(VersionNumber::Second, &mut branches, rest) else {
+        return Err(Refusal::BadMessage);
+    };
+    if !Tx::are_parts(format, gtrid, &branches) {
         return Err(Refusal::BadMessage);
     }
-    let message = Message::new(kind);
-    if !is_spelling(&message, bytes) {
+    let taken = kind_from(code, &Tx::of_parts(format, gtrid, &branches), rest);
+    let Some(kind) = &taken else {
+        return Err(Refusal::BadMessage);
+    };
+    if !is_message(kind) {
         return Err(Refusal::BadMessage);
     }
-    Ok(message)
+    Ok(Message::new(*kind))
 }

@@ -1,18 +1,21 @@
-ghost use Rattle.std.specs.Prelude.{◌≡◌, ℕ, ◌+◌, ◌<◌, ◌≤◌, [], ◌∷◌, ◌++◌, length, take, drop};
+ghost use Rattle.std.specs.Prelude.{◌≡◌, ℕ, ◌+◌, ◌*◌, ◌<◌, ◌≤◌, [], ◌∷◌, ◌++◌, length, take, drop};
 ghost use Rattle.std.specs.List.{flat_map};
 ghost use Rattle.xid.specs.Transactions.{nth_branch};
 ghost use Rattle.wire.specs.Messages.{IsMessage};
 ghost use Rattle.wire.specs.Versions.{version_2};
 ghost use Rattle.wire.specs.Grammar.{number_spelling, rm_spelling, component_spelling, branch_spelling, branches_spelling};
-ghost use Rattle.wire.specs.Grammar.{tx_spelling, vote_byte, report_spelling, kind_byte, rest_spelling, spelling};
+ghost use Rattle.wire.specs.Grammar.{tx_spelling, vote_byte, report_spelling, report_item_spelling, accept_item_spelling, kind_byte};
+ghost use Rattle.wire.specs.Grammar.{rest_spelling, spelling};
 
 use crate::grammar::{
-    MAX_BRANCH_BYTES, MAX_BRANCHES_BYTES, MAX_COMPONENT_BYTES, MAX_DATAGRAM, MAX_MESSAGE_BYTES,
-    MAX_REST_BYTES, MAX_TX_BYTES, NUMBER_BYTES, REPORT_BYTES, RM_BYTES, VERSION,
+    ITEM_BYTES, MAX_BRANCH_BYTES, MAX_BRANCHES_BYTES, MAX_COMPONENT_BYTES, MAX_DATAGRAM,
+    MAX_ITEMS_BYTES, MAX_MESSAGE_BYTES, MAX_REST_BYTES, MAX_TX_BYTES, NUMBER_BYTES, REPORT_BYTES,
+    RM_BYTES, VERSION,
 };
+use crate::items::{InstanceAccept, InstanceReport};
 use crate::message::{Kind, Message};
 use byteorder::{BigEndian, ByteOrder};
-use xid::{MAX_COMPONENT, ManagerNumber, Tx, Vote};
+use xid::{MAX_BRANCHES, MAX_COMPONENT, ManagerNumber, Tx, Vote};
 
 /// Puts bytes at a place. Each of these functions answers the place after what it put; what is in front of it and what follows
 /// it stays.
@@ -133,6 +136,55 @@ fn put_report(out: &mut [u8], at: usize, report: Option<(u32, Vote)>) -> usize
     put_byte(out, at, vote)
 }
 
+fn put_report_item(item: &InstanceReport, out: &mut [u8], at: usize) -> usize
+    requires { at + ITEM_BYTES ≤ length out.old }
+    ensures end { result ≡ at + ITEM_BYTES }
+    ensures shown { take result out.new ≡ take at out.old ++ report_item_spelling version_2 item.now }
+    ensures rest { (n : ℕ) → result ≤ n → drop n out.new ≡ drop n out.old }
+{
+    let at = put_rm(out, at, item.instance);
+    put_report(out, at, item.report)
+}
+
+fn put_accept_item(item: &InstanceAccept, out: &mut [u8], at: usize) -> usize
+    requires { at + ITEM_BYTES ≤ length out.old }
+    ensures end { result ≡ at + ITEM_BYTES }
+    ensures shown { take result out.new ≡ take at out.old ++ accept_item_spelling version_2 item.now }
+    ensures rest { (n : ℕ) → result ≤ n → drop n out.new ≡ drop n out.old }
+{
+    let at = put_rm(out, at, item.instance);
+    let at = put_number(out, at, item.ballot);
+    put_byte(out, at, byte_of_vote(item.vote))
+}
+
+fn put_reports(reports: &[InstanceReport], out: &mut [u8], at: usize) -> usize
+    requires few { length reports.now ≤ MAX_BRANCHES }
+    requires room { at + MAX_ITEMS_BYTES ≤ length out.old }
+    ensures end { result ≡ at + 1 + ITEM_BYTES * length reports.now }
+    ensures shown { take result out.new ≡ take at out.old ++ length reports.now ∷ flat_map (report_item_spelling version_2) reports.now }
+    ensures rest { (n : ℕ) → result ≤ n → drop n out.new ≡ drop n out.old }
+{
+    let mut at = put_byte(out, at, reports.len() as u8);
+    for item in reports {
+        at = put_report_item(item, out, at);
+    }
+    at
+}
+
+fn put_accepts(accepts: &[InstanceAccept], out: &mut [u8], at: usize) -> usize
+    requires few { length accepts.now ≤ MAX_BRANCHES }
+    requires room { at + MAX_ITEMS_BYTES ≤ length out.old }
+    ensures end { result ≡ at + 1 + ITEM_BYTES * length accepts.now }
+    ensures shown { take result out.new ≡ take at out.old ++ length accepts.now ∷ flat_map (accept_item_spelling version_2) accepts.now }
+    ensures rest { (n : ℕ) → result ≤ n → drop n out.new ≡ drop n out.old }
+{
+    let mut at = put_byte(out, at, accepts.len() as u8);
+    for item in accepts {
+        at = put_accept_item(item, out, at);
+    }
+    at
+}
+
 fn byte_of_kind(kind: &Kind) -> u8
     ensures { result ≡ kind_byte kind.now }
 {
@@ -145,6 +197,49 @@ fn byte_of_kind(kind: &Kind) -> u8
         Kind::Commit(_) => 6,
         Kind::Abort(_) => 7,
         Kind::Ask { .. } => 8,
+        Kind::B1a { .. } => 10,
+        Kind::B1b { .. } => 11,
+        Kind::B2b { .. } => 12,
+    }
+}
+
+/// Puts what follows the transaction of a bundle.
+fn put_bundle(kind: &Kind, out: &mut [u8], at: usize) -> usize
+    requires bundle { 9 < kind_byte kind.now }
+    requires room { at + MAX_REST_BYTES ≤ length out.old }
+    ensures end { result ≡ at + length (rest_spelling version_2 kind.now) }
+    ensures few { result ≤ at + MAX_REST_BYTES }
+    ensures shown { take result out.new ≡ take at out.old ++ rest_spelling version_2 kind.now }
+    ensures rest { (n : ℕ) → result ≤ n → drop n out.new ≡ drop n out.old }
+{
+    match *kind {
+        Kind::Prepare(_) => at,
+        Kind::P1a { .. } => at,
+        Kind::P1b { .. } => at,
+        Kind::P2a { .. } => at,
+        Kind::P2b { .. } => at,
+        Kind::Commit(_) => at,
+        Kind::Abort(_) => at,
+        Kind::Ask { .. } => at,
+        Kind::B1a { ballot, .. } => put_number(out, at, ballot),
+        Kind::B1b {
+            ballot,
+            acceptor,
+            reports,
+            ..
+        } => {
+            let at = put_number(out, at, ballot);
+            let at = put_byte(out, at, acceptor);
+            put_reports(reports.as_slice(), out, at)
+        }
+        Kind::B2b {
+            acceptor,
+            accepts,
+            ..
+        } => {
+            let at = put_byte(out, at, acceptor);
+            put_accepts(accepts.as_slice(), out, at)
+        }
     }
 }
 
@@ -204,6 +299,9 @@ fn put_rest(kind: &Kind, out: &mut [u8], at: usize) -> usize
         Kind::Commit(_) => at,
         Kind::Abort(_) => at,
         Kind::Ask { rm, .. } => put_rm(out, at, rm),
+        Kind::B1a { .. } => put_bundle(kind, out, at),
+        Kind::B1b { .. } => put_bundle(kind, out, at),
+        Kind::B2b { .. } => put_bundle(kind, out, at),
     }
 }
 

@@ -39,7 +39,7 @@ impl Model for Xid {
 
 impl Xid {
     /// The XID of these parts. Refused (`BadXid`): a format below 0 (the null XID's -1 among them) or above 2^31-1,
-    /// and a gtrid or bqual without bytes or with more than 64.
+    /// and a gtrid or bqual without bytes or with more than 64. Then there is no XID.
     pub fn new(format: i64, gtrid: &[u8], bqual: &[u8]) -> Result<Xid, Refusal>
         ensures ok { IfOk result (λ x. IsXid x × (format ≡ pos x.format) × (x.gtrid ≡ gtrid.now) × (x.bqual ≡ bqual.now)) }
         ensures err { IfErr result (λ e. (e ≡ BadXid) × ((x : XidParts) → IsXid x → format ≡ pos x.format
@@ -107,7 +107,7 @@ impl Xid {
         area
     }
 
-    /// The XID whose text this is, as `1:7431:6231`. Every other text is refused (`BadXid`).
+    /// The XID whose text this is, as `1:7431:6231`. Every other text is refused (`BadXid`), and nothing is made of it.
     pub fn read(text: &[u8]) -> Result<Xid, Refusal>
         ensures ok { IfOk result (λ x. IsXid x × (text.now ≡ xid_text x)) }
         ensures err { IfErr result (λ e. (e ≡ BadXid) × ((x : XidParts) → IsXid x → text.now ≢ xid_text x)) }

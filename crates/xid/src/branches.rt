@@ -95,7 +95,7 @@ impl Branches {
         }
     }
 
-    /// Puts a branch after the others.
+    /// Puts a branch after the others. It is called only where there is room, and with a bqual of at most 64 bytes.
     pub fn push(&mut self, rm: ManagerNumber, bqual: &[u8])
         requires room { length self.old < most_branches }
         requires few { length bqual.now ≤ most_component }

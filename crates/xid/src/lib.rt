@@ -1,5 +1,5 @@
 //! The names of X/Open XA: transaction branches and transactions, with one text for each; and what the whole system
-//! shares: its limits, and the refusals that it answers with.
+//! shares: its limits, and the refusals that it answers with. A call of this crate that is refused leaves all as it was.
 #![tactic(auto)]
 
 mod branch_id;

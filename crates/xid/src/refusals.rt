@@ -20,10 +20,10 @@ pub enum Refusal {
     /// 4: a record holds something that is no list of facts, or facts that don't play. The node is down.
     #[error("refused 4")]
     Damaged,
-    /// 5: a call of the record failed. The node is down.
+    /// 5: a call of the record failed. The node is down; a fact is stored where its whole frame was kept.
     #[error("refused 5")]
     RecordFault,
-    /// 6: the leader owns no greater ballot.
+    /// 6: the leader owns no greater ballot. Nothing changed.
     #[error("refused 6")]
     NoBallot,
     /// 7: the first line, counted from 1, that is not as a script or a trace has it. Nothing was run.
@@ -32,16 +32,16 @@ pub enum Refusal {
         /// The line at fault.
         line: usize,
     },
-    /// 8: the node is down.
+    /// 8: the node is down, and stays so until it is restarted.
     #[error("refused 8")]
     Down,
-    /// 9: another branch holds the key.
+    /// 9: another branch holds the key: has put or deleted it, or, for a put or del, has touched it. Nothing changed.
     #[error("refused 9")]
     Busy,
-    /// 10: the branch has touched as many keys as a branch may.
+    /// 10: the branch has touched as many keys as a branch may. Nothing changed.
     #[error("refused 10")]
     Full,
-    /// 11: memory ran out.
+    /// 11: memory ran out. What was asked didn't happen; a node at which it ran out is down.
     #[error("refused 11")]
     NoMemory,
     /// 12: a socket failed.

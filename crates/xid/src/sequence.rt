@@ -50,7 +50,7 @@ impl<T> Sequence<T> {
 pub type Bytes = Sequence<u8>;
 
 impl Sequence<u8> {
-    /// A copy of bytes. Refused: `NoMemory` alone.
+    /// A copy of bytes. At `NoMemory`, the only refusal, there is no copy, and the bytes stand as they were.
     pub fn copy_of(alloc: Global, bytes: &[u8]) -> Result<Bytes, Refusal>
         ensures ok { IfOk result (λ copy. copy ≡ bytes.now) }
         ensures err { IfErr result (λ e. e ≡ NoMemory) }

@@ -10,7 +10,7 @@ use crate::component::Component;
 use crate::limits::MAX_COMPONENT;
 use itoa::Buffer;
 
-/// The number below 2^32 whose text this is: decimal digits, with no leading zero.
+/// The number below 2^32 whose text this is: decimal digits, with no leading zero. None where the text is no such one.
 pub fn number(text: &[u8]) -> Option<u32>
     ensures { MatchOption result ((n : ℕ) → n < 2 ^ 32 → text.now ≢ decimal n) (λ n. text.now ≡ decimal n) }
 {
@@ -28,7 +28,7 @@ pub fn number(text: &[u8]) -> Option<u32>
     }
 }
 
-/// The text before the first mark, and the text after it.
+/// The text before the first mark, and the text after it. None where the mark isn't there.
 pub fn split_once(text: &[u8], mark: u8) -> Option<(&[u8], &[u8])>
     ensures { MatchOption result (lacks mark text.now ≡ true)
         (λ parts. (text.now ≡ parts.0.now ++ mark ∷ parts.1.now) × (lacks mark parts.0.now ≡ true)) }

@@ -44,7 +44,8 @@ impl Tx {
     ghost use Rattle.xid.specs.Transactions.{is_participant, participants, xid_at, tx_text};
 
     /// The transaction of these parts, each branch by its resource manager's number and its bqual. Refused (`BadTx`): no branch
-    /// or more than 16, a number above 63, numbers that don't ascend strictly, and a format or a length that no XID has.
+    /// or more than 16, a number above 63, numbers that don't ascend strictly, and a format or a length that no XID has. Then
+    /// there is no transaction.
     pub fn new(
         format: i64,
         gtrid: &[u8],
@@ -64,20 +65,35 @@ impl Tx {
         Tx::from_branches(format, gtrid, &branches)
     }
 
-    /// The same of branches that stand in place.
+    /// The same of branches that stand in place. Refused (`BadTx`) as `new` is; the branches stay as they are.
     pub fn from_branches(format: u32, gtrid: &[u8], branches: &Branches) -> Result<Tx, Refusal>
         ensures ok { IfOk result (λ tx. IsTx tx × (tx ≡ record { format = format; gtrid = gtrid.now; branches = branches.now })) }
         ensures err { IfErr result (λ e. (e ≡ BadTx)
             × (IsTx (record { format = format; gtrid = gtrid.now; branches = branches.now }) → ⊥)) }
     {
-        if format >= FORMATS || !is_component(gtrid) || !are_branches(branches.as_slice()) {
+        if !Tx::are_parts(format, gtrid, branches) {
             return Err(Refusal::BadTx);
         }
-        Ok(Tx {
+        Ok(Tx::of_parts(format, gtrid, branches))
+    }
+
+    /// Whether these are the parts of a transaction.
+    pub fn are_parts(format: u32, gtrid: &[u8], branches: &Branches) -> bool
+        ensures { IsTrue result ↔ IsTx (record { format = format; gtrid = gtrid.now; branches = branches.now }) }
+    {
+        format < FORMATS && is_component(gtrid) && are_branches(branches.as_slice())
+    }
+
+    /// The transaction of these parts, which `are_parts` tells.
+    pub fn of_parts(format: u32, gtrid: &[u8], branches: &Branches) -> Tx
+        requires { IsTx (record { format = format; gtrid = gtrid.now; branches = branches.now }) }
+        ensures { result ≡ record { format = format; gtrid = gtrid.now; branches = branches.now } }
+    {
+        Tx {
             format,
             gtrid: Component::new(gtrid),
             branches: *branches,
-        })
+        }
     }
 
     /// Its format, 0 to 2^31-1.
@@ -125,7 +141,7 @@ impl Tx {
         self.branches.as_slice()[i].bqual()
     }
 
-    /// The XID of a resource manager's branch, where it takes part.
+    /// The XID of a resource manager's branch, where it takes part; None where it doesn't.
     pub fn branch(&self, rm: ManagerNumber) -> Option<Xid>
         ensures value { result ≡ xid_at self.now rm }
         ensures valid { IsTx self.now }
@@ -156,7 +172,8 @@ impl Tx {
         *self == *other
     }
 
-    /// The transaction whose text this is, as `1:7431/0=6231,1=6232`. Every other text is refused (`BadTx`).
+    /// The transaction whose text this is, as `1:7431/0=6231,1=6232`. Every other text is refused (`BadTx`), and nothing
+    /// is made of it.
     pub fn read(text: &[u8]) -> Result<Tx, Refusal>
         ensures ok { IfOk result (λ tx. IsTx tx × (text.now ≡ tx_text tx)) }
         ensures err { IfErr result (λ e. (e ≡ BadTx) × ((tx : TxParts) → IsTx tx → text.now ≢ tx_text tx)) }

@@ -1,12 +1,12 @@
 -- A slot is what the facts of an acceptor say.
 use Rattle.std.proofs.Common.{◌≡◌, ◌⊎◌, inl, inr, ⊎_elim, ◌∙◌, ℕ, ◌≤◌, Bool, true, ◌&&◌, not, if◌then◌else◌, List, [], ◌∷◌, ◌++◌, Some}
 use Rattle.std.proofs.Common.{None, refl, sym, ap, subst, arith, append_assoc, nat_le}
-use Rattle.std.specs.Prelude.{Option, filter_map, unwrap_or}
+use Rattle.std.specs.Prelude.{Option, IsTrue, filter_map, unwrap_or}
 use Rattle.std.specs.List.{last_or, cons_option}
-use Rattle.std.proofs.lemmas.Bool.{cond_both, and_parts, leb-true}
+use Rattle.std.proofs.lemmas.Bool.{cond_both, cond-true, and_from, and_parts, leb-true}
 use Rattle.std.proofs.lemmas.List.{append-nil}
 use Rattle.std.proofs.lemmas.List.Elements.{filter_map-append}
-use Rattle.xid.specs.Transactions.{TxParts, is_participant}
+use Rattle.xid.specs.Transactions.{TxParts, is_participant, tx_eq}
 use Rattle.xid.specs.declared.transaction.Vote.{Vote}
 use Rattle.ballot.specs.Choice.{Report}
 use Rattle.safety.specs.Words.{Fact, A}
@@ -16,6 +16,8 @@ use Rattle.protocol.specs.Effects.{Config}
 use Rattle.protocol.specs.Facts.{instance_eq, ballot_joined, accept_of, slot}
 use Rattle.protocol.specs.Nodes.{all_play}
 use Rattle.safety.specs.Laws.{IsGreatestAccept, IsJoinedBallot, IsSlot}
+use Rattle.safety.specs.Standing.{IsPromised}
+use Rattle.xid.proofs.Deciding.{tx_self, tx_decides}
 use Rattle.ballot.specs.Greatest.{IsIn}
 use Rattle.protocol.proofs.Same.{instance_eq-same, instance_eq-is}
 use Rattle.safety.proofs.Lists.{IsIn-append, IsIn-before, IsIn-last}
@@ -30,8 +32,14 @@ joined_here tx i b = ap (λ (t : Bool). if t then Some b else None) (instance_eq
 accepted_joins : (tx : TxParts) (i b : ℕ) (v : Vote) → ballot_joined tx i (stored.Accept tx i b v) ≡ Some b
 accepted_joins tx i b v = ap (λ (t : Bool). if t then Some b else None) (instance_eq-same tx i)
 
-promised_below : (facts : List Fact) (tx : TxParts) (i b : ℕ) → IsIn facts (stored.Promise tx i b) → b ≤ (slot facts tx i).mbal
-promised_below facts tx i b h = at_most_greatest (ballot_joined tx i) facts (stored.Promise tx i b) b h (joined_here tx i b)
+joined_all : (tx : TxParts) (i b : ℕ) → IsTrue (is_participant tx i) → ballot_joined tx i (stored.PromiseAll tx b) ≡ Some b
+joined_all tx i b named = cond-true (is_participant tx i
+    && tx_eq tx tx) (Some b) None (and_from (is_participant tx i) (tx_eq tx tx) named (tx_self tx))
+
+promised_below : (facts : List Fact) (tx : TxParts) (i b : ℕ) → IsPromised facts tx i b → b ≤ (slot facts tx i).mbal
+promised_below facts tx i b (inl h) = at_most_greatest (ballot_joined tx i) facts (stored.Promise tx i b) b h (joined_here tx i b)
+promised_below facts tx i b (inr h) =
+    at_most_greatest (ballot_joined tx i) facts (stored.PromiseAll tx b) b h.1 (joined_all tx i b h.0)
 
 accepted_below : (facts : List Fact) (tx : TxParts) (i b : ℕ) (v : Vote) → IsIn facts (stored.Accept tx i b v) → b ≤ (slot facts tx i).mbal
 accepted_below facts tx i b v h = at_most_greatest (ballot_joined tx i) facts (stored.Accept tx i b v) b h (accepted_joins tx i b v)
@@ -46,14 +54,29 @@ joined_same tx other i j b c =
     (λ e h. let same = instance_eq-is tx other i j e in (sym same.0, sym same.1, ap (λ (o : Option ℕ). unwrap_or o 0) h))
     (λ e h. absurd (cc (h)))
 
+all_joined_by : (facts : List Fact) (tx other : TxParts) (i b c : ℕ)
+    → (if is_participant tx i && tx_eq tx other then Some c else None) ≡ Some b → IsIn facts (stored.PromiseAll other c)
+    → IsTrue (is_participant tx i) × IsIn facts (stored.PromiseAll tx b)
+all_joined_by facts tx other i b c =
+    cond_both (is_participant tx i && tx_eq tx other) (Some c) None
+    (λ (o : Option ℕ). o ≡ Some b → IsIn facts (stored.PromiseAll other c)
+    → IsTrue (is_participant tx i) × IsIn facts (stored.PromiseAll tx b))
+    (λ e f h.
+    let parts = and_parts (is_participant tx i) (tx_eq tx other) e in
+    let et : other ≡ tx = sym ((tx_decides tx other).0 parts.1) in
+    let eb : c ≡ b = ap (λ (o : Option ℕ). unwrap_or o 0) f in
+    (parts.0, subst (λ (g : Fact). IsIn facts g) (λ k. stored.PromiseAll (et k) (eb k)) h))
+    (λ e f h. absurd (cc (f)))
+
 joined_by : (facts : List Fact) (tx : TxParts) (i b : ℕ) (fact : Fact) → IsIn facts fact → ballot_joined tx i fact ≡ Some b
     → IsJoinedBallot facts tx i b
 joined_by facts tx i b (stored.Promise other j c) h e =
     let same = joined_same tx other i j b c e in
-    inr (inl (subst (λ (f : Fact). IsIn facts f) (λ k. stored.Promise (same.0 k) (same.1 k) (same.2 k)) h))
+    inr (inl (inl (subst (λ (f : Fact). IsIn facts f) (λ k. stored.Promise (same.0 k) (same.1 k) (same.2 k)) h)))
 joined_by facts tx i b (stored.Accept other j c v) h e =
     let same = joined_same tx other i j b c e in
     inr (inr (v, subst (λ (f : Fact). IsIn facts f) (λ k. stored.Accept (same.0 k) (same.1 k) (same.2 k) v) h))
+joined_by facts tx i b (stored.PromiseAll other c) h e = inr (inl (inr (all_joined_by facts tx other i b c e h)))
 joined_by facts tx i b fact h e = absurd (cc (e))
 
 mbal_joined : (facts : List Fact) (tx : TxParts) (i : ℕ) → IsJoinedBallot facts tx i (slot facts tx i).mbal
@@ -105,7 +128,7 @@ accept_is tx i (stored.Accept other j b v) last =
 accept_is tx i fact last = λ h. absurd (cc (h))
 
 -- an accept plays no lower than any ballot before
-plays_above : (facts : List Fact) (tx : TxParts) (i b : ℕ) (v : Vote) → plays_at_acceptor facts (stored.Accept tx i b v) ≡ true
+plays_above : (facts : List Fact) (tx : TxParts) (i b : ℕ) (v : Vote) → plays_at_acceptor (slot facts) (stored.Accept tx i b v) ≡ true
     → (slot facts tx i).mbal ≤ b
 plays_above facts tx i b v h =
     leb-true (slot facts tx i).mbal b
@@ -139,11 +162,11 @@ module _ (facts : List Fact) (fact : Fact) (tx : TxParts) (i : ℕ) where
   )
 
   added : (last : ℕ × Vote)
-      → accept_of tx i fact ≡ Some last → plays_at_acceptor facts fact ≡ true
+      → accept_of tx i fact ≡ Some last → plays_at_acceptor (slot facts) fact ≡ true
       → IsGreatestAccept (facts ++ fact ∷ []) tx i (Some last)
   added last e h =
       let is : fact ≡ stored.Accept tx i last.0 last.1 = accept_is tx i fact last e in
-      let above = plays_above facts tx i last.0 last.1 (subst (λ (f : Fact). plays_at_acceptor facts f ≡ true) is h) in (
+      let above = plays_above facts tx i last.0 last.1 (subst (λ (f : Fact). plays_at_acceptor (slot facts) f ≡ true) is h) in (
         subst (λ (f : Fact). IsIn (facts ++ fact ∷ []) f) is (IsIn-last facts fact),
         λ b v at. ⊎_elim
             (λ old. let low = accepted_below facts tx i b v old in omega (arith, low, above))
@@ -152,7 +175,7 @@ module _ (facts : List Fact) (fact : Fact) (tx : TxParts) (i : ℕ) where
       )
 
   stepped : (o : Report)
-      → accept_of tx i fact ≡ o → plays_at_acceptor facts fact ≡ true
+      → accept_of tx i fact ≡ o → plays_at_acceptor (slot facts) fact ≡ true
       → IsGreatestAccept facts tx i (report_in facts tx i) → IsGreatestAccept (facts ++ fact ∷ []) tx i (later o (report_in facts tx i))
   stepped None e h is = kept (report_in facts tx i) e is
   stepped (Some last) e h is = added last e h
@@ -163,7 +186,7 @@ module _ (config : Config) (a : ℕ) (tx : TxParts) (i : ℕ) where
       → all_play config (A a) before facts ≡ true → IsGreatestAccept (before ++ facts) tx i (report_in (before ++ facts) tx i)
   after before [] is h = subst (λ (fs : List Fact). IsGreatestAccept fs tx i (report_in fs tx i)) (sym (append-nil before)) is
   after before (fact ∷ facts) is h =
-      let parts = and_parts (plays_at_acceptor before fact) (all_play config (A a) (before ++ fact ∷ []) facts) h in
+      let parts = and_parts (plays_at_acceptor (slot before) fact) (all_play config (A a) (before ++ fact ∷ []) facts) h in
       let next = subst (λ (r : Report). IsGreatestAccept (before ++ fact ∷ []) tx i r) (sym (report-next before tx i fact))
       (stepped before fact tx i (accept_of tx i fact) refl parts.0 is) in
       subst (λ (fs : List Fact). IsGreatestAccept fs tx i (report_in fs tx i)) (append_assoc before (fact ∷ []) facts)

@@ -12,7 +12,8 @@ use Rattle.stable_record.specs.declared.fact.FactKind.TheVariants as stored
 use Rattle.protocol.specs.Effects.{Config, Effect}
 use Rattle.protocol.specs.Nodes.{Memory, Input, effect_of}
 use Rattle.protocol.specs.Leaders.{plays_at_leader}
-use Rattle.protocol.specs.StandsFor.{stands_for}
+use Rattle.protocol.specs.Facts.{last_ballot}
+use Rattle.protocol.specs.StandsFor.{stands_for, message_items}
 use Rattle.safety.specs.Items.{Item, Began, P1b, P2a, P2b, Commit, Abort, Setting, IsAllowed, IsProposal, IsMajorityPick}
 use Rattle.safety.specs.Invariant.{Invariant}
 use Rattle.safety.specs.Senders.{IsFrom}
@@ -23,7 +24,7 @@ use Rattle.ballot.proofs.Majorities.{majorities_meet}
 use Rattle.safety.proofs.Argument.Preservation.{IsDecided-kept, IsMajorityPick-kept}
 use Rattle.safety.proofs.Argument.Additions.{AreAllowed, Contains-one, Contains-head}
 use Rattle.safety.proofs.Argument.Events.{with_items}
-use Rattle.safety.proofs.Lists.{IsIn-append, IsIn-before, IsIn-push, IsIn-mapped}
+use Rattle.safety.proofs.Lists.{IsIn-append, IsIn-before, IsIn-push, IsIn-joined}
 use Rattle.safety.proofs.World.Growth.{items_of}
 use Rattle.safety.proofs.World.AllowedEffects.{NamesParticipant, IsAllowedEffect}
 use Rattle.safety.proofs.Leader.Invariant.{IsSentItem, LeaderInvariant, AreProposalsBacked, IsSentBy, IsNewBallot, MaySend}
@@ -33,10 +34,11 @@ use Rattle.safety.proofs.Leader.Effects.{IsLeaderEffect, IsTakenSent, leader_eff
 pub record IsAllowedLeaderEffect (config : Config) (l : ℕ) (facts : NodeId → List Fact) (sent : List Kind)
     (e : Effect Memory) : Type 0 where
   pub allowed : IsAllowedEffect config (L l) facts sent e.fact (messages_of e.sends)
-  pub plays : (fact : Fact) → e.fact ≡ Some fact → plays_at_leader config.leaders l (facts (L l)) fact ≡ true
+  pub plays : (fact : Fact) → e.fact ≡ Some fact → plays_at_leader config.leaders l (last_ballot (facts (L l))) fact ≡ true
 
 sent_by : (sends : List Outgoing) (m : Kind) → IsIn (messages_of sends) m → IsSentBy sends m
-sent_by sends m h = let at = IsIn-mapped (λ (s : Outgoing). s.message) sends m h in (at.source, at.among, at.maps)
+sent_by sends m h =
+    let at = IsIn-joined (λ (s : Outgoing). stands_for s.message) sends m h in (at.source, at.among, at.inside)
 
 -- what was proposed in a leader's ballots, its record has begun
 pub backed_by : (config : Config) (l : ℕ) (facts : NodeId → List Fact) (sent : List Kind)
@@ -91,7 +93,7 @@ module _ (config : Config) (l : ℕ) (facts : NodeId → List Fact) (sent : List
       named (kinds.P1b tx i b (pick.report some.member) some.member) (pick.heard some.member some.below some.of_first)
 
   may_send_allowed : (m : Kind) → MaySend config l (with_fact (facts (L l)) fact) (IsIn sent) m → (y : Item TxParts)
-      → IsIn (stands_for m) y
+      → IsIn (message_items m) y
       → IsAllowed (setting config) Then y
   may_send_allowed (kinds.P2a tx i b v) may y (inl e) =
       subst (IsAllowed (setting config) Then) e (proposal_is_allowed (setting config) Then tx i b v may.owned.0 (record {

@@ -5,23 +5,24 @@ use Rattle.std.specs.List.{list_any, list_all, cons_option}
 use Rattle.std.proofs.lemmas.Bool.{both_ways, and_from, and_parts, and_cases, or_cases, or_parts, eq-eqb, eqb-true, ltb-true, cond_both}
 use Rattle.std.proofs.lemmas.Bool.{not-false}
 use Rattle.std.proofs.lemmas.Bool.{cond-true}
-use Rattle.xid.specs.Transactions.{TxParts, BranchParts, participants, is_participant, is_at}
+use Rattle.xid.specs.Transactions.{TxParts, participants, is_participant}
 use Rattle.xid.specs.declared.transaction.Vote.{Vote}
 use Rattle.xid.specs.declared.transaction.Vote.TheVariants.{Prepared, Aborted}
 use Rattle.wire.specs.declared.message.Kind.{Kind}
 use Rattle.wire.specs.declared.message.Kind.TheVariants.{P1b, P2b}
 use Rattle.ballot.specs.Choice.{Report, IsIn, pick, top_of, says_prepared, is_prepared}
-use Rattle.safety.specs.Words.{Fact, Status}
+use Rattle.safety.specs.Words.{Status}
 use Rattle.protocol.specs.Facts.{instance_eq, vote_eq}
 use Rattle.protocol.specs.declared.states.Status.TheVariants as statuses
-use Rattle.protocol.specs.LeaderMemory.{LeaderMemory, message_report, is_report_of, has_reported, is_reported, value_to_propose}
+use Rattle.protocol.specs.LeaderMemory.{LeaderMemory, StoredBallots, message_report, is_report_of, has_reported, is_reported}
+use Rattle.protocol.specs.LeaderMemory.{value_to_propose}
 use Rattle.protocol.specs.LeaderMemory.{is_accept_of, ballot_told, is_decided, is_known, status_of}
 use Rattle.protocol.proofs.Same.{instance_eq-is, instance_eq-same}
 use Rattle.ballot.proofs.Picks.{below_top, some_in, top_in, says_top, says_each}
 use Rattle.safety.specs.Items.{IsMajorityPick, IsDecided, IsBallotAtMost}
 use Rattle.ballot.specs.Greatest.{IsIn}
-use Rattle.safety.proofs.Facts.{vote_eq-is}
-use Rattle.safety.proofs.Lists.{any_found, found_any, all_found, IsIn-mapped, IsIn-map}
+use Rattle.safety.proofs.Facts.{vote_eq-is, among_participants, participates}
+use Rattle.safety.proofs.Lists.{any_found, found_any, all_found}
 use Rattle.safety.proofs.Leader.Invariant.{IsSentItem}
 
 -- ---- who reported
@@ -239,17 +240,6 @@ decided_is n heard tx i v Sent sent h =
 
 -- ---- the status
 
-named : (tx : TxParts) (r : ℕ) → IsTrue (is_participant tx r) → IsIn (participants tx) r
-named tx r h =
-    let at = any_found (is_at r) tx.branches h in
-    subst (λ (x : ℕ). IsIn (participants tx) x) (eqb-true at.element.rm r at.passes)
-    (IsIn-map (λ (b : BranchParts). b.rm) tx.branches at.element at.among)
-
-pub naming : (tx : TxParts) (r : ℕ) → IsIn (participants tx) r → IsTrue (is_participant tx r)
-naming tx r h =
-    let at = IsIn-mapped (λ (b : BranchParts). b.rm) tx.branches r h in
-    found_any (is_at r) tx.branches at.source at.among (eq-eqb at.source.rm r at.maps)
-
 -- the status by its three tests
 abbrev status_by : Bool → Bool → Bool → Status
 status_by x y z = if x then statuses.Aborted else if y then statuses.Committed else if z then statuses.Undecided else statuses.Unknown
@@ -266,18 +256,18 @@ aborted_by false true z e = absurd (cc (e))
 aborted_by false false true e = absurd (cc (e))
 aborted_by false false false e = absurd (cc (e))
 
-module _ (n : ℕ) (facts : List Fact) (memory : LeaderMemory) (tx : TxParts) (Sent : Kind → Type 0)
+module _ (n : ℕ) (stored : StoredBallots) (memory : LeaderMemory) (tx : TxParts) (Sent : Kind → Type 0)
     (sent : (m : Kind) → IsIn memory.heard m → Sent m) where
-  pub committed_is : status_of n facts memory tx ≡ statuses.Committed → (r : ℕ) → IsTrue (is_participant tx r)
+  pub committed_is : status_of n stored memory tx ≡ statuses.Committed → (r : ℕ) → IsTrue (is_participant tx r)
       → IsDecided n (IsSentItem Sent) tx r Prepared
   committed_is e r is = decided_is n memory.heard tx r Prepared Sent sent
       (all_found (λ (i : ℕ). is_decided n memory.heard tx i Prepared) (participants tx)
-      (committed_by (list_any (λ (i : ℕ). is_decided n memory.heard tx i Aborted) (participants tx)) _ (is_known facts memory tx) e) r
-      (named tx r is))
+      (committed_by (list_any (λ (i : ℕ). is_decided n memory.heard tx i Aborted) (participants tx)) _ (is_known stored memory tx) e) r
+      (among_participants tx r is))
 
-  pub aborted_is : status_of n facts memory tx ≡ statuses.Aborted → (r : ℕ) × IsTrue (is_participant tx r)
+  pub aborted_is : status_of n stored memory tx ≡ statuses.Aborted → (r : ℕ) × IsTrue (is_participant tx r)
       × IsDecided n (IsSentItem Sent) tx r Aborted
   aborted_is e =
       let at = any_found (λ (i : ℕ). is_decided n memory.heard tx i Aborted) (participants tx)
-      (aborted_by _ (list_all (λ (i : ℕ). is_decided n memory.heard tx i Prepared) (participants tx)) (is_known facts memory tx) e) in
-      (at.element, naming tx at.element at.among, decided_is n memory.heard tx at.element Aborted Sent sent at.passes)
+      (aborted_by _ (list_all (λ (i : ℕ). is_decided n memory.heard tx i Prepared) (participants tx)) (is_known stored memory tx) e) in
+      (at.element, participates tx at.element at.among, decided_is n memory.heard tx at.element Aborted Sent sent at.passes)

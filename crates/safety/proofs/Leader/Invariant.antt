@@ -11,6 +11,7 @@ use Rattle.safety.specs.Words.{Fact, Outgoing}
 use Rattle.stable_record.specs.declared.fact.FactKind.TheVariants as stored
 use Rattle.protocol.specs.Facts.{last_ballot}
 use Rattle.protocol.specs.Effects.{Config}
+use Rattle.protocol.specs.StandsFor.{stands_for}
 use Rattle.protocol.specs.LeaderMemory.{LeaderMemory, current, is_proposed}
 use Rattle.protocol.specs.Leaders.{plays_at_leader}
 use Rattle.safety.specs.Items.{Item, P1b, P2a, P2b, Commit, Abort, IsDecided, IsMajorityPick}
@@ -50,9 +51,9 @@ pub record AreProposalsBacked (leaders l : ℕ) (facts : List Fact) (Sent : Kind
 
 -- ---- what is handed over
 
--- a message is one of these
+-- a message is one that some of these stands for
 abbrev pub IsSentBy : List Outgoing → Kind → Type 0
-IsSentBy sends m = (s : Outgoing) × IsIn sends s × (s.message ≡ m)
+IsSentBy sends m = (s : Outgoing) × IsIn sends s × IsIn (stands_for s.message) m
 
 -- what was sent, and at most these
 pub record IsSentExtension (Sent : Kind → Type 0) (sends : List Outgoing) (Now : Kind → Type 0) : Type 0 where
@@ -67,7 +68,7 @@ pub record IsNewBallot (leaders l : ℕ) (facts : List Fact) (fact : Fact) : Typ
   pub owned : IsOwned leaders l ballot
   pub greater : last_ballot facts tx < ballot
   pub fits : ballot < 2 ^ 32
-  pub plays : plays_at_leader leaders l facts fact ≡ true
+  pub plays : plays_at_leader leaders l (last_ballot facts) fact ≡ true
 
 module _ (config : Config) (l : ℕ) where
   -- a proposal above ballot 0: in a current ballot, picked from what was heard, and the first of its instance in it

@@ -1,5 +1,6 @@
 -- A leader's invariant is kept: by what it hears, proposes and begins, and while others send.
-use Rattle.std.proofs.Common.{◌≡◌, ◌⊎◌, inl, inr, ℕ, ◌<◌, ◌≤◌, max, Bool, true, false, not, ◌&&◌, ◌==◌, List, [], ◌∷◌, ◌++◌, Option, Some}
+use Rattle.std.proofs.Common.{◌≡◌, ◌⊎◌, inl, inr, ℕ, ◌<◌, ◌≤◌, max, Bool, true, false, not, ◌&&◌, ◌==◌, if◌then◌else◌, List, [], ◌∷◌, ◌++◌}
+use Rattle.std.proofs.Common.{Option, Some}
 use Rattle.std.proofs.Common.{None, filter, filter_map, find, option_map, refl, sym, ap, ◌∙◌, subst, arith}
 use Rattle.std.specs.List.{list_any, cons_option}
 use Rattle.std.proofs.lemmas.Bool.{both_ways, and_from, and_parts, or_cases, or_right, or_left, eq-eqb, cases_Bool, cond_both, cond-true}
@@ -15,13 +16,13 @@ use Rattle.ballot.specs.Choice.{Report}
 use Rattle.safety.specs.Words.{Fact}
 use Rattle.stable_record.specs.declared.fact.FactKind.TheVariants as stored
 use Rattle.xid.specs.Transactions.{tx_eq}
-use Rattle.ballot.specs.Greatest.{greatest}
+use Rattle.ballot.specs.Greatest.{greatest, IsIn}
 use Rattle.protocol.specs.Facts.{instance_eq, ballot_begun, last_ballot}
 use Rattle.protocol.specs.Effects.{Config}
 use Rattle.protocol.specs.LeaderMemory.{LeaderMemory, Begun, nothing_heard, current, has_reported, is_proposed, with_met, with_heard}
-use Rattle.protocol.specs.LeaderMemory.{with_begun, with_proposed}
+use Rattle.protocol.specs.LeaderMemory.{with_begun, with_proposed, with_all_heard, is_counted}
 use Rattle.safety.proofs.Facts.{begun_below}
-use Rattle.safety.proofs.Lists.{IsIn-before, IsIn-last, filter_kept}
+use Rattle.safety.proofs.Lists.{any_found, found_any, IsIn-before, IsIn-after, IsIn-last, filter_kept}
 use Rattle.safety.proofs.Leader.Invariant.{IsBegunBallot, LeaderInvariant, AreProposalsBacked}
 use Rattle.xid.proofs.Deciding.{tx_self, tx_decides}
 use Rattle.protocol.proofs.Same.{instance_eq-is, instance_eq-same}
@@ -120,30 +121,45 @@ module _ (config : Config) (l : ℕ) (facts : List Fact) (Sent : Kind → Type 0
     noted = kept.noted;
   }
 
-  module _ (tx : TxParts) (i b : ℕ) (v : Vote) where
-    -- one more proposal, noted
-    pub kept_proposes : (memory : LeaderMemory) (Now : Kind → Type 0)
-        → ((m : Kind) → Sent m → Now m) → ((m : Kind) → Now m → Sent m ⊎ (P2a tx i b v ≡ m))
-        → LeaderInvariant config l facts memory Sent → LeaderInvariant config l facts (with_proposed (P2a tx i b v) memory) Now
-    kept_proposes memory Now more only kept = record {
-      heard = λ m h. more m (kept.heard m h);
-      inside = kept.inside;
-      once = kept.once;
-      begun = kept.begun;
-      noted = λ ux j c w e h. elim (only (P2a ux j c w) h) [
-        | inl old ↦ or_right ((c == b) && instance_eq ux j tx i) (is_proposed memory.proposed ux j c) (kept.noted ux j c w e old)
-        | inr new ↦
-            let et : ux ≡ tx = cc (new) in
-            let ei : j ≡ i = cc (new) in
-            let eb : c ≡ b = cc (new) in
-            let itself : ((b == b) && instance_eq tx i tx i) ≡ true = and_from (b == b) (instance_eq tx i tx i) (eq-eqb b b refl)
-            (instance_eq-same tx i) in
-            or_left ((c == b) && instance_eq ux j tx i) (is_proposed memory.proposed ux j c)
-            (ap (λ (k : ℕ). (k == b) && instance_eq ux j tx i) eb
-            ∙ ap (λ (k : ℕ). (b == b) && instance_eq ux k tx i) ei
-            ∙ ap (λ (y : TxParts). (b == b) && instance_eq y i tx i) et ∙ itself)
-      ];
-    }
+  -- messages that were sent, of acceptors of the cluster
+  pub kept_hears_all : (messages : List Kind) (memory : LeaderMemory) → ((m : Kind) → IsIn messages m → Sent m)
+      → ((tx : TxParts) (i b : ℕ) (report : Report) (a : ℕ) → IsIn messages (P1b tx i b report a) → a < config.acceptors)
+      → LeaderInvariant config l facts memory Sent → LeaderInvariant config l facts (with_all_heard messages memory) Sent
+  kept_hears_all [] memory sent few kept = kept
+  kept_hears_all (m ∷ rest) memory sent few kept =
+      kept_hears_all rest (if is_counted memory.heard m then memory else with_heard m memory) (λ k h. sent k (inr h))
+      (λ tx i b report a h. few tx i b report a (inr h))
+      (cond_both (is_counted memory.heard m) memory (with_heard m memory) (λ (x : LeaderMemory). LeaderInvariant config l facts x Sent)
+      (λ e. kept)
+      (λ e. kept_hears m memory (sent m (inl refl))
+      (λ tx i b report a f. (few tx i b report a (inl f), ap (is_counted memory.heard) (sym f) ∙ e)) kept))
+
+  -- proposals, noted
+  pub kept_proposes : (proposals : List Kind) (memory : LeaderMemory) (Now : Kind → Type 0)
+      → ((m : Kind) → Sent m → Now m) → ((m : Kind) → Now m → Sent m ⊎ IsIn proposals m)
+      → LeaderInvariant config l facts memory Sent → LeaderInvariant config l facts (with_proposed proposals memory) Now
+  kept_proposes proposals memory Now more only kept = record {
+    heard = λ m h. more m (kept.heard m h);
+    inside = kept.inside;
+    once = kept.once;
+    begun = kept.begun;
+    noted = λ tx i b v e h. elim (only (P2a tx i b v) h) [
+      | inl old ↦
+          let at = any_found {X = Kind} _ memory.proposed (kept.noted tx i b v e old) in
+          found_any _ (proposals ++ memory.proposed) at.element (IsIn-after proposals memory.proposed at.element at.among) at.passes
+      | inr new ↦
+          found_any _ (proposals ++ memory.proposed) (P2a tx i b v) (IsIn-before proposals memory.proposed (P2a tx i b v) new)
+          (and_from (b == b) (instance_eq tx i tx i) (eq-eqb b b refl) (instance_eq-same tx i))
+    ];
+  }
+
+-- to hear messages changes no ballot
+pub hears_no_ballot : (messages : List Kind) (memory : LeaderMemory) → (with_all_heard messages memory).begun ≡ memory.begun
+hears_no_ballot [] memory = refl
+hears_no_ballot (m ∷ rest) memory =
+    hears_no_ballot rest (if is_counted memory.heard m then memory else with_heard m memory)
+    ∙ cond_both (is_counted memory.heard m) memory (with_heard m memory) (λ (x : LeaderMemory). x.begun ≡ memory.begun) (λ e. refl)
+    (λ e. refl)
 
 -- ---- a ballot begun
 

@@ -1,6 +1,7 @@
 -- What a resource manager stores and sends, as items that may come to stand.
 use Rattle.std.proofs.Common.{◌≡◌, ◌⊎◌, ℕ, true, IsTrue, List, [], ◌∷◌, Option, Some, None, unwrap_or, inl, inr, sym, ap, ◌∙◌, subst, arith}
-use Rattle.std.specs.Prelude.{map, Contains, IfSome}
+use Rattle.std.proofs.Common.{refl}
+use Rattle.std.specs.Prelude.{Contains, IfSome}
 use Rattle.xid.specs.Names.{XidParts}
 use Rattle.xid.specs.Transactions.{TxParts, is_participant}
 use Rattle.xid.specs.declared.transaction.Vote.{Vote}
@@ -12,15 +13,15 @@ use Rattle.stable_record.specs.declared.fact.FactKind.TheVariants as stored
 use Rattle.protocol.specs.Effects.{Config}
 use Rattle.protocol.specs.Managers.{Branch}
 use Rattle.protocol.specs.Nodes.{Memory, Input, Received, effect_of, all_play}
-use Rattle.protocol.specs.StandsFor.{stands_for, comes_to}
+use Rattle.protocol.specs.StandsFor.{stands_for, message_items, comes_to}
 use Rattle.safety.specs.Items.{Item, Voted, Committed, StoredAbort, P2a, IsAllowed}
 use Rattle.safety.specs.Senders.{IsFrom}
 use Rattle.ballot.specs.Greatest.{IsIn}
 use Rattle.safety.specs.Standing.{StandsBy, HasVote, setting}
 use Rattle.safety.proofs.Argument.Additions.{AreAllowed, Contains-one, Contains-head}
 use Rattle.safety.proofs.Argument.Events.{with_items}
-use Rattle.safety.proofs.Facts.{with_fact}
-use Rattle.safety.proofs.Lists.{IsIn-push, IsIn-mapped}
+use Rattle.safety.proofs.Facts.{with_fact, messages_of}
+use Rattle.safety.proofs.Lists.{IsIn-push, IsIn-joined, only_one}
 use Rattle.safety.proofs.World.Growth.{items_of}
 use Rattle.safety.proofs.World.AllowedEffects.{NamesParticipant, IsAllowedEffect}
 use Rattle.safety.proofs.Manager.Views.{vote_in_stands, unvoted, unended, prepared_shows}
@@ -46,7 +47,8 @@ voted_after rm facts (Some fact) tx votes.Aborted h = elim (IsIn-push facts fact
 ]
 
 module _ (config : Config) (rm : ℕ) (facts : NodeId → List Fact) (sent : List Kind) (branches : List Branch) (input : Input)
-    (play : all_play config (R rm) [] (facts (R rm)) ≡ true) (came : (m : Kind) → input ≡ Received m → IsIn sent m) where
+    (play : all_play config (R rm) [] (facts (R rm)) ≡ true)
+    (came : (m k : Kind) → input ≡ Received m → IsIn (stands_for m) k → IsIn sent k) where
   abbrev Has : Item TxParts → Type 0
   Has = StandsBy facts sent
 
@@ -66,11 +68,19 @@ module _ (config : Config) (rm : ℕ) (facts : NodeId → List Fact) (sent : Lis
   fact_allowed None h = tt
   fact_allowed (Some (stored.VotePrepared tx keys)) h = (first_allowed tx votes.Prepared (h.0, h.1.first), tt)
   fact_allowed (Some (stored.VoteAborted tx)) h = (first_allowed tx votes.Aborted h, tt)
-  fact_allowed (Some (stored.Committed tx)) h = ((came (kinds.Commit tx) h.came, (prepared_shows (facts (R rm)) tx h.prepared).0), tt)
-  fact_allowed (Some (stored.Aborted tx)) h = (came (kinds.Abort tx) h.1.came, tt)
+  fact_allowed (Some (stored.Committed tx)) h = (
+    (
+      came (kinds.Commit tx) (kinds.Commit tx) h.came (inl refl),
+      (prepared_shows (facts
+          (R rm)) tx h.prepared).0,
+    ),
+    tt,
+  )
+  fact_allowed (Some (stored.Aborted tx)) h = (came (kinds.Abort tx) (kinds.Abort tx) h.1.came (inl refl), tt)
   fact_allowed (Some (stored.Promise tx i b)) h = absurd h
   fact_allowed (Some (stored.Accept tx i b v)) h = absurd h
   fact_allowed (Some (stored.Ballot tx b)) h = absurd h
+  fact_allowed (Some (stored.PromiseAll tx b)) h = absurd h
 
   one_allowed : (x y : Item TxParts) → Contains (x ∷ []) y → IsAllowed (setting config) Has x → IsAllowed (setting config) Has y
   one_allowed x y h ok = subst (IsAllowed (setting config) Has) (Contains-one x y h) ok
@@ -93,13 +103,20 @@ module _ (config : Config) (rm : ℕ) (facts : NodeId → List Fact) (sent : Lis
     items_allowed : AreAllowed (setting config) Has items
     items_allowed = fact_allowed o right.fact_is
 
-    -- a message of these
-    sent_one : (m : Kind) → IsIn (map (λ send. send.message) sends) m → IsManagerSend rm (with_fact (facts (R rm)) o) m
-    sent_one m h =
-        let from = IsIn-mapped (λ (send : Outgoing). send.message) sends m h in
-        subst (IsManagerSend rm (with_fact (facts (R rm)) o)) from.maps (right.sends_are from.source from.among)
+    -- no resource manager sends a bundle
+    not_bundled : (x : Kind) → IsManagerSend rm (with_fact (facts (R rm)) o) x → (m : Kind) → IsIn (stands_for x) m
+        → IsManagerSend rm (with_fact (facts (R rm)) o) m
+    not_bundled (kinds.P2a tx i b v) is m h = only_one (IsManagerSend rm (with_fact (facts (R rm)) o)) (kinds.P2a tx i b v) is m h
+    not_bundled (kinds.Ask tx r) is m h = only_one (IsManagerSend rm (with_fact (facts (R rm)) o)) (kinds.Ask tx r) is m h
+    not_bundled x is m h = absurd is
 
-    send_allowed : (m : Kind) → IsManagerSend rm (with_fact (facts (R rm)) o) m → (y : Item TxParts) → IsIn (stands_for m) y
+    -- a message of these
+    sent_one : (m : Kind) → IsIn (messages_of sends) m → IsManagerSend rm (with_fact (facts (R rm)) o) m
+    sent_one m h =
+        let from = IsIn-joined (λ (send : Outgoing). stands_for send.message) sends m h in
+        not_bundled from.source.message (right.sends_are from.source from.among) m from.inside
+
+    send_allowed : (m : Kind) → IsManagerSend rm (with_fact (facts (R rm)) o) m → (y : Item TxParts) → IsIn (message_items m) y
         → IsAllowed (setting config) (with_items Has items) y
     send_allowed (kinds.P2a tx i b v) is y (inl e) =
         subst (IsAllowed (setting config) (with_items Has items)) e
@@ -133,7 +150,7 @@ module _ (config : Config) (rm : ℕ) (facts : NodeId → List Fact) (sent : Lis
         → IsManagerSend rm (with_fact (facts (R rm)) o) (kinds.P2a tx i b w) → v ≡ w
     send_agrees tx i b v w is also = ap (λ (q : Option Vote). unwrap_or q v) (sym is.vote ∙ also.vote)
 
-    rule_is_allowed : IsAllowedEffect config (R rm) facts sent o (map (λ send. send.message) sends)
+    rule_is_allowed : IsAllowedEffect config (R rm) facts sent o (messages_of sends)
     rule_is_allowed = record {
       fact_allowed = items_allowed;
       sends_allowed = λ m h y k. send_allowed m (sent_one m h) y k;
@@ -145,9 +162,9 @@ module _ (config : Config) (rm : ℕ) (facts : NodeId → List Fact) (sent : Lis
 module _ (config : Config) (rm : ℕ) (facts : NodeId → List Fact) (sent : List Kind) where
   -- whatever a resource manager is handed: what it stores and sends may come to stand
   pub manager_is_allowed : (memory : Memory) (input : Input)
-      → all_play config (R rm) [] (facts (R rm)) ≡ true → ((m : Kind) → input ≡ Received m → IsIn sent m)
+      → all_play config (R rm) [] (facts (R rm)) ≡ true → ((m k : Kind) → input ≡ Received m → IsIn (stands_for m) k → IsIn sent k)
       → IsAllowedEffect config (R rm) facts sent (effect_of config (R rm) (facts (R rm)) memory input).fact
-      (map (λ send. send.message) (effect_of config (R rm) (facts (R rm)) memory input).sends)
+      (messages_of (effect_of config (R rm) (facts (R rm)) memory input).sends)
   manager_is_allowed memory input play came =
       rule_is_allowed config rm facts sent memory.branches input play came (effect_of config (R rm) (facts (R rm)) memory input).fact
       (effect_of config (R rm) (facts (R rm)) memory input).sends (manager_effect_is config rm (facts (R rm)) memory input)

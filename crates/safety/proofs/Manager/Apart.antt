@@ -4,6 +4,7 @@ use Rattle.std.proofs.Common.{None, is_some, is_none, unwrap_or}
 use Rattle.std.proofs.Common.{inl, inr, refl, sym, ap, ◌∙◌, subst}
 use Rattle.std.specs.Prelude.{IfSome, find, filter_map, option_map}
 use Rattle.std.specs.List.{list_any}
+use Rattle.std.proofs.lemmas.List.{map-append}
 use Rattle.std.proofs.lemmas.Bool.{cond_both, and_parts, and_from, both_ways, not-true, false_from_ne_true, not_from_false}
 use Rattle.xid.specs.Names.{XidParts, xid_eq}
 use Rattle.xid.specs.Transactions.{TxParts, is_participant, xid_at}
@@ -13,14 +14,16 @@ use Rattle.xid.specs.declared.refusals.Refusal.TheVariants.{Busy}
 use Rattle.wire.specs.declared.message.Kind.{Kind}
 use Rattle.wire.specs.declared.message.Kind.TheVariants as kinds
 use Rattle.wire.specs.Messages as messages
-use Rattle.safety.specs.Words.{Fact, Touched, BranchState, R, Action, Start, Put, Del, Get, End, EndFail, Rollback, Code, Refused, Row, Call, Timeout}
+use Rattle.safety.specs.Words.{Fact, Touched, BranchState, R, Action, Start, Put, Del, Get, End, EndFail, Rollback, Code, Refused, Row}
+use Rattle.safety.specs.Words.{Call, Timeout}
 use Rattle.stable_record.specs.Facts.{AreAscending, fact_tx}
 use Rattle.stable_record.specs.declared.fact.FactKind.TheVariants as stored
+use Rattle.protocol.specs.Managers.{stored_votes}
 use Rattle.protocol.specs.declared.states.BranchState.TheVariants as states
 use Rattle.protocol.specs.Branches.{BranchView, is_write, hinders_use, hinders, is_done, key_of, by_state}
 use Rattle.protocol.specs.Effects.{Config, Effect, is_inside}
 use Rattle.protocol.specs.Facts.{vote_in, is_ended, is_spent, is_prepared_view, is_open_view, view, Bound, branch_bound_by, bound_branches}
-use Rattle.protocol.specs.Managers.{Branch, has_key, act_on, all_branches, view_by, branch_at, is_hindered, branch_after}
+use Rattle.protocol.specs.Managers.{Branch, has_key, act_on, all_branches, view_by, view_named, is_hindered, branch_after}
 use Rattle.protocol.specs.Managers.{branches_without, after_call}
 use Rattle.protocol.specs.Managers.{named_answer, on_call, idle_keys, first_vote, on_prepare, on_commit, on_abort, on_manager_message}
 use Rattle.protocol.specs.Managers.{on_manager_timeout}
@@ -37,6 +40,8 @@ use Rattle.safety.proofs.Lists.{any_found, none_found, IsIn-before, IsIn-after, 
 use Rattle.safety.proofs.Lists.{filter_kept, filter_keeps, found_among}
 use Rattle.safety.proofs.Lists.{filter_map_gives}
 use Rattle.safety.proofs.Manager.Views.{prepared_shows, prepared_before}
+use Rattle.safety.specs.Holds.{AreDistinct, AreNamedOnce, names_of}
+use Rattle.safety.proofs.Manager.Names.{distinct_push, named_once_filtered}
 use Rattle.safety.proofs.Manager.Played.{voted_named}
 use Rattle.safety.proofs.Manager.Effects.{IsManagerFact, name_names, manager_effect_is}
 use Rattle.safety.proofs.Manager.Keys.{names_name, spent_by, still_unspent}
@@ -49,7 +54,7 @@ pub record AreApart (rm : ℕ) (facts : List Fact) (branches : List Branch) : Ty
   pub unspent : (b : Branch) → IsIn branches b → is_spent rm facts b.xid ≡ false
   pub apart : (b c : Branch) → IsIn branches b → IsIn branches c → b.xid ≢ c.xid → OwnsWrites b.keys c.keys
   pub free : (b : Branch) (bound : Bound) → IsIn branches b → IsIn (bound_branches facts) bound → AreDisjoint b.keys bound.keys
-  pub once : (b c : Branch) → IsIn branches b → IsIn branches c → b.xid ≡ c.xid → b ≡ c
+  pub distinct : AreNamedOnce branches
   pub ordered : (b : Branch) → IsIn branches b → AreAscending b.keys
 
 -- as after a restart
@@ -58,17 +63,17 @@ none_apart rm facts = record {
   unspent = λ b h. absurd h;
   apart = λ b c h. absurd h;
   free = λ b bound h. absurd h;
-  once = λ b c h. absurd h;
+  distinct = tt;
   ordered = λ b h. absurd h;
 }
 
 fewer_apart : (rm : ℕ) (facts : List Fact) (branches fewer : List Branch) → ((b : Branch) → IsIn fewer b → IsIn branches b)
-    → AreApart rm facts branches → AreApart rm facts fewer
-fewer_apart rm facts branches fewer some are = record {
+    → AreNamedOnce fewer → AreApart rm facts branches → AreApart rm facts fewer
+fewer_apart rm facts branches fewer some distinct are = record {
   unspent = λ b h. are.unspent b (some b h);
   apart = λ b c h k. are.apart b c (some b h) (some c k);
   free = λ b bound h. are.free b bound (some b h);
-  once = λ b c h k. are.once b c (some b h) (some c k);
+  distinct = distinct;
   ordered = λ b h. are.ordered b (some b h);
 }
 
@@ -77,12 +82,15 @@ without_name branches x b h e =
     both_ways (xid_eq b.xid x) (not-true (xid_eq b.xid x) (filter_kept (λ branch. not (xid_eq branch.xid x)) branches b h).1)
     ((xid_decides b.xid x).1 e)
 
-without_some : (branches : List Branch) (x : XidParts) (b : Branch) → IsIn (branches_without branches x) b → IsIn branches b
+pub without_some : (branches : List Branch) (x : XidParts) (b : Branch) → IsIn (branches_without branches x) b → IsIn branches b
 without_some branches x b h = (filter_kept (λ branch. not (xid_eq branch.xid x)) branches b h).0
+
+without_distinct : (branches : List Branch) (x : XidParts) → AreNamedOnce branches → AreNamedOnce (branches_without branches x)
+without_distinct branches x distinct = named_once_filtered (λ branch. not (xid_eq branch.xid x)) branches distinct
 
 -- ---- prepared branches
 
-bound_is : (fact : Fact) (bound : Bound) → branch_bound_by fact ≡ Some bound → fact ≡ stored.VotePrepared bound.tx bound.keys
+pub bound_is : (fact : Fact) (bound : Bound) → branch_bound_by fact ≡ Some bound → fact ≡ stored.VotePrepared bound.tx bound.keys
 bound_is (stored.VotePrepared tx keys) bound e =
     let first : Bound = record { tx = tx; keys = keys } in
     let same : first ≡ bound = ap (λ o. unwrap_or o first) e in λ i. stored.VotePrepared (same i).tx (same i).keys
@@ -107,7 +115,7 @@ stored_bound facts bound is =
 -- ---- one more fact
 
 module _ (rm : ℕ) (facts : List Fact) (fact : Fact) (branches fewer : List Branch) (are : AreApart rm facts branches)
-    (some : (b : Branch) → IsIn fewer b → IsIn branches b)
+    (some : (b : Branch) → IsIn fewer b → IsIn branches b) (distinct : AreNamedOnce fewer)
     (others : (b : Branch) → IsIn fewer b → xid_at (fact_tx fact) rm ≡ Some b.xid → ⊥)
     (new : (bound : Bound) → fact ≡ stored.VotePrepared bound.tx bound.keys → (b : Branch) → IsIn fewer b
     → AreDisjoint b.keys bound.keys) where
@@ -127,7 +135,7 @@ module _ (rm : ℕ) (facts : List Fact) (fact : Fact) (branches fewer : List Bra
     unspent = λ b h. still_unspent rm facts fact b.xid (are.unspent b (some b h)) (others b h);
     apart = λ b c h k. are.apart b c (some b h) (some c k);
     free = free_after;
-    once = λ b c h k. are.once b c (some b h) (some c k);
+    distinct = distinct;
     ordered = λ b h. are.ordered b (some b h);
   }
 
@@ -153,7 +161,7 @@ module _ (p : Branch → Bool) (branches : List Branch) (x : XidParts) (keys : L
       let found = found_among p branches b f in
       record { branch = b; among = found.0; name = names_it b found.1; holds = ap (λ o. unwrap_or o b.keys) e }
 
-idle_branch : (branches : List Branch) (x : XidParts) (keys : List Touched) → idle_keys branches x ≡ Some keys
+pub idle_branch : (branches : List Branch) (x : XidParts) (keys : List Touched) → idle_keys branches x ≡ Some keys
     → IsBranchHolding branches x keys
 idle_branch branches x keys e = idle_at _ branches x keys _ (λ b h. (xid_decides b.xid x).0 (and_parts (xid_eq b.xid x) _ h).0) refl e
 
@@ -167,6 +175,7 @@ module _ (rm : ℕ) (facts : List Fact) (branches : List Branch) (are : AreApart
       → AreDisjoint b.keys bound.keys)
       → AreApart rm (facts ++ fact ∷ []) (branches_without branches x)
   gone fact x name new = apart_after rm facts fact branches (branches_without branches x) are (without_some branches x)
+      (without_distinct branches x are.distinct)
       (λ b h e. without_name branches x b h (name_of (xid_at (fact_tx fact) rm) b.xid x e name)) new
 
   -- the keys of a first vote
@@ -191,33 +200,36 @@ module _ (rm : ℕ) (facts : List Fact) (branches : List Branch) (are : AreApart
   first_apart tx x false (Some keys) name idle = gone (stored.VotePrepared tx keys) x name (voted_apart tx x keys idle)
   first_apart tx x spent idle name is_idle = gone (stored.VoteAborted tx) x name (λ bound e. absurd (cc (e)))
 
-  prepare_apart : (tx : TxParts) (x : XidParts) → xid_at tx rm ≡ Some x → IsApartAfter rm facts (on_prepare rm facts branches tx x)
+  prepare_apart : (tx : TxParts) (x : XidParts) → xid_at tx rm ≡ Some x
+      → IsApartAfter rm facts (on_prepare rm (stored_votes rm facts) branches tx x)
   prepare_apart tx x name = cond_both (is_some (vote_in facts tx)) _ _ (IsApartAfter rm facts) (λ some. are)
       (λ new. cond_both (is_ended facts tx) _ _ (IsApartAfter rm facts) (λ ended. are)
       (λ unended. first_apart tx x (is_spent rm facts x) (idle_keys branches x) name refl))
 
-  commit_apart : (tx : TxParts) → IsApartAfter rm facts (on_commit facts branches tx)
+  commit_apart : (tx : TxParts) → IsApartAfter rm facts (on_commit (stored_votes rm facts) branches tx)
   commit_apart tx = cond_both (is_prepared_view (view facts tx)) _ _ (IsApartAfter rm facts)
-      (λ prepared. apart_after rm facts (stored.Committed tx) branches branches are (λ b h. h)
+      (λ prepared. apart_after rm facts (stored.Committed tx) branches branches are (λ b h. h) are.distinct
       (λ b h e. let vote = (prepared_shows facts tx prepared).0 in
       both_ways (is_spent rm facts b.xid) (are.unspent b h) (spent_by rm facts (stored.VotePrepared tx vote.0) b.xid vote.1 e))
       (λ bound e. absurd (cc (e))))
       (λ other. are)
 
-  abort_apart : (tx : TxParts) (x : XidParts) → xid_at tx rm ≡ Some x → IsApartAfter rm facts (on_abort facts branches tx x)
+  abort_apart : (tx : TxParts) (x : XidParts) → xid_at tx rm ≡ Some x
+      → IsApartAfter rm facts (on_abort (stored_votes rm facts) branches tx x)
   abort_apart tx x name = cond_both (is_open_view (view facts tx)) _ _ (IsApartAfter rm facts)
       (λ opens. gone (stored.Aborted tx) x name (λ bound e. absurd (cc (e))))
       (λ other. are)
 
   takes_apart : (m : Kind) (o : Option XidParts) → xid_at (messages.message_tx m) rm ≡ o
-      → IsApartAfter rm facts (on_manager_message rm facts branches o m)
+      → IsApartAfter rm facts (on_manager_message rm (stored_votes rm facts) branches o m)
   takes_apart (kinds.Prepare tx) (Some x) name = prepare_apart tx x name
   takes_apart (kinds.Commit tx) (Some x) name = commit_apart tx
   takes_apart (kinds.Abort tx) (Some x) name = abort_apart tx x name
   takes_apart m (Some x) name = are
   takes_apart m None name = are
 
-  timeout_apart : (config : Config) (tx : TxParts) → IsApartAfter rm facts (on_manager_timeout config rm facts branches tx)
+  timeout_apart : (config : Config) (tx : TxParts)
+      → IsApartAfter rm facts (on_manager_timeout config rm (stored_votes rm facts) branches tx)
   timeout_apart config tx = cond_both (is_inside config tx) _ _ (IsApartAfter rm facts) (λ inside. are) (λ outside. are)
 
 -- ---- client calls
@@ -238,16 +250,18 @@ start_new true rows shows busy h = absurd (cc (h))
 start_new false rows shows busy h = start_by shows.state h
 
 module _ (b c : Branch) (bs : List Branch) (x : XidParts) where
-  unnamed_by : ((branch_at bs x).state ≡ None → IsIn bs c → c.xid ≢ x) → (t : Bool) → xid_eq b.xid x ≡ t
-      → (branch_at (b ∷ bs) x).state ≡ None → IsIn (b ∷ bs) c → c.xid ≢ x
+  unnamed_by : ((view_named bs x).state ≡ None → IsIn bs c → c.xid ≢ x) → (t : Bool) → xid_eq b.xid x ≡ t
+      → (view_named (b ∷ bs) x).state ≡ None → IsIn (b ∷ bs) c → c.xid ≢ x
   unnamed_by rest true e none h f =
-      let shows : (branch_at (b ∷ bs) x).state ≡ Some b.state = ap (λ (t : Bool). (if t then view_by b.state b.keys else branch_at bs x).state) e in
+      let shows : (view_named (b ∷ bs) x).state
+      ≡ Some b.state = ap (λ (t : Bool). (if t then view_by b.state b.keys else view_named bs x).state) e in
       absurd (cc (none, shows))
   unnamed_by rest false e none (inl same) f = both_ways (xid_eq b.xid x) e ((xid_decides b.xid x).1 (ap (λ (d : Branch). d.xid) same ∙ f))
-  unnamed_by rest false e none (inr h) f = rest (sym (ap (λ (t : Bool). (if t then view_by b.state b.keys else branch_at bs x).state) e) ∙ none) h f
+  unnamed_by rest false e none (inr h) f = rest (sym (ap (λ (t : Bool). (if t then view_by b.state b.keys else view_named bs x).state) e)
+      ∙ none) h f
 
 -- where no branch of a name shows, none has the name
-unnamed : (bs : List Branch) (x : XidParts) → (branch_at bs x).state ≡ None → (b : Branch) → IsIn bs b → b.xid ≢ x
+unnamed : (bs : List Branch) (x : XidParts) → (view_named bs x).state ≡ None → (b : Branch) → IsIn bs b → b.xid ≢ x
 unnamed [] x none b h = absurd h
 unnamed (c ∷ bs) x none b h = unnamed_by c b bs x (λ e k. unnamed bs x e b k) (xid_eq c.xid x) refl none h
 
@@ -286,7 +300,7 @@ named_so keys x = record { xid = x; state = states.Prepared; keys = keys }
 module _ (rm : ℕ) (facts : List Fact) (branches : List Branch) (x : XidParts) (are : AreApart rm facts branches)
     (named : (bound : Bound) → IsIn (bound_branches facts) bound → is_participant bound.tx rm ≡ true) where
   abbrev all : List Branch
-  all = all_branches rm facts branches
+  all = all_branches rm (bound_branches facts) branches
 
   -- a prepared branch by its name
   all_bound : (bound : Bound) → IsIn (bound_branches facts) bound → (y : XidParts) → xid_at bound.tx rm ≡ Some y
@@ -376,6 +390,10 @@ module _ (rm : ℕ) (facts : List Fact) (branches : List Branch) (x : XidParts) 
     step_ordered b ordered =
         cond_both (xid_eq b.xid x) _ _ (λ (c : Branch). AreAscending c.keys) (λ same. changed_ascends action b ordered) (λ other. ordered)
 
+    step_names : (bs : List Branch) → names_of (map step bs) ≡ names_of bs
+    step_names [] = refl
+    step_names (b ∷ bs) = λ i. step_name b i ∷ step_names bs i
+
     mapped_apart : AreApart rm facts (map step branches)
     mapped_apart = record {
       unspent = λ b h.
@@ -393,13 +411,7 @@ module _ (rm : ℕ) (facts : List Fact) (branches : List Branch) (x : XidParts) 
       free = λ b bound h k.
           let from = IsIn-mapped step branches b h in
           subst (λ (d : Branch). AreDisjoint d.keys bound.keys) from.maps (step_free from.source bound from.among k);
-      once = λ b c h k e.
-          let one = IsIn-mapped step branches b h in
-          let two = IsIn-mapped step branches c k in
-          let named : one.source.xid ≡ two.source.xid =
-          sym (step_name one.source) ∙ ap (λ (d : Branch). d.xid) one.maps ∙ e ∙ ap (λ (d : Branch). d.xid) (sym two.maps)
-          ∙ step_name two.source in
-          sym one.maps ∙ ap step (are.once one.source two.source one.among two.among named) ∙ two.maps;
+      distinct = subst AreDistinct (sym (step_names branches)) are.distinct;
       ordered = λ b h.
           let from = IsIn-mapped step branches b h in
           subst (λ (d : Branch). AreAscending d.keys) from.maps (step_ordered from.source (are.ordered from.source from.among));
@@ -426,16 +438,9 @@ module _ (rm : ℕ) (facts : List Fact) (branches : List Branch) (x : XidParts) 
           | inl old ↦ are.free b bound old k
           | inr e ↦ subst (λ (d : Branch). AreDisjoint d.keys bound.keys) e (λ key p q. absurd (cc (p)), λ key p q. absurd (cc (q)))
         ];
-        once = λ b c h k e. elim (IsIn-push branches fresh b h) [
-          | inl old ↦ elim (IsIn-push branches fresh c k) [
-            | inl also ↦ are.once b c old also e
-            | inr f ↦ absurd (unnamed b old (e ∙ ap (λ (d : Branch). d.xid) (sym f)))
-          ]
-          | inr f ↦ elim (IsIn-push branches fresh c k) [
-            | inl also ↦ absurd (unnamed c also (sym e ∙ ap (λ (d : Branch). d.xid) (sym f)))
-            | inr g ↦ sym f ∙ g
-          ]
-        ];
+        distinct = subst AreDistinct (sym (map-append (λ (b : Branch). b.xid) branches (fresh ∷ [])))
+            (distinct_push (names_of branches) x are.distinct (λ h.
+            let at = IsIn-mapped (λ (b : Branch). b.xid) branches x h in unnamed at.source at.among at.maps));
         ordered = λ b h. elim (IsIn-push branches fresh b h) [
           | inl old ↦ are.ordered b old
           | inr e ↦ subst (λ (d : Branch). AreAscending d.keys) e tt
@@ -443,25 +448,27 @@ module _ (rm : ℕ) (facts : List Fact) (branches : List Branch) (x : XidParts) 
       }
 
   after_apart : (action : Action) (spent : Bool) (rows : List Row) → is_spent rm facts x ≡ spent
-      → is_done action (named_answer spent rows (branch_at all x) (is_hindered (hinders action) all x) action) ≡ true
+      → is_done action (named_answer spent rows (view_named all x) (is_hindered (hinders action) all x) action) ≡ true
       → AreApart rm facts (after_call branches x action)
   after_apart Start spent rows e done = started_apart
-      (e ∙ start_unspent spent rows (branch_at all x) (is_hindered (hinders Start) all x) done)
-      (λ b h. unnamed all x (start_new spent rows (branch_at all x) (is_hindered (hinders Start) all x) done) b (all_own b h))
-  after_apart Rollback spent rows e done = fewer_apart rm facts branches (branches_without branches x) (without_some branches x) are
+      (e ∙ start_unspent spent rows (view_named all x) (is_hindered (hinders Start) all x) done)
+      (λ b h. unnamed all x (start_new spent rows (view_named all x) (is_hindered (hinders Start) all x) done) b (all_own b h))
+  after_apart Rollback spent rows e done = fewer_apart rm facts branches (branches_without branches x) (without_some branches x)
+      (without_distinct branches x are.distinct) are
   after_apart (Put key value) spent rows e done = mapped_apart (Put key value)
-      (λ k f. not_busy (Put key value) spent rows (branch_at all x) (is_hindered (hinders (Put key value)) all x) k f done)
+      (λ k f. not_busy (Put key value) spent rows (view_named all x) (is_hindered (hinders (Put key value)) all x) k f done)
   after_apart (Del key) spent rows e done = mapped_apart (Del key)
-      (λ k f. not_busy (Del key) spent rows (branch_at all x) (is_hindered (hinders (Del key)) all x) k f done)
+      (λ k f. not_busy (Del key) spent rows (view_named all x) (is_hindered (hinders (Del key)) all x) k f done)
   after_apart (Get key) spent rows e done = mapped_apart (Get key)
-      (λ k f. not_busy (Get key) spent rows (branch_at all x) (is_hindered (hinders (Get key)) all x) k f done)
+      (λ k f. not_busy (Get key) spent rows (view_named all x) (is_hindered (hinders (Get key)) all x) k f done)
   after_apart End spent rows e done = mapped_apart End (λ k f. absurd (cc (f)))
   after_apart EndFail spent rows e done = mapped_apart EndFail (λ k f. absurd (cc (f)))
 
-  call_apart : (first : List Row) (action : Action) → AreApart rm facts (on_call rm first facts branches x action).memory
+  call_apart : (first : List Row) (action : Action)
+      → AreApart rm facts (on_call rm (stored_votes rm facts) (table first facts) branches x action).memory
   call_apart first action = cond_both
       (is_done action
-      (named_answer (is_spent rm facts x) (table first facts) (branch_at all x) (is_hindered (hinders action) all x) action)) _ _
+      (named_answer (is_spent rm facts x) (table first facts) (view_named all x) (is_hindered (hinders action) all x) action)) _ _
       (AreApart rm facts)
       (λ done. after_apart action (is_spent rm facts x) (table first facts) refl done) (λ refused. are)
 
@@ -489,12 +496,12 @@ manager_stays_apart config rm facts memory other play are = are
 -- ---- facts play
 
 unspent_at : (rm : ℕ) (facts : List Fact) (tx : TxParts) (x : XidParts) → xid_at tx rm ≡ Some x → is_spent rm facts x ≡ false
-    → is_name_spent rm facts tx ≡ false
+    → is_name_spent rm (stored_votes rm facts) tx ≡ false
 unspent_at rm facts tx x name unspent = rw name unspent
 
 unheld_keys : (rm : ℕ) (facts : List Fact) (branches : List Branch) (x : XidParts) (keys : List Touched) → AreApart rm facts branches
-    → idle_keys branches x ≡ Some keys → is_some_held facts keys ≡ false
-unheld_keys rm facts branches x keys are idle = false_from_ne_true (is_some_held facts keys)
+    → idle_keys branches x ≡ Some keys → is_some_held (bound_branches facts) keys ≡ false
+unheld_keys rm facts branches x keys are idle = false_from_ne_true (is_some_held (bound_branches facts) keys)
     (λ h.
     let hindered = λ (bound : Bound) (touched : Touched).
     hinders_use (is_write touched.act) touched.key (view_by states.Prepared bound.keys) in
@@ -506,22 +513,25 @@ unheld_keys rm facts branches x keys are idle = false_from_ne_true (is_some_held
     (are.free held.branch outer.element held.among outer.among))
     (subst AreAscending held.holds (are.ordered held.branch held.among)) inner.element (inner.among, inner.passes))
 
-is_new_from : (facts : List Fact) (tx : TxParts) → is_some (vote_in facts tx) ≡ false → is_ended facts tx ≡ false → is_new facts tx ≡ true
-is_new_from facts tx new unended = and_from (is_none (vote_in facts tx)) (not (is_ended facts tx))
+is_new_from : (rm : ℕ) (facts : List Fact) (tx : TxParts) → is_some (vote_in facts tx) ≡ false → is_ended facts tx ≡ false
+    → is_new (stored_votes rm facts) tx ≡ true
+is_new_from rm facts tx new unended = and_from (is_none (vote_in facts tx)) (not (is_ended facts tx))
     (not_from_false (is_some (vote_in facts tx)) new) (not_from_false (is_ended facts tx) unended)
 
 -- a fact that a rule stores plays, where the branches are apart
 pub fact_plays : (rm : ℕ) (facts : List Fact) (branches : List Branch) (input : Input) (fact : Fact) → AreApart rm facts branches
-    → IsManagerFact rm facts branches input fact → plays_at_manager rm facts fact ≡ true
+    → IsManagerFact rm facts branches input fact → plays_at_manager rm (stored_votes rm facts) fact ≡ true
 fact_plays rm facts branches input (stored.VotePrepared tx keys) are is =
-    and_from (is_participant tx rm && is_new facts tx && not (is_name_spent rm facts tx)) (not (is_some_held facts keys))
-    (and_from (is_participant tx rm && is_new facts tx) (not (is_name_spent rm facts tx))
-    (and_from (is_participant tx rm) (is_new facts tx) (name_names tx rm is.0 is.1.first.name)
-    (is_new_from facts tx is.1.first.new is.1.first.unended))
-    (not_from_false (is_name_spent rm facts tx) (unspent_at rm facts tx is.0 is.1.first.name is.1.unspent)))
-    (not_from_false (is_some_held facts keys) (unheld_keys rm facts branches is.0 keys are is.1.idle))
+    and_from (is_participant tx rm && is_new (stored_votes rm facts) tx
+    && not (is_name_spent rm (stored_votes rm facts) tx)) (not (is_some_held (bound_branches facts) keys))
+    (and_from (is_participant tx rm && is_new (stored_votes rm facts) tx) (not (is_name_spent rm (stored_votes rm facts) tx))
+    (and_from (is_participant tx rm) (is_new (stored_votes rm facts) tx) (name_names tx rm is.0 is.1.first.name)
+    (is_new_from rm facts tx is.1.first.new is.1.first.unended))
+    (not_from_false (is_name_spent rm (stored_votes rm facts) tx) (unspent_at rm facts tx is.0 is.1.first.name is.1.unspent)))
+    (not_from_false (is_some_held (bound_branches facts) keys) (unheld_keys rm facts branches is.0 keys are is.1.idle))
 fact_plays rm facts branches input (stored.VoteAborted tx) are is =
-    and_from (is_participant tx rm) (is_new facts tx) (name_names tx rm is.0 is.1.name) (is_new_from facts tx is.1.new is.1.unended)
+    and_from (is_participant tx rm) (is_new (stored_votes rm facts) tx) (name_names tx rm is.0 is.1.name)
+    (is_new_from rm facts tx is.1.new is.1.unended)
 fact_plays rm facts branches input (stored.Committed tx) are is = is.prepared
 fact_plays rm facts branches input (stored.Aborted tx) are is =
     and_from (is_participant tx rm) (is_open_view (view facts tx)) (name_names tx rm is.0 is.1.name) is.1.opens

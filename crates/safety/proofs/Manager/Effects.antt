@@ -12,6 +12,7 @@ use Rattle.wire.specs.declared.message.Kind.TheVariants as kinds
 use Rattle.wire.specs.Messages.{message_tx}
 use Rattle.safety.specs.Words.{Fact, Touched, R, Outgoing, Leaders, Timeout}
 use Rattle.stable_record.specs.declared.fact.FactKind.TheVariants as stored
+use Rattle.protocol.specs.Managers.{stored_votes}
 use Rattle.protocol.specs.Facts.{vote_in, is_ended, is_spent, view, is_prepared_view, is_open_view}
 use Rattle.protocol.specs.Effects.{Config, Effect, to, is_inside}
 use Rattle.protocol.specs.Managers.{Branch, idle_keys, vote_sent, first_vote, on_prepare, on_commit, on_abort, on_manager_message}
@@ -118,7 +119,7 @@ module _ (rm : ℕ) (facts : List Fact) (branches : List Branch) (input : Input)
   }
 
   prepare_is : (tx : TxParts) (x : XidParts) → xid_at tx rm ≡ Some x
-      → IsManagerEffect rm facts branches input (on_prepare rm facts branches tx x)
+      → IsManagerEffect rm facts branches input (on_prepare rm (stored_votes rm facts) branches tx x)
   prepare_is tx x name =
       cond_both (is_some (vote_in facts tx)) _ _ (λ (e : Effect (List Branch)). IsManagerEffect rm facts branches input e)
       (λ some. record { fact_is = tt; sends_are = vote_is facts tx (vote_in facts tx) refl })
@@ -127,21 +128,22 @@ module _ (rm : ℕ) (facts : List Fact) (branches : List Branch) (input : Input)
       (λ unended. first_is tx x (is_spent rm facts x) (idle_keys branches x)
       (record { name = name; new = new; unended = unended }) refl refl))
 
-  commit_is : (tx : TxParts) → input ≡ Received (kinds.Commit tx) → IsManagerEffect rm facts branches input (on_commit facts branches tx)
+  commit_is : (tx : TxParts) → input ≡ Received (kinds.Commit tx)
+      → IsManagerEffect rm facts branches input (on_commit (stored_votes rm facts) branches tx)
   commit_is tx came =
       cond_both (is_prepared_view (view facts tx)) _ _ (λ (e : Effect (List Branch)). IsManagerEffect rm facts branches input e)
       (λ prepared. record { fact_is = record { came = came; prepared = prepared }; sends_are = λ send h. absurd h })
       (λ other. nothing)
 
   abort_is : (tx : TxParts) (x : XidParts) → xid_at tx rm ≡ Some x → input ≡ Received (kinds.Abort tx)
-      → IsManagerEffect rm facts branches input (on_abort facts branches tx x)
+      → IsManagerEffect rm facts branches input (on_abort (stored_votes rm facts) branches tx x)
   abort_is tx x name came =
       cond_both (is_open_view (view facts tx)) _ _ (λ (e : Effect (List Branch)). IsManagerEffect rm facts branches input e)
       (λ opens. record { fact_is = (x, record { came = came; name = name; opens = opens }); sends_are = λ send h. absurd h })
       (λ other. nothing)
 
   takes_is : (m : Kind) (o : Option XidParts) → xid_at (message_tx m) rm ≡ o → input ≡ Received m
-      → IsManagerEffect rm facts branches input (on_manager_message rm facts branches o m)
+      → IsManagerEffect rm facts branches input (on_manager_message rm (stored_votes rm facts) branches o m)
   takes_is (kinds.Prepare tx) (Some x) name came = prepare_is tx x name
   takes_is (kinds.Commit tx) (Some x) name came = commit_is tx came
   takes_is (kinds.Abort tx) (Some x) name came = abort_is tx x name came
@@ -154,7 +156,8 @@ module _ (rm : ℕ) (facts : List Fact) (branches : List Branch) (input : Input)
   asked_is now tx true send (inr none) = absurd none
   asked_is now tx false send h = absurd h
 
-  timeout_is : (config : Config) (tx : TxParts) → IsManagerEffect rm facts branches input (on_manager_timeout config rm facts branches tx)
+  timeout_is : (config : Config) (tx : TxParts)
+      → IsManagerEffect rm facts branches input (on_manager_timeout config rm (stored_votes rm facts) branches tx)
   timeout_is config tx = cond_both (is_inside config tx) _ _ (λ (e : Effect (List Branch)). IsManagerEffect rm facts branches input e)
       (λ inside. record {
         fact_is = tt;

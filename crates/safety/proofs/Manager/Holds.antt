@@ -1,24 +1,19 @@
 -- Keys and names of a resource manager's branches, whatever has happened.
-use Rattle.std.proofs.Common.{◌≡◌, ℕ, true, List, [], ◌∷◌, Some, inl, inr, refl, ap, subst}
-use Rattle.std.specs.List.{AllByRecursion}
+use Rattle.std.proofs.Common.{◌≡◌, ℕ, true, List, [], Some, ap, subst}
 use Rattle.safety.specs.Words.{Fact, R}
 use Rattle.stable_record.specs.Facts.{AreAscending}
+use Rattle.protocol.specs.Facts.{bound_branches}
 use Rattle.protocol.specs.Effects.{Config}
 use Rattle.protocol.specs.Managers.{Branch, all_branches}
 use Rattle.protocol.specs.Nodes.{NodeState, all_play}
 use Rattle.protocol.specs.Worlds.{World, node_at}
 use Rattle.safety.specs.Holds.{AreHeldOnce, AreNamedOnce, AreInOrder}
 use Rattle.safety.specs.Runs.{IsReachable}
-use Rattle.ballot.specs.Greatest.{IsIn}
 use Rattle.safety.specs.Standing.{facts_of}
-use Rattle.safety.proofs.Lists.{IsIn-contains}
+use Rattle.safety.proofs.Lists.{IsIn-contains, all_each}
 use Rattle.safety.proofs.Manager.Apart.{AreApart}
 use Rattle.safety.proofs.Manager.Prepared as holds
 use Rattle.safety.proofs.World.Events.{safe_ever}
-
-all_of : {X : Type 0} (P : X → Type 0) (xs : List X) → ((x : X) → IsIn xs x → P x) → AllByRecursion P xs
-all_of P [] h = tt
-all_of P (x ∷ xs) h = (h x (inl refl), all_of P xs (λ y k. h y (inr k)))
 
 module _ (config : Config) (world : World) (reachable : IsReachable config world) (rm : ℕ) (node : NodeState)
     (is : node_at config world (R rm) ≡ Some node) where
@@ -31,15 +26,14 @@ module _ (config : Config) (world : World) (reachable : IsReachable config world
       ((safe_ever config world reachable).played (R rm))
 
   abbrev all : List Branch
-  all = all_branches rm node.facts node.memory.branches
+  all = all_branches rm (bound_branches node.facts) node.memory.branches
 
   pub held_once : AreHeldOnce all
   held_once b c h k =
       holds.keys_held_once config rm node.facts node.memory.branches plays apart b c (IsIn-contains all b h) (IsIn-contains all c k)
 
   pub named_once : AreNamedOnce all
-  named_once b c h k =
-      holds.names_held_once config rm node.facts node.memory.branches plays apart b c (IsIn-contains all b h) (IsIn-contains all c k)
+  named_once = holds.names_held_once config rm node.facts node.memory.branches plays apart
 
   pub in_order : AreInOrder node.memory.branches
-  in_order = all_of (λ (b : Branch). AreAscending b.keys) node.memory.branches apart.ordered
+  in_order = all_each (λ (b : Branch). AreAscending b.keys) node.memory.branches apart.ordered

@@ -6,6 +6,8 @@ use Rattle.xid.specs.declared.transaction.Vote.{Vote}
 use Rattle.xid.specs.declared.transaction.Vote.TheVariants as votes
 use Rattle.safety.specs.Words.{Fact, NodeId, R}
 use Rattle.stable_record.specs.declared.fact.FactKind.TheVariants as stored
+use Rattle.protocol.specs.Managers.{stored_votes}
+use Rattle.protocol.specs.Facts.{bound_branches}
 use Rattle.protocol.specs.Effects.{Config}
 use Rattle.protocol.specs.Nodes.{plays, all_play}
 use Rattle.protocol.specs.Managers.{is_new, is_name_spent, is_some_held}
@@ -32,13 +34,13 @@ pub voted_named : (config : Config) (rm : ℕ) (facts : List Fact) → all_play 
     → (tx : TxParts) (v : Vote) → HasVote facts tx v → is_participant tx rm ≡ true
 voted_named config rm facts play tx votes.Prepared h =
     let is = each_played config (R rm) [] facts play (stored.VotePrepared tx h.0) h.1 in
-    (and_parts (is_participant tx rm) (is_new is.before tx)
-    (and_parts (is_participant tx rm && is_new is.before tx) (not (is_name_spent rm is.before tx))
-    (and_parts (is_participant tx rm && is_new is.before tx && not (is_name_spent rm is.before tx))
-    (not (is_some_held is.before h.0)) is.played).0).0).0
+    (and_parts (is_participant tx rm) (is_new (stored_votes rm is.before) tx)
+    (and_parts (is_participant tx rm && is_new (stored_votes rm is.before) tx) (not (is_name_spent rm (stored_votes rm is.before) tx))
+    (and_parts (is_participant tx rm && is_new (stored_votes rm is.before) tx && not (is_name_spent rm (stored_votes rm is.before) tx))
+    (not (is_some_held (bound_branches is.before) h.0)) is.played).0).0).0
 voted_named config rm facts play tx votes.Aborted h =
     let is = each_played config (R rm) [] facts play (stored.VoteAborted tx) h in
-    (and_parts (is_participant tx rm) (is_new is.before tx) is.played).0
+    (and_parts (is_participant tx rm) (is_new (stored_votes rm is.before) tx) is.played).0
 
 -- one more fact that plays
 pub all_play_then : (config : Config) (who : NodeId) (before facts : List Fact) (fact : Fact) → all_play config who before facts ≡ true

@@ -13,7 +13,8 @@ use Rattle.xid.specs.declared.transaction.Vote.TheVariants as votes
 use Rattle.xid.proofs.Deciding.{tx_decides}
 use Rattle.stable_record.specs.Facts.{fact_tx}
 use Rattle.stable_record.specs.declared.fact.FactKind.TheVariants as stored
-use Rattle.safety.specs.Words.{Fact, NodeId, A, L, R, View, Change, Answer, Done, Refused, Event, Ask, Deliver, Lose, Cut, Noise, Tear, Restart, Compact}
+use Rattle.safety.specs.Words.{Fact, NodeId, A, L, R, View, Change, Answer, Done, Refused, Event, Ask, Deliver, Lose, Cut, Noise, Tear}
+use Rattle.safety.specs.Words.{Restart, Compact}
 use Rattle.xid.specs.declared.refusals.Refusal.TheVariants.{NoSuch, Forged, NoMemory, Down}
 use Rattle.protocol.specs.declared.states.View.TheVariants as views
 use Rattle.protocol.specs.Facts.{view, is_vote_of, is_commit_of, is_abort_of}
@@ -22,14 +23,15 @@ use Rattle.wire.specs.Grammar.{spelling}
 use Rattle.protocol.specs.Effects.{Config}
 use Rattle.protocol.specs.Nodes.{NodeState, Input, Asked, Received, ReceivedNoise, Fault, RecordFails, NoMemoryBefore, NoMemoryAt, Outcome}
 use Rattle.protocol.specs.Nodes.{effect_of, node_step, restart_outcome, compact_outcome, all_play}
-use Rattle.protocol.specs.Worlds.{World, StepResult, view_number, change_of, node_at, set_node, datagram_at, answer_result, outcome_result, if_found}
+use Rattle.protocol.specs.Worlds.{World, StepResult, view_number, change_of, node_at, set_node, datagram_at, answer_result, outcome_result}
+use Rattle.protocol.specs.Worlds.{if_found}
 use Rattle.protocol.specs.Worlds.{at_node, dispatch, world_step}
 use Rattle.safety.specs.Changes.{SaysItsChange}
 use Rattle.safety.specs.Standing.{facts_of, facts_at}
 use Rattle.safety.proofs.World.Growth.{same_node}
 use Rattle.safety.proofs.World.NodePlaces.{node_there, node_elsewhere}
 use Rattle.safety.proofs.World.Outcomes.{step_is}
-use Rattle.safety.proofs.World.Events.{with_mark}
+use Rattle.protocol.specs.Worlds.{with_mark}
 
 -- ---- one more fact
 
@@ -56,7 +58,8 @@ other_abort tx (stored.Aborted other) e = e
 other_abort tx fact e = refl
 
 -- a fact of another transaction leaves the view
-view_other : (facts : List Fact) (fact : Fact) (tx : TxParts) → tx_eq tx (fact_tx fact) ≡ false → view (facts ++ fact ∷ []) tx ≡ view facts tx
+view_other : (facts : List Fact) (fact : Fact) (tx : TxParts) → tx_eq tx (fact_tx fact) ≡ false → view (facts ++ fact ∷ []) tx
+    ≡ view facts tx
 view_other facts fact tx e = λ i.
     if any_same (is_vote_of tx votes.Aborted) facts fact (other_vote tx votes.Aborted fact e) i
     || any_same (is_abort_of tx) facts fact (other_abort tx fact e) i then views.Aborted
@@ -150,7 +153,8 @@ module _ (rm : ℕ) (before : List Fact) (fact : Fact) where
 said_grown : (who : NodeId) (before : List Fact) (fact : Fact)
     → SaysByFacts who before (before ++ fact ∷ []) (change_of who before (before ++ fact ∷ []))
 said_grown (R rm) before fact =
-    subst (λ (o : Option Fact). SaysByFacts (R rm) before (before ++ fact ∷ []) (option_and_then (change_by rm before (before ++ fact ∷ [])) o))
+    subst (λ (o : Option Fact). SaysByFacts (R rm) before (before ++ fact ∷ []) (option_and_then (change_by rm before
+    (before ++ fact ∷ [])) o))
     (sym (last_is before fact)) (said_by rm before fact _ refl)
 said_grown (A a) before fact = record { only = λ rm tx at differs. absurd (cc (at)); said = λ change e. absurd (cc (e)) }
 said_grown (L l) before fact = record { only = λ rm tx at differs. absurd (cc (at)); said = λ change e. absurd (cc (e)) }
@@ -179,7 +183,8 @@ possible_says who node fact left (inl same) = by_equal who node.facts left.node.
 possible_says who node fact left (inr grown) =
     by_equal who node.facts left.node.facts (node.facts ++ option_to_list fact) grown (grown_or_same who node.facts fact)
 
-restart_keeps : (config : Config) (who : NodeId) (node : NodeState) (fault : Fault) → (restart_outcome config who node fault).node.facts ≡ node.facts
+restart_keeps : (config : Config) (who : NodeId) (node : NodeState) (fault : Fault) → (restart_outcome config who node fault).node.facts
+    ≡ node.facts
 restart_keeps config who node NoMemoryAt = refl
 restart_keeps config who node (RecordFails whole) = refl
 restart_keeps config who node fault =
@@ -294,7 +299,8 @@ module _ (config : Config) (world : World) where
   noise_says who bytes fault = cond_both (spells_message bytes)
       (if_found world (λ node. answer_result world (Refused Forged)) (node_at config world who))
       (at_node config world who ReceivedNoise fault) (SaysItsChange config world)
-      (λ spelled. found_says (node_at config world who) (λ node. answer_result world (Refused Forged)) (λ node is. unchanged (Refused Forged)))
+      (λ spelled. found_says (node_at config world who) (λ node. answer_result world (Refused Forged)) (λ node is. unchanged
+      (Refused Forged)))
       (λ garbled. input_says who ReceivedNoise fault)
 
 -- what holds of a world with a mark more holds of the world
@@ -303,7 +309,8 @@ of_marked : (config : Config) (world : World) (n : ℕ) (result : StepResult) �
 of_marked config world n result says = record { only = says.only; said = says.said }
 
 -- whatever happens
-dispatch_says : (config : Config) (world : World) (event : Event) (fault : Fault) → SaysItsChange config world (dispatch config world event fault)
+dispatch_says : (config : Config) (world : World) (event : Event) (fault : Fault)
+    → SaysItsChange config world (dispatch config world event fault)
 dispatch_says config world (Ask who request) fault = input_says config world who (Asked request) fault
 dispatch_says config world (Deliver n) fault = found_says config world (datagram_at world.net n)
     (λ d. at_node config (with_mark world n) d.receiver (Received d.message) fault)

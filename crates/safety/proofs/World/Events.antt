@@ -1,7 +1,8 @@
 -- Every event keeps a world safe, and moves each transaction by at most one step.
 use Rattle.std.proofs.Common.{◌≡◌, inl, inr, ◌∙◌, ◌++◌, ℕ, zero, suc, ◌<◌, true, if◌then◌else◌, List, [], ◌∷◌}
 use Rattle.std.proofs.Common.{Option, Some, None, refl, sym, ap, subst, nat_lt}
-use Rattle.std.specs.Prelude.{map, slice_get, length}
+use Rattle.std.specs.Prelude.{slice_get, length}
+use Rattle.std.specs.List.{flat_map}
 use Rattle.std.proofs.lemmas.Bool.{cond_both}
 use Rattle.std.proofs.lemmas.List.{append-nil}
 use Rattle.xid.specs.Transactions.{TxParts}
@@ -15,10 +16,11 @@ use Rattle.protocol.specs.Nodes.{NodeState, Input, Asked, Received, ReceivedNois
 use Rattle.protocol.specs.Nodes.{Fault, RecordFails, NoMemoryBefore, NoMemoryAt, Outcome, node_step}
 use Rattle.protocol.specs.Nodes.{restart_outcome, compact_outcome}
 use Rattle.protocol.specs.Nodes.{all_play}
+use Rattle.protocol.specs.StandsFor.{stands_for}
 use Rattle.protocol.specs.Worlds.{World, Datagram, opening, if_found}
 use Rattle.protocol.specs.Worlds.{StepResult, Occurrence, if_found, node_at, set_node, answer_result}
 use Rattle.protocol.specs.Worlds.{outcome_result}
-use Rattle.protocol.specs.Worlds.{at_node, datagram_at, mark_at, cut_result}
+use Rattle.protocol.specs.Worlds.{at_node, datagram_at, mark_at, with_mark, cut_result}
 use Rattle.protocol.specs.Worlds.{dispatch, world_step, world_after}
 use Rattle.xid.specs.declared.transaction.Vote.TheVariants as votes
 use Rattle.safety.specs.Items.{Item, Promised, Accepted, Began, Voted, Committed, StoredAbort, P1b, P2a, P2b, Commit, Abort}
@@ -31,7 +33,7 @@ use Rattle.safety.proofs.Facts.{messages_of}
 use Rattle.safety.proofs.Argument.Preservation.{invariant_at_start}
 use Rattle.safety.proofs.Leader.Effects.{kept_at_start}
 use Rattle.safety.proofs.Leader.Invariant.{LeaderInvariant}
-use Rattle.safety.proofs.Lists.{IsIn-map}
+use Rattle.safety.proofs.Lists.{IsIn-join}
 use Rattle.safety.proofs.Manager.Apart.{AreApart, none_apart}
 use Rattle.safety.proofs.World.Outcomes.{KeepsFacts, next_still, next_step, joined_from, step_from}
 use Rattle.safety.proofs.World.NodePlaces.{opening_node, leader_inside, marked_messages}
@@ -47,14 +49,11 @@ pub record IsSafeStep (config : Config) (before after : World) : Type 0 where
 marked_from : (config : Config) (net : List Datagram) (n : ℕ) → AreFrom config net → AreFrom config (mark_at net n)
 marked_from config [] n are x h = are x h
 marked_from config (d ∷ net) zero are x h = are x h
-marked_from config (d ∷ net) (suc zero) are x (inl e) = subst (λ (y : Datagram). IsFrom config y.sender y.message) e (are d (inl refl))
+marked_from config (d ∷ net) (suc zero) are x (inl e) =
+    subst (λ (y : Datagram). (m : Kind) → IsIn (stands_for y.message) m → IsFrom config y.sender m) e (are d (inl refl))
 marked_from config (d ∷ net) (suc zero) are x (inr h) = are x (inr h)
 marked_from config (d ∷ net) (suc (suc n)) are x (inl e) = are x (inl e)
 marked_from config (d ∷ net) (suc (suc n)) are x (inr h) = marked_from config net (suc n) (λ y k. are y (inr k)) x h
-
--- a world with a datagram marked
-abbrev pub with_mark : World → ℕ → World
-with_mark world n = record world { net = mark_at world.net n }
 
 module _ (config : Config) (world : World) (safe : IsSafe config world) where
   -- nothing changes
@@ -98,7 +97,7 @@ module _ (config : Config) (world : World) (safe : IsSafe config world) where
 
   -- ---- restarts and tears
 
-  restarted_is : (who : NodeId) (node : NodeState) (fault : Fault) → KeepsFacts node (restart_outcome config who node fault)
+  pub restarted_is : (who : NodeId) (node : NodeState) (fault : Fault) → KeepsFacts node (restart_outcome config who node fault)
   restarted_is who node NoMemoryAt = record { facts = refl; silent = refl; memory = inr refl }
   restarted_is who node (RecordFails whole) = record { facts = refl; silent = refl; memory = inr refl }
   restarted_is who node fault = cond_both (all_play config who [] node.facts) _ _ (KeepsFacts node)
@@ -114,7 +113,7 @@ module _ (config : Config) (world : World) (safe : IsSafe config world) where
             (λ m h. absurd (subst (λ (sends : List Outgoing). IsIn (messages_of sends) m) still.silent h));
       })
 
-  compacted_is : (node : NodeState) (fault : Fault) → KeepsFacts node (compact_outcome node fault)
+  pub compacted_is : (node : NodeState) (fault : Fault) → KeepsFacts node (compact_outcome node fault)
   compacted_is node NoMemoryAt = record { facts = refl; silent = refl; memory = inr refl }
   compacted_is node (RecordFails whole) = record { facts = refl; silent = refl; memory = inr refl }
   compacted_is node fault = record { facts = refl; silent = refl; memory = inl refl }
@@ -138,7 +137,7 @@ module _ (config : Config) (world : World) (safe : IsSafe config world) where
       record {
         next =
             subst (IsSafeStepBy config (node_at config world) (node_at config (set_node config world who (record node { tear = Some n }))))
-            (ap (map (λ datagram. datagram.message)) (append-nil world.net))
+            (ap (flat_map (λ datagram. stands_for datagram.message)) (append-nil world.net))
             (next_still config world who node left safe is (record { facts = refl; silent = refl; memory = inl refl }));
         from = λ are. are;
       }
@@ -161,9 +160,11 @@ module _ (config : Config) (world : World) (safe : IsSafe config world) where
       (λ result. IsSafeStep config world result.world)
       (λ fewer. at_node_next d.receiver ReceivedNoise fault tt) (λ all. same))
 
-  noise_next : (who : NodeId) (bytes : List ℕ) (fault : Fault) → IsSafeStep config world (dispatch config world (Noise who bytes) fault).world
+  noise_next : (who : NodeId) (bytes : List ℕ) (fault : Fault)
+      → IsSafeStep config world (dispatch config world (Noise who bytes) fault).world
   noise_next who bytes fault = cond_both (spells_message bytes)
-      (if_found world (λ node. answer_result world (Refused Forged)) (node_at config world who)) (at_node config world who ReceivedNoise fault)
+      (if_found world (λ node. answer_result world (Refused Forged)) (node_at config world who))
+      (at_node config world who ReceivedNoise fault)
       (λ result. IsSafeStep config world result.world)
       (λ spelled. found_next (node_at config world who) (λ node. answer_result world (Refused Forged)) (λ node is. same))
       (λ garbled. at_node_next who ReceivedNoise fault tt)
@@ -174,7 +175,7 @@ slice_among [] n x h = absurd (cc (h))
 slice_among (y ∷ xs) zero x h = inl (cc (h))
 slice_among (y ∷ xs) (suc n) x h = inr (slice_among xs n x h)
 
-datagram_among : (net : List Datagram) (n : ℕ) (d : Datagram) → datagram_at net n ≡ Some d → IsIn net d
+pub datagram_among : (net : List Datagram) (n : ℕ) (d : Datagram) → datagram_at net n ≡ Some d → IsIn net d
 datagram_among net zero d h = absurd (cc (h))
 datagram_among net (suc n) d h = slice_among net n d h
 
@@ -185,8 +186,8 @@ module _ (config : Config) (world : World) (safe : IsSafe config world) where
       (λ d is.
       let first = marked config world safe n in
       let second = at_node_next config (with_mark world n) first.next.safe d.receiver (Received d.message) fault
-      (subst (λ (xs : List Kind). IsIn xs d.message) (sym (marked_messages world.net n))
-      (IsIn-map (λ (datagram : Datagram). datagram.message) world.net d (datagram_among world.net n d is))) in
+      (λ m h. subst (λ (xs : List Kind). IsIn xs m) (sym (marked_messages world.net n))
+      (IsIn-join (λ (datagram : Datagram). stands_for datagram.message) world.net d m (datagram_among world.net n d is) h)) in
       record { next = second.next; from = λ are. second.from (first.from are) })
 
   -- an event that reaches its node, if it has one
@@ -216,7 +217,8 @@ none_stored : (config : Config) → facts_by (node_at config (opening config)) �
 none_stored config = λ i who. nothing_stored config who (node_at config (opening config) who) refl i
 
 none_stands : (y : Item TxParts) → ¬ StandsBy (λ who. []) [] y
-none_stands (Promised a tx i b) h = h
+none_stands (Promised a tx i b) (inl h) = h
+none_stands (Promised a tx i b) (inr h) = h.1
 none_stands (Accepted a tx i b v) h = h
 none_stands (Began l tx b) h = h
 none_stands (Voted r tx votes.Prepared) h = h.1

@@ -1,21 +1,22 @@
 -- One more fact at a node and messages after those sent, as items that come to stand.
-use Rattle.std.proofs.Common.{◌≡◌, ◌⊎◌, inl, inr, ⊎_elim, ◌∙◌, List, [], ◌++◌, Option, Some, None, refl, sym, ap, subst}
+use Rattle.std.proofs.Common.{◌≡◌, ◌⊎◌, inl, inr, ⊎_elim, ◌∙◌, ℕ, List, [], ◌++◌, Option, Some, None, refl, sym, ap, subst}
 use Rattle.std.specs.List.{flat_map}
 use Rattle.std.specs.Option.{option_to_list}
 use Rattle.std.proofs.lemmas.Bool.{cases_eq}
-use Rattle.xid.specs.Transactions.{TxParts}
+use Rattle.xid.specs.Transactions.{TxParts, participants}
 use Rattle.xid.specs.declared.transaction.Vote.TheVariants as votes
 use Rattle.wire.specs.declared.message.Kind.{Kind}
 use Rattle.wire.specs.declared.message.Kind.TheVariants as kinds
 use Rattle.safety.specs.Words.{Fact, NodeId, A, L, R}
 use Rattle.stable_record.specs.declared.fact.FactKind.TheVariants as stored
-use Rattle.protocol.specs.StandsFor.{stands_for, comes_to}
+use Rattle.protocol.specs.StandsFor.{message_items, comes_to}
 use Rattle.safety.specs.Items.{Item, Promised, Accepted, Began, Voted, Committed, StoredAbort, P1b, P2a, P2b, Commit, Abort}
 use Rattle.ballot.specs.Greatest.{IsIn}
 use Rattle.safety.specs.Standing.{StandsBy}
+use Rattle.safety.proofs.Facts.{among_participants, participates}
 use Rattle.safety.proofs.Argument.Additions.{IsGrownBy}
 use Rattle.safety.proofs.Lists.{IsIn-append, IsIn-before, IsIn-after, IsIn-last, IsIn-join, IsIn-joined}
-use Rattle.safety.proofs.Lists.{Contains-among, IsIn-contains, only_one}
+use Rattle.safety.proofs.Lists.{Contains-among, IsIn-contains, IsIn-map, IsIn-mapped, only_one}
 
 pub same_node : (n who : NodeId) → (n ≡ who) ⊎ (n ≡ who → ⊥)
 same_node (A a) (A b) = elim (cases_eq a b) [ inl e ↦ inl (ap A e) | inr apart ↦ inr (λ e. apart (cc (e))) ]
@@ -52,8 +53,11 @@ pub record IsNodeGrowth (g : NodeGrowth) : Type 0 where
 -- a stored fact is the item that it comes to
 fact_stands : (facts : NodeId → List Fact) (sent : List Kind) (who : NodeId) (fact : Fact) (y : Item TxParts)
     → IsIn (facts who) fact → IsIn (comes_to who fact) y → StandsBy facts sent y
-fact_stands facts sent (A a) (stored.Promise tx i b) y h k = only_one (StandsBy facts sent) (Promised a tx i b) h y k
+fact_stands facts sent (A a) (stored.Promise tx i b) y h k = only_one (StandsBy facts sent) (Promised a tx i b) (inl h) y k
 fact_stands facts sent (A a) (stored.Accept tx i b v) y h k = only_one (StandsBy facts sent) (Accepted a tx i b v) h y k
+fact_stands facts sent (A a) (stored.PromiseAll tx b) y h k =
+    let at = IsIn-mapped (λ (i : ℕ). Promised a tx i b) (participants tx) y k in
+    subst (StandsBy facts sent) at.maps (inr (participates tx at.source at.among, h))
 fact_stands facts sent (L l) (stored.Ballot tx b) y h k = only_one (StandsBy facts sent) (Began l tx b) h y k
 fact_stands facts sent (R r) (stored.VotePrepared tx keys) y h k = only_one (StandsBy facts sent) (Voted r tx votes.Prepared) (keys, h) y k
 fact_stands facts sent (R r) (stored.VoteAborted tx) y h k = only_one (StandsBy facts sent) (Voted r tx votes.Aborted) h y k
@@ -61,9 +65,9 @@ fact_stands facts sent (R r) (stored.Committed tx) y h k = only_one (StandsBy fa
 fact_stands facts sent (R r) (stored.Aborted tx) y h k = only_one (StandsBy facts sent) (StoredAbort r tx) h y k
 fact_stands facts sent who fact y h k = absurd k
 
--- a message that was sent is the item that it stands for
+-- one of the paper's messages that was sent is the item that it is
 message_stands : (facts : NodeId → List Fact) (sent : List Kind) (m : Kind) (y : Item TxParts)
-    → IsIn sent m → IsIn (stands_for m) y → StandsBy facts sent y
+    → IsIn sent m → IsIn (message_items m) y → StandsBy facts sent y
 message_stands facts sent (kinds.P1b tx i b report a) y h k = only_one (StandsBy facts sent) (P1b tx i b report a) h y k
 message_stands facts sent (kinds.P2a tx i b v) y h k = only_one (StandsBy facts sent) (P2a tx i b v) h y k
 message_stands facts sent (kinds.P2b tx i b v a) y h k = only_one (StandsBy facts sent) (P2b tx i b v a) h y k
@@ -112,10 +116,11 @@ module _ (g : NodeGrowth) (grows : IsNodeGrowth g) where
 
   -- what comes to stand
   abbrev added : List (Item TxParts)
-  added = items_of g.who g.fact ++ flat_map stands_for g.more
+  added = items_of g.who g.fact ++ flat_map message_items g.more
 
   stood : (y : Item TxParts) → StandsBy g.before g.sent y → StandsBy g.after g.sent_after y
-  stood (Promised a tx i b) h = fact_kept (A a) (stored.Promise tx i b) h
+  stood (Promised a tx i b) (inl h) = inl (fact_kept (A a) (stored.Promise tx i b) h)
+  stood (Promised a tx i b) (inr h) = inr (h.0, fact_kept (A a) (stored.PromiseAll tx b) h.1)
   stood (Accepted a tx i b v) h = fact_kept (A a) (stored.Accept tx i b v) h
   stood (Began l tx b) h = fact_kept (L l) (stored.Ballot tx b) h
   stood (Voted r tx votes.Prepared) h = (h.0, fact_kept (R r) (stored.VotePrepared tx h.0) h.1)
@@ -136,30 +141,35 @@ module _ (g : NodeGrowth) (grows : IsNodeGrowth g) where
   joins y h =
       ⊎_elim
       (λ (of_fact : IsIn (items_of g.who g.fact) y). comes y g.fact refl of_fact)
-      (λ (of_message : IsIn (flat_map stands_for g.more) y).
-      let from = IsIn-joined stands_for g.more y of_message in
+      (λ (of_message : IsIn (flat_map message_items g.more) y).
+      let from = IsIn-joined message_items g.more y of_message in
       message_stands g.after g.sent_after from.source y
       (subst (λ (xs : List Kind). IsIn xs from.source) (sym grows.messages)
       (IsIn-after g.sent g.more from.source from.among)) from.inside)
-      (IsIn-append (items_of g.who g.fact) (flat_map stands_for g.more) y h)
+      (IsIn-append (items_of g.who g.fact) (flat_map message_items g.more) y h)
 
   from_fact : (n : NodeId) (f : Fact) (y : Item TxParts) → IsIn (comes_to n f) y → (n ≡ g.who) × (g.fact ≡ Some f) → IsIn added y
   from_fact n f y h k =
-      IsIn-before (items_of g.who g.fact) (flat_map stands_for g.more) y
+      IsIn-before (items_of g.who g.fact) (flat_map message_items g.more) y
       (subst (λ (o : Option Fact). IsIn (items_of g.who o) y) (sym k.1) (subst (λ (m : NodeId). IsIn (comes_to m f) y) k.0 h))
 
-  from_message : (m : Kind) (y : Item TxParts) → IsIn (stands_for m) y → IsIn g.more m → IsIn added y
-  from_message m y h k = IsIn-after (items_of g.who g.fact) (flat_map stands_for g.more) y (IsIn-join stands_for g.more m y k h)
+  from_message : (m : Kind) (y : Item TxParts) → IsIn (message_items m) y → IsIn g.more m → IsIn added y
+  from_message m y h k = IsIn-after (items_of g.who g.fact) (flat_map message_items g.more) y (IsIn-join message_items g.more m y k h)
 
   fact_only : (n : NodeId) (f : Fact) (y : Item TxParts) → IsIn (comes_to n f) y → IsIn (g.after n) f → IsIn (g.before n) f
       ⊎ IsIn added y
   fact_only n f y h k = ⊎_elim (λ old. inl old) (λ new. inr (from_fact n f y h new)) (fact_new n f k)
 
-  message_only : (m : Kind) (y : Item TxParts) → IsIn (stands_for m) y → IsIn g.sent_after m → IsIn g.sent m ⊎ IsIn added y
+  message_only : (m : Kind) (y : Item TxParts) → IsIn (message_items m) y → IsIn g.sent_after m → IsIn g.sent m ⊎ IsIn added y
   message_only m y h k = ⊎_elim (λ old. inl old) (λ new. inr (from_message m y h new)) (message_new m k)
 
   stands_or_joins : (y : Item TxParts) → StandsBy g.after g.sent_after y → StandsBy g.before g.sent y ⊎ IsIn added y
-  stands_or_joins (Promised a tx i b) h = fact_only (A a) (stored.Promise tx i b) (Promised a tx i b) (inl refl) h
+  stands_or_joins (Promised a tx i b) (inl h) =
+      ⊎_elim (λ old. inl (inl old)) (λ new. inr new) (fact_only (A a) (stored.Promise tx i b) (Promised a tx i b) (inl refl) h)
+  stands_or_joins (Promised a tx i b) (inr h) =
+      ⊎_elim (λ old. inl (inr (h.0, old))) (λ new. inr new)
+      (fact_only (A a) (stored.PromiseAll tx b) (Promised a tx i b)
+      (IsIn-map (λ (j : ℕ). Promised a tx j b) (participants tx) i (among_participants tx i h.0)) h.1)
   stands_or_joins (Accepted a tx i b v) h = fact_only (A a) (stored.Accept tx i b v) (Accepted a tx i b v) (inl refl) h
   stands_or_joins (Began l tx b) h = fact_only (L l) (stored.Ballot tx b) (Began l tx b) (inl refl) h
   stands_or_joins (Voted r tx votes.Prepared) h =
@@ -174,10 +184,11 @@ module _ (g : NodeGrowth) (grows : IsNodeGrowth g) where
   stands_or_joins (Commit tx) h = message_only (kinds.Commit tx) (Commit tx) (inl refl) h
   stands_or_joins (Abort tx) h = message_only (kinds.Abort tx) (Abort tx) (inl refl) h
 
-  pub grown_by : IsGrownBy (StandsBy g.before g.sent) (items_of g.who g.fact ++ flat_map stands_for g.more) (StandsBy g.after g.sent_after)
+  pub grown_by : IsGrownBy (StandsBy g.before g.sent) (items_of g.who g.fact ++ flat_map message_items g.more)
+      (StandsBy g.after g.sent_after)
   grown_by = record {
     kept = λ {y} h. stood y h;
-    joined = λ {y} h. joins y (IsIn-contains (items_of g.who g.fact ++ flat_map stands_for g.more) y h);
+    joined = λ {y} h. joins y (IsIn-contains (items_of g.who g.fact ++ flat_map message_items g.more) y h);
     only = λ {y} h. ⊎_elim (λ old. inl old)
-        (λ new. inr (Contains-among (items_of g.who g.fact ++ flat_map stands_for g.more) y new)) (stands_or_joins y h);
+        (λ new. inr (Contains-among (items_of g.who g.fact ++ flat_map message_items g.more) y new)) (stands_or_joins y h);
   }

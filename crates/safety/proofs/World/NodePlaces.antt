@@ -1,14 +1,15 @@
 -- Nodes by their names: a node put in its place is there, and no other is changed; marks change no message.
 use Rattle.std.proofs.Common.{◌≡◌, ℕ, zero, suc, ◌+◌, ◌<◌, Bool, true, false, if◌then◌else◌, List, []}
 use Rattle.std.proofs.Common.{◌∷◌, Option, Some, None, refl, ap, nat_lt, arith}
-use Rattle.std.specs.Prelude.{map, replicate, slice_get}
-use Rattle.std.specs.List.{slice_set}
+use Rattle.std.specs.Prelude.{◌++◌, replicate, slice_get}
+use Rattle.std.specs.List.{slice_set, flat_map}
 use Rattle.std.specs.Option.{option_and_then, option_map_or}
 use Rattle.std.proofs.lemmas.Bool.{ltb-true}
 use Rattle.wire.specs.declared.message.Kind.{Kind}
 use Rattle.safety.specs.Words.{NodeId, A, L, R}
 use Rattle.protocol.specs.Effects.{Config}
 use Rattle.protocol.specs.Nodes.{NodeState, new_node}
+use Rattle.protocol.specs.StandsFor.{stands_for}
 use Rattle.protocol.specs.Worlds.{World, Datagram, place, node_at, set_node, mark_at, opening}
 
 -- ---- lists
@@ -134,8 +135,8 @@ leader_inside config world l node h = leader_by config world l node (place confi
 
 -- a mark changes no message
 pub marked_messages : (net : List Datagram) (n : ℕ)
-    → map (λ datagram. datagram.message) (mark_at net n) ≡ map (λ datagram. datagram.message) net
+    → flat_map (λ datagram. stands_for datagram.message) (mark_at net n) ≡ flat_map (λ datagram. stands_for datagram.message) net
 marked_messages [] n = refl
 marked_messages (d ∷ net) zero = refl
 marked_messages (d ∷ net) (suc zero) = refl
-marked_messages (d ∷ net) (suc (suc n)) = ap (λ (rest : List Kind). d.message ∷ rest) (marked_messages net (suc n))
+marked_messages (d ∷ net) (suc (suc n)) = ap (λ (rest : List Kind). stands_for d.message ++ rest) (marked_messages net (suc n))

@@ -7,6 +7,8 @@ use Rattle.protocol.specs.Effects.{Config, Effect, answer_only}
 use Rattle.protocol.specs.Nodes.{Memory, NodeState, Input, Received}
 use Rattle.protocol.specs.Nodes.{effect_of, on_message, is_message_inside}
 use Rattle.protocol.specs.Acceptors.{plays_at_acceptor}
+use Rattle.protocol.specs.Facts.{slot}
+use Rattle.protocol.specs.StandsFor.{stands_for}
 use Rattle.ballot.specs.Greatest.{IsIn}
 use Rattle.safety.specs.Standing.{facts_of}
 use Rattle.safety.proofs.Facts.{with_fact, messages_of}
@@ -20,29 +22,30 @@ use Rattle.safety.proofs.World.Outcomes.{IsRuleEffect}
 use Rattle.safety.proofs.World.SafeSteps.{facts_by, IsSafeBy}
 use Rattle.safety.proofs.World.AllowedEffects.{IsAllowedEffect, nothing_is_allowed}
 
--- what is handed over as a datagram was sent
+-- each message that a datagram stands for was sent, where one is handed over
 abbrev pub IsFromNet : (sent : List Kind) → Input → Type 0
 IsFromNet sent input = IsTakenSent (IsIn sent) input
 
-taken_from : (sent : List Kind) (input : Input) → IsFromNet sent input → (m : Kind) → input ≡ Received m → IsIn sent m
-taken_from sent input came m e = subst (IsFromNet sent) e came
+taken_from : (sent : List Kind) (input : Input) → IsFromNet sent input
+    → (m k : Kind) → input ≡ Received m → IsIn (stands_for m) k → IsIn sent k
+taken_from sent input came m k e h = let each : IsFromNet sent (Received m) = subst (IsFromNet sent) e came in each k h
 
 -- ---- acceptors
 
 -- an acceptor's effect on the facts
 record IsAcceptorEffect (config : Config) (a : ℕ) (facts : NodeId → List Fact) (sent : List Kind) (e : Effect Memory) : Type 0 where
   allowed : IsAllowedEffect config (A a) facts sent e.fact (messages_of e.sends)
-  met : (f : Fact) → e.fact ≡ Some f → plays_at_acceptor (facts (A a)) f ≡ true
+  met : (f : Fact) → e.fact ≡ Some f → plays_at_acceptor (slot (facts (A a))) f ≡ true
 
 module _ (config : Config) (a : ℕ) (nodes : NodeId → Option NodeState) (sent : List Kind) (safe : IsSafeBy config nodes sent)
     (memory : Memory) where
   quiet : (reply : Answer) → IsAcceptorEffect config a (facts_by nodes) sent (answer_only memory reply)
   quiet answer = record { allowed = nothing_is_allowed config (A a) (facts_by nodes) sent; met = λ f is. absurd (cc (is)) }
 
-  acceptor_takes : (m : Kind) → IsIn sent m
+  acceptor_takes : (m : Kind) → ((k : Kind) → IsIn (stands_for m) k → IsIn sent k)
       → IsAcceptorEffect config a (facts_by nodes) sent (on_message config (A a) (facts_by nodes (A a)) memory m)
   acceptor_takes m h =
-      let is = acceptor_is_allowed config a (facts_by nodes) sent (safe.played (A a)) m h (safe.named m h) in
+      let is = acceptor_is_allowed config a (facts_by nodes) sent (safe.played (A a)) m h (λ k at. safe.named k (h k at)) in
       record { allowed = is.allowed; met = is.plays }
 
   acceptor_effect : (input : Input) → IsFromNet sent input

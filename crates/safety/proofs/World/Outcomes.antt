@@ -1,7 +1,6 @@
 -- One input at one node, whatever its fate: what its rule hands over makes the world's next moment.
-use Rattle.std.proofs.Common.{◌≡◌, ◌⊎◌, inl, inr, ◌∙◌, ℕ, Bool, true, false, not, List, [], ◌∷◌, ◌++◌}
+use Rattle.std.proofs.Common.{◌≡◌, ◌⊎◌, inl, inr, ◌∙◌, ℕ, Bool, true, false, not, List, [], ◌∷◌, ◌++◌, append_assoc}
 use Rattle.std.proofs.Common.{Option, Some, None, refl, sym, ap, subst, nat_le}
-use Rattle.std.specs.Prelude.{map}
 use Rattle.std.specs.List.{flat_map}
 use Rattle.std.specs.Option.{option_to_list}
 use Rattle.std.proofs.lemmas.Bool.{cond_both}
@@ -14,6 +13,7 @@ use Rattle.stable_record.specs.Frames.{frame_length}
 use Rattle.protocol.specs.Nodes.{Memory, empty_memory, NodeState, Input, Fault, RecordFails, NoMemoryAt, Outcome}
 use Rattle.protocol.specs.Nodes.{accepts_input}
 use Rattle.protocol.specs.Nodes.{effect_of, answer_outcome, stopped_append, finished_append, effect_outcome, down_answer, node_step, plays}
+use Rattle.protocol.specs.StandsFor.{stands_for}
 use Rattle.protocol.specs.Worlds.{World, Datagram, node_at, datagrams_of, outcome_result}
 use Rattle.safety.specs.Senders.{IsFrom, AreFrom}
 use Rattle.ballot.specs.Greatest.{IsIn}
@@ -21,7 +21,7 @@ use Rattle.safety.specs.Standing.{sent_in}
 use Rattle.safety.proofs.Facts.{with_fact, with_fact_is, messages_of}
 use Rattle.safety.proofs.Leader.Effects.{kept_at_start}
 use Rattle.safety.proofs.Leader.Invariant.{LeaderInvariant, IsSentBy, IsSentExtension}
-use Rattle.safety.proofs.Lists.{IsIn-map, IsIn-mapped, IsIn-joined, IsIn-append, IsIn-before}
+use Rattle.safety.proofs.Lists.{IsIn-mapped, IsIn-join, IsIn-joined, IsIn-append, IsIn-before}
 use Rattle.safety.proofs.Manager.Apart.{AreApart, none_apart}
 use Rattle.safety.proofs.World.NodePlaces.{node_there, node_elsewhere}
 use Rattle.safety.proofs.World.SafeSteps.{facts_by, IsSafe, NodeChange, IsNodeChange, IsSafeStepBy, next_after_move}
@@ -95,23 +95,29 @@ step_is config who node input fault =
 
 -- ---- in the world
 
--- each datagram that is sent has the message of a send
+-- the paper's messages that datagrams stand for
+abbrev net_messages : List Datagram → List Kind
+net_messages net = flat_map (λ datagram. stands_for datagram.message) net
+
+-- each of those of the datagrams that are sent is a send's
 posted_message : (config : Config) (who : NodeId) (sends : List Outgoing) (m : Kind)
-    → IsIn (map (λ datagram. datagram.message) (flat_map (datagrams_of config who) sends)) m → IsSentBy sends m
+    → IsIn (net_messages (flat_map (datagrams_of config who) sends)) m → IsSentBy sends m
 posted_message config who sends m h =
-    let one = IsIn-mapped (λ (d : Datagram). d.message) (flat_map (datagrams_of config who) sends) m h in
+    let one = IsIn-joined (λ (d : Datagram). stands_for d.message) (flat_map (datagrams_of config who) sends) m h in
     let from = IsIn-joined (datagrams_of config who) sends one.source one.among in
     let to = IsIn-mapped (λ (receiver : NodeId). record
     { sender = who; receiver = receiver; message = from.source.message; marked = false })
     (receivers config from.source.to (messages.message_tx from.source.message)) one.source from.inside in
-    (from.source, from.among, ap (λ (d : Datagram). d.message) to.maps ∙ one.maps)
+    (from.source, from.among, subst (λ (d : Datagram). IsIn (stands_for d.message) m) (sym to.maps) one.inside)
 
 sent_message : (sends : List Outgoing) (m : Kind) → IsSentBy sends m → IsIn (messages_of sends) m
-sent_message sends m h = subst (λ (k : Kind). IsIn (messages_of sends) k) h.2 (IsIn-map (λ (s : Outgoing). s.message) sends h.0 h.1)
+sent_message sends m h = IsIn-join (λ (s : Outgoing). stands_for s.message) sends h.0 m h.1 h.2
 
-map-append : (xs ys : List Datagram) → map (λ d. d.message) (xs ++ ys) ≡ map (λ d. d.message) xs ++ map (λ d. d.message) ys
-map-append [] ys = refl
-map-append (x ∷ xs) ys = ap (λ (rest : List Kind). x.message ∷ rest) (map-append xs ys)
+net-append : (xs ys : List Datagram) → net_messages (xs ++ ys) ≡ net_messages xs ++ net_messages ys
+net-append [] ys = refl
+net-append (x ∷ xs) ys =
+    ap (λ (rest : List Kind). stands_for x.message ++ rest) (net-append xs ys)
+    ∙ sym (append_assoc (stands_for x.message) (net_messages xs) (net_messages ys))
 
 -- what the rule of an input hands over, by the facts of the node
 pub record IsRuleEffect (config : Config) (who : NodeId) (nodes : NodeId → Option NodeState) (sent : List Kind) (facts : List Fact)
@@ -128,7 +134,7 @@ module _ (config : Config) (world : World) (who : NodeId) (node : NodeState) (le
   after = (outcome_result config world who node.facts left).world
 
   abbrev more : List Kind
-  more = map (λ datagram. datagram.message) (flat_map (datagrams_of config who) left.sends)
+  more = net_messages (flat_map (datagrams_of config who) left.sends)
 
   abbrev change : Option Fact → NodeChange
   change fact = record {
@@ -149,7 +155,7 @@ module _ (config : Config) (world : World) (who : NodeId) (node : NodeState) (le
     is = node_there config world who node left.node stands;
     others = λ n apart. node_elsewhere config world who n left.node apart;
     grows = facts;
-    messages = map-append world.net (flat_map (datagrams_of config who) left.sends);
+    messages = net-append world.net (flat_map (datagrams_of config who) left.sends);
   }
 
   none_sent : left.sends ≡ [] → (m : Kind) → IsIn more m → IsIn [] m
@@ -159,8 +165,8 @@ module _ (config : Config) (world : World) (who : NodeId) (node : NodeState) (le
 
   silent_messages : left.sends ≡ [] → sent_in after ≡ sent_in world
   silent_messages silent =
-      map-append world.net (flat_map (datagrams_of config who) left.sends)
-      ∙ ap (λ (sends : List Outgoing). sent_in world ++ map (λ datagram. datagram.message) (flat_map (datagrams_of config who) sends)) silent
+      net-append world.net (flat_map (datagrams_of config who) left.sends)
+      ∙ ap (λ (sends : List Outgoing). sent_in world ++ net_messages (flat_map (datagrams_of config who) sends)) silent
       ∙ append-nil (sent_in world)
 
   lost : (l : ℕ) → left.node.memory ≡ empty_memory → LeaderInvariant config l left.node.facts left.node.memory.leader
@@ -224,10 +230,10 @@ module _ (config : Config) (world : World) (who : NodeId) (node : NodeState) (le
 
     done_more : IsFinishedAppend node e left → IsSentExtension (IsIn (sent_in world)) e.sends (IsIn (sent_in after))
     done_more done = record {
-      kept = λ m h. subst (λ (xs : List Kind). IsIn xs m) (sym (map-append world.net (flat_map (datagrams_of config who) left.sends)))
+      kept = λ m h. subst (λ (xs : List Kind). IsIn xs m) (sym (net-append world.net (flat_map (datagrams_of config who) left.sends)))
           (IsIn-before (sent_in world) more m h);
       only = λ m h. elim (IsIn-append (sent_in world) more m
-          (subst (λ (xs : List Kind). IsIn xs m) (map-append world.net (flat_map (datagrams_of config who) left.sends)) h)) [
+          (subst (λ (xs : List Kind). IsIn xs m) (net-append world.net (flat_map (datagrams_of config who) left.sends)) h)) [
             | inl old ↦ inl old
             | inr new ↦ inr (done_sent done m new)
           ];
@@ -275,7 +281,7 @@ module _ (config : Config) (world : World) (who : NodeId) (node : NodeState) (in
 
 -- a datagram that is sent is a send of its sender
 record IsPosted (who : NodeId) (sends : List Outgoing) (d : Datagram) : Type 0 where
-  message : IsIn (messages_of sends) d.message
+  messages : (m : Kind) → IsIn (stands_for d.message) m → IsIn (messages_of sends) m
   sender : who ≡ d.sender
 
 posted_is : (config : Config) (who : NodeId) (sends : List Outgoing) (d : Datagram) → IsIn (flat_map (datagrams_of config who) sends) d
@@ -286,8 +292,8 @@ posted_is config who sends d h =
     { sender = who; receiver = receiver; message = from.source.message; marked = false })
     (receivers config from.source.to (messages.message_tx from.source.message)) d from.inside in
     record {
-      message = subst (λ (m : Kind). IsIn (messages_of sends) m) (ap (λ (x : Datagram). x.message) to.maps)
-          (IsIn-map (λ (s : Outgoing). s.message) sends from.source from.among);
+      messages = λ m k. IsIn-join (λ (s : Outgoing). stands_for s.message) sends from.source m from.among
+          (subst (λ (x : Datagram). IsIn (stands_for x.message) m) (sym to.maps) k);
       sender = ap (λ (x : Datagram). x.sender) to.maps;
     }
 
@@ -305,12 +311,13 @@ module _ (config : Config) (who : NodeId) (node : NodeState) (e : Effect Memory)
 pub joined_from : (config : Config) (world : World) (who : NodeId) (facts : List Fact) (left : Outcome) → AreFrom config world.net
     → ((m : Kind) → IsIn (messages_of left.sends) m → IsFrom config who m)
     → AreFrom config (outcome_result config world who facts left).world.net
-joined_from config world who facts left are from d h = elim (IsIn-append world.net (flat_map (datagrams_of config who) left.sends) d h) [
-  | inl old ↦ are d old
-  | inr new ↦
-      let is = posted_is config who left.sends d new in
-      subst (λ (n : NodeId). IsFrom config n d.message) is.sender (from d.message is.message)
-]
+joined_from config world who facts left are from d h m k = elim (IsIn-append world.net (flat_map
+    (datagrams_of config who) left.sends) d h) [
+      | inl old ↦ are d old m k
+      | inr new ↦
+          let is = posted_is config who left.sends d new in
+          subst (λ (n : NodeId). IsFrom config n m) is.sender (from m (is.messages m k))
+    ]
 
 module _ (config : Config) (world : World) (who : NodeId) (node : NodeState) (input : Input) (fault : Fault) where
   pub step_from : IsRuleEffect config who (node_at config world) (sent_in world) node.facts

@@ -9,7 +9,8 @@ use Rattle.xid.specs.declared.refusals.Refusal.TheVariants.{Damaged, NoSuch}
 use Rattle.safety.specs.Words.{NodeId, A, L, View, Done, Refused, Event, Restart}
 use Rattle.protocol.specs.declared.states.View.TheVariants as views
 use Rattle.protocol.specs.Effects.{Config}
-use Rattle.protocol.specs.Nodes.{NodeState, Fault, NoFault, RecordFails, NoMemoryBefore, NoMemoryAt, empty_memory, answer_outcome, down_node}
+use Rattle.protocol.specs.Nodes.{NodeState, Fault, NoFault, RecordFails, NoMemoryBefore, NoMemoryAt, empty_memory, answer_outcome}
+use Rattle.protocol.specs.Nodes.{down_node}
 use Rattle.protocol.specs.Nodes.{restart_outcome, all_play}
 use Rattle.protocol.specs.TCommit.{IsReady, IsCommitMove, IsCommitStep}
 use Rattle.safety.specs.CommitSteps.{IsConsistent}

@@ -14,7 +14,7 @@ use Rattle.protocol.specs.declared.states.View.TheVariants as views
 use Rattle.protocol.specs.Effects.{Config}
 use Rattle.protocol.specs.Facts.{view}
 use Rattle.protocol.specs.Nodes.{NodeState, plays, all_play}
-use Rattle.protocol.specs.StandsFor.{stands_for}
+use Rattle.protocol.specs.StandsFor.{message_items}
 use Rattle.protocol.specs.TCommit.{IsCommitStep}
 use Rattle.protocol.specs.Worlds.{World, node_at}
 use Rattle.safety.specs.Laws as laws
@@ -151,7 +151,7 @@ module _ (config : Config) (c : NodeChange) (sends : List Kind) (is : IsSafeChan
   abbrev After : Item TxParts → Type 0
   After = StandsBy (facts_by c.nodes_after) c.sent_after
 
-  event : IsAllowedEvent (setting config) Before (items_of c.who c.fact) (flat_map stands_for c.more) After
+  event : IsAllowedEvent (setting config) Before (items_of c.who c.fact) (flat_map message_items c.more) After
   event = event_of_rule config growth sends is.allowed is.some grows
 
   message_new : (m : Kind) → IsIn c.sent_after m → IsIn c.sent m ⊎ IsIn c.more m
@@ -195,14 +195,15 @@ module _ (config : Config) (c : NodeChange) (sends : List Kind) (is : IsSafeChan
   next_after_move = record {
     safe = record {
       invariant =
-          event_keeps_invariant (setting config) Before After (items_of c.who c.fact) (flat_map stands_for c.more) is.safe.invariant event;
+          event_keeps_invariant (setting config) Before After (items_of c.who c.fact)
+          (flat_map message_items c.more) is.safe.invariant event;
       played = λ n. played_at n (same_node n c.who);
       named = named_still;
       kept = λ l other h. kept_at l other h (same_node (L l) c.who);
       apart = λ rm other h. apart_at rm other h (same_node (R rm) c.who);
     };
     step = λ tx. event_moves_one_step (setting config) Before After (items_of c.who c.fact)
-        (flat_map stands_for c.more) is.safe.invariant event tx
+        (flat_map message_items c.more) is.safe.invariant event tx
         (views_by c.nodes tx) (views_by c.nodes_after tx) (state_stands config c.nodes c.sent tx)
         (state_stands config c.nodes_after c.sent_after tx);
   }

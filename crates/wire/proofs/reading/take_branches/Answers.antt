@@ -1,15 +1,15 @@
 use Rattle.std.proofs.Common.{◌∷◌, [], sym, arith}
 use Rattle.std.proofs.lemmas.List.{length-append}
 use Rattle.xid.specs.Transactions.{BranchParts}
-use Rattle.wire.specs.Versions.{version_2}
-use Rattle.wire.specs.Reading.{branches_at}
+use Rattle.wire.specs.Versions.{version_of}
+use Rattle.wire.specs.Reading.{branch_at, branches_at}
 use Rattle.wire.proofs.Loop.{goes_on, ends, is_done}
 use Rattle.wire.proofs.reading.take_branches.Goals as goal
 
 pub returns-in_default : goal.returns-in_default
 returns-in_default c =
-    sym (ends c.loop.all c.args.count c.loop.counter c.loop.rest.now (branches_at version_2 c.args.count c.args.bytes.now)
-    c.loop-test.true (sym c.in_default.ensures.value) c.loop.invariant.same)
+    sym (ends (branch_at (version_of c.args.version)) c.loop.all c.args.count c.loop.counter c.loop.rest.now
+    (branches_at (version_of c.args.version) c.args.count c.args.bytes.now) c.loop-test.true (sym c.in_default.ensures.value) c.loop.invariant.same)
 
 pub loop-preserved : goal.loop-preserved
 loop-preserved c =
@@ -17,11 +17,11 @@ loop-preserved c =
     rw c.push.ensures (record {
       count = omega (arith, length-append c.loop.all (b ∷ []), c.loop.invariant.count);
       same =
-          goes_on c.loop.all c.args.count c.loop.counter c.loop.rest.now b c.in-Some.after.now
-          (branches_at version_2 c.args.count c.args.bytes.now) c.loop-test.true (sym c.in-Some.ensures.value) c.loop.invariant.same;
+          goes_on (branch_at (version_of c.args.version)) c.loop.all c.args.count c.loop.counter c.loop.rest.now
+          (branches_at (version_of c.args.version) c.args.count c.args.bytes.now) b c.in-Some.after.now c.loop-test.true (sym c.in-Some.ensures.value) c.loop.invariant.same;
     })
 
 pub returns : goal.returns
 returns c =
-    sym (is_done c.loop.all c.args.count c.loop.counter c.loop.rest.now (branches_at version_2 c.args.count c.args.bytes.now)
-    c.loop-test.false c.loop.invariant.same)
+    sym (is_done (branch_at (version_of c.args.version)) c.loop.all c.args.count c.loop.counter c.loop.rest.now
+    (branches_at (version_of c.args.version) c.args.count c.args.bytes.now) c.loop-test.false c.loop.invariant.same)

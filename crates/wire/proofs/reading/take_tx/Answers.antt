@@ -1,17 +1,27 @@
-use Rattle.std.proofs.Common.{◌∙◌, sym, subst}
+use Rattle.std.proofs.Common.{sym, subst, ap, ◌∙◌}
 use Rattle.xid.specs.Transactions.{TxParts, IsTx}
-use Rattle.wire.proofs.Fields.{tx_taken, same_taken}
+use Rattle.wire.specs.Versions.{version_of}
+use Rattle.wire.specs.Decoding.{are_managers}
+use Rattle.wire.proofs.TakenTx.{no_parts, no_tx, too_great, found}
 use Rattle.wire.proofs.reading.take_tx.Goals as goal
 
 pub returns-in_default : goal.returns-in_default
-returns-in_default c = λ tx rest is e. let t = tx_taken c.args.bytes.now tx rest is e in absurd (cc (t, c.in_default.ensures))
+returns-in_default c = sym (no_parts (version_of c.args.version) c.args.bytes.now (sym c.in_default.ensures))
 
-pub returns-in_default-from_branches : goal.returns-in_default-from_branches
-returns-in_default-from_branches c = λ tx rest is e.
-    let t = same_taken c.args.bytes.now _ c.in-Some.parts.3.now tx rest is e (sym c.in-Some.ensures) in
-    c.in_default-from_branches.ensures.err.1 (subst (λ (x : TxParts). IsTx x) (sym t.0) is)
+pub returns-then-not-are_parts : goal.returns-then-not-are_parts
+returns-then-not-are_parts c =
+    sym (no_tx (version_of c.args.version) c.args.bytes.now _ c.in-Some.rest.now (sym c.in-Some.ensures)
+    (λ is. absurd (cc (c.are_parts.ensures.1 is, c.if-not-are_parts.true))))
+
+pub returns-then-not-are_managers : goal.returns-then-not-are_managers
+returns-then-not-are_managers c =
+    sym (too_great (version_of c.args.version) c.args.bytes.now _ c.in-Some.rest.now (sym c.in-Some.ensures)
+    (c.are_parts.ensures.0 c.if-not-are_parts.false)
+    (ap (λ (t : TxParts). are_managers (version_of c.args.version) t.branches) (sym c.of_parts-tx.ensures) ∙ sym c.are_managers.ensures
+    ∙ c.if-not-are_managers.true))
 
 pub returns : goal.returns
-returns c = λ tx rest is e.
-    let t = same_taken c.args.bytes.now _ c.in-Some.parts.3.now tx rest is e (sym c.in-Some.ensures) in
-    (c.in-Ok.ensures.ok.1 ∙ t.0, t.1)
+returns c =
+    sym (found (version_of c.args.version) c.args.bytes.now _ c.in-Some.rest.now (sym c.in-Some.ensures ∙ cc (c.of_parts-tx.ensures))
+    (subst IsTx (sym c.of_parts-tx.ensures) (c.are_parts.ensures.0 c.if-not-are_parts.false))
+    (cc (c.are_managers.ensures, c.if-not-are_managers.false)))

@@ -1,14 +1,19 @@
-use Rattle.std.proofs.Common.{◌∙◌, sym, ap}
-use Rattle.protocol.specs.Effects.{decision_of}
+use Rattle.std.proofs.Common.{◌∙◌, sym, subst}
 use Rattle.protocol.specs.Acceptors.{on_acceptor_message}
+use Rattle.acceptor.specs.Acceptors.{Decides}
 use Rattle.acceptor.proofs.acceptor.Acceptor.on_message.Goals as goal
 
-pub returns-in-P1a-clause-effect : goal.returns-in-P1a-clause-effect
-returns-in-P1a-clause-effect c = λ config same.
-    c.on_1a.ensures.effect config same
-    ∙ ap (λ k. decision_of (on_acceptor_message config c.args.self.now.number c.args.self.now.facts k)) (sym c.in-P1a.is ∙ c.kind.ensures.value)
+pub returns-in-P1a : goal.returns-in-P1a
+returns-in-P1a c =
+    subst (λ k. Decides c.args.self.now c.on_1a.result (λ config a slots. on_acceptor_message config a slots k))
+    (sym c.in-P1a.is ∙ c.kind.ensures.value) c.on_1a.ensures
 
-pub returns-in-P2a-clause-effect : goal.returns-in-P2a-clause-effect
-returns-in-P2a-clause-effect c = λ config same.
-    c.on_2a.ensures.effect
-    ∙ ap (λ k. decision_of (on_acceptor_message config c.args.self.now.number c.args.self.now.facts k)) (sym c.in-P2a.is ∙ c.kind.ensures.value)
+pub returns-in-B1a : goal.returns-in-B1a
+returns-in-B1a c =
+    subst (λ k. Decides c.args.self.now c.on_b1a.result (λ config a slots. on_acceptor_message config a slots k))
+    (sym c.in-B1a.is ∙ c.kind.ensures.value) c.on_b1a.ensures
+
+pub returns-in-P2a : goal.returns-in-P2a
+returns-in-P2a c =
+    subst (λ k. Decides c.args.self.now c.on_2a.result (λ config a slots. on_acceptor_message config a slots k))
+    (sym c.in-P2a.is ∙ c.kind.ensures.value) c.on_2a.ensures

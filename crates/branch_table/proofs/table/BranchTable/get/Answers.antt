@@ -2,7 +2,7 @@ use Rattle.std.proofs.Common.{false, ◌≡◌, ◌∙◌, Ok, Err, List, refl, 
 use Rattle.protocol.specs.declared.requests.Action.TheVariants.{Get}
 use Rattle.protocol.specs.declared.rows.Row.{Row}
 use Rattle.protocol.specs.Branches.{get_answer, read_of, row_at, value_after}
-use Rattle.protocol.specs.Managers.{act_on, branch_at}
+use Rattle.protocol.specs.Managers.{act_on, view_named}
 use Rattle.branch_table.specs.Admission.{Admits}
 use Rattle.branch_table.proofs.CallSteps.{placed, key_inval, key_denied, key_done, get_call, read_at, touch_keeps}
 use Rattle.branch_table.proofs.table.BranchTable.get.Goals as goal
@@ -35,7 +35,7 @@ returns-in_ok-touch_at-in-Ok-clause-ok c =
     let key = c.args.key.now in
     let b = c.index.result.now in
     let admits = subst (λ bs. Admits bs x false key (Ok c.in-Ok.at)) c.deref.ensures.value c.in-Ok.ensures in
-    let is : get_answer (read_of rows (branch_at bs x) key) ≡ c.in_ok-answer-in-Ok.answer =
+    let is : get_answer (read_of rows (view_named bs x) key) ≡ c.in_ok-answer-in-Ok.answer =
     ap get_answer (read_at rows bs x key c.in-Ok.at b (placed bs x c.in-Ok.at b admits.0 c.index.ensures))
     ∙ (ap (λ (all : List Row). get_answer (value_after (act_on b.keys key) (row_at all key))) (sym c.deref-in-Ok.ensures.value)
     ∙ sym c.in_ok-answer-in-Ok.ensures.ok) in

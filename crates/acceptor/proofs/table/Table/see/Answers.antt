@@ -1,0 +1,28 @@
+use Rattle.std.proofs.Common.{◌∙◌, ◌++◌, ◌∷◌, [], ap}
+use Rattle.acceptor.proofs.Rows.{saw_number, saw_seen, saw_table}
+use Rattle.acceptor.proofs.table.Table.see.Goals as goal
+
+pub invariant_of-self-2 : goal.invariant_of-self-2
+invariant_of-self-2 c =
+    saw_table (λ slots. slots.items) c.self.inside.transactions c.add.new.self c.args.tx.now c.self.inside.slots.items
+    c.push_reserved.new.self.items c.in-Ok.slots
+    c.in_default.ensures.place c.in-Ok.ensures c.in-Ok-add.ensures.ok.1 (c.push_reserved.ensures.items
+    ∙ ap (λ vs. vs ++ c.in-Ok.slots ∷ []) c.reserve.ensures.items)
+    c.self.invariant
+
+pub returns-clause-number : goal.returns-clause-number
+returns-clause-number c =
+    c.in-Ok-add.ensures.ok.0
+    ∙ saw_number (λ slots. slots.items) c.self.inside.transactions c.add.new.self c.args.tx.now c.self.inside.slots.items
+    c.push_reserved.new.self.items c.in-Ok.slots
+    c.in_default.ensures.place c.in-Ok.ensures c.in-Ok-add.ensures.ok.1 (c.push_reserved.ensures.items
+    ∙ ap (λ vs. vs ++ c.in-Ok.slots ∷ []) c.reserve.ensures.items)
+    c.self.invariant
+
+pub returns-clause-seen : goal.returns-clause-seen
+returns-clause-seen c =
+    saw_seen (λ slots. slots.items) c.self.inside.transactions c.add.new.self c.args.tx.now c.self.inside.slots.items
+    c.push_reserved.new.self.items c.in-Ok.slots
+    c.in_default.ensures.place c.in-Ok.ensures c.in-Ok-add.ensures.ok.1 (c.push_reserved.ensures.items
+    ∙ ap (λ vs. vs ++ c.in-Ok.slots ∷ []) c.reserve.ensures.items)
+    c.self.invariant

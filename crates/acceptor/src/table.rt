@@ -1,0 +1,122 @@
+ghost use Rattle.std.specs.Prelude.{◌≡◌, ℕ, ◌<◌, true, [], IfSome, IfOk, IfErr, length, replicate};
+ghost use Rattle.std.specs.List.{slice_index_or};
+ghost use Rattle.xid.specs.Transactions.{TxParts};
+ghost use Rattle.xid.specs.declared.refusals.Refusal.TheVariants.{NoMemory};
+ghost use Rattle.ballot.specs.Slots.{empty_slot};
+ghost use Rattle.stable_record.specs.Facts.{fact_tx};
+ghost use Rattle.transactions.specs.Seen.{place_in};
+ghost use Rattle.protocol.specs.Acceptors.{plays_at_acceptor};
+ghost use Rattle.acceptor.specs.Slots.{after_fact};
+ghost use Rattle.acceptor.specs.Tables.{IsSeen, slots_in, slot_in};
+
+use crate::slots::{KeptSlot, change};
+use stable_record::Fact;
+use std::alloc::{AllocError, Global};
+use std::marker::Model;
+use transactions::Transactions;
+use xid::{Refusal, Tx};
+
+/// The slots of all transactions that an acceptor has seen: for each one for each of its branches.
+#[derive(Debug, Drop)]
+pub struct Table {
+    alloc: Global,
+    transactions: Transactions,
+    slots: Vec<Vec<KeptSlot>>,
+}
+
+impl Model for Table {
+    ghost use Rattle.std.specs.Prelude.{map};
+    ghost use Rattle.acceptor.specs.Tables.{TableParts, IsTable};
+
+    ghost Value = { TableParts };
+
+    ghost view = { λ t. record { transactions = t.transactions; slots = map (λ slots. slots.items) t.slots.items } };
+
+    ghost invariant = { λ t. IsTable (record { transactions = t.transactions; slots = map (λ slots. slots.items) t.slots.items }) };
+}
+
+impl Table {
+    /// No transaction is seen.
+    pub fn new(alloc: Global) -> Table
+        ensures transactions { result.transactions ≡ [] }
+        ensures slots { result.slots ≡ [] }
+    {
+        Table {
+            alloc,
+            transactions: Transactions::new(alloc),
+            slots: Vec::new(alloc),
+        }
+    }
+
+    /// The number of a transaction, where it was seen.
+    pub fn number_of(&self, tx: &Tx) -> Option<usize>
+        ensures { IfSome result (λ number. (number ≡ place_in self.now.transactions tx.now) × IsSeen self.now tx.now
+            × (number < length self.now.slots)) }
+    {
+        // a use of a field, by which it is known that each number has slots
+        let _slots = &self.slots;
+        self.transactions.number_of(tx)
+    }
+
+    /// The slots of the transaction of a number.
+    pub fn slots(&self, number: usize) -> &[KeptSlot]
+        requires { number < length self.now.slots }
+        ensures { result.now ≡ slice_index_or self.now.slots number [] }
+    {
+        &self.slots[number]
+    }
+
+    /// The slots of a transaction, none where it wasn't seen.
+    pub fn slots_of(&self, tx: &Tx) -> &[KeptSlot]
+        ensures { result.now ≡ slots_in self.now tx.now }
+    {
+        match self.transactions.number_of(tx) {
+            Some(number) => &self.slots[number],
+            None => &[],
+        }
+    }
+
+    /// Sees a transaction: its slots are those at first, unless it was seen. It answers the transaction's number. At `NoMemory`, the
+    /// only refusal, it wasn't seen, and all is as before.
+    pub fn see(&mut self, tx: &Tx) -> Result<usize, Refusal>
+        ensures number { IfOk result (λ number. number ≡ place_in self.new.transactions tx.now) }
+        ensures seen { IfOk result (λ _. IsSeen self.new tx.now) }
+        ensures same { (other : TxParts) (i : ℕ) → slot_in self.new other i ≡ slot_in self.old other i }
+        ensures err { IfErr result (λ e. (e ≡ NoMemory) × (¬ IsSeen self.old tx.now) × (self.new ≡ self.old)) }
+    {
+        if let Some(number) = self.transactions.number_of(tx) {
+            return Ok(number);
+        }
+        let Ok(slots) = first_slots(self.alloc, tx) else {
+            return Err(Refusal::NoMemory);
+        };
+        if self.slots.reserve(1).is_err() {
+            return Err(Refusal::NoMemory);
+        }
+        let Ok(number) = self.transactions.add(tx) else {
+            return Err(Refusal::NoMemory);
+        };
+        self.slots.push_reserved(slots);
+        Ok(number)
+    }
+
+    /// Changes the slots of the transaction of a number by a fact that plays.
+    pub fn change(&mut self, number: usize, fact: &Fact)
+        requires number { number ≡ place_in self.old.transactions (fact_tx fact.now) }
+        requires seen { IsSeen self.old (fact_tx fact.now) }
+        requires plays { plays_at_acceptor (slot_in self.old) fact.now ≡ true }
+        ensures { (other : TxParts) (i : ℕ) → slot_in self.new other i ≡ after_fact other i (slot_in self.old other i) fact.now }
+    {
+        change(&mut self.slots[number], fact);
+    }
+}
+
+/// The slots of a transaction at first.
+fn first_slots(alloc: Global, tx: &Tx) -> Result<Vec<KeptSlot>, AllocError>
+    ensures { IfOk result (λ slots. slots.items ≡ replicate (length tx.now.branches) empty_slot) }
+{
+    let count = tx.count();
+    let mut slots = Vec::with_capacity(alloc, count)?;
+    slots.resize(count, KeptSlot::new())?;
+    Ok(slots)
+}

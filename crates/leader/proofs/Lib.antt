@@ -1,0 +1,10 @@
+pub mod Basics
+pub mod Choosing
+pub mod PlaceSteps
+pub mod Elsewhere
+pub mod Telling
+pub mod Reporting
+pub mod Beginning
+pub mod Proposing
+pub mod Rules
+pub mod Leading

@@ -1,0 +1,204 @@
+ghost use Rattle.std.specs.Prelude.{◌≡◌, ◌<◌, ◌≤◌, ◌==◌};
+ghost use Rattle.std.specs.List.{list_any};
+ghost use Rattle.xid.specs.Limits.{most_acceptors};
+ghost use Rattle.ballot.specs.Majority.{has, is_majority};
+ghost use Rattle.leader.specs.Choices.{both, merged, vote_of};
+ghost use Rattle.leader.specs.Courses.{fresh_instance, joined, with_report, with_reports, instance_proposal, with_proposals, with_decided};
+ghost use Rattle.leader.specs.Courses.{with_nothing_reported, is_place_of, with_teller};
+
+use crate::proposals::Proposal;
+use ballot::{MAX_ACCEPTORS, Quorum, Report};
+use wire::{InstanceAccept, InstanceReport};
+use xid::{Ballot, ManagerNumber, Vote};
+
+/// Some acceptors: for each number whether it is among them.
+pub type Members = [bool; MAX_ACCEPTORS];
+
+/// Whether an acceptor is among some.
+pub fn is_among(members: &Members, acceptor: u8) -> bool
+    requires { acceptor < most_acceptors }
+    ensures { result ≡ has members.now acceptor }
+{
+    members[acceptor as usize]
+}
+
+/// Whether some are more than half of the acceptors, which are the numbers below `acceptors`.
+pub fn are_majority(members: &Members, acceptors: u8) -> bool
+    requires { acceptors ≤ most_acceptors }
+    ensures { result ≡ is_majority acceptors (has members.now) }
+{
+    let mut quorum = Quorum::new();
+    for (acceptor, is_member) in members.iter().enumerate() {
+        if *is_member {
+            quorum.add(acceptor as u8);
+        }
+    }
+    quorum.majority(acceptors)
+}
+
+fn both(a: Vote, b: Vote) -> Vote
+    ensures { result ≡ both a b }
+{
+    match a {
+        Vote::Prepared => b,
+        Vote::Aborted => Vote::Aborted,
+    }
+}
+
+/// Of two reports the one of the greater ballot; of one ballot, prepared where both are.
+fn merge(new: Report, before: Report) -> Report
+    ensures { result ≡ merged new before }
+{
+    match (new, before) {
+        (None, before) => before,
+        (new, None) => new,
+        (Some((b, v)), Some((c, w))) => {
+            if c < b {
+                Some((b, v))
+            } else if b < c {
+                Some((c, w))
+            } else {
+                Some((c, both(v, w)))
+            }
+        }
+    }
+}
+
+/// Whether there is a proposal of an instance.
+fn is_proposed(proposals: &[Proposal], instance: ManagerNumber) -> bool
+    ensures { result ≡ list_any (λ proposal. proposal.instance == instance) proposals.now }
+{
+    proposals
+        .iter()
+        .any(|proposal| proposal.instance == instance)
+}
+
+/// One instance of a transaction. What was reported and proposed is of the current ballot.
+#[derive(Clone, Copy, Debug)]
+pub struct InstanceCourse {
+    pub instance: ManagerNumber,
+    /// Who reported in phase 1b.
+    pub reporters: Members,
+    /// The greatest ballot reported; prepared where all reports of it say so.
+    pub best: Report,
+    /// Whether a value was proposed.
+    pub proposed: bool,
+    /// Whether it has decided prepared.
+    pub prepared: bool,
+    /// Whether it has decided aborted.
+    pub aborted: bool,
+}
+
+impl InstanceCourse {
+    /// Nothing was heard of it.
+    pub fn new(instance: ManagerNumber) -> InstanceCourse
+        ensures { result ≡ fresh_instance instance }
+    {
+        InstanceCourse {
+            instance,
+            reporters: [false; MAX_ACCEPTORS],
+            best: None,
+            proposed: false,
+            prepared: false,
+            aborted: false,
+        }
+    }
+
+    /// A report, where it is of this instance; it counts once for an acceptor.
+    fn hear_report(&mut self, acceptor: u8, item: &InstanceReport)
+        requires { acceptor < most_acceptors }
+        ensures { self.new ≡ with_report acceptor item.now self.old }
+    {
+        if item.instance != self.instance || is_among(&self.reporters, acceptor) {
+            return;
+        }
+        self.reporters[acceptor as usize] = true;
+        self.best = merge(item.report, self.best);
+    }
+
+    /// Those of some reports that are of this instance.
+    pub fn hear_reports(&mut self, acceptor: u8, items: &[InstanceReport])
+        requires { acceptor < most_acceptors }
+        ensures { self.new ≡ with_reports acceptor items.now self.old }
+    {
+        for item in items {
+            self.hear_report(acceptor, item);
+        }
+    }
+
+    /// What it proposes, once a majority has reported and while nothing was proposed.
+    pub fn proposal(&self, acceptors: u8) -> Option<Proposal>
+        requires { acceptors ≤ most_acceptors }
+        ensures { result ≡ instance_proposal acceptors self.now }
+    {
+        if self.proposed || !are_majority(&self.reporters, acceptors) {
+            return None;
+        }
+        let vote = match self.best {
+            Some((_, vote)) => vote,
+            None => Vote::Aborted,
+        };
+        Some(Proposal {
+            instance: self.instance,
+            vote,
+        })
+    }
+
+    /// It was proposed, where it is among these.
+    pub fn mark_proposed(&mut self, proposals: &[Proposal])
+        ensures { self.new ≡ with_proposals proposals.now self.old }
+    {
+        if is_proposed(proposals, self.instance) {
+            self.proposed = true;
+        }
+    }
+
+    /// A value was decided, where it is of this instance.
+    pub fn mark_decided(&mut self, instance: ManagerNumber, vote: Vote)
+        ensures { self.new ≡ with_decided instance vote self.old }
+    {
+        if self.instance == instance {
+            match vote {
+                Vote::Prepared => self.prepared = true,
+                Vote::Aborted => self.aborted = true,
+            }
+        }
+    }
+
+    /// What was reported and proposed doesn't count any more.
+    pub fn forget_reports(&mut self)
+        ensures { self.new ≡ with_nothing_reported self.old }
+    {
+        self.reporters = [false; MAX_ACCEPTORS];
+        self.best = None;
+        self.proposed = false;
+    }
+}
+
+/// Who told in phase 2b of a ballot and value of an instance.
+#[derive(Clone, Copy, Debug)]
+pub struct Told {
+    pub instance: ManagerNumber,
+    pub ballot: Ballot,
+    pub vote: Vote,
+    pub members: Members,
+}
+
+impl Told {
+    /// Whether it is the place of what is told.
+    pub fn is_of(&self, item: &InstanceAccept) -> bool
+        ensures { result ≡ is_place_of item.now.instance item.now.ballot item.now.vote self.now }
+    {
+        item.ballot == self.ballot && item.vote == self.vote && item.instance == self.instance
+    }
+
+    /// An acceptor tells.
+    pub fn add(&mut self, acceptor: u8, item: &InstanceAccept)
+        requires { acceptor < most_acceptors }
+        ensures { self.new ≡ with_teller item.now.instance item.now.ballot item.now.vote acceptor self.old }
+    {
+        if self.is_of(item) {
+            self.members[acceptor as usize] = true;
+        }
+    }
+}

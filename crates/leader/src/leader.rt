@@ -1,0 +1,403 @@
+ghost use Rattle.std.specs.Prelude.{◌≡◌, ℕ, ◌<◌, ◌≤◌, true, [], length, IfSome, IfNone};
+ghost use Rattle.xid.specs.Limits.{most_acceptors, most_branches};
+ghost use Rattle.xid.specs.Transactions.{participants};
+ghost use Rattle.wire.specs.Messages.{IsMessage, IsLeaderBallot};
+ghost use Rattle.wire.specs.declared.message.Kind.TheVariants.{B1b};
+ghost use Rattle.protocol.specs.Effects.{Config, decision_of, status_standing};
+ghost use Rattle.protocol.specs.LeaderMemory.{LeaderMemory, StoredBallots, with_begun, with_met};
+ghost use Rattle.protocol.specs.Leaders as rules;
+ghost use Rattle.protocol.specs.Parts.{IsMadeReady, IsPlayed};
+ghost use Rattle.leader.specs.Leaders.{are_below, commit_messages, phase_1a_by, taken_over, StandsForBallots, Follows, FollowsOrRefuses};
+ghost use Rattle.leader.specs.Leaders.{leader_part};
+ghost use Rattle.leader.specs.Decisions.{shown};
+
+use crate::course::{Course, is_final};
+use crate::courses::{
+    begin, greatest_of, hear_1b, hear_2b, make_place, mark_known, meet, status_of, store,
+};
+use crate::decision::LeaderDecision;
+use crate::orders::LeaderSends;
+use ballot::{next_owned, owner};
+use protocol::{Address, Answer, NodeId, Outgoing, Sends, Standing, Status};
+use stable_record::{Fact, FactKind};
+use std::alloc::Global;
+use std::marker::Model;
+use wire::{InstanceAccept, InstanceReport, Kind, Message};
+use xid::{Ballot, ManagerNumber, Refusal, Tx};
+
+/// A leader: its number, the sizes of its cluster, and the transactions that it has to do with. Contracts say which stored ballots, and
+/// which memory since the last restart, it stands for.
+#[derive(Debug, Drop)]
+pub struct Leader {
+    alloc: Global,
+    number: u8,
+    acceptors: u8,
+    leaders: u8,
+    managers: u8,
+    bundled: bool,
+    courses: Vec<Course>,
+}
+
+impl Model for Leader {
+    ghost use Rattle.std.specs.Prelude.{◌<◌, ◌≤◌};
+    ghost use Rattle.xid.specs.Limits.{most_acceptors};
+    ghost use Rattle.leader.specs.Leaders.{LeaderParts};
+
+    ghost Value = { LeaderParts };
+
+    ghost view = { λ l. record {
+      number = l.number;
+      acceptors = l.acceptors;
+      leaders = l.leaders;
+      managers = l.managers;
+      bundled = l.bundled;
+      courses = l.courses.items;
+    } };
+
+    ghost invariant = { λ l. (l.number < l.leaders) × (l.acceptors ≤ most_acceptors) };
+}
+
+impl Leader {
+    /// A leader that has played nothing and met no transaction. Phases 1a, 1b and 2b go in bundles in a bundled cluster.
+    pub fn new(
+        alloc: Global,
+        number: u8,
+        acceptors: u8,
+        leaders: u8,
+        managers: u8,
+        bundled: bool,
+    ) -> Leader
+        requires number { number < leaders }
+        requires acceptors { acceptors ≤ most_acceptors }
+        ensures { result ≡ record {
+          number = number;
+          acceptors = acceptors;
+          leaders = leaders;
+          managers = managers;
+          bundled = bundled;
+          courses = [];
+        } }
+    {
+        Leader {
+            alloc,
+            number,
+            acceptors,
+            leaders,
+            managers,
+            bundled,
+            courses: Vec::new(alloc),
+        }
+    }
+
+    /// A client asks for a commit, which makes the leader know the transaction: undecided, each resource manager is asked to prepare;
+    /// decided, it is told the outcome again. The answer is the status, or that the transaction names a resource manager outside the
+    /// cluster (`BadTx`); then nothing changes. At `NoMemory`, the only refusal, it stands for what it stood for.
+    pub fn commit(&mut self, tx: &Tx) -> Result<LeaderDecision, Refusal>
+        ensures { (config : Config) (number : ℕ) → FollowsOrRefuses config number self.old self.new result
+            (λ stored memory. rules.on_commit_call config stored memory tx.now) }
+    {
+        if !is_inside(self.managers, tx) {
+            return Ok(LeaderDecision::answers(Answer::Refused(Refusal::BadTx)));
+        }
+        match meet(self.alloc, &mut self.courses, tx) {
+            Ok(status) => Ok(LeaderDecision {
+                answer: Answer::Stands(standing_of(status)),
+                fact: None,
+                sends: LeaderSends::listed(commit_sends(status, tx)),
+            }),
+            Err(refusal) => Err(refusal),
+        }
+    }
+
+    /// A timeout: undecided, the leader takes over in its next ballot, which is to be stored, and phase 1a goes out; after `play` of the
+    /// ballot, `begin` makes it current. Decided, each resource manager is told the outcome again. The answer is ok, or `NoBallot`
+    /// where no ballot of its own is left, or `BadTx` where the transaction names a resource manager outside the cluster. It takes no
+    /// memory.
+    pub fn timeout(&mut self, tx: &Tx) -> LeaderDecision
+        ensures decides { (config : Config) (number : ℕ) (stored : StoredBallots) (memory : LeaderMemory)
+            → StandsForBallots config number self.old stored memory
+            → shown result ≡ decision_of (rules.on_leader_timeout config number stored memory tx.now) }
+        ensures plays { (config : Config) (number : ℕ) (stored : StoredBallots) (memory : LeaderMemory)
+            → StandsForBallots config number self.old stored memory
+            → IfSome result.fact (λ fact. rules.plays_at_leader config.leaders number stored fact ≡ true) }
+        ensures waits { IfSome result.fact (λ fact. self.new ≡ self.old) }
+        ensures stands { IfNone result.fact ((config : Config) (number : ℕ) (stored : StoredBallots) (memory : LeaderMemory)
+            → StandsForBallots config number self.old stored memory
+            → StandsForBallots config number self.new stored (rules.on_leader_timeout config number stored memory tx.now).memory) }
+    {
+        if !is_inside(self.managers, tx) {
+            return LeaderDecision::answers(Answer::Refused(Refusal::BadTx));
+        }
+        let status = status_of(&self.courses, tx);
+        if is_final(status) {
+            mark_known(&mut self.courses, tx);
+            return LeaderDecision::sends(LeaderSends::listed(outcome_sends(
+                status,
+                tx,
+                Address::Managers,
+            )));
+        }
+        let last = greatest_of(&self.courses, tx);
+        take_over(self.number, self.leaders, self.bundled, tx, last)
+    }
+
+    /// Makes a ballot current, right after `play` of it: what was reported and proposed before doesn't count any more. It takes no memory.
+    pub fn begin(&mut self, tx: &Tx, ballot: Ballot)
+        ensures { (config : Config) (number : ℕ) (stored : StoredBallots) (memory : LeaderMemory)
+            → StandsForBallots config number self.old stored memory → 0 < stored tx.now
+            → StandsForBallots config number self.new stored (with_begun tx.now ballot (with_met tx.now memory)) }
+    {
+        begin(&mut self.courses, tx, ballot);
+    }
+
+    /// Phase 1b of an acceptor for some instances: it counts in the current ballot while undecided, all items at once; then each instance
+    /// of which a majority has reported, and nothing was proposed, is proposed. It takes no memory.
+    pub fn on_1b(
+        &mut self,
+        tx: &Tx,
+        ballot: Ballot,
+        acceptor: u8,
+        reports: &[InstanceReport],
+    ) -> LeaderDecision
+        requires message { IsMessage (B1b tx.now ballot acceptor reports.now) }
+        requires few { length reports.now ≤ most_branches }
+        ensures { (config : Config) (number : ℕ) → Follows config number self.old self.new result
+            (λ stored memory. rules.on_1b config stored memory tx.now ballot acceptor reports.now) }
+    {
+        let acceptors = self.acceptors;
+        let proposals = hear_1b(&mut self.courses, tx, acceptors, ballot, acceptor, reports);
+        LeaderDecision::sends(LeaderSends::proposes(tx, ballot, proposals))
+    }
+
+    /// Phase 2b of an acceptor for some instances, which makes the leader know the transaction: it counts while undecided, all items at
+    /// once; where there is an outcome then, each resource manager is told. At `NoMemory`, the only refusal, it stands for what it stood
+    /// for.
+    pub fn on_2b(
+        &mut self,
+        tx: &Tx,
+        acceptor: u8,
+        accepts: &[InstanceAccept],
+    ) -> Result<LeaderDecision, Refusal>
+        requires { acceptor < most_acceptors }
+        ensures { (config : Config) (number : ℕ) → FollowsOrRefuses config number self.old self.new result
+            (λ stored memory. rules.on_2b config stored memory tx.now acceptor accepts.now) }
+    {
+        let acceptors = self.acceptors;
+        match hear_2b(
+            self.alloc,
+            &mut self.courses,
+            tx,
+            acceptors,
+            acceptor,
+            accepts,
+        ) {
+            Ok(status) => Ok(LeaderDecision::sends(LeaderSends::listed(outcome_sends(
+                status,
+                tx,
+                Address::Managers,
+            )))),
+            Err(refusal) => Err(refusal),
+        }
+    }
+
+    /// A resource manager asks, which makes the leader know the transaction: it is told the outcome, where there is one. At `NoMemory`,
+    /// the only refusal, it stands for what it stood for.
+    pub fn on_ask(&mut self, tx: &Tx, rm: ManagerNumber) -> Result<LeaderDecision, Refusal>
+        requires { rm < 256 }
+        ensures { (config : Config) (number : ℕ) → FollowsOrRefuses config number self.old self.new result
+            (λ stored memory. rules.on_ask config stored memory tx.now rm) }
+    {
+        let asker = Address::Node(NodeId::R(rm as u8));
+        match meet(self.alloc, &mut self.courses, tx) {
+            Ok(status) => Ok(LeaderDecision::sends(LeaderSends::listed(outcome_sends(
+                status, tx, asker,
+            )))),
+            Err(refusal) => Err(refusal),
+        }
+    }
+
+    /// What a client is told of a transaction: its status, or `BadTx` where it names a resource manager outside the cluster. It takes no
+    /// memory.
+    pub fn status(&self, tx: &Tx) -> LeaderDecision
+        ensures { (config : Config) (number : ℕ) → Follows config number self.now self.now result
+            (λ stored memory. rules.on_status_call config stored memory tx.now) }
+    {
+        if !is_inside(self.managers, tx) {
+            return LeaderDecision::answers(Answer::Refused(Refusal::BadTx));
+        }
+        LeaderDecision::answers(Answer::Stands(standing_of(status_of(&self.courses, tx))))
+    }
+
+    /// What it does on a message: on phase 1b and 2b, single or in bundles, and on a question, what `on_1b`, `on_2b` and `on_ask` say, on
+    /// every other nothing. A single one is a bundle of one. That the message names none but nodes of the cluster, and has the form that
+    /// goes there, is asked before, by the node. At `NoMemory`, the only refusal, it stands for what it stood for.
+    pub fn on_message(&mut self, message: &Message) -> Result<LeaderDecision, Refusal>
+        ensures { (config : Config) (number : ℕ) → FollowsOrRefuses config number self.old self.new result
+            (λ stored memory. rules.on_leader_message config stored memory message.now) }
+    {
+        match message.kind() {
+            Kind::P1b {
+                tx,
+                instance,
+                ballot,
+                report,
+                acceptor,
+            } => {
+                let item = InstanceReport {
+                    instance: *instance,
+                    report: *report,
+                };
+                Ok(self.on_1b(tx, *ballot, *acceptor, &[item]))
+            }
+            Kind::B1b {
+                tx,
+                ballot,
+                acceptor,
+                reports,
+            } => Ok(self.on_1b(tx, *ballot, *acceptor, reports.as_slice())),
+            Kind::P2b {
+                tx,
+                instance,
+                ballot,
+                vote,
+                acceptor,
+            } => {
+                let item = InstanceAccept {
+                    instance: *instance,
+                    ballot: *ballot,
+                    vote: *vote,
+                };
+                self.on_2b(tx, *acceptor, &[item])
+            }
+            Kind::B2b {
+                tx,
+                acceptor,
+                accepts,
+            } => self.on_2b(tx, *acceptor, accepts.as_slice()),
+            Kind::Ask { tx, rm } => self.on_ask(tx, *rm),
+            _ => Ok(LeaderDecision::answers(Answer::Done)),
+        }
+    }
+
+    /// Makes a place for the transaction of a ballot, so that `play` of it right afterwards takes no memory. At `NoMemory`, the only
+    /// refusal, and else too, it stands for what it stood for.
+    pub fn ready(&mut self, fact: &Fact) -> Result<(), Refusal>
+        ensures { (config : Config) (number : ℕ) (memory : LeaderMemory)
+            → IsMadeReady (leader_part config number memory) self.old self.new fact.now result }
+    {
+        if let FactKind::Ballot { tx, .. } = fact.kind() {
+            return match make_place(self.alloc, &mut self.courses, tx) {
+                Ok(_) => Ok(()),
+                Err(refusal) => Err(refusal),
+            };
+        }
+        Ok(())
+    }
+
+    /// Plays a ballot that is stored: it is the transaction's greatest, but isn't current before `begin`. Refused (`Damaged`) where it
+    /// isn't this leader's own, or no greater than one before, or is no ballot, and (`NoMemory`) where the transaction has no place;
+    /// then it stands for what it stood for.
+    pub fn play(&mut self, fact: Fact) -> Result<(), Refusal>
+        ensures { (config : Config) (number : ℕ) (memory : LeaderMemory)
+            → IsPlayed (leader_part config number memory) self.old self.new fact result }
+    {
+        let FactKind::Ballot { tx, ballot } = fact.kind() else {
+            return Err(Refusal::Damaged);
+        };
+        if *ballot <= greatest_of(&self.courses, tx) {
+            return Err(Refusal::Damaged);
+        }
+        if owner(*ballot, self.leaders) != self.number {
+            return Err(Refusal::Damaged);
+        }
+        store(self.alloc, &mut self.courses, tx, *ballot)
+    }
+}
+
+/// Whether a transaction names only resource managers of the cluster.
+fn is_inside(managers: u8, tx: &Tx) -> bool
+    ensures { result ≡ are_below managers (participants tx.now) }
+{
+    for i in 0..tx.count() {
+        if tx.rm(i) >= u16::from(managers) {
+            return false;
+        }
+    }
+    true
+}
+
+/// Phase 1a of a ballot.
+fn begin_sends(bundled: bool, tx: &Tx, ballot: Ballot) -> LeaderSends
+    requires { IsLeaderBallot ballot }
+    ensures { result ≡ phase_1a_by bundled tx.now ballot }
+{
+    let _ = tx.count();
+    if bundled {
+        return LeaderSends::listed(Sends::one(Outgoing {
+            to: Address::Acceptors,
+            message: Message::new(Kind::B1a { tx: *tx, ballot }),
+        }));
+    }
+    LeaderSends::begins(tx, ballot)
+}
+
+/// The leader's next ballot after the last, to be stored, and its phase 1a; or that there is none.
+fn take_over(number: u8, leaders: u8, bundled: bool, tx: &Tx, last: Ballot) -> LeaderDecision
+    requires { number < leaders }
+    ensures decides { shown result ≡ taken_over number leaders bundled tx.now last }
+    ensures plays { IfSome result.fact (λ fact. rules.plays_at_leader leaders number (λ x. last) fact ≡ true) }
+{
+    let _ = tx.count();
+    match next_owned(number, leaders, last) {
+        Ok(ballot) => LeaderDecision {
+            answer: Answer::Done,
+            fact: Some(Fact::new(FactKind::Ballot { tx: *tx, ballot })),
+            sends: begin_sends(bundled, tx, ballot),
+        },
+        Err(_) => LeaderDecision::answers(Answer::Refused(Refusal::NoBallot)),
+    }
+}
+
+/// How a status is answered.
+fn standing_of(status: Status) -> Standing
+    ensures { result ≡ status_standing status }
+{
+    match status {
+        Status::Unknown => Standing::Unknown,
+        Status::Undecided => Standing::Undecided,
+        Status::Committed => Standing::Committed,
+        Status::Aborted => Standing::Aborted,
+    }
+}
+
+/// The message of an outcome, where there is one.
+fn outcome_sends(status: Status, tx: &Tx, to: Address) -> Sends
+    ensures { result ≡ rules.outcome_messages status tx.now to }
+{
+    let _ = tx.count();
+    match status {
+        Status::Committed => Sends::one(Outgoing {
+            to,
+            message: Message::new(Kind::Commit(*tx)),
+        }),
+        Status::Aborted => Sends::one(Outgoing {
+            to,
+            message: Message::new(Kind::Abort(*tx)),
+        }),
+        Status::Unknown | Status::Undecided => Sends::none(),
+    }
+}
+
+/// What a commit call sends.
+fn commit_sends(status: Status, tx: &Tx) -> Sends
+    ensures { result ≡ commit_messages status tx.now }
+{
+    if is_final(status) {
+        return outcome_sends(status, tx, Address::Managers);
+    }
+    let _ = tx.count();
+    Sends::one(Outgoing {
+        to: Address::Managers,
+        message: Message::new(Kind::Prepare(*tx)),
+    })
+}

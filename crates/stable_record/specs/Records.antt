@@ -1,0 +1,23 @@
+-- What the records of this crate hold.
+use Rattle.std.specs.Prelude.{ℕ, List, Option, Some, None, false, true}
+use Rattle.stable_record.specs.declared.memory.MemRecord.{MemRecord}
+use Rattle.stable_record.specs.declared.failing.FailRecord.{FailRecord}
+use Rattle.stable_record.specs.Held.{Held}
+
+-- a record in memory never fails of itself
+abbrev pub mem_held : MemRecord → Held
+mem_held m = record { bytes = m.bytes.items; kept = m.kept; faults = m.faults; armed = m.armed; may_fail = false }
+
+-- a new record of these bytes
+abbrev pub fresh : List ℕ → Held
+fresh bytes = record { bytes = bytes; kept = 0; faults = 0; armed = None; may_fail = false }
+
+-- a record over another may fail of itself, and counts faults and what was kept on its own
+abbrev pub fail_held : {R : Type 0} → (R → Held) → FailRecord R → Held
+fail_held held r = record {
+  bytes = (held r.inner).bytes;
+  kept = r.kept;
+  faults = r.faults;
+  armed = (held r.inner).armed;
+  may_fail = true;
+}

@@ -1,0 +1,58 @@
+ghost use Rattle.std.specs.Prelude.{◌≡◌, ◌⊎◌, ℕ, ◌≤◌, List, length, drop, IfOk, IfErr, MatchOption};
+ghost use Rattle.xid.specs.declared.refusals.Refusal.TheVariants.{Damaged, NoMemory};
+ghost use Rattle.stable_record.specs.Grammar.{most_body, IsTail, IsFramed, IsStored, IsDamaged, HasNoFrame};
+
+use crate::entry::Entry;
+use crate::reading::entry_of;
+use std::alloc::Global;
+use wire::take_number;
+use xid::Refusal;
+
+/// How many bytes the body of a frame has at most.
+pub const MAX_BODY: u32 = 32768;
+
+/// The entry whose frame stands at the front, and what follows it. None where the bytes are a tail; `Damaged` where they are
+/// neither.
+fn take_frame(alloc: Global, bytes: &[u8]) -> Result<Option<(Entry, &[u8])>, Refusal>
+    ensures ok { IfOk result (λ found. MatchOption found (IsTail bytes.now) (λ x. IsFramed x.0 bytes.now x.1.now)) }
+    ensures err { IfErr result (λ e. ((e ≡ Damaged) × HasNoFrame bytes.now) ⊎ (e ≡ NoMemory)) }
+{
+    let Some((len, rest)) = take_number(bytes) else {
+        return Ok(None);
+    };
+    if len == 0 {
+        return Err(Refusal::Damaged);
+    }
+    if len > MAX_BODY {
+        return Err(Refusal::Damaged);
+    }
+    let len = len as usize;
+    if rest.len() < len {
+        return Ok(None);
+    }
+    let (body, after) = rest.split_at(len);
+    match entry_of(alloc, body) {
+        Ok(kind) => Ok(Some((Entry::new(kind), after))),
+        Err(e) => Err(e),
+    }
+}
+
+/// What a record holds: the entries of the whole frames, in their order, and how many bytes these frames fill. What follows is a
+/// tail, which is no whole frame. Refused: `Damaged` where the bytes are no such list, and `NoMemory`.
+pub fn entries(alloc: Global, bytes: &[u8]) -> Result<(Vec<Entry>, usize), Refusal>
+    ensures ok { IfOk result (λ x. (x.1 ≤ length bytes.now) × IsStored bytes.now x.0.items (drop x.1 bytes.now)) }
+    ensures err { IfErr result (λ e. ((e ≡ Damaged) × IsDamaged bytes.now) ⊎ (e ≡ NoMemory)) }
+{
+    let mut all = Vec::new(alloc);
+    let mut rest = bytes;
+    loop {
+        match take_frame(alloc, rest) {
+            Ok(Some((entry, after))) => {
+                all.push(entry)?;
+                rest = after;
+            }
+            Ok(None) => return Ok((all, bytes.len() - rest.len())),
+            Err(e) => return Err(e),
+        }
+    }
+}

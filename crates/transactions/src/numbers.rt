@@ -1,0 +1,118 @@
+ghost use Rattle.std.specs.Prelude.{◌≡◌, ◌<◌, [], IfOk, IfErr, MatchOption, length, position, slice_get, false};
+ghost use Rattle.std.specs.List.{All, IsDistinct, list_any};
+ghost use Rattle.std.specs.Str.{bytes_eq};
+ghost use Rattle.xid.specs.Transactions.{IsTx, tx_eq};
+ghost use Rattle.xid.specs.declared.refusals.Refusal.TheVariants.{NoMemory};
+ghost use Rattle.wire.specs.Grammar.{tx_spelling};
+ghost use Rattle.wire.specs.Versions.{version_2};
+ghost use Rattle.transactions.specs.Seen.{place_in, seen_with};
+
+use indexmap::IndexSet;
+use std::alloc::Global;
+use std::marker::Model;
+use wire::{MAX_TX_BYTES, VersionNumber, put_tx, take_tx};
+use xid::{Refusal, Tx};
+
+/// Transactions in the order of first sight. The number of a transaction is its place in that order, and stays. Each is kept by its
+/// spelled bytes.
+#[derive(Debug, Drop)]
+pub struct Transactions {
+    alloc: Global,
+    spelled: IndexSet<Vec<u8>>,
+}
+
+impl Model for Transactions {
+    ghost use Rattle.std.specs.Prelude.{List, map};
+    ghost use Rattle.std.specs.List.{All};
+    ghost use Rattle.xid.specs.Transactions.{TxParts};
+    ghost use Rattle.transactions.specs.Seen.{tx_spelled, IsSpelled};
+
+    ghost Value = { List TxParts };
+
+    ghost view = { λ t. map (λ key. tx_spelled key.items) t.spelled.keys };
+
+    ghost invariant = { λ t. All (λ key. IsSpelled key.items) t.spelled.keys };
+}
+
+/// The spelling of a transaction, written into a buffer.
+fn spell<'b>(tx: &Tx, buffer: &'b mut [u8; MAX_TX_BYTES]) -> &'b [u8]
+    ensures value { result.now ≡ tx_spelling version_2 tx.now }
+    ensures valid { IsTx tx.now }
+{
+    let _ = tx.count();
+    let end = put_tx(tx, buffer, 0);
+    &buffer[..end]
+}
+
+impl Transactions {
+    /// No transaction. It takes no memory.
+    pub fn new(alloc: Global) -> Transactions
+        ensures { result ≡ [] }
+    {
+        Transactions {
+            alloc,
+            spelled: IndexSet::new(alloc),
+        }
+    }
+
+    /// How many there are. No two are the same.
+    pub fn len(&self) -> usize
+        ensures value { result ≡ length self.now }
+        ensures distinct { IsDistinct tx_eq self.now }
+    {
+        self.spelled.len()
+    }
+
+    /// The number of the transaction that these bytes spell, where it was seen. It takes no memory.
+    pub fn number_of_spelled(&self, spelled: &[u8]) -> Option<usize>
+        ensures value { result ≡ position (λ tx. bytes_eq spelled.now (tx_spelling version_2 tx)) self.now }
+        ensures valid { All IsTx self.now }
+    {
+        self.spelled.get_index_of(spelled)
+    }
+
+    /// The number of a transaction, where it was seen. It takes no memory.
+    pub fn number_of(&self, tx: &Tx) -> Option<usize>
+        ensures value { result ≡ position (tx_eq tx.now) self.now }
+        ensures place { MatchOption result (place_in self.now tx.now ≡ length self.now)
+            (λ number. (number ≡ place_in self.now tx.now) × (number < length self.now)) }
+    {
+        let mut buffer = [0; MAX_TX_BYTES];
+        self.number_of_spelled(spell(tx, &mut buffer))
+    }
+
+    /// The transaction of a number, where there is one. It takes no memory.
+    pub fn get(&self, number: usize) -> Option<Tx>
+        ensures { result ≡ slice_get self.now number }
+    {
+        let Some(spelled) = self.spelled.get_index(number) else {
+            return None;
+        };
+        let Some(taken) = take_tx(VersionNumber::Second, spelled) else {
+            return None;
+        };
+        let tx = taken.0;
+        Some(tx)
+    }
+
+    /// Puts a transaction after the others, unless it was seen, and answers its number. At `NoMemory`, the only refusal, it wasn't
+    /// seen, and all is as before.
+    pub fn add(&mut self, tx: &Tx) -> Result<usize, Refusal>
+        ensures valid { IsTx tx.now }
+        ensures ok { IfOk result (λ number. (number ≡ place_in self.old tx.now) × (self.new ≡ seen_with self.old tx.now)) }
+        ensures err { IfErr result (λ e. (e ≡ NoMemory) × (list_any (tx_eq tx.now) self.old ≡ false) × (self.new ≡ self.old)) }
+    {
+        let mut buffer = [0; MAX_TX_BYTES];
+        let spelled = spell(tx, &mut buffer);
+        if let Some(number) = self.number_of_spelled(spelled) {
+            return Ok(number);
+        }
+        let Ok(key) = Vec::from_slice(self.alloc, spelled) else {
+            return Err(Refusal::NoMemory);
+        };
+        let Ok((number, _)) = self.spelled.insert_full(key) else {
+            return Err(Refusal::NoMemory);
+        };
+        Ok(number)
+    }
+}

@@ -1,0 +1,86 @@
+use Rattle.std.proofs.Common.{◌≡◌, ℕ, suc, List, [], ◌∷◌, ◌++◌, Some, None, ◌∙◌, refl, sym, subst, ap}
+use Rattle.std.proofs.Math.Facts.{Fits-lt-pow}
+use Rattle.xid.specs.Names.{IsBytes}
+use Rattle.xid.specs.Transactions.{IsTx}
+use Rattle.wire.specs.Messages.{IsMessage, message_tx}
+use Rattle.wire.specs.Versions.{version_2}
+use Rattle.wire.specs.Grammar.{Spells, tx_spelling, kind_byte, rest_spelling, spelling}
+use Rattle.wire.specs.Reading.{kind_at, whole}
+use Rattle.wire.specs.declared.message.Kind.{Kind}
+use Rattle.wire.proofs.Fields.{tx_valid, tx_taken, same_taken, kind_whole}
+use Rattle.wire.proofs.OneSpelling.{codes}
+use Rattle.wire.specs.declared.grammar.VersionNumber.TheVariants.{Second}
+use Rattle.wire.proofs.Spelled.{tx_spelled}
+use Rattle.wire.proofs.Spelled.{some_same}
+use Rattle.wire.proofs.SpelledKinds.{kind_spelled, whole_at_end}
+use Rattle.wire.proofs.reading.decode.Goals as goal
+
+-- the kind's number, and what follows it, in the spelling of a message
+heads : (k : Kind) (bytes after : List ℕ) (code : ℕ) → bytes ≡ version_2.byte ∷ code ∷ after → bytes ≡ spelling k
+    → (code ≡ kind_byte k) × (after ≡ tx_spelling version_2 (message_tx k) ++ rest_spelling version_2 k)
+heads k bytes after code read e =
+    codes version_2.byte code version_2.byte (kind_byte k) after (tx_spelling version_2 (message_tx k) ++ rest_spelling version_2 k) (sym read ∙ e)
+
+pub returns-in_default-take_parts-clause-err : goal.returns-in_default-take_parts-clause-err
+returns-in_default-take_parts-clause-err c = (
+  refl,
+  λ k is e.
+      let head = heads k c.args.bytes.now c.in-Some.rest.now c.in-Some.code c.in-Some.ensures e in
+      let t = tx_taken c.in-Some.rest.now (message_tx k) (rest_spelling version_2 k) (tx_valid k is) head.1 in
+      absurd (cc (t, c.in_default-take_parts.ensures)),
+)
+
+pub returns-then-not-are_parts-clause-err : goal.returns-then-not-are_parts-clause-err
+returns-then-not-are_parts-clause-err c = (
+  refl,
+  λ k is e.
+      let head = heads k c.args.bytes.now c.in-Some.rest.now c.in-Some.code c.in-Some.ensures e in
+      let t = same_taken c.in-Some.rest.now _ c.in-Some-take_parts.rest.now (message_tx k) (rest_spelling version_2 k) (tx_valid k is) head.1
+      (sym c.in-Some-take_parts.ensures) in
+      absurd (cc (c.are_parts.ensures.1 (subst IsTx (sym t.0) (tx_valid k is)), c.if-not-are_parts.true)),
+)
+
+pub returns-in_default-taken-clause-err : goal.returns-in_default-taken-clause-err
+returns-in_default-taken-clause-err c = (
+  refl,
+  λ k is e.
+      let head = heads k c.args.bytes.now c.in-Some.rest.now c.in-Some.code c.in-Some.ensures e in
+      let t = same_taken c.in-Some.rest.now _ c.in-Some-take_parts.rest.now (message_tx k) (rest_spelling version_2 k) (tx_valid k is) head.1
+      (sym c.in-Some-take_parts.ensures) in
+      let about = c.of_parts.ensures ∙ t.0 in
+      let taken : kind_at c.in-Some.code c.of_parts.result c.in-Some-take_parts.rest.now ≡ Some (k, []) =
+      rw (head.0, about, t.1) (kind_whole k is) in
+      let none : None ≡ Some k = sym c.in_default-taken.is ∙ c.kind_from-taken.ensures ∙ ap whole taken in
+      absurd (cc (none)),
+)
+
+pub returns-then-not-is_message-clause-err : goal.returns-then-not-is_message-clause-err
+returns-then-not-is_message-clause-err c = (
+  refl,
+  λ k is e.
+      let head = heads k c.args.bytes.now c.in-Some.rest.now c.in-Some.code c.in-Some.ensures e in
+      let t = same_taken c.in-Some.rest.now _ c.in-Some-take_parts.rest.now (message_tx k) (rest_spelling version_2 k) (tx_valid k is) head.1
+      (sym c.in-Some-take_parts.ensures) in
+      let about = c.of_parts.ensures ∙ t.0 in
+      let taken : kind_at c.in-Some.code c.of_parts.result c.in-Some-take_parts.rest.now ≡ Some (k, []) =
+      rw (head.0, about, t.1) (kind_whole k is) in
+      let same = some_same c.in-Some-taken.kind k (sym c.in-Some-taken.is ∙ c.kind_from-taken.ensures ∙ ap whole taken) in
+      absurd (cc (c.is_message.ensures.1 (subst IsMessage (sym same) is), c.if-not-is_message.true)),
+)
+
+pub returns-clause-ok : goal.returns-clause-ok
+returns-clause-ok c =
+    let kind = c.in-Some-taken.kind in
+    let each : IsBytes c.args.bytes.now = λ i. Fits-lt-pow (c.type_inv.bytes i) in
+    let is : IsBytes c.in-Some.rest.now = λ i. subst IsBytes c.in-Some.ensures each (suc (suc i)) in
+    let front = tx_spelled Second c.in-Some.rest.now _ is (sym c.in-Some-take_parts.ensures) in
+    let taken = whole_at_end (kind_at c.in-Some.code c.of_parts.result c.in-Some-take_parts.rest.now) kind (sym c.kind_from-taken.ensures ∙ c.in-Some-taken.is) in
+    let last = kind_spelled c.in-Some.code c.of_parts.result c.in-Some-take_parts.rest.now kind front.after taken in
+    let about = last.about ∙ c.of_parts.ensures in
+    let tail : c.in-Some.rest.now ≡ tx_spelling version_2 (message_tx kind) ++ rest_spelling version_2 kind =
+    front.same ∙ λ i. tx_spelling version_2 (sym about i) ++ last.spelled i in
+    let spells : Spells kind c.args.bytes.now = record {
+      message = c.is_message.ensures.0 c.if-not-is_message.false;
+      spelled = c.in-Some.ensures ∙ λ i. version_2.byte ∷ last.numbered i ∷ tail i;
+    } in
+    subst (λ (m : Kind). Spells m c.args.bytes.now) (sym c.new.ensures) spells

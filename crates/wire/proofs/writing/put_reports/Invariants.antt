@@ -1,0 +1,13 @@
+use Rattle.std.proofs.Common.{◌≡◌, ℕ, ◌+◌, ◌*◌, ◌≤◌, ◌++◌, take, drop}
+use Rattle.std.specs.List.{flat_map}
+use Rattle.wire.specs.Versions.{version_2}
+use Rattle.wire.specs.Grammar.{report_item_spelling}
+use Rattle.wire.specs.declared.grammar.TheConstants.{ITEM_BYTES}
+use Rattle.wire.proofs.writing.put_reports.Given as goal
+
+abbrev pub invariant-loop-item : goal.invariant-loop-item
+invariant-loop-item l = record {
+  end : l.at ≡ l.initial.at + ITEM_BYTES * l.item-index;
+  shown : take l.at l.out ≡ take l.initial.at l.initial.out ++ flat_map (report_item_spelling version_2) (take l.item-index l.reports);
+  rest : (n : ℕ) → l.at ≤ n → drop n l.out ≡ drop n l.initial.out;
+}
