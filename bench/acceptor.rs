@@ -6,7 +6,7 @@
 
 use acceptor::Acceptor;
 use anyhow::bail;
-use protocol::{Decision, Sends};
+use protocol::Decision;
 use std::alloc::Global;
 use std::env;
 use wire::{Kind, MAX_DATAGRAM, Message, encode, is_message};
@@ -62,17 +62,16 @@ fn sum_of(message: &Message) -> u64 {
 fn play_all(alloc: Global, bundled: bool, messages: &[Message]) -> Result<(u64, u64), Refusal> {
     let mut acceptor = Acceptor::new(alloc, 0, 1, bundled);
     let mut played: u64 = 0;
-    let mut sent = Sends::none();
+    let mut decision = Decision::nothing();
     for message in messages {
-        let Decision { fact, sends, .. } = acceptor.on_message(message);
-        if let Some(fact) = fact {
-            acceptor.ready(&fact)?;
-            acceptor.play(fact)?;
+        acceptor.decide(message, &mut decision);
+        if let Some(fact) = &decision.fact {
+            acceptor.ready(fact)?;
+            acceptor.play_by(fact)?;
             played = played.wrapping_add(1);
         }
-        sent = sends;
     }
-    let last = sent.as_slice().first();
+    let last = decision.sends.as_slice().first();
     let sum = last.map_or(0, |outgoing| sum_of(&outgoing.message));
     Ok((played, sum))
 }

@@ -1,11 +1,12 @@
 #!/bin/sh
-# Prints how many messages or events a crate takes in a second: `bench/measure.sh messages|acceptor`.
+# Prints how many messages or events a crate takes in a second: `bench/measure.sh messages|acceptor|leader`.
 # The gate runs each program of the repository, so that this one is proved and built in a folder of its own, beside copies of the
 # libraries. Those are proved in their places, where they aren't yet.
 case $1 in
 messages) crate=wire below="xid" first="encode prepare 1" ;;
 acceptor) crate=acceptor below="xid wire stable_record transactions ballot protocol" first="plain 1 1 1" ;;
-*) echo "usage: bench/measure.sh messages|acceptor" >&2; exit 2 ;;
+leader) crate=leader below="xid wire stable_record transactions ballot protocol" first="plain commit 1 1" ;;
+*) echo "usage: bench/measure.sh messages|acceptor|leader" >&2; exit 2 ;;
 esac
 repository=$(cd "$(dirname "$0")/.." && pwd)
 name=bench_$1
@@ -27,7 +28,8 @@ build() {
 }
 (build "$1") >"$scratch/log" 2>&1 || { cat "$scratch/log" >&2; exit 1; }
 
-# Runs the program three times, and takes the shortest. It prints how many it took and, of messages, how many bytes each has.
+# Runs the program, or the one named, three times, and takes the shortest. It prints how many it took and, of messages, how many bytes
+# each has.
 timed() {
     shortest=
     for _ in 1 2 3; do
@@ -47,29 +49,80 @@ messages() {
 }
 
 # plain or bundled, transactions, repetitions: two messages for each transaction in ballot 0, and then another two in ballot 1; beside it
-# a plain Rust program that does the same, built where there is a rustc
+# a plain Rust program that does the same, built where there is a rustc, turn and turn about. The time in which no repetition is made,
+# that of making the messages, is taken off
 events() {
-    timed "$1" "$2" 2 "$3"
+    programs=$scratch/crates/$name/out/$name
+    if [ -x "$scratch/plain" ]; then programs="$programs $scratch/plain"; fi
+    : >"$scratch/times"
+    for _ in 1 2 3 4 5; do
+        for program in $programs; do
+            for repetitions in 0 "$3"; do
+                begin=$(date +%s%N)
+                "$program" "$1" "$2" 2 "$repetitions" >/dev/null || exit 1
+                echo "${program##*/} $repetitions $(($(date +%s%N) - begin))" >>"$scratch/times"
+            done
+        done
+    done
+    awk -v events=$((4 * $2 * $3)) -v named="$1 cluster, $2 transactions" -v proved="$name" '
+        !(($1, $2) in shortest) || $3 < shortest[$1, $2] { shortest[$1, $2] = $3 }
+        { if ($2 > 0) full[$1] = $2 }
+        END {
+            for (program in full)
+                nanoseconds[program] = (shortest[program, full[program]] - shortest[program, 0]) / events
+            printf "%s: %d events per second, %d nanoseconds each", named, 1e9 / nanoseconds[proved], nanoseconds[proved]
+            if ("plain" in full)
+                printf "; plain Rust %d, ratio %.2f", 1e9 / nanoseconds["plain"], nanoseconds["plain"] / nanoseconds[proved]
+            print ""
+        }' "$scratch/times"
+}
+
+# plain or bundled, transactions, repetitions: how many instructions an event takes, where there is a valgrind
+event_instructions() {
+    command -v valgrind >/dev/null || return 0
+    for repetitions in 0 "$3"; do
+        valgrind --tool=callgrind --callgrind-out-file="$scratch/callgrind.$repetitions" "$scratch/crates/$name/out/$name" \
+            "$1" "$2" 2 "$repetitions" >/dev/null 2>&1 || return 0
+    done
+    counted() { sed -n 's/^summary: //p' "$scratch/callgrind.$1"; }
+    echo "$1 cluster, $2 transactions: $((($(counted "$3") - $(counted 0)) / (4 * $2 * $3))) instructions per event"
+}
+
+# what is measured, and the words of a run: events per second, and beside it those of a plain Rust program that does the same, built where
+# there is a rustc
+beside() {
+    what=$1
+    shift
+    timed "$@"
     proved=$rate
     plain=
     if [ -x "$scratch/plain" ]; then
         program=$scratch/plain
-        timed "$1" "$2" 2 "$3"
+        timed "$@"
         program=
         plain=", plain Rust $rate"
     fi
-    echo "$1 cluster, $2 transactions: $proved events per second$plain"
+    echo "$what: $proved events per second$plain"
 }
 
-# how many instructions an event takes, where there is a valgrind
+# plain or bundled, commit or takeover, transactions, repetitions: the votes or reports of two acceptors
+courses() {
+    beside "$2 in a $1 cluster, $3 transactions" "$@"
+}
+
+# what is measured, and the words of a run but its repetitions: how many instructions an event takes, where there is a valgrind
 instructions() {
     command -v valgrind >/dev/null || return 0
-    for repetitions in 1 11; do
-        valgrind --tool=callgrind --callgrind-out-file="$scratch/callgrind.$repetitions" "$scratch/crates/$name/out/$name" \
-            "$1" 1000 2 "$repetitions" >/dev/null 2>&1 || return 0
+    what=$1
+    shift
+    for repetitions in 1 "${more:-11}"; do
+        valgrind --tool=callgrind --callgrind-out-file="$scratch/callgrind" "$scratch/crates/$name/out/$name" "$@" "$repetitions" \
+            >"$scratch/counts" 2>/dev/null || return 0
+        read -r count _ <"$scratch/counts"
+        taken=$(sed -n 's/^summary: //p' "$scratch/callgrind")
+        if [ "$repetitions" = 1 ]; then few=$count least=$taken; fi
     done
-    counted() { sed -n 's/^summary: //p' "$scratch/callgrind.$1"; }
-    echo "$1 cluster: $((($(counted 11) - $(counted 1)) / 40000)) instructions per event"
+    echo "$what: $(((taken - least) / (count - few))) instructions per event"
 }
 
 # how many bytes a transaction takes: the peak of memory with an acceptor and without
@@ -91,16 +144,32 @@ if [ "$1" = messages ]; then
     messages decode p2b 500000
     messages decode p1b 500000
     messages decode b1b 500000
-else
-    if command -v rustc >/dev/null; then
-        rustc -O --edition 2021 -o "$scratch/plain" "$repository/bench/plain/acceptor.rs" 2>/dev/null
-    fi
+    exit
+fi
+if command -v rustc >/dev/null; then
+    rustc -O --edition 2021 -o "$scratch/plain" "$repository/bench/plain/$1.rs" 2>/dev/null
+fi
+if [ "$1" = acceptor ]; then
     for kind in plain bundled; do
         events "$kind" 10 30000
         events "$kind" 1000 300
         events "$kind" 10000 20
-        events "$kind" 100000 2
-        instructions "$kind"
+        events "$kind" 100000 4
+        event_instructions "$kind" 10 1000
+        event_instructions "$kind" 100000 1
     done
     memory
+else
+    for kind in plain bundled; do
+        for what in commit takeover; do
+            courses "$kind" "$what" 10 30000
+            courses "$kind" "$what" 1000 300
+            courses "$kind" "$what" 10000 20
+            courses "$kind" "$what" 100000 2
+        done
+        for what in commit takeover; do
+            instructions "$what in a $kind cluster, 10 transactions" "$kind" "$what" 10
+            more=2 instructions "$what in a $kind cluster, 100000 transactions" "$kind" "$what" 100000
+        done
+    done
 fi

@@ -1,4 +1,5 @@
-//! What bench/acceptor.rs does, as a plain Rust program: a `HashMap` from the spelled transaction to its slots.
+//! What bench/acceptor.rs does, as a plain Rust program: a `HashMap` from the spelled transaction to its slots. What is decided is handed
+//! back by value, where the proved acceptor writes it in the place of the decision before. A played fact isn't spelled or stored in either.
 //! `plain_acceptor plain|bundled TRANSACTIONS BALLOTS REPETITIONS`
 use std::collections::HashMap;
 use std::env;

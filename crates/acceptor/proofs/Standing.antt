@@ -14,7 +14,7 @@ use Rattle.protocol.specs.declared.decisions.Outgoing.{Outgoing}
 use Rattle.protocol.specs.Facts.{slot}
 use Rattle.protocol.specs.Acceptors.{Slots, plays_at_acceptor, is_accepted, is_some_below, on_1a, on_b1a, on_2a}
 use Rattle.protocol.specs.Effects.{Config, Effect, decision_of, no_effect, stores, sends_only}
-use Rattle.protocol.specs.Parts.{Plays, IsPlayed}
+use Rattle.stable_record.specs.Parts.{Plays, IsPlayed}
 use Rattle.acceptor.specs.Slots.{slots_of, after_fact}
 use Rattle.acceptor.specs.Tables.{TableParts, IsSeen, slots_in, slot_in}
 use Rattle.acceptor.specs.Acceptors.{AcceptorParts, StandsFor, Decides, acceptor_part}

@@ -7,7 +7,7 @@ use Rattle.protocol.specs.declared.decisions.Decision.{Decision}
 use Rattle.protocol.specs.Facts.{slot}
 use Rattle.protocol.specs.Acceptors.{Slots, plays_at_acceptor}
 use Rattle.protocol.specs.Effects.{Config, Effect, decision_of}
-use Rattle.protocol.specs.Parts.{Part}
+use Rattle.stable_record.specs.Parts.{Part}
 use Rattle.acceptor.specs.Tables.{TableParts, IsSeen, slot_in}
 
 -- which acceptor it is, among how many leaders, whether the cluster is bundled, and the slots that it keeps

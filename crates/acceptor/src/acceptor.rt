@@ -5,12 +5,12 @@ ghost use Rattle.wire.specs.declared.message.Kind.TheVariants.{P1a, P2a, B1a};
 ghost use Rattle.stable_record.specs.Facts.{fact_tx};
 ghost use Rattle.protocol.specs.Acceptors.{on_1a, on_b1a, on_2a, on_acceptor_message};
 ghost use Rattle.protocol.specs.Effects.{Config};
-ghost use Rattle.protocol.specs.Parts.{IsMadeReady, IsPlayed};
+ghost use Rattle.stable_record.specs.Parts.{IsMadeReady, IsPlayed};
 ghost use Rattle.acceptor.specs.Acceptors.{acceptor_part, StandsFor, Decides};
 
 use crate::bundles::Accepted;
 use crate::rules::{Seat, on_1a, on_2a, on_b1a};
-use crate::slots::{plays, tx_of};
+use crate::slots::plays;
 use crate::table::Table;
 use protocol::Decision;
 use stable_record::Fact;
@@ -67,7 +67,9 @@ impl Acceptor {
         requires { IsMessage (P1a tx.now instance ballot) }
         ensures { Decides self.now result (λ config a slots. on_1a config a slots tx.now instance ballot) }
     {
-        on_1a(self.seat, tx, self.table.slots_of(tx), instance, ballot)
+        let mut decision = Decision::nothing();
+        self.decide_1a(tx, instance, ballot, &mut decision);
+        decision
     }
 
     /// Phase 1a of all instances: where some stands below the ballot, one promise for all of these is to be stored, and they are
@@ -76,7 +78,9 @@ impl Acceptor {
         requires { IsMessage (B1a tx.now ballot) }
         ensures { Decides self.now result (λ config a slots. on_b1a config a slots tx.now ballot) }
     {
-        on_b1a(self.seat, tx, self.table.slots_of(tx), ballot)
+        let mut decision = Decision::nothing();
+        self.decide_b1a(tx, ballot, &mut decision);
+        decision
     }
 
     /// Phase 2a: no lower than any ballot before, the value is accepted, and all leaders are told, in a bundled cluster of every
@@ -86,12 +90,9 @@ impl Acceptor {
         requires { IsMessage (P2a tx.now instance ballot vote) }
         ensures { Decides self.now result (λ config a slots. on_2a config a slots tx.now instance ballot vote) }
     {
-        let accepted = Accepted {
-            instance,
-            ballot,
-            vote,
-        };
-        on_2a(self.seat, tx, self.table.slots_of(tx), accepted)
+        let mut decision = Decision::nothing();
+        self.decide_2a(tx, instance, ballot, vote, &mut decision);
+        decision
     }
 
     /// What it does on a message: on phases 1a and 2a what `on_1a`, `on_b1a` and `on_2a` say, on every other nothing. That the message
@@ -99,21 +100,73 @@ impl Acceptor {
     pub fn on_message(&self, message: &Message) -> Decision
         ensures { Decides self.now result (λ config a slots. on_acceptor_message config a slots message.now) }
     {
+        let mut decision = Decision::nothing();
+        self.decide(message, &mut decision);
+        decision
+    }
+
+    /// Decides as `on_message` does, in the place of what was decided before, so that no fact or message is copied to hand it over.
+    pub fn decide(&self, message: &Message, decision: &mut Decision)
+        ensures { Decides self.now decision.new (λ config a slots. on_acceptor_message config a slots message.now) }
+    {
         match message.kind() {
             Kind::P1a {
                 tx,
                 instance,
                 ballot,
-            } => self.on_1a(tx, *instance, *ballot),
-            Kind::B1a { tx, ballot } => self.on_b1a(tx, *ballot),
+            } => self.decide_1a(tx, *instance, *ballot, decision),
+            Kind::B1a { tx, ballot } => self.decide_b1a(tx, *ballot, decision),
             Kind::P2a {
                 tx,
                 instance,
                 ballot,
                 vote,
-            } => self.on_2a(tx, *instance, *ballot, *vote),
-            _ => Decision::nothing(),
+            } => self.decide_2a(tx, *instance, *ballot, *vote, decision),
+            _ => *decision = Decision::nothing(),
         }
+    }
+
+    /// Decides as `on_1a` does.
+    fn decide_1a(&self, tx: &Tx, instance: ManagerNumber, ballot: Ballot, decision: &mut Decision)
+        requires { IsMessage (P1a tx.now instance ballot) }
+        ensures { Decides self.now decision.new (λ config a slots. on_1a config a slots tx.now instance ballot) }
+    {
+        on_1a(
+            self.seat,
+            tx,
+            self.table.slots_of(tx),
+            instance,
+            ballot,
+            decision,
+        );
+    }
+
+    /// Decides as `on_b1a` does.
+    fn decide_b1a(&self, tx: &Tx, ballot: Ballot, decision: &mut Decision)
+        requires { IsMessage (B1a tx.now ballot) }
+        ensures { Decides self.now decision.new (λ config a slots. on_b1a config a slots tx.now ballot) }
+    {
+        on_b1a(self.seat, tx, self.table.slots_of(tx), ballot, decision);
+    }
+
+    /// Decides as `on_2a` does.
+    fn decide_2a(
+        &self,
+        tx: &Tx,
+        instance: ManagerNumber,
+        ballot: Ballot,
+        vote: Vote,
+        decision: &mut Decision,
+    )
+        requires { IsMessage (P2a tx.now instance ballot vote) }
+        ensures { Decides self.now decision.new (λ config a slots. on_2a config a slots tx.now instance ballot vote) }
+    {
+        let accepted = Accepted {
+            instance,
+            ballot,
+            vote,
+        };
+        on_2a(self.seat, tx, self.table.slots_of(tx), accepted, decision);
     }
 
     /// Makes itself ready for a fact: its transaction is seen, so that `play` of it takes no memory. At `NoMemory`, the only refusal,
@@ -121,7 +174,7 @@ impl Acceptor {
     pub fn ready(&mut self, fact: &Fact) -> Result<(), Refusal>
         ensures { (config : Config) (number : ℕ) → IsMadeReady (acceptor_part config number) self.old self.new fact.now result }
     {
-        match self.table.see(tx_of(fact)) {
+        match self.table.see(fact.kind().tx()) {
             Ok(_) => Ok(()),
             Err(_) => Err(Refusal::NoMemory),
         }
@@ -135,11 +188,11 @@ impl Acceptor {
         self.play_by(&fact)
     }
 
-    /// Plays a fact, as `play` says.
-    fn play_by(&mut self, fact: &Fact) -> Result<(), Refusal>
+    /// Plays a fact as `play` does, which the caller keeps.
+    pub fn play_by(&mut self, fact: &Fact) -> Result<(), Refusal>
         ensures { (config : Config) (number : ℕ) → IsPlayed (acceptor_part config number) self.old self.new fact.now result }
     {
-        let tx = tx_of(fact);
+        let tx = fact.kind().tx();
         let Some(number) = self.table.number_of(tx) else {
             return self.play_first(tx, fact);
         };

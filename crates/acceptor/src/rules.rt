@@ -1,9 +1,10 @@
-ghost use Rattle.std.specs.Prelude.{◌≡◌, ◌<◌, true, [], ◌∷◌};
+ghost use Rattle.std.specs.Prelude.{◌≡◌, ◌<◌, true, [], ◌∷◌, None, Some, if◌then◌else◌};
 ghost use Rattle.xid.specs.Limits.{most_acceptors};
 ghost use Rattle.wire.specs.Messages.{IsMessage};
 ghost use Rattle.wire.specs.declared.message.Kind.TheVariants.{P1a, P2a, B1a};
 ghost use Rattle.protocol.specs.Acceptors.{on_1a as on_1a_of, on_b1a as on_b1a_of, on_2a as on_2a_of};
-ghost use Rattle.protocol.specs.Acceptors.{accept_messages as accept_messages_of};
+ghost use Rattle.protocol.specs.Acceptors.{accept_messages as accept_messages_of, is_accepted as is_accepted_in};
+ghost use Rattle.stable_record.specs.declared.fact.FactKind.TheVariants.{Accept};
 ghost use Rattle.ballot.specs.Ballots.{owner_of};
 ghost use Rattle.protocol.specs.declared.nodes.NodeId.TheVariants.{L};
 ghost use Rattle.protocol.specs.declared.decisions.Address.TheVariants.{Node};
@@ -12,7 +13,7 @@ ghost use Rattle.acceptor.specs.Slots.{slots_of};
 
 use crate::bundles::{Accepted, accepts_after, have_all_values, reports_below};
 use crate::slots::{KeptSlot, is_accepted, slot_of};
-use ballot::owner;
+use ballot::{Slot, owner};
 use protocol::{Address, Answer, Decision, NodeId, Outgoing, Sends};
 use stable_record::{Fact, FactKind};
 use wire::{Kind, Message};
@@ -48,98 +49,104 @@ pub fn on_1a(
     slots: &[KeptSlot],
     instance: ManagerNumber,
     ballot: Ballot,
-) -> Decision
+    decision: &mut Decision,
+)
     requires message { IsMessage (P1a tx.now instance ballot) }
     requires number { seat.number < most_acceptors }
     requires leaders { 0 < seat.leaders }
     ensures { (config : Config) → seat.leaders ≡ config.leaders
-        → result ≡ decision_of (on_1a_of config seat.number (slots_of tx.now slots.now) tx.now instance ballot) }
+        → decision.new ≡ decision_of (on_1a_of config seat.number (slots_of tx.now slots.now) tx.now instance ballot) }
 {
     let slot = slot_of(tx, slots, instance);
     if ballot <= slot.mbal {
-        return Decision::nothing();
+        *decision = Decision::nothing();
+        return;
     }
-    let message = Kind::P1b {
+    decision.answer = Answer::Done;
+    decision.fact = Some(Fact::new(FactKind::Promise {
         tx: *tx,
         instance,
         ballot,
-        report: slot.report,
-        acceptor: seat.number,
-    };
-    let promise = FactKind::Promise {
-        tx: *tx,
-        instance,
+    }));
+    decision.sends = to_owner(
+        seat,
         ballot,
-    };
-    Decision {
-        answer: Answer::Done,
-        fact: Some(Fact::new(promise)),
-        sends: to_owner(seat, ballot, Message::new(message)),
-    }
+        Message::new(Kind::P1b {
+            tx: *tx,
+            instance,
+            ballot,
+            report: slot.report,
+            acceptor: seat.number,
+        }),
+    );
 }
 
 /// Phase 1a of all instances at the slots of their transaction.
-pub fn on_b1a(seat: Seat, tx: &Tx, slots: &[KeptSlot], ballot: Ballot) -> Decision
+pub fn on_b1a(seat: Seat, tx: &Tx, slots: &[KeptSlot], ballot: Ballot, decision: &mut Decision)
     requires message { IsMessage (B1a tx.now ballot) }
     requires number { seat.number < most_acceptors }
     requires leaders { 0 < seat.leaders }
     ensures { (config : Config) → seat.leaders ≡ config.leaders
-        → result ≡ decision_of (on_b1a_of config seat.number (slots_of tx.now slots.now) tx.now ballot) }
+        → decision.new ≡ decision_of (on_b1a_of config seat.number (slots_of tx.now slots.now) tx.now ballot) }
 {
     let Some(reports) = reports_below(tx, slots, ballot) else {
-        return Decision::nothing();
+        *decision = Decision::nothing();
+        return;
     };
-    let message = Kind::B1b {
-        tx: *tx,
+    decision.answer = Answer::Done;
+    decision.fact = Some(Fact::new(FactKind::PromiseAll { tx: *tx, ballot }));
+    decision.sends = to_owner(
+        seat,
         ballot,
-        acceptor: seat.number,
-        reports,
-    };
-    let promise = FactKind::PromiseAll { tx: *tx, ballot };
-    Decision {
-        answer: Answer::Done,
-        fact: Some(Fact::new(promise)),
-        sends: to_owner(seat, ballot, Message::new(message)),
-    }
+        Message::new(Kind::B1b {
+            tx: *tx,
+            ballot,
+            acceptor: seat.number,
+            reports,
+        }),
+    );
 }
 
 /// What is told of every instance that has a value, once one is accepted in a bundled cluster.
-fn accept_bundle(seat: Seat, tx: &Tx, slots: &[KeptSlot], accepted: Accepted) -> Sends
+fn accept_bundle(seat: Seat, tx: &Tx, slots: &[KeptSlot], accepted: Accepted, sends: &mut Sends)
     requires message { IsMessage (P2a tx.now accepted.instance accepted.ballot accepted.vote) }
     requires number { seat.number < most_acceptors }
     requires bundled { seat.bundled ≡ true }
     ensures { (config : Config) → seat.bundled ≡ config.bundled
-        → result ≡ accept_messages_of config seat.number
+        → sends.new ≡ accept_messages_of config seat.number
         (slots_of tx.now slots.now) tx.now accepted.instance accepted.ballot accepted.vote }
 {
     if accepted.vote == Vote::Prepared && !have_all_values(tx, slots, accepted) {
-        return Sends::none();
+        *sends = Sends::none();
+        return;
     }
     let Some(accepts) = accepts_after(tx, slots, accepted) else {
-        return Sends::none();
+        *sends = Sends::none();
+        return;
     };
-    Sends::one(Outgoing {
+    *sends = Sends::one(Outgoing {
         to: Address::Leaders,
         message: Message::new(Kind::B2b {
             tx: *tx,
             acceptor: seat.number,
             accepts,
         }),
-    })
+    });
 }
 
 /// What is told of an accept.
-fn accept_messages(seat: Seat, tx: &Tx, slots: &[KeptSlot], accepted: Accepted) -> Sends
+fn accept_messages(seat: Seat, tx: &Tx, slots: &[KeptSlot], accepted: Accepted, sends: &mut Sends)
     requires message { IsMessage (P2a tx.now accepted.instance accepted.ballot accepted.vote) }
     requires number { seat.number < most_acceptors }
     ensures { (config : Config) → seat.bundled ≡ config.bundled
-        → result ≡ accept_messages_of config seat.number
+        → sends.new ≡ accept_messages_of config seat.number
         (slots_of tx.now slots.now) tx.now accepted.instance accepted.ballot accepted.vote }
 {
     if seat.bundled {
-        return accept_bundle(seat, tx, slots, accepted);
+        accept_bundle(seat, tx, slots, accepted, sends);
+        return;
     }
-    Sends::one(Outgoing {
+    *sends = Sends::one(Outgoing {
         to: Address::Leaders,
         message: Message::new(Kind::P2b {
             tx: *tx,
@@ -148,38 +155,41 @@ fn accept_messages(seat: Seat, tx: &Tx, slots: &[KeptSlot], accepted: Accepted) 
             vote: accepted.vote,
             acceptor: seat.number,
         }),
-    })
+    });
 }
 
-/// Phase 2a at the slots of its transaction.
-pub fn on_2a(seat: Seat, tx: &Tx, slots: &[KeptSlot], accepted: Accepted) -> Decision
-    requires message { IsMessage (P2a tx.now accepted.instance accepted.ballot accepted.vote) }
-    requires number { seat.number < most_acceptors }
-    ensures { (config : Config) → seat.bundled ≡ config.bundled
-        → result ≡ decision_of (on_2a_of config seat.number
-        (slots_of tx.now slots.now) tx.now accepted.instance accepted.ballot accepted.vote) }
+/// The accept to be stored, where it isn't what stands.
+fn put_accept(tx: &Tx, slot: &Slot, accepted: Accepted, fact: &mut Option<Fact>)
+    requires { IsMessage (P2a tx.now accepted.instance accepted.ballot accepted.vote) }
+    ensures { fact.new ≡ if is_accepted_in slot.now accepted.ballot accepted.vote then None
+        else Some (Accept tx.now accepted.instance accepted.ballot accepted.vote) }
 {
-    let slot = slot_of(tx, slots, accepted.instance);
-    if accepted.ballot < slot.mbal {
-        return Decision::nothing();
+    if is_accepted(slot, accepted.ballot, accepted.vote) {
+        *fact = None;
+        return;
     }
-    let sends = accept_messages(seat, tx, slots, accepted);
-    if is_accepted(&slot, accepted.ballot, accepted.vote) {
-        return Decision {
-            answer: Answer::Done,
-            fact: None,
-            sends,
-        };
-    }
-    let accept = FactKind::Accept {
+    *fact = Some(Fact::new(FactKind::Accept {
         tx: *tx,
         instance: accepted.instance,
         ballot: accepted.ballot,
         vote: accepted.vote,
-    };
-    Decision {
-        answer: Answer::Done,
-        fact: Some(Fact::new(accept)),
-        sends,
+    }));
+}
+
+/// Phase 2a at the slots of its transaction.
+pub fn on_2a(seat: Seat, tx: &Tx, slots: &[KeptSlot], accepted: Accepted, decision: &mut Decision)
+    requires message { IsMessage (P2a tx.now accepted.instance accepted.ballot accepted.vote) }
+    requires number { seat.number < most_acceptors }
+    ensures { (config : Config) → seat.bundled ≡ config.bundled
+        → decision.new ≡ decision_of (on_2a_of config seat.number
+        (slots_of tx.now slots.now) tx.now accepted.instance accepted.ballot accepted.vote) }
+{
+    let slot = slot_of(tx, slots, accepted.instance);
+    if accepted.ballot < slot.mbal {
+        *decision = Decision::nothing();
+        return;
     }
+    decision.answer = Answer::Done;
+    put_accept(tx, &slot, accepted, &mut decision.fact);
+    accept_messages(seat, tx, slots, accepted, &mut decision.sends);
 }

@@ -1,9 +1,8 @@
 ghost use Rattle.std.specs.Prelude.{◌≡◌, ℕ, ◌<◌, map};
-ghost use Rattle.xid.specs.Transactions.{IsTx};
 ghost use Rattle.wire.specs.Messages.{IsReportBelow};
 ghost use Rattle.ballot.specs.Slots.{empty_slot, promised, accepted_in};
-ghost use Rattle.stable_record.specs.declared.fact.FactKind.TheVariants.{Promise, Accept};
-ghost use Rattle.stable_record.specs.Facts.{fact_tx, IsFact};
+ghost use Rattle.stable_record.specs.declared.fact.FactKind.TheVariants.{Promise, Accept, PromiseAll};
+ghost use Rattle.stable_record.specs.Facts.{fact_tx};
 ghost use Rattle.protocol.specs.Acceptors.{is_accepted as is_accepted_in, plays_at_acceptor};
 ghost use Rattle.acceptor.specs.Slots.{IsKept, place_of as place_in_tx, slot_at as slot_at_place, slot_of as slot_of_instance, slots_of};
 ghost use Rattle.acceptor.specs.Slots.{slots_after};
@@ -103,26 +102,6 @@ pub fn is_accepted(slot: &Slot, ballot: Ballot, vote: Vote) -> bool
     slot.mbal == ballot && slot.report == Some((ballot, vote))
 }
 
-/// The transaction of a fact.
-pub fn tx_of(fact: &Fact) -> &Tx
-    ensures value { result.now ≡ fact_tx fact.now }
-    ensures valid { IsTx result.now }
-    ensures fact { IsFact fact.now }
-{
-    let tx = match fact.kind() {
-        FactKind::Promise { tx, .. } => tx,
-        FactKind::Accept { tx, .. } => tx,
-        FactKind::Ballot { tx, .. } => tx,
-        FactKind::VotePrepared { tx, .. } => tx,
-        FactKind::VoteAborted(tx) => tx,
-        FactKind::Committed(tx) => tx,
-        FactKind::Aborted(tx) => tx,
-        FactKind::PromiseAll { tx, .. } => tx,
-    };
-    let _ = tx.count();
-    tx
-}
-
 /// Whether a promise plays: the transaction has the instance, which stands below the ballot.
 fn can_promise(tx: &Tx, slots: &[KeptSlot], instance: ManagerNumber, ballot: Ballot) -> bool
     ensures { result ≡ plays_at_acceptor (slots_of tx.now slots.now) (Promise tx.now instance ballot) }
@@ -153,6 +132,14 @@ fn can_accept(
     !is_accepted(&slot, ballot, vote)
 }
 
+/// Whether a promise for all plays: some instance stands below the ballot.
+#[inline(never)]
+fn can_promise_all(tx: &Tx, slots: &[KeptSlot], ballot: Ballot) -> bool
+    ensures { result ≡ plays_at_acceptor (slots_of tx.now slots.now) (PromiseAll tx.now ballot) }
+{
+    reports_below(tx, slots, ballot).is_some()
+}
+
 /// Whether the condition of a fact holds of its transaction's slots: a promise is above every ballot before, an accept no lower
 /// than any, and new, both of an instance of the transaction. A fact that is no acceptor's never plays.
 pub fn plays(slots: &[KeptSlot], fact: &Fact) -> bool
@@ -170,7 +157,7 @@ pub fn plays(slots: &[KeptSlot], fact: &Fact) -> bool
             ballot,
             vote,
         } => can_accept(tx, slots, *instance, *ballot, *vote),
-        FactKind::PromiseAll { tx, ballot } => reports_below(tx, slots, *ballot).is_some(),
+        FactKind::PromiseAll { tx, ballot } => can_promise_all(tx, slots, *ballot),
         _ => false,
     }
 }

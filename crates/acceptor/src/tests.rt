@@ -1,14 +1,14 @@
 use super::*;
 use ballot::Report;
-use protocol::{Address, NodeId};
+use protocol::{Address, Decision, NodeId};
 use stable_record::{Fact, FactKind};
 use std::process::Abort;
 use std::test::Fail;
 use wire::{InstanceAccept, InstanceReport, Items, Kind, Message, is_message};
 use xid::{Ballot, ManagerNumber, Refusal, Tx, Vote};
 
-/// How many transactions are many.
-const MANY: u32 = 10000;
+/// How many transactions are many. With no proof they take two minutes: `rt try --test --seconds 300`.
+const MANY: u32 = 100000;
 
 fn small() -> Result<Tx, Refusal> {
     Tx::new(1, b"t", &[(0, b"a".as_slice()), (1, b"b".as_slice())])
@@ -346,15 +346,23 @@ fn numbered(number: u32) -> Result<Tx, Refusal> {
 }
 
 /// Takes a message: what it stores is made ready for and played. A refusal at making ready changes nothing, so it is tried again.
-fn take(rt: &impl Abort, acceptor: &mut Acceptor, message: &Kind) -> Result<bool, Refusal> {
-    let Some(fact) = decided(rt, acceptor, *message) else {
+fn take(
+    rt: &impl Abort,
+    acceptor: &mut Acceptor,
+    decision: &mut Decision,
+    message: Kind,
+) -> Result<bool, Refusal> {
+    assert!(rt; is_message(&message));
+    let message = Message::new(message);
+    acceptor.decide(&message, decision);
+    let Some(fact) = &decision.fact else {
         return Ok(false);
     };
-    if acceptor.ready(&fact).is_err() {
-        assert!(rt; decided(rt, acceptor, *message).is_some());
-        acceptor.ready(&fact)?;
+    if acceptor.ready(fact).is_err() {
+        assert!(rt; acceptor.on_message(&message).fact.is_some());
+        acceptor.ready(fact)?;
     }
-    assert_eq!(rt; acceptor.play(fact), Ok(()));
+    assert_eq!(rt; acceptor.play_by(fact), Ok(()));
     Ok(true)
 }
 
@@ -362,21 +370,20 @@ fn take(rt: &impl Abort, acceptor: &mut Acceptor, message: &Kind) -> Result<bool
 #[test]
 fn many_transactions(rt: HostRuntime) -> Result<(), Fail> {
     let mut acceptor = Acceptor::new(rt.alloc(), 0, 1, true);
+    let mut decision = Decision::nothing();
     for number in 0..MANY {
         let tx = numbered(number)?;
         for instance in 0..2 {
             let message = p2a_of(tx, instance, 0, Vote::Prepared);
-            assert!(rt; take(&rt, &mut acceptor, &message)?);
-            assert!(rt; !take(&rt, &mut acceptor, &message)?);
+            assert!(rt; take(&rt, &mut acceptor, &mut decision, message)?);
+            assert!(rt; !take(&rt, &mut acceptor, &mut decision, message)?);
         }
     }
     for number in 0..MANY {
-        let message = Kind::B1a {
-            tx: numbered(number)?,
-            ballot: 1,
-        };
-        assert!(rt; take(&rt, &mut acceptor, &message)?);
-        assert!(rt; !take(&rt, &mut acceptor, &message)?);
+        let tx = numbered(number)?;
+        let message = Kind::B1a { tx, ballot: 1 };
+        assert!(rt; take(&rt, &mut acceptor, &mut decision, message)?);
+        assert!(rt; !take(&rt, &mut acceptor, &mut decision, message)?);
     }
     Ok(())
 }

@@ -1,6 +1,7 @@
-ghost use Rattle.std.specs.Prelude.{◌≡◌, ℕ, ◌<◌, ◌≤◌, ◌↔◌, IsTrue, false, ◌||◌, ◌==◌};
+ghost use Rattle.std.specs.Prelude.{◌≡◌, ℕ, ◌<◌, ◌≤◌, ◌↔◌, IsTrue, true, false, ◌||◌, ◌==◌, replicate};
+ghost use Rattle.std.specs.List.{slice_set};
 ghost use Rattle.xid.specs.Limits.{most_acceptors};
-ghost use Rattle.ballot.specs.Majority.{has, IsMajority};
+ghost use Rattle.ballot.specs.Majority.{has, IsMajority, is_majority};
 
 use std::marker::Model;
 
@@ -26,7 +27,8 @@ impl Model for Quorum {
 impl Quorum {
     /// The set without members.
     pub fn new() -> Quorum
-        ensures { (a : ℕ) → has result a ≡ false }
+        ensures each { (a : ℕ) → has result a ≡ false }
+        ensures list { result ≡ replicate most_acceptors false }
     {
         Quorum {
             members: [false; MAX_ACCEPTORS],
@@ -36,15 +38,25 @@ impl Quorum {
     /// Takes an acceptor in; one that is in already counts once.
     pub fn add(&mut self, acceptor: u8)
         requires { acceptor < most_acceptors }
-        ensures { (a : ℕ) → has self.new a ≡ ((a == acceptor) || has self.old a) }
+        ensures each { (a : ℕ) → has self.new a ≡ ((a == acceptor) || has self.old a) }
+        ensures list { self.new ≡ slice_set self.old acceptor true }
     {
         self.members[acceptor as usize] = true;
+    }
+
+    /// Whether an acceptor is in.
+    pub fn has(&self, acceptor: u8) -> bool
+        requires { acceptor < most_acceptors }
+        ensures { result ≡ has self.now acceptor }
+    {
+        self.members[acceptor as usize]
     }
 
     /// Whether it has more than half of the acceptors, which are the numbers below `acceptors`.
     pub fn majority(&self, acceptors: u8) -> bool
         requires { acceptors ≤ most_acceptors }
-        ensures { IsTrue result ↔ IsMajority acceptors (has self.now) }
+        ensures means { IsTrue result ↔ IsMajority acceptors (has self.now) }
+        ensures value { result ≡ is_majority acceptors (has self.now) }
     {
         let mut members: usize = 0;
         for acceptor in 0..acceptors as usize {

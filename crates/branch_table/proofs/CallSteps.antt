@@ -1,14 +1,16 @@
--- What each call meets and leaves, exit by exit.
-use Rattle.std.proofs.Common.{◌≡◌, ◌∙◌, ℕ, Bool, true, false, ◌||◌, ◌&&◌, cond, ltb, List, [], ◌∷◌, ◌++◌, length, get_or, set, remove, Option, Some, None, Ok, Err, refl, sym, ap, subst, Decides}
-use Rattle.std.specs.Option.{is_some}
-use Rattle.std.proofs.lemmas.Bool.{cond_both, both_ways}
-use Rattle.std.proofs.lemmas.List.{get_or_default}
-use Rattle.std.proofs.lemmas.List.Quantifiers.{position-Some}
-use Rattle.std.proofs.lemmas.List.Elements.{All-get_or}
-use Rattle.xid.specs.Names.{XidParts}
+-- What each client call meets and leaves, exit by exit.
+use Rattle.std.proofs.Common.{◌≡◌, ◌≢◌, ◌∙◌, ℕ, ◌+◌, ◌<◌, Bool, true, false, ◌||◌, ◌&&◌, cond, ltb, List, [], ◌∷◌, length, Option, Some, None, refl, sym, ap, subst, Decides}
+use Rattle.std.specs.Option.{option_map}
+use Rattle.std.specs.Str.{bytes_eq}
+use Rattle.std.proofs.lemmas.Bool.{cond_both, both_ways, false_from_ne_true}
+use Rattle.std.proofs.lemmas.Slice.Eq.{bytes_eq-Decides}
+use Rattle.xid.specs.Limits.{most_touched}
+use Rattle.xid.specs.Names.{XidParts, xid_eq}
+use Rattle.xid.proofs.Deciding.{xid_decides, xid_apart}
 use Rattle.xid.specs.declared.codes.XaCode.TheVariants as code
 use Rattle.xid.specs.declared.refusals.Refusal.TheVariants.{Busy, Full}
 use Rattle.stable_record.specs.declared.fact.Act.{Act}
+use Rattle.stable_record.specs.declared.fact.Touched.{Touched}
 use Rattle.stable_record.specs.Facts.{AreAscending}
 use Rattle.protocol.specs.declared.answers.Answer.{Answer}
 use Rattle.protocol.specs.declared.answers.Answer.TheVariants.{Code, Refused}
@@ -16,42 +18,71 @@ use Rattle.protocol.specs.declared.requests.Action.{Action}
 use Rattle.protocol.specs.declared.requests.Action.TheVariants.{Start, Put, Del, Get, End, EndFail, Rollback}
 use Rattle.protocol.specs.declared.rows.Row.{Row}
 use Rattle.protocol.specs.declared.states.BranchState.{BranchState}
-use Rattle.xid.specs.Limits.{most_touched}
 use Rattle.protocol.specs.Branches.{BranchView, no_branch, is_write, hinders_use, hinders, key_of, key_fits}
 use Rattle.protocol.specs.Branches.{value_fits, call_answer, touch_answer, is_done, by_state, rollback_answer, get_answer, read_of}
-use Rattle.protocol.specs.Managers.{Branch, view_named, has_key, is_hindered, with_touched}
-use Rattle.branch_table.specs.OneCall.{IsHindered, SameView, view_after, Leaves, view_with_act, view_after_done}
-use Rattle.branch_table.specs.Tables.{TableState, AreTableBranches, is_active, can_be_rolled_back, place_in, Steps}
-use Rattle.branch_table.specs.Admission.{end_action, end_state, end_code, Meets, Admits, Touches}
+use Rattle.protocol.specs.Managers.{Branch, act_on, has_key, last_act, view_by, view_named, with_touched}
+use Rattle.protocol.proofs.TouchedKeys.{acts_touched, has_touched}
+use Rattle.branch_table.specs.OneCall.{Answers, IsHindered, SameView, view_after, Leaves, view_with_act, view_after_done}
+use Rattle.branch_table.specs.Tables.{TableState, AreHeldApart, ChangesOnly, Steps, branch_done, branch_left, branch_named, can_be_rolled_back, in_state, is_active, with_act}
+use Rattle.branch_table.specs.Admission.{end_action, end_state, end_code, Denies, IsAdmitted, Meets, Touches}
 use Rattle.branch_table.specs.declared.table.Ending.{Ending}
 use Rattle.branch_table.specs.declared.table.Ending.TheVariants as ending
-use Rattle.branch_table.proofs.Positions.{nowhere}
-use Rattle.branch_table.proofs.Views.{is_of, IsPlace, ShowsOnly, view_of, view_here, view_absent, shows_set, shows_push, shows_remove}
-use Rattle.branch_table.proofs.Views.{none_hinders, none_hinders_use, hindered_decides}
-use Rattle.branch_table.proofs.Views.{keeps_push, keeps_set, ascends_touched, shows_touched}
+use Rattle.branch_table.proofs.Found.{view_of_named, view_or_none}
+use Rattle.branch_table.proofs.Uses.{untouched}
+use Rattle.branch_table.proofs.Views.{shows_touched}
 
--- where a search that saw these branches has found x
-pub place_is : {bs seen : List Branch} {r o : Option ℕ} (x : XidParts) → seen ≡ bs → r ≡ place_in seen x → r ≡ o → place_in bs x ≡ o
-place_is x e found is = ap (λ (all : List Branch). place_in all x) (sym e) ∙ (sym found ∙ is)
-
--- the branch read at the place of x
-pub placed : (bs : List Branch) (x : XidParts) (at : ℕ) (b : Branch) → place_in bs x ≡ Some at → b ≡ get_or bs at b → IsPlace bs x at b
-placed bs x at b e read =
-    let found = position-Some (is_of x) bs at b e in record {
-      within = found.0;
-      read = read;
-      own = subst (λ (c : Branch). is_of x c ≡ true) (sym read) found.1;
-      before = found.2;
-    }
-
-pub unplaced : (bs : List Branch) (x : XidParts) → place_in bs x ≡ None → view_named bs x ≡ no_branch
-unplaced bs x e = view_absent bs x (nowhere (is_of x) bs e)
+-- how a branch shows that was found, or not
+pub shown : (bs : List Branch) (x : XidParts) (o : Option Branch) → branch_named bs x ≡ o → view_named bs x ≡ view_or_none o
+shown bs x o e = view_of_named bs x ∙ ap view_or_none e
 
 pub same : (v : BranchView) → SameView v v
 same v = record { state = refl; touched = λ _. refl; count = refl; act = λ _. refl }
 
 pub same_from : (v w : BranchView) → v ≡ w → SameView v w
 same_from v w e = subst (λ (u : BranchView). SameView v u) e (same v)
+
+pub others_shown : (old new : List Branch) (x : XidParts) (w : Option Branch) → ChangesOnly old new x w
+    → (y : XidParts) → y ≢ x → view_named new y ≡ view_named old y
+others_shown old new x w only y apart = shown new y _ (only.others y apart) ∙ sym (view_of_named old y)
+
+unchanged : (bs : List Branch) (x : XidParts) → ChangesOnly bs bs x (branch_named bs x)
+unchanged bs x = record { own = refl; others = λ y apart. refl }
+
+-- ---- a call that wasn't done leaves all, one that was done its own branch
+
+pub undone_steps : (t : TableState) (x : XidParts) (action : Action) (answer : Answer) → is_done action answer ≡ false
+    → Answers t.rows (view_named t.branches) x action answer → Steps t t x action answer
+undone_steps t x action answer e answers = record {
+  answers = answers;
+  leaves = record {
+    own = rw e (same (view_named t.branches x));
+    others = λ other _. same (view_named t.branches other);
+  };
+  branches = rw e (unchanged t.branches x);
+  rows = refl;
+  places = refl;
+}
+
+-- what a call that was done makes of its branch
+pub record IsDoneCall (x : XidParts) (action : Action) (answer : Answer) (o w : Option Branch) : Type 0 where
+  pub done : is_done action answer ≡ true
+  pub branch : w ≡ branch_done o x action
+  pub view : SameView (view_or_none w) (view_after_done (view_or_none o) action)
+
+pub done_steps : (old new : TableState) (x : XidParts) (action : Action) (answer : Answer) (o w : Option Branch)
+    → branch_named old.branches x ≡ o → ChangesOnly old.branches new.branches x w → (new.rows ≡ old.rows) × (new.places ≡ old.places)
+    → IsDoneCall x action answer o w → Answers old.rows (view_named old.branches) x action answer → Steps old new x action answer
+done_steps old new x action answer o w found only same_rows call answers = record {
+  answers = answers;
+  leaves = record {
+    own =
+        rw (call.done, shown old.branches x o found, shown new.branches x w only.own) call.view;
+    others = λ y apart. same_from _ _ (others_shown old.branches new.branches x w only y apart);
+  };
+  branches = rw (call.done, found, ← call.branch) only;
+  rows = same_rows.0;
+  places = same_rows.1;
+}
 
 -- no branch hinders a call on no key
 abbrev IsKeyless : Action → Type 0
@@ -61,69 +92,36 @@ never : (action : Action) (at : XidParts → BranchView) (x : XidParts) → IsKe
 never action at x keyless =
     (λ e. absurd (cc (e)), λ is. absurd (both_ways (hinders action (at is.0)) (keyless (at is.0)) is.2))
 
-abbrev with_branches : TableState → List Branch → TableState
-with_branches t branches = record { rows = t.rows; branches = branches }
-
--- a call that wasn't done leaves all
-leaves_all : (t : TableState) (x : XidParts) (action : Action) (answer : Answer) → is_done action answer ≡ false
-    → Leaves (view_named t.branches) (view_named t.branches) x action answer
-leaves_all t x action answer e = record {
-  own = rw e (same (view_named t.branches x));
-  others = λ other _. same (view_named t.branches other);
-}
-
--- a call that was done leaves its own branch so, and all others
-leaves_own : (old new : List Branch) (x : XidParts) (action : Action) (answer : Answer) (v : BranchView) → ShowsOnly old new x v
-    → SameView v (view_after (view_named old x) action answer) → Leaves (view_named old) (view_named new) x action answer
-leaves_own old new x action answer v shows same_view = record {
-  own = rw shows.own same_view;
-  others = λ other apart. same_from _ _ (shows.others other apart);
-}
-
--- a call on no key that isn't done
-keyless_undone : (t : TableState) (x : XidParts) (action : Action) (answer : Answer) → IsKeyless action
-    → call_answer t.rows (view_named t.branches x) false action ≡ answer → is_done action answer ≡ false → Steps t t x action answer
-keyless_undone t x action answer keyless e undone = record {
-  answers = (false, never action (view_named t.branches) x keyless, sym e);
-  leaves = leaves_all t x action answer undone;
-  rows = refl;
-}
+-- the answer of a call on no key, by what shows of its branch
+keyless_answers : (t : TableState) (x : XidParts) (action : Action) (o : Option Branch) (answer : Answer) → IsKeyless action
+    → branch_named t.branches x ≡ o → call_answer t.rows (view_or_none o) false action ≡ answer
+    → Answers t.rows (view_named t.branches) x action answer
+keyless_answers t x action o answer keyless found e = (
+  false,
+  never action (view_named t.branches) x keyless,
+  sym e ∙ ap (λ v. call_answer t.rows v false action) (sym (shown t.branches x o found)),
+)
 
 -- ---- start
 
-pub some_place : (o : Option ℕ) → is_some o ≡ true → (at : ℕ) × (o ≡ Some at)
-some_place (Some at) e = (at, refl)
-some_place None e = absurd (cc (e))
+pub start_exists : (t : TableState) (x : XidParts) (b : Branch) → branch_named t.branches x ≡ Some b → Steps t t x Start (Code code.DupId)
+start_exists t x b found =
+    undone_steps t x Start (Code code.DupId) refl (keyless_answers t x Start (Some b) (Code code.DupId) (λ _. refl) found refl)
 
-pub no_place : (o : Option ℕ) → is_some o ≡ false → o ≡ None
-no_place (Some at) e = absurd (cc (e))
-no_place None e = refl
-
-abbrev started_branch : XidParts → Branch
+abbrev pub started_branch : XidParts → Branch
 started_branch x = record { xid = x; state = BranchState.Active; keys = [] }
 
-pub start_keeps : (bs : List Branch) (x : XidParts) → place_in bs x ≡ None → AreTableBranches bs
-    → AreTableBranches (bs ++ started_branch x ∷ [])
-start_keeps bs x none are = keeps_push bs (started_branch x) (nowhere (is_of x) bs none) tt are
-
-pub start_exists : (t : TableState) (x : XidParts) (at : ℕ) → place_in t.branches x ≡ Some at → Steps t t x Start (Code code.DupId)
-start_exists t x at e =
-    let d = started_branch x in
-    let b = get_or t.branches at d in
-    let read : b ≡ get_or t.branches at b = get_or_default t.branches at d b (position-Some (is_of x) t.branches at d e).0 in
-    keyless_undone t x Start (Code code.DupId) (λ _. refl) (rw (view_here t.branches x at b (placed t.branches x at b e read)) refl) refl
-
-pub start_done : (t : TableState) (x : XidParts) → place_in t.branches x ≡ None
-    → Steps t (with_branches t (t.branches ++ started_branch x ∷ [])) x Start (Code code.Ok)
-start_done t x e =
-    let absent = nowhere (is_of x) t.branches e in
-    record {
-      answers = (false, never Start (view_named t.branches) x (λ _. refl), sym (rw (view_absent t.branches x absent) refl));
-      leaves =
-          leaves_own t.branches _ x Start (Code code.Ok) (view_of (started_branch x)) (shows_push t.branches (started_branch x) absent)
-          (record { state = refl; touched = λ _. refl; count = refl; act = λ _. refl });
-      rows = refl;
-    }
+pub start_done : (old new : TableState) (x : XidParts) → branch_named old.branches x ≡ None
+    → ChangesOnly old.branches new.branches x (Some (started_branch x)) → (new.rows ≡ old.rows) × (new.places ≡ old.places)
+    → Steps old new x Start (Code code.Ok)
+start_done old new x none only same_rows =
+    done_steps old new x Start (Code code.Ok) None (Some (started_branch x)) none only same_rows
+    (record {
+      done = refl;
+      branch = refl;
+      view = record { state = refl; touched = λ _. refl; count = refl; act = λ _. refl };
+    })
+    (keyless_answers old x Start None (Code code.Ok) (λ _. refl) none refl)
 
 -- ---- end
 
@@ -139,67 +137,39 @@ active_answer BranchState.Idle a b c e = absurd (cc (e))
 active_answer BranchState.RollbackOnly a b c e = absurd (cc (e))
 active_answer BranchState.Prepared a b c e = absurd (cc (e))
 
--- a branch in another state
-abbrev pub in_state : Branch → BranchState → Branch
-in_state b state = record { xid = b.xid; state = state; keys = b.keys }
+pub end_absent : (t : TableState) (x : XidParts) (e : Ending) → branch_named t.branches x ≡ None → Steps t t x (end_action e) (Code code.Nota)
+end_absent t x ending.Success none =
+    undone_steps t x End (Code code.Nota) refl (keyless_answers t x End None (Code code.Nota) (λ _. refl) none refl)
+end_absent t x ending.Fail none =
+    undone_steps t x EndFail (Code code.Nota) refl (keyless_answers t x EndFail None (Code code.Nota) (λ _. refl) none refl)
 
--- what the two ends have in common
-record IsEndCall (e : Ending) : Type 0 where
-  keyless : IsKeyless (end_action e)
-  answers : (rows : List Row) (v : BranchView)
-      → call_answer rows v false (end_action e) ≡ by_state v.state (Code code.Nota) (Code (end_code e)) (Code code.Proto)
-  nota : is_done (end_action e) (Code code.Nota) ≡ false
-  proto : is_done (end_action e) (Code code.Proto) ≡ false
-  leaves : (b : Branch) → view_of (in_state b (end_state e)) ≡ view_after (view_of b) (end_action e) (Code (end_code e))
-
-either_end : (e : Ending) → IsEndCall e
-either_end ending.Success = record { keyless = λ _. refl; answers = λ _ _. refl; nota = refl; proto = refl; leaves = λ _. refl }
-either_end ending.Fail = record { keyless = λ _. refl; answers = λ _ _. refl; nota = refl; proto = refl; leaves = λ _. refl }
-
-pub end_absent : (t : TableState) (x : XidParts) (e : Ending) → place_in t.branches x ≡ None → Steps t t x (end_action e) (Code code.Nota)
-end_absent t x e none =
-    keyless_undone t x (end_action e) (Code code.Nota) (either_end e).keyless
-    ((either_end e).answers t.rows (view_named t.branches x) ∙ rw (unplaced t.branches x none) refl) (either_end e).nota
-
-pub end_ended : (t : TableState) (x : XidParts) (e : Ending) (at : ℕ) (b : Branch) → IsPlace t.branches x at b → is_active b.state ≡ false
+pub end_ended : (t : TableState) (x : XidParts) (e : Ending) (b : Branch) → branch_named t.branches x ≡ Some b → is_active b.state ≡ false
     → Steps t t x (end_action e) (Code code.Proto)
-end_ended t x e at b place ended =
-    keyless_undone t x (end_action e) (Code code.Proto) (either_end e).keyless
-    ((either_end e).answers t.rows (view_named t.branches x)
-    ∙ rw (view_here t.branches x at b place) (ended_answer b.state (Code code.Nota) (Code (end_code e)) (Code code.Proto) ended))
-    (either_end e).proto
+end_ended t x ending.Success b found ended =
+    undone_steps t x End (Code code.Proto) refl
+    (keyless_answers t x End (Some b) (Code code.Proto) (λ _. refl) found
+    (ended_answer b.state (Code code.Nota) (Code code.Ok) (Code code.Proto) ended))
+end_ended t x ending.Fail b found ended =
+    undone_steps t x EndFail (Code code.Proto) refl
+    (keyless_answers t x EndFail (Some b) (Code code.Proto) (λ _. refl) found
+    (ended_answer b.state (Code code.Nota) (Code code.RbRollback) (Code code.Proto) ended))
 
-pub end_done : (t : TableState) (x : XidParts) (e : Ending) (at : ℕ) (b : Branch) → IsPlace t.branches x at b → is_active b.state ≡ true
-    → Steps t (with_branches t (set t.branches at (in_state b (end_state e)))) x (end_action e) (Code (end_code e))
-end_done t x e at b place active =
-    let shows = view_here t.branches x at b place in
-    let new = in_state b (end_state e) in
-    record {
-      answers = (
-        false,
-        never (end_action e) (view_named t.branches) x (either_end e).keyless,
-        sym ((either_end e).answers t.rows (view_named t.branches x)
-            ∙ rw shows (active_answer b.state (Code code.Nota) (Code (end_code e)) (Code code.Proto) active)),
-      );
-      leaves =
-          leaves_own t.branches _ x (end_action e) (Code (end_code e)) (view_of new) (shows_set t.branches x at b new place place.own)
-          (rw shows (same_from _ _ ((either_end e).leaves b)));
-      rows = refl;
-    }
+in_another : (b : Branch) (s : BranchState) → SameView (view_or_none (Some (in_state s b))) (record { state = Some s; touched = λ key. has_key key b.keys; count = length b.keys; act = act_on b.keys })
+in_another b s = record { state = refl; touched = λ _. refl; count = refl; act = λ _. refl }
 
--- two reads of one place
-pub same_read : (bs : List Branch) (x : XidParts) (at : ℕ) (b c : Branch) → IsPlace bs x at b → c ≡ get_or bs at c → b ≡ c
-same_read bs x at b c place read-c = place.read ∙ (get_or_default bs at b c place.within ∙ sym read-c)
-
--- the branch at a place has ascending keys
-ascends_there : (bs : List Branch) (x : XidParts) (at : ℕ) (b : Branch) → IsPlace bs x at b → AreTableBranches bs → AreAscending b.keys
-ascends_there bs x at b place are =
-    let kept = λ (c : Branch). AreAscending c.keys in
-    subst kept (sym place.read) (All-get_or kept bs at b place.within are.ascending)
-
-pub end_keeps : (bs : List Branch) (x : XidParts) (at : ℕ) (b : Branch) (state : BranchState) → IsPlace bs x at b → AreTableBranches bs
-    → AreTableBranches (set bs at (in_state b state))
-end_keeps bs x at b state place are = keeps_set bs at b (in_state b state) (place.read, refl) (ascends_there bs x at b place are) are
+pub end_done : (old new : TableState) (x : XidParts) (e : Ending) (b : Branch) → branch_named old.branches x ≡ Some b → is_active b.state ≡ true
+    → ChangesOnly old.branches new.branches x (Some (in_state (end_state e) b)) → (new.rows ≡ old.rows) × (new.places ≡ old.places)
+    → Steps old new x (end_action e) (Code (end_code e))
+end_done old new x ending.Success b found active only same_rows =
+    done_steps old new x End (Code code.Ok) (Some b) (Some (in_state BranchState.Idle b)) found only same_rows
+    (record { done = refl; branch = refl; view = in_another b BranchState.Idle })
+    (keyless_answers old x End (Some b) (Code code.Ok) (λ _. refl) found
+    (active_answer b.state (Code code.Nota) (Code code.Ok) (Code code.Proto) active))
+end_done old new x ending.Fail b found active only same_rows =
+    done_steps old new x EndFail (Code code.RbRollback) (Some b) (Some (in_state BranchState.RollbackOnly b)) found only same_rows
+    (record { done = refl; branch = refl; view = in_another b BranchState.RollbackOnly })
+    (keyless_answers old x EndFail (Some b) (Code code.RbRollback) (λ _. refl) found
+    (active_answer b.state (Code code.Nota) (Code code.RbRollback) (Code code.Proto) active))
 
 -- ---- rollback
 
@@ -215,80 +185,76 @@ ended_rollback BranchState.Idle e = refl
 ended_rollback BranchState.RollbackOnly e = refl
 ended_rollback BranchState.Prepared e = absurd (cc (e))
 
-pub rollback_absent : (t : TableState) (x : XidParts) → place_in t.branches x ≡ None → Steps t t x Rollback (Code code.Nota)
-rollback_absent t x none = keyless_undone t x Rollback (Code code.Nota) (λ _. refl) (rw (unplaced t.branches x none) refl) refl
+pub rollback_absent : (t : TableState) (x : XidParts) → branch_named t.branches x ≡ None → Steps t t x Rollback (Code code.Nota)
+rollback_absent t x none =
+    undone_steps t x Rollback (Code code.Nota) refl (keyless_answers t x Rollback None (Code code.Nota) (λ _. refl) none refl)
 
-pub rollback_refused : (t : TableState) (x : XidParts) (at : ℕ) (b : Branch) → IsPlace t.branches x at b
+pub rollback_refused : (t : TableState) (x : XidParts) (b : Branch) → branch_named t.branches x ≡ Some b
     → can_be_rolled_back b.state ≡ false → Steps t t x Rollback (Code code.Proto)
-rollback_refused t x at b place e =
-    keyless_undone t x Rollback (Code code.Proto) (λ _. refl) (rw (view_here t.branches x at b place) (no_rollback b.state e)) refl
+rollback_refused t x b found e =
+    undone_steps t x Rollback (Code code.Proto) refl
+    (keyless_answers t x Rollback (Some b) (Code code.Proto) (λ _. refl) found (no_rollback b.state e))
 
-pub rollback_done : (t : TableState) (x : XidParts) (at : ℕ) (b : Branch) → AreTableBranches t.branches → IsPlace t.branches x at b
-    → can_be_rolled_back b.state ≡ true → Steps t (with_branches t (remove t.branches at)) x Rollback (Code code.Ok)
-rollback_done t x at b are place e = record {
-  answers = (
-    false,
-    never Rollback (view_named t.branches) x (λ _. refl),
-    sym (rw (view_here t.branches x at b place) (ended_rollback b.state e)),
-  );
-  leaves = leaves_own t.branches _ x Rollback (Code code.Ok) no_branch (shows_remove t.branches x at b are.distinct place) (same no_branch);
-  rows = refl;
-}
+pub rollback_done : (old new : TableState) (x : XidParts) (b : Branch) → branch_named old.branches x ≡ Some b
+    → can_be_rolled_back b.state ≡ true → ChangesOnly old.branches new.branches x None → (new.rows ≡ old.rows) × (new.places ≡ old.places)
+    → Steps old new x Rollback (Code code.Ok)
+rollback_done old new x b found e only same_rows =
+    done_steps old new x Rollback (Code code.Ok) (Some b) None found only same_rows
+    (record { done = refl; branch = refl; view = same no_branch })
+    (keyless_answers old x Rollback (Some b) (Code code.Ok) (λ _. refl) found (ended_rollback b.state e))
 
 -- ---- what a call on a key meets
 
 -- whether a branch may touch a key
-abbrev pub has_room : Branch → List ℕ → Bool
+abbrev has_room : Branch → List ℕ → Bool
 has_room b key = has_key key b.keys || ltb (length b.keys) most_touched
 
--- an active branch at its place
-pub record IsActiveAt (bs : List Branch) (x : XidParts) (at : ℕ) (b : Branch) : Type 0 where
-  pub are : AreTableBranches bs
-  pub place : IsPlace bs x at b
-  pub active : is_active b.state ≡ true
-
 module _ (bs : List Branch) (x : XidParts) (writes : Bool) (key : List ℕ) where
-  -- whether another branch hinders it
-  abbrev busy : Bool
-  busy = is_hindered (hinders_use writes key) bs x
+  abbrev IsBusy : Bool → Type 0
+  IsBusy busy = Decides busy (IsHindered (hinders_use writes key) (view_named bs) x)
 
-  meets_by : (admitted answer : Answer) → AreTableBranches bs → touch_answer (view_named bs x) busy key admitted ≡ answer
-      → Meets bs x writes key admitted answer
-  meets_by admitted answer are e = (busy, hindered_decides (hinders_use writes key) (none_hinders_use writes key) bs x are, e)
+  -- what a branch answers, by its state
+  touch_by : (busy : Bool) (o : Option Branch) (admitted : Answer) → branch_named bs x ≡ o
+      → touch_answer (view_named bs x) busy key admitted ≡ touch_answer (view_or_none o) busy key admitted
+  touch_by busy o admitted found = ap (λ v. touch_answer v busy key admitted) (shown bs x o found)
 
-  pub admits_absent : AreTableBranches bs → place_in bs x ≡ None → Admits bs x writes key (Err (Code code.Nota))
-  admits_absent are none = λ answer. meets_by answer (Code code.Nota) are (rw (unplaced bs x none) refl)
+  pub denies_absent : (busy : Bool) → IsBusy busy → branch_named bs x ≡ None → Denies bs x writes key (Some (Code code.Nota))
+  denies_absent busy is none = λ admitted. (busy, is, touch_by busy None admitted none)
 
-  module _ (at : ℕ) (b : Branch) where
-    -- what an active branch answers
-    abbrev answer_within : Answer → Answer
-    answer_within answer = cond busy (Refused Busy) (cond (has_room b key) answer (Refused Full))
+  pub denies_ended : (busy : Bool) (b : Branch) → IsBusy busy → branch_named bs x ≡ Some b → is_active b.state ≡ false
+      → Denies bs x writes key (Some (Code code.Proto))
+  denies_ended busy b is found ended = λ admitted.
+      (busy, is, touch_by busy (Some b) admitted found ∙ ended_answer b.state (Code code.Nota) _ (Code code.Proto) ended)
 
-    -- what a branch at its place answers
-    answer_by_state : IsPlace bs x at b → (admitted : Answer) → touch_answer (view_named bs x) busy key admitted
-        ≡ by_state (Some b.state) (Code code.Nota) (answer_within admitted) (Code code.Proto)
-    answer_by_state place admitted = rw (view_here bs x at b place) refl
+  active_touch : (busy : Bool) (b : Branch) (admitted : Answer) → branch_named bs x ≡ Some b → is_active b.state ≡ true
+      → touch_answer (view_named bs x) busy key admitted ≡ cond busy (Refused Busy) (cond (has_room b key) admitted (Refused Full))
+  active_touch busy b admitted found active =
+      touch_by busy (Some b) admitted found ∙ active_answer b.state (Code code.Nota) _ (Code code.Proto) active
 
-    pub admits_ended : AreTableBranches bs × IsPlace bs x at b → is_active b.state ≡ false → Admits bs x writes key (Err (Code code.Proto))
-    admits_ended facts ended = λ answer.
-        meets_by answer (Code code.Proto) facts.0
-        (answer_by_state facts.1 answer ∙ ended_answer b.state (Code code.Nota) _ (Code code.Proto) ended)
+  pub denies_hindered : (b : Branch) → IsBusy true → branch_named bs x ≡ Some b → is_active b.state ≡ true
+      → Denies bs x writes key (Some (Refused Busy))
+  denies_hindered b is found active = λ admitted. (true, is, active_touch true b admitted found active)
 
-    active_within : IsActiveAt bs x at b → (admitted : Answer)
-        → touch_answer (view_named bs x) busy key admitted ≡ answer_within admitted
-    active_within is admitted =
-        answer_by_state is.place admitted ∙ active_answer b.state (Code code.Nota) _ (Code code.Proto) is.active
+  pub denies_full : (b : Branch) → IsBusy false → branch_named bs x ≡ Some b → is_active b.state ≡ true → has_room b key ≡ false
+      → Denies bs x writes key (Some (Refused Full))
+  denies_full b is found active full = λ admitted.
+      (false, is, active_touch false b admitted found active ∙ ap (λ r. cond r admitted (Refused Full)) full)
 
-    pub admits_hindered : IsActiveAt bs x at b → busy ≡ true → Admits bs x writes key (Err (Refused Busy))
-    admits_hindered is hindered = λ answer. meets_by answer (Refused Busy) is.are (active_within is answer ∙ rw hindered refl)
+  not_hindered : IsBusy false → IsHindered (hinders_use writes key) (view_named bs) x → ⊥
+  not_hindered is hindered = both_ways false refl (is.1 hindered)
 
-    pub admits_full : IsActiveAt bs x at b → (busy ≡ false) × (has_room b key ≡ false) → Admits bs x writes key (Err (Refused Full))
-    admits_full is facts = λ answer.
-        meets_by answer (Refused Full) is.are (active_within is answer ∙ rw (facts.0, facts.1) refl)
+  pub denies_none : (b : Branch) → IsBusy false → branch_named bs x ≡ Some b → is_active b.state ≡ true → has_room b key ≡ true
+      → AreAscending b.keys → Denies bs x writes key None
+  denies_none b is found active room up =
+      record { branch = b; found = found; active = active; free = not_hindered is; ascending = up; room = room }
 
-    pub admits_in : (place_in bs x ≡ Some at) × IsActiveAt bs x at b → (busy ≡ false) × (has_room b key ≡ true)
-        → Admits bs x writes key (Ok at)
-    admits_in is facts = (is.0, λ answer. meets_by answer answer is.1.are (active_within is.1 answer ∙ rw (facts.0, facts.1) refl))
+  -- one that is let in meets its own answer
+  pub admitted_meets : IsAdmitted bs x writes key → (answer : Answer) → Meets bs x writes key answer answer
+  admitted_meets is answer = (
+    false,
+    (λ e. absurd (cc (e)), λ hindered. absurd (is.free hindered)),
+    active_touch false is.branch answer is.found is.active ∙ ap (λ r. cond r answer (Refused Full)) is.room,
+  )
 
 -- ---- a call on a key, whole
 
@@ -299,14 +265,29 @@ pub record IsKeyCall (rows : List Row) (v : BranchView) (action : Action) (key :
   pub answers : (busy : Bool) → call_answer rows v busy action ≡ touch_answer v busy key answer
   pub done : is_done action answer ≡ true
   pub leaves : (w : BranchView) → view_after_done w action ≡ view_with_act w key act
+  pub branch : (o : Option Branch) (x : XidParts) → option_map (with_act key act) o ≡ branch_done o x action
 
 pub put_call : (rows : List Row) (v : BranchView) (key value : List ℕ) → (key_fits key && value_fits value) ≡ true
     → IsKeyCall rows v (Put key value) key (Act.Put value) (Code code.Ok)
-put_call rows v key value fits = record { key_is = refl; hindered = refl; answers = λ busy. rw fits refl; done = refl; leaves = λ w. refl }
+put_call rows v key value fits = record {
+  key_is = refl;
+  hindered = refl;
+  answers = λ busy. rw fits refl;
+  done = refl;
+  leaves = λ w. refl;
+  branch = λ o x. refl;
+}
 
 pub del_call : (rows : List Row) (v : BranchView) (key : List ℕ) → key_fits key ≡ true
     → IsKeyCall rows v (Del key) key Act.Del (Code code.Ok)
-del_call rows v key fits = record { key_is = refl; hindered = refl; answers = λ busy. rw fits refl; done = refl; leaves = λ w. refl }
+del_call rows v key fits = record {
+  key_is = refl;
+  hindered = refl;
+  answers = λ busy. rw fits refl;
+  done = refl;
+  leaves = λ w. refl;
+  branch = λ o x. refl;
+}
 
 found_done : (key : List ℕ) (o : Option (List ℕ)) → is_done (Get key) (get_answer o) ≡ true
 found_done key (Some bytes) = refl
@@ -320,6 +301,7 @@ get_call rows v key fits = record {
   answers = λ busy. rw fits refl;
   done = found_done key (read_of rows v key);
   leaves = λ w. refl;
+  branch = λ o x. refl;
 }
 
 -- a call on a key isn't done where it is answered by one of these
@@ -356,63 +338,159 @@ denied_undone action v busy key none =
     (cond_both busy _ _ goal (λ held. none.busy)
     (λ free. cond_both (v.touched key || ltb v.count most_touched) _ _ goal (λ room. none.busy) (λ no_room. none.full)))
 
--- a key or a value of a length that doesn't fit
-pub key_inval : (t : TableState) (x : XidParts) (action : Action) (key : List ℕ) → AreTableBranches t.branches → key_of action ≡ Some key
-    → ((busy : Bool) → call_answer t.rows (view_named t.branches x) busy action ≡ Code code.Inval) → Steps t t x action (Code code.Inval)
-key_inval t x action key are key-is inval = record {
-  answers =
-      let busy = is_hindered (hinders action) t.branches x in
-      (busy, hindered_decides (hinders action) (none_hinders action) t.branches x are, sym (inval busy));
-  leaves = leaves_all t x action (Code code.Inval) (undone action key key-is).inval;
-  rows = refl;
-}
+-- a key or a value of a length that doesn't fit; busy says whether another branch hinders the call, which isn't looked at
+pub key_inval : (t : TableState) (x : XidParts) (action : Action) (key : List ℕ) (busy : Bool) → Decides busy (IsHindered (hinders action) (view_named t.branches) x)
+    → key_of action ≡ Some key → call_answer t.rows (view_named t.branches x) busy action ≡ Code code.Inval
+    → Steps t t x action (Code code.Inval)
+key_inval t x action key busy is key-is inval =
+    undone_steps t x action (Code code.Inval) (undone action key key-is).inval (busy, is, sym inval)
 
 -- a branch that is not there or not active, another one that hinders, or no room
 pub key_denied : {action : Action} {key : List ℕ} {act : Act} {answer : Answer} (t : TableState) (x : XidParts) (denial : Answer)
-    → IsKeyCall t.rows (view_named t.branches x) action key act answer → Admits t.branches x (is_write act) key (Err denial)
+    → IsKeyCall t.rows (view_named t.branches x) action key act answer → Denies t.branches x (is_write act) key (Some denial)
     → Steps t t x action denial
-key_denied {action} {key} {act} {answer} t x denial call admits =
-    let met = admits answer in
-    let other = admits (Refused Busy) in
-    record {
-      answers = (met.0, rw call.hindered met.1, sym (call.answers met.0 ∙ met.2));
-      leaves = leaves_all t x action denial
-          (subst (λ (a : Answer). is_done action a ≡ false) other.2
-          (denied_undone action (view_named t.branches x) other.0 key (undone action key call.key_is)));
-      rows = refl;
-    }
+key_denied {action} {key} {act} {answer} t x denial call denies =
+    let met = denies answer in
+    let other = denies (Refused Busy) in
+    undone_steps t x action denial
+    (subst (λ (a : Answer). is_done action a ≡ false) other.2
+    (denied_undone action (view_named t.branches x) other.0 key (undone action key call.key_is)))
+    (met.0, rw call.hindered met.1, sym (call.answers met.0 ∙ met.2))
 
 -- a call that is done
-pub key_done : {action : Action} {key : List ℕ} {act : Act} {answer : Answer} (t : TableState) (x : XidParts) (at : ℕ) (bs : List Branch)
-    → AreTableBranches t.branches × IsKeyCall t.rows (view_named t.branches x) action key act answer
-    → Admits t.branches x (is_write act) key (Ok at)
-    → Touches t.branches bs at key act → Steps t (with_branches t bs) x action answer
-key_done {action} {key} {act} {answer} t x at bs facts admits touched =
-    let call = facts.1 in
-    let b = touched.0 in
-    let place = placed t.branches x at b admits.0 touched.1 in
-    let met = admits.1 answer in
-    let new : Branch = record b { keys = with_touched b.keys key act } in
-    record {
-      answers = (met.0, rw call.hindered met.1, sym (call.answers met.0 ∙ met.2));
-      leaves =
-          rw touched.2
-          (leaves_own t.branches _ x action answer (view_of new) (shows_set t.branches x at b new place place.own)
-          (rw (call.done, call.leaves (view_named t.branches x), view_here t.branches x at b place)
-          (shows_touched b key act (ascends_there t.branches x at b place facts.0))));
-      rows = refl;
-    }
+pub key_done : {action : Action} {key : List ℕ} {act : Act} {answer : Answer} (old new : TableState) (x : XidParts)
+    → IsKeyCall old.rows (view_named old.branches x) action key act answer → IsAdmitted old.branches x (is_write act) key
+    → Touches old new x key act → Steps old new x action answer
+key_done {action} {key} {act} {answer} old new x call admitted touched =
+    let b = admitted.branch in
+    let met = admitted_meets old.branches x (is_write act) key admitted answer in
+    let only = subst (λ o. ChangesOnly old.branches new.branches x (option_map (with_act key act) o)) admitted.found touched.branches in
+    done_steps old new x action answer (Some b) (Some (with_act key act b)) admitted.found only (touched.rows, touched.places)
+    (record { done = call.done; branch = call.branch (Some b) x; view = rw (call.leaves (view_or_none (Some b))) (shows_touched b key act admitted.ascending) })
+    (met.0, rw call.hindered met.1, sym (call.answers met.0 ∙ met.2))
 
-pub touch_keeps : (old new : List Branch) (x : XidParts) (at : ℕ) (key : List ℕ) (act : Act)
-    → AreTableBranches old × (place_in old x ≡ Some at) × Touches old new at key act → AreTableBranches new
-touch_keeps old new x at key act facts =
-    let b = facts.2.0 in
-    let place = placed old x at b facts.1 facts.2.1 in
-    rw facts.2.2
-    (keeps_set old at b (record b { keys = with_touched b.keys key act }) (facts.2.1, refl)
-    (ascends_touched b key act (ascends_there old x at b place facts.0)) facts.0)
+-- ---- no key is held by two branches of which one has written it
 
--- what a get reads at its branch
-pub read_at : (rows : List Row) (bs : List Branch) (x : XidParts) (key : List ℕ) (at : ℕ) (b : Branch) → IsPlace bs x at b
-    → read_of rows (view_named bs x) key ≡ read_of rows (view_of b) key
-read_at rows bs x key at b place = ap (λ (v : BranchView). read_of rows v key) (view_here bs x at b place)
+pub apart_after : (old new : XidParts → BranchView) (x : XidParts) → AreHeldApart old → ((y : XidParts) → y ≢ x → new y ≡ old y)
+    → ((y : XidParts) → y ≢ x → (key : List ℕ) → is_write ((new x).act key) ≡ true → (old y).touched key ≡ false)
+    → ((y : XidParts) → y ≢ x → (key : List ℕ) → is_write ((old y).act key) ≡ true → (new x).touched key ≡ false)
+    → AreHeldApart new
+apart_after old new x apart others wrote touched y z differ key written = by (xid_eq y x) (xid_eq z x) refl refl
+  where
+    by : (a b : Bool) → xid_eq y x ≡ a → xid_eq z x ≡ b → (new z).touched key ≡ false
+    by true true p q = absurd (differ ((xid_decides y x).0 p ∙ sym ((xid_decides z x).0 q)))
+    by true false p q =
+        let apart-z = xid_apart z x q in
+        ap (λ v. v.touched key) (others z apart-z)
+        ∙ wrote z apart-z key (subst (λ u. is_write ((new u).act key) ≡ true) ((xid_decides y x).0 p) written)
+    by false true p q =
+        let apart-y = xid_apart y x p in
+        subst (λ u. (new u).touched key ≡ false) (sym ((xid_decides z x).0 q))
+        (touched y apart-y key (ap (λ v. is_write (v.act key)) (sym (others y apart-y)) ∙ written))
+    by false false p q =
+        ap (λ v. v.touched key) (others z (xid_apart z x q))
+        ∙ apart y z differ key (ap (λ v. is_write (v.act key)) (sym (others y (xid_apart y x p))) ∙ written)
+
+-- a branch that has written a key has touched it
+written_touched : (o : Option Branch) (key : List ℕ) → is_write ((view_or_none o).act key) ≡ true → (view_or_none o).touched key ≡ true
+written_touched None key e = absurd (cc (e))
+written_touched (Some b) key e = by (has_key key b.keys) refl
+  where
+    by : (h : Bool) → has_key key b.keys ≡ h → has_key key b.keys ≡ true
+    by true h = h
+    by false h = absurd (both_ways _ (ap is_write (untouched b.keys key h)) e)
+
+pub shows_written : (bs : List Branch) (y : XidParts) (key : List ℕ) → is_write ((view_named bs y).act key) ≡ true
+    → (view_named bs y).touched key ≡ true
+shows_written bs y key e =
+    ap (λ v. v.touched key) (view_of_named bs y)
+    ∙ written_touched (branch_named bs y) key (ap (λ v. is_write (v.act key)) (sym (view_of_named bs y)) ∙ e)
+
+-- a branch without keys, or none
+pub apart_without : (old new : List Branch) (x : XidParts) (w : Option Branch) → AreHeldApart (view_named old) → ChangesOnly old new x w
+    → ((key : List ℕ) → (view_or_none w).touched key ≡ false) → AreHeldApart (view_named new)
+apart_without old new x w apart only none =
+    apart_after (view_named old) (view_named new) x apart (others_shown old new x w only)
+    (λ y differ key written.
+    absurd (both_ways _ (ap (λ v. v.touched key) (shown new x w only.own) ∙ none key) (shows_written new x key written)))
+    (λ y differ key written. ap (λ v. v.touched key) (shown new x w only.own) ∙ none key)
+
+-- a branch with the keys that it had
+pub apart_same : (old new : List Branch) (x : XidParts) (b c : Branch) → AreHeldApart (view_named old) → branch_named old x ≡ Some b
+    → ChangesOnly old new x (Some c) → c.keys ≡ b.keys → AreHeldApart (view_named new)
+apart_same old new x b c apart found only keys =
+    apart_after (view_named old) (view_named new) x apart (others_shown old new x (Some c) only)
+    (λ y differ key written.
+    apart x y (λ e. differ (sym e)) key
+    (ap (λ v. is_write (v.act key)) (shown old x (Some b) found) ∙ ap (λ ks. is_write (act_on ks key)) (sym keys)
+    ∙ ap (λ v. is_write (v.act key)) (sym (shown new x (Some c) only.own)) ∙ written))
+    (λ y differ key written.
+    ap (λ v. v.touched key) (shown new x (Some c) only.own) ∙ ap (has_key key) keys
+    ∙ ap (λ v. v.touched key) (sym (shown old x (Some b) found)) ∙ apart y x differ key written)
+
+-- what isn't hindered, said of one other branch
+pub free_of : (bs : List Branch) (x y : XidParts) (writes : Bool) (key : List ℕ) → (IsHindered (hinders_use writes key) (view_named bs) x → ⊥)
+    → y ≢ x → hinders_use writes key (view_named bs y) ≡ false
+free_of bs x y writes key free differ = false_from_ne_true _ (λ e. free (y, differ, e))
+
+-- a branch with one more act on a key, which no other hinders
+pub apart_touched : (old new : List Branch) (x : XidParts) (key : List ℕ) (act : Act) → AreHeldApart (view_named old)
+    → IsAdmitted old x (is_write act) key → ChangesOnly old new x (option_map (with_act key act) (branch_named old x))
+    → AreHeldApart (view_named new)
+apart_touched old new x key act apart is only =
+    apart_after (view_named old) (view_named new) x apart (others_shown old new x _ only) wrote touched
+  where
+    b : Branch
+    b = is.branch
+
+    now : view_named new x ≡ view_or_none (Some (with_act key act b))
+    now = shown new x _ only.own ∙ ap (λ o. view_or_none (option_map (with_act key act) o)) is.found
+
+    before : view_named old x ≡ view_or_none (Some b)
+    before = shown old x (Some b) is.found
+
+    -- another branch hasn't touched the key where this act writes it
+    unwritten : (act : Act) (y : XidParts) → y ≢ x → (IsHindered (hinders_use (is_write act) key) (view_named old) x → ⊥)
+        → is_write (last_act (act_on b.keys key) act) ≡ true → (view_named old y).touched key ≡ false
+    unwritten Act.Read y differ free written =
+        apart x y (λ e. differ (sym e)) key (ap (λ v. is_write (v.act key)) before ∙ written)
+    unwritten (Act.Put v) y differ free written = free_of old x y true key free differ
+    unwritten Act.Del y differ free written = free_of old x y true key free differ
+
+    -- another branch hasn't written it
+    unread : (act : Act) (y : XidParts) → y ≢ x → (IsHindered (hinders_use (is_write act) key) (view_named old) x → ⊥)
+        → is_write ((view_named old y).act key) ≡ false
+    unread Act.Read y differ free = free_of old x y false key free differ
+    unread (Act.Put v) y differ free =
+        false_from_ne_true _ (λ e. both_ways _ (free_of old x y true key free differ) (shows_written old y key e))
+    unread Act.Del y differ free =
+        false_from_ne_true _ (λ e. both_ways _ (free_of old x y true key free differ) (shows_written old y key e))
+
+    wrote : (y : XidParts) → y ≢ x → (k : List ℕ) → is_write ((view_named new x).act k) ≡ true → (view_named old y).touched k ≡ false
+    wrote y differ k written = by (bytes_eq key k) refl
+      where
+        acts : is_write (cond (bytes_eq key k) (last_act (act_on b.keys k) act) (act_on b.keys k)) ≡ true
+        acts = ap is_write (sym (acts_touched b.keys key k act is.ascending)) ∙ ap (λ v. is_write (v.act k)) (sym now) ∙ written
+
+        by : (e : Bool) → bytes_eq key k ≡ e → (view_named old y).touched k ≡ false
+        by true e =
+            let same_key = (bytes_eq-Decides key k).0 e in
+            let at_key = sym (ap (λ t. is_write (cond t (last_act (act_on b.keys k) act) (act_on b.keys k))) e) ∙ acts in
+            subst (λ (q : List ℕ). (view_named old y).touched q ≡ false) same_key
+            (unwritten act y differ is.free (subst (λ (q : List ℕ). is_write (last_act (act_on b.keys q) act) ≡ true) (sym same_key) at_key))
+        by false e =
+            let at_key = sym (ap (λ t. is_write (cond t (last_act (act_on b.keys k) act) (act_on b.keys k))) e) ∙ acts in
+            apart x y (λ same_name. differ (sym same_name)) k (ap (λ v. is_write (v.act k)) before ∙ at_key)
+
+    touched : (y : XidParts) → y ≢ x → (k : List ℕ) → is_write ((view_named old y).act k) ≡ true → (view_named new x).touched k ≡ false
+    touched y differ k written = ap (λ v. v.touched k) now ∙ has_touched b.keys key k act ∙ by (bytes_eq key k) refl
+      where
+        old_free : has_key k b.keys ≡ false
+        old_free = ap (λ v. v.touched k) (sym before) ∙ apart y x differ k written
+
+        by : (e : Bool) → bytes_eq key k ≡ e → (bytes_eq key k || has_key k b.keys) ≡ false
+        by true e =
+            let same_key = (bytes_eq-Decides key k).0 e in
+            absurd (both_ways _ (unread act y differ is.free)
+            (subst (λ (q : List ℕ). is_write ((view_named old y).act q) ≡ true) (sym same_key) written))
+        by false e = ap (λ t. t || has_key k b.keys) e ∙ old_free

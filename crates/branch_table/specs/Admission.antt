@@ -1,20 +1,23 @@
 -- What a call meets before it is done.
-use Rattle.std.specs.Prelude.{◌≡◌, ℕ, List, Some, Result, Ok, Err, Bool, true, false, slice_index_or, slice_set}
+use Rattle.std.specs.Prelude.{◌≡◌, ℕ, List, Option, Some, None, Bool, true, false, ◌||◌, nat_lt, length}
 use Rattle.std.specs.Bool.{Decides}
+use Rattle.std.specs.Option.{option_map}
+use Rattle.xid.specs.Limits.{most_touched}
 use Rattle.xid.specs.Names.{XidParts}
 use Rattle.xid.specs.declared.codes.XaCode.{XaCode}
 use Rattle.xid.specs.declared.codes.XaCode.TheVariants as code
 use Rattle.stable_record.specs.declared.fact.Act.{Act}
+use Rattle.stable_record.specs.Facts.{AreAscending}
 use Rattle.protocol.specs.declared.answers.Answer.{Answer}
 use Rattle.protocol.specs.declared.requests.Action.{Action}
 use Rattle.protocol.specs.declared.requests.Action.TheVariants.{End, EndFail}
 use Rattle.protocol.specs.declared.states.BranchState.{BranchState}
 use Rattle.protocol.specs.Branches.{hinders_use, touch_answer}
-use Rattle.protocol.specs.Managers.{Branch, view_named, with_touched}
+use Rattle.protocol.specs.Managers.{Branch, has_key, view_named}
 use Rattle.branch_table.specs.OneCall.{IsHindered}
-use Rattle.branch_table.specs.Tables.{place_in}
-use Rattle.branch_table.specs.declared.branch.Access.{Access}
-use Rattle.branch_table.specs.declared.branch.Access.TheVariants as access
+use Rattle.branch_table.specs.Tables.{TableState, ChangesOnly, branch_named, is_active, with_act}
+use Rattle.branch_table.specs.declared.table.Access.{Access}
+use Rattle.branch_table.specs.declared.table.Access.TheVariants as access
 use Rattle.branch_table.specs.declared.table.Ending.{Ending}
 use Rattle.branch_table.specs.declared.table.Ending.TheVariants as ending
 
@@ -44,13 +47,24 @@ Meets branches x writes key admitted answer =
     (busy : Bool) × Decides busy (IsHindered (hinders_use writes key) (view_named branches) x)
     × (touch_answer (view_named branches x) busy key admitted ≡ answer)
 
--- a call on a key is let in at its branch's place, or gets an answer, whatever it asks
-abbrev pub Admits : List Branch → XidParts → (writes : Bool) → List ℕ → Result ℕ Answer → Type 0
-Admits branches x writes key (Ok at) =
-    (place_in branches x ≡ Some at) × ((admitted : Answer) → Meets branches x writes key admitted admitted)
-Admits branches x writes key (Err answer) = (admitted : Answer) → Meets branches x writes key admitted answer
+-- a branch of x may use a key, to write it or to read it
+pub record IsAdmitted (branches : List Branch) (x : XidParts) (writes : Bool) (key : List ℕ) : Type 0 where
+  pub branch : Branch
+  pub found : branch_named branches x ≡ Some branch
+  pub active : is_active branch.state ≡ true
+  pub free : IsHindered (hinders_use writes key) (view_named branches) x → ⊥
+  pub ascending : AreAscending branch.keys
+  pub room : (has_key key branch.keys || nat_lt (length branch.keys) most_touched) ≡ true
 
--- the branch at a place has one more act on a key
-abbrev pub Touches : (old new : List Branch) → (place : ℕ) → List ℕ → Act → Type 0
-Touches old new at key act =
-    (b : Branch) × (b ≡ slice_index_or old at b) × (new ≡ slice_set old at (record b { keys = with_touched b.keys key act }))
+-- a call on a key is let in, or gets an answer, whatever it asks
+abbrev pub Denies : List Branch → XidParts → (writes : Bool) → List ℕ → Option Answer → Type 0
+Denies branches x writes key None = IsAdmitted branches x writes key
+Denies branches x writes key (Some answer) = (admitted : Answer) → Meets branches x writes key admitted answer
+
+-- the branch of x has one more act on a key
+pub record Touches (old new : TableState) (x : XidParts) (key : List ℕ) (act : Act) : Type 0 where
+  pub branches : ChangesOnly old.branches new.branches x
+      (option_map (with_act key act) (branch_named old.branches x))
+  pub rows : new.rows ≡ old.rows
+  pub places : new.places ≡ old.places
+  pub looks : new.looks ≡ old.looks

@@ -2,6 +2,12 @@
 #![tactic(auto)]
 
 mod branch;
+mod branches;
+mod holds;
+mod keys;
+mod looks;
+mod outcomes;
+mod rows;
 mod table;
 
 pub use table::{BranchTable, Ending};

@@ -1,21 +1,32 @@
-ghost use Rattle.std.specs.Prelude.{◌≡◌, ◌<◌, Some, None, Ok, Err, [], IfOk, IfErr, OnOk, length, MatchOption, ◌||◌, ◌&&◌, nat_lt, vec_len};
-ghost use Rattle.xid.specs.declared.refusals.Refusal.TheVariants.{NoMemory};
-ghost use Rattle.protocol.specs.declared.answers.Answer.TheVariants as answers;
-ghost use Rattle.protocol.specs.declared.requests.Action.TheVariants as actions;
-ghost use Rattle.xid.specs.Limits.{most_touched};
-ghost use Rattle.protocol.specs.Branches.{key_fits as key_fits_lem, value_fits as value_fits_lem, get_answer, row_at, value_after};
-ghost use Rattle.protocol.specs.Branches.{hinders_use};
-ghost use Rattle.protocol.specs.Managers.{act_on, has_key, is_hindered as is_hindered_lem};
-ghost use Rattle.protocol.specs.Rows.{IsTableOf};
-ghost use Rattle.branch_table.specs.Admission.{end_action, end_state, end_code, is_writing, Admits, Touches};
-ghost use Rattle.branch_table.specs.Tables.{AreTableBranches, Steps, place_in};
+//! A resource manager's branches and table, and the client calls on them.
 
-use crate::branch::{Access, Branch};
+ghost use Rattle.std.specs.Prelude.{◌≡◌, ◌≢◌, ◌<◌, ◌||◌, ◌&&◌, Some, None, [], true, IfOk, IfErr, OnOk, length};
+ghost use Rattle.std.specs.Bool.{Decides};
+ghost use Rattle.std.specs.Option.{option_map};
+ghost use Rattle.xid.specs.Names.{XidParts};
+ghost use Rattle.xid.specs.declared.codes.XaCode.{XaCode};
+ghost use Rattle.xid.specs.declared.refusals.Refusal.TheVariants.{NoMemory};
+ghost use Rattle.stable_record.specs.Facts.{IsKey, IsAct};
+ghost use Rattle.protocol.specs.declared.requests.Action.TheVariants as actions;
+ghost use Rattle.protocol.specs.declared.answers.Answer.TheVariants as answers;
+ghost use Rattle.protocol.specs.Branches.{key_fits as key_fits_lem, value_fits as value_fits_lem, get_answer, hinders_use, is_write as is_write_lem, read_of, row_at};
+ghost use Rattle.protocol.specs.Managers.{view_named};
+ghost use Rattle.branch_table.specs.Admission.{end_action, end_state, end_code, is_writing, Denies, IsAdmitted, Touches};
+ghost use Rattle.branch_table.specs.OneCall.{IsHindered};
+ghost use Rattle.branch_table.specs.Outcomes.{Looks as LooksLem, keys_named};
+ghost use Rattle.branch_table.specs.Parts.{uses_held, uses_of};
+ghost use Rattle.branch_table.specs.Tables.{AreTableBranches, Steps, branch_named, first_table};
+
+use crate::branch::Branch;
+use crate::branches::Branches;
+use crate::holds::{Hold, Holds};
+use crate::looks::Looks;
+use crate::rows::Rows;
 use protocol::{Answer, BranchState, Row};
 use stable_record::Act;
 use std::alloc::Global;
 use std::marker::Model;
-use xid::{Bytes, MAX_KEY, MAX_TOUCHED, MAX_VALUE, Refusal, Sequence, XaCode, Xid};
+use xid::{Bytes, MAX_KEY, MAX_VALUE, Refusal, XaCode, Xid};
 
 /// How a branch is ended, after the flags TMSUCCESS and TMFAIL of X/Open XA.
 #[derive(Clone, Copy, Debug, PartialEq, Eq)]
@@ -39,95 +50,134 @@ impl Ending {
     }
 }
 
+/// How a call uses a key.
+#[derive(Clone, Copy, Debug, PartialEq, Eq)]
+pub(crate) enum Access {
+    /// It reads it.
+    Read,
+    /// It puts or deletes it.
+    Write,
+}
+
+impl Access {
+    /// The access that an act has.
+    pub(crate) fn of(act: &Act) -> Access
+        ensures { is_writing result ≡ is_write_lem act.now }
+    {
+        match act {
+            Act::Read => Access::Read,
+            Act::Put(_) | Act::Del => Access::Write,
+        }
+    }
+}
+
 /// The branches of one resource manager and its table. Each call on a branch gives its answer. Want of memory is none: it is an
 /// `Err` of `NoMemory`, and then nothing has changed.
 #[derive(Debug, Drop)]
 pub struct BranchTable {
-    alloc: Global,
-    rows: Vec<Row>,
-    branches: Vec<Branch>,
+    pub(crate) alloc: Global,
+    pub(crate) rows: Rows,
+    pub(crate) branches: Branches,
+    pub(crate) holds: Holds,
+    pub(crate) looks: Looks,
 }
 
 impl Model for BranchTable {
     ghost use Rattle.branch_table.specs.Tables.{TableState, AreTableBranches};
+    ghost use Rattle.branch_table.specs.Parts.{AreHolds, rows_in, keys_in};
 
     ghost Value = { TableState };
 
-    ghost view = { λ t. record { rows = t.rows.items; branches = t.branches.items } };
+    ghost view = { λ t. record { rows = rows_in t.rows; branches = t.branches; places = keys_in t.rows; looks = t.looks } };
 
-    ghost invariant = { λ t. AreTableBranches t.branches.items };
+    ghost invariant = { λ t. AreTableBranches t.branches × AreHolds t.holds t.branches };
 }
 
 impl BranchTable {
-    /// No branches, and a table of these rows.
-    pub fn new(alloc: Global, mut rows: Vec<Row>) -> BranchTable
-        ensures rows { IsTableOf rows.items result.rows }
-        ensures branches { result.branches ≡ [] }
+    /// No branches, and a table of these rows, in any order; of two with one key the later counts. Refused: `NoMemory` alone.
+    pub fn new(alloc: Global, rows: Vec<Row>) -> Result<BranchTable, Refusal>
+        ensures ok { IfOk result (λ table. (table.rows ≡ first_table rows.items) × (table.branches ≡ []) × (table.looks ≡ 0)) }
+        ensures err { IfErr result (λ e. e ≡ NoMemory) }
     {
-        rows.sort_unstable();
-        BranchTable {
+        let rows = Rows::new(alloc, rows)?;
+        Ok(BranchTable {
             alloc,
             rows,
-            branches: Vec::new(alloc),
-        }
+            branches: Branches::new(alloc),
+            holds: Holds::new(alloc),
+            looks: Looks::new(),
+        })
     }
 
-    /// The rows of the table, in the order of their keys.
-    pub fn rows(&self) -> &[Row]
-        ensures rows { result.now ≡ self.now.rows }
+    /// The rows of the table, copied, with their keys ascending. Refused: `NoMemory` alone.
+    pub fn rows(&self) -> Result<Vec<Row>, Refusal>
+        ensures ok { IfOk result (λ rows. rows.items ≡ self.now.rows) }
+        ensures err { IfErr result (λ e. e ≡ NoMemory) }
         ensures branches { AreTableBranches self.now.branches }
     {
-        &self.rows
+        self.rows.copied(self.alloc)
     }
 
-    /// The rows of the table alone.
-    pub fn into_rows(self) -> Vec<Row>
-        ensures { result.items ≡ self.rows }
+    /// The rows of the table alone, with their keys ascending. Refused: `NoMemory` alone.
+    pub fn into_rows(self) -> Result<Vec<Row>, Refusal>
+        ensures ok { IfOk result (λ rows. rows.items ≡ self.rows) }
+        ensures err { IfErr result (λ e. e ≡ NoMemory) }
     {
-        self.rows
+        let alloc = self.alloc;
+        self.rows.into_rows(alloc)
+    }
+
+    /// How many branches, holds and keys of their own the ends of branches have read or taken out. It stays at the greatest value.
+    pub fn looks(&self) -> u64
+        ensures { result ≡ self.now.looks }
+    {
+        self.looks.count()
     }
 
     /// Starts a branch (xa_start). `DupId` where it exists, which changes nothing. Refused: `NoMemory` alone, and then nothing has changed.
     pub fn start(&mut self, xid: &Xid) -> Result<Answer, Refusal>
         ensures ok { IfOk result (λ answer. Steps self.old self.new xid.now actions.Start answer) }
         ensures err { IfErr result (λ e. (e ≡ NoMemory) × (self.new ≡ self.old)) }
+        ensures looks { self.new.looks ≡ self.old.looks }
     {
-        if place_of(&self.branches, xid).is_some() {
+        if self.branches.get(xid).is_some() {
             return Ok(Answer::Code(XaCode::DupId));
         }
-        self.branches.push(Branch::new(self.alloc, *xid))?;
+        self.branches.add(xid, Branch::started(self.alloc))?;
         Ok(Answer::Code(XaCode::Ok))
     }
 
     /// Ends an active branch (xa_end). `Ok`, or `RbRollback` where it ends as failed; `Nota` where there is no such branch,
     /// `Proto` where it isn't active.
     pub fn end(&mut self, xid: &Xid, ending: Ending) -> Answer
-        ensures { Steps self.old self.new xid.now (end_action ending) result }
+        ensures steps { Steps self.old self.new xid.now (end_action ending) result }
+        ensures looks { self.new.looks ≡ self.old.looks }
     {
-        let Some(at) = place_of(&self.branches, xid) else {
+        let Some(branch) = self.branches.get(xid) else {
             return Answer::Code(XaCode::Nota);
         };
-        if !self.branches[at].is_active() {
+        if !branch.is_active() {
             return Answer::Code(XaCode::Proto);
         }
         let (state, code) = ending.outcome();
-        let branch = &mut self.branches[at];
-        branch.set_state(state);
+        self.branches.set_state(xid, state);
         Answer::Code(code)
     }
 
     /// Rolls back a branch that was ended (xa_rollback): it becomes non-existent, and its keys are free. `Nota` where there
     /// is no such branch, `Proto` where it is active or prepared.
     pub fn rollback(&mut self, xid: &Xid) -> Answer
-        ensures { Steps self.old self.new xid.now actions.Rollback result }
+        ensures steps { Steps self.old self.new xid.now actions.Rollback result }
+        ensures done { result ≡ answers.Code XaCode.Ok → LooksLem self.old.looks self.new.looks (length (keys_named self.old.branches xid.now)) }
+        ensures undone { result ≢ answers.Code XaCode.Ok → self.new.looks ≡ self.old.looks }
     {
-        let Some(at) = place_of(&self.branches, xid) else {
+        let Some(branch) = self.branches.get(xid) else {
             return Answer::Code(XaCode::Nota);
         };
-        if !self.branches[at].can_be_rolled_back() {
+        if !branch.can_be_rolled_back() {
             return Answer::Code(XaCode::Proto);
         }
-        self.branches.remove(at);
+        self.undo(xid);
         Answer::Code(XaCode::Ok)
     }
 
@@ -137,37 +187,35 @@ impl BranchTable {
     pub fn put(&mut self, xid: &Xid, key: &[u8], value: &[u8]) -> Result<Answer, Refusal>
         ensures ok { IfOk result (λ answer. Steps self.old self.new xid.now (actions.Put key.now value.now) answer) }
         ensures err { IfErr result (λ e. (e ≡ NoMemory) × (self.new ≡ self.old)) }
+        ensures looks { self.new.looks ≡ self.old.looks }
     {
         let alloc = self.alloc;
         if !put_fits(key, value) {
             return Ok(Answer::Code(XaCode::Inval));
         }
-        match admit(&self.branches, xid, Access::Write, key) {
-            Err(answer) => Ok(answer),
-            Ok(at) => {
-                let act = Act::Put(Bytes::copy_of(alloc, value)?);
-                touch_at(alloc, &mut self.branches, at, key, act)?;
-                Ok(Answer::Code(XaCode::Ok))
-            }
+        if let Some(answer) = self.denial(xid, Access::Write, key) {
+            return Ok(answer);
         }
+        let act = Act::Put(Bytes::copy_of(alloc, value)?);
+        self.touch(alloc, xid, key, act)?;
+        Ok(Answer::Code(XaCode::Ok))
     }
 
     /// Deletes a key, for its branch alone; that there is no row of it is no fault. Codes and refusals are those of `put`.
     pub fn del(&mut self, xid: &Xid, key: &[u8]) -> Result<Answer, Refusal>
         ensures ok { IfOk result (λ answer. Steps self.old self.new xid.now (actions.Del key.now) answer) }
         ensures err { IfErr result (λ e. (e ≡ NoMemory) × (self.new ≡ self.old)) }
+        ensures looks { self.new.looks ≡ self.old.looks }
     {
         let alloc = self.alloc;
         if !key_fits(key) {
             return Ok(Answer::Code(XaCode::Inval));
         }
-        match admit(&self.branches, xid, Access::Write, key) {
-            Err(answer) => Ok(answer),
-            Ok(at) => {
-                touch_at(alloc, &mut self.branches, at, key, Act::Del)?;
-                Ok(Answer::Code(XaCode::Ok))
-            }
+        if let Some(answer) = self.denial(xid, Access::Write, key) {
+            return Ok(answer);
         }
+        self.touch(alloc, xid, key, Act::Del)?;
+        Ok(Answer::Code(XaCode::Ok))
     }
 
     /// Reads a key: the branch's own last write of it, or else the table's row. The key is held from then on, shared with others that
@@ -175,86 +223,102 @@ impl BranchTable {
     pub fn get(&mut self, xid: &Xid, key: &[u8]) -> Result<Answer, Refusal>
         ensures ok { IfOk result (λ answer. Steps self.old self.new xid.now (actions.Get key.now) answer) }
         ensures err { IfErr result (λ e. (e ≡ NoMemory) × (self.new ≡ self.old)) }
+        ensures looks { self.new.looks ≡ self.old.looks }
     {
         let alloc = self.alloc;
         if !key_fits(key) {
             return Ok(Answer::Code(XaCode::Inval));
         }
-        match admit(&self.branches, xid, Access::Read, key) {
-            Err(answer) => Ok(answer),
-            Ok(at) => {
-                let answer = read(alloc, &self.rows, &self.branches[at], key)?;
-                touch_at(alloc, &mut self.branches, at, key, Act::Read)?;
-                Ok(answer)
-            }
+        if let Some(answer) = self.denial(xid, Access::Read, key) {
+            return Ok(answer);
+        }
+        let answer = self.read(alloc, xid, key)?;
+        self.touch(alloc, xid, key, Act::Read)?;
+        Ok(answer)
+    }
+
+    /// The answer of a call on a key that isn't let in. The branch, its state, the holds of others and the room are asked for in
+    /// this order.
+    fn denial(&self, xid: &Xid, access: Access, key: &[u8]) -> Option<Answer>
+        ensures { Denies self.now.branches xid.now (is_writing access) key.now result }
+    {
+        let Some(branch) = self.branches.get(xid) else {
+            return Some(Answer::Code(XaCode::Nota));
+        };
+        if !branch.is_active() {
+            return Some(Answer::Code(XaCode::Proto));
+        }
+        if self.is_hindered(branch.hold_on(key), access, key) {
+            return Some(Answer::Refused(Refusal::Busy));
+        }
+        if !branch.has_room(key) {
+            return Some(Answer::Refused(Refusal::Full));
+        }
+        None
+    }
+
+    /// Whether another branch hinders an access to a key, by the hold that one's own branch has on it.
+    pub(crate) fn is_hindered(&self, own: Hold, access: Access, key: &[u8]) -> bool
+        ensures { (x : XidParts) → uses_held (is_writing access) own ≡ uses_of (is_writing access) key.now (branch_named self.now.branches x)
+            → Decides result (IsHindered (hinders_use (is_writing access) key.now) (view_named self.now.branches) x) }
+    {
+        let hold = self.holds.at(key);
+        match access {
+            Access::Read => hold.written_by > own.written_by,
+            Access::Write => hold.touched_by > own.touched_by,
         }
     }
 
-    /// The XIDs of the prepared branches, ascending. No branch is prepared yet.
-    pub fn recover(&self) -> Answer
-        ensures { result ≡ answers.Xids [] }
+    /// The answer of a get that reads a key. Refused: `NoMemory` alone.
+    fn read(&self, alloc: Global, xid: &Xid, key: &[u8]) -> Result<Answer, Refusal>
+        ensures ok { IfOk result (λ answer. answer ≡ get_answer (read_of self.now.rows (view_named self.now.branches xid.now) key.now)) }
+        ensures err { IfErr result (λ e. e ≡ NoMemory) }
     {
-        Answer::Xids(Sequence::new(Vec::new(self.alloc)))
+        let Some(branch) = self.branches.get(xid) else {
+            return self.read_row(alloc, key);
+        };
+        let Some(act) = branch.act_on(key) else {
+            return self.read_row(alloc, key);
+        };
+        match act {
+            Act::Put(value) => Ok(Answer::Value(Bytes::copy_of(alloc, value.as_slice())?)),
+            Act::Del => Ok(Answer::NoValue),
+            Act::Read => self.read_row(alloc, key),
+        }
     }
-}
 
-/// Notes an act on a key at the branch at a place.
-fn touch_at(
-    alloc: Global,
-    branches: &mut Vec<Branch>,
-    at: usize,
-    key: &[u8],
-    act: Act,
-) -> Result<(), Refusal>
-    requires { at < vec_len branches.old }
-    ensures ok { OnOk result (Touches branches.old.items branches.new.items at key.now act) }
-    ensures err { IfErr result (λ e. (e ≡ NoMemory) × (branches.new.items ≡ branches.old.items)) }
-{
-    let branch = &mut branches[at];
-    branch.touch(alloc, key, act)
-}
-
-/// The answer of a get that reads a key.
-fn read(alloc: Global, rows: &[Row], branch: &Branch, key: &[u8]) -> Result<Answer, Refusal>
-    ensures ok { IfOk result (λ answer. answer ≡ get_answer (value_after (act_on branch.now.keys key.now) (row_at rows.now key.now))) }
-    ensures err { IfErr result (λ e. e ≡ NoMemory) }
-{
-    match branch.act_on(key) {
-        Some(Act::Put(value)) => Ok(Answer::Value(Bytes::copy_of(alloc, value.as_slice())?)),
-        Some(Act::Del) => Ok(Answer::NoValue),
-        Some(Act::Read) | None => match row_of(rows, key) {
+    /// The answer of a get that finds no write of its own. Refused: `NoMemory` alone.
+    fn read_row(&self, alloc: Global, key: &[u8]) -> Result<Answer, Refusal>
+        ensures ok { IfOk result (λ answer. answer ≡ get_answer (row_at self.now.rows key.now)) }
+        ensures err { IfErr result (λ e. e ≡ NoMemory) }
+    {
+        match self.rows.get(key) {
             Some(value) => Ok(Answer::Value(Bytes::copy_of(alloc, value)?)),
             None => Ok(Answer::NoValue),
-        },
-    }
-}
-
-/// What the table has at a key.
-fn row_of<'a>(rows: &'a [Row], key: &[u8]) -> Option<&'a [u8]>
-    ensures { MatchOption result (row_at rows.now key.now ≡ None) (λ value. row_at rows.now key.now ≡ Some value.now) }
-{
-    for row in rows {
-        if row.key.as_slice() == key {
-            return Some(row.value.as_slice());
         }
     }
-    None
-}
 
-/// The place of a branch.
-fn place_of(branches: &[Branch], xid: &Xid) -> Option<usize>
-    ensures { result ≡ place_in branches.now xid.now }
-{
-    branches.iter().position(|branch| branch.is_of(xid))
-}
-
-/// Whether some other branch hinders an access to a key.
-fn is_hindered(branches: &[Branch], xid: &Xid, access: Access, key: &[u8]) -> bool
-    ensures { result ≡ is_hindered_lem (hinders_use (is_writing access) key.now) branches.now xid.now }
-{
-    branches
-        .iter()
-        .any(|branch| !branch.is_of(xid) && branch.hinders(access, key))
+    /// Notes an act on a key at a branch that may do it. At `NoMemory`, the only refusal, nothing changes.
+    fn touch(&mut self, alloc: Global, xid: &Xid, key: &[u8], act: Act) -> Result<(), Refusal>
+        requires key { IsKey key.now }
+        requires act { IsAct act }
+        requires admitted { IsAdmitted self.old.branches xid.now (is_write_lem act) key.now }
+        ensures ok { OnOk result (Touches self.old self.new xid.now key.now act) }
+        ensures err { IfErr result (λ e. (e ≡ NoMemory) × (self.new ≡ self.old)) }
+    {
+        let Some(branch) = self.branches.get(xid) else {
+            return Ok(());
+        };
+        let more = branch.hold_more(key, &act);
+        // so many branches hold a key at most
+        let _ = self.branches.len();
+        self.holds.add(alloc, key, more)?;
+        if self.branches.touch(alloc, xid, key, act).is_err() {
+            self.holds.take(key, more);
+            return Err(Refusal::NoMemory);
+        }
+        Ok(())
+    }
 }
 
 fn key_fits(key: &[u8]) -> bool
@@ -267,33 +331,4 @@ fn put_fits(key: &[u8], value: &[u8]) -> bool
     ensures { result ≡ (key_fits_lem key.now && value_fits_lem value.now) }
 {
     key_fits(key) && value.len() <= MAX_VALUE
-}
-
-/// Whether a branch may touch a key.
-fn has_room(branch: &Branch, key: &[u8]) -> bool
-    ensures { result ≡ (has_key key.now branch.now.keys || nat_lt (length branch.now.keys) most_touched) }
-{
-    branch.has_touched(key) || branch.count() < MAX_TOUCHED
-}
-
-/// Lets a call on a key in at the place of its branch, or has its answer. The branch, its state, the holds of others and the room
-/// are asked for in this order.
-fn admit(branches: &[Branch], xid: &Xid, access: Access, key: &[u8]) -> Result<usize, Answer>
-    requires { AreTableBranches branches.now }
-    ensures { Admits branches.now xid.now (is_writing access) key.now result }
-{
-    let Some(at) = place_of(branches, xid) else {
-        return Err(Answer::Code(XaCode::Nota));
-    };
-    let branch = &branches[at];
-    if !branch.is_active() {
-        return Err(Answer::Code(XaCode::Proto));
-    }
-    if is_hindered(branches, xid, access, key) {
-        return Err(Answer::Refused(Refusal::Busy));
-    }
-    if !has_room(branch, key) {
-        return Err(Answer::Refused(Refusal::Full));
-    }
-    Ok(at)
 }

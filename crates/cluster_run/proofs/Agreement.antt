@@ -12,12 +12,12 @@ use Rattle.cluster_run.specs.Words.{BranchState, Act, Touched, R, Ask, Step, Act
 use Rattle.cluster_run.specs.Words.{Answer, Row}
 use Rattle.protocol.specs.Branches.{BranchView, no_branch, key_of, call_answer, is_done}
 use Rattle.protocol.specs.Managers.{Branch, view_named, last_act}
-use Rattle.branch_table.specs.OneCall.{SameView, Answers, view_after_done, view_after, Leaves}
-use Rattle.branch_table.proofs.Views.{view_of}
+use Rattle.branch_list.specs.OneCall.{SameView, Answers, view_after_done, view_after, Leaves}
+use Rattle.branch_list.proofs.Views.{view_of}
 use Rattle.cluster_run.specs.LookingBack.{Answered, was_done, is_start, is_end, is_end_fail, is_rollback, is_some_done}
 use Rattle.cluster_run.specs.LookingBack.{calls_since_rollback, state_back, touched_keys, distinct_keys, write_by, act_of, quiet_step}
 use Rattle.cluster_run.specs.LookingBack.{accepted_writes, last_write, branch_back, calls_on, branches_back}
-use Rattle.cluster_run.proofs.DoneCalls.{ready}
+use Rattle.protocol.proofs.DoneCalls.{ready}
 
 -- views that show the same are equal
 equal_views : (v w : BranchView) → SameView v w → v ≡ w

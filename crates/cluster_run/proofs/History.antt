@@ -9,9 +9,12 @@ use Rattle.cluster_run.specs.Words.{Step, R, Ask, Action, Event, Call, Recover, 
 use Rattle.cluster_run.specs.LookingBack.{quiet_step, branches_back}
 use Rattle.cluster_run.specs.Managers.{AnswersAt, HaveFirstRows, tables_of}
 use Rattle.cluster_run.specs.Runs.{AnswersEvent, IsStep, AreSteps, first_rows_of}
-use Rattle.branch_table.specs.OneCall.{Answers, Leaves}
-use Rattle.branch_table.specs.Tables.{TableState, Steps}
+use Rattle.branch_list.specs.OneCall.{Answers, Leaves}
+use Rattle.branch_list.specs.Tables.{TableState, Steps}
 use Rattle.net_script.specs.declared.values.Table.{Table}
+use Rattle.net_script.specs.declared.values.Command.{Command}
+use Rattle.net_script.specs.declared.values.Command.TheVariants.{Do}
+use Rattle.net_script.specs.declared.values.Entry.{Entry}
 use Rattle.protocol.specs.Rows.{IsTableOf}
 use Rattle.protocol.specs.Managers.{view_named}
 use Rattle.cluster_run.proofs.Agreement.{IsPlain, plain_at, branches_back-call, branches_back-elsewhere}
@@ -157,9 +160,14 @@ module _ (start managers : List TableState) (steps : List Step) (so_far : IsAfte
   IsAfter-event new (Ask (R rm) Recover) answer h = IsAfter-recover new rm answer (ltb rm (length managers)) refl h
   IsAfter-event new event answer h = rw h.1 (stays event answer h.0 (λ q lt. refl))
 
-pub events-push : (steps : List Step) (events : List Event) (step : Step) → map (λ s. s.event) steps ≡ events
-    → map (λ s. s.event) (steps ++ step ∷ []) ≡ events ++ step.event ∷ []
-events-push steps events step e = map_push (λ (s : Step). s.event) steps step ∙ ap (λ (es : List Event). es ++ step.event ∷ []) e
+pub events-push : (steps : List Step) (commands : List Command) (step : Step) → map (λ s. Do s.event) steps ≡ commands
+    → map (λ s. Do s.event) (steps ++ step ∷ []) ≡ commands ++ Do step.event ∷ []
+events-push steps commands step e = map_push (λ (s : Step). Do s.event) steps step ∙ ap (λ (cs : List Command). cs ++ Do step.event ∷ []) e
+
+pub entries-push : (steps : List Step) (entries new : List Entry) (entry : Entry) (step : Step) → entries ≡ map Entry.Step steps
+    → new ≡ entries ++ entry ∷ [] → entry ≡ Entry.Step step → new ≡ map Entry.Step (steps ++ step ∷ [])
+entries-push steps entries new entry step e n is =
+    n ∙ ap (λ (es : List Entry). es ++ entry ∷ []) e ∙ ap (λ (x : Entry). map Entry.Step steps ++ x ∷ []) is ∙ sym (map_push Entry.Step steps step)
 
 -- the tables of resource managers with their first contents
 module _ (tables : List Table) (n : ℕ) (managers : List TableState) (finals : List (List Row)) (first : HaveFirstRows tables n managers)

@@ -1,4 +1,4 @@
-pub mod DoneCalls
 pub mod Agreement
 pub mod History
+pub mod Runnable
 pub mod MachineCalls

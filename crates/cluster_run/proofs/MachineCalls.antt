@@ -19,13 +19,13 @@ use Rattle.protocol.specs.Managers.{Branch, all_branches, view_named, is_hindere
 use Rattle.protocol.specs.Managers.{named_answer, on_call}
 use Rattle.protocol.specs.Tables.{table}
 use Rattle.protocol.proofs.TouchedKeys.{changed_ascends}
-use Rattle.branch_table.specs.OneCall.{SameView, IsHindered, Leaves, view_after_done}
-use Rattle.branch_table.proofs.Views.{is_of, view_of, shows_push, shows_touched, none_hinders, hindered_to}
-use Rattle.branch_table.proofs.CallSteps.{same, same_from}
-use Rattle.safety.specs.Holds.{AreInOrder, AreNamedOnce, IsIn, names_of}
-use Rattle.safety.proofs.Manager.Keys.{changed_name}
+use Rattle.branch_list.specs.OneCall.{SameView, IsHindered, Leaves, view_after_done}
+use Rattle.branch_list.proofs.Views.{is_of, view_of, shows_push, shows_touched, none_hinders, hindered_to}
+use Rattle.branch_list.proofs.CallSteps.{same, same_from}
+use Rattle.protocol.specs.Holds.{AreInOrder, AreNamedOnce, IsIn, names_of}
+use Rattle.protocol.proofs.Manager.Keys.{changed_name}
 use Rattle.cluster_run.specs.MachineCalls.{branch_view, IsOneCall, AnswersNamed}
-use Rattle.cluster_run.proofs.DoneCalls.{IsReadyFor, ready}
+use Rattle.protocol.proofs.DoneCalls.{IsReadyFor, ready}
 
 -- a call of a spent name that is done is no start
 done_named : (spent : Bool) (rows : List Row) (v : BranchView) (busy : Bool) (action : Action)

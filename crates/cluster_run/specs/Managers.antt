@@ -4,7 +4,7 @@ use Rattle.std.specs.List.{All}
 use Rattle.xid.specs.declared.refusals.Refusal.TheVariants.{NoSuch}
 use Rattle.cluster_run.specs.Words.{R, Event, Ask, Call, Recover, Answer, Refused, Xids, Row}
 use Rattle.protocol.specs.Rows.{IsTableOf}
-use Rattle.branch_table.specs.Tables.{TableState, Steps}
+use Rattle.branch_list.specs.Tables.{TableState, Steps}
 use Rattle.net_script.specs.declared.values.Table.{Table}
 use Rattle.cluster_run.specs.Runs.{first_rows_of}
 

@@ -2,11 +2,11 @@
 
 ghost use Rattle.std.specs.Prelude.{◌≡◌, IfOk, IfErr, map};
 ghost use Rattle.xid.specs.declared.refusals.Refusal.TheVariants.{NoMemory};
-ghost use Rattle.branch_table.specs.Tables.{Steps};
+ghost use Rattle.branch_list.specs.Tables.{Steps};
 ghost use Rattle.cluster_run.specs.Runs.{first_rows_of as first_rows_of_lem};
 ghost use Rattle.cluster_run.specs.Managers.{AnswersAt, HaveFirstRows};
 
-use branch_table::{BranchTable, Ending};
+use branch_list::{BranchTable, Ending};
 use net_script::Table;
 use protocol::{Action, Answer, Event, NodeId, Request, Row};
 use std::alloc::Global;

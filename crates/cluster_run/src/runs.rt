@@ -1,36 +1,47 @@
 //! The run of a script.
 
-ghost use Rattle.std.specs.Prelude.{◌≡◌, IfOk, IfErr, OnOk, map, []};
+ghost use Rattle.std.specs.Prelude.{◌≡◌, IfOk, IfErr, OnOk, MatchOption, true};
+ghost use Rattle.std.specs.List.{list_all};
 ghost use Rattle.xid.specs.declared.refusals.Refusal.TheVariants.{NoMemory};
 ghost use Rattle.cluster_run.specs.LookingBack.{quiet_step as quiet_step_lem};
-ghost use Rattle.cluster_run.specs.Runs.{AreSteps, IsRun, RefusesRun, is_in_limits as is_in_limits_lem};
+ghost use Rattle.net_script.specs.Scripts.{script_items};
+ghost use Rattle.cluster_run.specs.Runs.{AreEntriesOf, IsRun, RefusesRun, IsFirstLeft, is_item_run, is_run as is_run_lem};
+ghost use Rattle.cluster_run.specs.Runs.{is_in_limits as is_in_limits_lem};
 ghost use Rattle.cluster_run.specs.Managers.{HaveNoBranches, tables_of};
 
 use crate::managers::{answer, final_rows, first_managers};
-use branch_table::BranchTable;
-use net_script::{Sizes, Trace, read_script, write_trace};
-use protocol::{Answer, Event, Step};
+use branch_list::BranchTable;
+use net_script::{Command, Entry, Script, Sizes, Trace, line_of, read_script, write_trace};
+use protocol::{Answer, Event, NodeId, Request, Step};
 use std::alloc::Global;
 use xid::{MAX_LEADERS, MAX_MANAGERS, Refusal, Sequence};
 
 /// Runs a script, and gives the text of its trace. Refused: `BadScript` with the first line at fault; else, where every line
-/// is right, `BadConfig` for sizes outside the limits (1, 3, 5 or 7 acceptors, 1 to 4 leaders, 1 to 64 resource managers); and
-/// `NoMemory`. Where it is refused nothing was run.
+/// is right, `BadScript` with the first line that says what isn't run yet (a bundled cluster, or an event that is neither a call on a
+/// branch nor a `recover`); else `BadConfig` for sizes outside the limits (1, 3, 5 or 7 acceptors, 1 to 4 leaders, 1 to 64 resource
+/// managers); and `NoMemory`. Where it is refused nothing was run.
 pub fn run(alloc: Global, script: &[u8]) -> Result<Vec<u8>, Refusal>
     ensures ok { IfOk result (λ output. IsRun script.now output.items) }
     ensures err { IfErr result (RefusesRun script.now) }
 {
-    let script = read_script(alloc, script)?;
+    let text = script;
+    let script = read_script(alloc, text)?;
+    if let Some(place) = first_left(&script) {
+        let Some(line) = line_of(text, place) else {
+            unreachable!();
+        };
+        return Err(Refusal::BadScript { line });
+    }
     if !is_in_limits(script.sizes) {
         return Err(Refusal::BadConfig);
     }
     let mut managers = first_managers(alloc, script.tables.as_slice(), script.sizes.rms)?;
-    let steps = steps_of(alloc, &mut managers, script.events.into_vec())?;
+    let entries = entries_of(alloc, &mut managers, script.commands.into_vec())?;
     let finals = final_rows(alloc, managers)?;
     let trace = Trace {
         sizes: script.sizes,
         tables: script.tables,
-        steps: Sequence::new(steps),
+        entries: Sequence::new(entries),
         finals: Sequence::new(finals),
     };
     write_trace(alloc, &trace)
@@ -45,24 +56,56 @@ fn is_in_limits(sizes: Sizes) -> bool
         && (1..=u32::from(MAX_MANAGERS)).contains(&sizes.rms)
 }
 
+/// Whether a command is run.
+fn is_run(command: &Command) -> bool
+    ensures { result ≡ is_run_lem command.now }
+{
+    matches!(
+        command,
+        Command::Do(Event::Ask {
+            node: NodeId::R(_),
+            request: Request::Call { .. } | Request::Recover,
+        })
+    )
+}
+
+/// The place of the first item of a script that isn't run: a bundled cluster, or an event that is no client call.
+fn first_left(script: &Script) -> Option<usize>
+    ensures { MatchOption result (list_all is_item_run (script_items script.now) ≡ true) (IsFirstLeft (script_items script.now)) }
+{
+    if script.sizes.bundled {
+        return Some(0);
+    }
+    let commands = script.commands.as_slice();
+    for (at, command) in commands.iter().enumerate() {
+        if !is_run(command) {
+            return Some(1 + script.tables.as_slice().len() + at);
+        }
+    }
+    None
+}
+
 /// The events with their answers, one after another.
-fn steps_of(
+fn entries_of(
     alloc: Global,
     managers: &mut Vec<BranchTable>,
-    events: Vec<Event>,
-) -> Result<Vec<Step>, Refusal>
-    requires { HaveNoBranches managers.old.items }
-    ensures events { IfOk result (λ steps. map (λ step. step.event) steps.items ≡ events.items) }
-    ensures answers { IfOk result (λ steps. AreSteps (tables_of managers.old.items) [] steps.items) }
+    commands: Vec<Command>,
+) -> Result<Vec<Entry>, Refusal>
+    requires plain { HaveNoBranches managers.old.items }
+    requires run { list_all is_run_lem commands.items ≡ true }
+    ensures steps { IfOk result (λ entries. AreEntriesOf (tables_of managers.old.items) commands.items entries.items) }
     ensures rows { OnOk result (tables_of managers.new.items ≡ tables_of managers.old.items) }
     ensures err { IfErr result (λ e. e ≡ NoMemory) }
 {
-    let mut steps = Vec::new(alloc);
-    for event in events {
+    let mut entries = Vec::new(alloc);
+    for command in commands {
+        let Command::Do(event) = command else {
+            unreachable!();
+        };
         let answer = answer(managers, &event)?;
-        steps.push(quiet_step(alloc, event, answer))?;
+        entries.push(Entry::Step(quiet_step(alloc, event, answer)))?;
     }
-    Ok(steps)
+    Ok(entries)
 }
 
 /// An event and its answer, where it changed no view and sent nothing.

@@ -15,11 +15,11 @@ use Rattle.protocol.specs.Facts.{bound_branches}
 use Rattle.protocol.specs.Managers.{Branch, all_branches, view_by, view_named, is_hindered, named_answer, stored_votes, on_call}
 use Rattle.protocol.specs.Nodes.{NodeState}
 use Rattle.protocol.specs.Tables.{table}
-use Rattle.branch_table.specs.OneCall.{view_in_state}
-use Rattle.branch_table.proofs.Views.{view_of, none_hinders, hindered_to}
-use Rattle.safety.specs.Holds.{IsIn}
-use Rattle.safety.proofs.Lists.{any_found, found_any, filter_map_given, filter_map_gives}
-use Rattle.safety.proofs.Manager.Prepared.{names_held_once}
+use Rattle.branch_list.specs.OneCall.{view_in_state}
+use Rattle.branch_list.proofs.Views.{view_of, none_hinders, hindered_to}
+use Rattle.protocol.specs.Holds.{IsIn}
+use Rattle.protocol.proofs.Lists.{any_found, found_any, filter_map_given, filter_map_gives}
+use Rattle.protocol.proofs.Manager.Prepared.{names_held_once}
 use Rattle.history.specs.Words.{R, BranchState, Event, Answer, Action, Start, Put, Del, Get, End, EndFail, Rollback, Call, Ask, Step, Row}
 use Rattle.history.specs.Words.{Request, Recover, Timeout, A, L}
 use Rattle.history.specs.Calls.{call_done}

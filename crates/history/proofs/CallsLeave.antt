@@ -17,11 +17,11 @@ use Rattle.protocol.specs.Managers.{Branch, all_branches, view_named, is_hindere
 use Rattle.protocol.specs.Managers.{named_answer, on_call}
 use Rattle.protocol.specs.Tables.{table}
 use Rattle.protocol.proofs.TouchedKeys.{changed_ascends}
-use Rattle.branch_table.specs.OneCall.{SameView, view_after_done}
-use Rattle.branch_table.proofs.Views.{is_of, view_of, shows_push, shows_touched}
-use Rattle.branch_table.proofs.CallSteps.{same}
-use Rattle.safety.specs.Holds.{AreInOrder}
-use Rattle.safety.proofs.Manager.Keys.{changed_name}
+use Rattle.branch_list.specs.OneCall.{SameView, view_after_done}
+use Rattle.branch_list.proofs.Views.{is_of, view_of, shows_push, shows_touched}
+use Rattle.branch_list.proofs.CallSteps.{same}
+use Rattle.protocol.specs.Holds.{AreInOrder}
+use Rattle.protocol.proofs.Manager.Keys.{changed_name}
 use Rattle.history.proofs.DoneCalls.{IsReadyFor, ready}
 
 -- a call of a spent name that is done is no start

@@ -17,8 +17,8 @@ use Rattle.protocol.specs.Facts.{vote_in, is_ended, is_vote_of, is_commit_of, is
 use Rattle.protocol.specs.Managers.{Branch}
 use Rattle.protocol.specs.Nodes.{Input}
 use Rattle.protocol.specs.Worlds.{view_number, change_of}
-use Rattle.safety.proofs.Manager.Views.{casts_decides, aborts_decides, prepared_shows}
-use Rattle.safety.proofs.Manager.Effects.{IsManagerFact}
+use Rattle.protocol.proofs.Manager.Views.{casts_decides, aborts_decides, prepared_shows}
+use Rattle.protocol.proofs.Manager.Effects.{IsManagerFact}
 use Rattle.history.specs.Words.{Fact, R, View, Change}
 use Rattle.history.specs.Lines.{view_stored, change_stored}
 
@@ -44,11 +44,11 @@ view_then facts fact tx = λ i. shown (any_then (is_vote_of tx votes.Aborted) fa
     (any_then (is_commit_of tx) facts fact i) (any_then (is_vote_of tx votes.Prepared) facts fact i)
 
 -- neither vote nor outcome is stored
-record IsNew (facts : List Fact) (tx : TxParts) : Type 0 where
-  voted_aborted : any_vote votes.Aborted facts tx ≡ false
-  aborted : list_any (is_abort_of tx) facts ≡ false
-  committed : list_any (is_commit_of tx) facts ≡ false
-  voted_prepared : any_vote votes.Prepared facts tx ≡ false
+pub record IsNew (facts : List Fact) (tx : TxParts) : Type 0 where
+  pub voted_aborted : any_vote votes.Aborted facts tx ≡ false
+  pub aborted : list_any (is_abort_of tx) facts ≡ false
+  pub committed : list_any (is_commit_of tx) facts ≡ false
+  pub voted_prepared : any_vote votes.Prepared facts tx ≡ false
 
 no_vote : (p a : Bool) → is_some (if p then Some votes.Prepared else if a then Some votes.Aborted else None) ≡ false
     → (p ≡ false) × (a ≡ false)
@@ -56,7 +56,7 @@ no_vote true a e = absurd (cc (e))
 no_vote false true e = absurd (cc (e))
 no_vote false false e = (refl, refl)
 
-is_new_by : (facts : List Fact) (tx : TxParts) → is_some (vote_in facts tx) ≡ false → is_ended facts tx ≡ false → IsNew facts tx
+pub is_new_by : (facts : List Fact) (tx : TxParts) → is_some (vote_in facts tx) ≡ false → is_ended facts tx ≡ false → IsNew facts tx
 is_new_by facts tx unvoted unended =
     let vote = no_vote (any_vote votes.Prepared facts tx) (any_vote votes.Aborted facts tx) unvoted in
     let outcome = or_parts (list_any (is_commit_of tx) facts) (list_any (is_abort_of tx) facts) unended in
@@ -67,7 +67,7 @@ pub record IsViewChange (facts : List Fact) (fact : Fact) : Type 0 where
   pub after : view (facts ++ fact ∷ []) (fact_tx fact) ≡ view_stored fact
   pub differs : (view_number (view facts (fact_tx fact)) == view_number (view_stored fact)) ≡ false
 
-new_is_working : (facts : List Fact) (tx : TxParts) → IsNew facts tx → view facts tx ≡ views.Working
+pub new_is_working : (facts : List Fact) (tx : TxParts) → IsNew facts tx → view facts tx ≡ views.Working
 new_is_working facts tx new = λ i. shown (new.voted_aborted i) (new.aborted i) (new.committed i) (new.voted_prepared i)
 
 differs_from : (v w : View) (facts : List Fact) (tx : TxParts) → view facts tx ≡ v → (view_number v == view_number w) ≡ false

@@ -27,7 +27,7 @@ use Rattle.protocol.specs.StandsFor.{report_messages, accept_messages_of, stands
 use Rattle.protocol.specs.Worlds.{World, Datagram, StepResult, opening, node_at, set_node, answer_result, outcome_result, if_found, at_node}
 use Rattle.protocol.specs.Worlds.{datagram_at, with_mark, dispatch, world_step, step_of}
 use Rattle.ballot.specs.Greatest.{IsIn}
-use Rattle.safety.proofs.Lists.{IsIn-before, IsIn-after, filter_kept}
+use Rattle.protocol.proofs.Lists.{IsIn-before, IsIn-after, filter_kept}
 use Rattle.safety.proofs.World.Growth.{same_node}
 use Rattle.safety.proofs.World.NodePlaces.{node_there, node_elsewhere, opening_node}
 use Rattle.safety.proofs.World.Outcomes.{KeepsFacts, step_is}

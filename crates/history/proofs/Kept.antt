@@ -19,13 +19,13 @@ use Rattle.protocol.specs.Managers.{all_branches, view_named, is_hindered, act_o
 use Rattle.protocol.specs.Nodes.{NodeState, new_node, first_rows}
 use Rattle.protocol.specs.Tables.{table}
 use Rattle.protocol.specs.Worlds.{World, step_of, world_step}
-use Rattle.safety.specs.Holds.{IsIn}
+use Rattle.protocol.specs.Holds.{IsIn}
 use Rattle.safety.specs.Standing.{HasVote}
-use Rattle.safety.proofs.Lists.{IsIn-push, IsIn-before}
-use Rattle.safety.proofs.Manager.Apart.{idle_branch, name_of}
-use Rattle.safety.proofs.Manager.Effects.{IsManagerFact}
-use Rattle.safety.proofs.Manager.Keys.{spent_by}
-use Rattle.safety.proofs.Manager.Views.{prepared_shows}
+use Rattle.protocol.proofs.Lists.{IsIn-push, IsIn-before}
+use Rattle.protocol.proofs.Manager.Apart.{idle_branch, name_of}
+use Rattle.protocol.proofs.Manager.Effects.{IsManagerFact}
+use Rattle.protocol.proofs.Manager.Keys.{spent_by}
+use Rattle.protocol.proofs.Manager.Views.{prepared_shows}
 use Rattle.history.specs.Words.{Fact, Touched, Act, BranchState, Action, Start, Put, Del, Get, End, EndFail, Rollback}
 use Rattle.history.specs.Words.{Step, Row}
 use Rattle.history.specs.Calls.{is_restart}
@@ -205,7 +205,8 @@ module _ (config : Config) (rm : ℕ) (old new : NodeState) (step : Step) (befor
       ((xid_decides is.xid is.xid).1 refl)))
 
   -- a name that a vote has
-  voted_undone : (tx : TxParts) (keys : List Touched) (x : XidParts) → IsIn old.facts (stored.VotePrepared tx keys) → xid_at tx rm ≡ Some x
+  pub voted_undone : (tx : TxParts) (keys : List Touched) (x : XidParts) → IsIn old.facts (stored.VotePrepared tx keys)
+      → xid_at tx rm ≡ Some x
       → done_at rm x step ≡ None
   voted_undone tx keys x h name = by_own (is_done action step.answer) (xid_eq is.xid x) refl refl
     where
@@ -236,7 +237,7 @@ module _ (config : Config) (rm : ℕ) (old new : NodeState) (step : Step) (befor
 
 -- a fact
 module _ (config : Config) (rm : ℕ) (old new : NodeState) (step : Step) (before : List Step) (told : IsTold rm old before)
-    (sound : IsSound config rm old) (kept : IsKept rm old before) (is : IsStored rm old new step.event step.answer step.now) where
+    (sound : IsSound config rm old) (kept : IsKept rm old before) (is : IsStored config rm old new step.event step.answer step.now) where
   abbrev fact : Fact
   fact = is.fact
 

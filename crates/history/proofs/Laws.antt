@@ -17,7 +17,7 @@ use Rattle.protocol.specs.Nodes.{Memory, NodeState, new_node, Asked, Fault, NoFa
 use Rattle.protocol.specs.Nodes.{accepts_request, effect_of, effect_outcome, Outcome, node_step}
 use Rattle.protocol.specs.Tables.{table}
 use Rattle.protocol.specs.Worlds.{World, node_at, if_found, outcome_result, at_node, world_step, table_at}
-use Rattle.safety.specs.Holds.{IsIn}
+use Rattle.protocol.specs.Holds.{IsIn}
 use Rattle.safety.specs.Standing.{facts_at}
 use Rattle.history.specs.Words.{R, Ask, Fact, Touched, View, Row, Step, Request, Call, Recover, Timeout, Done, Xids, Stands, Refused}
 use Rattle.history.specs.Lines.{changes_at, change_stored, view_back, is_spent_back}
@@ -66,6 +66,9 @@ module _ (config : Config) (world : World) (before : List Step) (rm : ℕ) (run 
       ap (λ (o : Option NodeState). option_map_or table_of o []) stands
       ∙ sym (ap table_of (ap (λ (o : Option NodeState). unwrap_or o new_node) stands))
       ∙ table_is config rm (manager_in config world rm) before is_sound kept lines (first_rows config rm)
+
+  pub looked_table : (first : List Row) → table first (manager_in config world rm).facts ≡ table_back first rm before
+  looked_table first = table_is config rm (manager_in config world rm) before is_sound kept lines first
 
   module _ (node : NodeState) (stands : node_at config world (R rm) ≡ Some node) (up : node.up ≡ true) where
     is_node : manager_in config world rm ≡ node

@@ -7,6 +7,7 @@ pub mod CallsLeave
 pub mod Stretches
 pub mod Told
 pub mod Shown
+pub mod HeldOnce
 pub mod Answered
 pub mod Rows
 pub mod Kept
@@ -16,4 +17,15 @@ pub mod Outages
 pub mod Laws
 pub mod Answering
 pub mod Heard
+pub mod LeaderSends
+pub mod LeaderMoves
+pub mod LeaderRuns
+pub mod StatusAnswers
+pub mod Orders
+pub mod Conflicts
+pub mod SerialTables
+pub mod KeyCourses
+pub mod SerialReads
 pub mod WorkedRuns
+pub mod LeaderWorkedRuns
+pub mod SerialWorkedRuns

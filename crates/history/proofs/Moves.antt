@@ -29,7 +29,10 @@ use Rattle.protocol.specs.Nodes.{accepts_input, answer_outcome, Outcome, all_pla
 use Rattle.protocol.specs.Tables.{table}
 use Rattle.protocol.specs.Worlds.{World, StepResult, node_at, set_node, change_of, outcome_result, answer_result, if_found, at_node}
 use Rattle.protocol.specs.Worlds.{datagram_at, with_mark, dispatch, world_step, view_number}
-use Rattle.safety.proofs.Manager.Effects.{IsManagerFact, manager_effect_is}
+use Rattle.protocol.specs.Facts.{with_fact}
+use Rattle.protocol.specs.Holds.{AreApart}
+use Rattle.protocol.proofs.Manager.Apart.{manager_stays_apart}
+use Rattle.protocol.proofs.Manager.Effects.{IsManagerFact, manager_effect_is}
 use Rattle.safety.proofs.World.Growth.{same_node}
 use Rattle.safety.proofs.World.NodePlaces.{node_there, node_elsewhere}
 use Rattle.history.specs.Words.{Fact, Touched, Change, NodeId, A, L, R, Answer, Done, Code, Refused, Event, Ask, Deliver, Lose, Cut, Noise}
@@ -86,7 +89,7 @@ pub record IsCalled (config : Config) (rm : ℕ) (old new : NodeState) (event : 
       ≡ (on_call rm (stored_votes rm old.facts) (table (first_rows config rm) old.facts) (branches_of old) xid action).memory
 
 -- it stores a fact by one of its rules, being up
-pub record IsStored (rm : ℕ) (old new : NodeState) (event : Event) (answer : Answer) (now : Option Change) : Type 0 where
+pub record IsStored (config : Config) (rm : ℕ) (old new : NodeState) (event : Event) (answer : Answer) (now : Option Change) : Type 0 where
   pub fact : Fact
   pub input : Input
   pub rule : IsManagerFact rm old.facts (branches_of old) input fact
@@ -96,13 +99,15 @@ pub record IsStored (rm : ℕ) (old new : NodeState) (event : Event) (answer : A
   pub up : old.up ≡ true
   pub facts : new.facts ≡ old.facts ++ fact ∷ []
   pub left : new.up ≡ true → branches_of new ≡ left_by rm (branches_of old) fact
+  pub apart : all_play config (R rm) [] old.facts ≡ true → AreApart rm old.facts (branches_of old)
+      → AreApart rm new.facts (left_by rm (branches_of old) fact)
 
 -- one of these
 pub data IsMove (config : Config) (rm : ℕ) (old new : NodeState) (event : Event) (answer : Answer) (now : Option Change) : Type 0 where
   Quiet : IsQuiet rm old new event answer now → IsMove config rm old new event answer now
   Restarted : IsRestarted rm old new event answer now → IsMove config rm old new event answer now
   Called : IsCalled config rm old new event answer now → IsMove config rm old new event answer now
-  Stored : IsStored rm old new event answer now → IsMove config rm old new event answer now
+  Stored : IsStored config rm old new event answer now → IsMove config rm old new event answer now
 
 -- ---- events that are refused
 
@@ -302,6 +307,10 @@ module _ (config : Config) (rm : ℕ) (node : NodeState) (event : Event) where
     abbrev e : Effect Memory
     e = effect_of config (R rm) node.facts node.memory input
 
+    fact_leaves : (fact : Fact) → e.fact ≡ Some fact → e.memory.branches ≡ left_by rm node.memory.branches fact
+    fact_leaves fact is = effect_leaves config rm node.facts node.memory input uncalled
+        ∙ ap (λ (o : Option Fact). option_map_or (left_by rm node.memory.branches) o node.memory.branches) is
+
     stored_here : (new : NodeState) (answer : Answer) (fact : Fact) → e.fact ≡ Some fact → node.up ≡ true
         → new.facts ≡ node.facts ++ fact ∷ [] → (new.up ≡ true → branches_of new ≡ e.memory.branches)
         → Moves config rm node event (answer_outcome new answer)
@@ -320,8 +329,11 @@ module _ (config : Config) (rm : ℕ) (node : NodeState) (event : Event) where
           restart = elsewhere.restart answer;
           up = up;
           facts = facts;
-          left = λ stays. left stays ∙ effect_leaves config rm node.facts node.memory input uncalled
-              ∙ ap (λ (o : Option Fact). option_map_or (left_by rm node.memory.branches) o node.memory.branches) is;
+          left = λ stays. left stays ∙ fact_leaves fact is;
+          apart = λ play are. subst (λ (fs : List Fact). AreApart rm fs (left_by rm node.memory.branches fact)) (sym facts)
+              (subst (AreApart rm (node.facts ++ fact ∷ [])) (fact_leaves fact is)
+              (subst (λ (o : Option Fact). AreApart rm (with_fact node.facts o) e.memory.branches) is
+              (manager_stays_apart config rm node.facts node.memory input play are)));
         })
 
     stopped_moves : (fact : Fact) (whole : Bool) → e.fact ≡ Some fact → node.up ≡ true

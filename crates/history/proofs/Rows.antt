@@ -183,7 +183,7 @@ after_there rows key (Act.Put value) k are = put_there rows (record { key = key;
 after_there rows key Act.Del k are = taken_there rows key k
 
 -- a key that wasn't touched, or stands before those touched, is only read
-untouched : (us : List Touched) (key : List ℕ) → has_key key us ≡ false → act_on us key ≡ Act.Read
+pub untouched : (us : List Touched) (key : List ℕ) → has_key key us ≡ false → act_on us key ≡ Act.Read
 untouched [] key none = refl
 untouched (u ∷ us) key none =
     let parts = or_parts (bytes_eq u.key key) (has_key key us) none in
@@ -243,7 +243,7 @@ own_there : (row : Row) (rows : List Row) → row_at (row ∷ rows) row.key ≡ 
 own_there row rows =
     ap (λ (b : Bool). cond b (Some row.value) (row_at rows row.key)) ((bytes_eq-Decides row.key row.key).1 refl)
 
-same_rows : (rows others : List Row) → AscendRows rows → AscendRows others → ((k : List ℕ) → row_at rows k ≡ row_at others k) → rows
+pub same_rows : (rows others : List Row) → AscendRows rows → AscendRows others → ((k : List ℕ) → row_at rows k ≡ row_at others k) → rows
     ≡ others
 same_rows [] [] are also same = refl
 same_rows [] (other ∷ others) are also same = absurd (cc (same other.key, own_there other others))

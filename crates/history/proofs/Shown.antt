@@ -14,14 +14,14 @@ use Rattle.protocol.specs.Effects.{Config}
 use Rattle.protocol.specs.Facts.{Bound, is_prepared_view, bound_branches}
 use Rattle.protocol.specs.Managers.{Branch, all_branches, view_named}
 use Rattle.protocol.specs.Nodes.{NodeState}
-use Rattle.branch_table.specs.OneCall.{view_in_state}
-use Rattle.branch_table.proofs.Views.{view_of}
-use Rattle.safety.specs.Holds.{AreNamedOnce, IsIn}
-use Rattle.safety.proofs.Lists.{IsIn-map, IsIn-before, found_any, found_among, any_find}
-use Rattle.safety.proofs.Lists.{filter_map_gives}
-use Rattle.safety.proofs.Manager.Apart.{bound_stored, stored_bound}
-use Rattle.safety.proofs.Manager.Prepared.{prepared_or_not, names_held_once}
-use Rattle.safety.proofs.Manager.Views.{prepared_shows}
+use Rattle.branch_list.specs.OneCall.{view_in_state}
+use Rattle.branch_list.proofs.Views.{view_of}
+use Rattle.protocol.specs.Holds.{AreNamedOnce, IsIn}
+use Rattle.protocol.proofs.Lists.{IsIn-map, IsIn-before, found_any, found_among, any_find}
+use Rattle.protocol.proofs.Lists.{filter_map_gives}
+use Rattle.protocol.proofs.Manager.Apart.{bound_stored, stored_bound}
+use Rattle.protocol.proofs.Manager.Prepared.{prepared_or_not, names_held_once}
+use Rattle.protocol.proofs.Manager.Views.{prepared_shows}
 use Rattle.history.specs.Words.{Change}
 use Rattle.history.specs.Words.{Step}
 use Rattle.history.specs.Lines.{changes_at, view_back}

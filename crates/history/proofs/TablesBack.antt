@@ -14,11 +14,11 @@ use Rattle.protocol.specs.Facts.{Bound, branch_bound_by, bound_branches, is_prep
 use Rattle.protocol.specs.Managers.{insert_xid}
 use Rattle.protocol.specs.Nodes.{NodeState}
 use Rattle.protocol.specs.Tables.{put_row, with_writes, keys_voted, commit_of, table}
-use Rattle.safety.specs.Holds.{IsIn}
-use Rattle.safety.proofs.Lists.{found_any, found_among, any_find, filter_map_given, filter_map_gives}
-use Rattle.safety.proofs.Manager.Apart.{bound_is}
-use Rattle.safety.proofs.Manager.Keys.{names_name}
-use Rattle.safety.proofs.Manager.Played.{voted_named}
+use Rattle.protocol.specs.Holds.{IsIn}
+use Rattle.protocol.proofs.Lists.{found_any, found_among, any_find, filter_map_given, filter_map_gives}
+use Rattle.protocol.proofs.Manager.Apart.{bound_is}
+use Rattle.protocol.proofs.Manager.Keys.{names_name}
+use Rattle.protocol.proofs.Manager.Played.{voted_named}
 use Rattle.history.specs.Words.{Fact, Touched, Change, Step, Row}
 use Rattle.history.specs.Lines.{changes_at, change_stored, view_back}
 use Rattle.history.specs.Writes.{actions_since_start, accepted_writes, writes_of, is_committed_view, changed_to, commit_order, table_back}
@@ -32,7 +32,7 @@ use Rattle.history.proofs.Kept.{IsKept}
 in_front : {X : Type 0} (o p : Option X) (xs ys : List X) → o ≡ p → xs ≡ ys → cons_option o xs ≡ cons_option p ys
 in_front o p xs ys e f = λ i. cons_option (e i) (f i)
 
-commit_is : (rm : ℕ) (fact : Fact) → commit_of fact ≡ changed_to is_committed_view (change_stored rm fact)
+pub commit_is : (rm : ℕ) (fact : Fact) → commit_of fact ≡ changed_to is_committed_view (change_stored rm fact)
 commit_is rm (stored.Committed tx) = refl
 commit_is rm (stored.VotePrepared tx keys) = refl
 commit_is rm (stored.VoteAborted tx) = refl
@@ -45,19 +45,19 @@ commits_are rm [] = refl
 commits_are rm (fact ∷ facts) =
     in_front (commit_of fact) (changed_to is_committed_view (change_stored rm fact)) _ _ (commit_is rm fact) (commits_are rm facts)
 
-committed_is : (fact : Fact) (tx : TxParts) → commit_of fact ≡ Some tx → fact ≡ stored.Committed tx
+pub committed_is : (fact : Fact) (tx : TxParts) → commit_of fact ≡ Some tx → fact ≡ stored.Committed tx
 committed_is (stored.Committed other) tx e = ap (λ (o : Option TxParts). stored.Committed (unwrap_or o other)) e
 committed_is fact tx e = absurd (cc (e))
 
 -- the stored vote that is looked up
-record IsVoteFound (facts : List Fact) (tx : TxParts) : Type 0 where
-  keys : List Touched
-  looked_up : keys_voted facts tx ≡ keys
-  stands : IsIn facts (stored.VotePrepared tx keys)
+pub record IsVoteFound (facts : List Fact) (tx : TxParts) : Type 0 where
+  pub keys : List Touched
+  pub looked_up : keys_voted facts tx ≡ keys
+  pub stands : IsIn facts (stored.VotePrepared tx keys)
 
 module _ (config : Config) (rm : ℕ) (node : NodeState) (before : List Step) (sound : IsSound config rm node)
     (kept : IsKept rm node before) (lines : map (change_stored rm) node.facts ≡ reverse (changes_at rm before)) where
-  order_back : filter_map commit_of node.facts ≡ commit_order rm before
+  pub order_back : filter_map commit_of node.facts ≡ commit_order rm before
   order_back = commits_are rm node.facts ∙ ap (filter_map (changed_to is_committed_view)) lines
 
   abbrev votes_of : List Bound
@@ -66,13 +66,11 @@ module _ (config : Config) (rm : ℕ) (node : NodeState) (before : List Step) (s
   abbrev is_vote_on : TxParts → Bound → Bool
   is_vote_on tx bound = tx_eq tx bound.tx
 
-  -- the vote on a committed transaction
-  vote_found : (tx : TxParts) → IsIn (filter_map commit_of node.facts) tx → IsVoteFound node.facts tx
-  vote_found tx h =
-      let given = filter_map_given commit_of node.facts tx h in
-      let vote = kept.committed tx (subst (IsIn node.facts) (committed_is given.source tx given.gives) given.among) in
-      let bound : Bound = record { tx = tx; keys = vote.0 } in
-      let there = filter_map_gives branch_bound_by node.facts (stored.VotePrepared tx vote.0) bound vote.1 refl in
+  -- a vote that is stored is looked up
+  pub voted_found : (tx : TxParts) (keys : List Touched) → IsIn node.facts (stored.VotePrepared tx keys) → IsVoteFound node.facts tx
+  voted_found tx keys h =
+      let bound : Bound = record { tx = tx; keys = keys } in
+      let there = filter_map_gives branch_bound_by node.facts (stored.VotePrepared tx keys) bound h refl in
       let found = any_find (is_vote_on tx) votes_of (found_any (is_vote_on tx) votes_of bound there (tx_self tx)) in
       let among = found_among (is_vote_on tx) votes_of found.0 found.1 in
       let source = filter_map_given branch_bound_by node.facts found.0 among.0 in
@@ -84,8 +82,15 @@ module _ (config : Config) (rm : ℕ) (node : NodeState) (before : List Step) (s
             (subst (IsIn node.facts) (bound_is source.source found.0 source.gives) source.among);
       }
 
+  -- the vote on a committed transaction
+  pub vote_found : (tx : TxParts) → IsIn (filter_map commit_of node.facts) tx → IsVoteFound node.facts tx
+  vote_found tx h =
+      let given = filter_map_given commit_of node.facts tx h in
+      let vote = kept.committed tx (subst (IsIn node.facts) (committed_is given.source tx given.gives) given.among) in
+      voted_found tx vote.0 vote.1
+
   -- its writes
-  writes_by : (tx : TxParts) (rows : List Row) → AscendRows rows → (keys : List Touched) → keys_voted node.facts tx ≡ keys
+  pub writes_by : (tx : TxParts) (rows : List Row) → AscendRows rows → (keys : List Touched) → keys_voted node.facts tx ≡ keys
       → IsIn node.facts (stored.VotePrepared tx keys) → (x : XidParts) → xid_at tx rm ≡ Some x
       → with_writes rows (keys_voted node.facts tx) ≡ with_writes rows (writes_of rm before tx)
   writes_by tx rows are keys is stands x name =
@@ -100,7 +105,7 @@ module _ (config : Config) (rm : ℕ) (node : NodeState) (before : List Step) (s
       let name = names_name tx rm (voted_named config rm node.facts sound.played tx votes.Prepared (vote.keys, vote.stands)) in
       writes_by tx rows are vote.keys vote.looked_up vote.stands name.0 name.1
 
-  all_back : (txs : List TxParts) (rows : List Row) → AscendRows rows → ((tx : TxParts) → IsIn txs tx
+  pub all_back : (txs : List TxParts) (rows : List Row) → AscendRows rows → ((tx : TxParts) → IsIn txs tx
       → IsIn (filter_map commit_of node.facts) tx)
       → fold (λ before_it tx. with_writes before_it (keys_voted node.facts tx)) rows txs
       ≡ fold (λ before_it tx. with_writes before_it (writes_of rm before tx)) rows txs

@@ -22,16 +22,17 @@ use Rattle.protocol.specs.Managers.{Branch, view_by, view_named, branches_withou
 use Rattle.protocol.specs.Nodes.{NodeState, new_node, all_play, first_rows}
 use Rattle.protocol.specs.Tables.{table}
 use Rattle.protocol.specs.Worlds.{World, node_at, step_of, world_step}
-use Rattle.branch_table.specs.OneCall.{view_in_state, view_after_done}
-use Rattle.branch_table.proofs.Views.{view_of}
-use Rattle.safety.specs.Holds.{AreInOrder, AreNamedOnce, IsIn, names_of}
+use Rattle.branch_list.specs.OneCall.{view_in_state, view_after_done}
+use Rattle.branch_list.proofs.Views.{view_of}
+use Rattle.protocol.specs.Holds.{AreInOrder, AreNamedOnce, IsIn, names_of}
 use Rattle.safety.specs.Standing.{HasVote}
-use Rattle.safety.proofs.Lists.{IsIn-push, IsIn-map, all_each}
-use Rattle.safety.proofs.Manager.Apart.{AreApart, none_apart, idle_branch, name_of}
-use Rattle.safety.proofs.Manager.Effects.{IsManagerFact}
-use Rattle.safety.proofs.Manager.Keys.{names_name, spent_by}
-use Rattle.safety.proofs.Manager.Played.{voted_named}
-use Rattle.safety.proofs.Manager.Views.{prepared_shows, unvoted}
+use Rattle.protocol.proofs.Lists.{IsIn-push, IsIn-map, all_each}
+use Rattle.protocol.specs.Holds.{AreApart}
+use Rattle.protocol.proofs.Manager.Apart.{none_apart, idle_branch, name_of}
+use Rattle.protocol.proofs.Manager.Effects.{IsManagerFact}
+use Rattle.protocol.proofs.Manager.Keys.{names_name, spent_by}
+use Rattle.protocol.proofs.Manager.Played.{voted_named}
+use Rattle.protocol.proofs.Manager.Views.{prepared_shows, unvoted}
 use Rattle.safety.proofs.World.Events.{safe_ever}
 use Rattle.safety.proofs.World.SafeSteps.{IsSafe}
 use Rattle.history.specs.Words.{Fact, Touched, Change, R, Event, Action, Step, Rollback, Row}
@@ -118,14 +119,14 @@ module _ (rm : ℕ) (old new : NodeState) (step : Step) (before : List Step) (to
 
 -- ---- quiet steps, restarts and calls
 
-told_quiet : (rm : ℕ) (old new : NodeState) (step : Step) (before : List Step) → IsTold rm old before
+pub told_quiet : (rm : ℕ) (old new : NodeState) (step : Step) (before : List Step) → IsTold rm old before
     → IsQuiet rm old new step.event step.answer step.now → IsTold rm new (step ∷ before)
 told_quiet rm old new step before told is =
     stays rm old new step before told is.silent.change is.facts
     (λ up x. ap (λ (bs : List Branch). view_named bs x) (is.kept up).1 ∙ told.branches (is.kept up).0 x
     ∙ sym (ap branch_by (since_silent rm step before x is.silent.restart is.silent.change (is.silent.calls x))))
 
-told_restarted : (rm : ℕ) (old new : NodeState) (step : Step) (before : List Step) → IsTold rm old before
+pub told_restarted : (rm : ℕ) (old new : NodeState) (step : Step) (before : List Step) → IsTold rm old before
     → IsRestarted rm old new step.event step.answer step.now → IsTold rm new (step ∷ before)
 told_restarted rm old new step before told is =
     stays rm old new step before told is.change is.facts
@@ -215,7 +216,7 @@ module _ (config : Config) (rm : ℕ) (old new : NodeState) (step : Step) (befor
   called_shows y false d = undone_shows y d
   called_shows y true d = done_shows_so d y (xid_eq is.xid y) refl
 
-  told_called : IsTold rm new (step ∷ before)
+  pub told_called : IsTold rm new (step ∷ before)
   told_called = stays rm old new step before told is.change is.facts (λ up y. called_shows y (is_done action step.answer) refl)
 
 -- ---- a fact is stored
@@ -244,7 +245,7 @@ bool_cases true = inl refl
 bool_cases false = inr refl
 
 module _ (config : Config) (rm : ℕ) (old new : NodeState) (step : Step) (before : List Step) (told : IsTold rm old before)
-    (sound : IsSound config rm old) (is : IsStored rm old new step.event step.answer step.now) where
+    (sound : IsSound config rm old) (is : IsStored config rm old new step.event step.answer step.now) where
   abbrev fact : Fact
   fact = is.fact
 
@@ -401,7 +402,7 @@ module _ (config : Config) (rm : ℕ) (old new : NodeState) (step : Step) (befor
             ∙ sym (ap (λ (hs : List Step). view_in_state (branch_by (actions_since rm y hs)) Prepared) (before_own rm step before t own))
       ]
 
-  told_stored : IsTold rm new (step ∷ before)
+  pub told_stored : IsTold rm new (step ∷ before)
   told_stored = record { views = views_then; spent = spent_then; branches = branches_then; voted = voted_then }
 
 -- ---- every event

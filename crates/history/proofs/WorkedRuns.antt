@@ -43,6 +43,9 @@ busy = call 0 x Start ∷ call 0 x (put 0x6b 0x31) ∷ call 0 z Start ∷ call 0
 pub busy_then_free : looked one_each [] busy ≡ ok ∷ ok ∷ ok ∷ Refused Busy ∷ Refused Busy ∷ ok ∷ Code codes.DupId ∷ []
 busy_then_free = refl
 
+pub busy_table : table_back [] 0 (after one_each busy) ≡ []
+busy_table = refl
+
 -- dropped_writes: a restart drops an unprepared branch and its writes
 abbrev dropped : List Event
 dropped = call 0 x Start ∷ call 0 x (put 0x6b 0x31) ∷ Restart (R 0) ∷ call 0 x (put 0x6b 0x32) ∷ call 0 x Start
@@ -61,6 +64,18 @@ both = call 0 x Start ∷ call 0 x End ∷ commit 0 one ∷ commit 0 two ∷ del
 pub still_bound : answer_to (cluster 1 1 2) 0 (after (cluster 1 1 2) both) Recover ≡ Xids (x ∷ [])
 still_bound = refl
 
+pub both_answers : looked (cluster 1 1 2) [] both ≡ ok ∷ ok ∷ []
+both_answers = refl
+
+abbrev both_ended : List Step
+both_ended = after (cluster 1 1 2) (both ++ recover 0 ∷ Deliver 4 ∷ Deliver 7 ∷ Deliver 8 ∷ [])
+
+pub bound_commits : commit_order 0 both_ended ≡ one ∷ []
+bound_commits = refl
+
+pub both_tables : table_back [] 0 both_ended ∷ table_back [] 1 both_ended ∷ [] ≡ [] ∷ [] ∷ []
+both_tables = refl
+
 -- torn_vote: the append of a vote is stopped, before its last byte and after it
 abbrev torn : ℕ → List Event
 torn n = one_ended ++ Tear (R 0) n ∷ Deliver 1 ∷ Restart (R 0) ∷ []
@@ -73,6 +88,9 @@ pub all_kept : looked one_each (torn 24) (recover 0 ∷ call 0 x (Get (0x6b ∷ 
     ∷ call 0 z (put 0x6b 0x32) ∷ [])
     ≡ Xids (x ∷ []) ∷ Code codes.Proto ∷ Code codes.Proto ∷ ok ∷ Refused Busy ∷ []
 all_kept = refl
+
+pub torn_table : table_back [] 0 (after one_each (torn 24 ++ Deliver 1 ∷ [])) ≡ []
+torn_table = refl
 
 -- a manager is out from the torn append to the restart
 abbrev stopped : ℕ → List Event
@@ -115,6 +133,9 @@ thirty = Value (0x30 ∷ [])
 
 pub shared_reads : looked with_row [] shared ≡ ok ∷ thirty ∷ ok ∷ ok ∷ thirty ∷ ok ∷ Xids (x ∷ z ∷ []) ∷ ok ∷ thirty ∷ Refused Busy ∷ []
 shared_reads = refl
+
+pub shared_table : table_back (first_rows with_row 0) 0 (after with_row shared) ≡ row 0x6b 0x30 ∷ []
+shared_table = refl
 
 -- compacted: after a whole commit a node replaces its record by a shorter one, and restarts as it was
 abbrev three : Config

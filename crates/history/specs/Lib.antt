@@ -6,3 +6,5 @@ pub mod Writes
 pub mod Outages
 pub mod Answers
 pub mod Heard
+pub mod LeaderBack
+pub mod SerialOrder

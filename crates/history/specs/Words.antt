@@ -18,3 +18,4 @@ pub use Rattle.protocol.specs.declared.requests.Request.TheVariants.{Call, Recov
 pub use Rattle.protocol.specs.declared.rows.Row.{Row}
 pub use Rattle.protocol.specs.declared.states.BranchState.{BranchState}
 pub use Rattle.protocol.specs.declared.states.View.{View}
+pub use Rattle.protocol.specs.declared.states.Status.{Status}

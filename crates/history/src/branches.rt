@@ -1,6 +1,7 @@
 //! Branches and answers: those of a resource manager that is up are the ones looked back at.
-ghost use Rattle.std.specs.Prelude.{◌≡◌, ℕ, List, true, false, Some};
+ghost use Rattle.std.specs.Prelude.{◌≡◌, ◌≢◌, ℕ, List, true, false, Some};
 ghost use Rattle.xid.specs.Names.{XidParts};
+ghost use Rattle.protocol.specs.Branches.{is_write};
 ghost use Rattle.protocol.specs.Effects.{Config};
 ghost use Rattle.protocol.specs.Facts.{bound_branches};
 ghost use Rattle.protocol.specs.Managers.{all_branches, view_named};
@@ -40,4 +41,12 @@ pub fn answers_look_back()
         → (world_step config (world_after config (opening config) events) (Ask (R rm) request) fault).answer
         ≡ answer_to config rm (history config events) request }
     ensures each { (config : Config) (events : List Occurrence) → AreAnswered config (history config events) }
+{}
+
+/// Keys are held once, looking back over any run: whatever a branch of a manager has put or deleted, no branch of another name there has
+/// touched, prepared branches among them. So of two branches that hold one key each has only read it.
+pub fn keys_held_once()
+    ensures { (config : Config) (events : List Occurrence) (rm : ℕ) (x y : XidParts) → x ≢ y → (key : List ℕ)
+        → is_write ((branch_back rm (history config events) x).act key) ≡ true
+        → (branch_back rm (history config events) y).touched key ≡ false }
 {}

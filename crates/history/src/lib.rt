@@ -13,3 +13,6 @@ pub mod branches;
 
 /// What they say of what leaders heard.
 pub mod leaders;
+
+/// What the order of first commits explains.
+pub mod serial;

@@ -7,7 +7,7 @@ ghost use Rattle.protocol.specs.Effects.{Config};
 ghost use Rattle.protocol.specs.Managers.{act_on, view_named};
 ghost use Rattle.protocol.specs.Nodes.{NodeState, first_rows};
 ghost use Rattle.protocol.specs.Worlds.{Occurrence, opening, node_at, table_at, world_after};
-ghost use Rattle.safety.specs.Holds.{IsIn};
+ghost use Rattle.protocol.specs.Holds.{IsIn};
 ghost use Rattle.safety.specs.Standing.{facts_at};
 ghost use Rattle.history.specs.Words.{R, Touched};
 ghost use Rattle.history.specs.Lines.{history};

@@ -20,19 +20,19 @@ use Rattle.protocol.specs.declared.decisions.Address.TheVariants.{Node, Managers
 use Rattle.protocol.specs.declared.nodes.NodeId.TheVariants.{R}
 use Rattle.protocol.specs.Effects.{Config, decision_of, is_inside, answer_only, sends_only, stores, status_standing}
 use Rattle.protocol.specs.Facts.{last_ballot, ballot_begun}
-use Rattle.protocol.specs.LeaderMemory.{LeaderMemory, StoredBallots, status_of, is_known, with_met, with_begun}
+use Rattle.protocol.specs.LeaderMemory.{LeaderMemory, StoredBallots, nothing_heard, status_of, is_known, with_met, with_begun}
 use Rattle.protocol.specs.Leaders as rules
 use Rattle.protocol.specs.Leaders.{is_final, outcome_messages, phase_1a}
 use Rattle.leader.specs.declared.decision.LeaderDecision.{LeaderDecision}
 use Rattle.leader.specs.Courses.{CourseParts, CourseStands, status_in, after_meeting, after_1b, proposals_after_1b, after_2b}
-use Rattle.leader.specs.Courses.{status_after_2b, after_beginning}
+use Rattle.leader.specs.Courses.{status_after_2b, after_beginning, fresh, fresh_instance, InstanceStands}
 use Rattle.leader.specs.Courses.{after_ballot}
-use Rattle.leader.specs.Orders.{proposal_messages}
+use Rattle.leader.specs.Orders.{proposal_messages, phase_1a_by}
 use Rattle.leader.specs.Decisions.{shown}
-use Rattle.leader.specs.Places.{is_placed_in, IsChanged, IsKept}
-use Rattle.protocol.specs.Parts.{IsPlayed, IsMadeReady}
+use Rattle.leader.specs.Places.{CoursesParts, is_placed_in, IsChanged, IsKept}
+use Rattle.stable_record.specs.Parts.{IsPlayed, IsMadeReady}
 use Rattle.leader.specs.Leaders.{leader_part, taken_over, taken_over_if}
-use Rattle.leader.specs.Leaders.{LeaderParts, StandsForBallots, course_of, commit_messages, phase_1a_by, Rule, Follows, FollowsOrRefuses}
+use Rattle.leader.specs.Leaders.{LeaderParts, StandsForBallots, course_of, commit_messages, Rule, Follows, FollowsOrRefuses}
 use Rattle.leader.specs.Leaders.{IsSame, are_below}
 use Rattle.leader.proofs.Basics.{tx_self, same_tx}
 use Rattle.leader.proofs.Elsewhere.{same_then, course_same, met_elsewhere, begun_elsewhere}
@@ -44,7 +44,7 @@ abbrev pub sending : List Outgoing → Decision
 sending sends = record { answer = Done; fact = None; sends = sends }
 
 -- a leader with other courses
-abbrev pub with_courses : LeaderParts → List CourseParts → LeaderParts
+abbrev pub with_courses : LeaderParts → CoursesParts → LeaderParts
 with_courses l courses = record l { courses = courses }
 
 pub moved : (config : Config) (number : ℕ) (inner old : LeaderParts) (stored : StoredBallots) (memory : LeaderMemory) → inner ≡ old
@@ -52,7 +52,7 @@ pub moved : (config : Config) (number : ℕ) (inner old : LeaderParts) (stored :
 moved config number inner old stored memory is stands =
     let P : LeaderParts → Type 0 = λ l. StandsForBallots config number l stored memory in subst P (sym is) stands
 
-pub follows : (config : Config) (number : ℕ) (inner old : LeaderParts) (courses : List CourseParts) (tx : TxParts) (c : CourseParts)
+pub follows : (config : Config) (number : ℕ) (inner old : LeaderParts) (courses : CoursesParts) (tx : TxParts) (c : CourseParts)
     (decided : Decision) (decision : LeaderDecision) (rule : Rule) → inner ≡ old → shown decision ≡ decided
     → IsChanged inner.courses courses tx c
     → ((stored : StoredBallots) (memory : LeaderMemory) → StandsForBallots config number inner stored memory
@@ -66,7 +66,7 @@ follows config number inner old courses tx c decided decision rule is shows chan
       (agrees stored memory inside);
 }
 
-pub kept_same : (config : Config) (number : ℕ) (inner old : LeaderParts) (courses : List CourseParts) → inner ≡ old
+pub kept_same : (config : Config) (number : ℕ) (inner old : LeaderParts) (courses : CoursesParts) → inner ≡ old
     → IsKept inner.courses courses
     → IsSame config number old (with_courses inner courses)
 kept_same config number inner old courses is kept = λ stored memory stands.
@@ -83,6 +83,39 @@ pub err_same : (config : Config) (number : ℕ) (old new : LeaderParts) (r : Res
 err_same config number old new r e rule is memory h =
     let P : Result LeaderDecision Refusal → Type 0 = λ x. FollowsOrRefuses config number old new x rule in
     subst P (sym (is ∙ ap Err memory)) h
+
+-- ---- a leader that has played nothing
+
+fresh_instances : (n : ℕ) (tx : TxParts) (instances : List ℕ)
+    → AllByRecursion (InstanceStands n nothing_heard tx) (map fresh_instance instances)
+fresh_instances n tx [] = tt
+fresh_instances n tx (i ∷ instances) = (
+  record {
+    whole = refl;
+    reporters_are = λ b a e. absurd (cc);
+    best_is = λ b e. absurd (cc);
+    proposed_is = λ b e. absurd (cc);
+    prepared_is = refl;
+    aborted_is = refl;
+  },
+  fresh_instances n tx instances,
+)
+
+named_again : (instances : List ℕ) → map (λ row. row.instance) (map fresh_instance instances) ≡ instances
+named_again [] = refl
+named_again (i ∷ instances) = ap (λ rest. i ∷ rest) (named_again instances)
+
+-- it stands for no stored ballots, and nothing heard
+pub fresh_stands : (n : ℕ) (tx : TxParts) → CourseStands n (last_ballot []) nothing_heard tx (fresh tx)
+fresh_stands n tx = record {
+  known_is = refl;
+  greatest_is = refl;
+  current_is = refl;
+  instances_are = named_again (participants tx);
+  each_stands = fresh_instances n tx (participants tx);
+  whole = tt;
+  told_are = λ i b v a. refl;
+}
 
 -- ---- each rule, by the leader's own sizes
 
@@ -215,7 +248,7 @@ known_before stored memory tx some =
     or_yes true = refl
     or_yes false = refl
 
-pub begin_stands : (config : Config) (number : ℕ) (inner old : LeaderParts) (courses : List CourseParts) (tx : TxParts) (b : ℕ)
+pub begin_stands : (config : Config) (number : ℕ) (inner old : LeaderParts) (courses : CoursesParts) (tx : TxParts) (b : ℕ)
     (stored : StoredBallots) (memory : LeaderMemory) → inner ≡ old
     → (0 < (course_of inner tx).greatest → IsChanged inner.courses courses tx (after_beginning b (course_of inner tx)))
     → StandsForBallots config number old stored memory → 0 < stored tx
@@ -258,7 +291,7 @@ stored_ballot facts tx other b more = greatest_with facts other (Fact.Ballot tx 
       | false ↦ λ e. omega arith
     ] refl)
 
-pub store_stands : (config : Config) (number : ℕ) (inner old : LeaderParts) (courses : List CourseParts) (tx : TxParts) (b : ℕ)
+pub store_stands : (config : Config) (number : ℕ) (inner old : LeaderParts) (courses : CoursesParts) (tx : TxParts) (b : ℕ)
     (facts : List Fact) (memory : LeaderMemory) → inner ≡ old → IsChanged inner.courses courses tx (after_ballot b (course_of inner tx))
     → (course_of inner tx).greatest < b → StandsForBallots config number old (last_ballot facts) memory
     → StandsForBallots config number (with_courses inner courses) (last_ballot (facts ++ Fact.Ballot tx b ∷ [])) memory
@@ -304,7 +337,7 @@ plays_here config number l tx b stored memory stands =
     λ k. nat_lt (sym (stands.courses_are tx).greatest_is k) b && (owner_of (sym stands.leaders_are k) b == sym stands.number_is k)
 
 -- a fact played, or not for want of memory
-pub played : (config : Config) (number : ℕ) (memory : LeaderMemory) (inner old : LeaderParts) (courses : List CourseParts) (tx : TxParts)
+pub played : (config : Config) (number : ℕ) (memory : LeaderMemory) (inner old : LeaderParts) (courses : CoursesParts) (tx : TxParts)
     (b : ℕ)
     (fact : Fact) (r : Result (Unit {0}) Refusal) → inner ≡ old → fact ≡ Fact.Ballot tx b → (course_of inner tx).greatest < b
     → owner_of inner.leaders b ≡ inner.number → OnOk r (IsChanged inner.courses courses tx (after_ballot b (course_of inner tx)))
@@ -338,7 +371,7 @@ played config number memory inner old courses tx b fact r is names more owned ch
         )
 
 -- a place made for a fact, or not for want of memory
-pub made_ready : (config : Config) (number : ℕ) (memory : LeaderMemory) (inner old : LeaderParts) (courses : List CourseParts)
+pub made_ready : (config : Config) (number : ℕ) (memory : LeaderMemory) (inner old : LeaderParts) (courses : CoursesParts)
     (tx : TxParts) (b : ℕ)
     (fact : Fact) (r : Result (Unit {0}) Refusal) → inner ≡ old → fact ≡ Fact.Ballot tx b → IsKept inner.courses courses
     → IfErr r (λ e. e ≡ NoMemory) → OnOk r (is_placed_in courses tx ≡ true)

@@ -29,7 +29,7 @@ use Rattle.leader.specs.Courses.{CourseParts, InstanceStands, CourseStands, stat
 use Rattle.leader.specs.Courses.{after_proposals}
 use Rattle.leader.specs.Courses.{proposals_of, after_1b, proposals_after_1b, after_accepts, after_2b, status_after_2b}
 use Rattle.leader.specs.Orders.{proposal_messages}
-use Rattle.leader.specs.Places.{IsChanged, IsKept}
+use Rattle.leader.specs.Places.{CoursesParts, IsChanged, IsKept}
 use Rattle.leader.specs.Leaders.{LeaderParts, StandsForBallots, course_of, commit_messages}
 use Rattle.leader.proofs.Basics.{same_tx}
 use Rattle.leader.proofs.Elsewhere.{SameOn, same_refl, same_then, course_same, met_elsewhere, reports_elsewhere, accepts_elsewhere}
@@ -75,7 +75,7 @@ pub record Agrees (n : ℕ) (stored : StoredBallots) (memory : LeaderMemory) (tx
   pub elsewhere : (other : TxParts) → tx_eq other tx ≡ false → SameOn other memory e.memory
 
 -- a leader with one course changed
-pub changed_stands : (config : Config) (number : ℕ) (old : LeaderParts) (courses : List CourseParts) (tx : TxParts) (c : CourseParts)
+pub changed_stands : (config : Config) (number : ℕ) (old : LeaderParts) (courses : CoursesParts) (tx : TxParts) (c : CourseParts)
     (stored after : StoredBallots) (memory next : LeaderMemory) → StandsForBallots config number old stored memory
     → IsChanged old.courses courses tx c → CourseStands config.acceptors after next tx c
     → ((other : TxParts) → tx_eq other tx ≡ false → CourseStands config.acceptors stored memory other (course_of old other)
@@ -96,7 +96,7 @@ changed_stands config number old courses tx c stored after memory next stands ch
       ] refl);
 }
 
-pub agreed_stands : (config : Config) (number : ℕ) (old : LeaderParts) (courses : List CourseParts) (tx : TxParts) (c : CourseParts)
+pub agreed_stands : (config : Config) (number : ℕ) (old : LeaderParts) (courses : CoursesParts) (tx : TxParts) (c : CourseParts)
     (decision : Decision) (stored : StoredBallots) (memory : LeaderMemory) (e : Effect LeaderMemory)
     → StandsForBallots config number old stored memory → IsChanged old.courses courses tx c
     → Agrees config.acceptors stored memory tx decision c e
@@ -105,7 +105,7 @@ agreed_stands config number old courses tx c decision stored memory e stands cha
     changed_stands config number old courses tx c stored stored memory e.memory stands changed agrees.stands
     (λ other differs. course_same config.acceptors stored other (course_of old other) memory e.memory (agrees.elsewhere other differs))
 
-pub kept_stands : (config : Config) (number : ℕ) (old : LeaderParts) (courses : List CourseParts) (stored : StoredBallots)
+pub kept_stands : (config : Config) (number : ℕ) (old : LeaderParts) (courses : CoursesParts) (stored : StoredBallots)
     (memory : LeaderMemory)
     → IsKept old.courses courses → StandsForBallots config number old stored memory
     → StandsForBallots config number (record old { courses = courses }) stored memory

@@ -22,7 +22,6 @@ use Rattle.leader.specs.Choices.{merged, best_of, vote_of}
 -- a transaction: whether the leader knows it, the greatest ballot stored, the current one, each of its instances, and what
 -- acceptors told in phase 2b
 pub record CourseParts : Type 0 where
-  pub tx : TxParts
   pub known : Bool
   pub greatest : ℕ
   pub current : Option ℕ
@@ -44,7 +43,6 @@ fresh_instance i = record { instance = i; reporters = nobody; best = None; propo
 -- a transaction that the leader doesn't know
 abbrev pub fresh : TxParts → CourseParts
 fresh tx = record {
-  tx = tx;
   known = false;
   greatest = 0;
   current = None;

@@ -1,26 +1,25 @@
 -- What contracts see of a leader, and which state of the machine it stands for.
-use Rattle.std.specs.Prelude.{◌≡◌, ℕ, ◌^◌, Some, None, Bool, IsTrue, List, [], ◌∷◌, if◌then◌else◌, nat_lt, Result, Ok, Err}
+use Rattle.std.specs.Prelude.{◌≡◌, ℕ, ◌^◌, Some, None, Bool, IsTrue, List, [], if◌then◌else◌, nat_lt, Result, Ok, Err}
 use Rattle.std.specs.List.{list_all}
 use Rattle.xid.specs.Transactions.{TxParts}
 use Rattle.xid.specs.declared.refusals.Refusal.{Refusal}
 use Rattle.stable_record.specs.declared.fact.FactKind.{FactKind as Fact}
-use Rattle.wire.specs.declared.message.Kind.TheVariants.{Prepare, B1a}
 use Rattle.ballot.specs.Ballots.{next_of}
 use Rattle.protocol.specs.declared.answers.Answer.TheVariants.{Done, Refused}
 use Rattle.protocol.specs.declared.decisions.Decision.{Decision}
 use Rattle.protocol.specs.declared.states.Status.{Status}
 use Rattle.protocol.specs.declared.decisions.Outgoing.{Outgoing}
-use Rattle.protocol.specs.declared.decisions.Address.TheVariants.{Acceptors, Managers}
-use Rattle.protocol.specs.Effects.{Config, Effect, decision_of, to}
+use Rattle.protocol.specs.declared.decisions.Address.TheVariants.{Managers}
+use Rattle.protocol.specs.Effects.{Config, Effect, decision_of}
 use Rattle.protocol.specs.Facts.{last_ballot}
 use Rattle.protocol.specs.LeaderMemory.{LeaderMemory, StoredBallots}
 use Rattle.protocol.specs.Leaders.{plays_at_leader, is_final, outcome_messages}
-use Rattle.protocol.specs.Parts.{Part}
+use Rattle.stable_record.specs.Parts.{Part}
 use Rattle.leader.specs.declared.decision.LeaderDecision.{LeaderDecision}
 use Rattle.leader.specs.Courses.{CourseParts, CourseStands}
-use Rattle.leader.specs.Places.{course_in, is_placed_in}
+use Rattle.leader.specs.Places.{CoursesParts, course_in, is_placed_in}
 use Rattle.leader.specs.Decisions.{shown}
-use Rattle.leader.specs.Orders.{begin_messages}
+use Rattle.leader.specs.Orders.{prepare_messages, phase_1a_by}
 
 -- which leader it is, of which cluster, and the transactions that it has a course of
 pub record LeaderParts : Type 0 where
@@ -29,7 +28,7 @@ pub record LeaderParts : Type 0 where
   pub leaders : ℕ
   pub managers : ℕ
   pub bundled : Bool
-  pub courses : List CourseParts
+  pub courses : CoursesParts
 
 -- the course of a transaction
 abbrev pub course_of : LeaderParts → TxParts → CourseParts
@@ -75,6 +74,11 @@ FollowsOrRefuses config number old new (Ok decision) rule = Follows config numbe
 FollowsOrRefuses config number old new (Err Refusal.NoMemory) rule = IsSame config number old new
 FollowsOrRefuses config number old new (Err other) rule = ⊥
 
+-- what a call gives that leaves its decision in a place, or refuses
+abbrev pub decided : LeaderDecision → Result (Unit {0}) Refusal → Result LeaderDecision Refusal
+decided decision (Ok done) = Ok decision
+decided decision (Err refusal) = Err refusal
+
 -- leader `number` of a cluster as a part of a node, with what it has in memory
 abbrev pub leader_part : (config : Config) (number : ℕ) (memory : LeaderMemory) → Part LeaderParts
 leader_part config number memory = record {
@@ -89,15 +93,11 @@ leader_part config number memory = record {
 
 -- what a commit call sends, by the status
 abbrev pub commit_messages : Status → TxParts → List Outgoing
-commit_messages status tx = if is_final status then outcome_messages status tx Managers else to Managers (Prepare tx) ∷ []
+commit_messages status tx = if is_final status then outcome_messages status tx Managers else prepare_messages tx
 
 -- whether numbers are below one
 abbrev pub are_below : ℕ → List ℕ → Bool
 are_below n numbers = list_all (λ rm. nat_lt rm n) numbers
-
--- phase 1a of a ballot, in a bundled cluster and in every other
-abbrev pub phase_1a_by : (bundled : Bool) → TxParts → ℕ → List Outgoing
-phase_1a_by bundled tx b = if bundled then to Acceptors (B1a tx b) ∷ [] else begin_messages tx b
 
 -- a ballot to be stored, with its phase 1a, if it fits
 abbrev pub taken_over_if : (bundled : Bool) → TxParts → ℕ → (fits : Bool) → Decision

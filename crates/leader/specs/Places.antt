@@ -1,30 +1,32 @@
--- The courses of several transactions: where each has its place.
-use Rattle.std.specs.Prelude.{◌≡◌, Bool, nat_lt, if◌then◌else◌, List, [], ◌∷◌, ◌++◌, length}
-use Rattle.std.specs.List.{position_or_len}
+-- The courses of several transactions, each at the number of its transaction.
+use Rattle.std.specs.Prelude.{◌≡◌, ℕ, ◌<◌, Bool, nat_lt, if◌then◌else◌, List, length, Option, Some, None}
+use Rattle.std.specs.List.{slice_index_or}
 use Rattle.xid.specs.Transactions.{TxParts, tx_eq}
+use Rattle.transactions.specs.Seen.{place_in}
 use Rattle.leader.specs.Courses.{CourseParts, fresh}
 
--- whether a course is a transaction's
-abbrev pub is_course_of : TxParts → CourseParts → Bool
-is_course_of tx c = tx_eq tx c.tx
+-- the transactions that have a place, in the order of first sight, and the course of each
+pub record CoursesParts : Type 0 where
+  pub transactions : List TxParts
+  pub rows : List CourseParts
 
 -- the course of a transaction among some; that of one unknown where there is none
-abbrev pub course_in : List CourseParts → TxParts → CourseParts
-course_in [] tx = fresh tx
-course_in (c ∷ courses) tx = if is_course_of tx c then c else course_in courses tx
+abbrev pub course_in : CoursesParts → TxParts → CourseParts
+course_in courses tx = slice_index_or courses.rows (place_in courses.transactions tx) (fresh tx)
 
 -- whether a transaction has a place
-abbrev pub is_placed_in : List CourseParts → TxParts → Bool
-is_placed_in courses tx = nat_lt (position_or_len (is_course_of tx) courses) (length courses)
+abbrev pub is_placed_in : CoursesParts → TxParts → Bool
+is_placed_in courses tx = nat_lt (place_in courses.transactions tx) (length courses.transactions)
 
--- some courses with a place for a transaction
-abbrev pub placed : TxParts → List CourseParts → List CourseParts
-placed tx courses = if is_placed_in courses tx then courses else courses ++ fresh tx ∷ []
+-- what is found of a transaction: its place, or that it has none
+abbrev pub IsPlaceOf : CoursesParts → TxParts → Option ℕ → Type 0
+IsPlaceOf courses tx None = place_in courses.transactions tx ≡ length courses.transactions
+IsPlaceOf courses tx (Some place) = (place ≡ place_in courses.transactions tx) × (place < length courses.transactions)
 
 -- the course of a transaction is another, and all others stay
-abbrev pub IsChanged : (old new : List CourseParts) → TxParts → CourseParts → Type 0
+abbrev pub IsChanged : (old new : CoursesParts) → TxParts → CourseParts → Type 0
 IsChanged old new tx c = (other : TxParts) → course_in new other ≡ (if tx_eq other tx then c else course_in old other)
 
 -- the course of each transaction stays
-abbrev pub IsKept : (old new : List CourseParts) → Type 0
+abbrev pub IsKept : (old new : CoursesParts) → Type 0
 IsKept old new = (other : TxParts) → course_in new other ≡ course_in old other

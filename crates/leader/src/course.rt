@@ -3,7 +3,7 @@ ghost use Rattle.std.specs.List.{list_any, list_all};
 ghost use Rattle.std.specs.Option.{option_map_or};
 ghost use Rattle.std.specs.Vec.{vec_capacity};
 ghost use Rattle.xid.specs.Limits.{most_acceptors, most_branches};
-ghost use Rattle.xid.specs.Transactions.{participants, tx_eq};
+ghost use Rattle.xid.specs.Transactions.{participants};
 ghost use Rattle.xid.specs.declared.refusals.Refusal.TheVariants.{NoMemory};
 ghost use Rattle.ballot.specs.Majority.{has, is_majority};
 ghost use Rattle.protocol.specs.Leaders.{is_final as is_final_lem};
@@ -15,9 +15,9 @@ ghost use Rattle.leader.specs.Courses.{counts_report, proposals_after_1b, after_
 ghost use Rattle.leader.specs.Courses.{told_of, is_place_of, with_place, with_teller, with_decided, with_nothing_reported, with_reports};
 ghost use Rattle.leader.specs.Courses.{with_proposals};
 
-use crate::instance::{InstanceCourse, Members, Told, are_majority, is_among};
+use crate::instance::{InstanceCourse, Told};
 use crate::proposals::{Proposal, Proposals};
-use ballot::MAX_ACCEPTORS;
+use ballot::Quorum;
 use protocol::Status;
 use std::alloc::Global;
 use std::marker::Model;
@@ -27,7 +27,6 @@ use xid::{Ballot, ManagerNumber, Refusal, Tx, Vote};
 /// One transaction at a leader.
 #[derive(Debug, Drop)]
 pub struct Course {
-    tx: Tx,
     known: bool,
     greatest: Ballot,
     current: Option<Ballot>,
@@ -41,7 +40,6 @@ impl Model for Course {
     ghost Value = { CourseParts };
 
     ghost view = { λ c. record {
-      tx = c.tx;
       known = c.known;
       greatest = c.greatest;
       current = c.current;
@@ -69,27 +67,12 @@ impl Course {
     {
         let instances = instances_of(alloc, tx)?;
         Ok(Course {
-            tx: *tx,
             known: false,
             greatest: 0,
             current: None,
             instances,
             told: Vec::new(alloc),
         })
-    }
-
-    /// Whether it is a transaction's.
-    pub fn is_of(&self, tx: &Tx) -> bool
-        ensures { result ≡ tx_eq tx.now self.now.tx }
-    {
-        *tx == self.tx
-    }
-
-    /// Whether the leader knows it.
-    pub fn is_known(&self) -> bool
-        ensures { result ≡ self.now.known }
-    {
-        self.known
     }
 
     /// The greatest ballot stored, 0 where there is none.
@@ -306,7 +289,7 @@ fn proposal_at(rows: &[InstanceCourse], acceptors: u8, instance: ManagerNumber) 
 }
 
 /// Who told of what this acceptor tells.
-fn tellers(rows: &[Told], item: &InstanceAccept) -> Option<Members>
+fn tellers(rows: &[Told], item: &InstanceAccept) -> Option<Quorum>
     ensures { option_map_or (λ members. members) result [] ≡ told_of rows.now item.now.instance item.now.ballot item.now.vote }
 {
     for row in rows {
@@ -338,7 +321,7 @@ fn make_place(rows: &mut Vec<Told>, item: &InstanceAccept)
         instance: item.instance,
         ballot: item.ballot,
         vote: item.vote,
-        members: [false; MAX_ACCEPTORS],
+        members: Quorum::new(),
     });
 }
 
@@ -357,7 +340,7 @@ fn has_told(rows: &[Told], acceptor: u8, item: &InstanceAccept) -> bool
     ensures { result ≡ has (told_of rows.now item.now.instance item.now.ballot item.now.vote) acceptor }
 {
     match tellers(rows, item) {
-        Some(members) => is_among(&members, acceptor),
+        Some(members) => members.has(acceptor),
         None => false,
     }
 }
@@ -368,8 +351,8 @@ fn is_decided(rows: &[Told], acceptors: u8, item: &InstanceAccept) -> bool
     ensures { result ≡ is_majority acceptors (has (told_of rows.now item.now.instance item.now.ballot item.now.vote)) }
 {
     match tellers(rows, item) {
-        Some(members) => are_majority(&members, acceptors),
-        None => are_majority(&[false; MAX_ACCEPTORS], acceptors),
+        Some(members) => members.majority(acceptors),
+        None => Quorum::new().majority(acceptors),
     }
 }
 

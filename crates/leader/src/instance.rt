@@ -1,40 +1,14 @@
 ghost use Rattle.std.specs.Prelude.{◌≡◌, ◌<◌, ◌≤◌, ◌==◌};
 ghost use Rattle.std.specs.List.{list_any};
 ghost use Rattle.xid.specs.Limits.{most_acceptors};
-ghost use Rattle.ballot.specs.Majority.{has, is_majority};
 ghost use Rattle.leader.specs.Choices.{both, merged, vote_of};
 ghost use Rattle.leader.specs.Courses.{fresh_instance, joined, with_report, with_reports, instance_proposal, with_proposals, with_decided};
 ghost use Rattle.leader.specs.Courses.{with_nothing_reported, is_place_of, with_teller};
 
 use crate::proposals::Proposal;
-use ballot::{MAX_ACCEPTORS, Quorum, Report};
+use ballot::{Quorum, Report};
 use wire::{InstanceAccept, InstanceReport};
 use xid::{Ballot, ManagerNumber, Vote};
-
-/// Some acceptors: for each number whether it is among them.
-pub type Members = [bool; MAX_ACCEPTORS];
-
-/// Whether an acceptor is among some.
-pub fn is_among(members: &Members, acceptor: u8) -> bool
-    requires { acceptor < most_acceptors }
-    ensures { result ≡ has members.now acceptor }
-{
-    members[acceptor as usize]
-}
-
-/// Whether some are more than half of the acceptors, which are the numbers below `acceptors`.
-pub fn are_majority(members: &Members, acceptors: u8) -> bool
-    requires { acceptors ≤ most_acceptors }
-    ensures { result ≡ is_majority acceptors (has members.now) }
-{
-    let mut quorum = Quorum::new();
-    for (acceptor, is_member) in members.iter().enumerate() {
-        if *is_member {
-            quorum.add(acceptor as u8);
-        }
-    }
-    quorum.majority(acceptors)
-}
 
 fn both(a: Vote, b: Vote) -> Vote
     ensures { result ≡ both a b }
@@ -78,7 +52,7 @@ fn is_proposed(proposals: &[Proposal], instance: ManagerNumber) -> bool
 pub struct InstanceCourse {
     pub instance: ManagerNumber,
     /// Who reported in phase 1b.
-    pub reporters: Members,
+    pub reporters: Quorum,
     /// The greatest ballot reported; prepared where all reports of it say so.
     pub best: Report,
     /// Whether a value was proposed.
@@ -96,7 +70,7 @@ impl InstanceCourse {
     {
         InstanceCourse {
             instance,
-            reporters: [false; MAX_ACCEPTORS],
+            reporters: Quorum::new(),
             best: None,
             proposed: false,
             prepared: false,
@@ -109,10 +83,10 @@ impl InstanceCourse {
         requires { acceptor < most_acceptors }
         ensures { self.new ≡ with_report acceptor item.now self.old }
     {
-        if item.instance != self.instance || is_among(&self.reporters, acceptor) {
+        if item.instance != self.instance || self.reporters.has(acceptor) {
             return;
         }
-        self.reporters[acceptor as usize] = true;
+        self.reporters.add(acceptor);
         self.best = merge(item.report, self.best);
     }
 
@@ -131,7 +105,7 @@ impl InstanceCourse {
         requires { acceptors ≤ most_acceptors }
         ensures { result ≡ instance_proposal acceptors self.now }
     {
-        if self.proposed || !are_majority(&self.reporters, acceptors) {
+        if self.proposed || !self.reporters.majority(acceptors) {
             return None;
         }
         let vote = match self.best {
@@ -169,7 +143,7 @@ impl InstanceCourse {
     pub fn forget_reports(&mut self)
         ensures { self.new ≡ with_nothing_reported self.old }
     {
-        self.reporters = [false; MAX_ACCEPTORS];
+        self.reporters = Quorum::new();
         self.best = None;
         self.proposed = false;
     }
@@ -181,7 +155,7 @@ pub struct Told {
     pub instance: ManagerNumber,
     pub ballot: Ballot,
     pub vote: Vote,
-    pub members: Members,
+    pub members: Quorum,
 }
 
 impl Told {
@@ -198,7 +172,7 @@ impl Told {
         ensures { self.new ≡ with_teller item.now.instance item.now.ballot item.now.vote acceptor self.old }
     {
         if self.is_of(item) {
-            self.members[acceptor as usize] = true;
+            self.members.add(acceptor);
         }
     }
 }

@@ -1,24 +1,25 @@
-ghost use Rattle.std.specs.Prelude.{◌≡◌, ℕ, ◌<◌, ◌≤◌, true, [], length, IfSome, IfNone};
+ghost use Rattle.std.specs.Prelude.{◌≡◌, ℕ, ◌<◌, ◌≤◌, true, [], length, None, IfSome, IfNone};
 ghost use Rattle.xid.specs.Limits.{most_acceptors, most_branches};
 ghost use Rattle.xid.specs.Transactions.{participants};
 ghost use Rattle.wire.specs.Messages.{IsMessage, IsLeaderBallot};
 ghost use Rattle.wire.specs.declared.message.Kind.TheVariants.{B1b};
 ghost use Rattle.protocol.specs.Effects.{Config, decision_of, status_standing};
-ghost use Rattle.protocol.specs.LeaderMemory.{LeaderMemory, StoredBallots, with_begun, with_met};
+ghost use Rattle.protocol.specs.LeaderMemory.{LeaderMemory, StoredBallots, nothing_heard, with_begun, with_met};
 ghost use Rattle.protocol.specs.Leaders as rules;
-ghost use Rattle.protocol.specs.Parts.{IsMadeReady, IsPlayed};
-ghost use Rattle.leader.specs.Leaders.{are_below, commit_messages, phase_1a_by, taken_over, StandsForBallots, Follows, FollowsOrRefuses};
-ghost use Rattle.leader.specs.Leaders.{leader_part};
+ghost use Rattle.stable_record.specs.Parts.{IsMadeReady, IsPlayed};
+ghost use Rattle.leader.specs.Leaders.{are_below, commit_messages, decided, taken_over, StandsFor, StandsForBallots, Follows};
+ghost use Rattle.leader.specs.Leaders.{FollowsOrRefuses, leader_part};
 ghost use Rattle.leader.specs.Decisions.{shown};
+ghost use Rattle.leader.specs.Orders.{phase_1a_by};
+ghost use Rattle.protocol.specs.declared.answers.Answer.TheVariants.{Done};
+ghost use Rattle.protocol.specs.declared.decisions.Address.TheVariants.{Managers};
 
-use crate::course::{Course, is_final};
-use crate::courses::{
-    begin, greatest_of, hear_1b, hear_2b, make_place, mark_known, meet, status_of, store,
-};
+use crate::course::is_final;
+use crate::courses::Courses;
 use crate::decision::LeaderDecision;
 use crate::orders::LeaderSends;
 use ballot::{next_owned, owner};
-use protocol::{Address, Answer, NodeId, Outgoing, Sends, Standing, Status};
+use protocol::{Address, Answer, NodeId, Standing, Status};
 use stable_record::{Fact, FactKind};
 use std::alloc::Global;
 use std::marker::Model;
@@ -29,13 +30,12 @@ use xid::{Ballot, ManagerNumber, Refusal, Tx};
 /// which memory since the last restart, it stands for.
 #[derive(Debug, Drop)]
 pub struct Leader {
-    alloc: Global,
     number: u8,
     acceptors: u8,
     leaders: u8,
     managers: u8,
     bundled: bool,
-    courses: Vec<Course>,
+    courses: Courses,
 }
 
 impl Model for Leader {
@@ -51,7 +51,7 @@ impl Model for Leader {
       leaders = l.leaders;
       managers = l.managers;
       bundled = l.bundled;
-      courses = l.courses.items;
+      courses = l.courses;
     } };
 
     ghost invariant = { λ l. (l.number < l.leaders) × (l.acceptors ≤ most_acceptors) };
@@ -69,23 +69,16 @@ impl Leader {
     ) -> Leader
         requires number { number < leaders }
         requires acceptors { acceptors ≤ most_acceptors }
-        ensures { result ≡ record {
-          number = number;
-          acceptors = acceptors;
-          leaders = leaders;
-          managers = managers;
-          bundled = bundled;
-          courses = [];
-        } }
+        ensures { (config : Config) → acceptors ≡ config.acceptors → leaders ≡ config.leaders → managers ≡ config.managers
+            → bundled ≡ config.bundled → StandsFor config number result [] nothing_heard }
     {
         Leader {
-            alloc,
             number,
             acceptors,
             leaders,
             managers,
             bundled,
-            courses: Vec::new(alloc),
+            courses: Courses::new(alloc),
         }
     }
 
@@ -99,11 +92,11 @@ impl Leader {
         if !is_inside(self.managers, tx) {
             return Ok(LeaderDecision::answers(Answer::Refused(Refusal::BadTx)));
         }
-        match meet(self.alloc, &mut self.courses, tx) {
+        match self.courses.meet(tx) {
             Ok(status) => Ok(LeaderDecision {
                 answer: Answer::Stands(standing_of(status)),
                 fact: None,
-                sends: LeaderSends::listed(commit_sends(status, tx)),
+                sends: commit_sends(status, tx),
             }),
             Err(refusal) => Err(refusal),
         }
@@ -128,16 +121,13 @@ impl Leader {
         if !is_inside(self.managers, tx) {
             return LeaderDecision::answers(Answer::Refused(Refusal::BadTx));
         }
-        let status = status_of(&self.courses, tx);
+        let place = self.courses.place_of(tx);
+        let status = self.courses.status_at(tx, place);
         if is_final(status) {
-            mark_known(&mut self.courses, tx);
-            return LeaderDecision::sends(LeaderSends::listed(outcome_sends(
-                status,
-                tx,
-                Address::Managers,
-            )));
+            self.courses.mark_known(tx, place);
+            return tells(tx, status);
         }
-        let last = greatest_of(&self.courses, tx);
+        let last = self.courses.greatest_at(tx, place);
         take_over(self.number, self.leaders, self.bundled, tx, last)
     }
 
@@ -147,7 +137,7 @@ impl Leader {
             → StandsForBallots config number self.old stored memory → 0 < stored tx.now
             → StandsForBallots config number self.new stored (with_begun tx.now ballot (with_met tx.now memory)) }
     {
-        begin(&mut self.courses, tx, ballot);
+        self.courses.begin(tx, ballot);
     }
 
     /// Phase 1b of an acceptor for some instances: it counts in the current ballot while undecided, all items at once; then each instance
@@ -164,9 +154,30 @@ impl Leader {
         ensures { (config : Config) (number : ℕ) → Follows config number self.old self.new result
             (λ stored memory. rules.on_1b config stored memory tx.now ballot acceptor reports.now) }
     {
+        let mut decision = LeaderDecision::nothing();
+        self.decide_1b(tx, ballot, acceptor, reports, &mut decision);
+        decision
+    }
+
+    /// Decides as `on_1b` does, in place of what was decided before.
+    fn decide_1b(
+        &mut self,
+        tx: &Tx,
+        ballot: Ballot,
+        acceptor: u8,
+        reports: &[InstanceReport],
+        decision: &mut LeaderDecision,
+    )
+        requires message { IsMessage (B1b tx.now ballot acceptor reports.now) }
+        requires few { length reports.now ≤ most_branches }
+        ensures { (config : Config) (number : ℕ) → Follows config number self.old self.new decision.new
+            (λ stored memory. rules.on_1b config stored memory tx.now ballot acceptor reports.now) }
+    {
         let acceptors = self.acceptors;
-        let proposals = hear_1b(&mut self.courses, tx, acceptors, ballot, acceptor, reports);
-        LeaderDecision::sends(LeaderSends::proposes(tx, ballot, proposals))
+        let proposals = self
+            .courses
+            .hear_1b(tx, acceptors, ballot, acceptor, reports);
+        decision.propose(tx, ballot, proposals);
     }
 
     /// Phase 2b of an acceptor for some instances, which makes the leader know the transaction: it counts while undecided, all items at
@@ -182,22 +193,32 @@ impl Leader {
         ensures { (config : Config) (number : ℕ) → FollowsOrRefuses config number self.old self.new result
             (λ stored memory. rules.on_2b config stored memory tx.now acceptor accepts.now) }
     {
-        let acceptors = self.acceptors;
-        match hear_2b(
-            self.alloc,
-            &mut self.courses,
-            tx,
-            acceptors,
-            acceptor,
-            accepts,
-        ) {
-            Ok(status) => Ok(LeaderDecision::sends(LeaderSends::listed(outcome_sends(
-                status,
-                tx,
-                Address::Managers,
-            )))),
+        let mut decision = LeaderDecision::nothing();
+        match self.decide_2b(tx, acceptor, accepts, &mut decision) {
+            Ok(()) => Ok(decision),
             Err(refusal) => Err(refusal),
         }
+    }
+
+    /// Decides as `on_2b` does, in place of what was decided before. After a refusal what stands there is no decision.
+    fn decide_2b(
+        &mut self,
+        tx: &Tx,
+        acceptor: u8,
+        accepts: &[InstanceAccept],
+        decision: &mut LeaderDecision,
+    ) -> Result<(), Refusal>
+        requires { acceptor < most_acceptors }
+        ensures { (config : Config) (number : ℕ) → FollowsOrRefuses config number self.old self.new (decided decision.new result)
+            (λ stored memory. rules.on_2b config stored memory tx.now acceptor accepts.now) }
+    {
+        let acceptors = self.acceptors;
+        let status = match self.courses.hear_2b(tx, acceptors, acceptor, accepts) {
+            Ok(status) => status,
+            Err(refusal) => return Err(refusal),
+        };
+        decision.tell(tx, status, Address::Managers);
+        Ok(())
     }
 
     /// A resource manager asks, which makes the leader know the transaction: it is told the outcome, where there is one. At `NoMemory`,
@@ -207,13 +228,31 @@ impl Leader {
         ensures { (config : Config) (number : ℕ) → FollowsOrRefuses config number self.old self.new result
             (λ stored memory. rules.on_ask config stored memory tx.now rm) }
     {
-        let asker = Address::Node(NodeId::R(rm as u8));
-        match meet(self.alloc, &mut self.courses, tx) {
-            Ok(status) => Ok(LeaderDecision::sends(LeaderSends::listed(outcome_sends(
-                status, tx, asker,
-            )))),
+        let mut decision = LeaderDecision::nothing();
+        match self.decide_ask(tx, rm, &mut decision) {
+            Ok(()) => Ok(decision),
             Err(refusal) => Err(refusal),
         }
+    }
+
+    /// Decides as `on_ask` does, in place of what was decided before. After a refusal what stands there is no decision.
+    fn decide_ask(
+        &mut self,
+        tx: &Tx,
+        rm: ManagerNumber,
+        decision: &mut LeaderDecision,
+    ) -> Result<(), Refusal>
+        requires { rm < 256 }
+        ensures { (config : Config) (number : ℕ) → FollowsOrRefuses config number self.old self.new (decided decision.new result)
+            (λ stored memory. rules.on_ask config stored memory tx.now rm) }
+    {
+        let asker = Address::Node(NodeId::R(rm as u8));
+        let status = match self.courses.meet(tx) {
+            Ok(status) => status,
+            Err(refusal) => return Err(refusal),
+        };
+        decision.tell(tx, status, asker);
+        Ok(())
     }
 
     /// What a client is told of a transaction: its status, or `BadTx` where it names a resource manager outside the cluster. It takes no
@@ -225,7 +264,8 @@ impl Leader {
         if !is_inside(self.managers, tx) {
             return LeaderDecision::answers(Answer::Refused(Refusal::BadTx));
         }
-        LeaderDecision::answers(Answer::Stands(standing_of(status_of(&self.courses, tx))))
+        let place = self.courses.place_of(tx);
+        LeaderDecision::answers(Answer::Stands(standing_of(self.courses.status_at(tx, place))))
     }
 
     /// What it does on a message: on phase 1b and 2b, single or in bundles, and on a question, what `on_1b`, `on_2b` and `on_ask` say, on
@@ -233,6 +273,23 @@ impl Leader {
     /// goes there, is asked before, by the node. At `NoMemory`, the only refusal, it stands for what it stood for.
     pub fn on_message(&mut self, message: &Message) -> Result<LeaderDecision, Refusal>
         ensures { (config : Config) (number : ℕ) → FollowsOrRefuses config number self.old self.new result
+            (λ stored memory. rules.on_leader_message config stored memory message.now) }
+    {
+        let mut decision = LeaderDecision::nothing();
+        match self.decide(message, &mut decision) {
+            Ok(()) => Ok(decision),
+            Err(refusal) => Err(refusal),
+        }
+    }
+
+    /// Decides as `on_message` does, in place of what was decided before, so that no transaction is copied but one that is sent. After a
+    /// refusal what stands there is no decision.
+    pub fn decide(
+        &mut self,
+        message: &Message,
+        decision: &mut LeaderDecision,
+    ) -> Result<(), Refusal>
+        ensures { (config : Config) (number : ℕ) → FollowsOrRefuses config number self.old self.new (decided decision.new result)
             (λ stored memory. rules.on_leader_message config stored memory message.now) }
     {
         match message.kind() {
@@ -247,14 +304,18 @@ impl Leader {
                     instance: *instance,
                     report: *report,
                 };
-                Ok(self.on_1b(tx, *ballot, *acceptor, &[item]))
+                self.decide_1b(tx, *ballot, *acceptor, &[item], decision);
+                Ok(())
             }
             Kind::B1b {
                 tx,
                 ballot,
                 acceptor,
                 reports,
-            } => Ok(self.on_1b(tx, *ballot, *acceptor, reports.as_slice())),
+            } => {
+                self.decide_1b(tx, *ballot, *acceptor, reports.as_slice(), decision);
+                Ok(())
+            }
             Kind::P2b {
                 tx,
                 instance,
@@ -267,15 +328,18 @@ impl Leader {
                     ballot: *ballot,
                     vote: *vote,
                 };
-                self.on_2b(tx, *acceptor, &[item])
+                self.decide_2b(tx, *acceptor, &[item], decision)
             }
             Kind::B2b {
                 tx,
                 acceptor,
                 accepts,
-            } => self.on_2b(tx, *acceptor, accepts.as_slice()),
-            Kind::Ask { tx, rm } => self.on_ask(tx, *rm),
-            _ => Ok(LeaderDecision::answers(Answer::Done)),
+            } => self.decide_2b(tx, *acceptor, accepts.as_slice(), decision),
+            Kind::Ask { tx, rm } => self.decide_ask(tx, *rm, decision),
+            _ => {
+                decision.clear();
+                Ok(())
+            }
         }
     }
 
@@ -286,7 +350,7 @@ impl Leader {
             → IsMadeReady (leader_part config number memory) self.old self.new fact.now result }
     {
         if let FactKind::Ballot { tx, .. } = fact.kind() {
-            return match make_place(self.alloc, &mut self.courses, tx) {
+            return match self.courses.make_place(tx) {
                 Ok(_) => Ok(()),
                 Err(refusal) => Err(refusal),
             };
@@ -304,13 +368,14 @@ impl Leader {
         let FactKind::Ballot { tx, ballot } = fact.kind() else {
             return Err(Refusal::Damaged);
         };
-        if *ballot <= greatest_of(&self.courses, tx) {
+        let place = self.courses.place_of(tx);
+        if *ballot <= self.courses.greatest_at(tx, place) {
             return Err(Refusal::Damaged);
         }
         if owner(*ballot, self.leaders) != self.number {
             return Err(Refusal::Damaged);
         }
-        store(self.alloc, &mut self.courses, tx, *ballot)
+        self.courses.store(tx, place, *ballot)
     }
 }
 
@@ -331,14 +396,9 @@ fn begin_sends(bundled: bool, tx: &Tx, ballot: Ballot) -> LeaderSends
     requires { IsLeaderBallot ballot }
     ensures { result ≡ phase_1a_by bundled tx.now ballot }
 {
-    let _ = tx.count();
-    if bundled {
-        return LeaderSends::listed(Sends::one(Outgoing {
-            to: Address::Acceptors,
-            message: Message::new(Kind::B1a { tx: *tx, ballot }),
-        }));
-    }
-    LeaderSends::begins(tx, ballot)
+    let mut sends = LeaderSends::nothing();
+    sends.begin(tx, ballot, bundled);
+    sends
 }
 
 /// The leader's next ballot after the last, to be stored, and its phase 1a; or that there is none.
@@ -370,34 +430,24 @@ fn standing_of(status: Status) -> Standing
     }
 }
 
-/// The message of an outcome, where there is one.
-fn outcome_sends(status: Status, tx: &Tx, to: Address) -> Sends
-    ensures { result ≡ rules.outcome_messages status tx.now to }
+/// An outcome told to each resource manager.
+fn tells(tx: &Tx, outcome: Status) -> LeaderDecision
+    ensures { shown result ≡ record { answer = Done; fact = None; sends = rules.outcome_messages outcome tx.now Managers } }
 {
-    let _ = tx.count();
-    match status {
-        Status::Committed => Sends::one(Outgoing {
-            to,
-            message: Message::new(Kind::Commit(*tx)),
-        }),
-        Status::Aborted => Sends::one(Outgoing {
-            to,
-            message: Message::new(Kind::Abort(*tx)),
-        }),
-        Status::Unknown | Status::Undecided => Sends::none(),
-    }
+    let mut decision = LeaderDecision::nothing();
+    decision.tell(tx, outcome, Address::Managers);
+    decision
 }
 
 /// What a commit call sends.
-fn commit_sends(status: Status, tx: &Tx) -> Sends
+fn commit_sends(status: Status, tx: &Tx) -> LeaderSends
     ensures { result ≡ commit_messages status tx.now }
 {
+    let mut sends = LeaderSends::nothing();
     if is_final(status) {
-        return outcome_sends(status, tx, Address::Managers);
+        sends.tell(tx, status, Address::Managers);
+    } else {
+        sends.prepare(tx);
     }
-    let _ = tx.count();
-    Sends::one(Outgoing {
-        to: Address::Managers,
-        message: Message::new(Kind::Prepare(*tx)),
-    })
+    sends
 }

@@ -8,30 +8,30 @@ use Rattle.std.proofs.lemmas.List.Elements.{All-take, filter-append}
 use Rattle.std.proofs.lemmas.List.Folds.{list_all-append}
 use Rattle.xid.proofs.Texts.{first_true}
 use Rattle.net_script.specs.declared.values.Sizes.{Sizes}
-use Rattle.net_script.specs.Basics.{Event}
+use Rattle.net_script.specs.declared.values.Command.{Command}
 use Rattle.net_script.specs.declared.values.Table.{Table}
 use Rattle.net_script.specs.declared.values.Script.{Script}
 use Rattle.net_script.specs.declared.items.Item.{Item}
-use Rattle.net_script.specs.declared.items.Item.TheVariants.{Cluster, Contents, Do}
+use Rattle.net_script.specs.declared.items.Item.TheVariants.{Cluster, Contents, Then}
 use Rattle.net_script.specs.Lines.{words, is_plain}
-use Rattle.net_script.specs.Items.{IsContents, IsEvent, item_words}
+use Rattle.net_script.specs.Items.{IsContents, IsCommand, item_words}
 use Rattle.net_script.specs.Scripts.{is_note, lines_kept, script_items, IsScript, SpelledBy, CanBegin, FailsAt}
 use Rattle.net_script.proofs.ScriptLemmas.{items_have_one_text, items_valid}
 use Rattle.net_script.proofs.OneText.{texts_injective}
 
 -- ---- one reading
 
-events_same : (es fs : List Event) → map Do es ≡ map Do fs → es ≡ fs
-events_same [] [] e = refl
-events_same [] (f ∷ fs) e = absurd (cc)
-events_same (x ∷ es) [] e = absurd (cc)
-events_same (x ∷ es) (f ∷ fs) e =
+commands_same : (es fs : List Command) → map Then es ≡ map Then fs → es ≡ fs
+commands_same [] [] e = refl
+commands_same [] (f ∷ fs) e = absurd (cc)
+commands_same (x ∷ es) [] e = absurd (cc)
+commands_same (x ∷ es) (f ∷ fs) e =
     let head : x ≡ f = cc in
-    let tail : es ≡ fs = events_same es fs (cc) in
+    let tail : es ≡ fs = commands_same es fs (cc) in
     cc
 
-parts_same : (ts us : List Table) (es fs : List Event) → map Contents ts ++ map Do es ≡ map Contents us ++ map Do fs → (ts ≡ us) × (es ≡ fs)
-parts_same [] [] es fs e = (refl, events_same es fs e)
+parts_same : (ts us : List Table) (es fs : List Command) → map Contents ts ++ map Then es ≡ map Contents us ++ map Then fs → (ts ≡ us) × (es ≡ fs)
+parts_same [] [] es fs e = (refl, commands_same es fs e)
 parts_same [] (u ∷ us) [] fs e = absurd (cc)
 parts_same [] (u ∷ us) (x ∷ es) fs e = absurd (cc)
 parts_same (t ∷ ts) [] es [] e = absurd (cc)
@@ -43,14 +43,14 @@ parts_same (t ∷ ts) (u ∷ us) es fs e =
     (cc, tail.1)
 
 -- a script of these parts
-abbrev script : Sizes → List Table → List Event → Script
-script sizes tables events = record { sizes = sizes; tables = tables; events = events }
+abbrev script : Sizes → List Table → List Command → Script
+script sizes tables commands = record { sizes = sizes; tables = tables; commands = commands }
 
 scripts_same : (s t : Script) → script_items s ≡ script_items t → s ≡ t
 scripts_same s t e =
     let sizes : s.sizes ≡ t.sizes = cc in
-    let parts = parts_same s.tables t.tables s.events t.events (cc) in
-    let same : script s.sizes s.tables s.events ≡ script t.sizes t.tables t.events = cc in
+    let parts = parts_same s.tables t.tables s.commands t.commands (cc) in
+    let same : script s.sizes s.tables s.commands ≡ script t.sizes t.tables t.commands = cc in
     same
 
 pub one_script : (ls : List (List ℕ)) (s t : Script) → SpelledBy ls s → SpelledBy ls t → s ≡ t
@@ -60,18 +60,18 @@ one_script ls s t p q = scripts_same s t
 
 -- ---- the front of a script
 
-take_parts : (n : ℕ) (ts : List Table) (es : List Event)
-    → take n (map Contents ts ++ map Do es) ≡ map Contents (take n ts) ++ map Do (take (n - length ts) es)
+take_parts : (n : ℕ) (ts : List Table) (es : List Command)
+    → take n (map Contents ts ++ map Then es) ≡ map Contents (take n ts) ++ map Then (take (n - length ts) es)
 take_parts zero [] es = refl
 take_parts (suc n) [] es =
     let all : suc n ≡ suc n - 0 = omega arith in
-    take-map Do (suc n) es ∙ ap (λ (k : ℕ). map Do (take k es)) all
+    take-map Then (suc n) es ∙ ap (λ (k : ℕ). map Then (take k es)) all
 take_parts zero (t ∷ ts) es =
     let none : 0 ≡ 0 - suc (length ts) = omega arith in
-    ap (λ (k : ℕ). map Do (take k es)) none
+    ap (λ (k : ℕ). map Then (take k es)) none
 take_parts (suc n) (t ∷ ts) es =
     let same : n - length ts ≡ suc n - suc (length ts) = omega arith in
-    ap (λ (l : List Item). Contents t ∷ l) (take_parts n ts es ∙ ap (λ (k : ℕ). map Contents (take n ts) ++ map Do (take k es)) same)
+    ap (λ (l : List Item). Contents t ∷ l) (take_parts n ts es ∙ ap (λ (k : ℕ). map Contents (take n ts) ++ map Then (take k es)) same)
 
 pairs_take : {X : Type 0} (R : X → X → Type 0) (n : ℕ) (xs : List X) → AllPairs R xs → AllPairs R (take n xs)
 pairs_take {X = X} R n xs pairs i j d lt within =
@@ -82,7 +82,7 @@ pairs_take {X = X} R n xs pairs i j d lt within =
     subst (λ (x : X). R x (get_or (take n xs) j d)) (sym left) (subst (λ (y : X). R (get_or xs i d) y) (sym right) (pairs i j d lt all))
 
 abbrev front_of : ℕ → Script → Script
-front_of n s = record { sizes = s.sizes; tables = take n s.tables; events = take (n - length s.tables) s.events }
+front_of n s = record { sizes = s.sizes; tables = take n s.tables; commands = take (n - length s.tables) s.commands }
 
 front_valid : (n : ℕ) (s : Script) → IsScript s → IsScript (front_of n s)
 front_valid n s is = record {
@@ -90,7 +90,7 @@ front_valid n s is = record {
   tables = All-take IsContents n s.tables is.tables;
   managers = All-take (λ (t : Table). t.rm < s.sizes.rms) n s.tables is.managers;
   once = pairs_take (λ (a b : Table). a.rm ≡ b.rm → ⊥) n s.tables is.once;
-  events = All-take IsEvent (n - length s.tables) s.events is.events;
+  commands = All-take IsCommand (n - length s.tables) s.commands is.commands;
 }
 
 -- the first lines of those that say a script, if there are any, say one too
@@ -100,13 +100,13 @@ front_says [] more s is e = inl refl
 front_says (k ∷ ks) more s is e =
     let n : ℕ = length ks in
     let head : words k ≡ item_words (Cluster s.sizes) = cc in
-    let rest : map words (ks ++ more) ≡ map item_words (map Contents s.tables ++ map Do s.events) = ap (drop 1) e in
+    let rest : map words (ks ++ more) ≡ map item_words (map Contents s.tables ++ map Then s.commands) = ap (drop 1) e in
     let front : take n (map words (ks ++ more)) ≡ map words ks =
     ap (take n) (map-append words ks more) ∙ take_at (map words ks) (map words more) n (length-map ks words) in
-    let tail : map words ks ≡ map item_words (map Contents (take n s.tables) ++ map Do (take (n - length s.tables) s.events)) =
+    let tail : map words ks ≡ map item_words (map Contents (take n s.tables) ++ map Then (take (n - length s.tables) s.commands)) =
     sym front
     ∙ (ap (take n) rest
-    ∙ (take-map item_words n (map Contents s.tables ++ map Do s.events) ∙ ap (map item_words) (take_parts n s.tables s.events))) in
+    ∙ (take-map item_words n (map Contents s.tables ++ map Then s.commands) ∙ ap (map item_words) (take_parts n s.tables s.commands))) in
     let both : words k ∷ map words ks ≡ map item_words (script_items (front_of n s)) = cc in
     inr (front_of n s, front_valid n s is, both)
 

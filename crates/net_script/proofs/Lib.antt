@@ -1,5 +1,6 @@
 pub mod OneText
 pub mod WordLemmas
+pub mod NameLemmas
 pub mod TableLemmas
 pub mod ItemLemmas
 pub mod ScriptLemmas

@@ -1,5 +1,5 @@
 -- The lines of a text, as far as they were read.
-use Rattle.std.proofs.Common.{◌≡◌, ℕ, ◌+◌, ◌≤◌, Bool, true, false, not, ◌&&◌, List, [], ◌∷◌, ◌++◌, length, take, map, refl, sym}
+use Rattle.std.proofs.Common.{suc, ◌≡◌, ℕ, ◌+◌, ◌<◌, ◌≤◌, Bool, true, false, not, ◌&&◌, List, [], ◌∷◌, ◌++◌, length, take, map, refl, sym}
 use Rattle.std.proofs.Common.{ap, subst, ◌∙◌, arith, inl, inr, Option, Some, None, Ok, cond}
 use Rattle.std.specs.List.{All, list_all}
 use Rattle.std.proofs.lemmas.List.{append-nil, map-append, length-append, take_at, append_assoc, length_push}
@@ -11,7 +11,7 @@ use Rattle.net_script.specs.declared.items.Item.{Item}
 use Rattle.net_script.specs.Lines.{lines, words, is_plain, IsFirstPiece}
 use Rattle.net_script.specs.Items.{IsItem, item_words}
 use Rattle.net_script.specs.Scripts.{is_note, lines_kept, script_items, SpelledBy, CanBegin, IsFirstFault}
-use Rattle.net_script.specs.Scripts.{items_so_far, ReadsLine}
+use Rattle.net_script.specs.Scripts.{items_so_far, ReadsLine, IsLineOf}
 use Rattle.net_script.proofs.ScriptLemmas.{items_have_one_text, items_valid}
 use Rattle.net_script.proofs.OneText.{texts_go_on}
 
@@ -20,10 +20,14 @@ abbrev pub SoFar : List (List ℕ) → Option Script → Type 0
 SoFar seen None = lines_kept seen ≡ []
 SoFar seen (Some s) = SpelledBy seen s
 
-pub record Progress (bytes rest : List ℕ) (number : ℕ) (script : Option Script) : Type 0 where
+-- so many lines are read, and these bytes are left
+pub record Reached (bytes rest : List ℕ) (number : ℕ) : Type 0 where
   pub left : lines bytes ≡ take number (lines bytes) ++ lines rest
   pub counted : length (take number (lines bytes)) ≡ number
   pub short : number + length rest ≤ length bytes
+
+pub record Progress (bytes rest : List ℕ) (number : ℕ) (script : Option Script) : Type 0 where
+  pub reached : Reached bytes rest number
   pub said : SoFar (take number (lines bytes)) script
 
 abbrev is_kept : List ℕ → Bool
@@ -119,11 +123,10 @@ take_front all front back n e len = ap (take n) e ∙ take_at front back n len
 -- the lines up to the next one
 pub record UpToNext (bytes line after : List ℕ) (number : ℕ) : Type 0 where
   pub more : take (number + 1) (lines bytes) ≡ take number (lines bytes) ++ line ∷ []
-  pub left : lines bytes ≡ take (number + 1) (lines bytes) ++ lines after
-  pub counted : length (take (number + 1) (lines bytes)) ≡ number + 1
+  pub reached : Reached bytes after (number + 1)
 
-next_line : {bytes rest line after : List ℕ} {number : ℕ} {script : Option Script}
-    → Progress bytes rest number script → IsFirstPiece 10 rest line after → UpToNext bytes line after number
+pub next_line : {bytes rest line after : List ℕ} {number : ℕ}
+    → Reached bytes rest number → IsFirstPiece 10 rest line after → UpToNext bytes line after number
 next_line {bytes = bytes} {line = line} {after = after} {number = number} so first =
     let seen : List (List ℕ) = take number (lines bytes) in
     let all : lines bytes ≡ (seen ++ line ∷ []) ++ lines after =
@@ -133,19 +136,20 @@ next_line {bytes = bytes} {line = line} {after = after} {number = number} so fir
     take_front (lines bytes) (seen ++ line ∷ []) (lines after) (number + 1) all len in
     record {
       more = front;
-      left = all ∙ ap (λ (l : List (List ℕ)). l ++ lines after) (sym front);
-      counted = ap length front ∙ len;
+      reached = record {
+        left = all ∙ ap (λ (l : List (List ℕ)). l ++ lines after) (sym front);
+        counted = ap length front ∙ len;
+        short = let a = so.short in let b = first.shorter in omega arith;
+      };
     }
 
 pub step_passed : {bytes rest line after : List ℕ} {number : ℕ} {script : Option Script}
     → Progress bytes rest number script → IsFirstPiece 10 rest line after → is_note (words line) ≡ true
     → Progress bytes after (number + 1) script
 step_passed {bytes = bytes} {line = line} {number = number} {script = script} so first note =
-    let next = next_line so first in
+    let next = next_line so.reached first in
     record {
-      left = next.left;
-      counted = next.counted;
-      short = let a = so.short in let b = first.shorter in omega arith;
+      reached = next.reached;
       said = kept_same (take number (lines bytes)) (take (number + 1) (lines bytes)) script
           (ap lines_kept next.more ∙ kept_passed (take number (lines bytes)) line note) so.said;
     }
@@ -154,11 +158,9 @@ pub step_said : {bytes rest line after : List ℕ} {number : ℕ} {script : Opti
     → Progress bytes rest number script → IsFirstPiece 10 rest line after → is_note (words line) ≡ false
     → ReadsLine (items_so_far script) line (Ok (Some s)) → Progress bytes after (number + 1) (Some s)
 step_said {bytes = bytes} {line = line} {number = number} {script = script} s so first note read =
-    let next = next_line so first in
+    let next = next_line so.reached first in
     record {
-      left = next.left;
-      counted = next.counted;
-      short = let a = so.short in let b = first.shorter in omega arith;
+      reached = next.reached;
       said =
           subst (λ (ls : List (List ℕ)). SpelledBy ls s) (sym next.more)
           (said_more (take number (lines bytes)) line script s note so.said read);
@@ -168,11 +170,11 @@ pub step_fails : {bytes rest line after : List ℕ} {number : ℕ} {script : Opt
     → Progress bytes rest number script → IsFirstPiece 10 rest line after → is_note (words line) ≡ false
     → ReadsLine (items_so_far script) line (Ok None) → IsFirstFault bytes (number + 1)
 step_fails {bytes = bytes} {line = line} {after = after} {number = number} {script = script} so first note read =
-    let next = next_line so first in
+    let next = next_line so.reached first in
     inl (record {
       before = number;
       counted = omega arith;
-      within = omega (arith, ap length next.left, next.counted, length-append (take (number + 1) (lines bytes)) (lines after));
+      within = omega (arith, ap length next.reached.left, next.reached.counted, length-append (take (number + 1) (lines bytes)) (lines after));
       can = so_far_begins (take number (lines bytes)) script so.said;
       fails = λ can. fails_more (take number (lines bytes)) line script note so.said read (subst CanBegin next.more can);
     })
@@ -184,3 +186,54 @@ line_unread before line o e read = subst (λ (p : Option Script). ReadsLine befo
 pub line_read : (before : List Item) (line : List ℕ) (o : Option Script) (s : Script) → o ≡ Some s → ReadsLine before line (Ok o)
     → ReadsLine before line (Ok (Some s))
 line_read before line o s e read = subst (λ (p : Option Script). ReadsLine before line (Ok p)) e read
+
+-- ---- which line says an item
+
+-- so many lines of those read say something, no more than the place that is looked for
+pub record Counted (bytes rest : List ℕ) (number passed place : ℕ) : Type 0 where
+  pub reached : Reached bytes rest number
+  pub kept : length (lines_kept (take number (lines bytes))) ≡ passed
+  pub few : passed ≤ place
+
+pub count_passed : {bytes rest line after : List ℕ} {number passed place : ℕ} → Counted bytes rest number passed place
+    → IsFirstPiece 10 rest line after → is_note (words line) ≡ true → Counted bytes after (number + 1) passed place
+count_passed {bytes = bytes} {line = line} {number = number} so first note =
+    let next = next_line so.reached first in
+    record {
+      reached = next.reached;
+      kept = ap length (ap lines_kept next.more ∙ kept_passed (take number (lines bytes)) line note) ∙ so.kept;
+      few = so.few;
+    }
+
+kept_more : {bytes rest line after : List ℕ} {number passed place : ℕ} → Counted bytes rest number passed place
+    → IsFirstPiece 10 rest line after → is_note (words line) ≡ false
+    → length (lines_kept (take (number + 1) (lines bytes))) ≡ passed + 1
+kept_more {bytes = bytes} {line = line} {number = number} so first note =
+    let next = next_line so.reached first in
+    ap length (ap lines_kept next.more ∙ kept_said (take number (lines bytes)) line note)
+    ∙ length_push (lines_kept (take number (lines bytes))) line ∙ ap (λ (n : ℕ). n + 1) so.kept
+
+pub count_said : {bytes rest line after : List ℕ} {number passed place : ℕ} → Counted bytes rest number passed place
+    → IsFirstPiece 10 rest line after → is_note (words line) ≡ false → passed < place → Counted bytes after (number + 1) (passed + 1) place
+count_said so first note less =
+    let next = next_line so.reached first in
+    record { reached = next.reached; kept = kept_more so first note; few = omega arith }
+
+pub count_found : {bytes rest line after : List ℕ} {number passed place : ℕ} → Counted bytes rest number passed place
+    → IsFirstPiece 10 rest line after → is_note (words line) ≡ false → passed ≡ place → IsLineOf bytes place (number + 1)
+count_found {bytes = bytes} {after = after} {number = number} {passed = passed} {place = place} so first note same =
+    let next = next_line so.reached first in
+    record {
+      before = number;
+      counted = omega arith;
+      within = omega (arith, ap length next.reached.left, next.reached.counted, length-append (take (number + 1) (lines bytes)) (lines after));
+      earlier = so.kept ∙ same;
+      says = kept_more so first note ∙ (let one : passed + 1 ≡ suc place = omega arith in one);
+    }
+
+pub count_all : {bytes rest : List ℕ} {number passed place : ℕ} → Counted bytes rest number passed place → rest ≡ []
+    → length (lines_kept (lines bytes)) ≤ place
+count_all {bytes = bytes} {number = number} so none =
+    let all : lines bytes ≡ take number (lines bytes) =
+    so.reached.left ∙ (ap (λ (r : List ℕ). take number (lines bytes) ++ lines r) none ∙ append-nil (take number (lines bytes))) in
+    omega (arith, ap (λ (ls : List (List ℕ)). length (lines_kept ls)) all, so.kept, so.few)

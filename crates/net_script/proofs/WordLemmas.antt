@@ -20,6 +20,10 @@ pub second_holds : {A B : Type 0} → A ⊎ B → (A → ⊥) → B
 second_holds (inl a) other = absurd (other a)
 second_holds (inr b) other = b
 
+-- two literals that differ
+pub differ : (a b : List ℕ) → a ≡ b → bytes_eq a b ≡ false → ⊥
+differ a b e h = let same : bytes_eq a b ≡ true = (bytes_eq-Decides a b).1 e in absurd (cc)
+
 -- what `==` and `!=` of two texts say
 pub texts_differ : (a b : List ℕ) (r : Bool) → r ≡ bytes_eq a b → r ≡ false → a ≡ b → ⊥
 texts_differ a b r is no' e = let same : bytes_eq a b ≡ true = (bytes_eq-Decides a b).1 e in absurd (cc)

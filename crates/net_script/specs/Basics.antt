@@ -1,6 +1,6 @@
 -- The words of the system that scripts and traces print. Variants whose names another type has too are written behind their type.
 pub use Rattle.xid.specs.Names.{XidParts, IsBytes, IsXid}
-pub use Rattle.xid.specs.Transactions.{TxParts, tx_text}
+pub use Rattle.xid.specs.Transactions.{TxParts, IsTx, tx_text}
 pub use Rattle.xid.specs.Text.{hex_text, xid_text}
 pub use Rattle.xid.specs.Codes.{code_number}
 pub use Rattle.xid.specs.Refusals.{number_of}

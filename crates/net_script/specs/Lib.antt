@@ -1,5 +1,6 @@
 pub mod Basics
 pub mod Lines
+pub mod Events
 pub mod Items
 pub mod Scripts
 pub mod Messages

@@ -5,9 +5,9 @@ use Rattle.std.specs.List.{All, AllPairs, list_all, filter}
 use Rattle.net_script.specs.Basics.{Refusal, NoMemory, BadScript}
 use Rattle.net_script.specs.declared.values.Script.{Script}
 use Rattle.net_script.specs.declared.items.Item.{Item}
-use Rattle.net_script.specs.declared.items.Item.TheVariants.{Cluster, Contents, Do}
+use Rattle.net_script.specs.declared.items.Item.TheVariants.{Cluster, Contents, Then}
 use Rattle.net_script.specs.Lines.{lines, words, is_plain}
-use Rattle.net_script.specs.Items.{IsSizes, IsContents, IsEvent, IsItem, item_words}
+use Rattle.net_script.specs.Items.{IsSizes, IsContents, IsCommand, IsItem, item_words}
 
 -- whether a line of these words is passed over: it has none, or the first begins with `#`
 abbrev pub is_note : List (List ℕ) → Bool
@@ -19,9 +19,9 @@ is_note ((byte ∷ more) ∷ rest) = byte == 35
 abbrev pub lines_kept : List (List ℕ) → List (List ℕ)
 lines_kept ls = filter (λ line. not (is_note (words line))) ls
 
--- first the cluster, then the tables, then the events
+-- first the cluster, then the tables, then what happens
 abbrev pub script_items : Script → List Item
-script_items s = Cluster s.sizes ∷ (map Contents s.tables ++ map Do s.events)
+script_items s = Cluster s.sizes ∷ (map Contents s.tables ++ map Then s.commands)
 
 -- tables are of the cluster's resource managers, at most one for each
 pub record IsScript (s : Script) : Type 0 where
@@ -29,7 +29,7 @@ pub record IsScript (s : Script) : Type 0 where
   pub tables : All IsContents s.tables
   pub managers : All (λ t. t.rm < s.sizes.rms) s.tables
   pub once : AllPairs (λ a b. a.rm ≢ b.rm) s.tables
-  pub events : All IsEvent s.events
+  pub commands : All IsCommand s.commands
 
 -- the lines say the script's items one by one
 pub record SpelledBy (ls : List (List ℕ)) (s : Script) : Type 0 where
@@ -56,6 +56,14 @@ pub record FailsAt (ls : List (List ℕ)) (n : ℕ) : Type 0 where
 -- the first line at fault, from 1; where no line says anything it is the one after the last
 abbrev pub IsFirstFault : List ℕ → ℕ → Type 0
 IsFirstFault bytes n = FailsAt (lines bytes) n ⊎ ((lines_kept (lines bytes) ≡ []) × (n ≡ length (lines bytes) + 1))
+
+-- the line that says an item of a script, by the item's place: as many lines before it say something
+pub record IsLineOf (bytes : List ℕ) (place line : ℕ) : Type 0 where
+  pub before : ℕ
+  pub counted : line ≡ suc before
+  pub within : before < length (lines bytes)
+  pub earlier : length (lines_kept (take before (lines bytes))) ≡ place
+  pub says : length (lines_kept (take line (lines bytes))) ≡ suc place
 
 -- ---- for the reader of one line
 

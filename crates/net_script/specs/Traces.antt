@@ -2,12 +2,14 @@
 use Rattle.std.specs.Prelude.{ℕ, suc, List, [], ◌∷◌, ◌++◌, map, codes, decimal, Option, Some, None}
 use Rattle.std.specs.Fmt.{signed_decimal}
 use Rattle.std.specs.List.{flat_map}
-use Rattle.net_script.specs.Basics.{xid_text, tx_text, code_number, number_of, R, Row, Answer, Done, Code, Value, NoValue, Xids}
+use Rattle.net_script.specs.Basics.{xid_text, tx_text, code_number, number_of, NodeId, R, Row, Answer, Done, Code, Value, NoValue, Xids}
 use Rattle.net_script.specs.Basics.{Stands, Refused, Standing, View, Change, Sent, Step}
 use Rattle.net_script.specs.declared.values.Table.{Table}
+use Rattle.net_script.specs.declared.values.Entry.{Entry}
 use Rattle.net_script.specs.declared.values.Trace.{Trace}
 use Rattle.net_script.specs.Lines.{node_text, bytes_text}
-use Rattle.net_script.specs.Items.{event_words, sizes_words, rows_words, contents_words}
+use Rattle.net_script.specs.Events.{event_words}
+use Rattle.net_script.specs.Items.{sizes_words, rows_words, contents_words}
 use Rattle.net_script.specs.Messages.{message_words}
 
 -- a space before each word
@@ -63,13 +65,26 @@ abbrev pub sent_line : Sent → List ℕ
 sent_line sent =
     line_text (codes "sent" ∷ decimal sent.number ∷ node_text sent.sender ∷ node_text sent.receiver ∷ message_words sent.message)
 
--- EVENT -> ANSWER
-abbrev pub event_line : Step → List ℕ
-event_line step = line_text (event_words step.event ++ codes "->" ∷ answer_words step.answer)
+-- the words of a datagram taken by a node, over sockets
+abbrev pub serve_words : NodeId → List (List ℕ)
+serve_words node = codes "serve" ∷ node_text node ∷ []
 
--- an event and its answer, the view that it changed, and what it sent
+-- what happened, and its answer behind an arrow
+abbrev pub answered_line : List (List ℕ) → Answer → List ℕ
+answered_line happened answer = line_text (happened ++ codes "->" ∷ answer_words answer)
+
+-- what happened and its answer, the view that it changed, and what was sent
+abbrev pub outcome_text : List (List ℕ) → Answer → Option Change → List Sent → List ℕ
+outcome_text happened answer now sent = answered_line happened answer ++ change_text now ++ flat_map sent_line sent
+
+-- an event and what came of it
 abbrev pub step_text : Step → List ℕ
-step_text step = event_line step ++ change_text step.now ++ flat_map sent_line step.sent
+step_text step = outcome_text (event_words step.event) step.answer step.now step.sent
+
+-- an entry
+abbrev pub entry_text : Entry → List ℕ
+entry_text (Entry.Step step) = step_text step
+entry_text (Entry.Serve node answer now sent) = outcome_text (serve_words node) answer now sent
 
 -- the rows of a resource manager at the end
 abbrev pub final_line : ℕ → List Row → List ℕ
@@ -85,5 +100,5 @@ abbrev pub trace_text : Trace → List ℕ
 trace_text t =
     line_text (codes "cluster" ∷ sizes_words t.sizes)
     ++ flat_map table_line t.tables
-    ++ flat_map step_text t.steps
+    ++ flat_map entry_text t.entries
     ++ final_lines 0 t.finals

@@ -1,27 +1,27 @@
 //! Events, as they are written.
 
-ghost use Rattle.std.specs.Prelude.{◌≡◌, ◌++◌, ◌∷◌, [], IfErr, OnOk, decimal};
+ghost use Rattle.std.specs.Prelude.{◌≡◌, ◌++◌, IfErr, OnOk};
 ghost use Rattle.net_script.specs.Basics.{NoMemory};
-ghost use Rattle.net_script.specs.Lines.{node_text};
-ghost use Rattle.net_script.specs.Items.{verb_text, verb_of, action_words, request_word, request_args, event_words};
+ghost use Rattle.net_script.specs.Events.{verb_of, action_words, request_keyword, request_args, keyword_of, event_args, event_words};
 ghost use Rattle.net_script.specs.Traces.{spaced_words, joined_words};
 
+use crate::keywords::{Keyword, Verb, keyword_word};
 use crate::pieces::{put_bytes_word, put_node, put_number, put_tx, put_word, put_xid};
-use protocol::{Action, Event, NodeId, Request};
+use protocol::{Action, Event, Request};
 use std::alloc::Global;
 use xid::Refusal;
 
-/// The first word of a call.
-fn verb_word(action: &Action) -> &'static [u8]
-    ensures { result.now ≡ verb_text (verb_of action.now) }
+/// The verb of a call.
+fn verb_of(action: &Action) -> Verb
+    ensures { result ≡ verb_of action.now }
 {
     match action {
-        Action::Start => b"start",
-        Action::Put { .. } => b"put",
-        Action::Del { .. } => b"del",
-        Action::Get { .. } => b"get",
-        Action::End | Action::EndFail => b"end",
-        Action::Rollback => b"rollback",
+        Action::Start => Verb::Start,
+        Action::Put { .. } => Verb::Put,
+        Action::Del { .. } => Verb::Del,
+        Action::Get { .. } => Verb::Get,
+        Action::End | Action::EndFail => Verb::End,
+        Action::Rollback => Verb::Rollback,
     }
 }
 
@@ -42,17 +42,17 @@ fn put_action(alloc: Global, out: &mut Vec<u8>, action: &Action) -> Result<(), R
     Ok(())
 }
 
-/// The first word of a request.
-fn request_word(request: &Request) -> &'static [u8]
-    ensures { result.now ≡ request_word request.now }
+/// The keyword of a request.
+fn request_keyword(request: &Request) -> Keyword
+    ensures { result ≡ request_keyword request.now }
 {
     match request {
-        Request::Call { action, .. } => verb_word(action),
-        Request::Recover => b"recover",
-        Request::View { .. } => b"view",
-        Request::Commit { .. } => b"commit",
-        Request::Status { .. } => b"status",
-        Request::Timeout { .. } => b"timeout",
+        Request::Call { action, .. } => Keyword::Call(verb_of(action)),
+        Request::Recover => Keyword::Recover,
+        Request::View { .. } => Keyword::View,
+        Request::Commit { .. } => Keyword::Commit,
+        Request::Status { .. } => Keyword::Status,
+        Request::Timeout { .. } => Keyword::Timeout,
     }
 }
 
@@ -75,23 +75,47 @@ fn put_request(alloc: Global, out: &mut Vec<u8>, request: &Request) -> Result<()
     Ok(())
 }
 
-/// A word, and a node behind it.
-fn put_at_node(out: &mut Vec<u8>, word: &[u8], node: NodeId) -> Result<(), Refusal>
-    ensures ok { OnOk result (out.new.items ≡ out.old.items ++ joined_words (word.now ∷ node_text node ∷ [])) }
-    ensures err { IfErr result (λ e. e ≡ NoMemory) }
+/// The keyword of an event.
+fn keyword_of(event: &Event) -> Keyword
+    ensures { result ≡ keyword_of event.now }
 {
-    out.extend_from_slice(word)?;
-    put_node(out, node)?;
-    Ok(())
+    match event {
+        Event::Ask { request, .. } => request_keyword(request),
+        Event::Deliver { .. } => Keyword::Deliver,
+        Event::Lose { .. } => Keyword::Lose,
+        Event::Cut { .. } => Keyword::Cut,
+        Event::Noise { .. } => Keyword::Noise,
+        Event::Tear { .. } => Keyword::Tear,
+        Event::Restart { .. } => Keyword::Restart,
+        Event::Compact { .. } => Keyword::Compact,
+    }
 }
 
-/// A word, and a number behind it.
-fn put_counted(out: &mut Vec<u8>, word: &[u8], number: u32) -> Result<(), Refusal>
-    ensures ok { OnOk result (out.new.items ≡ out.old.items ++ joined_words (word.now ∷ decimal number ∷ [])) }
+/// The words of an event after its first.
+fn put_event_args(alloc: Global, out: &mut Vec<u8>, event: &Event) -> Result<(), Refusal>
+    ensures ok { OnOk result (out.new.items ≡ out.old.items ++ spaced_words (event_args event.now)) }
     ensures err { IfErr result (λ e. e ≡ NoMemory) }
 {
-    out.extend_from_slice(word)?;
-    put_number(out, number)?;
+    match event {
+        Event::Ask { node, request } => {
+            put_node(out, *node)?;
+            put_request(alloc, out, request)?;
+        }
+        Event::Deliver { number } | Event::Lose { number } => put_number(out, *number)?,
+        Event::Cut { number, bytes } => {
+            put_number(out, *number)?;
+            put_number(out, *bytes)?;
+        }
+        Event::Noise { node, bytes } => {
+            put_node(out, *node)?;
+            put_bytes_word(alloc, out, bytes.as_slice())?;
+        }
+        Event::Tear { node, bytes } => {
+            put_node(out, *node)?;
+            put_number(out, *bytes)?;
+        }
+        Event::Restart { node } | Event::Compact { node } => put_node(out, *node)?,
+    }
     Ok(())
 }
 
@@ -100,27 +124,7 @@ pub(crate) fn put_event(alloc: Global, out: &mut Vec<u8>, event: &Event) -> Resu
     ensures ok { OnOk result (out.new.items ≡ out.old.items ++ joined_words (event_words event.now)) }
     ensures err { IfErr result (λ e. e ≡ NoMemory) }
 {
-    match event {
-        Event::Ask { node, request } => {
-            put_at_node(out, request_word(request), *node)?;
-            put_request(alloc, out, request)?;
-        }
-        Event::Deliver { number } => put_counted(out, b"deliver", *number)?,
-        Event::Lose { number } => put_counted(out, b"lose", *number)?,
-        Event::Cut { number, bytes } => {
-            put_counted(out, b"cut", *number)?;
-            put_number(out, *bytes)?;
-        }
-        Event::Noise { node, bytes } => {
-            put_at_node(out, b"noise", *node)?;
-            put_bytes_word(alloc, out, bytes.as_slice())?;
-        }
-        Event::Tear { node, bytes } => {
-            put_at_node(out, b"tear", *node)?;
-            put_number(out, *bytes)?;
-        }
-        Event::Restart { node } => put_at_node(out, b"restart", *node)?,
-        Event::Compact { node } => put_at_node(out, b"compact", *node)?,
-    }
+    out.extend_from_slice(keyword_word(keyword_of(event)))?;
+    put_event_args(alloc, out, event)?;
     Ok(())
 }

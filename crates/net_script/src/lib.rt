@@ -4,8 +4,11 @@
 
 mod answers;
 mod args;
+mod calls;
+mod commands;
 mod events;
 mod items;
+mod keywords;
 mod messages;
 mod pieces;
 mod scripts;
@@ -14,9 +17,13 @@ mod traces;
 mod values;
 mod words;
 
-pub use scripts::{one_reading, read_script};
+pub use scripts::{line_of, one_reading, read_script};
 pub use traces::write_trace;
-pub use values::{Script, Sizes, Table, Trace};
+pub use values::{Command, Entry, Script, Sizes, Table, Trace};
 
 #[cfg(test)]
-mod tests;
+mod row_tests;
+#[cfg(test)]
+mod script_tests;
+#[cfg(test)]
+mod trace_tests;

@@ -1,19 +1,18 @@
 //! Whole scripts, line by line.
 
-ghost use Rattle.std.specs.Prelude.{◌≡◌, ◌≢◌, ℕ, ◌<◌, [], ◌∷◌, ◌++◌, ◌↔◌, List, IsTrue, IfOk, IfErr, MatchResult};
+ghost use Rattle.std.specs.Prelude.{◌≡◌, ◌≢◌, ℕ, ◌<◌, [], ◌∷◌, ◌++◌, ◌↔◌, ◌≤◌, List, length, IsTrue, IfOk, IfErr, MatchResult, MatchOption};
 ghost use Rattle.std.specs.List.{All, list_all};
 ghost use Rattle.std.specs.Option.{ForSome};
 ghost use Rattle.net_script.specs.Basics.{NoMemory};
 ghost use Rattle.net_script.specs.declared.values.Script.{Script};
-ghost use Rattle.net_script.specs.declared.items.Item.TheVariants.{Contents, Do};
-ghost use Rattle.net_script.specs.Lines.{Reads, words, is_plain};
-ghost use Rattle.net_script.specs.Items.{IsItem, IsContents, IsEvent};
-ghost use Rattle.net_script.specs.Scripts.{is_note, script_items, items_so_far, IsScript, ReadsLine, SpellsScript, Refuses, IsFirstFault};
+ghost use Rattle.net_script.specs.declared.items.Item.TheVariants.{Contents, Then};
+ghost use Rattle.net_script.specs.Lines.{Reads, lines, words, is_plain};
+ghost use Rattle.net_script.specs.Items.{IsItem, IsContents, IsCommand};
+ghost use Rattle.net_script.specs.Scripts.{is_note, lines_kept, script_items, items_so_far, IsLineOf, IsScript, ReadsLine, SpellsScript, Refuses, IsFirstFault};
 
 use crate::items::{Item, read_item};
-use crate::values::{Script, Table};
+use crate::values::{Command, Script, Table};
 use crate::words::{next_piece, next_word};
-use protocol::Event;
 use std::alloc::Global;
 use xid::{Refusal, Sequence};
 
@@ -58,9 +57,9 @@ fn with_table(script: Script, table: Table) -> Result<Option<Script>, Refusal>
     let Script {
         sizes,
         tables,
-        events,
+        commands,
     } = script;
-    if !events.as_slice().is_empty() {
+    if !commands.as_slice().is_empty() {
         return Ok(None);
     }
     if u32::from(table.rm) >= sizes.rms {
@@ -74,29 +73,29 @@ fn with_table(script: Script, table: Table) -> Result<Option<Script>, Refusal>
     Ok(Some(Script {
         sizes,
         tables: Sequence::new(tables),
-        events,
+        commands,
     }))
 }
 
-/// The script with one more event.
-fn with_event(script: Script, event: Event) -> Result<Script, Refusal>
+/// The script with one more command.
+fn with_command(script: Script, command: Command) -> Result<Script, Refusal>
     requires valid { IsScript script }
-    requires range { IsEvent event }
+    requires range { IsCommand command }
     ensures { MatchResult result
-        (λ s. IsScript s × (script_items s ≡ script_items script ++ Do event ∷ []))
+        (λ s. IsScript s × (script_items s ≡ script_items script ++ Then command ∷ []))
         (λ e. e ≡ NoMemory) }
 {
     let Script {
         sizes,
         tables,
-        events,
+        commands,
     } = script;
-    let mut events = events.into_vec();
-    events.push(event)?;
+    let mut commands = commands.into_vec();
+    commands.push(command)?;
     Ok(Script {
         sizes,
         tables,
-        events: Sequence::new(events),
+        commands: Sequence::new(commands),
     })
 }
 
@@ -113,13 +112,13 @@ fn with_item(alloc: Global, script: Option<Script>, item: Item) -> Result<Option
         return Ok(Some(Script {
             sizes,
             tables: Sequence::new(Vec::new(alloc)),
-            events: Sequence::new(Vec::new(alloc)),
+            commands: Sequence::new(Vec::new(alloc)),
         }));
     };
     match item {
         Item::Cluster(_) => Ok(None),
         Item::Contents(table) => with_table(script, table),
-        Item::Do(event) => Ok(Some(with_event(script, event)?)),
+        Item::Then(command) => Ok(Some(with_command(script, command)?)),
     }
 }
 
@@ -163,6 +162,27 @@ pub fn read_script(alloc: Global, bytes: &[u8]) -> Result<Script, Refusal>
         return Err(Refusal::BadScript { line: number + 1 });
     };
     Ok(script)
+}
+
+/// The number of the line, from 1, that says an item of a script, by the item's place: the cluster has place 0, then come the tables,
+/// then the commands. None where no more lines than that say anything.
+pub fn line_of(bytes: &[u8], place: usize) -> Option<usize>
+    ensures { MatchOption result (length (lines_kept (lines bytes.now)) ≤ place) (IsLineOf bytes.now place) }
+{
+    let mut number = 0;
+    let mut passed = 0;
+    let mut rest = bytes;
+    while let Some((line, after)) = next_piece(rest, b'\n') {
+        number += 1;
+        if !is_passed_over(line) {
+            if passed == place {
+                return Some(number);
+            }
+            passed += 1;
+        }
+        rest = after;
+    }
+    None
 }
 
 /// A text spells at most one script; one with a first line at fault spells none, and has one such line.

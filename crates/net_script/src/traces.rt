@@ -3,15 +3,16 @@
 ghost use Rattle.std.specs.Prelude.{◌≡◌, ◌++◌, [], ◌∷◌, codes, decimal, IfErr, IfOk, OnOk};
 ghost use Rattle.std.specs.List.{flat_map};
 ghost use Rattle.net_script.specs.Basics.{NoMemory};
-ghost use Rattle.net_script.specs.Items.{sizes_words};
-ghost use Rattle.net_script.specs.Traces.{spaced_words, line_text, table_line, event_line, sent_line, step_text, final_line};
-ghost use Rattle.net_script.specs.Traces.{final_lines, trace_text};
+ghost use Rattle.net_script.specs.Events.{event_words};
+ghost use Rattle.net_script.specs.Items.{bundled_words, sizes_words};
+ghost use Rattle.net_script.specs.Traces.{spaced_words, line_text, table_line, serve_words, answered_line, sent_line, entry_text};
+ghost use Rattle.net_script.specs.Traces.{final_line, final_lines, trace_text};
 
 use crate::answers::{put_answer, put_change, put_sent};
 use crate::events::put_event;
-use crate::pieces::{put_manager, put_number, put_rows, put_word};
-use crate::values::{Sizes, Table, Trace};
-use protocol::{Row, Sent, Step};
+use crate::pieces::{put_manager, put_node, put_number, put_rows, put_word};
+use crate::values::{Entry, Sizes, Table, Trace};
+use protocol::{Answer, Event, NodeId, Row, Sent};
 use std::alloc::Global;
 use xid::{Refusal, Sequence};
 
@@ -25,6 +26,17 @@ fn put_field(out: &mut Vec<u8>, name: &[u8], number: u32) -> Result<(), Refusal>
     Ok(())
 }
 
+/// The last word of a bundled cluster.
+fn put_bundled(out: &mut Vec<u8>, bundled: bool) -> Result<(), Refusal>
+    ensures ok { OnOk result (out.new.items ≡ out.old.items ++ spaced_words (bundled_words bundled)) }
+    ensures err { IfErr result (λ e. e ≡ NoMemory) }
+{
+    if bundled {
+        put_word(out, b"bundled")?;
+    }
+    Ok(())
+}
+
 /// The line of the cluster.
 fn put_sizes(out: &mut Vec<u8>, sizes: Sizes) -> Result<(), Refusal>
     ensures ok { OnOk result (out.new.items ≡ out.old.items ++ line_text (codes "cluster" ∷ sizes_words sizes)) }
@@ -34,6 +46,7 @@ fn put_sizes(out: &mut Vec<u8>, sizes: Sizes) -> Result<(), Refusal>
     put_field(out, b"acceptors", sizes.acceptors)?;
     put_field(out, b"leaders", sizes.leaders)?;
     put_field(out, b"rms", sizes.rms)?;
+    put_bundled(out, sizes.bundled)?;
     out.push(b'\n')?;
     Ok(())
 }
@@ -51,13 +64,36 @@ fn put_table(alloc: Global, out: &mut Vec<u8>, table: &Table) -> Result<(), Refu
 }
 
 /// The line of an event and its answer.
-fn put_event_line(alloc: Global, out: &mut Vec<u8>, step: &Step) -> Result<(), Refusal>
-    ensures ok { OnOk result (out.new.items ≡ out.old.items ++ event_line step.entry.now) }
+fn put_event_line(
+    alloc: Global,
+    out: &mut Vec<u8>,
+    event: &Event,
+    answer: &Answer,
+) -> Result<(), Refusal>
+    ensures ok { OnOk result (out.new.items ≡ out.old.items ++ answered_line (event_words event.now) answer.now) }
     ensures err { IfErr result (λ e. e ≡ NoMemory) }
 {
-    put_event(alloc, out, &step.event)?;
+    put_event(alloc, out, event)?;
     put_word(out, b"->")?;
-    put_answer(alloc, out, &step.answer)?;
+    put_answer(alloc, out, answer)?;
+    out.push(b'\n')?;
+    Ok(())
+}
+
+/// The line of a datagram taken by a node, and its answer.
+fn put_serve_line(
+    alloc: Global,
+    out: &mut Vec<u8>,
+    node: NodeId,
+    answer: &Answer,
+) -> Result<(), Refusal>
+    ensures ok { OnOk result (out.new.items ≡ out.old.items ++ answered_line (serve_words node) answer.now) }
+    ensures err { IfErr result (λ e. e ≡ NoMemory) }
+{
+    out.extend_from_slice(b"serve")?;
+    put_node(out, node)?;
+    put_word(out, b"->")?;
+    put_answer(alloc, out, answer)?;
     out.push(b'\n')?;
     Ok(())
 }
@@ -73,14 +109,28 @@ fn put_all_sent(alloc: Global, out: &mut Vec<u8>, sent: &[Sent]) -> Result<(), R
     Ok(())
 }
 
-/// The lines of an event and of what came of it.
-fn put_step(alloc: Global, out: &mut Vec<u8>, step: &Step) -> Result<(), Refusal>
-    ensures ok { OnOk result (out.new.items ≡ out.old.items ++ step_text step.entry.now) }
+/// The lines of what happened and of what came of it.
+fn put_entry(alloc: Global, out: &mut Vec<u8>, entry: &Entry) -> Result<(), Refusal>
+    ensures ok { OnOk result (out.new.items ≡ out.old.items ++ entry_text entry.now) }
     ensures err { IfErr result (λ e. e ≡ NoMemory) }
 {
-    put_event_line(alloc, out, step)?;
-    put_change(alloc, out, &step.now)?;
-    put_all_sent(alloc, out, step.sent.as_slice())?;
+    match entry {
+        Entry::Step(step) => {
+            put_event_line(alloc, out, &step.event, &step.answer)?;
+            put_change(alloc, out, &step.now)?;
+            put_all_sent(alloc, out, step.sent.as_slice())?;
+        }
+        Entry::Serve {
+            node,
+            answer,
+            now,
+            sent,
+        } => {
+            put_serve_line(alloc, out, *node, answer)?;
+            put_change(alloc, out, now)?;
+            put_all_sent(alloc, out, sent.as_slice())?;
+        }
+    }
     Ok(())
 }
 
@@ -107,13 +157,13 @@ fn put_tables(alloc: Global, out: &mut Vec<u8>, tables: &[Table]) -> Result<(), 
     Ok(())
 }
 
-/// The lines of the events.
-fn put_steps(alloc: Global, out: &mut Vec<u8>, steps: &[Step]) -> Result<(), Refusal>
-    ensures ok { OnOk result (out.new.items ≡ out.old.items ++ flat_map step_text steps.now) }
+/// The lines of what happened.
+fn put_entries(alloc: Global, out: &mut Vec<u8>, entries: &[Entry]) -> Result<(), Refusal>
+    ensures ok { OnOk result (out.new.items ≡ out.old.items ++ flat_map entry_text entries.now) }
     ensures err { IfErr result (λ e. e ≡ NoMemory) }
 {
-    for step in steps {
-        put_step(alloc, out, step)?;
+    for entry in entries {
+        put_entry(alloc, out, entry)?;
     }
     Ok(())
 }
@@ -137,7 +187,7 @@ pub fn write_trace(alloc: Global, trace: &Trace) -> Result<Vec<u8>, Refusal>
     let mut out = Vec::new(alloc);
     put_sizes(&mut out, trace.sizes)?;
     put_tables(alloc, &mut out, trace.tables.as_slice())?;
-    put_steps(alloc, &mut out, trace.steps.as_slice())?;
+    put_entries(alloc, &mut out, trace.entries.as_slice())?;
     put_finals(alloc, &mut out, trace.finals.as_slice())?;
     Ok(out)
 }

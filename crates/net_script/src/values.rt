@@ -1,4 +1,4 @@
-use protocol::{Event, Row, Step};
+use protocol::{Answer, Change, Event, NodeId, Row, Sent, Step};
 use xid::Sequence;
 
 /// The first rows of a resource manager.
@@ -10,7 +10,7 @@ pub struct Table {
     pub rows: Sequence<Row>,
 }
 
-/// How many nodes of each kind there are. A script may say any numbers of 32 bits.
+/// How many nodes of each kind there are, and how they speak. A script may say any numbers of 32 bits.
 #[derive(Clone, Copy, Debug, PartialEq, Eq)]
 pub struct Sizes {
     /// Acceptors.
@@ -19,6 +19,17 @@ pub struct Sizes {
     pub leaders: u32,
     /// Resource managers.
     pub rms: u32,
+    /// Whether one datagram carries all instances of a transaction in phases 1a, 1b and 2b.
+    pub bundled: bool,
+}
+
+/// What a script asks for.
+#[derive(Debug, Drop)]
+pub enum Command {
+    /// An event.
+    Do(Event),
+    /// Deliveries, at most so many, each of the datagram of least number that isn't marked, until there is none.
+    Flow(u32),
 }
 
 /// A cluster, what its tables hold at first, and what happens to it.
@@ -28,8 +39,26 @@ pub struct Script {
     pub sizes: Sizes,
     /// At most one table for a resource manager of the cluster.
     pub tables: Sequence<Table>,
-    /// The events, in their order.
-    pub events: Sequence<Event>,
+    /// What is asked for, in order.
+    pub commands: Sequence<Command>,
+}
+
+/// What a trace tells of, and what came of it.
+#[derive(Debug, Drop)]
+pub enum Entry {
+    /// An event.
+    Step(Step),
+    /// Over sockets: a node took a datagram that had come for it, or its socket failed.
+    Serve {
+        /// The node.
+        node: NodeId,
+        /// What came of it.
+        answer: Answer,
+        /// The view that it changed, if it changed one.
+        now: Option<Change>,
+        /// The datagrams that it sent, in order.
+        sent: Sequence<Sent>,
+    },
 }
 
 /// A run of a script.
@@ -39,8 +68,8 @@ pub struct Trace {
     pub sizes: Sizes,
     /// The first tables.
     pub tables: Sequence<Table>,
-    /// The events, in their order, and what came of each.
-    pub steps: Sequence<Step>,
+    /// What happened, in order, and what came of it.
+    pub entries: Sequence<Entry>,
     /// What the table of each resource manager holds at the end, from resource manager 0 on.
     pub finals: Sequence<Sequence<Row>>,
 }

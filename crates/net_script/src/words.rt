@@ -1,10 +1,12 @@
-//! Lines and words of a text, and words that are resource managers and bytes.
+//! Lines and words of a text, and words that are nodes and bytes.
 
-ghost use Rattle.std.specs.Prelude.{◌≡◌, ◌≢◌, ℕ, ◌<◌, [], ◌∷◌, ◌↔◌, IsTrue, MatchOption};
-ghost use Rattle.net_script.specs.Basics.{IsBytes, R, hex_text};
+ghost use Rattle.std.specs.Prelude.{◌≡◌, ◌≢◌, ℕ, ◌<◌, [], ◌∷◌, ◌↔◌, IsTrue, MatchOption, decimal};
+ghost use Rattle.net_script.specs.Basics.{IsBytes, NodeId, A, L, R, hex_text};
+ghost use Rattle.net_script.specs.Events.{IsNode};
 ghost use Rattle.net_script.specs.Lines.{IsFirstPiece, IsFirstWord, IsSome, Reads, words, bytes_text, node_text};
 
 use hex::FromHexError;
+use protocol::NodeId;
 use std::alloc::Global;
 use xid::{Bytes, Refusal, Sequence, text};
 
@@ -45,13 +47,16 @@ pub(crate) fn is_over(line: &[u8]) -> bool
     false
 }
 
-/// The resource manager whose text this is.
-pub(crate) fn manager_word(word: &[u8]) -> Option<u8>
-    ensures { MatchOption result ((n : ℕ) → n < 256 → word.now ≢ node_text (R n)) (λ n. word.now ≡ node_text (R n)) }
+/// The number below 256 behind this letter.
+fn lettered_word(word: &[u8], letter: u8) -> Option<u8>
+    ensures { MatchOption result ((n : ℕ) → n < 256 → word.now ≢ letter ∷ decimal n) (λ n. word.now ≡ letter ∷ decimal n) }
 {
-    let [b'r', digits @ ..] = word else {
+    let [first, digits @ ..] = word else {
         return None;
     };
+    if *first != letter {
+        return None;
+    }
     let Some(number) = text::number(digits) else {
         return None;
     };
@@ -59,6 +64,43 @@ pub(crate) fn manager_word(word: &[u8]) -> Option<u8>
         return None;
     }
     Some(number as u8)
+}
+
+/// The resource manager whose text this is.
+pub(crate) fn manager_word(word: &[u8]) -> Option<u8>
+    ensures { MatchOption result ((n : ℕ) → n < 256 → word.now ≢ node_text (R n)) (λ n. word.now ≡ node_text (R n)) }
+{
+    lettered_word(word, b'r')
+}
+
+/// The acceptor whose text this is.
+pub(crate) fn acceptor_word(word: &[u8]) -> Option<u8>
+    ensures { MatchOption result ((n : ℕ) → n < 256 → word.now ≢ node_text (A n)) (λ n. word.now ≡ node_text (A n)) }
+{
+    lettered_word(word, b'a')
+}
+
+/// The leader whose text this is.
+pub(crate) fn leader_word(word: &[u8]) -> Option<u8>
+    ensures { MatchOption result ((n : ℕ) → n < 256 → word.now ≢ node_text (L n)) (λ n. word.now ≡ node_text (L n)) }
+{
+    lettered_word(word, b'l')
+}
+
+/// The node whose text this is.
+pub(crate) fn node_word(word: &[u8]) -> Option<NodeId>
+    ensures { MatchOption result ((n : NodeId) → IsNode n → word.now ≢ node_text n) (λ n. IsNode n × (word.now ≡ node_text n)) }
+{
+    if let Some(rm) = manager_word(word) {
+        return Some(NodeId::R(rm));
+    }
+    if let Some(acceptor) = acceptor_word(word) {
+        return Some(NodeId::A(acceptor));
+    }
+    if let Some(leader) = leader_word(word) {
+        return Some(NodeId::L(leader));
+    }
+    None
 }
 
 /// The bytes whose hex text this is, at least one.

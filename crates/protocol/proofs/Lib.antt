@@ -1,3 +1,6 @@
+pub mod DoneCalls
+pub mod Lists
+pub mod Manager
 pub mod RowWords
 pub mod PlainCommit
 pub mod Blocked

@@ -1,9 +1,10 @@
 -- What the facts of a record say of acceptors' slots, leaders' ballots and resource managers' views (Gray and Lamport, "Consensus
 -- on Transaction Commit", ACM TODS 31(1), 2006, section 4). A list of facts has the oldest first, as they were stored.
-use Rattle.std.specs.Prelude.{ℕ, Bool, true, false, not, ◌&&◌, ◌||◌, ◌==◌, if◌then◌else◌, List, filter, filter_map, Option, Some, None}
+use Rattle.std.specs.Prelude.{ℕ, Bool, true, false, not, ◌&&◌, ◌||◌, ◌==◌, ◌⊎◌, if◌then◌else◌, List, [], ◌∷◌, ◌++◌, filter, filter_map}
+use Rattle.std.specs.Prelude.{Option, Some, None}
 use Rattle.protocol.specs.Basics.{list_any, last_or, XidParts, xid_eq, tx_eq, TxParts, is_participant, xid_at, Vote, Fact, Touched, fact_tx}
 use Rattle.protocol.specs.Basics.{Report, is_prepared, Slot}
-use Rattle.ballot.specs.Greatest.{greatest}
+use Rattle.ballot.specs.Greatest.{greatest, IsIn}
 use Rattle.protocol.specs.Words.{View}
 
 -- whether two instances of transactions are the same
@@ -107,3 +108,21 @@ branch_bound_by fact = None
 -- the prepared branches
 abbrev pub bound_branches : List Fact → List Bound
 bound_branches facts = filter (λ bound. is_prepared_view (view facts bound.tx)) (filter_map branch_bound_by facts)
+
+-- a vote stands among the facts of a resource manager
+abbrev pub HasVote : List Fact → TxParts → Vote → Type 0
+HasVote facts tx Vote.Prepared = (keys : List Touched) × IsIn facts (Fact.VotePrepared tx keys)
+HasVote facts tx Vote.Aborted = IsIn facts (Fact.VoteAborted tx)
+
+-- a view is one of four, by what stands
+abbrev pub IsViewOf : List Fact → TxParts → View → Type 0
+IsViewOf facts tx View.Working = ((v : Vote) → ¬ HasVote facts tx v) × ¬ IsIn facts (Fact.Committed tx) × ¬ IsIn facts (Fact.Aborted tx)
+IsViewOf facts tx View.Prepared =
+    HasVote facts tx Vote.Prepared × ¬ IsIn facts (Fact.Committed tx) × ¬ HasVote facts tx Vote.Aborted × ¬ IsIn facts (Fact.Aborted tx)
+IsViewOf facts tx View.Committed = IsIn facts (Fact.Committed tx) × ¬ HasVote facts tx Vote.Aborted × ¬ IsIn facts (Fact.Aborted tx)
+IsViewOf facts tx View.Aborted = HasVote facts tx Vote.Aborted ⊎ IsIn facts (Fact.Aborted tx)
+
+-- the facts with one more, if there is one
+abbrev pub with_fact : List Fact → Option Fact → List Fact
+with_fact facts None = facts
+with_fact facts (Some fact) = facts ++ fact ∷ []

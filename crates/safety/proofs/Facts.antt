@@ -12,15 +12,11 @@ use Rattle.safety.specs.Words.{Fact, Outgoing}
 use Rattle.stable_record.specs.declared.fact.FactKind.TheVariants as stored
 use Rattle.protocol.specs.Facts.{vote_eq, last_ballot, ballot_begun}
 use Rattle.protocol.specs.StandsFor.{stands_for}
+pub use Rattle.protocol.specs.Facts.{with_fact}
 use Rattle.xid.proofs.Deciding.{tx_self}
-use Rattle.safety.proofs.Lists.{any_found, found_any, IsIn-map, IsIn-mapped}
+use Rattle.protocol.proofs.Lists.{any_found, found_any, IsIn-map, IsIn-mapped}
 use Rattle.ballot.specs.Greatest.{IsIn}
 use Rattle.ballot.proofs.Greatest.{at_most_greatest}
-
--- the facts with one more, if there is one
-abbrev pub with_fact : List Fact → Option Fact → List Fact
-with_fact facts None = facts
-with_fact facts (Some fact) = facts ++ fact ∷ []
 
 pub with_fact_is : (facts : List Fact) (fact : Option Fact) → with_fact facts fact ≡ facts ++ option_to_list fact
 with_fact_is facts None = sym (append-nil facts)

@@ -3,7 +3,7 @@ use Rattle.std.proofs.Common.{◌≡◌, ◌⊎◌, inl, inr, ℕ, List, Option}
 use Rattle.std.specs.Prelude.{filter_map}
 use Rattle.ballot.specs.Greatest.{greatest}
 use Rattle.ballot.proofs.Greatest.{greatest_in}
-use Rattle.safety.proofs.Lists.{IsFilterMapSource, filter_map_given}
+use Rattle.protocol.proofs.Lists.{IsFilterMapSource, filter_map_given}
 
 pub greatest_given : {X : Type 0} (h : X → Option ℕ) (xs : List X) → (greatest (filter_map h xs) ≡ 0)
     ⊎ IsFilterMapSource h xs (greatest (filter_map h xs))

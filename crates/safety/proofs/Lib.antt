@@ -1,5 +1,4 @@
--- Lists and facts; the argument on what stands, without the machine; what each role of the machine hands over; then whole worlds.
-pub mod Lists
+-- Facts; the argument on what stands, without the machine; what each role of the machine hands over; then whole worlds.
 pub mod Greatest
 pub mod Facts
 pub mod Argument

@@ -1,9 +1,2 @@
-pub mod Effects
 pub mod Allowed
-pub mod Keys
-pub mod Names
-pub mod Apart
-pub mod Prepared
-pub mod Views
 pub mod Holds
-pub mod Played

@@ -6,6 +6,5 @@ pub mod Standing
 pub mod Runs
 pub mod Senders
 pub mod Laws
-pub mod Holds
 pub mod Changes
 pub mod Forms

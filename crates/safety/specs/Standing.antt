@@ -2,28 +2,22 @@
 use Rattle.std.specs.Prelude.{◌⊎◌, ℕ, IsTrue, List, [], Option, Some, None}
 use Rattle.std.specs.List.{flat_map}
 use Rattle.xid.specs.Transactions.{TxParts, is_participant}
-use Rattle.xid.specs.declared.transaction.Vote.{Vote}
-use Rattle.xid.specs.declared.transaction.Vote.TheVariants as votes
 use Rattle.wire.specs.declared.message.Kind.{Kind}
 use Rattle.wire.specs.declared.message.Kind.TheVariants as kinds
 use Rattle.ballot.specs.Greatest.{IsIn}
 use Rattle.ballot.specs.Ballots.{owner_of}
-use Rattle.safety.specs.Words.{Fact, Touched, NodeId, A, L, R}
+use Rattle.safety.specs.Words.{Fact, NodeId, A, L, R}
 use Rattle.stable_record.specs.declared.fact.FactKind.TheVariants as stored
 use Rattle.protocol.specs.Effects.{Config}
 use Rattle.protocol.specs.Nodes.{NodeState}
 use Rattle.protocol.specs.StandsFor.{stands_for}
+pub use Rattle.protocol.specs.Facts.{HasVote}
 use Rattle.protocol.specs.Worlds.{World, node_at}
 use Rattle.safety.specs.Items.{Setting, Item, Promised, Accepted, Began, Voted, Committed, StoredAbort, P1b, P2a, P2b, Commit, Abort}
 
 -- what is fixed in a cluster
 abbrev pub setting : Config → Setting TxParts
 setting config = record { acceptors = config.acceptors; owner = owner_of config.leaders; is_participant = is_participant }
-
--- a vote stands among the facts of a resource manager
-abbrev pub HasVote : List Fact → TxParts → Vote → Type 0
-HasVote facts tx votes.Prepared = (keys : List Touched) × IsIn facts (stored.VotePrepared tx keys)
-HasVote facts tx votes.Aborted = IsIn facts (stored.VoteAborted tx)
 
 -- a promise of an instance stands among the facts of an acceptor: its own, or one for all instances of the transaction
 abbrev pub IsPromised : List Fact → TxParts → ℕ → ℕ → Type 0

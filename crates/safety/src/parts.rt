@@ -16,7 +16,7 @@ ghost use Rattle.protocol.specs.Facts.{slot, last_ballot};
 ghost use Rattle.protocol.specs.Managers.{all_branches};
 ghost use Rattle.protocol.specs.Nodes.{NodeState, Fault};
 ghost use Rattle.protocol.specs.Worlds.{World, node_at, world_step};
-ghost use Rattle.safety.specs.Holds.{AreHeldOnce, AreNamedOnce, AreInOrder};
+ghost use Rattle.protocol.specs.Holds.{AreHeldOnce, AreNamedOnce, AreInOrder};
 ghost use Rattle.safety.specs.Items.{Accepted, Began, Voted, Committed, StoredAbort, P1b, P2a, P2b, Commit, Abort};
 ghost use Rattle.safety.specs.Items.{IsDecidedIn, IsDecided, IsMajorityPick, IsCovered};
 ghost use Rattle.safety.specs.Runs.{IsReachable};

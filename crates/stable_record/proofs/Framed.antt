@@ -1,11 +1,9 @@
 -- Frames one after the other: what stands at the front of bytes is known, and so what bytes hold.
 use Rattle.std.proofs.Common.{◌≡◌, ◌≢◌, ℕ, zero, suc, ◌+◌, ◌-◌, ◌<◌, ◌≤◌, Bool, true, false, cond, ltb, List, [], ◌∷◌, ◌++◌, length, take, drop, Option, Some, None}
 use Rattle.std.proofs.Common.{◌⊎◌, inl, inr, refl, sym, subst, ap, ◌∙◌, append_assoc, arith}
-use Rattle.std.proofs.lemmas.Bool.{le-ltb}
 use Rattle.std.proofs.lemmas.Bool.Decides.{nat_tests}
 use Rattle.std.proofs.lemmas.List.{append-nil, take_at, drop_at, length-append, length-take, length-drop, take-append-drop}
 use Rattle.byteorder.specs.Endian.{big_number}
-use Rattle.byteorder.specs.Numbers.{length-bytes_high_first}
 use Rattle.xid.specs.Names.{IsBytes}
 use Rattle.wire.specs.Versions.{Version, version_of}
 use Rattle.wire.specs.declared.grammar.VersionNumber.{VersionNumber}
@@ -15,10 +13,10 @@ use Rattle.wire.proofs.Fields.{number_again}
 use Rattle.wire.proofs.Spelled.{some_same, unless, number_spelled}
 use Rattle.stable_record.specs.declared.entry.EntryKind.{EntryKind as Entry}
 use Rattle.stable_record.specs.Entries.{IsEntryIn}
-use Rattle.stable_record.specs.Grammar.{most_body, body_spelling, frame, IsCutFrame, IsTail, IsFramed, IsStored, IsDamaged, HasNoFrame}
+use Rattle.stable_record.specs.Grammar.{most_body, body_spelling, frame, IsTail, IsFramed, IsStored, IsDamaged, HasNoFrame}
 use Rattle.stable_record.specs.Reading.{body_at}
 use Rattle.stable_record.proofs.Again.{body_again}
-use Rattle.stable_record.proofs.SpelledEntries.{Body, body_spelled}
+use Rattle.stable_record.proofs.SpelledEntries.{body_spelled}
 use Rattle.stable_record.proofs.Lengths.{body_few, frame_has}
 
 -- what stands in front of bytes is bytes

@@ -1,5 +1,5 @@
 -- How long entries are: what a frame's length is, and that no body is longer than one may be.
-use Rattle.std.proofs.Common.{◌≡◌, ℕ, zero, suc, ◌+◌, ◌*◌, ◌<◌, ◌≤◌, List, [], ◌∷◌, ◌++◌, length, map, sum, refl, sym, ap, ◌∙◌, arith}
+use Rattle.std.proofs.Common.{◌≡◌, ℕ, suc, ◌+◌, ◌*◌, ◌≤◌, List, [], ◌∷◌, ◌++◌, length, map, sum, refl, ap, arith}
 use Rattle.std.specs.List.{flat_map, All, AllByRecursion}
 use Rattle.std.proofs.lemmas.List.{length-append}
 use Rattle.std.proofs.lemmas.List.Concat.{flat_map-cons}
@@ -20,7 +20,7 @@ use Rattle.stable_record.specs.declared.fact.FactKind.TheVariants.{Promise, Acce
 use Rattle.stable_record.specs.declared.fact.FactKind.TheVariants.{Committed, Aborted, PromiseAll}
 use Rattle.stable_record.specs.declared.entry.EntryKind.{EntryKind as Entry}
 use Rattle.stable_record.specs.declared.entry.EntryKind.TheVariants.{Snapshot, Row, PastCommitted, PastAborted}
-use Rattle.stable_record.specs.Facts.{IsFact, IsAct, IsTouched, AreKeys, fact_tx}
+use Rattle.stable_record.specs.Facts.{IsFact, IsAct, IsTouched, fact_tx}
 use Rattle.stable_record.specs.Frames.{act_length, touched_length, rest_length, frame_length_in}
 use Rattle.stable_record.specs.Entries.{IsEntry, IsEntryIn, IsNamedIn, IsInstanceIn}
 use Rattle.stable_record.specs.Grammar.{most_body, value_spelling, act_spelling, touched_spelling, rest_spelling, fields_spelling, body_spelling, frame}

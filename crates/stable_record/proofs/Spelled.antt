@@ -1,6 +1,6 @@
 -- What is taken was spelled, and its ranges and relations hold: each field of an entry from the front of bytes.
-use Rattle.std.proofs.Common.{◌≡◌, ℕ, zero, suc, ◌^◌, ◌<◌, ◌≤◌, Bool, true, false, ◌&&◌, cond, eqb, ltb, List, [], ◌∷◌, ◌++◌, length, get_or}
-use Rattle.std.proofs.Common.{Option, take, drop, Some, None, refl, sym, subst, ap, ◌∙◌, arith, eqb-true}
+use Rattle.std.proofs.Common.{◌≡◌, ℕ, zero, suc, ◌^◌, ◌<◌, ◌≤◌, Bool, true, false, ◌&&◌, cond, eqb, ltb, List, [], ◌∷◌, ◌++◌, length}
+use Rattle.std.proofs.Common.{take, drop, Some, None, refl, sym, subst, ap, arith, eqb-true}
 use Rattle.std.specs.List.{flat_map, AllByRecursion}
 use Rattle.std.specs.Cmp.Lexicographic.{slice_cmp}
 use Rattle.std.specs.Ordering.{nat_cmp, is_lt}
@@ -12,16 +12,14 @@ use Rattle.std.proofs.lemmas.List.Concat.{flat_map-cons}
 use Rattle.byteorder.specs.Endian.{big_number, big_bytes}
 use Rattle.xid.specs.Names.{IsBytes}
 use Rattle.xid.specs.Limits.{most_component, most_value, most_touched}
-use Rattle.xid.specs.Transactions.{TxParts, IsTx}
 use Rattle.wire.specs.Messages.{IsBallot, IsLeaderBallot}
-use Rattle.wire.specs.Versions.{Version, version_of, IsTxIn}
+use Rattle.wire.specs.Versions.{version_of}
 use Rattle.wire.specs.declared.grammar.VersionNumber.{VersionNumber}
 use Rattle.wire.specs.declared.grammar.VersionNumber.TheVariants.{First, Second}
-use Rattle.wire.specs.Grammar.{number_spelling, rm_spelling, component_spelling, tx_spelling, vote_byte}
-use Rattle.wire.specs.Reading.{◌>>=◌, byte_at, big_at, number_at, rm_at, component_at, instance_at, vote_at, list_at, end_at}
-use Rattle.wire.specs.Decoding.{tx_in}
+use Rattle.wire.specs.Grammar.{number_spelling, rm_spelling, component_spelling}
+use Rattle.wire.specs.Reading.{◌>>=◌, byte_at, big_at, number_at, rm_at, component_at, instance_at, list_at}
 use Rattle.wire.proofs.Spelled.{Front, front_of, joined, some_same, step, unless, byte_spelled, short_spelled, number_spelled, rm_spelled}
-use Rattle.wire.proofs.Spelled.{component_spelled, vote_spelled}
+use Rattle.wire.proofs.Spelled.{component_spelled}
 use Rattle.stable_record.specs.declared.fact.Act.{Act}
 use Rattle.stable_record.specs.declared.fact.Act.TheVariants.{Read, Del}
 use Rattle.stable_record.specs.declared.fact.Touched.{Touched}

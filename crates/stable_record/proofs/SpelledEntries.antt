@@ -1,5 +1,5 @@
 -- What is taken was spelled: facts, the other entries, and the body of a frame.
-use Rattle.std.proofs.Common.{◌≡◌, ℕ, suc, ◌^◌, ◌<◌, ◌==◌, Bool, true, false, cond, eqb, ltb, List, [], ◌∷◌, ◌++◌, length}
+use Rattle.std.proofs.Common.{◌≡◌, ℕ, ◌^◌, ◌<◌, ◌==◌, Bool, true, false, cond, List, [], ◌∷◌, ◌++◌}
 use Rattle.std.proofs.Common.{Option, Some, None, refl, sym, subst, ap, ◌∙◌, append_assoc, arith, eqb-true}
 use Rattle.std.proofs.lemmas.List.{append-nil}
 use Rattle.xid.specs.Names.{IsBytes}
@@ -8,7 +8,7 @@ use Rattle.wire.specs.Versions.{Version, version_of, IsTxIn}
 use Rattle.wire.specs.declared.grammar.VersionNumber.{VersionNumber}
 use Rattle.wire.specs.declared.grammar.VersionNumber.TheVariants.{First, Second}
 use Rattle.wire.specs.Grammar.{number_spelling, rm_spelling, component_spelling, tx_spelling, vote_byte}
-use Rattle.wire.specs.Reading.{◌>>=◌, byte_at, instance_at, vote_at, end_at}
+use Rattle.wire.specs.Reading.{byte_at, instance_at, vote_at, end_at}
 use Rattle.wire.specs.Decoding.{tx_in}
 use Rattle.wire.proofs.Spelled.{Front, front_of, joined, some_same, step, byte_spelled, vote_spelled}
 use Rattle.wire.proofs.TakenTx.{in_spelled}
@@ -18,11 +18,11 @@ use Rattle.stable_record.specs.declared.fact.FactKind.TheVariants.{Committed, Ab
 use Rattle.stable_record.specs.declared.entry.EntryKind.{EntryKind as Entry}
 use Rattle.stable_record.specs.declared.entry.EntryKind.TheVariants.{Snapshot, Row, PastCommitted, PastAborted}
 use Rattle.stable_record.specs.Facts.{IsFact, FitsWidth, fact_tx}
-use Rattle.stable_record.specs.Entries.{IsEntry, IsNamedIn, IsEntryIn, IsInstanceIn}
-use Rattle.stable_record.specs.Grammar.{value_spelling, keys_spelling, fact_byte, rest_spelling, entry_byte, fields_spelling, body_spelling}
+use Rattle.stable_record.specs.Entries.{IsEntryIn, IsInstanceIn}
+use Rattle.stable_record.specs.Grammar.{value_spelling, fact_byte, rest_spelling, entry_byte, fields_spelling, body_spelling}
 use Rattle.stable_record.specs.Reading.{keys_at, leader_ballot_at, promise_at, accept_at, ballot_at, promise_all_at, vote_prepared_at}
 use Rattle.stable_record.specs.Reading.{fact_at, row_at, about_at, entry_at, key_at, value_at, version_at, body_at}
-use Rattle.stable_record.proofs.Spelled.{when, key_spelled, value_spelled, keys_spelled, leader_ballot_spelled, instance_spelled}
+use Rattle.stable_record.proofs.Spelled.{key_spelled, value_spelled, keys_spelled, leader_ballot_spelled, instance_spelled}
 
 -- a fact that was taken after its transaction
 record Fact_front (v : Version) (code : ℕ) (tx : TxParts) (bytes : List ℕ) (x : Fact × List ℕ) : Type 0 where

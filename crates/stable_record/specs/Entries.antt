@@ -1,6 +1,6 @@
 -- What a record holds: facts, and, where it was made shorter, what stands for facts that it doesn't hold any more.
-use Rattle.std.specs.Prelude.{ℕ, ◌<◌, ◌^◌}
-use Rattle.xid.specs.Transactions.{TxParts, IsTx}
+use Rattle.std.specs.Prelude.{◌<◌, ◌^◌}
+use Rattle.xid.specs.Transactions.{IsTx}
 use Rattle.wire.specs.Versions.{Version, IsTxIn}
 use Rattle.stable_record.specs.declared.fact.FactKind.{FactKind as Fact}
 use Rattle.stable_record.specs.declared.fact.FactKind.TheVariants.{Promise, Accept}

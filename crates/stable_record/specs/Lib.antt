@@ -5,3 +5,4 @@ pub mod Grammar
 pub mod Reading
 pub mod Held
 pub mod Records
+pub mod Parts

@@ -1,6 +1,7 @@
 -- What the records of this crate hold.
-use Rattle.std.specs.Prelude.{ℕ, List, Option, Some, None, false, true}
+use Rattle.std.specs.Prelude.{ℕ, List, None, false, true}
 use Rattle.stable_record.specs.declared.memory.MemRecord.{MemRecord}
+use Rattle.stable_record.specs.declared.file.FileRecord.{FileRecord}
 use Rattle.stable_record.specs.declared.failing.FailRecord.{FailRecord}
 use Rattle.stable_record.specs.Held.{Held}
 
@@ -21,3 +22,11 @@ fail_held held r = record {
   armed = (held r.inner).armed;
   may_fail = true;
 }
+
+-- a record in a file may fail of itself, and holds what was read and written; no tear can be armed
+abbrev pub file_held : FileRecord → Held
+file_held r = record { bytes = r.bytes.items; kept = r.kept; faults = r.faults; armed = None; may_fail = true }
+
+-- a record that was just opened with these bytes in its file
+abbrev pub just_opened : List ℕ → Held
+just_opened bytes = record { bytes = bytes; kept = 0; faults = 0; armed = None; may_fail = true }

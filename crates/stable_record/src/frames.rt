@@ -11,9 +11,9 @@ use xid::Refusal;
 /// How many bytes the body of a frame has at most.
 pub const MAX_BODY: u32 = 32768;
 
-/// The entry whose frame stands at the front, and what follows it. None where the bytes are a tail; `Damaged` where they are
-/// neither.
-fn take_frame(alloc: Global, bytes: &[u8]) -> Result<Option<(Entry, &[u8])>, Refusal>
+/// The entry whose frame stands at the front, and what follows it: for a record that is read one entry after the other. None where the
+/// bytes are a tail. Refused: `Damaged` where they are neither, and `NoMemory`.
+pub fn take_frame(alloc: Global, bytes: &[u8]) -> Result<Option<(Entry, &[u8])>, Refusal>
     ensures ok { IfOk result (λ found. MatchOption found (IsTail bytes.now) (λ x. IsFramed x.0 bytes.now x.1.now)) }
     ensures err { IfErr result (λ e. ((e ≡ Damaged) × HasNoFrame bytes.now) ⊎ (e ≡ NoMemory)) }
 {

@@ -7,7 +7,7 @@ ghost use Rattle.stable_record.specs.declared.fact.FactKind.{FactKind};
 ghost use Rattle.stable_record.specs.declared.entry.EntryKind.{EntryKind};
 ghost use Rattle.stable_record.specs.Frames.{torn, Begins, frame_length, frame_length_in};
 ghost use Rattle.stable_record.specs.Entries.{IsEntry, IsEntryIn};
-ghost use Rattle.stable_record.specs.Grammar.{frame, IsTail, IsStored};
+ghost use Rattle.stable_record.specs.Grammar.{frame, IsTail, IsFramed, IsStored, IsDamaged, HasNoFrame};
 
 /// A stopped append leaves the bytes that stood and a beginning of the frame, which may be the whole.
 pub fn torn_append_is_a_beginning()
@@ -30,6 +30,16 @@ pub fn frames_are_joined()
         → IsStored (frame (version_of v) entry) (entry ∷ []) [] }
     ensures joined { (bytes more tail : List ℕ) (entries others : List EntryKind) → IsStored bytes entries [] → IsStored more others tail
         → IsStored (bytes ++ more) (entries ++ others) tail }
+{}
+
+/// Bytes are read one frame after the other: the entry in front comes before those that follow, a tail has none, and bytes are damaged
+/// where no frame stands in front, or where those that follow are damaged.
+pub fn entries_are_read_in_turn()
+    ensures first { (bytes rest tail : List ℕ) (entry : EntryKind) (entries : List EntryKind) → IsFramed entry bytes rest
+        → IsStored rest entries tail → IsStored bytes (entry ∷ entries) tail }
+    ensures tail { (bytes : List ℕ) → IsTail bytes → IsStored bytes [] bytes }
+    ensures none { (bytes : List ℕ) → HasNoFrame bytes → IsDamaged bytes }
+    ensures later { (bytes rest : List ℕ) (entry : EntryKind) → IsFramed entry bytes rest → IsDamaged rest → IsDamaged bytes }
 {}
 
 /// A frame of which a proper beginning was kept is no entry: it is a tail after the entries that stood. One that was kept whole is one

@@ -4,6 +4,7 @@
 mod entry;
 mod fact;
 mod failing;
+mod file;
 mod frames;
 pub mod laws;
 mod memory;
@@ -14,9 +15,12 @@ mod writing;
 pub use entry::{Entry, EntryKind};
 pub use fact::{Act, Fact, FactKind, Touched};
 pub use failing::{FailRecord, Leaves};
-pub use frames::{MAX_BODY, entries};
+pub use file::FileRecord;
+pub use frames::{MAX_BODY, entries, take_frame};
 pub use memory::MemRecord;
 pub use record::{Record, RecordError, Tear};
 
+#[cfg(test)]
+mod file_tests;
 #[cfg(test)]
 mod tests;

@@ -118,6 +118,7 @@ fn promises(rt: HostRuntime) -> Result<(), Fail> {
     assert_eq!(&rt; entry.into_kind(), promise);
     laws::stored_in_one_way();
     laws::frames_are_joined();
+    laws::entries_are_read_in_turn();
     laws::torn_frame_is_a_tail();
     laws::cut_keeps_the_entries();
     laws::frame_length_is_exact();

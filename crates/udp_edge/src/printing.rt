@@ -113,7 +113,10 @@ pub fn answer_script<W: Write>(alloc: Global, script: &[u8], out: &mut W) -> Res
     ensures ok { OnOk result (PrintsRunOf script.now (W.contents out.old) (W.contents out.new)) }
     ensures err { IfErr result (λ e. RefusesScript script.now e (W.contents out.old) (W.contents out.new)) }
 {
-    let output = run(alloc, script)?;
+    let output = match run(alloc, script) {
+        Ok(output) => output,
+        Err(refusal) => return Err(refusal),
+    };
     write_text(&output, out)
 }
 

@@ -95,7 +95,7 @@ instances_decide tx ns =
     (all_decides (λ rm. is_participant tx rm) (λ rm. IsTrue (is_participant tx rm)) (λ rm. (λ h. h, λ h. h)) ns))
     (ascending_decides ns))
 
-message_decides : (k : Kind) → Decides (is_message k) (IsMessage k)
+pub message_decides : (k : Kind) → Decides (is_message k) (IsMessage k)
 message_decides (Prepare tx) = tx_decides tx
 message_decides (P1a tx rm ballot) = Decides-and _ _ (instance_decides tx rm) (leader_ballot_decides ballot)
 message_decides (P1b tx rm ballot report acceptor) =

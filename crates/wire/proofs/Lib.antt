@@ -8,5 +8,6 @@ pub mod Spelled
 pub mod SpelledKinds
 pub mod OneSpelling
 pub mod DecodingLemmas
+pub mod Decoded
 pub mod PushedItems
 pub mod TakenTx

@@ -1,16 +1,19 @@
 -- The message that bytes spell, as a computation: what the grammar says, in a form that the machine can ask.
 use Rattle.std.specs.Prelude.{ℕ, ◌^◌, Bool, true, ◌&&◌, cond, nat_lt, nat_le, List, [], ◌∷◌, length, Option, Some, None, is_some}
+use Rattle.std.specs.Prelude.{Result, Ok, Err}
 use Rattle.std.specs.List.{list_all}
 use Rattle.std.specs.Str.{bytes_eq}
 use Rattle.xid.specs.Limits.{most_acceptors, most_managers, most_branches, most_component, formats}
 use Rattle.xid.specs.Transactions.{TxParts, BranchParts, rm_numbers, is_participant}
+use Rattle.xid.specs.declared.refusals.Refusal.{Refusal}
+use Rattle.xid.specs.declared.refusals.Refusal.TheVariants.{BadMessage}
 use Rattle.xid.specs.declared.transaction.Vote.{Vote}
 use Rattle.wire.specs.declared.message.Kind.{Kind}
 use Rattle.wire.specs.declared.message.Kind.TheVariants.{Prepare, P1a, P1b, P2a, P2b, Commit, Abort, Ask, B1a, B1b, B2b}
 use Rattle.wire.specs.Versions.{Version, version_2}
 use Rattle.wire.specs.Messages.{reported_instances, accepted_instances}
 use Rattle.wire.specs.Grammar.{spelling}
-use Rattle.wire.specs.Reading.{◌>>=◌, byte_at, tx_at, kind_at}
+use Rattle.wire.specs.Reading.{◌>>=◌, byte_at, tx_at, kind_at, whole}
 
 -- whether bytes are a component: 1 to 64 of them
 abbrev pub is_component : List ℕ → Bool
@@ -85,6 +88,15 @@ is_message (B1b tx ballot acceptor reports) =
     && list_all (λ item. is_report ballot item.report) reports
 is_message (B2b tx acceptor accepts) =
     are_instances tx (accepted_instances accepts) && is_acceptor acceptor && list_all (λ item. is_ballot item.ballot) accepts
+
+-- what is answered of a kind that was taken: it, where it is a message
+abbrev pub answered : Option Kind → Result Kind Refusal
+answered None = Err BadMessage
+answered (Some kind) = cond (is_message kind) (Ok kind) (Err BadMessage)
+
+-- what is answered of a kind and the bytes after it: it, where nothing follows it and it is a message
+abbrev pub decoded : Option (Kind × List ℕ) → Result Kind Refusal
+decoded read = answered (whole read)
 
 -- the message that bytes spell, if they spell one: its fields are taken from the front, and its one spelling is compared
 abbrev pub message_at : List ℕ → Option Kind

@@ -2,6 +2,7 @@ ghost use Rattle.std.specs.Prelude.{◌≡◌, ◌↔◌, ◌<◌, ◌≤◌, Is
 ghost use Rattle.std.specs.List.{AllByRecursion};
 ghost use Rattle.xid.specs.Transactions.{IsTx};
 ghost use Rattle.wire.specs.Grammar.{kind_byte};
+ghost use Rattle.wire.specs.declared.message.Kind.TheVariants.{P1a, P1b, P2a, P2b, Ask, B1a, B1b, B2b};
 ghost use Rattle.wire.specs.Messages.{IsMessage, IsBallot, IsReportBelow, AreInstances, reported_instances, accepted_instances};
 
 use crate::items::{InstanceAccept, InstanceReport, Items};
@@ -149,13 +150,88 @@ fn are_accepts(tx: &Tx, accepts: &[InstanceAccept]) -> bool
     true
 }
 
+/// Whether phase 1a is a message.
+pub(crate) fn is_p1a(tx: &Tx, instance: ManagerNumber, ballot: Ballot) -> bool
+    ensures { IsTrue result ↔ IsMessage (P1a tx.now instance ballot) }
+{
+    tx.is_participant(instance) && ballot >= 1
+}
+
+/// Whether phase 1b is a message.
+pub(crate) fn is_p1b(
+    tx: &Tx,
+    instance: ManagerNumber,
+    ballot: Ballot,
+    report: Option<(Ballot, Vote)>,
+    acceptor: u8,
+) -> bool
+    ensures { IsTrue result ↔ IsMessage (P1b tx.now instance ballot report acceptor) }
+{
+    tx.is_participant(instance)
+        && ballot >= 1
+        && is_report_below(report, ballot)
+        && acceptor < MAX_ACCEPTORS
+}
+
+/// Whether phase 2a is a message.
+pub(crate) fn is_p2a(tx: &Tx, instance: ManagerNumber, ballot: Ballot, vote: Vote) -> bool
+    ensures { IsTrue result ↔ IsMessage (P2a tx.now instance ballot vote) }
+{
+    let _ballot = ballot;
+    tx.is_participant(instance)
+}
+
+/// Whether phase 2b is a message.
+pub(crate) fn is_p2b(
+    tx: &Tx,
+    instance: ManagerNumber,
+    ballot: Ballot,
+    vote: Vote,
+    acceptor: u8,
+) -> bool
+    ensures { IsTrue result ↔ IsMessage (P2b tx.now instance ballot vote acceptor) }
+{
+    tx.is_participant(instance) && acceptor < MAX_ACCEPTORS
+}
+
+/// Whether an ask is a message.
+pub(crate) fn is_ask(tx: &Tx, rm: ManagerNumber) -> bool
+    ensures { IsTrue result ↔ IsMessage (Ask tx.now rm) }
+{
+    tx.is_participant(rm)
+}
+
+/// Whether a bundle of phase 1a is a message.
+pub(crate) fn is_b1a(tx: &Tx, ballot: Ballot) -> bool
+    ensures { IsTrue result ↔ IsMessage (B1a tx.now ballot) }
+{
+    let _ = tx.count();
+    ballot >= 1
+}
+
+/// Whether a bundle of phase 1b is a message.
+fn is_b1b(tx: &Tx, ballot: Ballot, acceptor: u8, reports: &Items<InstanceReport>) -> bool
+    ensures { IsTrue result ↔ IsMessage (B1b tx.now ballot acceptor reports.now) }
+{
+    let _ = tx.count();
+    ballot >= 1 && acceptor < MAX_ACCEPTORS && are_reports(tx, ballot, reports.as_slice())
+}
+
+/// Whether a bundle of phase 2b is a message.
+fn is_b2b(tx: &Tx, acceptor: u8, accepts: &Items<InstanceAccept>) -> bool
+    ensures { IsTrue result ↔ IsMessage (B2b tx.now acceptor accepts.now) }
+{
+    let _ = tx.count();
+    acceptor < MAX_ACCEPTORS && are_accepts(tx, accepts.as_slice())
+}
+
 /// Whether a bundle is a message.
 fn is_bundle(kind: &Kind) -> bool
     requires { 9 < kind_byte kind.now }
     ensures { IsTrue result ↔ IsMessage kind.now }
 {
     let tx = kind.tx();
-    match *kind {
+    match kind {
         Kind::Prepare(_) => false,
         Kind::P1a { .. } => false,
         Kind::P1b { .. } => false,
@@ -164,20 +240,18 @@ fn is_bundle(kind: &Kind) -> bool
         Kind::Commit(_) => false,
         Kind::Abort(_) => false,
         Kind::Ask { .. } => false,
-        Kind::B1a { ballot, .. } => ballot >= 1,
+        Kind::B1a { ballot, .. } => is_b1a(tx, *ballot),
         Kind::B1b {
             ballot,
             acceptor,
             reports,
             ..
-        } => {
-            ballot >= 1 && acceptor < MAX_ACCEPTORS && are_reports(tx, ballot, reports.as_slice())
-        }
+        } => is_b1b(tx, *ballot, *acceptor, reports),
         Kind::B2b {
             acceptor,
             accepts,
             ..
-        } => acceptor < MAX_ACCEPTORS && are_accepts(tx, accepts.as_slice()),
+        } => is_b2b(tx, *acceptor, accepts),
     }
 }
 
@@ -187,39 +261,36 @@ pub fn is_message(kind: &Kind) -> bool
     ensures { IsTrue result ↔ IsMessage kind.now }
 {
     let tx = kind.tx();
-    match *kind {
+    match kind {
         Kind::Prepare(_) => true,
         Kind::P1a {
             instance,
             ballot,
             ..
-        } => tx.is_participant(instance) && ballot >= 1,
+        } => is_p1a(tx, *instance, *ballot),
         Kind::P1b {
             instance,
             ballot,
             report,
             acceptor,
             ..
-        } => {
-            tx.is_participant(instance)
-                && ballot >= 1
-                && is_report_below(report, ballot)
-                && acceptor < MAX_ACCEPTORS
-        }
+        } => is_p1b(tx, *instance, *ballot, *report, *acceptor),
         Kind::P2a {
             instance,
-            ballot: _ballot,
+            ballot,
+            vote,
             ..
-        } => tx.is_participant(instance),
+        } => is_p2a(tx, *instance, *ballot, *vote),
         Kind::P2b {
             instance,
-            ballot: _ballot,
+            ballot,
+            vote,
             acceptor,
             ..
-        } => tx.is_participant(instance) && acceptor < MAX_ACCEPTORS,
+        } => is_p2b(tx, *instance, *ballot, *vote, *acceptor),
         Kind::Commit(_) => true,
         Kind::Abort(_) => true,
-        Kind::Ask { rm, .. } => tx.is_participant(rm),
+        Kind::Ask { rm, .. } => is_ask(tx, *rm),
         Kind::B1a { .. } => is_bundle(kind),
         Kind::B1b { .. } => is_bundle(kind),
         Kind::B2b { .. } => is_bundle(kind),

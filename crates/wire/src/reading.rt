@@ -146,7 +146,7 @@ fn most_managers(version: VersionNumber) -> ManagerNumber
 
 /// The format and the gtrid of a transaction, and what follows it. Its branches are put in place.
 #[tactic(auto, unfolding(crate::specs::Reading::tx_at))]
-fn take_parts<'a>(
+pub(crate) fn take_parts<'a>(
     version: VersionNumber,
     branches: &mut Branches,
     bytes: &'a [u8],
@@ -220,7 +220,7 @@ pub fn take_vote(bytes: &[u8]) -> Option<(Vote, &[u8])>
 }
 
 #[tactic(auto, unfolding(crate::specs::Reading::report_at))]
-fn take_report(bytes: &[u8]) -> Option<(Option<(u32, Vote)>, &[u8])>
+pub(crate) fn take_report(bytes: &[u8]) -> Option<(Option<(u32, Vote)>, &[u8])>
     ensures { taken result ≡ report_at bytes.now }
 {
     let Some((ballot, rest)) = take_number(bytes) else {
@@ -242,7 +242,7 @@ fn take_report(bytes: &[u8]) -> Option<(Option<(u32, Vote)>, &[u8])>
 }
 
 #[tactic(auto, unfolding(crate::specs::Reading::instance_at))]
-fn take_instance(bytes: &[u8]) -> Option<(ManagerNumber, u32, &[u8])>
+pub(crate) fn take_instance(bytes: &[u8]) -> Option<(ManagerNumber, u32, &[u8])>
     ensures { option_map (λ x. (x.0, x.1, x.2.now)) result ≡ instance_at version_2 bytes.now }
 {
     let Some((rm, rest)) = take_rm(VersionNumber::Second, bytes) else {
@@ -328,7 +328,7 @@ fn more_accepts(
 }
 
 #[tactic(auto, unfolding(crate::specs::Reading::items_at))]
-fn take_reports(bytes: &[u8]) -> Option<(Items<InstanceReport>, &[u8])>
+pub(crate) fn take_reports(bytes: &[u8]) -> Option<(Items<InstanceReport>, &[u8])>
     ensures { taken result ≡ items_at report_item_at bytes.now }
 {
     let Some((count, rest)) = take_byte(bytes) else {
@@ -347,7 +347,7 @@ fn take_reports(bytes: &[u8]) -> Option<(Items<InstanceReport>, &[u8])>
 }
 
 #[tactic(auto, unfolding(crate::specs::Reading::items_at))]
-fn take_accepts(bytes: &[u8]) -> Option<(Items<InstanceAccept>, &[u8])>
+pub(crate) fn take_accepts(bytes: &[u8]) -> Option<(Items<InstanceAccept>, &[u8])>
     ensures { taken result ≡ items_at accept_item_at bytes.now }
 {
     let Some((count, rest)) = take_byte(bytes) else {
@@ -363,244 +363,4 @@ fn take_accepts(bytes: &[u8]) -> Option<(Items<InstanceAccept>, &[u8])>
         return None;
     };
     more_accepts(first, count - 1, rest)
-}
-
-/// Takes the end.
-fn take_end(bytes: &[u8]) -> Option<()>
-    ensures { result ≡ end_at bytes.now }
-{
-    let [] = bytes else {
-        return None;
-    };
-    Some(())
-}
-
-#[tactic(auto, unfolding(crate::specs::Reading::p1a_at))]
-fn p1a_of(tx: &Tx, bytes: &[u8]) -> Option<Kind>
-    ensures { result ≡ whole (p1a_at tx.now bytes.now) }
-{
-    let Some((instance, ballot, rest)) = take_instance(bytes) else {
-        return None;
-    };
-    let Some(()) = take_end(rest) else {
-        return None;
-    };
-    Some(Kind::P1a {
-        tx: *tx,
-        instance,
-        ballot,
-    })
-}
-
-#[tactic(auto, unfolding(crate::specs::Reading::p1b_at))]
-fn p1b_of(tx: &Tx, bytes: &[u8]) -> Option<Kind>
-    ensures { result ≡ whole (p1b_at tx.now bytes.now) }
-{
-    let Some((instance, ballot, rest)) = take_instance(bytes) else {
-        return None;
-    };
-    let Some((report, rest)) = take_report(rest) else {
-        return None;
-    };
-    let Some((acceptor, rest)) = take_byte(rest) else {
-        return None;
-    };
-    let Some(()) = take_end(rest) else {
-        return None;
-    };
-    Some(Kind::P1b {
-        tx: *tx,
-        instance,
-        ballot,
-        report,
-        acceptor,
-    })
-}
-
-#[tactic(auto, unfolding(crate::specs::Reading::p2a_at))]
-fn p2a_of(tx: &Tx, bytes: &[u8]) -> Option<Kind>
-    ensures { result ≡ whole (p2a_at tx.now bytes.now) }
-{
-    let Some((instance, ballot, rest)) = take_instance(bytes) else {
-        return None;
-    };
-    let Some((vote, rest)) = take_vote(rest) else {
-        return None;
-    };
-    let Some(()) = take_end(rest) else {
-        return None;
-    };
-    Some(Kind::P2a {
-        tx: *tx,
-        instance,
-        ballot,
-        vote,
-    })
-}
-
-#[tactic(auto, unfolding(crate::specs::Reading::p2b_at))]
-fn p2b_of(tx: &Tx, bytes: &[u8]) -> Option<Kind>
-    ensures { result ≡ whole (p2b_at tx.now bytes.now) }
-{
-    let Some((instance, ballot, rest)) = take_instance(bytes) else {
-        return None;
-    };
-    let Some((vote, rest)) = take_vote(rest) else {
-        return None;
-    };
-    let Some((acceptor, rest)) = take_byte(rest) else {
-        return None;
-    };
-    let Some(()) = take_end(rest) else {
-        return None;
-    };
-    Some(Kind::P2b {
-        tx: *tx,
-        instance,
-        ballot,
-        vote,
-        acceptor,
-    })
-}
-
-#[tactic(auto, unfolding(crate::specs::Reading::ask_at))]
-fn ask_of(tx: &Tx, bytes: &[u8]) -> Option<Kind>
-    ensures { result ≡ whole (ask_at tx.now bytes.now) }
-{
-    let Some((rm, rest)) = take_rm(VersionNumber::Second, bytes) else {
-        return None;
-    };
-    let Some(()) = take_end(rest) else {
-        return None;
-    };
-    Some(Kind::Ask { tx: *tx, rm })
-}
-
-#[tactic(auto, unfolding(crate::specs::Reading::b1a_at))]
-fn b1a_of(tx: &Tx, bytes: &[u8]) -> Option<Kind>
-    ensures { result ≡ whole (b1a_at tx.now bytes.now) }
-{
-    let Some((ballot, rest)) = take_number(bytes) else {
-        return None;
-    };
-    let Some(()) = take_end(rest) else {
-        return None;
-    };
-    Some(Kind::B1a { tx: *tx, ballot })
-}
-
-#[tactic(auto, unfolding(crate::specs::Reading::b1b_at))]
-fn b1b_of(tx: &Tx, bytes: &[u8]) -> Option<Kind>
-    ensures { result ≡ whole (b1b_at tx.now bytes.now) }
-{
-    let Some((ballot, rest)) = take_number(bytes) else {
-        return None;
-    };
-    let Some((acceptor, rest)) = take_byte(rest) else {
-        return None;
-    };
-    let Some((reports, rest)) = take_reports(rest) else {
-        return None;
-    };
-    let Some(()) = take_end(rest) else {
-        return None;
-    };
-    Some(Kind::B1b {
-        tx: *tx,
-        ballot,
-        acceptor,
-        reports,
-    })
-}
-
-#[tactic(auto, unfolding(crate::specs::Reading::b2b_at))]
-fn b2b_of(tx: &Tx, bytes: &[u8]) -> Option<Kind>
-    ensures { result ≡ whole (b2b_at tx.now bytes.now) }
-{
-    let Some((acceptor, rest)) = take_byte(bytes) else {
-        return None;
-    };
-    let Some((accepts, rest)) = take_accepts(rest) else {
-        return None;
-    };
-    let Some(()) = take_end(rest) else {
-        return None;
-    };
-    Some(Kind::B2b {
-        tx: *tx,
-        acceptor,
-        accepts,
-    })
-}
-
-/// The kind of a number that is a transaction alone.
-#[tactic(auto, unfolding(crate::specs::Reading::kind_at))]
-fn bare_of(code: u8, tx: &Tx, bytes: &[u8]) -> Option<Kind>
-    requires { (code ≡ 1) ⊎ (code ≡ 6) ⊎ (code ≡ 7) }
-    ensures { result ≡ whole (kind_at code tx.now bytes.now) }
-{
-    let Some(()) = take_end(bytes) else {
-        return None;
-    };
-    match code {
-        1 => Some(Kind::Prepare(*tx)),
-        6 => Some(Kind::Commit(*tx)),
-        _ => Some(Kind::Abort(*tx)),
-    }
-}
-
-/// The kind of a number, with what follows the transaction, to the end.
-#[tactic(auto, unfolding(crate::specs::Reading::kind_at))]
-fn kind_from(code: u8, tx: &Tx, bytes: &[u8]) -> Option<Kind>
-    ensures { result ≡ whole (kind_at code tx.now bytes.now) }
-{
-    match code {
-        1 => bare_of(1, tx, bytes),
-        2 => p1a_of(tx, bytes),
-        3 => p1b_of(tx, bytes),
-        4 => p2a_of(tx, bytes),
-        5 => p2b_of(tx, bytes),
-        6 => bare_of(6, tx, bytes),
-        7 => bare_of(7, tx, bytes),
-        8 => ask_of(tx, bytes),
-        10 => b1a_of(tx, bytes),
-        11 => b1b_of(tx, bytes),
-        12 => b2b_of(tx, bytes),
-        _ => None,
-    }
-}
-
-/// The number of the kind, and what follows it, behind the version.
-fn take_code(bytes: &[u8]) -> Option<(u8, &[u8])>
-    ensures { MatchOption result ((k : Kind) → bytes.now ≢ spelling k) (λ x. bytes.now ≡ version_2.byte ∷ x.0 ∷ x.1.now) }
-{
-    let [VERSION, code, rest @ ..] = bytes else {
-        return None;
-    };
-    Some((*code, rest))
-}
-
-/// The message that these bytes spell. All other bytes are refused (`BadMessage`).
-pub fn decode(bytes: &[u8]) -> Result<Message, Refusal>
-    ensures ok { IfOk result (λ m. Spells m bytes.now) }
-    ensures err { IfErr result (λ e. (e ≡ BadMessage) × ((k : Kind) → IsMessage k → bytes.now ≢ spelling k)) }
-{
-    let Some((code, rest)) = take_code(bytes) else {
-        return Err(Refusal::BadMessage);
-    };
-    let mut branches = Branches::new();
-    let Some((format, gtrid, rest)) = take_parts(VersionNumber::Second, &mut branches, rest) else {
-        return Err(Refusal::BadMessage);
-    };
-    if !Tx::are_parts(format, gtrid, &branches) {
-        return Err(Refusal::BadMessage);
-    }
-    let taken = kind_from(code, &Tx::of_parts(format, gtrid, &branches), rest);
-    let Some(kind) = &taken else {
-        return Err(Refusal::BadMessage);
-    };
-    if !is_message(kind) {
-        return Err(Refusal::BadMessage);
-    }
-    Ok(Message::new(*kind))
 }

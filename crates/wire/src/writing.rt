@@ -243,6 +243,51 @@ fn put_bundle(kind: &Kind, out: &mut [u8], at: usize) -> usize
     }
 }
 
+/// Puts what follows the transaction of phase 2.
+fn put_vote(kind: &Kind, out: &mut [u8], at: usize) -> usize
+    requires above { 3 < kind_byte kind.now }
+    requires below { kind_byte kind.now < 6 }
+    requires room { at + MAX_REST_BYTES ≤ length out.old }
+    ensures end { result ≡ at + length (rest_spelling version_2 kind.now) }
+    ensures few { result ≤ at + MAX_REST_BYTES }
+    ensures shown { take result out.new ≡ take at out.old ++ rest_spelling version_2 kind.now }
+    ensures rest { (n : ℕ) → result ≤ n → drop n out.new ≡ drop n out.old }
+{
+    match *kind {
+        Kind::Prepare(_) => at,
+        Kind::P1a { .. } => at,
+        Kind::P1b { .. } => at,
+        Kind::P2a {
+            instance,
+            ballot,
+            vote,
+            ..
+        } => {
+            let at = put_rm(out, at, instance);
+            let at = put_number(out, at, ballot);
+            put_byte(out, at, byte_of_vote(vote))
+        }
+        Kind::P2b {
+            instance,
+            ballot,
+            vote,
+            acceptor,
+            ..
+        } => {
+            let at = put_rm(out, at, instance);
+            let at = put_number(out, at, ballot);
+            let at = put_byte(out, at, byte_of_vote(vote));
+            put_byte(out, at, acceptor)
+        }
+        Kind::Commit(_) => at,
+        Kind::Abort(_) => at,
+        Kind::Ask { .. } => at,
+        Kind::B1a { .. } => at,
+        Kind::B1b { .. } => at,
+        Kind::B2b { .. } => at,
+    }
+}
+
 /// Puts what follows the transaction.
 fn put_rest(kind: &Kind, out: &mut [u8], at: usize) -> usize
     requires message { IsMessage kind.now }
@@ -274,28 +319,8 @@ fn put_rest(kind: &Kind, out: &mut [u8], at: usize) -> usize
             let at = put_report(out, at, report);
             put_byte(out, at, acceptor)
         }
-        Kind::P2a {
-            instance,
-            ballot,
-            vote,
-            ..
-        } => {
-            let at = put_rm(out, at, instance);
-            let at = put_number(out, at, ballot);
-            put_byte(out, at, byte_of_vote(vote))
-        }
-        Kind::P2b {
-            instance,
-            ballot,
-            vote,
-            acceptor,
-            ..
-        } => {
-            let at = put_rm(out, at, instance);
-            let at = put_number(out, at, ballot);
-            let at = put_byte(out, at, byte_of_vote(vote));
-            put_byte(out, at, acceptor)
-        }
+        Kind::P2a { .. } => put_vote(kind, out, at),
+        Kind::P2b { .. } => put_vote(kind, out, at),
         Kind::Commit(_) => at,
         Kind::Abort(_) => at,
         Kind::Ask { rm, .. } => put_rm(out, at, rm),

@@ -20,7 +20,7 @@ use Rattle.safety.specs.Standing.{IsPromised}
 use Rattle.xid.proofs.Deciding.{tx_self, tx_decides}
 use Rattle.ballot.specs.Greatest.{IsIn}
 use Rattle.protocol.proofs.Same.{instance_eq-same, instance_eq-is}
-use Rattle.safety.proofs.Lists.{IsIn-append, IsIn-before, IsIn-last}
+use Rattle.protocol.proofs.Lists.{IsIn-append, IsIn-before, IsIn-last}
 use Rattle.ballot.proofs.Greatest.{at_most_greatest}
 use Rattle.safety.proofs.Greatest.{greatest_given}
 

@@ -1,7 +1,7 @@
 -- Several things added one after the other, as a fact and the messages that follow it.
 use Rattle.std.proofs.Common.{◌≡◌, ◌⊎◌, ℕ, zero, suc, List, [], ◌∷◌, Some, None, inl, inr, refl, subst, ap, arith}
 use Rattle.std.specs.Prelude.{Contains}
-use Rattle.std.proofs.lemmas.List.Elements.{Contains-append_cases, Contains-append_right, Contains-push_cases}
+pub use Rattle.protocol.proofs.Lists.{Contains-head, Contains-one, Contains-cases, Contains-tail}
 use Rattle.safety.specs.Items.{Item, Promised, Accepted, Began, Voted, Committed, StoredAbort, P1b, P2a, P2b, Commit, Abort}
 use Rattle.safety.specs.Items.{Setting}
 use Rattle.safety.specs.Items.{IsAllowed, IsGrown, IsView, IsState, manager_of}
@@ -24,18 +24,6 @@ pub record IsGrownBy {Tx : Type 0} (Has : Item Tx → Type 0) (added : List (Ite
   pub kept : {y : Item Tx} → Has y → Now y
   pub joined : {y : Item Tx} → Contains added y → Now y
   pub only : {y : Item Tx} → Now y → Has y ⊎ Contains added y
-
-pub Contains-head : {X : Type 0} (x : X) (xs : List X) → Contains (x ∷ xs) x
-Contains-head x xs = (0, omega arith, refl)
-
-pub Contains-one : {X : Type 0} (x y : X) → Contains (x ∷ []) y → x ≡ y
-Contains-one x y h = elim (Contains-push_cases [] x y h) [ inl none ↦ absurd (omega (arith, none.1)) | inr e ↦ e ]
-
-pub Contains-cases : {X : Type 0} (x : X) (xs : List X) (y : X) → Contains (x ∷ xs) y → (x ≡ y) ⊎ Contains xs y
-Contains-cases x xs y h = elim (Contains-append_cases (x ∷ []) xs y h) [ inl here ↦ inl (Contains-one x y here) | inr there ↦ inr there ]
-
-pub Contains-tail : {X : Type 0} (x : X) (xs : List X) (y : X) → Contains xs y → Contains (x ∷ xs) y
-Contains-tail x xs y h = Contains-append_right (x ∷ []) xs y h
 
 IsGrown-with_item : {Tx : Type 0} (Has : Item Tx → Type 0) (x : Item Tx) → IsGrown Has (Some x) (with_item Has x)
 IsGrown-with_item Has x = record { kept = λ h. inl h; only = λ h. elim h [ inl old ↦ inl old | inr e ↦ inr (ap Some e) ] }

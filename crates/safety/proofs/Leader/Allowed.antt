@@ -24,7 +24,7 @@ use Rattle.ballot.proofs.Majorities.{majorities_meet}
 use Rattle.safety.proofs.Argument.Preservation.{IsDecided-kept, IsMajorityPick-kept}
 use Rattle.safety.proofs.Argument.Additions.{AreAllowed, Contains-one, Contains-head}
 use Rattle.safety.proofs.Argument.Events.{with_items}
-use Rattle.safety.proofs.Lists.{IsIn-append, IsIn-before, IsIn-push, IsIn-joined}
+use Rattle.protocol.proofs.Lists.{IsIn-append, IsIn-before, IsIn-push, IsIn-joined}
 use Rattle.safety.proofs.World.Growth.{items_of}
 use Rattle.safety.proofs.World.AllowedEffects.{NamesParticipant, IsAllowedEffect}
 use Rattle.safety.proofs.Leader.Invariant.{IsSentItem, LeaderInvariant, AreProposalsBacked, IsSentBy, IsNewBallot, MaySend}

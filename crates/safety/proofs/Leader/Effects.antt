@@ -29,7 +29,7 @@ use Rattle.protocol.specs.Nodes.{Memory, Input, Asked, Received, of_leader}
 use Rattle.protocol.specs.Nodes.{effect_of, is_acceptor_inside, is_form_of, is_message_inside}
 use Rattle.ballot.specs.Greatest.{IsIn}
 use Rattle.safety.proofs.Facts.{participates}
-use Rattle.safety.proofs.Lists.{IsIn-mapped, filter_map_given, only_one}
+use Rattle.protocol.proofs.Lists.{IsIn-mapped, filter_map_given, only_one}
 use Rattle.safety.proofs.Leader.Invariant.{LeaderInvariant, AreProposalsBacked, IsSentBy, IsSentExtension, IsNewBallot, MaySend}
 use Rattle.safety.proofs.Leader.Invariant.{IsLeaderStep}
 use Rattle.safety.proofs.Leader.Heard.{picked_is, committed_is, aborted_is}

@@ -22,7 +22,7 @@ use Rattle.ballot.proofs.Picks.{below_top, some_in, top_in, says_top, says_each}
 use Rattle.safety.specs.Items.{IsMajorityPick, IsDecided, IsBallotAtMost}
 use Rattle.ballot.specs.Greatest.{IsIn}
 use Rattle.safety.proofs.Facts.{vote_eq-is, among_participants, participates}
-use Rattle.safety.proofs.Lists.{any_found, found_any, all_found}
+use Rattle.protocol.proofs.Lists.{any_found, found_any, all_found}
 use Rattle.safety.proofs.Leader.Invariant.{IsSentItem}
 
 -- ---- who reported

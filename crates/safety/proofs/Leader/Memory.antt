@@ -22,7 +22,7 @@ use Rattle.protocol.specs.Effects.{Config}
 use Rattle.protocol.specs.LeaderMemory.{LeaderMemory, Begun, nothing_heard, current, has_reported, is_proposed, with_met, with_heard}
 use Rattle.protocol.specs.LeaderMemory.{with_begun, with_proposed, with_all_heard, is_counted}
 use Rattle.safety.proofs.Facts.{begun_below}
-use Rattle.safety.proofs.Lists.{any_found, found_any, IsIn-before, IsIn-after, IsIn-last, filter_kept}
+use Rattle.protocol.proofs.Lists.{any_found, found_any, IsIn-before, IsIn-after, IsIn-last, filter_kept}
 use Rattle.safety.proofs.Leader.Invariant.{IsBegunBallot, LeaderInvariant, AreProposalsBacked}
 use Rattle.xid.proofs.Deciding.{tx_self, tx_decides}
 use Rattle.protocol.proofs.Same.{instance_eq-is, instance_eq-same}

@@ -21,13 +21,13 @@ use Rattle.safety.specs.Standing.{StandsBy, HasVote, setting}
 use Rattle.safety.proofs.Argument.Additions.{AreAllowed, Contains-one, Contains-head}
 use Rattle.safety.proofs.Argument.Events.{with_items}
 use Rattle.safety.proofs.Facts.{with_fact, messages_of}
-use Rattle.safety.proofs.Lists.{IsIn-push, IsIn-joined, only_one}
+use Rattle.protocol.proofs.Lists.{IsIn-push, IsIn-joined, only_one}
 use Rattle.safety.proofs.World.Growth.{items_of}
 use Rattle.safety.proofs.World.AllowedEffects.{NamesParticipant, IsAllowedEffect}
-use Rattle.safety.proofs.Manager.Views.{vote_in_stands, unvoted, unended, prepared_shows}
-use Rattle.safety.proofs.Manager.Played.{voted_named}
-use Rattle.safety.proofs.Manager.Effects.{MayVoteFirst, IsManagerFact, IsManagerSend, IsManagerRule, name_names}
-use Rattle.safety.proofs.Manager.Effects.{manager_effect_is}
+use Rattle.protocol.proofs.Manager.Views.{vote_in_stands, unvoted, unended, prepared_shows}
+use Rattle.protocol.proofs.Manager.Played.{voted_named}
+use Rattle.protocol.proofs.Manager.Effects.{MayVoteFirst, IsManagerFact, IsManagerSend, IsManagerRule, name_names}
+use Rattle.protocol.proofs.Manager.Effects.{manager_effect_is}
 
 -- ---- as items
 

@@ -25,7 +25,7 @@ use Rattle.safety.proofs.Facts.{among_participants}
 use Rattle.safety.proofs.Acceptor.Slots.{slot_is}
 use Rattle.safety.proofs.WellFormed.Effects.{AreSends, IsWellFormed, well_answered, well_sent}
 use Rattle.safety.proofs.WellFormed.Bundles.{reports_are, accepts_are, accept_ballots}
-use Rattle.safety.proofs.Lists.{filter_kept, all_mapped}
+use Rattle.protocol.proofs.Lists.{filter_kept, all_mapped}
 
 -- ---- what a slot reports
 

@@ -11,7 +11,7 @@ use Rattle.wire.specs.Messages.{IsBallot, AreInstances, reported_instances, acce
 use Rattle.ballot.specs.Choice.{Report}
 use Rattle.ballot.specs.Greatest.{IsIn}
 use Rattle.protocol.specs.Acceptors.{Slots, accept_item}
-use Rattle.safety.proofs.Lists.{any_found, found_any, filter_kept, filter_keeps, filter_map_given, all_each}
+use Rattle.protocol.proofs.Lists.{any_found, found_any, filter_kept, filter_keeps, filter_map_given, all_each}
 use Rattle.safety.proofs.Facts.{participates}
 
 some_there : {X : Type 0} (xs : List X) (x : X) → IsIn xs x → 1 ≤ length xs

@@ -10,7 +10,7 @@ use Rattle.protocol.specs.Effects.{Effect, answer_only, sends_only}
 use Rattle.protocol.specs.Nodes.{Memory, in_memory}
 use Rattle.ballot.specs.Greatest.{IsIn}
 use Rattle.safety.proofs.Facts.{participates}
-use Rattle.safety.proofs.Lists.{all_in}
+use Rattle.protocol.proofs.Lists.{all_in}
 
 -- ---- instances
 

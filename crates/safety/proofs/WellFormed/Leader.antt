@@ -19,7 +19,7 @@ use Rattle.protocol.specs.LeaderMemory.{value_to_propose}
 use Rattle.protocol.specs.StandsFor.{report_messages}
 use Rattle.protocol.specs.Leaders.{outcome_messages, is_final, on_commit_call, phase_1a, on_leader_timeout, on_status_call}
 use Rattle.protocol.specs.Leaders.{is_current, proposal_of, on_1b, on_2b, on_leader_message}
-use Rattle.safety.proofs.Lists.{filter_map_given, only_one, all_mapped}
+use Rattle.protocol.proofs.Lists.{filter_map_given, only_one, all_mapped}
 use Rattle.safety.proofs.WellFormed.Effects.{AreSends, IsSend, IsWellFormed, well_answered, well_sent}
 use Rattle.safety.proofs.WellFormed.Effects.{instance_of, instance_among}
 

@@ -17,11 +17,11 @@ use Rattle.protocol.specs.Managers.{stored_votes}
 use Rattle.protocol.specs.Managers.{Branch, idle_keys, vote_sent, first_vote, on_prepare, on_commit, on_abort, on_manager_message}
 use Rattle.protocol.specs.Managers.{on_manager_timeout, branches_without}
 use Rattle.protocol.specs.Nodes.{all_play}
-use Rattle.safety.proofs.Lists.{all_joined}
-use Rattle.safety.proofs.Manager.Apart.{without_some, idle_branch}
-use Rattle.safety.proofs.Manager.Effects.{name_names}
-use Rattle.safety.proofs.Manager.Played.{voted_named}
-use Rattle.safety.proofs.Manager.Views.{vote_in_stands, prepared_shows}
+use Rattle.protocol.proofs.Lists.{all_joined}
+use Rattle.protocol.proofs.Manager.Apart.{without_some, idle_branch}
+use Rattle.protocol.proofs.Manager.Effects.{name_names}
+use Rattle.protocol.proofs.Manager.Played.{voted_named}
+use Rattle.protocol.proofs.Manager.Views.{vote_in_stands, prepared_shows}
 use Rattle.safety.proofs.WellFormed.Branches.{AreHeld}
 use Rattle.safety.proofs.WellFormed.Effects.{AreSends, IsWellFormed, well_answered, well_sent, IsSend}
 

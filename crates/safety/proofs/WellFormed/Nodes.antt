@@ -16,8 +16,8 @@ use Rattle.protocol.specs.Nodes.{Memory, empty_memory, NodeState, Input, Asked, 
 use Rattle.protocol.specs.Nodes.{effect_of, is_message_inside, of_leader, of_manager, first_rows, all_play}
 use Rattle.protocol.specs.Managers.{Branch}
 use Rattle.protocol.specs.Tables.{table}
-use Rattle.safety.proofs.Lists.{IsIn-append}
-use Rattle.safety.proofs.Manager.Apart.{AreApart}
+use Rattle.protocol.proofs.Lists.{IsIn-append}
+use Rattle.protocol.specs.Holds.{AreApart}
 use Rattle.safety.proofs.World.Outcomes.{IsPossibleOutcome}
 use Rattle.safety.proofs.WellFormed.Effects.{AreSends, IsWellFormed, well_answered, well_in_memory}
 use Rattle.safety.proofs.WellFormed.Acceptor.{acceptor_takes}

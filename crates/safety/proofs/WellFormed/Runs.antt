@@ -26,8 +26,8 @@ use Rattle.protocol.specs.Nodes.{restart_outcome, compact_outcome, all_play}
 use Rattle.protocol.specs.Worlds.{Occurrence, world_after}
 use Rattle.protocol.specs.Worlds.{World, Datagram, StepResult, opening, node_at, set_node, answer_result, datagrams_of, outcome_result}
 use Rattle.protocol.specs.Worlds.{if_found, at_node, datagram_at, mark_at, with_mark, cut_result, dispatch, world_step}
-use Rattle.safety.proofs.Lists.{IsIn-append, IsIn-mapped, IsIn-joined, all_in}
-use Rattle.safety.proofs.Manager.Apart.{AreApart}
+use Rattle.protocol.proofs.Lists.{IsIn-append, IsIn-mapped, IsIn-joined, all_in}
+use Rattle.protocol.specs.Holds.{AreApart}
 use Rattle.safety.proofs.World.Events.{safe_ever, restarted_is, compacted_is, datagram_among}
 use Rattle.safety.proofs.World.Growth.{same_node}
 use Rattle.safety.proofs.World.NodePlaces.{node_there, node_elsewhere, opening_node}

@@ -18,7 +18,7 @@ use Rattle.ballot.specs.Greatest.{IsIn}
 use Rattle.safety.specs.Standing.{StandsBy, setting}
 use Rattle.safety.proofs.Argument.Additions.{AreAllowed, ChangeNoViewAfterFirst}
 use Rattle.safety.proofs.Argument.Events.{IsAllowedEvent, IsMessageItem, with_items}
-use Rattle.safety.proofs.Lists.{IsIn-joined, IsIn-contains, IsIn-mapped, only_one}
+use Rattle.protocol.proofs.Lists.{IsIn-joined, IsIn-contains, IsIn-mapped, only_one}
 use Rattle.safety.proofs.World.Growth.{items_of, NodeGrowth, IsNodeGrowth, grown_by}
 
 -- a message on an instance is on a participant's

@@ -33,8 +33,9 @@ use Rattle.safety.proofs.Facts.{messages_of}
 use Rattle.safety.proofs.Argument.Preservation.{invariant_at_start}
 use Rattle.safety.proofs.Leader.Effects.{kept_at_start}
 use Rattle.safety.proofs.Leader.Invariant.{LeaderInvariant}
-use Rattle.safety.proofs.Lists.{IsIn-join}
-use Rattle.safety.proofs.Manager.Apart.{AreApart, none_apart}
+use Rattle.protocol.proofs.Lists.{IsIn-join}
+use Rattle.protocol.specs.Holds.{AreApart}
+use Rattle.protocol.proofs.Manager.Apart.{none_apart}
 use Rattle.safety.proofs.World.Outcomes.{KeepsFacts, next_still, next_step, joined_from, step_from}
 use Rattle.safety.proofs.World.NodePlaces.{opening_node, leader_inside, marked_messages}
 use Rattle.safety.proofs.World.NodeRules.{IsFromNet, rule_is}

@@ -15,8 +15,8 @@ use Rattle.ballot.specs.Greatest.{IsIn}
 use Rattle.safety.specs.Standing.{StandsBy}
 use Rattle.safety.proofs.Facts.{among_participants, participates}
 use Rattle.safety.proofs.Argument.Additions.{IsGrownBy}
-use Rattle.safety.proofs.Lists.{IsIn-append, IsIn-before, IsIn-after, IsIn-last, IsIn-join, IsIn-joined}
-use Rattle.safety.proofs.Lists.{Contains-among, IsIn-contains, IsIn-map, IsIn-mapped, only_one}
+use Rattle.protocol.proofs.Lists.{IsIn-append, IsIn-before, IsIn-after, IsIn-last, IsIn-join, IsIn-joined}
+use Rattle.protocol.proofs.Lists.{Contains-among, IsIn-contains, IsIn-map, IsIn-mapped, only_one}
 
 pub same_node : (n who : NodeId) → (n ≡ who) ⊎ (n ≡ who → ⊥)
 same_node (A a) (A b) = elim (cases_eq a b) [ inl e ↦ inl (ap A e) | inr apart ↦ inr (λ e. apart (cc (e))) ]

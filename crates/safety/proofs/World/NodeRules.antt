@@ -16,7 +16,8 @@ use Rattle.safety.proofs.Acceptor.Effects.{acceptor_is_allowed}
 use Rattle.safety.proofs.Leader.Effects.{IsTakenSent, leader_effect}
 use Rattle.safety.proofs.Leader.Allowed.{leader_is_allowed, backed_by}
 use Rattle.safety.proofs.Leader.Invariant.{LeaderInvariant}
-use Rattle.safety.proofs.Manager.Apart.{AreApart, manager_met, manager_stays_apart}
+use Rattle.protocol.specs.Holds.{AreApart}
+use Rattle.protocol.proofs.Manager.Apart.{manager_met, manager_stays_apart}
 use Rattle.safety.proofs.Manager.Allowed.{manager_is_allowed}
 use Rattle.safety.proofs.World.Outcomes.{IsRuleEffect}
 use Rattle.safety.proofs.World.SafeSteps.{facts_by, IsSafeBy}

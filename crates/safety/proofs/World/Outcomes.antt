@@ -21,8 +21,9 @@ use Rattle.safety.specs.Standing.{sent_in}
 use Rattle.safety.proofs.Facts.{with_fact, with_fact_is, messages_of}
 use Rattle.safety.proofs.Leader.Effects.{kept_at_start}
 use Rattle.safety.proofs.Leader.Invariant.{LeaderInvariant, IsSentBy, IsSentExtension}
-use Rattle.safety.proofs.Lists.{IsIn-mapped, IsIn-join, IsIn-joined, IsIn-append, IsIn-before}
-use Rattle.safety.proofs.Manager.Apart.{AreApart, none_apart}
+use Rattle.protocol.proofs.Lists.{IsIn-mapped, IsIn-join, IsIn-joined, IsIn-append, IsIn-before}
+use Rattle.protocol.specs.Holds.{AreApart}
+use Rattle.protocol.proofs.Manager.Apart.{none_apart}
 use Rattle.safety.proofs.World.NodePlaces.{node_there, node_elsewhere}
 use Rattle.safety.proofs.World.SafeSteps.{facts_by, IsSafe, NodeChange, IsNodeChange, IsSafeStepBy, next_after_move}
 use Rattle.safety.proofs.World.AllowedEffects.{IsAllowedEffect, nothing_is_allowed}

@@ -18,7 +18,7 @@ use Rattle.protocol.specs.StandsFor.{message_items}
 use Rattle.protocol.specs.TCommit.{IsCommitStep}
 use Rattle.protocol.specs.Worlds.{World, node_at}
 use Rattle.safety.specs.Laws as laws
-use Rattle.safety.proofs.Manager.Views.{view_is}
+use Rattle.protocol.proofs.Manager.Views.{view_is}
 use Rattle.safety.specs.Items.{Item, IsView, IsState}
 use Rattle.safety.specs.Invariant.{Invariant}
 use Rattle.safety.specs.Senders.{IsFrom}
@@ -26,11 +26,11 @@ use Rattle.ballot.specs.Greatest.{IsIn}
 use Rattle.safety.specs.Standing.{StandsBy, setting, facts_of, sent_in}
 use Rattle.safety.proofs.Argument.Events.{IsAllowedEvent, event_keeps_invariant, event_moves_one_step}
 use Rattle.safety.proofs.World.Growth.{items_of, NodeGrowth, IsNodeGrowth, same_node}
-use Rattle.safety.proofs.Lists.{IsIn-append, IsIn-before}
+use Rattle.protocol.proofs.Lists.{IsIn-append, IsIn-before}
 use Rattle.safety.proofs.Leader.Invariant.{LeaderInvariant}
 use Rattle.safety.proofs.Leader.Effects.{kept_while}
-use Rattle.safety.proofs.Manager.Apart.{AreApart}
-use Rattle.safety.proofs.Manager.Played.{all_play_then}
+use Rattle.protocol.specs.Holds.{AreApart}
+use Rattle.protocol.proofs.Manager.Played.{all_play_then}
 use Rattle.safety.proofs.World.AllowedEffects.{NamesParticipant, IsAllowedEffect, event_of_rule}
 
 -- the facts of nodes

@@ -1,4 +1,4 @@
-use Rattle.safety.proofs.Manager.Views.{view_is}
+use Rattle.protocol.proofs.Manager.Views.{view_is}
 use Rattle.safety.proofs.laws.view_is_one_of_four.Goals as goal
 
 pub returns : goal.returns

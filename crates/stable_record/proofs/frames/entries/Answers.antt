@@ -1,4 +1,4 @@
-use Rattle.std.proofs.Common.{ℕ, List, [], ◌∷◌, ◌++◌, subst, Option}
+use Rattle.std.proofs.Common.{ℕ, List, subst, Option}
 use Rattle.std.specs.Prelude.{MatchOption}
 use Rattle.std.specs.Borrow.{Bor}
 use Rattle.stable_record.specs.declared.entry.EntryKind.{EntryKind as Entry}

@@ -1,9 +1,9 @@
-use Rattle.std.proofs.Common.{◌≡◌, ◌⊎◌, ℕ, inl, inr, sym, refl, subst, ◌∙◌}
+use Rattle.std.proofs.Common.{inl, sym, refl, subst}
 use Rattle.std.proofs.Math.Facts.{Fits-lt-pow}
 use Rattle.xid.specs.Names.{IsBytes}
 use Rattle.stable_record.specs.declared.entry.EntryKind.{EntryKind}
 use Rattle.stable_record.specs.Grammar.{IsFramed}
-use Rattle.stable_record.proofs.Framed.{short_tail, no_length, too_long, cut_tail, split_frame, split_bad, with_no_frame}
+use Rattle.stable_record.proofs.Framed.{short_tail, no_length, too_long, split_frame, split_bad, with_no_frame}
 use Rattle.stable_record.proofs.frames.take_frame.Goals as goal
 
 pub returns-in_default-clause-ok : goal.returns-in_default-clause-ok

@@ -1,10 +1,7 @@
 use Rattle.std.proofs.Common.{◌∙◌}
 use Rattle.wire.specs.Reading.{list_at}
-use Rattle.wire.proofs.Loop.{goes_on, ends, is_done}
-use Rattle.xid.specs.declared.refusals.Refusal.{Refusal}
-use Rattle.xid.specs.declared.refusals.Refusal.TheVariants.{Damaged, NoMemory}
+use Rattle.wire.proofs.Loop.{goes_on, is_done}
 use Rattle.stable_record.specs.Reading.{touched_at}
-use Rattle.stable_record.specs.declared.fact.Touched.{Touched}
 use Rattle.stable_record.proofs.ReadKeys.{refused}
 use Rattle.stable_record.proofs.reading.take_touched_keys.Goals as goal
 

@@ -1,7 +1,7 @@
 use Rattle.std.proofs.Common.{ℕ, Ok, Err, sym, subst}
 use Rattle.xid.specs.declared.refusals.Refusal.TheVariants.{Damaged, NoMemory}
 use Rattle.protocol.specs.Effects.{Config}
-use Rattle.protocol.specs.Parts.{IsPlayed}
+use Rattle.stable_record.specs.Parts.{IsPlayed}
 use Rattle.acceptor.specs.Acceptors.{acceptor_part}
 use Rattle.acceptor.specs.Tables.{IsSeen}
 use Rattle.acceptor.proofs.Standing.{plays_there, plays_same, is_damaged, lacks_memory, is_played}

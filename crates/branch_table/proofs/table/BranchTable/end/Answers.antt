@@ -1,41 +1,35 @@
-use Rattle.std.proofs.Common.{◌≡◌, ◌∙◌, sym, ap}
-use Rattle.protocol.specs.Managers.{Branch}
+use Rattle.std.proofs.Common.{◌≡◌, ◌∙◌, true, false, Some, None, Ok, Err, Bool, List, ℕ, refl, sym, ap, subst}
+use Rattle.std.specs.Prelude.{is_some}
+use Rattle.branch_table.specs.Parts.{branch_of}
 use Rattle.branch_table.specs.Admission.{end_state}
-use Rattle.branch_table.specs.Tables.{is_active}
-use Rattle.branch_table.proofs.CallSteps.{place_is, placed, same_read, in_state, end_absent, end_ended, end_done, end_keeps}
+use Rattle.branch_table.proofs.CallSteps.{end_absent, end_done, end_ended}
+use Rattle.branch_table.proofs.TableKept.{kept_state, was_found}
+use Rattle.branch_table.specs.Tables.{in_state}
 use Rattle.branch_table.proofs.table.BranchTable.end.Goals as goal
 
-pub returns-in_default : goal.returns-in_default
-returns-in_default c =
-    let x = c.args.xid.now in
-    rw (← c.self.view_is) (end_absent _ x c.args.ending (place_is x c.deref.ensures.value c.place_of.ensures c.in_default.is))
+pub returns-in_default-clause-steps : goal.returns-in_default-clause-steps
+returns-in_default-clause-steps c = rw (← c.self.view_is) (end_absent _ c.args.xid.now c.args.ending (sym c.in_default.ensures))
 
-pub returns-then-not-is_active : goal.returns-then-not-is_active
-returns-then-not-is_active c =
+pub returns-then-not-is_active-clause-steps : goal.returns-then-not-is_active-clause-steps
+returns-then-not-is_active-clause-steps c =
     let x = c.args.xid.now in
-    let b = c.index.result.now in
-    let at = place_is x c.deref.ensures.value c.place_of.ensures c.in-Some.is in
-    let place = placed c.self.inside.branches.items x c.in-Some.at b at c.index.ensures in
-    rw (← c.self.view_is) (end_ended _ x c.args.ending c.in-Some.at b place (sym c.if-not-is_active.ensures))
+    rw (← c.self.view_is)
+    (end_ended _ x c.args.ending (branch_of x c.in-Some.branch.now) (sym c.in-Some.ensures) (sym c.if-not-is_active.ensures))
 
 pub invariant_of-self : goal.invariant_of-self
 invariant_of-self c =
-    let bs = c.self.inside.branches.items in
     let x = c.args.xid.now in
-    let b = c.index_mut-branch.result.now in
-    let at = place_is x c.deref.ensures.value c.place_of.ensures c.in-Some.is in
-    let place = placed bs x c.in-Some.at b at c.index_mut-branch.ensures.value in
-    rw c.set_state.ensures (end_keeps bs x c.in-Some.at b c.outcome-state.result.0 place c.self.invariant)
+    kept_state c.self.inside.holds c.self.inside.branches c.set_state.new.self x (branch_of x c.in-Some.branch.now) c.outcome-state.result.0
+    c.self.invariant (sym c.in-Some.ensures) c.set_state.ensures
 
-pub returns : goal.returns
-returns c =
-    let bs = c.self.inside.branches.items in
+pub returns-clause-steps : goal.returns-clause-steps
+returns-clause-steps c =
     let x = c.args.xid.now in
-    let b = c.index_mut-branch.result.now in
-    let at = place_is x c.deref.ensures.value c.place_of.ensures c.in-Some.is in
-    let place = placed bs x c.in-Some.at b at c.index_mut-branch.ensures.value in
-    let same = same_read bs x c.in-Some.at b c.index.result.now place c.index.ensures in
-    let new : c.set_state.new.self ≡ in_state b (end_state c.args.ending) =
-    c.set_state.ensures ∙ ap (in_state b) c.outcome-state.ensures.state in
-    rw (← c.self.view_is, c.outcome-state.ensures.code, new)
-    (end_done _ x c.args.ending c.in-Some.at b place (ap (λ (d : Branch). is_active d.state) same ∙ sym c.if-not-is_active.ensures))
+    let b = branch_of x c.in-Some.branch.now in
+    let is = was_found c.self.inside.branches c.set_state.new.self x b (in_state c.outcome-state.result.0) (sym c.in-Some.ensures) c.set_state.ensures in
+    rw (← c.self.view_is, c.outcome-state.ensures.code)
+    (end_done _ _ x c.args.ending b (sym c.in-Some.ensures) (sym c.if-not-is_active.ensures)
+    (rw (← c.outcome-state.ensures.state) is.only) (refl, refl))
+
+pub set_state-requires : goal.set_state-requires
+set_state-requires c = ap is_some (sym c.in-Some.ensures)

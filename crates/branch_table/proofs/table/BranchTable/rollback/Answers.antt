@@ -1,29 +1,22 @@
-use Rattle.std.proofs.Common.{sym}
-use Rattle.branch_table.proofs.Views.{keeps_remove}
-use Rattle.branch_table.proofs.CallSteps.{place_is, placed, rollback_absent, rollback_refused, rollback_done}
+use Rattle.std.proofs.Common.{◌≡◌, ◌∙◌, ◌+◌, ◌<◌, ◌*◌, true, false, Some, None, Ok, Err, Bool, List, ℕ, refl, sym, ap, subst, arith}
+use Rattle.branch_table.specs.Parts.{branch_of}
+use Rattle.branch_table.specs.Tables.{branch_named}
+use Rattle.branch_table.proofs.CallSteps.{rollback_absent, rollback_done, rollback_refused}
 use Rattle.branch_table.proofs.table.BranchTable.rollback.Goals as goal
 
-pub returns-in_default : goal.returns-in_default
-returns-in_default c =
-    let x = c.args.xid.now in
-    rw (← c.self.view_is) (rollback_absent _ x (place_is x c.deref.ensures.value c.place_of.ensures c.in_default.is))
+pub returns-in_default-clause-steps : goal.returns-in_default-clause-steps
+returns-in_default-clause-steps c = rw (← c.self.view_is) (rollback_absent _ c.args.xid.now (sym c.in_default.ensures))
 
-pub returns-then-not-can_be_rolled_back : goal.returns-then-not-can_be_rolled_back
-returns-then-not-can_be_rolled_back c =
+pub returns-then-not-can_be_rolled_back-clause-steps : goal.returns-then-not-can_be_rolled_back-clause-steps
+returns-then-not-can_be_rolled_back-clause-steps c =
     let x = c.args.xid.now in
-    let b = c.index.result.now in
-    let at = place_is x c.deref.ensures.value c.place_of.ensures c.in-Some.is in
-    let place = placed c.self.inside.branches.items x c.in-Some.at b at c.index.ensures in
-    rw (← c.self.view_is) (rollback_refused _ x c.in-Some.at b place (sym c.if-not-can_be_rolled_back.ensures))
+    rw (← c.self.view_is)
+    (rollback_refused _ x (branch_of x c.in-Some.branch.now) (sym c.in-Some.ensures) (sym c.if-not-can_be_rolled_back.ensures))
 
-pub invariant_of-self : goal.invariant_of-self
-invariant_of-self c = rw c.remove.ensures.items (keeps_remove c.self.inside.branches.items c.in-Some.at c.self.invariant)
-
-pub returns : goal.returns
-returns c =
+pub returns-clause-steps : goal.returns-clause-steps
+returns-clause-steps c =
     let x = c.args.xid.now in
-    let b = c.index.result.now in
-    let at = place_is x c.deref.ensures.value c.place_of.ensures c.in-Some.is in
-    let place = placed c.self.inside.branches.items x c.in-Some.at b at c.index.ensures in
-    rw (← c.self.view_is, c.remove.ensures.items)
-    (rollback_done _ x c.in-Some.at b c.self.invariant place (sym c.if-not-can_be_rolled_back.ensures))
+    let found = ap (λ t. branch_named t.branches x) (sym c.self.view_is) ∙ sym c.in-Some.ensures in
+    let left = c.undo.ensures.left in
+    rollback_done c.args.self.now c.undo.new.self x (branch_of x c.in-Some.branch.now) found (sym c.if-not-can_be_rolled_back.ensures)
+    left.branches (left.rows, left.places)

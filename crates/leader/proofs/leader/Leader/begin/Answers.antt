@@ -4,5 +4,5 @@ use Rattle.leader.proofs.leader.Leader.begin.Goals as goal
 
 pub returns : goal.returns
 returns c = λ config number stored memory stands some.
-    begin_stands config number (the_view c.self.inside) c.args.self.now c.begin.new.courses.items c.args.tx.now c.args.ballot stored memory
+    begin_stands config number (the_view c.self.inside) c.args.self.now c.begin.new.self c.args.tx.now c.args.ballot stored memory
     c.self.view_is c.begin.ensures stands some

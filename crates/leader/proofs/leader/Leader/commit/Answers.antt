@@ -14,7 +14,7 @@ use Rattle.leader.proofs.leader.Leader.commit.Goals.{in-Ok, in-Err}
 pub returns : goal.returns
 returns c = elim c.match-meet.branch [
   | in-Ok w ↦ λ config number. ok_follows config number c.args.self.now _ c.match-meet.result _ _ w.result-is
-      (follows config number (the_view c.self.inside) c.args.self.now c.meet.new.courses.items c.args.tx.now
+      (follows config number (the_view c.self.inside) c.args.self.now c.meet.new.self c.args.tx.now
       (after_meeting (course_of (the_view c.self.inside) c.args.tx.now))
       (record {
         answer = Stands (status_standing (status_in (after_meeting (course_of (the_view c.self.inside) c.args.tx.now))));
@@ -25,11 +25,11 @@ returns c = elim c.match-meet.branch [
       (λ k. record {
         answer = Stands ((w.standing_of.ensures ∙ ap status_standing w.in-Ok.ensures.status) k);
         fact = None;
-        sends = (w.listed.ensures ∙ w.commit_sends.ensures ∙ ap (λ s. commit_messages s c.args.tx.now) w.in-Ok.ensures.status) k;
+        sends = (w.commit_sends.ensures ∙ ap (λ s. commit_messages s c.args.tx.now) w.in-Ok.ensures.status) k;
       })
       w.in-Ok.ensures.now (commit_agrees config number (the_view c.self.inside) c.args.tx.now
       (sym c.is_inside.ensures ∙ c.if-not-is_inside.false)))
   | in-Err w ↦ λ config number. err_same config number c.args.self.now _ c.match-meet.result w.in-Err.refusal _ w.result-is
       w.in-Err.ensures.err
-      (kept_same config number (the_view c.self.inside) c.args.self.now c.meet.new.courses.items c.self.view_is w.in-Err.ensures.kept)
+      (kept_same config number (the_view c.self.inside) c.args.self.now c.meet.new.self c.self.view_is w.in-Err.ensures.kept)
 ]

@@ -3,8 +3,6 @@ use Rattle.std.specs.Prelude.{None, []}
 use Rattle.leader.specs.contracts.leader.Leader.{the_view}
 use Rattle.protocol.specs.declared.answers.Answer.TheVariants.{Stands}
 use Rattle.protocol.specs.Effects.{status_standing}
-use Rattle.leader.specs.Courses.{status_in}
-use Rattle.leader.specs.Places.{course_in}
 use Rattle.leader.proofs.Leading.{status_follows}
 use Rattle.leader.proofs.leader.Leader.status.Goals as goal
 
@@ -13,4 +11,4 @@ returns c = λ config number.
     status_follows config number (the_view c.self.inside) c.args.self.now c.args.tx.now c.answers-2.result c.self.view_is
     (sym c.is_inside.ensures ∙ c.if-not-is_inside.false)
     (c.answers-2.ensures ∙ ap (λ s. record { answer = Stands s; fact = None; sends = [] }) (c.standing_of.ensures
-    ∙ ap status_standing (c.status_of.ensures ∙ ap (λ courses. status_in (course_in courses c.args.tx.now)) c.deref.ensures.value)))
+    ∙ ap status_standing (c.status_at.ensures)))

@@ -8,43 +8,42 @@ use Rattle.protocol.specs.Leaders as rules
 use Rattle.protocol.specs.Leaders.{outcome_messages, is_final}
 use Rattle.leader.specs.contracts.leader.Leader.{the_view}
 use Rattle.leader.specs.Courses.{after_meeting, status_in}
-use Rattle.leader.specs.Places.{course_in}
 use Rattle.leader.specs.Leaders.{course_of, StandsForBallots, taken_over}
 use Rattle.leader.proofs.Leading.{sending, follows, final_agrees, timeout_outside, takes_over_here, with_courses, TakesOver}
 use Rattle.leader.proofs.leader.Leader.timeout.Goals as goal
 
 pub returns-then-is_final-clause-decides : goal.returns-then-is_final-clause-decides
 returns-then-is_final-clause-decides c =
-    let status : c.status_of-status.result ≡ status_in (course_of (the_view c.self.inside) c.args.tx.now) =
-    c.status_of-status.ensures ∙ ap (λ courses. status_in (course_in courses c.args.tx.now)) c.deref.ensures.value in
+    let status : c.status_at-status.result ≡ status_in (course_of (the_view c.self.inside) c.args.tx.now) =
+    c.status_at-status.ensures in
     let final : is_final (status_in (course_of (the_view c.self.inside) c.args.tx.now)) ≡ true =
     sym (ap is_final status) ∙ sym c.is_final.ensures ∙ c.if-is_final.true in
     λ config number stored memory stands. (follows config number
-    (the_view c.self.inside) c.args.self.now c.mark_known.new.courses.items c.args.tx.now
+    (the_view c.self.inside) c.args.self.now c.mark_known.new.self c.args.tx.now
     (after_meeting (course_of (the_view c.self.inside) c.args.tx.now))
-    (sending (outcome_messages (status_in (course_of (the_view c.self.inside) c.args.tx.now)) c.args.tx.now Managers)) c.sends.result
+    (sending (outcome_messages (status_in (course_of (the_view c.self.inside) c.args.tx.now)) c.args.tx.now Managers)) c.tells.result
     (λ stored memory. rules.on_leader_timeout config number stored memory c.args.tx.now) c.self.view_is
-    (c.sends.ensures ∙ ap sending (c.listed.ensures ∙ c.outcome_sends.ensures ∙ ap (λ s. outcome_messages s c.args.tx.now Managers) status))
+    (c.tells.ensures ∙ ap (λ s. sending (outcome_messages s c.args.tx.now Managers)) status)
     (c.mark_known.ensures final)
     (final_agrees config number (the_view c.self.inside) c.args.tx.now
     (sym c.is_inside.ensures ∙ c.if-not-is_inside.false) final)).decides stored memory stands
 
 pub returns-then-is_final-clause-stands : goal.returns-then-is_final-clause-stands
 returns-then-is_final-clause-stands c =
-    let status : c.status_of-status.result ≡ status_in (course_of (the_view c.self.inside) c.args.tx.now) =
-    c.status_of-status.ensures ∙ ap (λ courses. status_in (course_in courses c.args.tx.now)) c.deref.ensures.value in
+    let status : c.status_at-status.result ≡ status_in (course_of (the_view c.self.inside) c.args.tx.now) =
+    c.status_at-status.ensures in
     let final : is_final (status_in (course_of (the_view c.self.inside) c.args.tx.now)) ≡ true =
     sym (ap is_final status) ∙ sym c.is_final.ensures ∙ c.if-is_final.true in
     let P : Option Fact → Type 0 = λ o. IfNone o ((config : Config) (number : ℕ) (stored : StoredBallots) (memory : LeaderMemory)
     → StandsForBallots config number c.args.self.now stored memory
-    → StandsForBallots config number (with_courses (the_view c.self.inside) c.mark_known.new.courses.items) stored
+    → StandsForBallots config number (with_courses (the_view c.self.inside) c.mark_known.new.self) stored
     (rules.on_leader_timeout config number stored memory c.args.tx.now).memory) in
-    subst P (sym (ap (λ d. d.fact) c.sends.ensures)) (λ config number stored memory stands. (follows config number
-    (the_view c.self.inside) c.args.self.now c.mark_known.new.courses.items c.args.tx.now
+    subst P (sym (ap (λ d. d.fact) c.tells.ensures)) (λ config number stored memory stands. (follows config number
+    (the_view c.self.inside) c.args.self.now c.mark_known.new.self c.args.tx.now
     (after_meeting (course_of (the_view c.self.inside) c.args.tx.now))
-    (sending (outcome_messages (status_in (course_of (the_view c.self.inside) c.args.tx.now)) c.args.tx.now Managers)) c.sends.result
+    (sending (outcome_messages (status_in (course_of (the_view c.self.inside) c.args.tx.now)) c.args.tx.now Managers)) c.tells.result
     (λ stored memory. rules.on_leader_timeout config number stored memory c.args.tx.now) c.self.view_is
-    (c.sends.ensures ∙ ap sending (c.listed.ensures ∙ c.outcome_sends.ensures ∙ ap (λ s. outcome_messages s c.args.tx.now Managers) status))
+    (c.tells.ensures ∙ ap (λ s. sending (outcome_messages s c.args.tx.now Managers)) status)
     (c.mark_known.ensures final)
     (final_agrees config number (the_view c.self.inside) c.args.tx.now
     (sym c.is_inside.ensures ∙ c.if-not-is_inside.false) final)).stands stored memory stands)
@@ -60,10 +59,10 @@ returns-then-not-is_inside-clause-stands c =
 
 pub returns-clause-decides : goal.returns-clause-decides
 returns-clause-decides c =
-    let status : c.status_of-status.result ≡ status_in (course_of (the_view c.self.inside) c.args.tx.now) =
-    c.status_of-status.ensures ∙ ap (λ courses. status_in (course_in courses c.args.tx.now)) c.deref.ensures.value in
-    let last : c.greatest_of-last.result ≡ (course_of (the_view c.self.inside) c.args.tx.now).greatest =
-    c.greatest_of-last.ensures ∙ ap (λ courses. (course_in courses c.args.tx.now).greatest) c.deref-2.ensures.value in
+    let status : c.status_at-status.result ≡ status_in (course_of (the_view c.self.inside) c.args.tx.now) =
+    c.status_at-status.ensures in
+    let last : c.greatest_at-last.result ≡ (course_of (the_view c.self.inside) c.args.tx.now).greatest =
+    c.greatest_at-last.ensures in
     let P : ℕ → Type 0 = λ n. IfSome c.take_over.result.fact
     (λ fact. rules.plays_at_leader c.self.inside.leaders c.self.inside.number (λ x. n) fact ≡ true) in
     let taken : (config : Config) (number : ℕ) (stored : StoredBallots) (memory : LeaderMemory)
@@ -79,10 +78,10 @@ returns-clause-decides c =
 
 pub returns-clause-stands : goal.returns-clause-stands
 returns-clause-stands c =
-    let status : c.status_of-status.result ≡ status_in (course_of (the_view c.self.inside) c.args.tx.now) =
-    c.status_of-status.ensures ∙ ap (λ courses. status_in (course_in courses c.args.tx.now)) c.deref.ensures.value in
-    let last : c.greatest_of-last.result ≡ (course_of (the_view c.self.inside) c.args.tx.now).greatest =
-    c.greatest_of-last.ensures ∙ ap (λ courses. (course_in courses c.args.tx.now).greatest) c.deref-2.ensures.value in
+    let status : c.status_at-status.result ≡ status_in (course_of (the_view c.self.inside) c.args.tx.now) =
+    c.status_at-status.ensures in
+    let last : c.greatest_at-last.result ≡ (course_of (the_view c.self.inside) c.args.tx.now).greatest =
+    c.greatest_at-last.ensures in
     let P : ℕ → Type 0 = λ n. IfSome c.take_over.result.fact
     (λ fact. rules.plays_at_leader c.self.inside.leaders c.self.inside.number (λ x. n) fact ≡ true) in
     let taken : (config : Config) (number : ℕ) (stored : StoredBallots) (memory : LeaderMemory)

@@ -2,9 +2,7 @@ use Rattle.std.proofs.Common.{◌≡◌, ℕ, List, ◌++◌, length, ap, sym, s
 use Rattle.std.specs.Prelude.{OnOk}
 use Rattle.wire.specs.Versions.{version_2}
 use Rattle.wire.specs.Grammar.{number_spelling}
-use Rattle.stable_record.specs.declared.fact.FactKind.{FactKind}
 use Rattle.stable_record.specs.declared.entry.EntryKind.{EntryKind}
-use Rattle.stable_record.specs.Facts.{IsFact}
 use Rattle.stable_record.specs.Entries.{IsEntry}
 use Rattle.stable_record.specs.Grammar.{body_spelling}
 use Rattle.stable_record.proofs.Lengths.{written_few}

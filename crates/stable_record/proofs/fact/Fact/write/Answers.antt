@@ -5,7 +5,6 @@ use Rattle.wire.specs.Grammar.{number_spelling}
 use Rattle.stable_record.specs.declared.fact.FactKind.{FactKind}
 use Rattle.stable_record.specs.declared.entry.EntryKind.{EntryKind}
 use Rattle.stable_record.specs.Facts.{IsFact}
-use Rattle.stable_record.specs.Entries.{IsEntry}
 use Rattle.stable_record.specs.Grammar.{body_spelling}
 use Rattle.stable_record.proofs.Lengths.{written_few}
 use Rattle.stable_record.proofs.fact.Fact.write.Goals as goal

@@ -1,0 +1,55 @@
+#!/bin/sh
+# Prints how fast frames are read one after the other, and how many frames a second are appended to a file and synced, beside a plain C
+# loop of write and fdatasync, turn and turn about: `bench/records.sh [PROGRAM [FOLDER..]]`. The program is bench/records.rs as
+# bench/build.sh leaves it, and is built where it isn't given. The folders are those to append in: one on a disk, and one in memory.
+here=$(cd "$(dirname "$0")" && pwd)
+scratch=$(mktemp -d)
+trap 'rm -rf "$scratch"' EXIT
+trap 'exit 1' INT TERM
+program=$1
+if [ $# -gt 0 ]; then shift; fi
+if [ -z "$program" ]; then
+    program=$scratch/records
+    "$here/build.sh" stable_record "$here/records.rs" "$program" replay 1 1 || exit 1
+fi
+cc -O2 -o "$scratch/plain" "$here/plain/append.c" || exit 1
+[ $# -gt 0 ] || set -- "$here" /dev/shm
+
+# frames, rounds: the shortest of three
+replay() {
+    shortest=
+    for _ in 1 2 3; do
+        read -r frames bytes nanoseconds <<END
+$("$program" replay "$1" "$2")
+END
+        if [ "$nanoseconds" -lt "${shortest:-$((nanoseconds + 1))}" ]; then shortest=$nanoseconds; fi
+    done
+    awk -v f="$frames" -v b="$bytes" -v n="$shortest" 'BEGIN {
+        printf "replay of %d frames: %d frames and %.1f MB per second, %.0f ns a frame\n", f, f * 1e9 / n, b * 1e3 / n, n / f }'
+}
+
+# a folder, how many appends in a turn: the shortest turn of 20 of each, in alternation
+append() {
+    proved=
+    plain=
+    for _ in 1 2 3 4 5 6 7 8 9 10 11 12 13 14 15 16 17 18 19 20; do
+        rm -f "$1/bench.rec" "$1/bench.plain"
+        turn=$("$program" append "$1/bench.rec" "$2") || exit 1
+        if [ "$turn" -lt "${proved:-$((turn + 1))}" ]; then proved=$turn; fi
+        turn=$("$scratch/plain" "$1/bench.plain" "$2") || exit 1
+        if [ "$turn" -lt "${plain:-$((turn + 1))}" ]; then plain=$turn; fi
+    done
+    rm -f "$1/bench.rec" "$1/bench.plain"
+    awk -v folder="$1" -v count="$2" -v proved="$proved" -v plain="$plain" 'BEGIN {
+        printf "appends in %s: %d per second, plain C %d, %.2f times its time\n",
+            folder, count * 1e9 / proved, count * 1e9 / plain, proved / plain }'
+}
+
+replay 1000 2000
+replay 1000000 2
+for folder; do
+    case $(stat -f -c %T "$folder") in
+    tmpfs) append "$folder" 20000 ;;
+    *) append "$folder" 200 ;;
+    esac
+done

@@ -1,0 +1,4 @@
+pub mod Positions
+pub mod KeyPlaces
+pub mod Views
+pub mod CallSteps

@@ -1,0 +1,3 @@
+pub mod OneCall
+pub mod Tables
+pub mod Admission

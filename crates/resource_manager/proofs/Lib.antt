@@ -1,0 +1,11 @@
+pub mod Numbers
+pub mod Spending
+pub mod Named
+pub mod More
+pub mod Standing
+pub mod Calling
+pub mod Votes
+pub mod Ending
+pub mod Played
+pub mod Deciding
+pub mod Recovering

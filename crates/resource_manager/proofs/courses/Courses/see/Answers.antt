@@ -1,0 +1,15 @@
+use Rattle.std.proofs.Common.{◌∙◌, [], ◌∷◌, ◌++◌, ap}
+use Rattle.resource_manager.specs.declared.course.Course.{Course}
+use Rattle.resource_manager.proofs.Numbers.{saw_number, saw_whole}
+use Rattle.resource_manager.proofs.courses.Courses.see.Goals as goal
+
+pub invariant_of-self-2 : goal.invariant_of-self-2
+invariant_of-self-2 c =
+    saw_whole c.self.inside.transactions c.add.new.self c.args.tx.now c.in_default.ensures.place c.in-Ok.ensures.ok.1
+    c.self.inside.courses.items c.push_reserved.new.self.items
+    (c.push_reserved.ensures.items ∙ ap (λ cs. cs ++ Course.Working ∷ []) c.reserve.ensures.items) c.self.invariant
+
+pub returns-clause-number : goal.returns-clause-number
+returns-clause-number c =
+    let saw = saw_number c.self.inside.transactions c.add.new.self c.args.tx.now c.in_default.ensures.place c.in-Ok.ensures.ok.1 in
+    (c.in-Ok.ensures.ok.0 ∙ saw.0, saw.1)

@@ -1,0 +1,5 @@
+pub mod Courses
+pub mod SpentNames
+pub mod Managers
+pub mod Messages
+pub mod Playing

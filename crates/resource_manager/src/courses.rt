@@ -1,0 +1,99 @@
+ghost use Rattle.std.specs.Prelude.{◌≡◌, ◌<◌, [], IfOk, IfErr, MatchOption, length};
+ghost use Rattle.std.specs.List.{slice_index_or};
+ghost use Rattle.xid.specs.Transactions.{TxParts};
+ghost use Rattle.xid.specs.declared.refusals.Refusal.TheVariants.{NoMemory};
+ghost use Rattle.transactions.specs.Seen.{place_in};
+ghost use Rattle.resource_manager.specs.Courses.{IsSeen, course_in, Sets};
+ghost use Rattle.resource_manager.specs.declared.course.Course.TheVariants as courses;
+
+use crate::course::Course;
+use std::alloc::Global;
+use std::marker::Model;
+use transactions::Transactions;
+use xid::{Refusal, Tx};
+
+/// The transactions that a resource manager has seen, and how far each has come. One that wasn't seen is working.
+#[derive(Debug, Drop)]
+pub struct Courses {
+    transactions: Transactions,
+    courses: Vec<Course>,
+}
+
+impl Model for Courses {
+    ghost use Rattle.std.specs.Prelude.{◌≡◌, length};
+    ghost use Rattle.resource_manager.specs.Courses.{CoursesParts};
+
+    ghost Value = { CoursesParts };
+
+    ghost view = { λ c. record { transactions = c.transactions; courses = c.courses.items } };
+
+    ghost invariant = { λ c. length c.courses.items ≡ length c.transactions };
+}
+
+impl Courses {
+    /// No transaction is seen. It takes no memory.
+    pub fn new(alloc: Global) -> Courses
+        ensures transactions { result.transactions ≡ [] }
+        ensures courses { result.courses ≡ [] }
+    {
+        Courses {
+            transactions: Transactions::new(alloc),
+            courses: Vec::new(alloc),
+        }
+    }
+
+    /// The number of a transaction, where it was seen. It takes no memory.
+    pub fn number_of(&self, tx: &Tx) -> Option<usize>
+        ensures { MatchOption result (course_in self.now tx.now ≡ courses.Working)
+            (λ number. (number ≡ place_in self.now.transactions tx.now) × IsSeen self.now tx.now × (number < length self.now.courses)) }
+    {
+        self.transactions.number_of(tx)
+    }
+
+    /// How far the transaction of a number has come.
+    pub fn at(&self, number: usize) -> Course
+        requires { number < length self.now.courses }
+        ensures { result ≡ slice_index_or self.now.courses number courses.Working }
+    {
+        self.courses[number]
+    }
+
+    /// How far a transaction has come. It takes no memory.
+    pub fn of(&self, tx: &Tx) -> Course
+        ensures { result ≡ course_in self.now tx.now }
+    {
+        match self.transactions.number_of(tx) {
+            Some(number) => self.courses[number],
+            None => Course::Working,
+        }
+    }
+
+    /// Sees a transaction, which is working then unless it was seen, and answers its number. At `NoMemory`, the only refusal, it wasn't
+    /// seen; then, and else too, each has come as far as before.
+    pub fn see(&mut self, tx: &Tx) -> Result<usize, Refusal>
+        ensures number { IfOk result (λ number. (number ≡ place_in self.new.transactions tx.now) × IsSeen self.new tx.now) }
+        ensures same { (other : TxParts) → course_in self.new other ≡ course_in self.old other }
+        ensures err { IfErr result (λ e. (e ≡ NoMemory) × (¬ IsSeen self.old tx.now)) }
+    {
+        if let Some(number) = self.transactions.number_of(tx) {
+            return Ok(number);
+        }
+        if self.courses.reserve(1).is_err() {
+            return Err(Refusal::NoMemory);
+        }
+        let Ok(number) = self.transactions.add(tx) else {
+            return Err(Refusal::NoMemory);
+        };
+        self.courses.push_reserved(Course::Working);
+        Ok(number)
+    }
+
+    /// Sets how far the transaction of a number has come.
+    pub fn set(&mut self, tx: &Tx, number: usize, course: Course)
+        requires number { number ≡ place_in self.old.transactions tx.now }
+        requires seen { IsSeen self.old tx.now }
+        ensures { Sets self.old self.new tx.now course }
+    {
+        self.courses[number] = course;
+    }
+}

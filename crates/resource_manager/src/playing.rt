@@ -1,0 +1,278 @@
+//! How a resource manager makes itself ready for a fact, and plays it.
+
+ghost use Rattle.std.specs.Prelude.{◌≡◌, ℕ, IfOk, IfErr, OnOk, OnErr, List, None, true, false};
+ghost use Rattle.xid.specs.declared.refusals.Refusal.TheVariants.{NoMemory};
+ghost use Rattle.stable_record.specs.declared.fact.FactKind.TheVariants as facts;
+ghost use Rattle.stable_record.specs.Facts.{AreKeys};
+ghost use Rattle.transactions.specs.Seen.{place_in};
+ghost use Rattle.protocol.specs.Effects.{Config};
+ghost use Rattle.protocol.specs.Managers.{Branch};
+ghost use Rattle.stable_record.specs.Parts.{IsMadeReady, IsPlayed};
+ghost use Rattle.branch_table.specs.Tables.{branch_named};
+ghost use Rattle.branch_table.specs.Outcomes.{SameMeaning, is_ready};
+ghost use Rattle.resource_manager.specs.Managers.{HasPlaces, HasBranch, CanCommit, IsPlayable, StandsForSame, manager_part};
+ghost use Rattle.resource_manager.specs.Playing.{IsThere, MeansSame, Plays, PlaysEnd, PlaysVote, Stores};
+
+use crate::course::Course;
+use crate::manager::ResourceManager;
+use branch_table::BranchTable;
+use stable_record::{Fact, FactKind, Touched};
+use xid::{Refusal, Tx, Xid};
+
+impl ResourceManager {
+    /// Makes itself ready for a fact that it decided, so that `play` of it takes no memory: its transaction is seen, there is room for a
+    /// spent name, and of a commit, there are places for the rows. At `NoMemory`, the only refusal, and else too, it stands for what it
+    /// stood for. A vote prepared of a branch that doesn't exist takes memory only when it is played: it is refused here.
+    pub fn ready(&mut self, fact: &Fact) -> Result<(), Refusal>
+        ensures { (config : Config) (number : ℕ) (branches : List Branch)
+            → IsMadeReady (manager_part config number branches) self.old self.new fact.now result }
+    {
+        match fact.kind() {
+            FactKind::VotePrepared { tx, .. } => self.ready_vote(tx),
+            FactKind::VoteAborted(tx) => self.ready_end(tx),
+            FactKind::Committed(tx) => self.ready_commit(tx),
+            FactKind::Aborted(tx) => self.ready_end(tx),
+            _ => Ok(()),
+        }
+    }
+
+    /// Plays a fact that is stored: one that was decided, or one of a record that is replayed, when there are none but prepared branches.
+    /// Refused (`Damaged`) where its condition doesn't hold, and (`NoMemory`) where it wasn't made ready for it; then it stands for what
+    /// it stood for.
+    pub fn play(&mut self, fact: Fact) -> Result<(), Refusal>
+        ensures plays { (config : Config) (number : ℕ) (branches : List Branch) → IsPlayable number branches fact
+            → IsPlayed (manager_part config number branches) self.old self.new fact result }
+        ensures refused { OnErr result (StandsForSame self.old self.new) }
+    {
+        self.play_by(&fact)
+    }
+
+    /// Plays a fact, as `play` says.
+    fn play_by(&mut self, fact: &Fact) -> Result<(), Refusal>
+        ensures { Plays self.old self.new fact.now result }
+    {
+        match fact.kind() {
+            FactKind::VotePrepared { tx, keys } => self.play_prepared(tx, keys.as_slice()),
+            FactKind::VoteAborted(tx) => self.play_refused(tx),
+            FactKind::Committed(tx) => self.play_committed(tx),
+            FactKind::Aborted(tx) => self.play_aborted(tx),
+            FactKind::Promise { .. } => Err(Refusal::Damaged),
+            FactKind::PromiseAll { .. } => Err(Refusal::Damaged),
+            FactKind::Accept { .. } => Err(Refusal::Damaged),
+            FactKind::Ballot { .. } => Err(Refusal::Damaged),
+        }
+    }
+
+    /// Makes a place for a transaction, and room for a name to spend. It answers the transaction's number. At `NoMemory`, the only
+    /// refusal, and else too, all means what it meant.
+    fn make_places(&mut self, tx: &Tx) -> Result<usize, Refusal>
+        ensures ok { IfOk result (λ number. (number ≡ place_in self.new.courses.transactions tx.now) × HasPlaces self.new tx.now) }
+        ensures same { MeansSame self.old self.new }
+        ensures err { IfErr result (λ e. (e ≡ NoMemory) × (¬ HasPlaces self.old tx.now)) }
+    {
+        let number = match self.courses.see(tx) {
+            Ok(number) => number,
+            Err(refusal) => return Err(refusal),
+        };
+        match self.spent.reserve() {
+            Ok(()) => Ok(number),
+            Err(refusal) => Err(refusal),
+        }
+    }
+
+    /// Makes ready for a fact that ends a branch, or has none.
+    fn ready_end(&mut self, tx: &Tx) -> Result<(), Refusal>
+        ensures ok { OnOk result (HasPlaces self.new tx.now) }
+        ensures same { MeansSame self.old self.new }
+        ensures err { IfErr result (λ e. e ≡ NoMemory) }
+    {
+        match self.make_places(tx) {
+            Ok(_) => Ok(()),
+            Err(refusal) => Err(refusal),
+        }
+    }
+
+    /// Makes ready for a vote prepared.
+    fn ready_vote(&mut self, tx: &Tx) -> Result<(), Refusal>
+        ensures ok { OnOk result (HasPlaces self.new tx.now × HasBranch self.new tx.now) }
+        ensures same { MeansSame self.old self.new }
+        ensures err { IfErr result (λ e. e ≡ NoMemory) }
+    {
+        if let Some(xid) = self.name_here(tx) {
+            if !self.table.has_branch(&xid) {
+                return Err(Refusal::NoMemory);
+            }
+        }
+        self.ready_end(tx)
+    }
+
+    /// Makes ready for a commit.
+    fn ready_commit(&mut self, tx: &Tx) -> Result<(), Refusal>
+        ensures ok { OnOk result (CanCommit self.new tx.now) }
+        ensures same { MeansSame self.old self.new }
+        ensures err { IfErr result (λ e. e ≡ NoMemory) }
+    {
+        match self.name_here(tx) {
+            Some(xid) => self.table.ready_commit(&xid),
+            None => Ok(()),
+        }
+    }
+
+    /// Notes how far a transaction has come that has places, and that its name is spent.
+    fn store(&mut self, tx: &Tx, number: usize, xid: &Xid, course: Course)
+        requires places { HasPlaces self.old tx.now }
+        requires number { number ≡ place_in self.old.courses.transactions tx.now }
+        ensures { Stores self.old self.new tx.now xid.now course }
+    {
+        self.spent.spend(xid);
+        self.courses.set(tx, number, course);
+    }
+
+    /// Plays a vote prepared.
+    fn play_prepared(&mut self, tx: &Tx, keys: &[Touched]) -> Result<(), Refusal>
+        requires { AreKeys keys.now }
+        ensures { Plays self.old self.new (facts.VotePrepared tx.now keys.now) result }
+    {
+        let Some(xid) = self.name_here(tx) else {
+            return Err(Refusal::Damaged);
+        };
+        if !self.courses.of(tx).is_working() {
+            return Err(Refusal::Damaged);
+        }
+        if self.spent.contains(&xid) {
+            return Err(Refusal::Damaged);
+        }
+        if self.table.has_branch(&xid) {
+            return self.play_idle(tx, &xid, keys);
+        }
+        self.play_new(tx, &xid, keys)
+    }
+
+    /// Plays a vote prepared of a branch that exists.
+    fn play_idle(&mut self, tx: &Tx, xid: &Xid, keys: &[Touched]) -> Result<(), Refusal>
+        requires keys { AreKeys keys.now }
+        requires there { IsThere self.old xid.now }
+        ensures { PlaysVote self.old self.new tx.now xid.now keys.now result }
+    {
+        let number = match self.make_places(tx) {
+            Ok(number) => number,
+            Err(refusal) => return Err(refusal),
+        };
+        match self.table.restore(xid, keys) {
+            Ok(()) => {
+                self.store(tx, number, xid, Course::Prepared);
+                Ok(())
+            }
+            Err(refusal) => Err(refusal),
+        }
+    }
+
+    /// Plays a vote prepared of a branch that doesn't exist, as in a replay.
+    fn play_new(&mut self, tx: &Tx, xid: &Xid, keys: &[Touched]) -> Result<(), Refusal>
+        requires keys { AreKeys keys.now }
+        requires none { branch_named self.old.table.branches xid.now ≡ None }
+        ensures { PlaysVote self.old self.new tx.now xid.now keys.now result }
+    {
+        match self.table.restore(xid, keys) {
+            Ok(()) => {}
+            Err(refusal) => return Err(refusal),
+        }
+        match self.make_places(tx) {
+            Ok(number) => {
+                self.store(tx, number, xid, Course::Prepared);
+                Ok(())
+            }
+            Err(refusal) => {
+                self.table.undo(xid);
+                Err(refusal)
+            }
+        }
+    }
+
+    /// Plays a vote aborted.
+    fn play_refused(&mut self, tx: &Tx) -> Result<(), Refusal>
+        ensures { Plays self.old self.new (facts.VoteAborted tx.now) result }
+    {
+        let Some(xid) = self.name_here(tx) else {
+            return Err(Refusal::Damaged);
+        };
+        if !self.courses.of(tx).is_working() {
+            return Err(Refusal::Damaged);
+        }
+        let is_spent = self.spent.contains(&xid);
+        self.end_branch(tx, &xid, is_spent, Course::VotedAborted)
+    }
+
+    /// Plays an abort.
+    fn play_aborted(&mut self, tx: &Tx) -> Result<(), Refusal>
+        ensures { Plays self.old self.new (facts.Aborted tx.now) result }
+    {
+        let Some(xid) = self.name_here(tx) else {
+            return Err(Refusal::Damaged);
+        };
+        let course = self.courses.of(tx);
+        if !course.is_open() {
+            return Err(Refusal::Damaged);
+        }
+        if course.is_prepared() {
+            return self.end_branch(tx, &xid, false, Course::RolledBack);
+        }
+        let is_spent = self.spent.contains(&xid);
+        self.end_branch(tx, &xid, is_spent, Course::AbortedUnvoted)
+    }
+
+    /// Ends a branch without effect, unless it is another transaction's, and notes the course of its transaction.
+    fn end_branch(
+        &mut self,
+        tx: &Tx,
+        xid: &Xid,
+        is_anothers: bool,
+        course: Course,
+    ) -> Result<(), Refusal>
+        ensures { PlaysEnd self.old self.new tx.now xid.now is_anothers course result }
+    {
+        let number = match self.make_places(tx) {
+            Ok(number) => number,
+            Err(refusal) => return Err(refusal),
+        };
+        if !is_anothers {
+            self.table.undo(xid);
+        }
+        self.store(tx, number, xid, course);
+        Ok(())
+    }
+
+    /// Plays a commit.
+    fn play_committed(&mut self, tx: &Tx) -> Result<(), Refusal>
+        ensures { Plays self.old self.new (facts.Committed tx.now) result }
+    {
+        let Some(xid) = self.name_here(tx) else {
+            return Err(Refusal::Damaged);
+        };
+        let Some(number) = self.courses.number_of(tx) else {
+            return Err(Refusal::Damaged);
+        };
+        if !self.courses.at(number).is_prepared() {
+            return Err(Refusal::Damaged);
+        }
+        match make_rows_ready(&mut self.table, &xid) {
+            Ok(()) => {}
+            Err(refusal) => return Err(refusal),
+        }
+        self.table.commit(&xid);
+        self.courses.set(tx, number, Course::Committed);
+        Ok(())
+    }
+}
+
+/// Makes places for the rows of a branch that is to be committed, unless they are there.
+fn make_rows_ready(table: &mut BranchTable, xid: &Xid) -> Result<(), Refusal>
+    ensures ok { OnOk result (is_ready table.new xid.now ≡ true) }
+    ensures same { SameMeaning table.old table.new }
+    ensures err { IfErr result (λ e. (e ≡ NoMemory) × (is_ready table.old xid.now ≡ false)) }
+{
+    if table.is_ready(xid) {
+        return Ok(());
+    }
+    table.ready_commit(xid)
+}
