@@ -73,7 +73,8 @@ all_run s plain run =
     rest (t ∷ ts) = rest ts
 
 pub commands_run : (s : Script) → list_all is_item_run (script_items s) ≡ true → list_all is_run s.commands ≡ true
-commands_run s all = after s.tables (right_of (not s.sizes.bundled) (list_all is_item_run (map Contents s.tables ++ map Then s.commands)) all)
+commands_run s all =
+    after s.tables (right_of (not s.sizes.bundled) (list_all is_item_run (map Contents s.tables ++ map Then s.commands)) all)
   where
     commands : (cs : List Command) → list_all is_item_run (map Then cs) ≡ true → list_all is_run cs ≡ true
     commands [] h = refl

@@ -7,7 +7,7 @@ use Rattle.protocol.specs.Facts.{bound_branches}
 use Rattle.protocol.specs.Branches.{BranchView}
 use Rattle.protocol.specs.Effects.{Effect}
 use Rattle.protocol.specs.Managers.{Branch, all_branches, view_named}
-use Rattle.branch_list.specs.OneCall.{Answers, Leaves}
+use Rattle.branch_table.specs.OneCall.{Answers, Leaves}
 use Rattle.protocol.specs.Holds.{AreInOrder}
 
 -- how the branches of resource manager rm show, those that are prepared among them

@@ -1,5 +1,5 @@
-//! What the machine's client calls come to in a cluster.
-ghost use Rattle.std.specs.Prelude.{◌≡◌, ℕ, List, Some};
+//! What the machine's client calls come to in a cluster, and what the trace of a script says of itself.
+ghost use Rattle.std.specs.Prelude.{◌≡◌, ◌<◌, ℕ, List, [], Some, slice_index_or};
 ghost use Rattle.xid.specs.Names.{XidParts};
 ghost use Rattle.cluster_run.specs.Words.{R, Action, Row};
 ghost use Rattle.protocol.specs.Managers.{stored_votes};
@@ -8,16 +8,35 @@ ghost use Rattle.protocol.specs.Facts.{is_spent};
 ghost use Rattle.protocol.specs.Managers.{on_call};
 ghost use Rattle.protocol.specs.Nodes.{NodeState};
 ghost use Rattle.protocol.specs.Tables.{table};
-ghost use Rattle.protocol.specs.Worlds.{World, node_at};
+ghost use Rattle.protocol.specs.Worlds.{World, Occurrence, node_at};
 ghost use Rattle.safety.specs.Runs.{IsReachable};
+ghost use Rattle.net_script.specs.declared.values.Script.{Script};
+ghost use Rattle.net_script.specs.declared.values.Trace.{Trace};
 ghost use Rattle.cluster_run.specs.MachineCalls.{IsOneCall, AnswersNamed, branch_view};
+ghost use Rattle.cluster_run.specs.Traces.{config_of, first_rows_of, IsTraceOf, LooksBack};
+ghost use Rattle.cluster_run.specs.Runs.{IsRun};
+ghost use Rattle.protocol.specs.Rows.{IsTableOf};
+
+/// Whatever happens in the cluster of a script, its trace looks back over itself: each answer of a resource manager is one that the
+/// steps before it leave to it, and each table at the end is the one that all steps make.
+pub fn traces_look_back()
+    ensures { (script : Script) (happened : List Occurrence) (trace : Trace) → IsTraceOf script happened trace
+        → LooksBack (config_of script) happened trace }
+{}
+
+/// No call that is run commits: at the end of a run each table is its first contents, in the order of their keys.
+pub fn calls_keep_tables()
+    ensures { (bytes output : List ℕ) (run : IsRun bytes output) (rm : ℕ) → rm < run.script.sizes.rms
+        → IsTableOf (first_rows_of run.script.tables rm) (slice_index_or run.trace.finals rm []) }
+{}
 
 /// Whatever has happened in a cluster, a client call at a resource manager is one call on its branches, prepared ones among them: it
 /// leaves what one call leaves, and is answered by the table of client calls; only of a spent name no branch can be started.
 pub fn calls_are_one_call()
     ensures left { (config : Config) (world : World) → IsReachable config world → (rm : ℕ) (node : NodeState)
         → node_at config world (R rm) ≡ Some node → (first : List Row) (x : XidParts) (action : Action)
-        → IsOneCall rm node.facts node.memory.branches x action (on_call rm (stored_votes rm node.facts) (table first node.facts) node.memory.branches x action) }
+        → IsOneCall rm node.facts node.memory.branches x action
+        (on_call rm (stored_votes rm node.facts) (table first node.facts) node.memory.branches x action) }
     ensures answered { (config : Config) (world : World) → IsReachable config world → (rm : ℕ) (node : NodeState)
         → node_at config world (R rm) ≡ Some node → (first : List Row) (x : XidParts) (action : Action)
         → AnswersNamed (is_spent rm node.facts x) (table first node.facts) (branch_view rm node.facts node.memory.branches) x action

@@ -1,4 +1,4 @@
-//! A whole cluster, run from a script: at this stage its resource managers and their branches.
+//! A whole cluster, run from a script: at this stage its resource managers and the client calls on them.
 #![tactic(auto)]
 
 pub mod laws;

@@ -1,40 +1,43 @@
 //! The resource managers of a cluster.
 
-ghost use Rattle.std.specs.Prelude.{◌≡◌, IfOk, IfErr, map};
+ghost use Rattle.std.specs.Prelude.{◌≡◌, IfOk, IfErr, length, true};
 ghost use Rattle.xid.specs.declared.refusals.Refusal.TheVariants.{NoMemory};
-ghost use Rattle.branch_list.specs.Tables.{Steps};
-ghost use Rattle.cluster_run.specs.Runs.{first_rows_of as first_rows_of_lem};
-ghost use Rattle.cluster_run.specs.Managers.{AnswersAt, HaveFirstRows};
+ghost use Rattle.cluster_run.specs.Traces.{first_rows_of as first_rows_of_lem};
+ghost use Rattle.net_script.specs.declared.values.Command.TheVariants.{Do};
+ghost use Rattle.cluster_run.specs.Runs.{is_run};
+ghost use Rattle.cluster_run.specs.Managers.{AnswersAt, AreTablesOf, Calls, HaveFirstRows};
 
-use branch_list::{BranchTable, Ending};
+use branch_table::Ending;
 use net_script::Table;
 use protocol::{Action, Answer, Event, NodeId, Request, Row};
+use resource_manager::ResourceManager;
 use std::alloc::Global;
 use xid::{Bytes, Refusal, Sequence, Xid};
 
-/// The resource managers of a cluster, with their first contents. Refused: `NoMemory` alone.
+/// The resource managers of a cluster that has so many, with their first contents. Refused: `NoMemory` alone.
 pub fn first_managers(
     alloc: Global,
     tables: &[Table],
-    count: u32,
-) -> Result<Vec<BranchTable>, Refusal>
-    ensures ok { IfOk result (λ managers. HaveFirstRows tables.now count managers.items) }
+    count: u8,
+) -> Result<Vec<ResourceManager>, Refusal>
+    ensures ok { IfOk result (λ managers. HaveFirstRows tables.now count count managers.items) }
     ensures err { IfErr result (λ e. e ≡ NoMemory) }
 {
     let mut managers = Vec::new(alloc);
     for rm in 0..count {
-        managers.push(BranchTable::new(alloc, first_rows_of(alloc, tables, rm)?))?;
+        let rows = first_rows_of(alloc, tables, rm)?;
+        managers.push(ResourceManager::new(alloc, rm, count, rows)?)?;
     }
     Ok(managers)
 }
 
 /// The first contents of a resource manager, copied.
-fn first_rows_of(alloc: Global, tables: &[Table], rm: u32) -> Result<Vec<Row>, Refusal>
+fn first_rows_of(alloc: Global, tables: &[Table], rm: u8) -> Result<Vec<Row>, Refusal>
     ensures ok { IfOk result (λ rows. rows.items ≡ first_rows_of_lem tables.now rm) }
     ensures err { IfErr result (λ e. e ≡ NoMemory) }
 {
     for table in tables {
-        if u32::from(table.rm) == rm {
+        if table.rm == rm {
             return copied(alloc, table.rows.as_slice());
         }
     }
@@ -56,19 +59,23 @@ fn copied(alloc: Global, rows: &[Row]) -> Result<Vec<Row>, Refusal>
 }
 
 /// The tables of the resource managers. Refused: `NoMemory` alone.
-pub fn final_rows(alloc: Global, managers: Vec<BranchTable>) -> Result<Vec<Sequence<Row>>, Refusal>
-    ensures ok { IfOk result (λ finals. finals.items ≡ map (λ manager. manager.rows) managers.items) }
+pub fn final_rows(
+    alloc: Global,
+    managers: &[ResourceManager],
+) -> Result<Vec<Sequence<Row>>, Refusal>
+    ensures ok { IfOk result (λ finals. AreTablesOf managers.now (length managers.now) finals.items) }
     ensures err { IfErr result (λ e. e ≡ NoMemory) }
 {
     let mut finals = Vec::new(alloc);
     for manager in managers {
-        finals.push(Sequence::new(manager.into_rows()))?;
+        finals.push(Sequence::new(manager.rows()?))?;
     }
     Ok(finals)
 }
 
-/// Answers an event. Refused: `NoMemory` alone, and then the resource managers are as they were.
-pub fn answer(managers: &mut Vec<BranchTable>, event: &Event) -> Result<Answer, Refusal>
+/// Answers an event that is run. Refused: `NoMemory` alone, and then the resource managers are as they were.
+pub fn answer(managers: &mut Vec<ResourceManager>, event: &Event) -> Result<Answer, Refusal>
+    requires { is_run (Do event.now) ≡ true }
     ensures ok { IfOk result (λ answer. AnswersAt managers.old.items managers.new.items event.now answer) }
     ensures err { IfErr result (λ e. (e ≡ NoMemory) × (managers.new.items ≡ managers.old.items)) }
 {
@@ -77,7 +84,7 @@ pub fn answer(managers: &mut Vec<BranchTable>, event: &Event) -> Result<Answer, 
         request,
     } = event
     else {
-        return Ok(Answer::Refused(Refusal::NoSuch));
+        unreachable!();
     };
     let at = usize::from(*rm);
     match request {
@@ -85,7 +92,7 @@ pub fn answer(managers: &mut Vec<BranchTable>, event: &Event) -> Result<Answer, 
             if at >= managers.len() {
                 return Ok(Answer::Refused(Refusal::NoSuch));
             }
-            Ok(managers[at].recover())
+            managers[at].recover()
         }
         Request::Call { xid, action } => {
             if at >= managers.len() {
@@ -94,13 +101,13 @@ pub fn answer(managers: &mut Vec<BranchTable>, event: &Event) -> Result<Answer, 
             let manager = &mut managers[at];
             call(manager, xid, action)
         }
-        _ => Ok(Answer::Refused(Refusal::NoSuch)),
+        _ => unreachable!(),
     }
 }
 
 /// A client's call on a branch of one resource manager. Refused: `NoMemory` alone, and then it is as it was.
-fn call(manager: &mut BranchTable, xid: &Xid, action: &Action) -> Result<Answer, Refusal>
-    ensures ok { IfOk result (λ answer. Steps manager.old manager.new xid.now action.now answer) }
+fn call(manager: &mut ResourceManager, xid: &Xid, action: &Action) -> Result<Answer, Refusal>
+    ensures ok { IfOk result (λ answer. Calls manager.old manager.new xid.now action.now answer) }
     ensures err { IfErr result (λ e. (e ≡ NoMemory) × (manager.new ≡ manager.old)) }
 {
     match action {

@@ -1,22 +1,22 @@
 //! The run of a script.
 
-ghost use Rattle.std.specs.Prelude.{◌≡◌, IfOk, IfErr, OnOk, MatchOption, true};
+ghost use Rattle.std.specs.Prelude.{◌≡◌, IfOk, IfErr, MatchOption, None, true, false, []};
 ghost use Rattle.std.specs.List.{list_all};
 ghost use Rattle.xid.specs.declared.refusals.Refusal.TheVariants.{NoMemory};
-ghost use Rattle.cluster_run.specs.LookingBack.{quiet_step as quiet_step_lem};
 ghost use Rattle.net_script.specs.Scripts.{script_items};
-ghost use Rattle.cluster_run.specs.Runs.{AreEntriesOf, IsRun, RefusesRun, IsFirstLeft, is_item_run, is_run as is_run_lem};
+ghost use Rattle.cluster_run.specs.Runs.{IsRun, RefusesRun, IsFirstLeft, is_item_run, is_run as is_run_lem};
 ghost use Rattle.cluster_run.specs.Runs.{is_in_limits as is_in_limits_lem};
-ghost use Rattle.cluster_run.specs.Managers.{HaveNoBranches, tables_of};
+ghost use Rattle.cluster_run.specs.Managers.{AreEntriesOf};
 
 use crate::managers::{answer, final_rows, first_managers};
-use branch_list::BranchTable;
 use net_script::{Command, Entry, Script, Sizes, Trace, line_of, read_script, write_trace};
 use protocol::{Answer, Event, NodeId, Request, Step};
+use resource_manager::ResourceManager;
 use std::alloc::Global;
 use xid::{MAX_LEADERS, MAX_MANAGERS, Refusal, Sequence};
 
-/// Runs a script, and gives the text of its trace. Refused: `BadScript` with the first line at fault; else, where every line
+/// Runs a script, and gives the text of its trace: that of the machine, in which no fault meets any event, and of which looking back
+/// gives each answer and each table at the end. Refused: `BadScript` with the first line at fault; else, where every line
 /// is right, `BadScript` with the first line that says what isn't run yet (a bundled cluster, or an event that is neither a call on a
 /// branch nor a `recover`); else `BadConfig` for sizes outside the limits (1, 3, 5 or 7 acceptors, 1 to 4 leaders, 1 to 64 resource
 /// managers); and `NoMemory`. Where it is refused nothing was run.
@@ -32,12 +32,12 @@ pub fn run(alloc: Global, script: &[u8]) -> Result<Vec<u8>, Refusal>
         };
         return Err(Refusal::BadScript { line });
     }
-    if !is_in_limits(script.sizes) {
+    let Some(count) = managers_within(script.sizes) else {
         return Err(Refusal::BadConfig);
-    }
-    let mut managers = first_managers(alloc, script.tables.as_slice(), script.sizes.rms)?;
+    };
+    let mut managers = first_managers(alloc, script.tables.as_slice(), count)?;
     let entries = entries_of(alloc, &mut managers, script.commands.into_vec())?;
-    let finals = final_rows(alloc, managers)?;
+    let finals = final_rows(alloc, &managers)?;
     let trace = Trace {
         sizes: script.sizes,
         tables: script.tables,
@@ -54,6 +54,16 @@ fn is_in_limits(sizes: Sizes) -> bool
     matches!(sizes.acceptors, 1 | 3 | 5 | 7)
         && (1..=u32::from(MAX_LEADERS)).contains(&sizes.leaders)
         && (1..=u32::from(MAX_MANAGERS)).contains(&sizes.rms)
+}
+
+/// How many resource managers there are, where there may be so many nodes.
+fn managers_within(sizes: Sizes) -> Option<u8>
+    ensures { MatchOption result (is_in_limits_lem sizes ≡ false) (λ count. (is_in_limits_lem sizes ≡ true) × (count ≡ sizes.rms)) }
+{
+    if !is_in_limits(sizes) {
+        return None;
+    }
+    u8::try_from(sizes.rms).ok()
 }
 
 /// Whether a command is run.
@@ -88,13 +98,11 @@ fn first_left(script: &Script) -> Option<usize>
 /// The events with their answers, one after another.
 fn entries_of(
     alloc: Global,
-    managers: &mut Vec<BranchTable>,
+    managers: &mut Vec<ResourceManager>,
     commands: Vec<Command>,
 ) -> Result<Vec<Entry>, Refusal>
-    requires plain { HaveNoBranches managers.old.items }
-    requires run { list_all is_run_lem commands.items ≡ true }
-    ensures steps { IfOk result (λ entries. AreEntriesOf (tables_of managers.old.items) commands.items entries.items) }
-    ensures rows { OnOk result (tables_of managers.new.items ≡ tables_of managers.old.items) }
+    requires { list_all is_run_lem commands.items ≡ true }
+    ensures ok { IfOk result (λ entries. AreEntriesOf managers.old.items managers.new.items commands.items entries.items) }
     ensures err { IfErr result (λ e. e ≡ NoMemory) }
 {
     let mut entries = Vec::new(alloc);
@@ -110,7 +118,7 @@ fn entries_of(
 
 /// An event and its answer, where it changed no view and sent nothing.
 fn quiet_step(alloc: Global, event: Event, answer: Answer) -> Step
-    ensures { result ≡ quiet_step_lem event answer }
+    ensures { result ≡ record { event = event; answer = answer; now = None; sent = [] } }
 {
     Step {
         event,

@@ -1,8 +1,11 @@
+use crate::managers::{final_rows, first_managers};
 use crate::run;
+use net_script::Table;
+use protocol::Row;
 use std::alloc::Global;
 use std::process::Abort;
 use std::test::Fail;
-use xid::Refusal;
+use xid::{Bytes, Refusal, Sequence};
 
 /// The text of the trace is this.
 fn prints(rt: &impl Abort, alloc: Global, script: &[u8], want: &[u8]) {
@@ -122,4 +125,44 @@ fn refusals(rt: HostRuntime) {
     ] {
         assert_eq!(rt; refused(rt.alloc(), script), want);
     }
+}
+
+/// The first contents of resource manager 0: two rows of one key, which no script can say.
+fn twice(alloc: Global) -> Result<Vec<Table>, Fail> {
+    let mut rows = Vec::new(alloc);
+    for value in [b"1".as_slice(), b"2"] {
+        let key = Bytes::copy_of(alloc, b"k")?;
+        let value = Bytes::copy_of(alloc, value)?;
+        rows.push(Row { key, value })?;
+    }
+    let mut tables = Vec::new(alloc);
+    tables.push(Table {
+        rm: 0,
+        rows: Sequence::new(rows),
+    })?;
+    Ok(tables)
+}
+
+/// The values of all rows of all resource managers are these.
+fn has_values(rt: &impl Abort, tables: &[Sequence<Row>], want: &[&[u8]]) {
+    let mut count = 0usize;
+    for rows in tables {
+        for row in rows.as_slice() {
+            assert!(rt;
+                want.get(count)
+                    .is_some_and(|value| row.value.as_slice() == *value)
+            );
+            count = count.saturating_add(1);
+        }
+    }
+    assert_eq!(rt; count, want.len());
+}
+
+#[test]
+fn later_row_counts(rt: HostRuntime) -> Result<(), Fail> {
+    let managers = first_managers(rt.alloc(), &twice(rt.alloc())?, 2)?;
+    let finals = final_rows(rt.alloc(), &managers)?;
+    assert_eq!(rt; finals.len(), 2);
+    has_values(&rt, &finals, &[b"2"]);
+    Ok(())
 }

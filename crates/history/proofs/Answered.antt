@@ -15,8 +15,8 @@ use Rattle.protocol.specs.Facts.{bound_branches}
 use Rattle.protocol.specs.Managers.{Branch, all_branches, view_by, view_named, is_hindered, named_answer, stored_votes, on_call}
 use Rattle.protocol.specs.Nodes.{NodeState}
 use Rattle.protocol.specs.Tables.{table}
-use Rattle.branch_list.specs.OneCall.{view_in_state}
-use Rattle.branch_list.proofs.Views.{view_of, none_hinders, hindered_to}
+use Rattle.branch_table.specs.OneCall.{view_in_state}
+use Rattle.branch_table.proofs.Views.{view_of, none_hinders, hindered_to}
 use Rattle.protocol.specs.Holds.{IsIn}
 use Rattle.protocol.proofs.Lists.{any_found, found_any, filter_map_given, filter_map_gives}
 use Rattle.protocol.proofs.Manager.Prepared.{names_held_once}

@@ -91,7 +91,7 @@ within (node ∷ nodes) zero less none = absurd (cc (none))
 within (node ∷ nodes) (suc n) less none = within nodes n (omega (arith, less)) none
 
 -- a manager of the cluster stands there
-inside_stands : (config : Config) (world : World) (before : List Step) (rm : ℕ) → IsRun config world before
+pub inside_stands : (config : Config) (world : World) (before : List Step) (rm : ℕ) → IsRun config world before
     → node_at config world (R rm) ≡ None → nat_lt rm config.managers ≡ false
 inside_stands config world before rm run none = by_test (nat_lt rm config.managers) refl
   where
@@ -105,7 +105,7 @@ inside_stands config world before rm run none = by_test (nat_lt rm config.manage
         sym (ap (λ (b : Bool). option_and_then (λ p. slice_get world.nodes p) (if b then Some at else None)) e) ∙ none in
         absurd (within world.nodes at (omega (arith, less, count)) there)
 
-standing_inside : (config : Config) (world : World) (rm : ℕ) (node : NodeState) → node_at config world (R rm) ≡ Some node
+pub standing_inside : (config : Config) (world : World) (rm : ℕ) (node : NodeState) → node_at config world (R rm) ≡ Some node
     → nat_lt rm config.managers ≡ true
 standing_inside config world rm node stands = by_test (nat_lt rm config.managers) refl
   where

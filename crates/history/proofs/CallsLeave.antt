@@ -17,12 +17,12 @@ use Rattle.protocol.specs.Managers.{Branch, all_branches, view_named, is_hindere
 use Rattle.protocol.specs.Managers.{named_answer, on_call}
 use Rattle.protocol.specs.Tables.{table}
 use Rattle.protocol.proofs.TouchedKeys.{changed_ascends}
-use Rattle.branch_list.specs.OneCall.{SameView, view_after_done}
-use Rattle.branch_list.proofs.Views.{is_of, view_of, shows_push, shows_touched}
-use Rattle.branch_list.proofs.CallSteps.{same}
+use Rattle.branch_table.specs.OneCall.{SameView, view_after_done}
+use Rattle.branch_table.proofs.Views.{is_of, view_of, shows_push, shows_touched}
+use Rattle.branch_table.proofs.CallSteps.{same}
 use Rattle.protocol.specs.Holds.{AreInOrder}
 use Rattle.protocol.proofs.Manager.Keys.{changed_name}
-use Rattle.history.proofs.DoneCalls.{IsReadyFor, ready}
+use Rattle.protocol.proofs.DoneCalls.{IsReadyFor, ready}
 
 -- a call of a spent name that is done is no start
 done_named : (spent : Bool) (rows : List Row) (v : BranchView) (busy : Bool) (action : Action)
@@ -34,7 +34,7 @@ done_named false rows v busy action done = done
 -- ---- prepared branches stand first
 
 -- a name is that of a prepared branch, whatever stands after those, or it isn't
-abbrev IsOver : List Branch → XidParts → Type 0
+abbrev pub IsOver : List Branch → XidParts → Type 0
 IsOver prepared x = ((branches : List Branch) → view_named (prepared ++ branches) x ≡ view_named branches x)
     ⊎ ((v : BranchView) × (v.state ≡ Some Prepared) × ((branches : List Branch) → view_named (prepared ++ branches) x ≡ v))
 
@@ -52,7 +52,7 @@ over [] x are = inl (λ branches. refl)
 over (p ∷ prepared) x are = over_by p prepared x are.0 (over prepared x are.1) (xid_eq p.xid x) refl
 
 -- the prepared branches of the facts
-abbrev prepared_in : ℕ → List Bound → List Branch
+abbrev pub prepared_in : ℕ → List Bound → List Branch
 prepared_in rm bounds =
     filter_map (λ bound. option_map (λ x. record { xid = x; state = Prepared; keys = bound.keys }) (xid_at bound.tx rm)) bounds
 
@@ -204,7 +204,7 @@ left_by x End bs ordered active = mapped_left x End bs tt ordered active
 left_by x EndFail bs ordered active = mapped_left x EndFail bs tt ordered active
 
 -- no call that is done finds its branch prepared
-never_prepared : (action : Action) (state : Option BranchState) → state ≡ Some Prepared → IsReadyFor action state → ⊥
+pub never_prepared : (action : Action) (state : Option BranchState) → state ≡ Some Prepared → IsReadyFor action state → ⊥
 never_prepared Start state e is = absurd (cc (e, is))
 never_prepared Rollback state e is = is e
 never_prepared (Put key value) state e is = absurd (cc (e, is))
@@ -220,7 +220,7 @@ abbrev pub branch_view : (rm : ℕ) → List Fact → List Branch → XidParts �
 branch_view rm facts branches = view_named (all_branches rm (bound_branches facts) branches)
 
 module _ (rm : ℕ) (facts : List Fact) where
-  each_over : (x : XidParts) → IsOver (prepared_in rm (bound_branches facts)) x
+  pub each_over : (x : XidParts) → IsOver (prepared_in rm (bound_branches facts)) x
   each_over x = over (prepared_in rm (bound_branches facts)) x (all_prepared rm (bound_branches facts))
 
   pub through_own : (x : XidParts) (action : Action) (branches : List Branch)
@@ -232,15 +232,22 @@ module _ (rm : ℕ) (facts : List Fact) where
         (subst (λ (v : BranchView). IsReadyFor action v.state) (stops.2 branches) is))
   ]
 
+  -- a call that is done finds its branch ready for it
+  pub call_ready : (first : List Row) (branches : List Branch) (x : XidParts) (action : Action)
+      → is_done action (on_call rm (stored_votes rm facts) (table first facts) branches x action).answer ≡ true
+      → IsReadyFor action (branch_view rm facts branches x).state
+  call_ready first branches x action done =
+      let v = branch_view rm facts branches x in
+      let busy = is_hindered (hinders action) (all_branches rm (bound_branches facts) branches) x in
+      ready (table first facts) v busy action (done_named (is_spent rm facts x) (table first facts) v busy action done)
+
   -- a call that is done leaves of its branch what it leaves of one that shows so, and all others as they were
   pub call_leaves : (first : List Row) (branches : List Branch) (x : XidParts) (action : Action) → AreInOrder branches
       → is_done action (on_call rm (stored_votes rm facts) (table first facts) branches x action).answer ≡ true
       → IsReadyFor action (view_named branches x).state
       × IsLeft x action branches (on_call rm (stored_votes rm facts) (table first facts) branches x action).memory
   call_leaves first branches x action ordered done =
-      let v = branch_view rm facts branches x in
-      let busy = is_hindered (hinders action) (all_branches rm (bound_branches facts) branches) x in
-      let is = ready (table first facts) v busy action (done_named (is_spent rm facts x) (table first facts) v busy action done) in
+      let is = call_ready first branches x action done in
       let own = subst (λ (u : BranchView). IsReadyFor action u.state) (through_own x action branches is) is in (
         own,
         subst (IsLeft x action branches) (sym (cond-true

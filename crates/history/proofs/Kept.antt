@@ -35,7 +35,7 @@ use Rattle.history.specs.LookingBack.{actions_since}
 use Rattle.history.specs.Writes.{actions_since_start}
 use Rattle.history.proofs.Moves.{manager_in, branches_of, IsMove, Quiet, Restarted, Called, Stored, IsCalled, IsStored, event_moved}
 use Rattle.history.proofs.Runs.{IsRun, AtFirst, Then, new_manager}
-use Rattle.history.proofs.DoneCalls.{IsReadyFor, ready}
+use Rattle.protocol.proofs.DoneCalls.{IsReadyFor, ready}
 use Rattle.history.proofs.Actions.{done_shows, plain_at}
 use Rattle.history.proofs.CallsLeave.{branch_view, prepared_or_none}
 use Rattle.history.proofs.Stretches.{since_restart, since_silent, since_call, since_change}

@@ -1,7 +1,6 @@
 pub mod Changes
 pub mod Moves
 pub mod Runs
-pub mod DoneCalls
 pub mod Actions
 pub mod CallsLeave
 pub mod Stretches

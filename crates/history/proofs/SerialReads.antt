@@ -45,7 +45,7 @@ use Rattle.history.specs.Writes.{actions_since_start, writes_of, commit_order}
 use Rattle.history.proofs.CallsLeave.{branch_view, through_own}
 use Rattle.history.proofs.Conflicts.{AreOrdered, commits_in, commit_stored, stored_commit, first_voted, firsts_once, firsts_stored}
 use Rattle.history.proofs.Conflicts.{ordered_ever}
-use Rattle.history.proofs.DoneCalls.{IsReadyFor, ready}
+use Rattle.protocol.proofs.DoneCalls.{IsReadyFor, ready}
 use Rattle.history.proofs.Kept.{IsKept, kept_ever, started, voted_undone}
 use Rattle.history.proofs.KeyCourses.{IsCourse, Alive, Voted, Gone, Aborted, IsVoted, course_moved}
 use Rattle.history.proofs.Moves.{manager_in, branches_of, IsMove, Quiet, Restarted, Called, Stored, IsCalled, event_moved}

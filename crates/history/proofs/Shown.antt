@@ -14,8 +14,8 @@ use Rattle.protocol.specs.Effects.{Config}
 use Rattle.protocol.specs.Facts.{Bound, is_prepared_view, bound_branches}
 use Rattle.protocol.specs.Managers.{Branch, all_branches, view_named}
 use Rattle.protocol.specs.Nodes.{NodeState}
-use Rattle.branch_list.specs.OneCall.{view_in_state}
-use Rattle.branch_list.proofs.Views.{view_of}
+use Rattle.branch_table.specs.OneCall.{view_in_state}
+use Rattle.branch_table.proofs.Views.{view_of}
 use Rattle.protocol.specs.Holds.{AreNamedOnce, IsIn}
 use Rattle.protocol.proofs.Lists.{IsIn-map, IsIn-before, found_any, found_among, any_find}
 use Rattle.protocol.proofs.Lists.{filter_map_gives}

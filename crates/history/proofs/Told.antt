@@ -22,8 +22,8 @@ use Rattle.protocol.specs.Managers.{Branch, view_by, view_named, branches_withou
 use Rattle.protocol.specs.Nodes.{NodeState, new_node, all_play, first_rows}
 use Rattle.protocol.specs.Tables.{table}
 use Rattle.protocol.specs.Worlds.{World, node_at, step_of, world_step}
-use Rattle.branch_list.specs.OneCall.{view_in_state, view_after_done}
-use Rattle.branch_list.proofs.Views.{view_of}
+use Rattle.branch_table.specs.OneCall.{view_in_state, view_after_done}
+use Rattle.branch_table.proofs.Views.{view_of}
 use Rattle.protocol.specs.Holds.{AreInOrder, AreNamedOnce, IsIn, names_of}
 use Rattle.safety.specs.Standing.{HasVote}
 use Rattle.protocol.proofs.Lists.{IsIn-push, IsIn-map, all_each}
@@ -44,7 +44,7 @@ use Rattle.history.proofs.Moves.{manager_in, branches_of, left_by, IsQuiet, IsRe
 use Rattle.history.proofs.Moves.{Called, Stored, event_moved}
 use Rattle.history.proofs.Runs.{IsRun, AtFirst, Then, reached, facts_in, new_manager}
 use Rattle.history.proofs.Actions.{equal_views, plain_at, done_shows}
-use Rattle.history.proofs.DoneCalls.{IsReadyFor}
+use Rattle.protocol.proofs.DoneCalls.{IsReadyFor}
 use Rattle.history.proofs.CallsLeave.{IsLeft, call_leaves, undone_leaves, gone_own, gone_other}
 use Rattle.history.proofs.Stretches.{since_restart, since_silent, since_call, since_change, changes_silent, changes_said, before_other}
 use Rattle.history.proofs.Stretches.{before_own}

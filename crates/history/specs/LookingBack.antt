@@ -9,7 +9,7 @@ use Rattle.xid.specs.Transactions.{TxParts, tx_eq, xid_at}
 use Rattle.protocol.specs.Branches.{BranchView, hinders, key_of}
 use Rattle.protocol.specs.Facts.{is_prepared_view}
 use Rattle.protocol.specs.Managers.{named_answer}
-use Rattle.branch_list.specs.OneCall.{view_in_state}
+use Rattle.branch_table.specs.OneCall.{view_in_state}
 use Rattle.history.specs.Words.{Act, Touched, BranchState, Action, Start, Put, Del, End, EndFail, Rollback, R, Event, Ask, Call, Answer}
 use Rattle.history.specs.Words.{Row}
 use Rattle.history.specs.Words.{Step}

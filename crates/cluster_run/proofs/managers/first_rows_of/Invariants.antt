@@ -1,5 +1,5 @@
 use Rattle.std.proofs.Common.{◌≡◌, drop}
-use Rattle.cluster_run.specs.Runs.{first_rows_of}
+use Rattle.cluster_run.specs.Traces.{first_rows_of}
 use Rattle.cluster_run.proofs.managers.first_rows_of.Given as goal
 
 abbrev pub invariant-loop-table : goal.invariant-loop-table

@@ -1,4 +1,4 @@
-use Rattle.std.proofs.Common.{◌≡◌, ◌∙◌, ◌+◌, ◌<◌, false, ℕ, List, ap, sym, subst, arith, length, get_or, take}
+use Rattle.std.proofs.Common.{◌≡◌, ◌∙◌, ◌<◌, false, List, ap, sym, arith, length, get_or, take}
 use Rattle.std.proofs.lemmas.List.{take_all, get_or_read}
 use Rattle.std.specs.List.{list_all}
 use Rattle.net_script.specs.declared.values.Command.{Command}

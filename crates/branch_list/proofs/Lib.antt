@@ -1,4 +1,0 @@
-pub mod Positions
-pub mod KeyPlaces
-pub mod Views
-pub mod CallSteps

@@ -1,3 +1,0 @@
-pub mod OneCall
-pub mod Tables
-pub mod Admission
