@@ -11,7 +11,9 @@ use Rattle.net_script.specs.Events.{IsEventBy, verb_text, keyword_text, keyword_
 
 -- the first words that are none of an event
 abbrev pub is_other : List ℕ → Bool
-is_other word = bytes_eq word (codes "cluster") || bytes_eq word (codes "table") || bytes_eq word (codes "flow")
+is_other word =
+    bytes_eq word (codes "cluster") || bytes_eq word (codes "table") || bytes_eq word (codes "flow") || bytes_eq word (codes "serve")
+    || bytes_eq word (codes "now") || bytes_eq word (codes "sent") || bytes_eq word (codes "final")
 
 keyword_is_none : (k : Keyword) → is_other (keyword_text k) ≡ false
 keyword_is_none (Keyword.Call Verb.Start) = refl

@@ -135,23 +135,29 @@ begins_take n ls can = begins_front (take n ls) (drop n ls) (subst CanBegin (sym
 -- ---- the first fault
 
 pub spelled_has_no_fault : (ls : List (List ℕ)) (s : Script) (n : ℕ) → SpelledBy ls s
-    → FailsAt ls n ⊎ ((lines_kept ls ≡ []) × (n ≡ length ls + 1)) → ⊥
+    → FailsAt CanBegin ls n ⊎ ((lines_kept ls ≡ []) × (n ≡ length ls + 1)) → ⊥
 spelled_has_no_fault ls s n spelled (inl fault) = fault.fails (begins_take n ls (inr (s, spelled)))
 spelled_has_no_fault ls s n spelled (inr silent) =
     let none : [] ≡ map item_words (script_items s) = ap (map words) (sym silent.0) ∙ spelled.says in absurd (cc)
 
-fault_once : (ls : List (List ℕ)) (m n : ℕ) → FailsAt ls m → FailsAt ls n → m < n → ⊥
-fault_once ls m n p q lt =
+-- where what can stand at the beginning keeps its own beginnings, the first line at fault is one
+pub fault_once : {Can : List (List ℕ) → Type 0} → ((m : ℕ) (ls : List (List ℕ)) → Can ls → Can (take m ls)) → (ls : List (List ℕ)) (m n : ℕ)
+    → FailsAt Can ls m → FailsAt Can ls n → m < n → ⊥
+fault_once {Can = Can} begins ls m n p q lt =
     let short : m ≤ q.before = let c = q.counted in omega arith in
-    p.fails (subst CanBegin (take-take m q.before ls short) (begins_take m (take q.before ls) q.can))
+    p.fails (subst Can (take-take m q.before ls short) (begins m (take q.before ls) q.can))
 
-pub one_fault : (ls : List (List ℕ)) (m n : ℕ) → FailsAt ls m ⊎ ((lines_kept ls ≡ []) × (m ≡ length ls + 1))
-    → FailsAt ls n ⊎ ((lines_kept ls ≡ []) × (n ≡ length ls + 1)) → m ≡ n
-one_fault ls m n (inl p) (inl q) =
+pub one_line : {Can : List (List ℕ) → Type 0} → ((m : ℕ) (ls : List (List ℕ)) → Can ls → Can (take m ls)) → (ls : List (List ℕ)) (m n : ℕ)
+    → FailsAt Can ls m → FailsAt Can ls n → m ≡ n
+one_line begins ls m n p q =
     elim (cases_lt m n) [
-      | inl lt ↦ absurd (fault_once ls m n p q lt)
-      | inr ge ↦ elim (cases_lt n m) [ inl lt ↦ absurd (fault_once ls n m q p lt) | inr le ↦ omega arith ]
+      | inl lt ↦ absurd (fault_once begins ls m n p q lt)
+      | inr ge ↦ elim (cases_lt n m) [ inl lt ↦ absurd (fault_once begins ls n m q p lt) | inr le ↦ omega arith ]
     ]
+
+pub one_fault : (ls : List (List ℕ)) (m n : ℕ) → FailsAt CanBegin ls m ⊎ ((lines_kept ls ≡ []) × (m ≡ length ls + 1))
+    → FailsAt CanBegin ls n ⊎ ((lines_kept ls ≡ []) × (n ≡ length ls + 1)) → m ≡ n
+one_fault ls m n (inl p) (inl q) = one_line begins_take ls m n p q
 one_fault ls m n (inl p) (inr q) = absurd (p.fails (begins_take m ls (inl q.0)))
 one_fault ls m n (inr p) (inl q) = absurd (q.fails (begins_take n ls (inl p.0)))
 one_fault ls m n (inr p) (inr q) = p.1 ∙ sym q.1

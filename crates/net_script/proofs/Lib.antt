@@ -3,7 +3,16 @@ pub mod WordLemmas
 pub mod NameLemmas
 pub mod TableLemmas
 pub mod ItemLemmas
+pub mod AnswerLemmas
+pub mod MessageLemmas
 pub mod ScriptLemmas
 pub mod LineLemmas
 pub mod LawLemmas
 pub mod TraceLemmas
+pub mod CleanWords
+pub mod TidyText
+pub mod TraceLineLemmas
+pub mod OutcomeLemmas
+pub mod DraftLemmas
+pub mod EndedText
+pub mod TraceLoop

@@ -1,6 +1,7 @@
 -- Values that have one text each, one after another.
-use Rattle.std.proofs.Common.{◌≡◌, List, [], ◌∷◌, ◌++◌, map, refl}
+use Rattle.std.proofs.Common.{◌≡◌, List, [], ◌∷◌, ◌++◌, ◌<◌, length, map, refl, sym, ap, ◌∙◌, arith}
 use Rattle.std.specs.List.{All}
+use Rattle.std.proofs.lemmas.List.{append_assoc, map_push, length-append, length-map}
 use Rattle.std.proofs.lemmas.List.Elements.{All-head, All-tail}
 
 -- no two values in range have the same text
@@ -45,3 +46,29 @@ texts_go_on {IsIn = IsIn} one (x ∷ xs) (y ∷ ys) word rest are e =
       says = more.says;
       says_later = more.says_later;
     }
+
+-- ---- words that are read one by one, each the text of a value
+
+pub word_read : {X W : Type 0} (text : X → W) (xs : List X) (x : X) (given rest after : List W) (word : W) → given ≡ map text xs ++ rest
+    → rest ≡ word ∷ after → word ≡ text x
+    → given ≡ map text (xs ++ x ∷ []) ++ after
+word_read {W = W} text xs x given rest after word so cut says =
+    so ∙ ap (λ (ws : List W). map text xs ++ ws) (cut ∙ ap (λ (w : W). w ∷ after) says)
+    ∙ sym (append_assoc (map text xs) (text x ∷ []) after) ∙ ap (λ (ws : List W). ws ++ after) (sym (map_push text xs x))
+
+-- a word that is no value's text ends it
+pub word_unread : {X W : Type 0} {IsIn : X → Type 0} {text : X → W} → HasOneText IsIn text → (xs ys : List X) (given rest after : List W)
+    (word : W)
+    → All IsIn xs × All IsIn ys → given ≡ map text xs ++ rest → rest ≡ word ∷ after → ((x : X) → IsIn x → word ≡ text x → ⊥)
+    → given ≡ map text ys → ⊥
+word_unread {W = W} {text = text} one xs ys given rest after word are so cut none e =
+    let on = texts_go_on one xs ys word after are (ap (λ (ws : List W). map text xs ++ ws) (sym cut) ∙ (sym so ∙ e)) in
+    none on.next on.valid on.says
+
+-- where a word is left, more values follow
+pub more_follow : {X W : Type 0} (text : X → W) (xs ys : List X) (given rest after : List W) (word : W) → given ≡ map text xs ++ rest
+    → rest ≡ word ∷ after → given ≡ map text ys
+    → length xs < length ys
+more_follow text xs ys given rest after word so cut e =
+    omega
+    (arith, ap length so, ap length cut, ap length e, length-append (map text xs) rest, length-map xs text, length-map ys text)

@@ -41,7 +41,7 @@ action_injective (Put k x) (Put l y) p q v e =
 action_injective a b p q v e = absurd (cc)
 
 -- what a request is in range of, whichever node is asked
-abbrev IsRequest : Request → Type 0
+abbrev pub IsRequest : Request → Type 0
 IsRequest (Call xid action) = IsXid xid × IsAction action
 IsRequest Recover = Unit {0}
 IsRequest (Request.View tx) = IsTx tx
@@ -49,7 +49,7 @@ IsRequest (Request.Commit tx) = IsTx tx
 IsRequest (Request.Status tx) = IsTx tx
 IsRequest (Timeout tx) = IsTx tx
 
-asked : (n : NodeId) (r : Request) → IsAsked n r → IsRequest r
+pub asked : (n : NodeId) (r : Request) → IsAsked n r → IsRequest r
 asked (R n) (Call x a) is = is
 asked (R n) Recover is = is
 asked (R n) (Request.View tx) is = is

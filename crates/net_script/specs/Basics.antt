@@ -3,11 +3,12 @@ pub use Rattle.xid.specs.Names.{XidParts, IsBytes, IsXid}
 pub use Rattle.xid.specs.Transactions.{TxParts, IsTx, tx_text}
 pub use Rattle.xid.specs.Text.{hex_text, xid_text}
 pub use Rattle.xid.specs.Codes.{code_number}
+pub use Rattle.xid.specs.declared.codes.XaCode.{XaCode}
 pub use Rattle.xid.specs.Refusals.{number_of}
 pub use Rattle.xid.specs.declared.refusals.Refusal.{Refusal}
-pub use Rattle.xid.specs.declared.refusals.Refusal.TheVariants.{NoMemory, BadScript}
+pub use Rattle.xid.specs.declared.refusals.Refusal.TheVariants.{NoMemory, BadScript, BadConfig}
 pub use Rattle.xid.specs.declared.transaction.Vote.{Vote}
-pub use Rattle.wire.specs.Messages.{message_tx}
+pub use Rattle.wire.specs.Messages.{message_tx, IsMessage}
 pub use Rattle.wire.specs.declared.message.Kind.{Kind}
 pub use Rattle.wire.specs.declared.message.Kind.TheVariants.{Prepare, P1a, P1b, P2a, P2b, Commit, Abort, B1a, B1b, B2b}
 pub use Rattle.wire.specs.declared.items.InstanceReport.{InstanceReport}

@@ -1,6 +1,7 @@
 -- What one line of a script says, and its one list of words.
-use Rattle.std.specs.Prelude.{◌≢◌, ℕ, ◌<◌, ◌^◌, Bool, true, false, List, [], ◌∷◌, map, codes, decimal}
+use Rattle.std.specs.Prelude.{◌≢◌, ℕ, ◌<◌, ◌^◌, Bool, true, false, ◌==◌, ◌&&◌, ◌||◌, nat_le, List, [], ◌∷◌, map, codes, decimal}
 use Rattle.std.specs.List.{All, AllPairs}
+use Rattle.xid.specs.Limits.{most_leaders, most_managers}
 use Rattle.stable_record.specs.Facts.{IsKey, IsValue}
 use Rattle.net_script.specs.Basics.{R, Row}
 use Rattle.net_script.specs.declared.values.Sizes.{Sizes}
@@ -19,6 +20,12 @@ pub record IsSizes (s : Sizes) : Type 0 where
   pub acceptors : s.acceptors < 2 ^ 32
   pub leaders : s.leaders < 2 ^ 32
   pub rms : s.rms < 2 ^ 32
+
+-- whether a cluster may have so many nodes: 1, 3, 5 or 7 acceptors, and no more leaders and resource managers than there may be
+abbrev pub is_in_limits : Sizes → Bool
+is_in_limits s =
+    (s.acceptors == 1 || s.acceptors == 3 || s.acceptors == 5 || s.acceptors == 7)
+    && (nat_le 1 s.leaders && nat_le s.leaders most_leaders) && (nat_le 1 s.rms && nat_le s.rms most_managers)
 
 -- a row of a table keeps the limits of keys and values
 pub record IsRow (row : Row) : Type 0 where

@@ -2,6 +2,9 @@ pub mod Basics
 pub mod Lines
 pub mod Events
 pub mod Items
+pub mod Answers
 pub mod Scripts
 pub mod Messages
 pub mod Traces
+pub mod TraceLines
+pub mod TraceReading

@@ -45,17 +45,17 @@ SpellsScript bytes s = SpelledBy (lines bytes) s
 abbrev pub CanBegin : List (List ℕ) → Type 0
 CanBegin ls = (lines_kept ls ≡ []) ⊎ ((s : Script) × SpelledBy ls s)
 
--- the lines before this one can begin a script, and those up to it can't
-pub record FailsAt (ls : List (List ℕ)) (n : ℕ) : Type 0 where
+-- the lines before this one can stand at the beginning, and those up to it can't
+pub record FailsAt (Can : List (List ℕ) → Type 0) (ls : List (List ℕ)) (n : ℕ) : Type 0 where
   pub before : ℕ
   pub counted : n ≡ suc before
   pub within : before < length ls
-  pub can : CanBegin (take before ls)
-  pub fails : CanBegin (take n ls) → ⊥
+  pub can : Can (take before ls)
+  pub fails : Can (take n ls) → ⊥
 
 -- the first line at fault, from 1; where no line says anything it is the one after the last
 abbrev pub IsFirstFault : List ℕ → ℕ → Type 0
-IsFirstFault bytes n = FailsAt (lines bytes) n ⊎ ((lines_kept (lines bytes) ≡ []) × (n ≡ length (lines bytes) + 1))
+IsFirstFault bytes n = FailsAt CanBegin (lines bytes) n ⊎ ((lines_kept (lines bytes) ≡ []) × (n ≡ length (lines bytes) + 1))
 
 -- the line that says an item of a script, by the item's place: as many lines before it say something
 pub record IsLineOf (bytes : List ℕ) (place line : ℕ) : Type 0 where

@@ -1,15 +1,14 @@
 -- The one text of a trace.
-use Rattle.std.specs.Prelude.{ℕ, suc, List, [], ◌∷◌, ◌++◌, map, codes, decimal, Option, Some, None}
-use Rattle.std.specs.Fmt.{signed_decimal}
+use Rattle.std.specs.Prelude.{ℕ, suc, List, [], ◌∷◌, ◌++◌, codes, decimal, Option, Some, None}
 use Rattle.std.specs.List.{flat_map}
-use Rattle.net_script.specs.Basics.{xid_text, tx_text, code_number, number_of, NodeId, R, Row, Answer, Done, Code, Value, NoValue, Xids}
-use Rattle.net_script.specs.Basics.{Stands, Refused, Standing, View, Change, Sent, Step}
+use Rattle.net_script.specs.Basics.{tx_text, NodeId, R, Row, Answer, Change, Sent, Step}
 use Rattle.net_script.specs.declared.values.Table.{Table}
 use Rattle.net_script.specs.declared.values.Entry.{Entry}
 use Rattle.net_script.specs.declared.values.Trace.{Trace}
-use Rattle.net_script.specs.Lines.{node_text, bytes_text}
+use Rattle.net_script.specs.Lines.{node_text}
 use Rattle.net_script.specs.Events.{event_words}
 use Rattle.net_script.specs.Items.{sizes_words, rows_words, contents_words}
+use Rattle.net_script.specs.Answers.{view_text, answer_words}
 use Rattle.net_script.specs.Messages.{message_words}
 
 -- a space before each word
@@ -25,45 +24,26 @@ joined_words (word ∷ ws) = word ++ spaced_words ws
 abbrev pub line_text : List (List ℕ) → List ℕ
 line_text ws = joined_words ws ++ 10 ∷ []
 
--- where a transaction stands
-abbrev pub standing_text : Standing → List ℕ
-standing_text Standing.Unknown = codes "unknown"
-standing_text Standing.Undecided = codes "undecided"
-standing_text Standing.Working = codes "working"
-standing_text Standing.Prepared = codes "prepared"
-standing_text Standing.Committed = codes "committed"
-standing_text Standing.Aborted = codes "aborted"
-
--- a view, as it is answered too
-abbrev pub view_text : View → List ℕ
-view_text View.Working = codes "working"
-view_text View.Prepared = codes "prepared"
-view_text View.Committed = codes "committed"
-view_text View.Aborted = codes "aborted"
-
--- the words of an answer
-abbrev pub answer_words : Answer → List (List ℕ)
-answer_words Done = codes "ok" ∷ []
-answer_words (Code code) = signed_decimal (code_number code) ∷ []
-answer_words (Value bytes) = codes "value" ∷ bytes_text bytes ∷ []
-answer_words NoValue = codes "none" ∷ []
-answer_words (Xids xids) = codes "xids" ∷ map xid_text xids
-answer_words (Stands standing) = standing_text standing ∷ []
-answer_words (Refused refusal) = codes "refused" ∷ decimal (number_of refusal) ∷ []
-
 -- the first rows of a resource manager
 abbrev pub table_line : Table → List ℕ
 table_line t = line_text (codes "table" ∷ contents_words t)
 
+-- the words of a changed view after the first
+abbrev pub change_words : Change → List (List ℕ)
+change_words change = node_text (R change.rm) ∷ tx_text change.tx ∷ view_text change.view ∷ []
+
 -- the view that an event changed, if it changed one
 abbrev pub change_text : Option Change → List ℕ
 change_text None = []
-change_text (Some change) = line_text (codes "now" ∷ node_text (R change.rm) ∷ tx_text change.tx ∷ view_text change.view ∷ [])
+change_text (Some change) = line_text (codes "now" ∷ change_words change)
+
+-- the words of a datagram that was sent after the first
+abbrev pub sent_words : Sent → List (List ℕ)
+sent_words sent = decimal sent.number ∷ node_text sent.sender ∷ node_text sent.receiver ∷ message_words sent.message
 
 -- a datagram that was sent
 abbrev pub sent_line : Sent → List ℕ
-sent_line sent =
-    line_text (codes "sent" ∷ decimal sent.number ∷ node_text sent.sender ∷ node_text sent.receiver ∷ message_words sent.message)
+sent_line sent = line_text (codes "sent" ∷ sent_words sent)
 
 -- the words of a datagram taken by a node, over sockets
 abbrev pub serve_words : NodeId → List (List ℕ)

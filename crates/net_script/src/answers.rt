@@ -2,7 +2,8 @@
 
 ghost use Rattle.std.specs.Prelude.{◌≡◌, ◌++◌, IfErr, OnOk};
 ghost use Rattle.net_script.specs.Basics.{NoMemory};
-ghost use Rattle.net_script.specs.Traces.{spaced_words, standing_text, view_text, answer_words, change_text, sent_line};
+ghost use Rattle.net_script.specs.Answers.{standing_text, view_text, answer_words};
+ghost use Rattle.net_script.specs.Traces.{spaced_words, change_text, sent_line};
 
 use crate::messages::put_message;
 use crate::pieces::{

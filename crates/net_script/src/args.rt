@@ -5,7 +5,9 @@ ghost use Rattle.net_script.specs.Basics.{XidParts, IsXid, TxParts, IsTx, IsByte
 ghost use Rattle.net_script.specs.Events.{IsNode};
 ghost use Rattle.net_script.specs.Lines.{Reads, words, bytes_text, node_text};
 
-use crate::words::{bytes_word, is_over, leader_word, manager_word, next_word, node_word};
+use crate::words::{
+    bytes_word, is_over, leader_word, lettered_number, manager_word, next_word, node_word,
+};
 use protocol::NodeId;
 use std::alloc::Global;
 use xid::{Bytes, Refusal, Tx, Xid, text};
@@ -76,6 +78,21 @@ pub(crate) fn manager(args: &[u8]) -> Option<(u8, &[u8])>
     Some((rm, rest))
 }
 
+/// The resource manager of the first word, whatever its number, and the rest.
+pub(crate) fn manager_number(args: &[u8]) -> Option<(u32, &[u8])>
+    ensures { MatchOption result
+        ((n : ℕ) (ws : List (List ℕ)) → n < 2 ^ 32 → words args.now ≢ node_text (R n) ∷ ws)
+        (λ found. words args.now ≡ node_text (R found.0) ∷ words found.1.now) }
+{
+    let Some((word, rest)) = next_word(args) else {
+        return None;
+    };
+    let Some(rm) = lettered_number(word, b'r') else {
+        return None;
+    };
+    Some((rm, rest))
+}
+
 /// The leader of the first word, and the rest.
 pub(crate) fn leader(args: &[u8]) -> Option<(u8, &[u8])>
     ensures { MatchOption result
@@ -137,6 +154,21 @@ pub(crate) fn last_tx(args: &[u8]) -> Option<Tx>
         return None;
     };
     Some(tx)
+}
+
+/// The transaction of the first word, and the rest.
+pub(crate) fn transaction(args: &[u8]) -> Option<(Tx, &[u8])>
+    ensures { MatchOption result
+        ((tx : TxParts) (ws : List (List ℕ)) → IsTx tx → words args.now ≢ tx_text tx ∷ ws)
+        (λ found. IsTx found.0 × (words args.now ≡ tx_text found.0 ∷ words found.1.now)) }
+{
+    let Some((word, rest)) = next_word(args) else {
+        return None;
+    };
+    let Ok(tx) = Tx::read(word) else {
+        return None;
+    };
+    Some((tx, rest))
 }
 
 /// The branch of the first word, and the rest.

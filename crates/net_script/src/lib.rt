@@ -2,6 +2,7 @@
 //! what came of each event and what the tables hold at the end.
 #![tactic(auto)]
 
+mod answer_words;
 mod answers;
 mod args;
 mod calls;
@@ -9,18 +10,26 @@ mod commands;
 mod events;
 mod items;
 mod keywords;
+mod message_words;
 mod messages;
+mod outcome_words;
 mod pieces;
 mod scripts;
 mod tables;
+mod trace_drafts;
+mod trace_lines;
+mod trace_reading;
 mod traces;
 mod values;
 mod words;
 
 pub use scripts::{line_of, one_reading, read_script};
+pub use trace_reading::{one_trace, read_trace};
 pub use traces::write_trace;
 pub use values::{Command, Entry, Script, Sizes, Table, Trace};
 
+#[cfg(test)]
+mod read_trace_tests;
 #[cfg(test)]
 mod row_tests;
 #[cfg(test)]

@@ -34,6 +34,22 @@ fn read_row(alloc: Global, word: &[u8]) -> Result<Option<Row>, Refusal>
     Ok(Some(Row { key, value }))
 }
 
+/// The rows of the words, in any order.
+pub(crate) fn read_plain_rows(alloc: Global, args: &[u8]) -> Result<Option<Sequence<Row>>, Refusal>
+    ensures { Reads (All IsRow) rows_words (words args.now) result }
+{
+    let mut rows = Vec::new(alloc);
+    let mut rest = args;
+    while let Some((word, after)) = next_word(rest) {
+        let Some(row) = read_row(alloc, word)? else {
+            return Ok(None);
+        };
+        rows.push(row)?;
+        rest = after;
+    }
+    Ok(Some(Sequence::new(rows)))
+}
+
 /// Whether no row has this key.
 fn is_new(rows: &[Row], key: &[u8]) -> bool
     ensures { IsTrue result ↔ All (λ row. row.key ≢ key.now) rows.now }

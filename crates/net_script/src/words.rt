@@ -1,6 +1,6 @@
 //! Lines and words of a text, and words that are nodes and bytes.
 
-ghost use Rattle.std.specs.Prelude.{◌≡◌, ◌≢◌, ℕ, ◌<◌, [], ◌∷◌, ◌↔◌, IsTrue, MatchOption, decimal};
+ghost use Rattle.std.specs.Prelude.{◌≡◌, ◌≢◌, ℕ, ◌<◌, ◌^◌, [], ◌∷◌, ◌↔◌, IsTrue, MatchOption, decimal};
 ghost use Rattle.net_script.specs.Basics.{IsBytes, NodeId, A, L, R, hex_text};
 ghost use Rattle.net_script.specs.Events.{IsNode};
 ghost use Rattle.net_script.specs.Lines.{IsFirstPiece, IsFirstWord, IsSome, Reads, words, bytes_text, node_text};
@@ -47,9 +47,9 @@ pub(crate) fn is_over(line: &[u8]) -> bool
     false
 }
 
-/// The number below 256 behind this letter.
-fn lettered_word(word: &[u8], letter: u8) -> Option<u8>
-    ensures { MatchOption result ((n : ℕ) → n < 256 → word.now ≢ letter ∷ decimal n) (λ n. word.now ≡ letter ∷ decimal n) }
+/// The number behind this letter.
+pub(crate) fn lettered_number(word: &[u8], letter: u8) -> Option<u32>
+    ensures { MatchOption result ((n : ℕ) → n < 2 ^ 32 → word.now ≢ letter ∷ decimal n) (λ n. word.now ≡ letter ∷ decimal n) }
 {
     let [first, digits @ ..] = word else {
         return None;
@@ -57,7 +57,14 @@ fn lettered_word(word: &[u8], letter: u8) -> Option<u8>
     if *first != letter {
         return None;
     }
-    let Some(number) = text::number(digits) else {
+    text::number(digits)
+}
+
+/// The number below 256 behind this letter.
+fn lettered_word(word: &[u8], letter: u8) -> Option<u8>
+    ensures { MatchOption result ((n : ℕ) → n < 256 → word.now ≢ letter ∷ decimal n) (λ n. word.now ≡ letter ∷ decimal n) }
+{
+    let Some(number) = lettered_number(word, letter) else {
         return None;
     };
     if number > 255 {

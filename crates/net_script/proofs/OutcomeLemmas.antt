@@ -1,0 +1,212 @@
+-- What stands before an arrow, and what stands behind it.
+use Rattle.std.proofs.Common.{◌≡◌, ℕ, ◌-◌, ◌<◌, true, false, not, ◌&&◌, eqb, List, [], ◌∷◌, ◌++◌, length, take, drop, refl, sym, ap, ◌∙◌}
+use Rattle.std.proofs.Common.{arith, codes}
+use Rattle.std.specs.List.{AllByRecursion, list_all}
+use Rattle.std.specs.Str.{bytes_eq}
+use Rattle.std.proofs.lemmas.Slice.Eq.{bytes_eq-Decides}
+use Rattle.std.proofs.lemmas.List.{append_assoc, length-append, take_at, take-append-drop}
+use Rattle.std.proofs.lemmas.List.Folds.{list_all-append}
+use Rattle.std.proofs.Math.Seq.{drop-append_seam}
+use Rattle.xid.specs.Text.{lacks}
+use Rattle.xid.proofs.Texts.{first_true, list_all_join, cut_same}
+use Rattle.net_script.specs.Basics.{NodeId, Event, Answer}
+use Rattle.net_script.specs.declared.trace_lines.TraceLine.{TraceLine}
+use Rattle.net_script.specs.declared.trace_lines.TraceLine.TheVariants.{Happened, Served}
+use Rattle.net_script.specs.Lines.{words}
+use Rattle.net_script.specs.Events.{IsNode, IsEvent, event_words}
+use Rattle.net_script.specs.Answers.{IsAnswer, answer_words}
+use Rattle.net_script.specs.Traces.{joined_words, spaced_words, serve_words}
+use Rattle.net_script.specs.TraceLines.{IsOutcome, is_tidy, trace_line_words}
+use Rattle.net_script.proofs.CleanWords.{IsClean, IsCommon, lacks_head, all_clean, all_join, event_common, serve_common, answer_common}
+use Rattle.net_script.proofs.TidyText.{tidy_is_joined, tidy_parts, joined_arrow}
+use Rattle.net_script.proofs.TraceLineLemmas.{words_of_joined}
+
+-- ---- a text cut at an arrow's head
+
+same_front : (xs ys s : List ℕ) → xs ++ s ≡ ys ++ s → xs ≡ ys
+same_front xs ys s e =
+    sym (take_at xs s (length xs) refl) ∙ ap (take (length xs)) e
+    ∙ take_at ys s (length xs) (omega (arith, ap length e, length-append xs s, length-append ys s))
+
+lacks_join : (xs ys : List ℕ) → lacks 62 xs ≡ true → lacks 62 ys ≡ true → lacks 62 (xs ++ ys) ≡ true
+lacks_join xs ys p q = list_all_join (λ byte. not (eqb byte 62)) xs ys p q
+
+-- the head is cut in one way
+head_cut : (line front back f b : List ℕ) → (line ≡ front ++ 62 ∷ back) × (lacks 62 front ≡ true) → lacks 62 f ≡ true
+    → line ≡ f ++ (32 ∷ 45 ∷ 62 ∷ 32 ∷ b)
+    → (front ≡ f ++ 32 ∷ 45 ∷ []) × (back ≡ 32 ∷ b)
+head_cut line front back f b cut none e =
+    cut_same 62 front back (f ++ 32 ∷ 45 ∷ []) (32 ∷ b) cut.1 (lacks_join f (32 ∷ 45 ∷ []) none refl)
+    (sym cut.0 ∙ e ∙ sym (append_assoc f (32 ∷ 45 ∷ []) (62 ∷ 32 ∷ b)))
+
+pub suffix_fails : (line front back suffix f b : List ℕ) → (line ≡ front ++ 62 ∷ back) × (lacks 62 front ≡ true) → lacks 62 f ≡ true
+    → line ≡ f ++ (32 ∷ 45 ∷ 62 ∷ 32 ∷ b)
+    → suffix ≡ 32 ∷ 45 ∷ []
+    → bytes_eq (drop (length front - length suffix) front) suffix ≡ false → ⊥
+suffix_fails line front back suffix f b cut none e is fails =
+    let same = (head_cut line front back f b cut none e).0 in
+    let len : length front - length suffix ≡ length f =
+    omega (arith, ap length same, ap length is, length-append f (32 ∷ 45 ∷ [])) in
+    let rest : drop (length front - length suffix) front ≡ suffix =
+    ap (λ (n : ℕ). drop n front) len ∙ ap (drop (length f)) same ∙ drop-append_seam f (32 ∷ 45 ∷ []) ∙ sym is in
+    let yes : bytes_eq (drop (length front - length suffix) front) suffix ≡ true = (bytes_eq-Decides _ _).1 rest in
+    absurd (cc)
+
+pub prefix_fails : (line front back prefix f b : List ℕ) → (line ≡ front ++ 62 ∷ back) × (lacks 62 front ≡ true) → lacks 62 f ≡ true
+    → line ≡ f ++ (32 ∷ 45 ∷ 62 ∷ 32 ∷ b)
+    → prefix ≡ 32 ∷ []
+    → bytes_eq (take (length prefix) back) prefix ≡ false → ⊥
+prefix_fails line front back prefix f b cut none e is fails =
+    let same = (head_cut line front back f b cut none e).1 in
+    let first : take (length prefix) back ≡ prefix =
+    ap (λ (p : List ℕ). take (length p) back) is ∙ ap (take 1) same ∙ take_at (32 ∷ []) b 1 refl ∙ sym is in
+    let yes : bytes_eq (take (length prefix) back) prefix ≡ true = (bytes_eq-Decides _ _).1 first in
+    absurd (cc)
+
+pub arrow_found : (line front back suffix prefix f b : List ℕ) → (line ≡ front ++ 62 ∷ back) × (lacks 62 front ≡ true)
+    → suffix ≡ 32 ∷ 45 ∷ [] → prefix ≡ 32 ∷ []
+    → (bytes_eq (drop (length front - length suffix) front) suffix ≡ true) × (f ≡ take (length front - length suffix) front)
+    → (bytes_eq (take (length prefix) back) prefix ≡ true) × (b ≡ drop (length prefix) back)
+    → (line ≡ f ++ (32 ∷ 45 ∷ 62 ∷ 32 ∷ b)) × (lacks 62 f ≡ true)
+arrow_found line front back suffix prefix f b cut is-suffix is-prefix at-end at-front =
+    let n : ℕ = length front - length suffix in
+    let rest : drop n front ≡ suffix = (bytes_eq-Decides (drop n front) suffix).0 at-end.0 in
+    let first : take (length prefix) back ≡ prefix = (bytes_eq-Decides (take (length prefix) back) prefix).0 at-front.0 in
+    let front-is : front ≡ f ++ 32 ∷ 45 ∷ [] =
+    sym (take-append-drop n front) ∙ ap (λ (l : List ℕ). take n front ++ l) (rest ∙ is-suffix)
+    ∙ ap (λ (l : List ℕ). l ++ 32 ∷ 45 ∷ []) (sym at-end.1) in
+    let back-is : back ≡ 32 ∷ b =
+    sym (take-append-drop (length prefix) back) ∙ ap (λ (l : List ℕ). l ++ drop (length prefix) back) (first ∙ is-prefix)
+    ∙ ap (λ (l : List ℕ). 32 ∷ l) (sym at-front.1) in
+    let both : (lacks 62 f && lacks 62 (32 ∷ 45 ∷ [])) ≡ true =
+    sym (list_all-append (λ byte. not (eqb byte 62)) f (32 ∷ 45 ∷ [])) ∙ ap (lacks 62) (sym front-is) ∙ cut.1 in (
+      cut.0 ∙ ap (λ (l : List ℕ). l ++ 62 ∷ back) front-is ∙ ap (λ (l : List ℕ). (f ++ 32 ∷ 45 ∷ []) ++ 62 ∷ l) back-is
+          ∙ append_assoc f (32 ∷ 45 ∷ []) (62 ∷ 32 ∷ b),
+      first_true (lacks 62 f) (lacks 62 (32 ∷ 45 ∷ [])) both,
+    )
+
+-- ---- words on both sides of an arrow
+
+spaced_lacks : (ws : List (List ℕ)) → AllByRecursion IsCommon ws → lacks 62 (spaced_words ws) ≡ true
+spaced_lacks [] are = refl
+spaced_lacks (w ∷ ws) are = lacks_join (32 ∷ w) (spaced_words ws) (lacks_head w are.0.bytes) (spaced_lacks ws are.1)
+
+joined_lacks : (ws : List (List ℕ)) → AllByRecursion IsCommon ws → lacks 62 (joined_words ws) ≡ true
+joined_lacks [] are = refl
+joined_lacks (w ∷ ws) are = lacks_join w (spaced_words ws) (lacks_head w are.0.bytes) (spaced_lacks ws are.1)
+
+-- words of which there is at least one
+record AreSome (ws : List (List ℕ)) : Type 0 where
+  some : 0 < length ws
+  each : AllByRecursion IsCommon ws
+
+arrow_text : (ws vs : List (List ℕ)) → AreSome ws → AreSome vs
+    → joined_words (ws ++ codes "->" ∷ vs) ≡ joined_words ws ++ (32 ∷ 45 ∷ 62 ∷ 32 ∷ joined_words vs)
+arrow_text [] vs p q = let some = p.some in absurd (omega arith)
+arrow_text (w ∷ ws) [] p q = let some = q.some in absurd (omega arith)
+arrow_text (w ∷ ws) (v ∷ vs) p q = joined_arrow w v ws vs
+
+arrow_clean : IsClean (codes "->")
+arrow_clean = record { some = refl; bytes = refl }
+
+-- the line is the one text of the words, and it is cut at its arrow so
+line_cut : (ws vs : List (List ℕ)) (line : List ℕ) → AreSome ws → AreSome vs → is_tidy line ≡ true → words line ≡ ws ++ codes "->" ∷ vs
+    → line ≡ joined_words ws ++ (32 ∷ 45 ∷ 62 ∷ 32 ∷ joined_words vs)
+line_cut ws vs line p q tidy e = sym (tidy_is_joined line tidy) ∙ ap joined_words e ∙ arrow_text ws vs p q
+
+parts_are : (ws vs : List (List ℕ)) (line front back : List ℕ) → AreSome ws × AreSome vs → is_tidy line ≡ true
+    → words line ≡ ws ++ codes "->" ∷ vs
+    → (line ≡ front ++ (32 ∷ 45 ∷ 62 ∷ 32 ∷ back)) × (lacks 62 front ≡ true)
+    → (words front ≡ ws) × (words back ≡ vs)
+parts_are ws vs line front back are tidy e cut =
+    let whole = line_cut ws vs line are.0 are.1 tidy e in
+    let same =
+    head_cut line (front ++ 32 ∷ 45 ∷ []) (32 ∷ back) (joined_words ws) (joined_words vs)
+    (cut.0 ∙ sym (append_assoc front (32 ∷ 45 ∷ []) (62 ∷ 32 ∷ back)), lacks_join front (32 ∷ 45 ∷ []) cut.1 refl)
+    (joined_lacks ws are.0.each) whole in
+    let front-is : front ≡ joined_words ws = same_front front (joined_words ws) (32 ∷ 45 ∷ []) same.0 in
+    let back-is : back ≡ joined_words vs = ap (drop 1) same.1 in
+    (ap words front-is ∙ words_of_joined ws (all_clean ws are.0.each), ap words back-is ∙ words_of_joined vs (all_clean vs are.1.each))
+
+parts_make : (ws vs : List (List ℕ)) (line front back : List ℕ) → AreSome ws × AreSome vs → is_tidy line ≡ true
+    → line ≡ front ++ (32 ∷ 45 ∷ 62 ∷ 32 ∷ back) → words front ≡ ws → words back ≡ vs
+    → words line ≡ ws ++ codes "->" ∷ vs
+parts_make ws vs line front back are tidy cut p q =
+    let tidy-parts = tidy_parts line front back tidy cut in
+    let front-is : front ≡ joined_words ws = sym tidy-parts.0 ∙ ap joined_words p in
+    let back-is : back ≡ joined_words vs = sym tidy-parts.1 ∙ ap joined_words q in
+    let whole : line ≡ joined_words (ws ++ codes "->" ∷ vs) =
+    cut ∙ ap (λ (l : List ℕ). l ++ (32 ∷ 45 ∷ 62 ∷ 32 ∷ back)) front-is
+    ∙ ap (λ (l : List ℕ). joined_words ws ++ (32 ∷ 45 ∷ 62 ∷ 32 ∷ l)) back-is
+    ∙ sym (arrow_text ws vs are.0 are.1) in
+    ap words whole
+    ∙ words_of_joined (ws ++ codes "->" ∷ vs)
+    (all_join IsClean ws (codes "->" ∷ vs) (all_clean ws are.0.each) (arrow_clean, all_clean vs are.1.each))
+
+-- ---- what happened, and its answer
+
+event_some : (e : Event) → IsEvent e → AreSome (event_words e)
+event_some e is = record { some = omega arith; each = event_common e is }
+
+serve_some : (n : NodeId) → IsNode n → AreSome (serve_words n)
+serve_some n is = record { some = omega arith; each = serve_common n is }
+
+answer_some : (a : Answer) → IsAnswer a → AreSome (answer_words a)
+answer_some a is = record { some = omega arith; each = answer_common a is }
+
+-- a line with no arrow
+pub arrow_fails : (line : List ℕ) → is_tidy line ≡ true
+    → ((front back : List ℕ) → lacks 62 front ≡ true → line ≡ front ++ (32 ∷ 45 ∷ 62 ∷ 32 ∷ back) → ⊥)
+    → (said : TraceLine) → IsOutcome said → words line ≡ trace_line_words said → ⊥
+arrow_fails line tidy none (Happened e a) is x =
+    let ws = event_some e is.0 in
+    none (joined_words (event_words e)) (joined_words (answer_words a)) (joined_lacks (event_words e) ws.each)
+    (line_cut (event_words e) (answer_words a) line ws (answer_some a is.1) tidy x)
+arrow_fails line tidy none (Served n a) is x =
+    let ws = serve_some n is.0 in
+    none (joined_words (serve_words n)) (joined_words (answer_words a)) (joined_lacks (serve_words n) ws.each)
+    (line_cut (serve_words n) (answer_words a) line ws (answer_some a is.1) tidy x)
+arrow_fails line tidy none said is x = absurd is
+
+-- a line whose answer is none
+pub answer_fails : (line front back : List ℕ) → is_tidy line ≡ true
+    → (line ≡ front ++ (32 ∷ 45 ∷ 62 ∷ 32 ∷ back)) × (lacks 62 front ≡ true)
+    → ((a : Answer) → IsAnswer a → words back ≡ answer_words a → ⊥)
+    → (said : TraceLine) → IsOutcome said → words line ≡ trace_line_words said → ⊥
+answer_fails line front back tidy cut none (Happened e a) is x =
+    none a is.1 (parts_are (event_words e) (answer_words a) line front back (event_some e is.0, answer_some a is.1) tidy x cut).1
+answer_fails line front back tidy cut none (Served n a) is x =
+    none a is.1 (parts_are (serve_words n) (answer_words a) line front back (serve_some n is.0, answer_some a is.1) tidy x cut).1
+answer_fails line front back tidy cut none said is x = absurd is
+
+-- a line that tells neither of a serve nor of an event
+pub event_fails : (line front back : List ℕ) → is_tidy line ≡ true
+    → (line ≡ front ++ (32 ∷ 45 ∷ 62 ∷ 32 ∷ back)) × (lacks 62 front ≡ true)
+    → ((n : NodeId) → IsNode n → words front ≡ serve_words n → ⊥)
+    → ((e : Event) → IsEvent e → words front ≡ event_words e → ⊥)
+    → (said : TraceLine) → IsOutcome said → words line ≡ trace_line_words said → ⊥
+event_fails line front back tidy cut no-node no-event (Happened e a) is x =
+    no-event e is.0 (parts_are (event_words e) (answer_words a) line front back (event_some e is.0, answer_some a is.1) tidy x cut).0
+event_fails line front back tidy cut no-node no-event (Served n a) is x =
+    no-node n is.0 (parts_are (serve_words n) (answer_words a) line front back (serve_some n is.0, answer_some a is.1) tidy x cut).0
+event_fails line front back tidy cut no-node no-event said is x = absurd is
+
+pub event_told : (line front back : List ℕ) (e : Event) (a : Answer) → is_tidy line ≡ true
+    → line ≡ front ++ (32 ∷ 45 ∷ 62 ∷ 32 ∷ back)
+    → IsEvent e × (words front ≡ event_words e) → IsAnswer a × (words back ≡ answer_words a)
+    → IsOutcome (Happened e a) × (words line ≡ trace_line_words (Happened e a))
+event_told line front back e a tidy cut event answer = (
+  (event.0, answer.0),
+  parts_make (event_words e) (answer_words a) line front back (event_some e event.0, answer_some a answer.0) tidy cut
+      event.1 answer.1,
+)
+
+pub serve_told : (line front back : List ℕ) (n : NodeId) (a : Answer) → is_tidy line ≡ true
+    → line ≡ front ++ (32 ∷ 45 ∷ 62 ∷ 32 ∷ back)
+    → IsNode n × (words front ≡ serve_words n) → IsAnswer a × (words back ≡ answer_words a)
+    → IsOutcome (Served n a) × (words line ≡ trace_line_words (Served n a))
+serve_told line front back n a tidy cut node answer = (
+  (node.0, answer.0),
+  parts_make (serve_words n) (answer_words a) line front back (serve_some n node.0, answer_some a answer.0) tidy cut
+      node.1 answer.1,
+)

@@ -1,0 +1,174 @@
+-- Lines of words with one space between them, and texts of such lines.
+use Rattle.std.proofs.Common.{◌≡◌, ℕ, Bool, true, false, not, ◌&&◌, cond, ◌⊎◌, inl, inr, eqb, List, [], ◌∷◌, ◌++◌, drop}
+use Rattle.std.proofs.Common.{refl, sym, ap, ◌∙◌, codes, eqb-true}
+use Rattle.std.specs.List.{AllByRecursion, list_all, flat_map, filter, onto_first}
+use Rattle.std.proofs.lemmas.Bool.{not-true}
+use Rattle.std.proofs.lemmas.List.{append-nil, append_assoc}
+use Rattle.std.proofs.lemmas.List.Concat.{flat_map-append}
+use Rattle.xid.proofs.Texts.{first_true, second_true}
+use Rattle.net_script.specs.Lines.{pieces, words, is_word}
+use Rattle.net_script.specs.Traces.{spaced_words, joined_words}
+use Rattle.net_script.specs.TraceLines.{is_tidy_after, is_tidy}
+use Rattle.net_script.proofs.WordLemmas.{pieces-cut, pieces-whole}
+use Rattle.net_script.proofs.CleanWords.{IsClean, is_clean, lacks_space}
+
+pub either : (b : Bool) → (b ≡ true) ⊎ (b ≡ false)
+either true = inl refl
+either false = inr refl
+
+-- ---- from words to a line, and back
+
+words_one : (w : List ℕ) → IsClean w → words w ≡ w ∷ []
+words_one [] is = absurd (cc (is.some))
+words_one (x ∷ w) is = ap (filter is_word) (pieces-whole 32 x w (lacks_space (x ∷ w) is.bytes))
+
+words_cut : (w rest : List ℕ) → IsClean w → words (w ++ 32 ∷ rest) ≡ w ∷ words rest
+words_cut [] rest is = absurd (cc (is.some))
+words_cut (x ∷ w) rest is = ap (filter is_word) (pieces-cut 32 (x ∷ w) rest (lacks_space (x ∷ w) is.bytes))
+
+pub words_joined : (w : List ℕ) (ws : List (List ℕ)) → IsClean w → AllByRecursion IsClean ws → words (joined_words (w ∷ ws)) ≡ w ∷ ws
+words_joined w [] is are = ap words (append-nil w) ∙ words_one w is
+words_joined w (v ∷ ws) is are =
+    words_cut w (joined_words (v ∷ ws)) is ∙ ap (λ (l : List (List ℕ)). w ∷ l) (words_joined v ws are.0 are.1)
+
+-- bytes that are no spaces
+tidy_bytes : (w rest : List ℕ) → list_all is_clean w ≡ true → is_tidy_after false (w ++ rest) ≡ is_tidy_after false rest
+tidy_bytes [] rest h = refl
+tidy_bytes (x ∷ w) rest h =
+    let this = first_true (is_clean x) (list_all is_clean w) h in
+    let other : eqb x 32 ≡ false = not-true (eqb x 32) (second_true (not (eqb x 10)) (not (eqb x 32)) this) in
+    ap (λ (b : Bool). cond b (not false && is_tidy_after true (w ++ rest)) (is_tidy_after false (w ++ rest))) other
+    ∙ tidy_bytes w rest (second_true (is_clean x) (list_all is_clean w) h)
+
+tidy_word : (spaced : Bool) (w rest : List ℕ) → IsClean w → is_tidy_after spaced (w ++ rest) ≡ is_tidy_after false rest
+tidy_word spaced [] rest is = absurd (cc (is.some))
+tidy_word spaced (x ∷ w) rest is =
+    let this = first_true (is_clean x) (list_all is_clean w) is.bytes in
+    let other : eqb x 32 ≡ false = not-true (eqb x 32) (second_true (not (eqb x 10)) (not (eqb x 32)) this) in
+    ap (λ (b : Bool). cond b (not spaced && is_tidy_after true (w ++ rest)) (is_tidy_after false (w ++ rest))) other
+    ∙ tidy_bytes w rest (second_true (is_clean x) (list_all is_clean w) is.bytes)
+
+pub tidy_joined : (spaced : Bool) (w : List ℕ) (ws : List (List ℕ)) → IsClean w → AllByRecursion IsClean ws
+    → is_tidy_after spaced (joined_words (w ∷ ws)) ≡ true
+tidy_joined spaced w [] is are = tidy_word spaced w [] is
+tidy_joined spaced w (v ∷ ws) is are = tidy_word spaced w (32 ∷ joined_words (v ∷ ws)) is ∙ tidy_joined true v ws are.0 are.1
+
+-- ---- a tidy line is its words with spaces between
+
+onto_words : (x y : ℕ) (ps : List (List ℕ))
+    → filter is_word (onto_first x (onto_first y ps)) ≡ onto_first x (filter is_word (onto_first y ps))
+onto_words x y [] = refl
+onto_words x y (p ∷ ps) = refl
+
+spaced_onto : (x : ℕ) (ws : List (List ℕ)) (l : List ℕ) → spaced_words ws ≡ 32 ∷ l → spaced_words (onto_first x ws) ≡ 32 ∷ x ∷ l
+spaced_onto x [] l e = absurd (cc)
+spaced_onto x (w ∷ ws) l e =
+    let rest : w ++ spaced_words ws ≡ l = ap (drop 1) e in
+    ap (λ (t : List ℕ). 32 ∷ x ∷ t) rest
+
+-- as after a space, and as within a word
+record SpacedOut (line : List ℕ) : Type 0 where
+  after_space : is_tidy_after true line ≡ true → spaced_words (words line) ≡ 32 ∷ line
+  within : (x : ℕ) → eqb x 32 ≡ false → is_tidy_after false line ≡ true → spaced_words (words (x ∷ line)) ≡ 32 ∷ x ∷ line
+
+none_within : (x : ℕ) → eqb x 32 ≡ false → spaced_words (words (x ∷ [])) ≡ 32 ∷ x ∷ []
+none_within x other = rw other refl
+
+space_within : (x y : ℕ) (rest : List ℕ) → eqb x 32 ≡ false → eqb y 32 ≡ true
+    → spaced_words (words rest) ≡ 32 ∷ rest
+    → spaced_words (words (x ∷ y ∷ rest)) ≡ 32 ∷ x ∷ y ∷ rest
+space_within x y rest other here e =
+    let same : y ≡ 32 = eqb-true y 32 here in
+    let cut : words (x ∷ y ∷ rest) ≡ (x ∷ []) ∷ words rest = rw (other, here) refl in
+    ap spaced_words cut ∙ (ap (λ (t : List ℕ). 32 ∷ x ∷ t) e ∙ ap (λ (n : ℕ). 32 ∷ x ∷ n ∷ rest) (sym same))
+
+byte_within : (x y : ℕ) (rest : List ℕ) → eqb x 32 ≡ false → eqb y 32 ≡ false
+    → spaced_words (words (y ∷ rest)) ≡ 32 ∷ y ∷ rest
+    → spaced_words (words (x ∷ y ∷ rest)) ≡ 32 ∷ x ∷ y ∷ rest
+byte_within x y rest other there e =
+    let next : pieces 32 (y ∷ rest) ≡ onto_first y (pieces 32 rest) =
+    ap (λ (b : Bool). cond b ([] ∷ pieces 32 rest) (onto_first y (pieces 32 rest))) there in
+    let first : pieces 32 (x ∷ y ∷ rest) ≡ onto_first x (pieces 32 (y ∷ rest)) =
+    ap (λ (b : Bool). cond b ([] ∷ pieces 32 (y ∷ rest)) (onto_first x (pieces 32 (y ∷ rest)))) other in
+    let cut : words (x ∷ y ∷ rest) ≡ onto_first x (words (y ∷ rest)) =
+    ap (filter is_word) (first ∙ ap (onto_first x) next)
+    ∙ (onto_words x y (pieces 32 rest) ∙ ap (λ (ps : List (List ℕ)). onto_first x (filter is_word ps)) (sym next)) in
+    ap spaced_words cut ∙ spaced_onto x (words (y ∷ rest)) (y ∷ rest) e
+
+tidy_true : (y : ℕ) (rest : List ℕ) → eqb y 32 ≡ true → is_tidy_after true (y ∷ rest) ≡ true → ⊥
+tidy_true y rest here h =
+    let none : is_tidy_after true (y ∷ rest) ≡ false =
+    ap (λ (b : Bool). cond b (not true && is_tidy_after true rest) (is_tidy_after false rest)) here in
+    absurd (cc)
+
+tidy_next : (spaced : Bool) (y : ℕ) (rest : List ℕ) → eqb y 32 ≡ false → is_tidy_after spaced (y ∷ rest) ≡ true
+    → is_tidy_after false rest ≡ true
+tidy_next spaced y rest there h =
+    sym (ap (λ (b : Bool). cond b (not spaced && is_tidy_after true rest) (is_tidy_after false rest)) there) ∙ h
+
+tidy_space : (y : ℕ) (rest : List ℕ) → eqb y 32 ≡ true → is_tidy_after false (y ∷ rest) ≡ true → is_tidy_after true rest ≡ true
+tidy_space y rest here h =
+    sym (ap (λ (b : Bool). cond b (not false && is_tidy_after true rest) (is_tidy_after false rest)) here) ∙ h
+
+spaced_out : (line : List ℕ) → SpacedOut line
+spaced_out [] = record { after_space = λ h. absurd (cc); within = λ x other h. none_within x other }
+spaced_out (y ∷ rest) =
+    let tail = spaced_out rest in
+    elim (either (eqb y 32)) [
+      | inl here ↦ record {
+        after_space = λ h. absurd (tidy_true y rest here h);
+        within = λ x other h. space_within x y rest other here (tail.after_space (tidy_space y rest here h));
+      }
+      | inr there ↦ record {
+        after_space = λ h. tail.within y there (tidy_next true y rest there h);
+        within = λ x other h. byte_within x y rest other there (tail.within y there (tidy_next false y rest there h));
+      }
+    ]
+
+joined_from : (ws : List (List ℕ)) (line : List ℕ) → spaced_words ws ≡ 32 ∷ line → joined_words ws ≡ line
+joined_from [] line e = absurd (cc)
+joined_from (w ∷ ws) line e = ap (drop 1) e
+
+pub tidy_is_joined : (line : List ℕ) → is_tidy line ≡ true → joined_words (words line) ≡ line
+tidy_is_joined line tidy =
+    let out = spaced_out line in
+    joined_from (words line) line (out.after_space tidy)
+
+-- ---- both sides of a space
+
+tidy_sides : (spaced : Bool) (front back : List ℕ)
+    → is_tidy_after spaced (front ++ 32 ∷ back) ≡ (is_tidy_after spaced front && is_tidy_after true back)
+tidy_sides spaced [] back = refl
+tidy_sides spaced (x ∷ front) back =
+    elim (either (eqb x 32)) [
+      | inl here ↦ tidy_sides_space spaced x front back here (tidy_sides true front back)
+      | inr there ↦ tidy_sides_byte spaced x front back there (tidy_sides false front back)
+    ]
+  where
+    tidy_sides_space : (spaced : Bool) (x : ℕ) (front back : List ℕ) → eqb x 32 ≡ true
+        → is_tidy_after true (front ++ 32 ∷ back) ≡ (is_tidy_after true front && is_tidy_after true back)
+        → is_tidy_after spaced (x ∷ (front ++ 32 ∷ back)) ≡ (is_tidy_after spaced (x ∷ front) && is_tidy_after true back)
+    tidy_sides_space true x front back here e = rw here refl
+    tidy_sides_space false x front back here e = rw here e
+
+    tidy_sides_byte : (spaced : Bool) (x : ℕ) (front back : List ℕ) → eqb x 32 ≡ false
+        → is_tidy_after false (front ++ 32 ∷ back) ≡ (is_tidy_after false front && is_tidy_after true back)
+        → is_tidy_after spaced (x ∷ (front ++ 32 ∷ back)) ≡ (is_tidy_after spaced (x ∷ front) && is_tidy_after true back)
+    tidy_sides_byte spaced x front back there e = rw there e
+
+-- what stands before an arrow, and what stands behind it
+pub tidy_parts : (line front back : List ℕ) → is_tidy line ≡ true → line ≡ front ++ (32 ∷ 45 ∷ 62 ∷ 32 ∷ back)
+    → (joined_words (words front) ≡ front) × (joined_words (words back) ≡ back)
+tidy_parts line front back tidy e =
+    let both : (is_tidy_after true front && is_tidy_after true (45 ∷ 62 ∷ 32 ∷ back)) ≡ true =
+    sym (tidy_sides true front (45 ∷ 62 ∷ 32 ∷ back)) ∙ (ap is_tidy (sym e) ∙ tidy) in (
+      tidy_is_joined front (first_true (is_tidy front) (is_tidy_after true (45 ∷ 62 ∷ 32 ∷ back)) both),
+      tidy_is_joined back (second_true (is_tidy front) (is_tidy back) both),
+    )
+
+-- words, an arrow and words again
+pub joined_arrow : (w v : List ℕ) (ws vs : List (List ℕ))
+    → joined_words ((w ∷ ws) ++ codes "->" ∷ v ∷ vs) ≡ joined_words (w ∷ ws) ++ (32 ∷ 45 ∷ 62 ∷ 32 ∷ joined_words (v ∷ vs))
+joined_arrow w v ws vs =
+    ap (λ (t : List ℕ). w ++ t) (flat_map-append (λ word. 32 ∷ word) ws (codes "->" ∷ v ∷ vs))
+    ∙ sym (append_assoc w (spaced_words ws) (spaced_words (codes "->" ∷ v ∷ vs)))

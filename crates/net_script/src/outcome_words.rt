@@ -1,0 +1,97 @@
+//! Words that say what came of an event: a changed view, a datagram that was sent, and last rows.
+
+ghost use Rattle.std.specs.Prelude.{◌≡◌, ◌≢◌, MatchOption};
+ghost use Rattle.net_script.specs.Basics.{Change, Sent, Row};
+ghost use Rattle.net_script.specs.Lines.{Reads, words};
+ghost use Rattle.net_script.specs.Items.{rows_words};
+ghost use Rattle.net_script.specs.Traces.{change_words, sent_words};
+ghost use Rattle.net_script.specs.TraceLines.{IsChange, IsSent, AreFinalRows, are_ascending};
+
+use crate::answer_words::view_named;
+use crate::args::{manager, node, number, transaction};
+use crate::message_words::read_message;
+use crate::tables::read_plain_rows;
+use crate::words::{is_over, next_word};
+use protocol::{Change, Row, Sent};
+use std::alloc::Global;
+use std::cmp::Ordering;
+use xid::{Refusal, Sequence};
+
+/// The changed view of these words.
+pub(crate) fn read_change(args: &[u8]) -> Option<Change>
+    ensures { MatchOption result
+        ((c : Change) → IsChange c → words args.now ≢ change_words c)
+        (λ c. IsChange c × (words args.now ≡ change_words c)) }
+{
+    let Some((rm, rest)) = manager(args) else {
+        return None;
+    };
+    let Some((tx, rest)) = transaction(rest) else {
+        return None;
+    };
+    let Some((word, rest)) = next_word(rest) else {
+        return None;
+    };
+    let Some(view) = view_named(word) else {
+        return None;
+    };
+    if !is_over(rest) {
+        return None;
+    }
+    Some(Change { rm, tx, view })
+}
+
+/// The datagram of these words.
+pub(crate) fn read_sent(args: &[u8]) -> Option<Sent>
+    ensures { MatchOption result
+        ((s : Sent) → IsSent s → words args.now ≢ sent_words s)
+        (λ s. IsSent s × (words args.now ≡ sent_words s)) }
+{
+    let Some((number, rest)) = number(args) else {
+        return None;
+    };
+    let Some((sender, rest)) = node(rest) else {
+        return None;
+    };
+    let Some((receiver, rest)) = node(rest) else {
+        return None;
+    };
+    let Some(message) = read_message(rest) else {
+        return None;
+    };
+    Some(Sent {
+        number,
+        sender,
+        receiver,
+        message,
+    })
+}
+
+/// Whether keys ascend strictly by their bytes.
+fn are_ascending(rows: &[Row]) -> bool
+    ensures { result ≡ are_ascending rows.now }
+{
+    let [first, rest @ ..] = rows else {
+        return true;
+    };
+    let [second, ..] = rest else {
+        return true;
+    };
+    match first.key.as_slice().cmp(second.key.as_slice()) {
+        Ordering::Less => are_ascending(rest),
+        _ => false,
+    }
+}
+
+/// The last rows of the words.
+pub(crate) fn read_final_rows(alloc: Global, args: &[u8]) -> Result<Option<Sequence<Row>>, Refusal>
+    ensures { Reads AreFinalRows rows_words (words args.now) result }
+{
+    let Some(rows) = read_plain_rows(alloc, args)? else {
+        return Ok(None);
+    };
+    if !are_ascending(rows.as_slice()) {
+        return Ok(None);
+    }
+    Ok(Some(rows))
+}

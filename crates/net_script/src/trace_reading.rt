@@ -1,0 +1,62 @@
+//! Whole traces, read line by line.
+
+ghost use Rattle.std.specs.Prelude.{◌≡◌, ℕ, List, IfOk, IfErr};
+ghost use Rattle.net_script.specs.declared.values.Trace.{Trace};
+ghost use Rattle.net_script.specs.Items.{is_in_limits};
+ghost use Rattle.net_script.specs.Traces.{trace_text};
+ghost use Rattle.net_script.specs.TraceReading.{IsTrace, IsTraceFault, SpellsTrace, RefusesTrace};
+
+use crate::trace_drafts::read_more;
+use crate::values::{Sizes, Trace};
+use std::alloc::Global;
+use xid::{MAX_LEADERS, MAX_MANAGERS, Refusal, text};
+
+/// Whether there may be so many nodes.
+fn is_in_limits(sizes: Sizes) -> bool
+    ensures { result ≡ is_in_limits sizes }
+{
+    matches!(sizes.acceptors, 1 | 3 | 5 | 7)
+        && (1..=u32::from(MAX_LEADERS)).contains(&sizes.leaders)
+        && (1..=u32::from(MAX_MANAGERS)).contains(&sizes.rms)
+}
+
+/// The trace of which this is the text, as `write_trace` writes it. Refused: `BadScript` with the first line at fault, counted from 1
+/// (a last line without its end is at fault; where all lines are right, but some are missing, it is the one after the last);
+/// `BadConfig` for the text of a trace with sizes outside the limits (1, 3, 5 or 7 acceptors, 1 to 4 leaders, 1 to 64 resource
+/// managers); and `NoMemory`.
+pub fn read_trace(alloc: Global, bytes: &[u8]) -> Result<Trace, Refusal>
+    ensures ok { IfOk result (λ t. SpellsTrace bytes.now t) }
+    ensures err { IfErr result (λ e. RefusesTrace bytes.now e) }
+{
+    let mut trace = None;
+    let mut number = 0;
+    let mut rest = bytes;
+    'lines: while !rest.is_empty() {
+        number += 1;
+        let Some((line, after)) = text::split_once(rest, b'\n') else {
+            return Err(Refusal::BadScript { line: number });
+        };
+        let Some(longer) = read_more(alloc, trace, line)? else {
+            return Err(Refusal::BadScript { line: number });
+        };
+        trace = Some(longer);
+        rest = after;
+    }
+    let Some(trace) = trace else {
+        return Err(Refusal::BadScript { line: number + 1 });
+    };
+    if trace.finals.as_slice().len() < trace.sizes.rms as usize {
+        return Err(Refusal::BadScript { line: number + 1 });
+    }
+    if !is_in_limits(trace.sizes) {
+        return Err(Refusal::BadConfig);
+    }
+    Ok(trace)
+}
+
+/// A text is that of at most one trace; one with a first line at fault is that of none, and has one such line.
+pub fn one_trace()
+    ensures one { (t u : Trace) → IsTrace t → IsTrace u → trace_text t ≡ trace_text u → t ≡ u }
+    ensures apart { (t : Trace) (line : ℕ) → IsTrace t → IsTraceFault (trace_text t) line → ⊥ }
+    ensures first { (bytes : List ℕ) (line other : ℕ) → IsTraceFault bytes line → IsTraceFault bytes other → line ≡ other }
+{}
