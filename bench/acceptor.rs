@@ -4,34 +4,27 @@
 //! begins with an acceptor that has played nothing. Prints how many facts were played, and a sum of what was sent last.
 #![tactic(auto)]
 
+mod common;
+
 use acceptor::Acceptor;
 use anyhow::bail;
+use common::{message_of, sum_of, tx_of};
 use protocol::Decision;
 use std::alloc::Global;
 use std::env;
-use wire::{Kind, MAX_DATAGRAM, Message, encode, is_message};
-use xid::{Ballot, ManagerNumber, Refusal, Tx, Vote};
+use wire::{Kind, Message};
+use xid::{Ballot, ManagerNumber, Refusal, Vote};
 
 const USAGE: &str = "usage: bench_acceptor plain|bundled TRANSACTIONS BALLOTS REPETITIONS";
 
-/// The message of an instance of a transaction, whose gtrid is a number of 4 bytes.
-fn message_of(
-    number: u32,
-    instance: ManagerNumber,
-    ballot: Ballot,
-) -> Result<Message, Refusal> {
-    let branches = [(0, b"a".as_slice()), (1, b"b".as_slice())];
-    let tx = Tx::new(1, &number.to_be_bytes(), &branches)?;
-    let kind = Kind::P2a {
-        tx,
+/// Phase 2a of an instance of a transaction.
+fn phase_2a(number: u32, instance: ManagerNumber, ballot: Ballot) -> Result<Message, Refusal> {
+    message_of(Kind::P2a {
+        tx: tx_of(number, 2)?,
         instance,
         ballot,
         vote: Vote::Prepared,
-    };
-    if !is_message(&kind) {
-        return Err(Refusal::BadMessage);
-    }
-    Ok(Message::new(kind))
+    })
 }
 
 /// The messages of all ballots, one ballot after the other.
@@ -39,22 +32,11 @@ fn messages_of(alloc: Global, transactions: u32, ballots: Ballot) -> Result<Vec<
     let mut messages = Vec::new(alloc);
     for ballot in 0..ballots {
         for number in 0..transactions {
-            messages.push(message_of(number, 0, ballot)?)?;
-            messages.push(message_of(number, 1, ballot)?)?;
+            messages.push(phase_2a(number, 0, ballot)?)?;
+            messages.push(phase_2a(number, 1, ballot)?)?;
         }
     }
     Ok(messages)
-}
-
-/// The sum of a message's bytes.
-fn sum_of(message: &Message) -> u64 {
-    let mut out = [0; MAX_DATAGRAM];
-    let len = encode(message, &mut out);
-    let mut sum: u64 = 0;
-    for byte in &out[..len] {
-        sum = sum.wrapping_add(u64::from(*byte));
-    }
-    sum
 }
 
 /// An acceptor decides on each message, and plays what is to be stored. Answers how many facts it played, and the sum of the

@@ -29,6 +29,9 @@ build() {
     done
     echo "$name: $(echo "$libraries" | tr '\n' ' ')anyhow" >>"$scratch/crates.txt"
     cp "$source" "$scratch/crates/$name/src/main.rt"
+    for module in $(sed -n 's/^mod \(.*\);$/\1/p' "$source"); do
+        cp "$(dirname "$source")/$module.rs" "$scratch/crates/$name/src/$module.rt"
+    done
     cd "$scratch/crates/$name" && rt run -- "$@"
 }
 case $source in /*) ;; *) source=$PWD/$source ;; esac

@@ -5,7 +5,7 @@
 case $1 in
 messages) crate=wire below="xid" first="encode prepare 1" ;;
 acceptor) crate=acceptor below="xid wire stable_record transactions ballot protocol" first="plain 1 1 1" ;;
-leader) crate=leader below="xid wire stable_record transactions ballot protocol" first="plain commit 1 1" ;;
+leader) crate=leader below="xid wire stable_record transactions ballot protocol" first="plain commit 2 1 1" ;;
 *) echo "usage: bench/measure.sh messages|acceptor|leader" >&2; exit 2 ;;
 esac
 repository=$(cd "$(dirname "$0")/.." && pwd)
@@ -23,18 +23,21 @@ build() {
     done
     echo "$name: $below $crate anyhow" >>"$scratch/crates.txt"
     cp "$repository/bench/$1.rs" "$scratch/crates/$name/src/main.rt"
+    for module in $(sed -n 's/^mod \(.*\);$/\1/p' "$repository/bench/$1.rs"); do
+        cp "$repository/bench/$module.rs" "$scratch/crates/$name/src/$module.rt"
+    done
     # shellcheck disable=SC2086 # words
     cd "$scratch/crates/$name" && rt run -- $first
 }
 (build "$1") >"$scratch/log" 2>&1 || { cat "$scratch/log" >&2; exit 1; }
 
-# Runs the program, or the one named, three times, and takes the shortest. It prints how many it took and, of messages, how many bytes
+# Runs the program three times, and takes the shortest. It prints how many it took and, of messages, how many bytes
 # each has.
 timed() {
     shortest=
     for _ in 1 2 3; do
         begin=$(date +%s%N)
-        "${program:-$scratch/crates/$name/out/$name}" "$@" >"$scratch/counts" || exit 1
+        "$scratch/crates/$name/out/$name" "$@" >"$scratch/counts" || exit 1
         nanoseconds=$(($(date +%s%N) - begin))
         if [ "$nanoseconds" -lt "${shortest:-$((nanoseconds + 1))}" ]; then shortest=$nanoseconds; fi
     done
@@ -48,23 +51,28 @@ messages() {
     echo "$1, ${2%%-*} of $length bytes: $rate messages per second, $((rate * length / 1000000)) MB per second"
 }
 
-# plain or bundled, transactions, repetitions: two messages for each transaction in ballot 0, and then another two in ballot 1; beside it
-# a plain Rust program that does the same, built where there is a rustc, turn and turn about. The time in which no repetition is made,
-# that of making the messages, is taken off
-events() {
+# how many events there are, what is measured, and the words of a run but its repetitions, and these: the nanoseconds of an event, and
+# beside them those of a plain Rust program that does the same, built where there is a rustc, turn and turn about. The time in which no
+# repetition is made, that of making the messages, is taken off. A function's variables are the script's: none has the name of a loop's
+beside() {
+    events=$1 label=$2
+    shift 2
+    words= repetitions=
+    for word; do words="$words $repetitions" repetitions=$word; done
     programs=$scratch/crates/$name/out/$name
     if [ -x "$scratch/plain" ]; then programs="$programs $scratch/plain"; fi
     : >"$scratch/times"
     for _ in 1 2 3 4 5; do
         for program in $programs; do
-            for repetitions in 0 "$3"; do
+            for times in 0 "$repetitions"; do
                 begin=$(date +%s%N)
-                "$program" "$1" "$2" 2 "$repetitions" >/dev/null || exit 1
-                echo "${program##*/} $repetitions $(($(date +%s%N) - begin))" >>"$scratch/times"
+                # shellcheck disable=SC2086 # words
+                "$program" $words "$times" >/dev/null || exit 1
+                echo "${program##*/} $times $(($(date +%s%N) - begin))" >>"$scratch/times"
             done
         done
     done
-    awk -v events=$((4 * $2 * $3)) -v named="$1 cluster, $2 transactions" -v proved="$name" '
+    awk -v events=$((events * repetitions)) -v named="$label" -v proved="$name" '
         !(($1, $2) in shortest) || $3 < shortest[$1, $2] { shortest[$1, $2] = $3 }
         { if ($2 > 0) full[$1] = $2 }
         END {
@@ -75,6 +83,11 @@ events() {
                 printf "; plain Rust %d, ratio %.2f", 1e9 / nanoseconds["plain"], nanoseconds["plain"] / nanoseconds[proved]
             print ""
         }' "$scratch/times"
+}
+
+# plain or bundled, transactions, repetitions: two messages for each transaction in ballot 0, and then another two in ballot 1
+events() {
+    beside $((4 * $2)) "$1 cluster, $2 transactions" "$1" "$2" 2 "$3"
 }
 
 # plain or bundled, transactions, repetitions: how many instructions an event takes, where there is a valgrind
@@ -88,32 +101,19 @@ event_instructions() {
     echo "$1 cluster, $2 transactions: $((($(counted "$3") - $(counted 0)) / (4 * $2 * $3))) instructions per event"
 }
 
-# what is measured, and the words of a run: events per second, and beside it those of a plain Rust program that does the same, built where
-# there is a rustc
-beside() {
-    what=$1
-    shift
-    timed "$@"
-    proved=$rate
-    plain=
-    if [ -x "$scratch/plain" ]; then
-        program=$scratch/plain
-        timed "$@"
-        program=
-        plain=", plain Rust $rate"
-    fi
-    echo "$what: $proved events per second$plain"
-}
-
-# plain or bundled, commit or takeover, transactions, repetitions: the votes or reports of two acceptors
+# plain or bundled, commit or takeover, branches, transactions, repetitions: the votes or reports of two acceptors, at a take-over after
+# a timeout
 courses() {
-    beside "$2 in a $1 cluster, $3 transactions" "$@"
+    each=2
+    if [ "$1" = plain ]; then each=$((2 * $3)); fi
+    if [ "$2" = takeover ]; then each=$((each + 1)); fi
+    beside $((each * $4)) "$2 of $3 branches in a $1 cluster, $4 transactions" "$@"
 }
 
 # what is measured, and the words of a run but its repetitions: how many instructions an event takes, where there is a valgrind
 instructions() {
     command -v valgrind >/dev/null || return 0
-    what=$1
+    label=$1
     shift
     for repetitions in 1 "${more:-11}"; do
         valgrind --tool=callgrind --callgrind-out-file="$scratch/callgrind" "$scratch/crates/$name/out/$name" "$@" "$repetitions" \
@@ -122,7 +122,7 @@ instructions() {
         taken=$(sed -n 's/^summary: //p' "$scratch/callgrind")
         if [ "$repetitions" = 1 ]; then few=$count least=$taken; fi
     done
-    echo "$what: $(((taken - least) / (count - few))) instructions per event"
+    echo "$label: $(((taken - least) / (count - few))) instructions per event"
 }
 
 # how many bytes a transaction takes: the peak of memory with an acceptor and without
@@ -162,14 +162,15 @@ if [ "$1" = acceptor ]; then
 else
     for kind in plain bundled; do
         for what in commit takeover; do
-            courses "$kind" "$what" 10 30000
-            courses "$kind" "$what" 1000 300
-            courses "$kind" "$what" 10000 20
-            courses "$kind" "$what" 100000 2
+            courses "$kind" "$what" 2 10 30000
+            courses "$kind" "$what" 2 1000 300
+            courses "$kind" "$what" 2 10000 20
+            courses "$kind" "$what" 2 100000 2
+            courses "$kind" "$what" 16 10 10000
         done
         for what in commit takeover; do
-            instructions "$what in a $kind cluster, 10 transactions" "$kind" "$what" 10
-            more=2 instructions "$what in a $kind cluster, 100000 transactions" "$kind" "$what" 100000
+            instructions "$what in a $kind cluster, 10 transactions" "$kind" "$what" 2 10
+            more=2 instructions "$what in a $kind cluster, 100000 transactions" "$kind" "$what" 2 100000
         done
     done
 fi

@@ -1,34 +1,12 @@
 //! What bench/acceptor.rs does, as a plain Rust program: a `HashMap` from the spelled transaction to its slots. What is decided is handed
 //! back by value, where the proved acceptor writes it in the place of the decision before. A played fact isn't spelled or stored in either.
 //! `plain_acceptor plain|bundled TRANSACTIONS BALLOTS REPETITIONS`
+mod transactions;
+
 use std::collections::HashMap;
 use std::env;
 use std::hint::black_box;
-
-const MAX_BRANCHES: usize = 16;
-const MAX_COMPONENT: usize = 64;
-const MAX_TX_BYTES: usize = 4 + 65 + 1 + MAX_BRANCHES * 67;
-
-#[derive(Clone, Copy)]
-struct Component {
-    len: u8,
-    bytes: [u8; MAX_COMPONENT],
-}
-
-#[derive(Clone, Copy)]
-struct Tx {
-    format: u32,
-    gtrid: Component,
-    count: u8,
-    branches: [(u16, Component); MAX_BRANCHES],
-}
-
-#[derive(Clone, Copy, PartialEq)]
-enum Vote {
-    Prepared,
-    #[allow(dead_code)]
-    Aborted,
-}
+use transactions::{MAX_BRANCHES, MAX_TX_BYTES, Tx, Vote, spell, tx_of};
 
 #[derive(Clone, Copy)]
 struct P2a {
@@ -59,33 +37,6 @@ struct Slot {
     report: Option<(u32, Vote)>,
 }
 
-fn component(bytes: &[u8]) -> Component {
-    let mut array = [0; MAX_COMPONENT];
-    array[..bytes.len()].copy_from_slice(bytes);
-    Component {
-        len: bytes.len() as u8,
-        bytes: array,
-    }
-}
-
-fn spell<'b>(tx: &Tx, out: &'b mut [u8; MAX_TX_BYTES]) -> &'b [u8] {
-    let mut at = 0;
-    let mut put = |bytes: &[u8]| {
-        out[at..at + bytes.len()].copy_from_slice(bytes);
-        at += bytes.len();
-    };
-    put(&tx.format.to_be_bytes());
-    put(&[tx.gtrid.len]);
-    put(&tx.gtrid.bytes[..tx.gtrid.len as usize]);
-    put(&[tx.count]);
-    for (rm, bqual) in &tx.branches[..tx.count as usize] {
-        put(&rm.to_be_bytes());
-        put(&[bqual.len]);
-        put(&bqual.bytes[..bqual.len as usize]);
-    }
-    &out[..at]
-}
-
 struct Acceptor {
     bundled: bool,
     slots: HashMap<Vec<u8>, Vec<Slot>>,
@@ -97,8 +48,7 @@ const EMPTY: Slot = Slot {
 };
 
 fn place_of(tx: &Tx, instance: u16) -> usize {
-    let branches = &tx.branches[..tx.count as usize];
-    branches.iter().position(|b| b.0 == instance).unwrap()
+    tx.branches().iter().position(|b| b.0 == instance).unwrap()
 }
 
 impl Acceptor {
@@ -122,7 +72,7 @@ impl Acceptor {
             sent.count = 1;
             return Some(sent);
         }
-        for (place, (rm, _)) in m.tx.branches[..m.tx.count as usize].iter().enumerate() {
+        for (place, (rm, _)) in m.tx.branches().iter().enumerate() {
             let report = if *rm == m.instance {
                 Some((m.ballot, m.vote))
             } else {
@@ -188,14 +138,7 @@ fn main() {
     let mut messages = Vec::new();
     for ballot in 0..ballots.parse().unwrap() {
         for number in 0..transactions.parse::<u32>().unwrap() {
-            let mut branches = [(0, component(b"a")); MAX_BRANCHES];
-            branches[1] = (1, component(b"b"));
-            let tx = Tx {
-                format: 1,
-                gtrid: component(&number.to_be_bytes()),
-                count: 2,
-                branches,
-            };
+            let tx = tx_of(number, 2);
             for instance in 0..2 {
                 let vote = Vote::Prepared;
                 messages.push(P2a {

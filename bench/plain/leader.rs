@@ -1,34 +1,13 @@
 //! What bench/leader.rs does, as a plain Rust program: a `HashMap` from the spelled transaction to its course.
-//! `plain_leader plain|bundled commit|takeover TRANSACTIONS REPETITIONS`
+//! `plain_leader plain|bundled commit|takeover BRANCHES TRANSACTIONS REPETITIONS`
+mod transactions;
+
 use std::collections::HashMap;
 use std::env;
 use std::hint::black_box;
+use transactions::{MAX_BRANCHES, MAX_TX_BYTES, Tx, Vote, spell, tx_of};
 
-const MAX_BRANCHES: usize = 16;
-const MAX_COMPONENT: usize = 64;
 const MAX_ACCEPTORS: usize = 7;
-const MAX_TX_BYTES: usize = 4 + 65 + 1 + MAX_BRANCHES * 67;
-
-#[derive(Clone, Copy)]
-struct Component {
-    len: u8,
-    bytes: [u8; MAX_COMPONENT],
-}
-
-#[derive(Clone, Copy)]
-struct Tx {
-    format: u32,
-    gtrid: Component,
-    count: u8,
-    branches: [(u16, Component); MAX_BRANCHES],
-}
-
-#[derive(Clone, Copy, PartialEq)]
-enum Vote {
-    Prepared,
-    #[allow(dead_code)]
-    Aborted,
-}
 
 #[derive(Clone, Copy)]
 struct Report {
@@ -130,8 +109,8 @@ struct Course {
 
 impl Course {
     fn new(tx: &Tx) -> Course {
-        let instance = |branch: &(u16, Component)| Instance {
-            instance: branch.0,
+        let instance = |rm: u16| Instance {
+            instance: rm,
             reporters: [false; MAX_ACCEPTORS],
             best: None,
             proposed: false,
@@ -141,7 +120,7 @@ impl Course {
         Course {
             greatest: 0,
             current: None,
-            instances: tx.branches[..tx.count as usize].iter().map(instance).collect(),
+            instances: tx.branches().iter().map(|branch| instance(branch.0)).collect(),
             told: Vec::new(),
         }
     }
@@ -157,33 +136,6 @@ impl Course {
 fn majority(members: &[bool; MAX_ACCEPTORS], acceptors: u8) -> bool {
     let count = members[..acceptors as usize].iter().filter(|m| **m).count();
     (acceptors as usize) < 2 * count
-}
-
-fn component(bytes: &[u8]) -> Component {
-    let mut array = [0; MAX_COMPONENT];
-    array[..bytes.len()].copy_from_slice(bytes);
-    Component {
-        len: bytes.len() as u8,
-        bytes: array,
-    }
-}
-
-fn spell<'b>(tx: &Tx, out: &'b mut [u8; MAX_TX_BYTES]) -> &'b [u8] {
-    let mut at = 0;
-    let mut put = |bytes: &[u8]| {
-        out[at..at + bytes.len()].copy_from_slice(bytes);
-        at += bytes.len();
-    };
-    put(&tx.format.to_be_bytes());
-    put(&[tx.gtrid.len]);
-    put(&tx.gtrid.bytes[..tx.gtrid.len as usize]);
-    put(&[tx.count]);
-    for (rm, bqual) in &tx.branches[..tx.count as usize] {
-        put(&rm.to_be_bytes());
-        put(&[bqual.len]);
-        put(&bqual.bytes[..bqual.len as usize]);
-    }
-    &out[..at]
 }
 
 struct Leader {
@@ -330,51 +282,46 @@ impl Leader {
     }
 }
 
-fn tx_of(number: u32) -> Tx {
-    let mut branches = [(0, component(b"a")); MAX_BRANCHES];
-    branches[1] = (1, component(b"b"));
-    Tx {
-        format: 1,
-        gtrid: component(&number.to_be_bytes()),
-        count: 2,
-        branches,
-    }
-}
-
 /// An acceptor's message of some instances, which begin with a first one.
 fn message_of(takes_over: bool, tx: Tx, acceptor: u8, first: u16, count: u8) -> Message {
     let vote = Vote::Prepared;
     if takes_over {
         let mut items = [Report { instance: first, report: Some((0, vote)) }; MAX_BRANCHES];
-        items[1].instance = first + 1;
+        for (place, item) in items.iter_mut().enumerate() {
+            item.instance = first + place as u16;
+        }
         return Message::Reports { tx, ballot: 1, acceptor, count, items };
     }
     let mut items = [Accept { instance: first, ballot: 0, vote }; MAX_BRANCHES];
-    items[1].instance = first + 1;
+    for (place, item) in items.iter_mut().enumerate() {
+        item.instance = first + place as u16;
+    }
     Message::Accepts { tx, acceptor, count, items }
 }
 
 fn main() {
     let words: Vec<String> = env::args().collect();
-    let [_, kind, what, transactions, repetitions] = words.as_slice() else {
-        panic!("usage: plain_leader plain|bundled commit|takeover TRANSACTIONS REPETITIONS");
+    let [_, kind, what, branches, transactions, repetitions] = words.as_slice() else {
+        panic!("usage: plain_leader plain|bundled commit|takeover BRANCHES TRANSACTIONS REPETITIONS");
     };
     let bundled = kind == "bundled";
     let takes_over = what == "takeover";
+    let branches: u8 = branches.parse().unwrap();
     let transactions: u32 = transactions.parse().unwrap();
     let mut messages = Vec::new();
     for acceptor in 0..2 {
         for number in 0..transactions {
-            let tx = tx_of(number);
+            let tx = tx_of(number, branches);
             if bundled {
-                messages.push(message_of(takes_over, tx, acceptor, 0, 2));
+                messages.push(message_of(takes_over, tx, acceptor, 0, branches));
             } else {
-                messages.push(message_of(takes_over, tx, acceptor, 0, 1));
-                messages.push(message_of(takes_over, tx, acceptor, 1, 1));
+                for instance in 0..u16::from(branches) {
+                    messages.push(message_of(takes_over, tx, acceptor, instance, 1));
+                }
             }
         }
     }
-    let timeouts: Vec<Tx> = if takes_over { (0..transactions).map(tx_of).collect() } else { Vec::new() };
+    let timeouts: Vec<Tx> = if takes_over { (0..transactions).map(|number| tx_of(number, branches)).collect() } else { Vec::new() };
     let mut events: u64 = 0;
     let mut sum: u64 = 0;
     for _ in 0..repetitions.parse::<u32>().unwrap() {

@@ -184,6 +184,28 @@ fn commit(rt: &impl Abort, table: &mut BranchTable, x: &Xid) -> Result<(), Fail>
     Ok(())
 }
 
+/// Two transactions name one branch: the first vote prepares it, the second finds it no longer idle, and it is committed once.
+fn bind(rt: &impl Abort, table: &mut BranchTable, x: &Xid) -> Result<(), Fail> {
+    is_code(rt, table.start(x)?, XaCode::Ok);
+    is_code(rt, table.end(x, Ending::Success), XaCode::Ok);
+    prepare(table, x)?;
+    assert!(rt; table.prepare(x)?.is_none());
+    are_xids(rt, table.recover()?, 1, x);
+    table.ready_commit(x)?;
+    if table.is_ready(x) {
+        table.commit(x);
+    }
+    assert!(rt; !table.has_branch(x));
+    Ok(())
+}
+
+#[test]
+fn two_lists_one_gtrid(rt: HostRuntime) -> Result<(), Fail> {
+    let x = Xid::new(1, b"t", b"a")?;
+    let mut table = one_row(rt.alloc())?;
+    bind(&rt, &mut table, &x)
+}
+
 #[test]
 fn commits(rt: HostRuntime) -> Result<(), Fail> {
     let x = Xid::new(1, b"t", b"a")?;
@@ -252,16 +274,24 @@ fn is_free(table: &mut BranchTable, key: u16) -> Result<bool, Fail> {
     Ok(matches!(answer, Answer::Code(XaCode::Ok)))
 }
 
-/// Rolls a reader back. Only then is its first key free, and the next one isn't yet.
+/// Rolls a reader back. Only then is its first key free, and the next one isn't yet, unless it was the last reader.
 fn ends(rt: &impl Abort, table: &mut BranchTable, number: u16) -> Result<(), Fail>
-    requires { number < 299 }
+    requires { number < 300 }
 {
     assert!(rt; !is_free(table, number)?);
     let before = table.looks();
     let _ = table.rollback(&nth(number)?);
     assert!(rt; (64..=132).contains(&table.looks().saturating_sub(before)));
     assert!(rt; is_free(table, number)?);
-    assert!(rt; !is_free(table, number + 1)?);
+    assert_eq!(rt; is_free(table, number + 1)?, number == 299);
+    Ok(())
+}
+
+/// Whether each key that only the last reader still holds is free, or each isn't.
+fn last_are_free(rt: &impl Abort, table: &mut BranchTable, wanted: bool) -> Result<(), Fail> {
+    for key in 299..363u16 {
+        assert_eq!(rt; is_free(table, key)?, wanted);
+    }
     Ok(())
 }
 
@@ -273,7 +303,9 @@ fn read_all(rt: &impl Abort, table: &mut BranchTable) -> Result<(), Fail> {
     for number in 0..299u16 {
         ends(rt, table, number)?;
     }
-    Ok(())
+    last_are_free(rt, table, false)?;
+    ends(rt, table, 299)?;
+    last_are_free(rt, table, true)
 }
 
 #[test]

@@ -1,15 +1,16 @@
-ghost use Rattle.std.specs.Prelude.{◌≡◌, [], None};
-ghost use Rattle.wire.specs.Messages.{IsBallot};
-ghost use Rattle.protocol.specs.declared.answers.Answer.TheVariants.{Done};
+ghost use Rattle.std.specs.Prelude.{◌≡◌, [], Some, None};
+ghost use Rattle.stable_record.specs.declared.fact.FactKind.TheVariants.{Ballot as BallotFact};
+ghost use Rattle.wire.specs.Messages.{IsBallot, IsLeaderBallot};
+ghost use Rattle.protocol.specs.declared.answers.Answer.TheVariants.{Done, Refused};
 ghost use Rattle.protocol.specs.Leaders.{outcome_messages};
 ghost use Rattle.leader.specs.Decisions.{shown};
-ghost use Rattle.leader.specs.Orders.{AreOf, proposal_messages};
+ghost use Rattle.leader.specs.Orders.{AreOf, phase_1a_by, proposal_messages};
 
 use crate::orders::LeaderSends;
 use crate::proposals::Proposals;
 use protocol::{Address, Answer, Status};
-use stable_record::Fact;
-use xid::{Ballot, Tx};
+use stable_record::{Fact, FactKind};
+use xid::{Ballot, Refusal, Tx};
 
 /// What a leader decides on an input.
 #[derive(Debug, Drop)]
@@ -57,6 +58,26 @@ impl LeaderDecision {
     {
         self.store_nothing();
         self.sends.clear();
+    }
+
+    /// A refusal, nothing to store, and nothing to send, in place of what was decided before.
+    pub(crate) fn refuse(&mut self, refusal: Refusal)
+        ensures { shown self.new ≡ record { answer = Refused refusal; fact = None; sends = [] } }
+    {
+        self.clear();
+        self.answer = Answer::Refused(refusal);
+    }
+
+    /// Ok, a ballot to store, and its phase 1a to send, in place of what was decided before.
+    pub(crate) fn begin(&mut self, tx: &Tx, ballot: Ballot, bundled: bool)
+        requires { IsLeaderBallot ballot }
+        ensures { shown self.new
+            ≡ record { answer = Done; fact = Some (BallotFact tx.now ballot); sends = phase_1a_by bundled tx.now ballot } }
+    {
+        let _ = tx.count();
+        self.answer = Answer::Done;
+        self.fact = Some(Fact::new(FactKind::Ballot { tx: *tx, ballot }));
+        self.sends.begin(tx, ballot, bundled);
     }
 
     /// Ok, nothing to store, and the outcome to send, where there is one, in place of what was decided before.

@@ -1,7 +1,7 @@
 ghost use Rattle.std.specs.Prelude.{◌≡◌, ℕ, ◌<◌, ◌≤◌, true, [], length, None, IfSome, IfNone};
 ghost use Rattle.xid.specs.Limits.{most_acceptors, most_branches};
 ghost use Rattle.xid.specs.Transactions.{participants};
-ghost use Rattle.wire.specs.Messages.{IsMessage, IsLeaderBallot};
+ghost use Rattle.wire.specs.Messages.{IsMessage};
 ghost use Rattle.wire.specs.declared.message.Kind.TheVariants.{B1b};
 ghost use Rattle.protocol.specs.Effects.{Config, decision_of, status_standing};
 ghost use Rattle.protocol.specs.LeaderMemory.{LeaderMemory, StoredBallots, nothing_heard, with_begun, with_met};
@@ -10,8 +10,6 @@ ghost use Rattle.stable_record.specs.Parts.{IsMadeReady, IsPlayed};
 ghost use Rattle.leader.specs.Leaders.{are_below, commit_messages, decided, taken_over, StandsFor, StandsForBallots, Follows};
 ghost use Rattle.leader.specs.Leaders.{FollowsOrRefuses, leader_part};
 ghost use Rattle.leader.specs.Decisions.{shown};
-ghost use Rattle.leader.specs.Orders.{phase_1a_by};
-ghost use Rattle.protocol.specs.declared.answers.Answer.TheVariants.{Done};
 ghost use Rattle.protocol.specs.declared.decisions.Address.TheVariants.{Managers};
 
 use crate::course::is_final;
@@ -118,17 +116,37 @@ impl Leader {
             → StandsForBallots config number self.old stored memory
             → StandsForBallots config number self.new stored (rules.on_leader_timeout config number stored memory tx.now).memory) }
     {
+        let mut decision = LeaderDecision::nothing();
+        self.decide_timeout(tx, &mut decision);
+        decision
+    }
+
+    /// Decides as `timeout` does, in place of what was decided before.
+    pub fn decide_timeout(&mut self, tx: &Tx, decision: &mut LeaderDecision)
+        ensures decides { (config : Config) (number : ℕ) (stored : StoredBallots) (memory : LeaderMemory)
+            → StandsForBallots config number self.old stored memory
+            → shown decision.new ≡ decision_of (rules.on_leader_timeout config number stored memory tx.now) }
+        ensures plays { (config : Config) (number : ℕ) (stored : StoredBallots) (memory : LeaderMemory)
+            → StandsForBallots config number self.old stored memory
+            → IfSome decision.new.fact (λ fact. rules.plays_at_leader config.leaders number stored fact ≡ true) }
+        ensures waits { IfSome decision.new.fact (λ fact. self.new ≡ self.old) }
+        ensures stands { IfNone decision.new.fact ((config : Config) (number : ℕ) (stored : StoredBallots) (memory : LeaderMemory)
+            → StandsForBallots config number self.old stored memory
+            → StandsForBallots config number self.new stored (rules.on_leader_timeout config number stored memory tx.now).memory) }
+    {
         if !is_inside(self.managers, tx) {
-            return LeaderDecision::answers(Answer::Refused(Refusal::BadTx));
+            decision.refuse(Refusal::BadTx);
+            return;
         }
         let place = self.courses.place_of(tx);
         let status = self.courses.status_at(tx, place);
         if is_final(status) {
             self.courses.mark_known(tx, place);
-            return tells(tx, status);
+            decision.tell(tx, status, Address::Managers);
+            return;
         }
         let last = self.courses.greatest_at(tx, place);
-        take_over(self.number, self.leaders, self.bundled, tx, last)
+        take_over(self.number, self.leaders, self.bundled, tx, last, decision);
     }
 
     /// Makes a ballot current, right after `play` of it: what was reported and proposed before doesn't count any more. It takes no memory.
@@ -365,6 +383,14 @@ impl Leader {
         ensures { (config : Config) (number : ℕ) (memory : LeaderMemory)
             → IsPlayed (leader_part config number memory) self.old self.new fact result }
     {
+        self.play_by(&fact)
+    }
+
+    /// Plays a ballot as `play` does, which the caller keeps.
+    pub fn play_by(&mut self, fact: &Fact) -> Result<(), Refusal>
+        ensures { (config : Config) (number : ℕ) (memory : LeaderMemory)
+            → IsPlayed (leader_part config number memory) self.old self.new fact.now result }
+    {
         let FactKind::Ballot { tx, ballot } = fact.kind() else {
             return Err(Refusal::Damaged);
         };
@@ -391,30 +417,23 @@ fn is_inside(managers: u8, tx: &Tx) -> bool
     true
 }
 
-/// Phase 1a of a ballot.
-fn begin_sends(bundled: bool, tx: &Tx, ballot: Ballot) -> LeaderSends
-    requires { IsLeaderBallot ballot }
-    ensures { result ≡ phase_1a_by bundled tx.now ballot }
-{
-    let mut sends = LeaderSends::nothing();
-    sends.begin(tx, ballot, bundled);
-    sends
-}
-
-/// The leader's next ballot after the last, to be stored, and its phase 1a; or that there is none.
-fn take_over(number: u8, leaders: u8, bundled: bool, tx: &Tx, last: Ballot) -> LeaderDecision
+/// The leader's next ballot after the last, to be stored, and its phase 1a; or that there is none. It stands in place of what was decided
+/// before.
+fn take_over(
+    number: u8,
+    leaders: u8,
+    bundled: bool,
+    tx: &Tx,
+    last: Ballot,
+    decision: &mut LeaderDecision,
+)
     requires { number < leaders }
-    ensures decides { shown result ≡ taken_over number leaders bundled tx.now last }
-    ensures plays { IfSome result.fact (λ fact. rules.plays_at_leader leaders number (λ x. last) fact ≡ true) }
+    ensures decides { shown decision.new ≡ taken_over number leaders bundled tx.now last }
+    ensures plays { IfSome decision.new.fact (λ fact. rules.plays_at_leader leaders number (λ x. last) fact ≡ true) }
 {
-    let _ = tx.count();
     match next_owned(number, leaders, last) {
-        Ok(ballot) => LeaderDecision {
-            answer: Answer::Done,
-            fact: Some(Fact::new(FactKind::Ballot { tx: *tx, ballot })),
-            sends: begin_sends(bundled, tx, ballot),
-        },
-        Err(_) => LeaderDecision::answers(Answer::Refused(Refusal::NoBallot)),
+        Ok(ballot) => decision.begin(tx, ballot, bundled),
+        Err(_) => decision.refuse(Refusal::NoBallot),
     }
 }
 
@@ -428,15 +447,6 @@ fn standing_of(status: Status) -> Standing
         Status::Committed => Standing::Committed,
         Status::Aborted => Standing::Aborted,
     }
-}
-
-/// An outcome told to each resource manager.
-fn tells(tx: &Tx, outcome: Status) -> LeaderDecision
-    ensures { shown result ≡ record { answer = Done; fact = None; sends = rules.outcome_messages outcome tx.now Managers } }
-{
-    let mut decision = LeaderDecision::nothing();
-    decision.tell(tx, outcome, Address::Managers);
-    decision
 }
 
 /// What a commit call sends.

@@ -114,11 +114,6 @@ named_append (p ∷ ps) bs x =
 
 -- ---- what a call that is done leaves of the branches
 
-abbrev IsChange : Action → Type 0
-IsChange Start = ⊥
-IsChange Rollback = ⊥
-IsChange action = Unit {0}
-
 module _ (x : XidParts) where
   -- without the branch of a name
   gone_own : (bs : List Branch) → branch_named (branches_without bs x) x ≡ None

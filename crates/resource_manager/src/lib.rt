@@ -11,3 +11,6 @@ mod spent;
 
 pub use manager::ResourceManager;
 pub use messages::Reminder;
+
+#[cfg(test)]
+mod tests;

@@ -7,8 +7,10 @@ ghost use Rattle.wire.specs.Grammar.{tx_spelling};
 ghost use Rattle.wire.specs.Versions.{version_2};
 ghost use Rattle.transactions.specs.Seen.{place_in, seen_with};
 
+use crate::hasher::SpellingHasher;
 use indexmap::IndexSet;
 use std::alloc::Global;
+use std::hash::BuildHasherDefault;
 use std::marker::Model;
 use wire::{MAX_TX_BYTES, VersionNumber, put_tx, take_tx};
 use xid::{Refusal, Tx};
@@ -18,7 +20,7 @@ use xid::{Refusal, Tx};
 #[derive(Debug, Drop)]
 pub struct Transactions {
     alloc: Global,
-    spelled: IndexSet<Vec<u8>>,
+    spelled: IndexSet<Vec<u8>, BuildHasherDefault<SpellingHasher>>,
 }
 
 impl Model for Transactions {
@@ -51,7 +53,7 @@ impl Transactions {
     {
         Transactions {
             alloc,
-            spelled: IndexSet::new(alloc),
+            spelled: IndexSet::with_hasher(alloc, BuildHasherDefault::new()),
         }
     }
 

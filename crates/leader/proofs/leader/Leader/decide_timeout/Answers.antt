@@ -10,7 +10,7 @@ use Rattle.leader.specs.contracts.leader.Leader.{the_view}
 use Rattle.leader.specs.Courses.{after_meeting, status_in}
 use Rattle.leader.specs.Leaders.{course_of, StandsForBallots, taken_over}
 use Rattle.leader.proofs.Leading.{sending, follows, final_agrees, timeout_outside, takes_over_here, with_courses, TakesOver}
-use Rattle.leader.proofs.leader.Leader.timeout.Goals as goal
+use Rattle.leader.proofs.leader.Leader.decide_timeout.Goals as goal
 
 pub returns-then-is_final-clause-decides : goal.returns-then-is_final-clause-decides
 returns-then-is_final-clause-decides c =
@@ -21,9 +21,9 @@ returns-then-is_final-clause-decides c =
     λ config number stored memory stands. (follows config number
     (the_view c.self.inside) c.args.self.now c.mark_known.new.self c.args.tx.now
     (after_meeting (course_of (the_view c.self.inside) c.args.tx.now))
-    (sending (outcome_messages (status_in (course_of (the_view c.self.inside) c.args.tx.now)) c.args.tx.now Managers)) c.tells.result
+    (sending (outcome_messages (status_in (course_of (the_view c.self.inside) c.args.tx.now)) c.args.tx.now Managers)) c.tell.new.self
     (λ stored memory. rules.on_leader_timeout config number stored memory c.args.tx.now) c.self.view_is
-    (c.tells.ensures ∙ ap (λ s. sending (outcome_messages s c.args.tx.now Managers)) status)
+    (c.tell.ensures ∙ ap (λ s. sending (outcome_messages s c.args.tx.now Managers)) status)
     (c.mark_known.ensures final)
     (final_agrees config number (the_view c.self.inside) c.args.tx.now
     (sym c.is_inside.ensures ∙ c.if-not-is_inside.false) final)).decides stored memory stands
@@ -38,12 +38,12 @@ returns-then-is_final-clause-stands c =
     → StandsForBallots config number c.args.self.now stored memory
     → StandsForBallots config number (with_courses (the_view c.self.inside) c.mark_known.new.self) stored
     (rules.on_leader_timeout config number stored memory c.args.tx.now).memory) in
-    subst P (sym (ap (λ d. d.fact) c.tells.ensures)) (λ config number stored memory stands. (follows config number
+    subst P (sym (ap (λ d. d.fact) c.tell.ensures)) (λ config number stored memory stands. (follows config number
     (the_view c.self.inside) c.args.self.now c.mark_known.new.self c.args.tx.now
     (after_meeting (course_of (the_view c.self.inside) c.args.tx.now))
-    (sending (outcome_messages (status_in (course_of (the_view c.self.inside) c.args.tx.now)) c.args.tx.now Managers)) c.tells.result
+    (sending (outcome_messages (status_in (course_of (the_view c.self.inside) c.args.tx.now)) c.args.tx.now Managers)) c.tell.new.self
     (λ stored memory. rules.on_leader_timeout config number stored memory c.args.tx.now) c.self.view_is
-    (c.tells.ensures ∙ ap (λ s. sending (outcome_messages s c.args.tx.now Managers)) status)
+    (c.tell.ensures ∙ ap (λ s. sending (outcome_messages s c.args.tx.now Managers)) status)
     (c.mark_known.ensures final)
     (final_agrees config number (the_view c.self.inside) c.args.tx.now
     (sym c.is_inside.ensures ∙ c.if-not-is_inside.false) final)).stands stored memory stands)
@@ -53,7 +53,7 @@ returns-then-not-is_inside-clause-stands c =
     let P : Option Fact → Type 0 = λ o. IfNone o ((config : Config) (number : ℕ) (stored : StoredBallots) (memory : LeaderMemory)
     → StandsForBallots config number c.args.self.now stored memory
     → StandsForBallots config number c.args.self.now stored (rules.on_leader_timeout config number stored memory c.args.tx.now).memory) in
-    subst P (sym (ap (λ d. d.fact) c.answers.ensures)) (λ config number stored memory stands.
+    subst P (sym (ap (λ d. d.fact) c.refuse.ensures)) (λ config number stored memory stands.
     timeout_outside config number (the_view c.self.inside) c.args.self.now c.args.tx.now stored memory c.self.view_is
     (sym c.is_inside.ensures ∙ c.if-not-is_inside.true) stands)
 
@@ -63,13 +63,14 @@ returns-clause-decides c =
     c.status_at-status.ensures in
     let last : c.greatest_at-last.result ≡ (course_of (the_view c.self.inside) c.args.tx.now).greatest =
     c.greatest_at-last.ensures in
-    let P : ℕ → Type 0 = λ n. IfSome c.take_over.result.fact
+    let P : ℕ → Type 0 = λ n. IfSome c.take_over.new.decision.fact
     (λ fact. rules.plays_at_leader c.self.inside.leaders c.self.inside.number (λ x. n) fact ≡ true) in
     let taken : (config : Config) (number : ℕ) (stored : StoredBallots) (memory : LeaderMemory)
     → StandsForBallots config number c.args.self.now stored memory
-    → TakesOver config number c.args.self.now c.args.tx.now c.take_over.result stored memory =
+    → TakesOver config number c.args.self.now c.args.tx.now c.take_over.new.decision stored memory =
     λ config number stored memory stands.
-    takes_over_here config number (the_view c.self.inside) c.args.self.now c.args.tx.now c.take_over.result stored memory c.self.view_is
+    takes_over_here config number (the_view c.self.inside) c.args.self.now c.args.tx.now c.take_over.new.decision stored memory
+    c.self.view_is
     (sym c.is_inside.ensures ∙ c.if-not-is_inside.false)
     (sym (ap is_final status) ∙ sym c.is_final.ensures ∙ c.if-is_final.false)
     (c.take_over.ensures.decides ∙ ap (taken_over c.self.inside.number c.self.inside.leaders c.self.inside.bundled c.args.tx.now) last)
@@ -82,18 +83,19 @@ returns-clause-stands c =
     c.status_at-status.ensures in
     let last : c.greatest_at-last.result ≡ (course_of (the_view c.self.inside) c.args.tx.now).greatest =
     c.greatest_at-last.ensures in
-    let P : ℕ → Type 0 = λ n. IfSome c.take_over.result.fact
+    let P : ℕ → Type 0 = λ n. IfSome c.take_over.new.decision.fact
     (λ fact. rules.plays_at_leader c.self.inside.leaders c.self.inside.number (λ x. n) fact ≡ true) in
     let taken : (config : Config) (number : ℕ) (stored : StoredBallots) (memory : LeaderMemory)
     → StandsForBallots config number c.args.self.now stored memory
-    → TakesOver config number c.args.self.now c.args.tx.now c.take_over.result stored memory =
+    → TakesOver config number c.args.self.now c.args.tx.now c.take_over.new.decision stored memory =
     λ config number stored memory stands.
-    takes_over_here config number (the_view c.self.inside) c.args.self.now c.args.tx.now c.take_over.result stored memory c.self.view_is
+    takes_over_here config number (the_view c.self.inside) c.args.self.now c.args.tx.now c.take_over.new.decision stored memory
+    c.self.view_is
     (sym c.is_inside.ensures ∙ c.if-not-is_inside.false)
     (sym (ap is_final status) ∙ sym c.is_final.ensures ∙ c.if-is_final.false)
     (c.take_over.ensures.decides ∙ ap (taken_over c.self.inside.number c.self.inside.leaders c.self.inside.bundled c.args.tx.now) last)
     (subst P last c.take_over.ensures.plays) stands in
-    by_fact c.take_over.result.fact (λ config number stored memory stands. (taken config number stored memory stands).stands)
+    by_fact c.take_over.new.decision.fact (λ config number stored memory stands. (taken config number stored memory stands).stands)
   where
     by_fact : (o : Option Fact) → ((config : Config) (number : ℕ) (stored : StoredBallots) (memory : LeaderMemory)
         → StandsForBallots config number c.args.self.now stored memory

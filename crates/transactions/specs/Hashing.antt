@@ -1,0 +1,29 @@
+-- How spelled bytes are hashed. Nothing that a contract says of transactions depends on it.
+use Rattle.std.specs.Prelude.{ℕ, ◌+◌, ◌-◌, ◌*◌, ◌/◌, ◌%◌, ◌^◌, ◌==◌, nat_lt, if◌then◌else◌, List, length, slice_index, bit_and, bit_xor}
+use Rattle.transactions.specs.declared.hasher.SpellingHasher.{SpellingHasher}
+
+-- nothing is hashed
+abbrev pub first : SpellingHasher
+first = record { state = 0x243f6a8885a308d3; word = 1 }
+
+-- the two halves of a product of 128 bits, one into the other
+unfoldable pub folded_multiply : ℕ → ℕ → ℕ
+folded_multiply a b = bit_xor (bit_and (a * b) (2 ^ 64 - 1)) (a * b / 2 ^ 64)
+
+-- a word taken into a state
+abbrev pub mixed : (state word : ℕ) → ℕ
+mixed state word = folded_multiply (bit_xor state word) 0x9e3779b97f4a7c15
+
+-- a word with one byte more
+abbrev pub longer : (word byte : ℕ) → ℕ
+longer word byte = (word * 256 % 2 ^ 64 + byte) % 2 ^ 64
+
+-- after one byte more: a full word goes into the state
+abbrev pub with_byte : SpellingHasher → ℕ → SpellingHasher
+with_byte h byte =
+    if nat_lt (longer h.word byte) (2 ^ 56) then record { state = h.state; word = longer h.word byte }
+    else record { state = mixed h.state (longer h.word byte); word = 1 }
+
+-- after bytes that are written at once: one by itself is taken
+abbrev pub written : SpellingHasher → List ℕ → SpellingHasher
+written h bytes = if length bytes == 1 then with_byte h (slice_index bytes 0) else h
