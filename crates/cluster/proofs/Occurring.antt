@@ -1,0 +1,288 @@
+-- What came of an event is what comes of it in the machine.
+use Rattle.std.proofs.Common.{◌≡◌, ◌≢◌, ◌∙◌, ℕ, zero, suc, ◌+◌, ◌-◌, ◌<◌, ◌≤◌, Bool, true, false, List, [], ◌∷◌, ◌++◌, length, take, drop}
+use Rattle.std.proofs.Common.{Option, Some, None, refl, sym, ap, subst, nat_lt, arith}
+use Rattle.std.specs.Prelude.{if◌then◌else◌, is_some}
+use Rattle.std.specs.Option.{option_map, option_map_or, option_and_then}
+use Rattle.std.proofs.lemmas.Bool.{lt-ltb, le-ltb}
+use Rattle.std.proofs.lemmas.List.{take-append-drop}
+use Rattle.xid.specs.declared.refusals.Refusal.TheVariants as refusals
+use Rattle.wire.specs.Decoding.{message_at, spells_message}
+use Rattle.wire.specs.Grammar.{Spells, spelling}
+use Rattle.wire.specs.Messages.{IsMessage}
+use Rattle.wire.specs.declared.message.Kind.{Kind}
+use Rattle.wire.proofs.DecodingLemmas.{found as message_found, spelled as message_spelled}
+use Rattle.wire.proofs.OneSpelling.{begins_none}
+use Rattle.protocol.specs.declared.answers.Answer.{Answer}
+use Rattle.protocol.specs.declared.answers.Answer.TheVariants.{Done, Refused}
+use Rattle.protocol.specs.declared.events.Change.{Change}
+use Rattle.protocol.specs.declared.events.Event.{Event}
+use Rattle.protocol.specs.declared.events.Event.TheVariants.{Ask, Deliver, Lose, Cut, Noise}
+use Rattle.protocol.specs.declared.events.Sent.{Sent}
+use Rattle.protocol.specs.declared.events.Step.{Step}
+use Rattle.protocol.specs.declared.nodes.NodeId.{NodeId}
+use Rattle.protocol.specs.declared.requests.Request.{Request}
+use Rattle.protocol.specs.Effects.{Config}
+use Rattle.protocol.specs.Nodes.{NodeState, Input, Asked, Received, ReceivedNoise, Fault, NoFault, NoMemoryBefore, NoMemoryAt, RecordFails}
+use Rattle.protocol.specs.Worlds.{World, Datagram, StepResult, node_at, at_node, answer_result, datagram_at, mark_at, with_mark}
+use Rattle.protocol.specs.Worlds.{dispatch, world_step, step_of, if_found}
+use Rattle.safety.specs.Runs.{After}
+use Rattle.node_core.specs.declared.config.Sizes.{Sizes}
+use Rattle.node_core.specs.Nodes.{NodeParts, datagram_input}
+use Rattle.network.specs.Networks.{NetworkParts, StandsFor}
+use Rattle.cluster.specs.declared.handing.Came.{Came}
+use Rattle.cluster.specs.Clusters.{ClusterParts, cluster_of, ClusterStands, IsSound, ReachesAs, ComesTo, BefallsAt, BefallsReached}
+use Rattle.cluster.specs.Clusters.{BefallsIn, OccursAs, Occurs, step_by, handed, handed_cut}
+
+-- ---- bytes
+
+pub is_received : (bytes : List ℕ) (k : Kind) → Spells k bytes → datagram_input bytes ≡ Received k
+is_received bytes k spells = ap (λ (o : Option Kind). option_map_or Received o ReceivedNoise) (message_found k bytes spells)
+
+none_by : (bytes : List ℕ) (read : Option Kind) → message_at bytes ≡ read → ((k : Kind) → Spells k bytes → ⊥) → message_at bytes ≡ None
+none_by bytes None e none = e
+none_by bytes (Some k) e none = absurd (none k (message_spelled k bytes e))
+
+pub no_message : (bytes : List ℕ) → ((k : Kind) → IsMessage k → bytes ≢ spelling k) → message_at bytes ≡ None
+no_message bytes none = none_by bytes (message_at bytes) refl (λ k s. none k s.message s.spelled)
+
+-- fewer than all bytes of a message spell none
+pub cut_is_noise : (bytes : List ℕ) (d : Kind) (k : ℕ) → Spells d bytes → k < length bytes → message_at (take k bytes) ≡ None
+cut_is_noise bytes d k spells lt =
+    none_by (take k bytes) (message_at (take k bytes)) refl (λ m s.
+    let all : spelling m ++ drop k bytes ≡ spelling d =
+    ap (λ (xs : List ℕ). xs ++ drop k bytes) (sym s.spelled) ∙ take-append-drop k bytes ∙ spells.spelled in
+    let rest : drop k bytes ≡ [] = (begins_none m d (drop k bytes) s.message spells.message all).1 in
+    absurd (left k bytes lt rest))
+  where
+    left : (k : ℕ) (xs : List ℕ) → k < length xs → drop k xs ≡ [] → ⊥
+    left k [] lt e = absurd (omega (arith, lt))
+    left zero (x ∷ xs) lt e = absurd (cc (e))
+    left (suc k) (x ∷ xs) lt e = left k xs (omega (arith, lt)) e
+
+-- ---- marks
+
+pub mark_absent : (net : List Datagram) (n : ℕ) → datagram_at net n ≡ None → mark_at net n ≡ net
+mark_absent [] n e = refl
+mark_absent (d ∷ net) zero e = refl
+mark_absent (d ∷ net) (suc zero) e = absurd (cc (e))
+mark_absent (d ∷ net) (suc (suc n)) e = ap (λ (ds : List Datagram). d ∷ ds) (mark_absent net (suc n) e)
+
+marked_count : (net : List Datagram) (n : ℕ) → length (mark_at net n) ≡ length net
+marked_count [] n = refl
+marked_count (d ∷ net) zero = refl
+marked_count (d ∷ net) (suc zero) = refl
+marked_count (d ∷ net) (suc (suc n)) = ap suc (marked_count net (suc n))
+
+-- ---- any event
+
+abbrev step_made : Event → Answer → Option Change → List Sent → Step
+step_made event answer now sent = record { event = event; answer = answer; now = now; sent = sent }
+
+-- the node of an event that is reached, or none
+module _ (config : Config) (world : World) (event : Event) (old new : ClusterParts) (came : Came) where
+  dispatched : (fault : Fault) → (fault ≡ NoMemoryBefore → ⊥) → world_step config world event fault ≡ dispatch config world event fault
+  dispatched NoFault apart = refl
+  dispatched NoMemoryBefore apart = absurd (apart refl)
+  dispatched NoMemoryAt apart = refl
+  dispatched (RecordFails whole) apart = refl
+
+  befallen : (fault : Fault) → (fault ≡ NoMemoryBefore → ⊥) → BefallsReached config world old.nodes new.nodes (handed world event) fault
+      → BefallsIn config world event old.nodes new.nodes fault
+  befallen NoFault apart b = b
+  befallen NoMemoryBefore apart b = absurd (apart refl)
+  befallen NoMemoryAt apart b = b
+  befallen (RecordFails whole) apart b = b
+
+  step_same : (result : StepResult) → ComesTo config (length world.net) new came result → step_by event came ≡ step_of world event result
+  step_same result comes =
+      ap (λ (a : Answer). step_made event a came.now came.sent.items) comes.answer_is
+      ∙ ap (λ (c : Option Change). step_made event result.answer c came.sent.items) comes.now_is
+      ∙ ap (λ (s : List Sent). step_made event result.answer result.now s) comes.sent_is
+
+  pub occurs : (fault : Fault) → (fault ≡ NoMemoryBefore → ⊥) → BefallsReached config world old.nodes new.nodes (handed world event) fault
+      → (result : StepResult) → dispatch config world event fault ≡ result → ComesTo config (length world.net) new came result
+      → OccursAs config world event old new (step_by event came)
+  occurs fault apart befalls result is comes =
+      let made : result ≡ world_step config world event fault = sym is ∙ sym (dispatched fault apart) in
+      record {
+        fault = fault;
+        befalls = befallen fault apart befalls;
+        step_is = step_same result comes ∙ ap (step_of world event) made;
+        stands = subst (λ (r : StepResult). ClusterStands config new r.world) made comes.stands;
+      }
+
+  -- there was no room
+  pub refused_before : new.nodes ≡ old.nodes → came.answer ≡ Refused refusals.NoMemory → came.now ≡ None → came.sent.items ≡ []
+      → ClusterStands config new world → OccursAs config world event old new (step_by event came)
+  refused_before nodes_are answer_is now_is sent_is stands = record {
+    fault = NoMemoryBefore;
+    befalls = nodes_are;
+    step_is =
+        step_same (answer_result world (Refused refusals.NoMemory))
+        (record { answer_is = answer_is; now_is = now_is; sent_is = sent_is; stands = stands });
+    stands = stands;
+  }
+
+-- an answer alone
+pub comes_quiet : (config : Config) (world after : World) (count : ℕ) (new : ClusterParts) (came : Came) (answer : Answer)
+    → came.answer ≡ answer → came.now ≡ None → came.sent.items ≡ [] → ClusterStands config new after
+    → ComesTo config count new came (answer_result after answer)
+comes_quiet config world after count new came answer answer_is now_is sent_is stands =
+    record { answer_is = answer_is; now_is = now_is; sent_is = sent_is; stands = stands }
+
+no_fault : NoFault ≡ NoMemoryBefore → ⊥
+no_fault e = absurd (cc (e))
+
+-- ---- each event
+
+module _ (config : Config) (world : World) (old new : ClusterParts) (came : Came) where
+  pub occurs_asked : (who : NodeId) (request : Request) → ReachesAs config world who (Asked request) old new came
+      → OccursAs config world (Ask who request) old new (step_by (Ask who request) came)
+  occurs_asked who request r =
+      occurs config world (Ask who request) old new came r.fault r.reached r.befalls
+      (at_node config world who (Asked request) r.fault) refl r.comes
+
+  -- a node that isn't there is not reached
+  pub reaches_none : (who : NodeId) (input : Input) → node_at config world who ≡ None → came.answer ≡ Refused refusals.NoSuch
+      → came.now ≡ None → came.sent.items ≡ [] → ClusterStands config new world
+      → ReachesAs config world who input old new came
+  reaches_none who input none answer_is now_is sent_is stands = record {
+    fault = NoFault;
+    reached = no_fault;
+    befalls = subst (λ (o : Option NodeState). BefallsAt config old.nodes new.nodes (who, input) o NoFault) (sym none) refl;
+    comes =
+        subst (ComesTo config (length world.net) new came) (sym (ap (if_found world _) none))
+        (comes_quiet config world world (length world.net) new came (Refused refusals.NoSuch) answer_is now_is sent_is stands);
+  }
+
+  -- no datagram has the number
+  pub no_datagram : (event : Event) → handed world event ≡ None → dispatch config world event NoFault ≡ answer_result world
+      (Refused refusals.NoSuch)
+      → came.answer ≡ Refused refusals.NoSuch → came.now ≡ None → came.sent.items ≡ [] → ClusterStands config new world
+      → OccursAs config world event old new (step_by event came)
+  no_datagram event none is answer_is now_is sent_is stands =
+      occurs config world event old new came NoFault no_fault
+      (subst (λ (h : Option (NodeId × Input)). BefallsReached config world old.nodes new.nodes h NoFault) (sym none) refl)
+      (answer_result world (Refused refusals.NoSuch)) is
+      (comes_quiet config world world (length world.net) new came (Refused refusals.NoSuch) answer_is now_is sent_is stands)
+
+  module _ (n : ℕ) where
+    pub undelivered : datagram_at world.net n ≡ None → came.answer ≡ Refused refusals.NoSuch → came.now ≡ None → came.sent.items ≡ []
+        → ClusterStands config new world → OccursAs config world (Deliver n) old new (step_by (Deliver n) came)
+    undelivered none =
+        no_datagram (Deliver n) (ap (option_map (λ (d : Datagram). (d.receiver, Received d.message))) none) (ap (if_found world _) none)
+
+    pub unlost : datagram_at world.net n ≡ None → came.answer ≡ Refused refusals.NoSuch → came.now ≡ None → came.sent.items ≡ []
+        → ClusterStands config new world → OccursAs config world (Lose n) old new (step_by (Lose n) came)
+    unlost none = no_datagram (Lose n) refl (ap (if_found world _) none)
+
+    pub uncut : (k : ℕ) → datagram_at world.net n ≡ None → came.answer ≡ Refused refusals.NoSuch → came.now ≡ None → came.sent.items ≡ []
+        → ClusterStands config new world → OccursAs config world (Cut n k) old new (step_by (Cut n k) came)
+    uncut k none = no_datagram (Cut n k) (ap (option_and_then (handed_cut k)) none) (ap (if_found world _) none)
+
+    module _ (d : Datagram) (is : datagram_at world.net n ≡ Some d) where
+      pub occurs_delivered : ReachesAs config (with_mark world n) d.receiver (Received d.message) old new came
+          → OccursAs config world (Deliver n) old new (step_by (Deliver n) came)
+      occurs_delivered r =
+          occurs config world (Deliver n) old new came r.fault r.reached
+          (subst (λ (h : Option (NodeId × Input)). BefallsReached config world old.nodes new.nodes h r.fault)
+          (sym (ap (option_map (λ (e : Datagram). (e.receiver, Received e.message))) is)) r.befalls)
+          (at_node config (with_mark world n) d.receiver (Received d.message) r.fault) (ap (if_found world _) is)
+          (subst (λ (k : ℕ). ComesTo config k new came (at_node config (with_mark world n) d.receiver (Received d.message) r.fault))
+          (marked_count world.net n) r.comes)
+
+      pub occurs_lost : came.answer ≡ Done → came.now ≡ None → came.sent.items ≡ [] → ClusterStands config new (with_mark world n)
+          → OccursAs config world (Lose n) old new (step_by (Lose n) came)
+      occurs_lost answer_is now_is sent_is stands =
+          occurs config world (Lose n) old new came NoFault no_fault refl (answer_result (with_mark world n) Done) (ap
+          (if_found world _) is)
+          (comes_quiet config world (with_mark world n) (length world.net) new came Done answer_is now_is sent_is stands)
+
+      pub occurs_cut : (k : ℕ) → k < length (spelling d.message) → ReachesAs config world d.receiver ReceivedNoise old new came
+          → OccursAs config world (Cut n k) old new (step_by (Cut n k) came)
+      occurs_cut k lt r =
+          let fewer : nat_lt k (length (spelling d.message)) ≡ true = lt-ltb k (length (spelling d.message)) lt in
+          occurs config world (Cut n k) old new came r.fault r.reached
+          (subst (λ (h : Option (NodeId × Input)). BefallsReached config world old.nodes new.nodes h r.fault)
+          (sym (ap (option_and_then (handed_cut k)) is ∙ ap (λ (b : Bool). if b then Some
+          (d.receiver, ReceivedNoise) else None) fewer)) r.befalls)
+          (at_node config world d.receiver ReceivedNoise r.fault)
+          (ap (if_found world _) is
+          ∙ ap (λ (b : Bool). if b then at_node config world d.receiver ReceivedNoise r.fault else answer_result world
+          (Refused refusals.NoSuch)) fewer)
+          r.comes
+
+      pub not_cut : (k : ℕ) → length (spelling d.message) ≤ k → came.answer ≡ Refused refusals.NoSuch → came.now ≡ None
+          → came.sent.items ≡ [] → ClusterStands config new world → OccursAs config world (Cut n k) old new (step_by (Cut n k) came)
+      not_cut k le =
+          let all : nat_lt k (length (spelling d.message)) ≡ false = le-ltb k (length (spelling d.message)) le in
+          no_datagram (Cut n k)
+          (ap (option_and_then (handed_cut k)) is ∙ ap (λ (b : Bool). if b then Some (d.receiver, ReceivedNoise) else None) all)
+          (ap (if_found world _) is
+          ∙ ap (λ (b : Bool). if b then at_node config world d.receiver ReceivedNoise NoFault else answer_result world
+          (Refused refusals.NoSuch)) all)
+
+  module _ (who : NodeId) (bytes : List ℕ) where
+    pub occurs_noise : message_at bytes ≡ None → ReachesAs config world who ReceivedNoise old new came
+        → OccursAs config world (Noise who bytes) old new (step_by (Noise who bytes) came)
+    occurs_noise none r =
+        let no : spells_message bytes ≡ false = ap is_some none in
+        occurs config world (Noise who bytes) old new came r.fault r.reached
+        (subst (λ (h : Option (NodeId × Input)). BefallsReached config world old.nodes new.nodes h r.fault)
+        (sym (ap (λ (b : Bool). if b then None else Some (who, ReceivedNoise)) no)) r.befalls)
+        (at_node config world who ReceivedNoise r.fault)
+        (ap (λ (b : Bool). if b then if_found world (λ (node : NodeState). answer_result world (Refused refusals.Forged))
+        (node_at config world who)
+        else at_node config world who ReceivedNoise r.fault) no)
+        r.comes
+
+    pub occurs_forged : (k : Kind) → Spells k bytes → (answer : Answer)
+        → if_found world (λ (node : NodeState). answer_result world (Refused refusals.Forged))
+        (node_at config world who) ≡ answer_result world answer
+        → came.answer ≡ answer → came.now ≡ None → came.sent.items ≡ [] → ClusterStands config new world
+        → OccursAs config world (Noise who bytes) old new (step_by (Noise who bytes) came)
+    occurs_forged k spells answer is answer_is now_is sent_is stands =
+        let spelled : spells_message bytes ≡ true = ap is_some (message_found k bytes spells) in
+        occurs config world (Noise who bytes) old new came NoFault no_fault
+        (subst (λ (h : Option (NodeId × Input)). BefallsReached config world old.nodes new.nodes h NoFault)
+        (sym (ap (λ (b : Bool). if b then None else Some (who, ReceivedNoise)) spelled)) refl)
+        (answer_result world answer)
+        (ap (λ (b : Bool). if b then if_found world (λ (node : NodeState). answer_result world (Refused refusals.Forged))
+        (node_at config world who)
+        else at_node config world who ReceivedNoise NoFault) spelled
+        ∙ is)
+        (comes_quiet config world world (length world.net) new came answer answer_is now_is sent_is stands)
+
+-- ---- what stays
+
+-- a cluster that stood for a world that can come to be still does
+pub sound_after : (event : Event) (old new : ClusterParts) (step : Step) → IsSound old → Occurs event old new step → IsSound new
+sound_after event old new step sound happens =
+    let o = happens sound.config sound.world sound.is in record {
+      config = sound.config;
+      world = (world_step sound.config sound.world event o.fault).world;
+      reached = After sound.world event o.fault sound.reached;
+      is = o.stands;
+    }
+
+-- another network that stands for the same datagrams
+pub with_network : (config : Config) (world : World) (sizes : Sizes) (nodes : List NodeParts) (before after : NetworkParts)
+    → ((net : List Datagram) → StandsFor before net → StandsFor after net)
+    → ClusterStands config (cluster_of sizes nodes before) world → ClusterStands config (cluster_of sizes nodes after) world
+with_network config world sizes nodes before after same s =
+    record { sizes_are = s.sizes_are; nodes_are = s.nodes_are; net_is = same world.net s.net_is }
+
+-- or for those with one marked
+pub with_marked : (config : Config) (world : World) (sizes : Sizes) (nodes : List NodeParts) (before after : NetworkParts) (n : ℕ)
+    → ((net : List Datagram) → StandsFor before net → StandsFor after (mark_at net n))
+    → ClusterStands config (cluster_of sizes nodes before) world → ClusterStands config (cluster_of sizes nodes after) (with_mark world n)
+with_marked config world sizes nodes before after n marks s =
+    record { sizes_are = s.sizes_are; nodes_are = s.nodes_are; net_is = marks world.net s.net_is }
+
+-- the same event in other words
+pub told_as : (event other : Event) → event ≡ other → (old was new : ClusterParts) → old ≡ was → (came : Came) (step : Step)
+    → step ≡ step_by other came → Occurs event old new (step_by event came) → Occurs other was new step
+told_as event other same old was new is came step made happens =
+    subst (λ (s : Step). Occurs other was new s) (sym made)
+    (subst (λ (o : ClusterParts). Occurs other o new (step_by other came)) is
+    (subst (λ (e : Event). Occurs e old new (step_by e came)) same happens))

@@ -1,0 +1,197 @@
+-- The nodes of a cluster and those of its world, place by place.
+use Rattle.std.proofs.Common.{◌≡◌, ◌∙◌, inl, inr, ℕ, zero, suc, ◌+◌, ◌<◌, Bool, true, false, List, [], ◌∷◌, ◌++◌, length, map}
+use Rattle.std.proofs.Common.{get_or, set}
+use Rattle.std.proofs.Common.{Option, Some, None, refl, sym, ap, nat_lt, arith}
+use Rattle.std.specs.Prelude.{slice_get, if◌then◌else◌}
+use Rattle.std.specs.List.{AllZip, flat_map, range_with_len}
+use Rattle.std.specs.Option.{option_and_then}
+use Rattle.std.proofs.lemmas.Bool.{cases_eq, ltb-true}
+use Rattle.std.proofs.lemmas.List.{get_or-set_same, get_or-set_other, length-set}
+use Rattle.std.proofs.lemmas.List.FromFn.{length-map-range_with_len, get_or-map-range_with_len}
+use Rattle.xid.specs.Transactions.{TxParts}
+use Rattle.wire.specs.Messages.{message_tx}
+use Rattle.protocol.specs.declared.decisions.Address.{Address}
+use Rattle.protocol.specs.declared.decisions.Address.TheVariants as addresses
+use Rattle.protocol.specs.declared.decisions.Outgoing.{Outgoing}
+use Rattle.protocol.specs.declared.nodes.NodeId.{NodeId}
+use Rattle.protocol.specs.declared.nodes.NodeId.TheVariants.{A, L, R}
+use Rattle.protocol.specs.Effects.{Config, receivers}
+use Rattle.protocol.specs.Nodes.{NodeState}
+use Rattle.protocol.specs.Worlds.{World, Datagram, place, node_at, datagrams_of}
+use Rattle.node_core.specs.declared.config.Sizes.{Sizes}
+use Rattle.node_core.specs.Nodes.{NodeParts, NodeStands, AreSizes}
+use Rattle.network.specs.Networks.{NetworkParts, datagram_to}
+use Rattle.cluster.specs.Clusters.{sized, node_count, cluster_of, AreNodes, ClusterStands}
+
+-- ---- lists, place by place
+
+module _ {X Y : Type 0} (R : X → Y → Type 0) where
+  pub zip_at : (xs : List X) (ys : List Y) (i : ℕ) (d : X) → AllZip R xs ys → i < length xs
+      → (y : Y) × (slice_get ys i ≡ Some y) × R (get_or xs i d) y
+  zip_at [] ys i d all lt = absurd (omega (arith, lt))
+  zip_at (x ∷ xs) [] i d all lt = absurd all
+  zip_at (x ∷ xs) (y ∷ ys) zero d all lt = (y, refl, all.0)
+  zip_at (x ∷ xs) (y ∷ ys) (suc i) d all lt = zip_at xs ys i d all.1 (omega (arith, lt))
+
+  pub zip_set : (xs : List X) (ys : List Y) (i : ℕ) (x : X) (y : Y) → AllZip R xs ys → R x y → AllZip R (set xs i x) (set ys i y)
+  zip_set [] [] i x y all is = tt
+  zip_set [] (b ∷ ys) i x y all is = absurd all
+  zip_set (a ∷ xs) [] i x y all is = absurd all
+  zip_set (a ∷ xs) (b ∷ ys) zero x y all is = (is, all.1)
+  zip_set (a ∷ xs) (b ∷ ys) (suc i) x y all is = (all.0, zip_set xs ys i x y all.1 is)
+
+-- ---- sizes
+
+pub place_as : (config : Config) (sizes : Sizes) → AreSizes config sizes → (who : NodeId) → place (sized sizes) who ≡ place config who
+place_as config sizes are (A a) = ap (λ (n : ℕ). if nat_lt a n then Some a else None) are.acceptors_are
+place_as config sizes are (L l) =
+    ap (λ (n : ℕ). if nat_lt l n then Some (sizes.acceptors + l) else None) are.leaders_are
+    ∙ ap (λ (m : ℕ). if nat_lt l config.leaders then Some (m + l) else None) are.acceptors_are
+place_as config sizes are (R rm) =
+    ap (λ (n : ℕ). if nat_lt rm n then Some (sizes.acceptors + sizes.leaders + rm) else None) are.managers_are
+    ∙ ap (λ (m : ℕ). if nat_lt rm config.managers then Some (m + sizes.leaders + rm) else None) are.acceptors_are
+    ∙ ap (λ (m : ℕ). if nat_lt rm config.managers then Some (config.acceptors + m + rm) else None) are.leaders_are
+
+receivers_as : (config : Config) (sizes : Sizes) → AreSizes config sizes → (address : Address) (tx : TxParts)
+    → receivers (sized sizes) address tx ≡ receivers config address tx
+receivers_as config sizes are (addresses.Node node) tx = refl
+receivers_as config sizes are addresses.Acceptors tx = ap (λ (n : ℕ). map A (range_with_len 0 n)) are.acceptors_are
+receivers_as config sizes are addresses.Leaders tx = ap (λ (n : ℕ). map L (range_with_len 0 n)) are.leaders_are
+receivers_as config sizes are addresses.Managers tx = refl
+
+pub datagrams_as : (config : Config) (sizes : Sizes) → AreSizes config sizes → (who : NodeId) (sends : List Outgoing)
+    → flat_map (datagrams_of (sized sizes) who) sends ≡ flat_map (datagrams_of config who) sends
+datagrams_as config sizes are who [] = refl
+datagrams_as config sizes are who (send ∷ sends) =
+    ap (λ (rs : List NodeId). map (datagram_to who send.message) rs ++ flat_map (datagrams_of (sized sizes) who) sends)
+    (receivers_as config sizes are send.to (message_tx send.message))
+    ∙ ap (λ (ds : List Datagram). datagrams_of config who send ++ ds) (datagrams_as config sizes are who sends)
+
+-- how many receivers an address has, and each of them
+pub acceptors_count : (sizes : Sizes) (address : Address) (tx : TxParts) → address ≡ addresses.Acceptors → (n : ℕ) → n ≡ sizes.acceptors
+    → n ≡ length (receivers (sized sizes) address tx)
+acceptors_count sizes address tx is n e =
+    e ∙ sym (length-map-range_with_len A 0 sizes.acceptors)
+    ∙ ap (λ (a : Address). length (receivers (sized sizes) a tx)) (sym is)
+
+pub leaders_count : (sizes : Sizes) (address : Address) (tx : TxParts) → address ≡ addresses.Leaders → (n : ℕ) → n ≡ sizes.leaders
+    → n ≡ length (receivers (sized sizes) address tx)
+leaders_count sizes address tx is n e =
+    e ∙ sym (length-map-range_with_len L 0 sizes.leaders)
+    ∙ ap (λ (a : Address). length (receivers (sized sizes) a tx)) (sym is)
+
+pub acceptor_there : (sizes : Sizes) (address : Address) (tx : TxParts) (i : ℕ) → address ≡ addresses.Acceptors
+    → i < length (receivers (sized sizes) address tx) → i < sizes.acceptors
+acceptor_there sizes address tx i is lt =
+    let e : sizes.acceptors ≡ length (receivers (sized sizes) address tx) = acceptors_count sizes address tx is sizes.acceptors refl in
+    omega (arith, lt, e)
+
+pub leader_there : (sizes : Sizes) (address : Address) (tx : TxParts) (i : ℕ) → address ≡ addresses.Leaders
+    → i < length (receivers (sized sizes) address tx) → i < sizes.leaders
+leader_there sizes address tx i is lt =
+    let e : sizes.leaders ≡ length (receivers (sized sizes) address tx) = leaders_count sizes address tx is sizes.leaders refl in
+    omega (arith, lt, e)
+
+pub acceptor_is : (sizes : Sizes) (address : Address) (tx : TxParts) (i : ℕ) → address ≡ addresses.Acceptors
+    → i < length (receivers (sized sizes) address tx) → (node : NodeId) → node ≡ A i → node ≡ get_or (receivers
+    (sized sizes) address tx) i node
+acceptor_is sizes address tx i is lt node e =
+    let at : 0 + i ≡ i = omega arith in
+    e ∙ sym (get_or-map-range_with_len A 0 sizes.acceptors i i node (acceptor_there sizes address tx i is lt) at)
+    ∙ ap (λ (a : Address). get_or (receivers (sized sizes) a tx) i node) (sym is)
+
+pub leader_is : (sizes : Sizes) (address : Address) (tx : TxParts) (i : ℕ) → address ≡ addresses.Leaders
+    → i < length (receivers (sized sizes) address tx) → (node : NodeId) → node ≡ L i → node ≡ get_or (receivers
+    (sized sizes) address tx) i node
+leader_is sizes address tx i is lt node e =
+    let at : 0 + i ≡ i = omega arith in
+    e ∙ sym (get_or-map-range_with_len L 0 sizes.leaders i i node (leader_there sizes address tx i is lt) at)
+    ∙ ap (λ (a : Address). get_or (receivers (sized sizes) a tx) i node) (sym is)
+
+-- ---- places
+
+below_by : (number bound before at : ℕ) (t : Bool) → nat_lt number bound ≡ t → (if t then Some (before + number) else None) ≡ Some at
+    → at < before + bound
+below_by number bound before at true e h =
+    let lt : number < bound = ltb-true number bound e in
+    let same : before + number ≡ at = cc (h) in
+    omega (arith, lt, same)
+below_by number bound before at false e h = absurd (cc (h))
+
+first_below : (number bound at : ℕ) (t : Bool) → nat_lt number bound ≡ t → (if t then Some number else None) ≡ Some at → at < bound
+first_below number bound at true e h =
+    let lt : number < bound = ltb-true number bound e in
+    let same : number ≡ at = cc (h) in
+    omega (arith, lt, same)
+first_below number bound at false e h = absurd (cc (h))
+
+pub place_within : (config : Config) (who : NodeId) (at : ℕ) → place config who ≡ Some at
+    → at < config.acceptors + config.leaders + config.managers
+place_within config (A a) at h =
+    let lt : at < config.acceptors = first_below a config.acceptors at (nat_lt a config.acceptors) refl h in omega (arith, lt)
+place_within config (L l) at h =
+    let lt : at < config.acceptors + config.leaders =
+    below_by l config.leaders config.acceptors at (nat_lt l config.leaders) refl h in
+    omega (arith, lt)
+place_within config (R rm) at h =
+    below_by rm config.managers (config.acceptors + config.leaders) at (nat_lt rm config.managers) refl h
+
+-- a place that a cluster has is one of its nodes
+pub index_fits : (sizes : Sizes) (nodes : List NodeParts) (who : NodeId) (at : ℕ) → length nodes ≡ node_count sizes
+    → place (sized sizes) who ≡ Some at → at < length nodes
+index_fits sizes nodes who at count is =
+    let lt : at < node_count sizes = place_within (sized sizes) who at is in omega (arith, lt, count)
+
+-- ---- the node of a place
+
+module _ (config : Config) (world : World) (sizes : Sizes) (nodes : List NodeParts) (network : NetworkParts)
+    (s : ClusterStands config (cluster_of sizes nodes network) world) where
+  pub count_is : length nodes ≡ node_count sizes
+  count_is =
+      omega (arith, s.nodes_are.count, s.sizes_are.acceptors_are, s.sizes_are.leaders_are, s.sizes_are.managers_are)
+
+  module _ (who : NodeId) (at : ℕ) (is : place (sized sizes) who ≡ Some at) where
+    pub placed : place config who ≡ Some at
+    placed = sym (place_as config sizes s.sizes_are who) ∙ is
+
+    pub within : at < length nodes
+    within = index_fits sizes nodes who at count_is is
+
+    pub there : (d : NodeParts) → (m : NodeState) × (slice_get world.nodes at ≡ Some m) × NodeStands config (get_or nodes at d) m
+    there d = zip_at (NodeStands config) nodes world.nodes at d s.nodes_are.stand within
+
+    pub found : (m : NodeState) → slice_get world.nodes at ≡ Some m → node_at config world who ≡ Some m
+    found m e = ap (λ (o : Option ℕ). option_and_then (λ (p : ℕ). slice_get world.nodes p) o) placed ∙ e
+
+    pub named : (d : NodeParts) → (get_or nodes at d).who ≡ who
+    named d = s.nodes_are.named who at d placed
+
+    pub nodes_set : (d new : NodeParts) (m : NodeState) → new.who ≡ (get_or nodes at d).who → NodeStands config new m
+        → AreNodes config (set nodes at new) (set world.nodes at m)
+    nodes_set d new m who_is stands = record {
+      count = length-set nodes at new ∙ s.nodes_are.count;
+      named = λ n p e h. elim (cases_eq p at) [
+        | inl same ↦
+            let here : get_or (set nodes at new) p e ≡ new =
+            ap (λ (q : ℕ). get_or (set nodes at new) q e) same ∙ get_or-set_same nodes at new e within in
+            let at_it : place config n ≡ Some at = h ∙ ap (λ (q : ℕ). Some q) same in
+            ap (λ (x : NodeParts). x.who) here ∙ who_is ∙ s.nodes_are.named n at d at_it
+        | inr apart ↦
+            ap (λ (x : NodeParts). x.who) (get_or-set_other nodes at p new e apart) ∙ s.nodes_are.named n p e h
+      ];
+      stand = zip_set (NodeStands config) nodes world.nodes at new m s.nodes_are.stand stands;
+    }
+
+    -- the world has the node, too
+    pub is_there : (m : NodeState) × (node_at config world who ≡ Some m)
+    is_there = own nodes refl within
+      where
+        own : (ns : List NodeParts) → ns ≡ nodes → at < length ns → (m : NodeState) × (node_at config world who ≡ Some m)
+        own [] e lt = absurd (omega (arith, lt))
+        own (n ∷ ns) e lt = let m = there n in (m.0, found m.0 m.1)
+
+  -- where the cluster has no such node, the world has none
+  pub none_there : (who : NodeId) → place (sized sizes) who ≡ None → node_at config world who ≡ None
+  none_there who is =
+      ap (λ (o : Option ℕ). option_and_then (λ (p : ℕ). slice_get world.nodes p) o)
+      (sym (place_as config sizes s.sizes_are who) ∙ is)

@@ -1,0 +1,18 @@
+use Rattle.cluster.specs.Clusters.{cluster_of}
+use Rattle.cluster.proofs.Occurring.{no_message, occurs_noise}
+use Rattle.cluster.proofs.Handed.{forged_there}
+use Rattle.cluster.proofs.handing.noise.Goals as goal
+
+pub hand_noise-requires-clause-noise : goal.hand_noise-requires-clause-noise
+hand_noise-requires-clause-noise g c = no_message c.args.bytes.now c.in-Err.ensures.err.1
+
+pub returns-in-Err : goal.returns-in-Err
+returns-in-Err g c = λ network config world s.
+    occurs_noise config world (cluster_of c.args.sizes c.args.nodes.now.items network)
+    (cluster_of c.args.sizes c.hand_noise.new.nodes.items network) c.hand_noise.result c.args.who c.args.bytes.now
+    (no_message c.args.bytes.now c.in-Err.ensures.err.1) (c.hand_noise.ensures network config world s)
+
+pub returns-in-Some : goal.returns-in-Some
+returns-in-Some g c = λ network config world s.
+    forged_there config world c.args.sizes c.args.nodes.now.items network s c.args.who c.in-Some.field-0 c.in-Some.ensures c.args.bytes.now
+    c.in-Ok.field-0 c.in-Ok.ensures.ok c.answers.result c.answers.ensures.answer c.answers.ensures.now c.answers.ensures.sent

@@ -1,0 +1,130 @@
+-- A cluster: which world of the machine it stands for, and what an event makes of both.
+use Rattle.std.specs.Prelude.{◌≡◌, ℕ, suc, ◌+◌, nat_lt, if◌then◌else◌, List, [], length, slice_index_or, Option, Some, None}
+use Rattle.std.specs.List.{AllZip}
+use Rattle.std.specs.Option.{option_map, option_and_then}
+use Rattle.wire.specs.Grammar.{spelling}
+use Rattle.wire.specs.Decoding.{spells_message}
+use Rattle.protocol.specs.declared.events.Event.{Event}
+use Rattle.protocol.specs.declared.events.Event.TheVariants.{Ask, Deliver, Cut, Noise}
+use Rattle.protocol.specs.declared.events.Step.{Step}
+use Rattle.protocol.specs.declared.nodes.NodeId.{NodeId}
+use Rattle.protocol.specs.Effects.{Config}
+use Rattle.protocol.specs.Nodes.{NodeState, Input, Asked, Received, ReceivedNoise, Fault, NoFault, NoMemoryBefore}
+use Rattle.protocol.specs.Worlds.{World, Datagram, StepResult, place, node_at, at_node, datagram_at, numbered, step_of}
+use Rattle.protocol.specs.Worlds.{world_step}
+use Rattle.safety.specs.Runs.{IsReachable}
+use Rattle.node_core.specs.declared.config.Sizes.{Sizes}
+use Rattle.node_core.specs.Nodes.{NodeParts, NodeStands, AreSizes, Befalls, fact_to_store}
+use Rattle.network.specs.Networks.{NetworkParts, StandsFor}
+use Rattle.cluster.specs.declared.handing.Came.{Came}
+
+-- what contracts see of a cluster: its sizes and kind, its nodes, and its datagrams
+pub record ClusterParts : Type 0 where
+  pub sizes : Sizes
+  pub nodes : List NodeParts
+  pub network : NetworkParts
+
+-- a cluster of these parts
+abbrev pub cluster_of : Sizes → List NodeParts → NetworkParts → ClusterParts
+cluster_of sizes nodes network = record { sizes = sizes; nodes = nodes; network = network }
+
+-- a cluster of these sizes, whatever its tables hold at first
+abbrev pub sized : Sizes → Config
+sized sizes = record {
+  acceptors = sizes.acceptors;
+  leaders = sizes.leaders;
+  managers = sizes.managers;
+  bundled = sizes.bundled;
+  tables = [];
+}
+
+-- how many nodes there are
+abbrev pub node_count : Sizes → ℕ
+node_count sizes = sizes.acceptors + sizes.leaders + sizes.managers
+
+-- the place of a number below a bound, after so many others
+abbrev pub placed_after : (number bound before : ℕ) → Option ℕ
+placed_after number bound before = if nat_lt number bound then Some (before + number) else None
+
+-- the nodes stand in the order of their names, and each for the one that the machine has there
+pub record AreNodes (config : Config) (nodes : List NodeParts) (states : List NodeState) : Type 0 where
+  pub count : length nodes ≡ config.acceptors + config.leaders + config.managers
+  pub named : (who : NodeId) (at : ℕ) (d : NodeParts) → place config who ≡ Some at → (slice_index_or nodes at d).who ≡ who
+  pub stand : AllZip (NodeStands config) nodes states
+
+-- a cluster stands for a world
+pub record ClusterStands (config : Config) (cluster : ClusterParts) (world : World) : Type 0 where
+  pub sizes_are : AreSizes config cluster.sizes
+  pub nodes_are : AreNodes config cluster.nodes world.nodes
+  pub net_is : StandsFor cluster.network world.net
+
+-- each cluster stands for a world that events have led to
+pub record IsSound (cluster : ClusterParts) : Type 0 where
+  pub config : Config
+  pub world : World
+  pub reached : IsReachable config world
+  pub is : ClusterStands config cluster world
+
+-- the first k bytes of a datagram, if they are fewer than all
+abbrev pub handed_cut : ℕ → Datagram → Option (NodeId × Input)
+handed_cut k d = if nat_lt k (length (spelling d.message)) then Some (d.receiver, ReceivedNoise) else None
+
+-- the node that an event is to reach, and what it is handed, if it is to reach one
+abbrev pub handed : World → Event → Option (NodeId × Input)
+handed world (Ask who request) = Some (who, Asked request)
+handed world (Deliver n) = option_map (λ d. (d.receiver, Received d.message)) (datagram_at world.net n)
+handed world (Cut n k) = option_and_then (handed_cut k) (datagram_at world.net n)
+handed world (Noise who bytes) = if spells_message bytes then None else Some (who, ReceivedNoise)
+handed world event = None
+
+-- a fault is true to what befell the node that was reached; where none was, there was no fault
+abbrev pub BefallsAt : Config → (old new : List NodeParts) → NodeId × Input → Option NodeState → Fault → Type 0
+BefallsAt config old new reached None fault = fault ≡ NoFault
+BefallsAt config old new reached (Some m) fault =
+    (at : ℕ) (d : NodeParts) → place config reached.0 ≡ Some at
+    → Befalls (fact_to_store config reached.0 m reached.1) (slice_index_or old at d).held (slice_index_or new at d).held fault
+
+-- a fault is true to what befell the node that an event was to reach; where it was to reach none, there was no fault
+abbrev pub BefallsReached : Config → World → (old new : List NodeParts) → Option (NodeId × Input) → Fault → Type 0
+BefallsReached config world old new None fault = fault ≡ NoFault
+BefallsReached config world old new (Some reached) fault = BefallsAt config old new reached (node_at config world reached.0) fault
+
+-- a fault is true to what happened: where memory was wanted before a node was reached, no node has changed
+abbrev pub BefallsIn : Config → World → Event → (old new : List NodeParts) → Fault → Type 0
+BefallsIn config world event old new NoMemoryBefore = new ≡ old
+BefallsIn config world event old new fault = BefallsReached config world old new (handed world event) fault
+
+-- what came of an event, where so many datagrams were sent before, is what the machine makes of it
+pub record ComesTo (config : Config) (count : ℕ) (new : ClusterParts) (came : Came) (result : StepResult) : Type 0 where
+  pub answer_is : came.answer ≡ result.answer
+  pub now_is : came.now ≡ result.now
+  pub sent_is : came.sent.items ≡ numbered (suc count) result.sent
+  pub stands : ClusterStands config new result.world
+
+-- a node was handed an input, as the machine hands it to its own, under a fault that is true
+pub record ReachesAs (config : Config) (world : World) (who : NodeId) (input : Input) (old new : ClusterParts) (came : Came)
+    : Type 0 where
+  pub fault : Fault
+  pub reached : fault ≡ NoMemoryBefore → ⊥
+  pub befalls : BefallsAt config old.nodes new.nodes (who, input) (node_at config world who) fault
+  pub comes : ComesTo config (length world.net) new came (at_node config world who input fault)
+
+-- whatever world the cluster stood for
+abbrev pub Reaches : NodeId → Input → (old new : ClusterParts) → Came → Type 0
+Reaches who input old new came =
+    (config : Config) (world : World) → ClusterStands config old world → ReachesAs config world who input old new came
+
+-- an event was handled as the machine handles it under a fault that is true
+pub record OccursAs (config : Config) (world : World) (event : Event) (old new : ClusterParts) (step : Step) : Type 0 where
+  pub fault : Fault
+  pub befalls : BefallsIn config world event old.nodes new.nodes fault
+  pub step_is : step ≡ step_of world event (world_step config world event fault)
+  pub stands : ClusterStands config new (world_step config world event fault).world
+
+-- the step of an event of which this came
+abbrev pub step_by : Event → Came → Step
+step_by event came = record { event = event; answer = came.answer; now = came.now; sent = came.sent.items }
+
+-- whatever world the cluster stood for
+abbrev pub Occurs : Event → (old new : ClusterParts) → Step → Type 0
+Occurs event old new step = (config : Config) (world : World) → ClusterStands config old world → OccursAs config world event old new step

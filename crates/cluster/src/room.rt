@@ -1,0 +1,78 @@
+//! Room for what an event may send: made before its node is reached.
+
+ghost use Rattle.std.specs.Prelude.{◌≡◌, ◌≤◌, ℕ, List, [], length, IfOk, IfErr};
+ghost use Rattle.std.specs.List.{flat_map};
+ghost use Rattle.std.specs.Vec.{vec_len, vec_capacity};
+ghost use Rattle.xid.specs.declared.refusals.Refusal.TheVariants.{NoMemory};
+ghost use Rattle.stable_record.specs.declared.fact.FactKind.{FactKind};
+ghost use Rattle.protocol.specs.Effects.{Config};
+ghost use Rattle.protocol.specs.Nodes.{Memory, on_request, effect_of};
+ghost use Rattle.protocol.specs.Worlds.{Datagram, datagrams_of};
+ghost use Rattle.node_core.specs.Nodes.{AreSizes, datagram_input};
+ghost use Rattle.network.specs.Networks.{StandsFor};
+ghost use Rattle.cluster.specs.Sending.{HasRoom};
+
+use network::Network;
+use node_core::Sizes;
+use protocol::{NodeId, Request, Sent};
+use std::alloc::Global;
+use wire::MAX_MESSAGE_BYTES;
+use xid::{MAX_BRANCHES, Refusal};
+
+/// How many datagrams a node sends at most on a request.
+pub(crate) fn most_asked(sizes: Sizes, who: NodeId, request: &Request) -> usize
+    ensures bound { (config : Config) → AreSizes config sizes → (facts : List FactKind) (memory : Memory)
+        → length (flat_map (datagrams_of config who) (on_request config who facts memory request.now).sends) ≤ result }
+    ensures few { result ≤ 5000 }
+{
+    let acceptors = usize::from(sizes.acceptors);
+    match request {
+        Request::Call { .. } => 0,
+        Request::Recover => 0,
+        Request::View { .. } => 0,
+        Request::Status { .. } => 0,
+        Request::Commit { tx } => tx.count(),
+        Request::Timeout { tx } => match who {
+            NodeId::A(_) => 0,
+            NodeId::L(_) => tx.count() * (acceptors + 1),
+            NodeId::R(_) => acceptors + usize::from(sizes.leaders),
+        },
+    }
+}
+
+/// How many datagrams a node sends at most on the bytes of a datagram.
+pub(crate) fn most_heard(sizes: Sizes, who: NodeId) -> usize
+    ensures bound { (config : Config) → AreSizes config sizes → (facts : List FactKind) (memory : Memory) (bytes : List ℕ)
+        → length (flat_map (datagrams_of config who) (effect_of config who facts memory (datagram_input bytes)).sends) ≤ result }
+    ensures few { result ≤ 5000 }
+{
+    let acceptors = usize::from(sizes.acceptors);
+    match who {
+        NodeId::A(_) => usize::from(sizes.leaders) + 1,
+        NodeId::L(_) => MAX_BRANCHES * (acceptors + 1),
+        NodeId::R(_) => acceptors,
+    }
+}
+
+/// Makes room for so many datagrams more, and gives the empty list in which they are to stand. Refused: `NoMemory` alone. The datagrams
+/// before stay as they are.
+pub(crate) fn make_room(
+    alloc: Global,
+    network: &mut Network,
+    count: usize,
+) -> Result<Vec<Sent>, Refusal>
+    requires { count ≤ 5000 }
+    ensures same { (net : List Datagram) → StandsFor network.old net → StandsFor network.new net }
+    ensures empty { IfOk result (λ sent. sent.items ≡ []) }
+    ensures room { IfOk result (λ sent. HasRoom count network.new (vec_len sent) (vec_capacity sent)) }
+    ensures err { IfErr result (λ e. e ≡ NoMemory) }
+{
+    match network.reserve(count, count * MAX_MESSAGE_BYTES) {
+        Ok(()) => {}
+        Err(refusal) => return Err(refusal),
+    }
+    match Vec::with_capacity(alloc, count) {
+        Ok(sent) => Ok(sent),
+        Err(_) => Err(Refusal::NoMemory),
+    }
+}

@@ -1,0 +1,89 @@
+//! How what a node puts out is sent: a datagram to each receiver, put into the network and listed.
+
+ghost use Rattle.std.specs.Prelude.{◌≡◌, ℕ, suc, ◌<◌, ◌+◌, ◌++◌, true, nat_lt, List, [], ◌∷◌, length, map};
+ghost use Rattle.std.specs.List.{flat_map};
+ghost use Rattle.std.specs.Vec.{vec_len, vec_capacity};
+ghost use Rattle.protocol.specs.declared.nodes.NodeId.{NodeId as Id};
+ghost use Rattle.protocol.specs.Worlds.{Datagram, datagrams_of};
+ghost use Rattle.node_core.specs.Sends.{sent as sent_by};
+ghost use Rattle.network.specs.Networks.{StandsFor, datagram_to};
+ghost use Rattle.cluster.specs.Clusters.{sized};
+ghost use Rattle.cluster.specs.Sending.{HasRoom, HaveSent, KeepsRoom};
+
+use crate::receivers::{receiver_at, receiver_count};
+use network::Network;
+use node_core::{NodeSends, Sizes};
+use protocol::{NodeId, Outgoing, Sent};
+use wire::Message;
+
+/// Puts a message into the network for one receiver more, and answers the datagram's number. Its bytes are kept with the first.
+fn put(
+    network: &mut Network,
+    sender: NodeId,
+    receiver: NodeId,
+    message: &Message,
+    again: bool,
+) -> u32
+    requires room { HasRoom 1 network.old 0 1 }
+    requires some { again ≡ true → 0 < length network.old.datagrams }
+    ensures stands { (net : List Datagram) (before : List Id) → again ≡ nat_lt 0 (length before)
+        → StandsFor network.old (net ++ map (datagram_to sender message.now) before)
+        → StandsFor network.new (net ++ map (datagram_to sender message.now) (before ++ receiver ∷ [])) }
+    ensures number { (net : List Datagram) → StandsFor network.old net → result ≡ suc (length net) }
+    ensures some { 0 < length network.new.datagrams }
+    ensures room { (more : ℕ) → HasRoom (suc more) network.old 0 (suc more) → HasRoom more network.new 0 more }
+{
+    if again {
+        return network.push_again(receiver);
+    }
+    network.push(sender, receiver, message)
+}
+
+/// Sends a message to each of its receivers. There is room for that, so it takes no memory.
+fn send(
+    network: &mut Network,
+    listed: &mut Vec<Sent>,
+    sizes: Sizes,
+    sender: NodeId,
+    outgoing: &Outgoing,
+)
+    requires { HasRoom (length (datagrams_of (sized sizes) sender outgoing.now)) network.old (vec_len listed.old)
+        (vec_capacity listed.old) }
+    ensures sent { HaveSent network.old network.new listed.old.items listed.new.items (datagrams_of (sized sizes) sender outgoing.now) }
+    ensures room { KeepsRoom (length (datagrams_of (sized sizes) sender outgoing.now)) network.old network.new
+        (vec_len listed.old) (vec_len listed.new) (vec_capacity listed.new) }
+    ensures capacity { vec_capacity listed.new ≡ vec_capacity listed.old }
+{
+    let count = receiver_count(sizes, outgoing);
+    let message = outgoing.message;
+    for i in 0..count {
+        let receiver = receiver_at(sizes, outgoing, i);
+        let again = i > 0;
+        let number = put(network, sender, receiver, &message, again);
+        listed.push_reserved(Sent {
+            number,
+            sender,
+            receiver,
+            message,
+        });
+    }
+}
+
+/// Sends all messages that a node puts out, in their order. There is room for that, so it takes no memory.
+pub(crate) fn send_all(
+    network: &mut Network,
+    listed: &mut Vec<Sent>,
+    sizes: Sizes,
+    sender: NodeId,
+    sends: &NodeSends,
+)
+    requires { HasRoom (length (flat_map (datagrams_of (sized sizes) sender) (sent_by sends.now))) network.old
+        (vec_len listed.old) (vec_capacity listed.old) }
+    ensures { HaveSent network.old network.new listed.old.items listed.new.items
+        (flat_map (datagrams_of (sized sizes) sender) (sent_by sends.now)) }
+{
+    for k in 0..sends.count() {
+        let outgoing = sends.at(k);
+        send(network, listed, sizes, sender, &outgoing);
+    }
+}

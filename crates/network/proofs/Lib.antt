@@ -1,0 +1,4 @@
+pub mod Front
+pub mod Standing
+pub mod Places
+pub mod Sent

@@ -1,0 +1,352 @@
+-- What a part decides is what its node does.
+use Rattle.std.proofs.lemmas.Bool.{cond_both}
+use Rattle.std.proofs.Common.{unwrap_or}
+use Rattle.ballot.specs.Ballots.{next_of}
+use Rattle.protocol.specs.Effects.{stores}
+use Rattle.protocol.specs.declared.decisions.Outgoing.{Outgoing}
+use Rattle.protocol.specs.declared.answers.Answer.TheVariants.{Refused}
+use Rattle.node_core.specs.Roles.{memory_after}
+use Rattle.std.proofs.Common.{◌≡◌, ◌∙◌, ℕ, true, false, not, ◌||◌, List, [], ◌∷◌, Option, Some, None, refl, sym, ap, subst}
+use Rattle.std.specs.Prelude.{IfSome, IfNone, Err, nat_lt, ◌^◌}
+use Rattle.xid.specs.Names.{XidParts}
+use Rattle.xid.specs.Transactions.{TxParts, xid_at}
+use Rattle.xid.specs.declared.refusals.Refusal.{Refusal}
+use Rattle.xid.specs.declared.refusals.Refusal.TheVariants.{NoMemory}
+use Rattle.wire.specs.declared.message.Kind.{Kind}
+use Rattle.wire.specs.declared.message.Kind.TheVariants as kinds
+use Rattle.wire.specs.Messages.{message_tx}
+use Rattle.wire.specs.declared.items.InstanceReport.{InstanceReport}
+use Rattle.wire.specs.declared.items.InstanceAccept.{InstanceAccept}
+use Rattle.stable_record.specs.declared.fact.FactKind.{FactKind as Fact}
+use Rattle.protocol.specs.declared.answers.Answer.{Answer}
+use Rattle.protocol.specs.declared.decisions.Decision.{Decision}
+use Rattle.protocol.specs.declared.nodes.NodeId.{NodeId}
+use Rattle.protocol.specs.declared.nodes.NodeId.TheVariants.{A, L, R}
+use Rattle.protocol.specs.declared.requests.Action.{Action}
+use Rattle.protocol.specs.declared.requests.Request.{Request}
+use Rattle.protocol.specs.declared.requests.Request.TheVariants as requests
+use Rattle.protocol.specs.Effects.{Config, Effect, decision_of, answer_only, is_inside}
+use Rattle.protocol.specs.Facts.{slot, last_ballot, with_fact}
+use Rattle.protocol.specs.LeaderMemory.{LeaderMemory, StoredBallots, status_of, with_begun, with_met}
+use Rattle.protocol.specs.Leaders as rules
+use Rattle.protocol.specs.Managers.{Branch, stored_votes, plays_at_manager, on_manager_message, on_manager_timeout, on_recover}
+use Rattle.protocol.specs.Managers.{on_view_call}
+use Rattle.protocol.specs.Acceptors.{on_acceptor_message, plays_at_acceptor}
+use Rattle.protocol.specs.Nodes.{Memory, on_message, on_request, in_memory, of_leader, of_manager, plays}
+use Rattle.acceptor.specs.Acceptors as acceptor_specs
+use Rattle.acceptor.specs.Acceptors.{AcceptorParts}
+use Rattle.leader.specs.Leaders as leader_specs
+use Rattle.leader.specs.Leaders.{LeaderParts, StandsForBallots, Follows, FollowsOrRefuses}
+use Rattle.leader.specs.Decisions as leader_decisions
+use Rattle.leader.specs.declared.decision.LeaderDecision.{LeaderDecision}
+use Rattle.resource_manager.specs.Managers as manager_specs
+use Rattle.resource_manager.specs.Managers.{ManagerParts, IsCall, call_effect}
+use Rattle.resource_manager.specs.Messages.{IsReminder}
+use Rattle.resource_manager.specs.declared.messages.Reminder.{Reminder}
+use Rattle.resource_manager.proofs.More.{unspent_all}
+use Rattle.node_core.specs.declared.role.Role.{Role}
+use Rattle.node_core.specs.declared.role.RoleDecision.{RoleDecision}
+use Rattle.node_core.specs.Roles.{IsLeft, IsDecided, Decides, Rule, from_part, from_leader, from_reminder, answering}
+
+-- ---- acceptors
+
+module _ (p : AcceptorParts) (d : Decision) (message : Kind)
+    (h : acceptor_specs.Decides p d (λ config a slots. on_acceptor_message config a slots message)) where
+  acceptor_left : (config : Config) (a : ℕ) (facts : List Fact) (memory : Memory) (e : Effect (Unit {0}))
+      → acceptor_specs.StandsFor config a p facts → (o : Option Fact) → IfSome o (λ fact. plays_at_acceptor (slot facts) fact ≡ true)
+      → IsLeft config (A a) facts memory (Role.Acceptor p) (in_memory (λ none. memory) e) o
+  acceptor_left config a facts memory e s None plays = s
+  acceptor_left config a facts memory e s (Some fact) plays = record { stands = s; fits = plays; playable = tt; leaves = refl }
+
+  pub acceptor_decides : Decides (Role.Acceptor p) (Role.Acceptor p) (from_part d)
+      (λ config who facts memory. on_message config who facts memory message)
+  acceptor_decides config (A a) facts memory s =
+      let is = h config a facts s in
+      record {
+        effect_is = is.effect_is;
+        leaves = acceptor_left config a facts memory (on_acceptor_message config a (slot facts) message) s d.fact is.plays;
+      }
+  acceptor_decides config (L l) facts memory s = absurd s
+  acceptor_decides config (R rm) facts memory s = absurd s
+
+-- ---- resource managers
+
+module _ (p : ManagerParts) (d : Decision) (message : Kind) (h : manager_specs.Decides p d
+    (λ config number stored branches. on_manager_message number stored branches (xid_at (message_tx message) number) message)) where
+  manager_left : (config : Config) (rm : ℕ) (facts : List Fact) (memory : Memory) (e : Effect (List Branch))
+      → manager_specs.StandsFor config rm p facts memory.branches → (o : Option Fact)
+      → IfSome o (λ fact. (plays_at_manager rm (stored_votes rm facts) fact ≡ true) × manager_specs.IsPlayable rm memory.branches fact)
+      → e.memory ≡ manager_specs.unspent_branches rm (with_fact facts o) memory.branches
+      → IsLeft config (R rm) facts memory (Role.Manager p) (of_manager memory e) o
+  manager_left config rm facts memory e s None plays leaves =
+      subst (manager_specs.StandsFor config rm p facts) (sym (unspent_all rm facts memory.branches s.apart.unspent) ∙ sym leaves) s
+  manager_left config rm facts memory e s (Some fact) plays leaves = record {
+    stands = s;
+    fits = plays.0;
+    playable = plays.1;
+    leaves = ap (λ (branches : List Branch). record memory { branches = branches }) leaves;
+  }
+
+  pub manager_decides : Decides (Role.Manager p) (Role.Manager p) (from_part d)
+      (λ config who facts memory. on_message config who facts memory message)
+  manager_decides config (A a) facts memory s = absurd s
+  manager_decides config (L l) facts memory s = absurd s
+  manager_decides config (R rm) facts memory s =
+      let is = h config rm facts memory.branches s in
+      record {
+        effect_is = is.effect_is;
+        leaves = manager_left config rm facts memory
+            (on_manager_message rm (stored_votes rm facts) memory.branches (xid_at (message_tx message) rm) message)
+            s d.fact is.plays is.leaves;
+      }
+
+-- ---- leaders
+
+-- an answer is all
+abbrev NoFact : Effect LeaderMemory → Type 0
+NoFact e = e.fact ≡ None
+
+module _ (config : Config) (stored : StoredBallots) (memory : LeaderMemory) where
+  commit_stores_nothing : (tx : TxParts) → NoFact (rules.on_commit_call config stored memory tx)
+  commit_stores_nothing tx = cond_both (is_inside config tx) _ _ NoFact (λ h. refl) (λ h. refl)
+
+  reports_store_nothing : (tx : TxParts) (b a : ℕ) (reports : List InstanceReport)
+      → NoFact (rules.on_1b config stored memory tx b a reports)
+  reports_store_nothing tx b a reports =
+      cond_both (rules.is_final (status_of config.acceptors stored memory tx) || not (rules.is_current memory tx b)) _ _ NoFact
+      (λ h. refl) (λ h. refl)
+
+  accepts_store_nothing : (tx : TxParts) (a : ℕ) (accepts : List InstanceAccept) → NoFact (rules.on_2b config stored memory tx a accepts)
+  accepts_store_nothing tx a accepts =
+      cond_both (rules.is_final (status_of config.acceptors stored memory tx)) _ _ NoFact (λ h. refl) (λ h. refl)
+
+  message_stores_nothing : (message : Kind) → NoFact (rules.on_leader_message config stored memory message)
+  message_stores_nothing (kinds.P1b tx i b report a) = reports_store_nothing tx b a (record { instance = i; report = report } ∷ [])
+  message_stores_nothing (kinds.B1b tx b a reports) = reports_store_nothing tx b a reports
+  message_stores_nothing (kinds.P2b tx i b v a) = accepts_store_nothing tx a (record { instance = i; ballot = b; vote = v } ∷ [])
+  message_stores_nothing (kinds.B2b tx a accepts) = accepts_store_nothing tx a accepts
+  message_stores_nothing other = refl
+
+-- a leader that stores nothing
+module _ (old new : LeaderParts) (d : LeaderDecision) (rule : leader_specs.Rule) where
+  nothing_left : (config : Config) (l : ℕ) (facts : List Fact) (memory : Memory) (e : Effect LeaderMemory) → e.fact ≡ None
+      → leader_specs.StandsFor config l new facts e.memory → (o : Option Fact) → o ≡ e.fact
+      → IsLeft config (L l) facts memory (Role.Leader new) (of_leader memory e) o
+  nothing_left config l facts memory e none s o is =
+      subst (IsLeft config (L l) facts memory (Role.Leader new) (of_leader memory e)) (sym (is ∙ none)) s
+
+  pub leader_follows : (config : Config) (l : ℕ) (facts : List Fact) (memory : Memory)
+      → NoFact (rule (last_ballot facts) memory.leader) → Follows config l old new d rule
+      → leader_specs.StandsFor config l old facts memory.leader
+      → IsDecided config (L l) facts memory (Role.Leader new) (from_leader d) (of_leader memory (rule (last_ballot facts) memory.leader))
+  leader_follows config l facts memory none h s =
+      let is = h.decides (last_ballot facts) memory.leader s in
+      record {
+        effect_is = is;
+        leaves = nothing_left config l facts memory (rule (last_ballot facts) memory.leader) none
+            (h.stands (last_ballot facts) memory.leader s) d.fact (ap (λ (x : Decision). x.fact) is);
+      }
+
+-- a call that may refuse, refuses for memory
+pub refused_memory : (config : Config) (number : ℕ) (old new : LeaderParts) (rule : leader_specs.Rule) (e : Refusal)
+    → FollowsOrRefuses config number old new (Err e) rule → e ≡ NoMemory
+refused_memory config number old new rule NoMemory h = refl
+refused_memory config number old new rule other h = absurd h
+
+-- a cluster of no nodes
+abbrev pub no_config : Config
+no_config = record { acceptors = 0; leaders = 0; managers = 0; bundled = false; tables = [] }
+
+pub leader_decides : (old new : LeaderParts) (d : LeaderDecision) (message : Kind)
+    → ((config : Config) (number : ℕ) → Follows config number old new d
+    (λ stored memory. rules.on_leader_message config stored memory message))
+    → Decides (Role.Leader old) (Role.Leader new) (from_leader d) (λ config who facts memory. on_message config who facts memory message)
+leader_decides old new d message h config (A a) facts memory s = absurd s
+leader_decides old new d message h config (R rm) facts memory s = absurd s
+leader_decides old new d message h config (L l) facts memory s =
+    leader_follows old new d (λ stored memory. rules.on_leader_message config stored memory message) config l facts memory
+    (message_stores_nothing config (last_ballot facts) memory.leader message) (h config l) s
+
+pub commit_decides : (old new : LeaderParts) (d : LeaderDecision) (tx : TxParts)
+    → ((config : Config) (number : ℕ) → Follows config number old new d
+    (λ stored memory. rules.on_commit_call config stored memory tx))
+    → Decides (Role.Leader old) (Role.Leader new) (from_leader d)
+    (λ config who facts memory. on_request config who facts memory (requests.Commit tx))
+commit_decides old new d tx h config (A a) facts memory s = absurd s
+commit_decides old new d tx h config (R rm) facts memory s = absurd s
+commit_decides old new d tx h config (L l) facts memory s =
+    leader_follows old new d (λ stored memory. rules.on_commit_call config stored memory tx) config l facts memory
+    (commit_stores_nothing config (last_ballot facts) memory.leader tx) (h config l) s
+
+pub status_decides : (p : LeaderParts) (d : LeaderDecision) (tx : TxParts)
+    → ((config : Config) (number : ℕ) → Follows config number p p d
+    (λ stored memory. rules.on_status_call config stored memory tx))
+    → Decides (Role.Leader p) (Role.Leader p) (from_leader d)
+    (λ config who facts memory. on_request config who facts memory (requests.Status tx))
+status_decides p d tx h config (A a) facts memory s = absurd s
+status_decides p d tx h config (R rm) facts memory s = absurd s
+status_decides p d tx h config (L l) facts memory s =
+    leader_follows p p d (λ stored memory. rules.on_status_call config stored memory tx) config l facts memory refl (h config l) s
+
+-- ---- a leader's timeout
+
+module _ (config : Config) (l : ℕ) (facts : List Fact) (memory : Memory) (tx : TxParts) (fact : Fact) where
+  abbrev LeavesBallot : Effect LeaderMemory → Type 0
+  LeavesBallot e = e.fact ≡ Some fact → record memory { leader = e.memory } ≡ memory_after (L l) facts memory fact
+
+  stores_ballot : (b : ℕ) (sends : List Outgoing)
+      → LeavesBallot (stores (with_begun tx b (with_met tx memory.leader)) (Fact.Ballot tx b) sends)
+  stores_ballot b sends is =
+      ap (λ (o : Option Fact). memory_after (L l) facts memory (unwrap_or o (Fact.Ballot tx b))) is
+
+  timeout_leaves : LeavesBallot (rules.on_leader_timeout config l (last_ballot facts) memory.leader tx)
+  timeout_leaves =
+      cond_both (not (is_inside config tx)) _ _ LeavesBallot (λ outside is. absurd (cc (is))) (λ inside.
+      cond_both (rules.is_final (status_of config.acceptors (last_ballot facts) memory.leader tx)) _ _ LeavesBallot
+      (λ final is. absurd (cc (is))) (λ open_yet.
+      cond_both (nat_lt (next_of config.leaders l (last_ballot facts tx)) (2 ^ 32)) _ _ LeavesBallot
+      (λ fits. stores_ballot (next_of config.leaders l (last_ballot facts tx))
+      (rules.phase_1a config tx (next_of config.leaders l (last_ballot facts tx)))) (λ none is. absurd (cc (is)))))
+
+module _ (old new : LeaderParts) (d : LeaderDecision) (tx : TxParts) where
+  abbrev timeout_rule : ℕ → Config → leader_specs.Rule
+  timeout_rule number config stored memory = rules.on_leader_timeout config number stored memory tx
+
+  timeout_left : (config : Config) (l : ℕ) (facts : List Fact) (memory : Memory)
+      → leader_specs.StandsFor config l old facts memory.leader → (o : Option Fact)
+      → o ≡ (timeout_rule l config (last_ballot facts) memory.leader).fact
+      → IfSome o (λ fact. rules.plays_at_leader config.leaders l (last_ballot facts) fact ≡ true) → IfSome o (λ fact. new ≡ old)
+      → IfNone o (leader_specs.StandsFor config l new facts (timeout_rule l config (last_ballot facts) memory.leader).memory)
+      → IsLeft config (L l) facts memory (Role.Leader new) (of_leader memory (timeout_rule l config (last_ballot facts) memory.leader)) o
+  timeout_left config l facts memory s None is plays waits stands = stands
+  timeout_left config l facts memory s (Some fact) is plays waits stands = record {
+    stands = subst (λ (p : LeaderParts). leader_specs.StandsFor config l p facts memory.leader) (sym waits) s;
+    fits = plays;
+    playable = tt;
+    leaves = timeout_leaves config l facts memory tx fact (sym is);
+  }
+
+  pub timeout_decides :
+      ((config : Config) (number : ℕ) (stored : StoredBallots) (memory : LeaderMemory) → StandsForBallots config number old stored memory
+      → leader_decisions.shown d ≡ decision_of (rules.on_leader_timeout config number stored memory tx))
+      → ((config : Config) (number : ℕ) (stored : StoredBallots) (memory : LeaderMemory)
+      → StandsForBallots config number old stored memory
+      → IfSome d.fact (λ fact. rules.plays_at_leader config.leaders number stored fact ≡ true))
+      → IfSome d.fact (λ fact. new ≡ old)
+      → IfNone d.fact ((config : Config) (number : ℕ) (stored : StoredBallots) (memory : LeaderMemory)
+      → StandsForBallots config number old stored memory
+      → StandsForBallots config number new stored (rules.on_leader_timeout config number stored memory tx).memory)
+      → Decides (Role.Leader old) (Role.Leader new) (from_leader d)
+      (λ config who facts memory. on_request config who facts memory (requests.Timeout tx))
+  timeout_decides decides plays waits stands config (A a) facts memory s = absurd s
+  timeout_decides decides plays waits stands config (R rm) facts memory s = absurd s
+  timeout_decides decides plays waits stands config (L l) facts memory s =
+      let is = decides config l (last_ballot facts) memory.leader s in
+      record {
+        effect_is = is;
+        leaves = timeout_left config l facts memory s d.fact (ap (λ (x : Decision). x.fact) is)
+            (plays config l (last_ballot facts) memory.leader s) waits
+            (if_none d.fact (λ h. h config l (last_ballot facts) memory.leader s) stands);
+      }
+    where
+      if_none : {P Q : Type 0} (o : Option Fact) → (P → Q) → IfNone o P → IfNone o Q
+      if_none None f h = f h
+      if_none (Some fact) f h = h
+
+-- ---- what a resource manager is asked
+
+pub call_decides : (old new : ManagerParts) (x : XidParts) (action : Action) (answer : Answer)
+    → ((config : Config) (number : ℕ) → IsCall config number old new x action answer)
+    → Decides (Role.Manager old) (Role.Manager new) (answering answer)
+    (λ config who facts memory. on_request config who facts memory (requests.Call x action))
+call_decides old new x action answer h config (A a) facts memory s = absurd s
+call_decides old new x action answer h config (L l) facts memory s = absurd s
+call_decides old new x action answer h config (R rm) facts memory s = record {
+  effect_is = ap (λ (a : Answer). record { answer = a; fact = None; sends = [] }) ((h config rm).answers facts memory.branches s);
+  leaves = (h config rm).stands facts memory.branches s;
+}
+
+pub recover_decides : (p : ManagerParts) (answer : Answer)
+    → ((config : Config) (number : ℕ) (facts : List Fact) (branches : List Branch) → manager_specs.StandsFor config number p facts branches
+    → answer ≡ (on_recover number (stored_votes number facts) branches).answer)
+    → Decides (Role.Manager p) (Role.Manager p) (answering answer)
+    (λ config who facts memory. on_request config who facts memory requests.Recover)
+recover_decides p answer h config (A a) facts memory s = absurd s
+recover_decides p answer h config (L l) facts memory s = absurd s
+recover_decides p answer h config (R rm) facts memory s = record {
+  effect_is = ap (λ (a : Answer). record { answer = a; fact = None; sends = [] }) (h config rm facts memory.branches s);
+  leaves = s;
+}
+
+pub view_decides : (p : ManagerParts) (answer : Answer) (tx : TxParts)
+    → ((config : Config) (number : ℕ) (facts : List Fact) (branches : List Branch) → manager_specs.StandsFor config number p facts branches
+    → answer ≡ (on_view_call config number (stored_votes number facts) branches tx).answer)
+    → Decides (Role.Manager p) (Role.Manager p) (answering answer)
+    (λ config who facts memory. on_request config who facts memory (requests.View tx))
+view_decides p answer tx h config (A a) facts memory s = absurd s
+view_decides p answer tx h config (L l) facts memory s = absurd s
+view_decides p answer tx h config (R rm) facts memory s = record {
+  effect_is = ap (λ (a : Answer). record { answer = a; fact = None; sends = [] }) (h config rm facts memory.branches s);
+  leaves = s;
+}
+
+pub reminder_decides : (p : ManagerParts) (r : Reminder) (tx : TxParts)
+    → ((config : Config) (number : ℕ) (facts : List Fact) (branches : List Branch) → manager_specs.StandsFor config number p facts branches
+    → IsReminder r branches (on_manager_timeout config number (stored_votes number facts) branches tx))
+    → Decides (Role.Manager p) (Role.Manager p) (from_reminder r)
+    (λ config who facts memory. on_request config who facts memory (requests.Timeout tx))
+reminder_decides p r tx h config (A a) facts memory s = absurd s
+reminder_decides p r tx h config (L l) facts memory s = absurd s
+reminder_decides p r tx h config (R rm) facts memory s =
+    let is = h config rm facts memory.branches s in
+    record {
+      effect_is = λ i. record { answer = is.answer i; fact = sym is.fact i; sends = is.sends i };
+      leaves = subst (manager_specs.StandsFor config rm p facts) (sym is.memory) s;
+    }
+
+-- ---- what a kind of node isn't asked
+
+pub acceptor_refuses : (p : AcceptorParts) (request : Request)
+    → Decides (Role.Acceptor p) (Role.Acceptor p) (answering (Refused Refusal.NoSuch))
+    (λ config who facts memory. on_request config who facts memory request)
+acceptor_refuses p request config (A a) facts memory s = record { effect_is = refl; leaves = s }
+acceptor_refuses p request config (L l) facts memory s = absurd s
+acceptor_refuses p request config (R rm) facts memory s = absurd s
+
+-- what a leader isn't asked
+abbrev pub IsOutside : (who : NodeId) → Request → Type 0
+IsOutside who request = (config : Config) (facts : List Fact) (memory : Memory)
+    → on_request config who facts memory request ≡ answer_only memory (Refused Refusal.NoSuch)
+
+pub leader_refuses : (p : LeaderParts) (request : Request) → ((l : ℕ) → IsOutside (L l) request)
+    → Decides (Role.Leader p) (Role.Leader p) (answering (Refused Refusal.NoSuch))
+    (λ config who facts memory. on_request config who facts memory request)
+leader_refuses p request out config (A a) facts memory s = absurd s
+leader_refuses p request out config (R rm) facts memory s = absurd s
+leader_refuses p request out config (L l) facts memory s =
+    subst (IsDecided config (L l) facts memory (Role.Leader p) (answering (Refused Refusal.NoSuch))) (sym (out l config facts memory))
+    (record { effect_is = refl; leaves = s })
+
+pub manager_refuses : (p : ManagerParts) (request : Request) → ((rm : ℕ) → IsOutside (R rm) request)
+    → Decides (Role.Manager p) (Role.Manager p) (answering (Refused Refusal.NoSuch))
+    (λ config who facts memory. on_request config who facts memory request)
+manager_refuses p request out config (A a) facts memory s = absurd s
+manager_refuses p request out config (L l) facts memory s = absurd s
+manager_refuses p request out config (R rm) facts memory s =
+    subst (IsDecided config (R rm) facts memory (Role.Manager p) (answering (Refused Refusal.NoSuch))) (sym (out rm config facts memory))
+    (record { effect_is = refl; leaves = s })
+
+-- ---- what is decided, under other names
+
+pub asked_so : (old new : Role) (d e : RoleDecision) (r s : Request) → d ≡ e → r ≡ s
+    → Decides old new e (λ config who facts memory. on_request config who facts memory s)
+    → Decides old new d (λ config who facts memory. on_request config who facts memory r)
+asked_so old new d e r s is_d is_r h =
+    let P : RoleDecision → Request → Type 0 = λ x y. Decides old new x (λ config who facts memory. on_request config who facts memory y) in
+    subst (λ x. P x r) (sym is_d) (subst (λ y. P e y) (sym is_r) h)
+
+pub told_so : (old inner new : Role) (d e : RoleDecision) (rule : Rule) → old ≡ inner → d ≡ e → Decides inner new e rule
+    → Decides old new d rule
+told_so old inner new d e rule is is_d h =
+    let P : Role → RoleDecision → Type 0 = λ x y. Decides x new y rule in
+    subst (λ x. P x d) (sym is) (subst (λ y. P inner y) (sym is_d) h)

@@ -1,0 +1,102 @@
+-- What the bytes of a datagram come to.
+use Rattle.std.proofs.Common.{◌≡◌, ◌≢◌, ◌∙◌, ℕ, Bool, true, false, List, Option, Some, None, refl, sym, ap, subst}
+use Rattle.std.specs.Prelude.{if◌then◌else◌, Result}
+use Rattle.std.specs.Option.{option_map_or}
+use Rattle.xid.specs.declared.refusals.Refusal.{Refusal}
+use Rattle.wire.specs.Decoding.{message_at}
+use Rattle.wire.specs.Grammar.{Spells, spelling}
+use Rattle.wire.specs.Messages.{IsMessage}
+use Rattle.wire.specs.declared.message.Kind.{Kind}
+use Rattle.wire.proofs.DecodingLemmas.{found, spelled}
+use Rattle.stable_record.specs.declared.fact.FactKind.{FactKind as Fact}
+use Rattle.stable_record.specs.Held.{Held}
+use Rattle.protocol.specs.declared.answers.Answer.{Answer}
+use Rattle.protocol.specs.declared.answers.Answer.TheVariants.{Refused}
+use Rattle.protocol.specs.declared.nodes.NodeId.{NodeId}
+use Rattle.protocol.specs.Effects.{Config, Effect, answer_only, no_effect}
+use Rattle.protocol.specs.Nodes.{NodeState, Memory, Input, Received, ReceivedNoise, accepts_input, down_answer, effect_of}
+use Rattle.protocol.specs.Nodes.{is_message_inside}
+use Rattle.protocol.specs.Nodes.{on_message}
+use Rattle.node_core.specs.declared.output.Output.{Output}
+use Rattle.node_core.specs.declared.role.Role.{Role}
+use Rattle.node_core.specs.Sends.{sent}
+use Rattle.node_core.specs.Roles.{RoleStands}
+use Rattle.node_core.specs.Storing.{IsDone, Carries, output_of}
+use Rattle.node_core.specs.Nodes.{Stands, Steps, datagram_input, role_settled, out_of}
+use Rattle.node_core.proofs.Steps.{steps_settled, steps_down}
+
+abbrev handed : Option Kind → Input
+handed read = option_map_or Received read ReceivedNoise
+
+noise_by : (bytes : List ℕ) (read : Option Kind) → message_at bytes ≡ read → ((k : Kind) → IsMessage k → bytes ≢ spelling k)
+    → handed read ≡ ReceivedNoise
+noise_by bytes None is none = refl
+noise_by bytes (Some k) is none = let s = spelled k bytes is in absurd (none k s.message s.spelled)
+
+is_noise : (bytes : List ℕ) → ((k : Kind) → IsMessage k → bytes ≢ spelling k) → datagram_input bytes ≡ ReceivedNoise
+is_noise bytes none = noise_by bytes (message_at bytes) refl none
+
+is_received : (bytes : List ℕ) (k : Kind) → Spells k bytes → datagram_input bytes ≡ Received k
+is_received bytes k spells = ap handed (found k bytes spells)
+
+accepted_by : (who : NodeId) (read : Option Kind) → accepts_input who (handed read) ≡ true
+accepted_by who None = refl
+accepted_by who (Some k) = refl
+
+down_by : (read : Option Kind) → down_answer (handed read) ≡ Refused Refusal.Down
+down_by None = refl
+down_by (Some k) = refl
+
+module _ (config : Config) (who : NodeId) (facts : List Fact) (memory : Memory) (held : Held) (role : Role) where
+  answered : (e : Effect Memory) (answer : Answer) (out : Output) → e ≡ answer_only memory answer → out ≡ output_of answer None
+      → RoleStands config who role facts memory → IsDone config who facts e held held role out
+  answered e answer out e_is is s = subst (λ x. IsDone config who facts x held held role out) (sym e_is) (record {
+    reply_is = ap (λ (o : Output). o.reply) is;
+    sends_are = ap (λ (o : Output). sent o.sends) is;
+    kept = record { same = refl; now_is = ap (λ (o : Output). o.now) is; stands = s };
+  })
+
+  abbrev heard : List ℕ → Effect Memory
+  heard bytes = effect_of config who facts memory (datagram_input bytes)
+
+  pub noise_done : (bytes : List ℕ) (out : Output) → ((k : Kind) → IsMessage k → bytes ≢ spelling k)
+      → out ≡ output_of (Refused Refusal.BadMessage) None → RoleStands config who role facts memory
+      → IsDone config who facts (heard bytes) held held role out
+  noise_done bytes out none is s =
+      answered (heard bytes) (Refused Refusal.BadMessage) out (ap (effect_of config who facts memory) (is_noise bytes none)) is s
+
+  heard_is : (bytes : List ℕ) (k : Kind) (inside : Bool) → Spells k bytes → inside ≡ is_message_inside config k
+      → heard bytes ≡ (if inside then on_message config who facts memory k else no_effect memory)
+  heard_is bytes k inside spells is =
+      ap (effect_of config who facts memory) (is_received bytes k spells)
+      ∙ ap (λ (b : Bool). if b then on_message config who facts memory k else no_effect memory) (sym is)
+
+  pub outside_done : (bytes : List ℕ) (k : Kind) (out : Output) → Spells k bytes → false ≡ is_message_inside config k
+      → out ≡ output_of Answer.Done None → RoleStands config who role facts memory
+      → IsDone config who facts (heard bytes) held held role out
+  outside_done bytes k out spells is out_is s =
+      answered (heard bytes) Answer.Done out (heard_is bytes k false spells is) out_is s
+
+  pub inside_carries : (bytes : List ℕ) (k : Kind) (new : Held) (now : Role) (done : Result Output Output) → Spells k bytes
+      → true ≡ is_message_inside config k
+      → Carries config who facts memory (on_message config who facts memory k) held new now done
+      → Carries config who facts memory (heard bytes) held new now done
+  inside_carries bytes k new now done spells is h =
+      subst (λ e. Carries config who facts memory e held new now done) (sym (heard_is bytes k true spells is)) h
+
+module _ (config : Config) (who : NodeId) (m : NodeState) (bytes : List ℕ) where
+  pub hears_down : (held : Held) (role : Option Role) (out : Output) → role ≡ None → out ≡ output_of (Refused Refusal.Down) None
+      → Stands config who held role m → Steps config who m (datagram_input bytes) held held role out
+  hears_down held role out is out_is s =
+      subst (λ r. Steps config who m (datagram_input bytes) held held r out) (sym is)
+      (steps_down config who m (datagram_input bytes) held out (subst (λ r. Stands config who held r m) is s)
+      (accepted_by who (message_at bytes)) (out_is ∙ ap (λ a. output_of a None) (sym (down_by (message_at bytes)))))
+
+  pub hears : (old new : Held) (was role : Option Role) (up now : Role) (done : Result Output Output) (out : Output)
+      → was ≡ Some up → role ≡ role_settled (Some now) done → out ≡ out_of done
+      → (RoleStands config who up m.facts m.memory
+      → Carries config who m.facts m.memory (effect_of config who m.facts m.memory (datagram_input bytes)) old new now done)
+      → Stands config who old was m → Steps config who m (datagram_input bytes) old new role out
+  hears old new was role up now done out is role_is out_is carries s =
+      steps_settled config who m (datagram_input bytes) old new was role up now done out is (accepted_by who (message_at bytes))
+      role_is out_is carries s

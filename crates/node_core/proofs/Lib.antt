@@ -1,0 +1,12 @@
+pub mod Deciding
+pub mod Playing
+pub mod Stopping
+pub mod Changes
+pub mod Steps
+pub mod Hearing
+pub mod Sound
+pub mod Reading
+pub mod Loading
+pub mod Restarting
+pub mod Sizing
+pub mod Looking

@@ -1,0 +1,6 @@
+use Rattle.std.proofs.Common.{◌≡◌, true, take}
+use Rattle.node_core.specs.Configs.{are_rows}
+use Rattle.node_core.proofs.config.are_within.Given as goal
+
+abbrev pub invariant-loop-row : goal.invariant-loop-row
+invariant-loop-row l = are_rows (take l.row-index l.rows) ≡ true

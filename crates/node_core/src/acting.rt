@@ -1,0 +1,170 @@
+//! What a node does on an input: by its role, if it is up.
+
+ghost use Rattle.std.specs.Prelude.{◌≡◌, List, Option, Some, None};
+ghost use Rattle.stable_record.specs.declared.fact.FactKind.{FactKind};
+ghost use Rattle.xid.specs.Transactions.{participants};
+ghost use Rattle.resource_manager.specs.Messages.{are_below};
+ghost use Rattle.protocol.specs.Effects.{Config};
+ghost use Rattle.protocol.specs.Nodes.{Memory, NodeState, Asked, effect_of, is_message_inside, down_answer as down_answer_of};
+ghost use Rattle.node_core.specs.Roles.{RoleStands};
+ghost use Rattle.node_core.specs.Storing.{Carries};
+ghost use Rattle.node_core.specs.Nodes.{AreSizes, Stands, Steps, datagram_input, role_left, role_settled, out_of};
+
+use crate::config::Sizes;
+use crate::output::Output;
+use crate::requests::accepts_request;
+use crate::role::Role;
+use crate::storing::carry_out;
+use protocol::{Answer, NodeId, Request};
+use stable_record::Record;
+use std::alloc::Global;
+use wire::{Kind, Message, decode};
+use xid::{Refusal, Tx, XaCode};
+
+/// Whether a transaction names only resource managers of the cluster.
+fn is_inside(managers: u8, tx: &Tx) -> bool
+    ensures { result ≡ are_below managers (participants tx.now) }
+{
+    for i in 0..tx.count() {
+        if tx.rm(i) >= u16::from(managers) {
+            return false;
+        }
+    }
+    true
+}
+
+/// Whether a message is one of the cluster: it names none but its nodes, and has the form that goes there.
+fn is_of_cluster(sizes: Sizes, message: &Message) -> bool
+    ensures { (config : Config) → AreSizes config sizes → result ≡ is_message_inside config message.now }
+{
+    let kind = message.kind();
+    if !is_inside(sizes.managers, kind.tx()) {
+        return false;
+    }
+    match kind {
+        Kind::P1a { .. } => !sizes.bundled,
+        Kind::P1b { acceptor, .. } => *acceptor < sizes.acceptors && !sizes.bundled,
+        Kind::P2b { acceptor, .. } => *acceptor < sizes.acceptors && !sizes.bundled,
+        Kind::B1a { .. } => sizes.bundled,
+        Kind::B1b { acceptor, .. } => *acceptor < sizes.acceptors && sizes.bundled,
+        Kind::B2b { acceptor, .. } => *acceptor < sizes.acceptors && sizes.bundled,
+        Kind::Prepare(_) => true,
+        Kind::Commit(_) => true,
+        Kind::Abort(_) => true,
+        Kind::P2a { .. } => true,
+        Kind::Ask { .. } => true,
+    }
+}
+
+/// What a node that is up does on the bytes of a datagram. Refused where it goes down.
+fn hear<R: Record>(
+    alloc: Global,
+    device: &mut R,
+    who: NodeId,
+    sizes: Sizes,
+    role: &mut Role,
+    bytes: &[u8],
+) -> Result<Output, Output>
+    ensures { (config : Config) (facts : List FactKind) (memory : Memory) → AreSizes config sizes
+        → RoleStands config who role.old facts memory
+        → Carries config who facts memory (effect_of config who facts memory (datagram_input bytes.now))
+        (R.held device.old) (R.held device.new) role.new result }
+{
+    let message = match decode(bytes) {
+        Ok(message) => message,
+        Err(_) => return Ok(Output::refuses(Refusal::BadMessage)),
+    };
+    if !is_of_cluster(sizes, &message) {
+        return Ok(Output::answers(Answer::Done));
+    }
+    match role.on_message(&message) {
+        Ok(decision) => carry_out(alloc, device, who, role, decision),
+        Err(refusal) => Err(Output::refuses(refusal)),
+    }
+}
+
+/// What a node that is up does on a request. Refused where it goes down.
+fn serve<R: Record>(
+    alloc: Global,
+    device: &mut R,
+    who: NodeId,
+    role: &mut Role,
+    request: &Request,
+) -> Result<Output, Output>
+    ensures { (config : Config) (facts : List FactKind) (memory : Memory) → RoleStands config who role.old facts memory
+        → Carries config who facts memory (effect_of config who facts memory (Asked request.now))
+        (R.held device.old) (R.held device.new) role.new result }
+{
+    match role.on_request(request) {
+        Ok(decision) => carry_out(alloc, device, who, role, decision),
+        Err(refusal) => Err(Output::refuses(refusal)),
+    }
+}
+
+/// What is put out; where a decision wasn't carried out, the node is down.
+fn settle(role: &mut Option<Role>, done: Result<Output, Output>) -> Output
+    ensures out { result ≡ out_of done }
+    ensures role { role.new ≡ role_settled role.old done }
+{
+    match done {
+        Ok(output) => output,
+        Err(output) => {
+            *role = None;
+            output
+        }
+    }
+}
+
+/// What a node that is down answers to a request.
+fn down_answer(request: &Request) -> Answer
+    ensures { result ≡ down_answer_of (Asked request.now) }
+{
+    match request {
+        Request::Call { .. } => Answer::Code(XaCode::RmFail),
+        Request::Recover => Answer::Code(XaCode::RmFail),
+        Request::View { .. } => Answer::Code(XaCode::RmFail),
+        Request::Commit { .. } => Answer::Refused(Refusal::Down),
+        Request::Status { .. } => Answer::Refused(Refusal::Down),
+        Request::Timeout { .. } => Answer::Refused(Refusal::Down),
+    }
+}
+
+/// What a node does on the bytes of a datagram.
+pub(crate) fn receive<R: Record>(
+    alloc: Global,
+    device: &mut R,
+    who: NodeId,
+    sizes: Sizes,
+    role: &mut Option<Role>,
+    bytes: &[u8],
+) -> Output
+    ensures { (config : Config) (m : NodeState) → AreSizes config sizes → Stands config who (R.held device.old) role.old m
+        → Steps config who m (datagram_input bytes.now) (R.held device.old) (R.held device.new) role.new result }
+{
+    let done = match role {
+        Some(up) => hear(alloc, device, who, sizes, up, bytes),
+        None => return Output::refuses(Refusal::Down),
+    };
+    settle(role, done)
+}
+
+/// What a node does on a request.
+pub(crate) fn ask<R: Record>(
+    alloc: Global,
+    device: &mut R,
+    who: NodeId,
+    role: &mut Option<Role>,
+    request: &Request,
+) -> Output
+    ensures { (config : Config) (m : NodeState) → Stands config who (R.held device.old) role.old m
+        → Steps config who m (Asked request.now) (R.held device.old) (R.held device.new) role.new result }
+{
+    if !accepts_request(who, request) {
+        return Output::refuses(Refusal::NoSuch);
+    }
+    let done = match role {
+        Some(up) => serve(alloc, device, who, up, request),
+        None => return Output::answers(down_answer(request)),
+    };
+    settle(role, done)
+}

@@ -1,0 +1,191 @@
+ghost use Rattle.std.specs.Prelude.{◌≡◌, is_none, IfOk, IfErr, Some};
+ghost use Rattle.protocol.specs.Effects.{Config as ConfigParts};
+ghost use Rattle.protocol.specs.Nodes.{NodeState};
+ghost use Rattle.node_core.specs.Nodes.{NodeStands, StepsAs, input_of};
+ghost use Rattle.node_core.specs.Opening.{IsOpened, IsUnopened, RestartsAs};
+ghost use Rattle.node_core.specs.Viewing.{ViewsAs, TablesAs};
+
+use crate::acting::{ask, receive};
+use crate::config::{Config, Sizes};
+use crate::opening::{copy_rows, load, reload};
+use crate::output::{Input, Output};
+use crate::role::Role;
+use crate::viewing::{table, view};
+use protocol::{NodeId, Row, View};
+use stable_record::{Record, Tear};
+use std::alloc::Global;
+use std::marker::Model;
+use xid::{Refusal, Sequence, Tx};
+
+/// One node over a record: an acceptor, a leader or a resource manager, which stores what it decides before it sends anything. It is
+/// up, or it is down and does nothing until a restart.
+#[derive(Drop)]
+pub struct Node<R: Record> {
+    alloc: Global,
+    who: NodeId,
+    sizes: Sizes,
+    rows: Vec<Row>,
+    device: R,
+    role: Option<Role>,
+}
+
+impl<R: Record> Model for Node<R> {
+    ghost use Rattle.node_core.specs.Nodes.{NodeParts, IsSound};
+
+    ghost Value = { NodeParts };
+
+    ghost view = { λ n. record { who = n.who; sizes = n.sizes; rows = n.rows.items; held = R.held n.device; role = n.role } };
+
+    ghost invariant = { λ n. IsSound (record {
+      who = n.who;
+      sizes = n.sizes;
+      rows = n.rows.items;
+      held = R.held n.device;
+      role = n.role;
+    }) };
+}
+
+impl<R: Record> Node<R> {
+    /// The node over a record, with the facts that stand there: its whole frames, one after the other; what follows them is cut. It is
+    /// up, and its record has no tail. Refused, with the record: no such node in the cluster (`NoSuch`); bytes that are no frames of
+    /// facts that play, and a tail (`Damaged`): the record is as it was; it failed (`RecordFault`), and may still have its tail;
+    /// `NoMemory`.
+    pub fn open(
+        alloc: Global,
+        config: &Config,
+        who: NodeId,
+        device: R,
+    ) -> Result<Node<R>, (R, Refusal)>
+        ensures ok { IfOk result (λ node. IsOpened config.now who (R.held device) node) }
+        ensures err { IfErr result (λ x. IsUnopened config.now who (R.held device) (R.held x.0) x.1) }
+    {
+        if !config.has(who) {
+            return Err((device, Refusal::NoSuch));
+        }
+        let sizes = config.sizes();
+        let rows = match copy_rows(alloc, config.rows_of(who)) {
+            Ok(rows) => rows,
+            Err(refusal) => return Err((device, refusal)),
+        };
+        let mut device = device;
+        match load(alloc, &mut device, who, sizes, &rows) {
+            Ok(role) => Ok(Node {
+                alloc,
+                who,
+                sizes,
+                rows,
+                device,
+                role: Some(role),
+            }),
+            Err(refusal) => Err((device, refusal)),
+        }
+    }
+
+    /// Reads the record again, whether the node is up or down, and goes on from there: what was in memory is lost, and a tail is cut.
+    /// Refused: the record failed (`RecordFault`), or `NoMemory`; then the node is down.
+    pub fn restart(&mut self) -> Result<(), Refusal>
+        ensures { (config : ConfigParts) (m : NodeState) → NodeStands config self.old m → RestartsAs config m self.old self.new result }
+    {
+        reload(
+            self.alloc,
+            &mut self.device,
+            self.who,
+            self.sizes,
+            &self.rows,
+            &mut self.role,
+        )
+    }
+
+    /// Where the resource manager stands in a transaction, by the whole frames of its record, whether it is up or down. Refused: it is
+    /// no resource manager (`NoSuch`); the transaction names a resource manager outside the cluster, or doesn't name this one
+    /// (`BadTx`); where it is down, its record fails (`RecordFault`), or `NoMemory`. The node stays as it is.
+    pub fn view(&mut self, tx: &Tx) -> Result<View, Refusal>
+        ensures { (config : ConfigParts) (m : NodeState) → NodeStands config self.old m → ViewsAs config m self.old self.new tx.now result }
+    {
+        view(
+            self.alloc,
+            &mut self.device,
+            self.who,
+            self.sizes,
+            &self.rows,
+            &self.role,
+            tx,
+        )
+    }
+
+    /// The rows of the resource manager's table, their keys ascending, by the whole frames of its record, whether it is up or down.
+    /// Refused: it is no resource manager (`NoSuch`); `NoMemory`; where it is down, its record fails (`RecordFault`). The node stays as
+    /// it is.
+    pub fn table(&mut self) -> Result<Sequence<Row>, Refusal>
+        ensures { (config : ConfigParts) (m : NodeState) → NodeStands config self.old m → TablesAs config m self.old self.new result }
+    {
+        table(
+            self.alloc,
+            &mut self.device,
+            self.who,
+            self.sizes,
+            &self.rows,
+            &self.role,
+        )
+    }
+
+    /// The record, and the node is no more.
+    pub fn into_record(self) -> R
+        ensures { R.held result ≡ self.held }
+    {
+        self.device
+    }
+
+    /// Which node it is.
+    pub fn id(&self) -> NodeId
+        ensures { result ≡ self.now.who }
+    {
+        self.who
+    }
+
+    /// Whether it is down.
+    pub fn is_down(&self) -> bool
+        ensures { result ≡ is_none self.now.role }
+    {
+        self.role.is_none()
+    }
+
+    /// What it does on an input, in the order of these: a request that its kind doesn't take is refused (`NoSuch`); a node that is down
+    /// answers `Down`, at a resource manager the code `RmFail` to client calls; bytes that spell no message are refused (`BadMessage`),
+    /// and a message that no rule takes is answered ok; else it is what its role's rules say. A fact is appended before anything is
+    /// sent, at most one. Where the record fails (`RecordFault`), or memory runs out (`NoMemory`), the node is down and nothing is
+    /// sent.
+    pub fn step(&mut self, input: Input) -> Output
+        ensures { (config : ConfigParts) (m : NodeState) → NodeStands config self.old m
+            → StepsAs config m (input_of input.entry) self.old self.new result }
+    {
+        match input {
+            Input::Asked(request) => ask(
+                self.alloc,
+                &mut self.device,
+                self.who,
+                &mut self.role,
+                request,
+            ),
+            Input::Received(bytes) => receive(
+                self.alloc,
+                &mut self.device,
+                self.who,
+                self.sizes,
+                &mut self.role,
+                bytes,
+            ),
+        }
+    }
+}
+
+impl<R: Tear> Node<R> {
+    /// The next append of its record that doesn't answer for want of memory keeps the first so many of its bytes, all if it has fewer,
+    /// and fails. An earlier tear is armed no longer; a restart leaves it.
+    pub fn arm(&mut self, n: usize)
+        ensures { (config : ConfigParts) (m : NodeState) → NodeStands config self.old m
+            → NodeStands config self.new (record m { tear = Some n }) }
+    {
+        self.device.arm(n);
+    }
+}

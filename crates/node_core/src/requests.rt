@@ -1,0 +1,120 @@
+//! What a leader and a resource manager are asked.
+
+ghost use Rattle.std.specs.Prelude.{◌≡◌, ℕ, IfOk, IfErr};
+ghost use Rattle.xid.specs.declared.refusals.Refusal.TheVariants.{NoMemory, NoSuch};
+ghost use Rattle.protocol.specs.declared.answers.Answer.TheVariants.{Refused};
+ghost use Rattle.protocol.specs.Effects.{Config, view_standing};
+ghost use Rattle.protocol.specs.Nodes.{on_request, accepts_request as is_accepted};
+ghost use Rattle.resource_manager.specs.Managers.{IsCall};
+ghost use Rattle.node_core.specs.declared.role.Role.TheVariants as roles;
+ghost use Rattle.node_core.specs.Roles.{Decides, answering};
+
+use crate::role::RoleDecision;
+use branch_table::Ending;
+use leader::Leader;
+use protocol::{Action, Answer, NodeId, Request, Standing, View};
+use resource_manager::ResourceManager;
+use xid::{Refusal, Xid};
+
+/// Whether a kind of node takes a request: an acceptor none, a leader those on transactions, a resource manager the client calls too.
+pub(crate) fn accepts_request(who: NodeId, request: &Request) -> bool
+    ensures { result ≡ is_accepted who request.now }
+{
+    match who {
+        NodeId::A(_) => false,
+        NodeId::L(_) => match request {
+            Request::Commit { .. } | Request::Status { .. } | Request::Timeout { .. } => true,
+            Request::Call { .. } | Request::Recover | Request::View { .. } => false,
+        },
+        NodeId::R(_) => match request {
+            Request::Call { .. }
+            | Request::Recover
+            | Request::View { .. }
+            | Request::Timeout { .. } => true,
+            Request::Commit { .. } | Request::Status { .. } => false,
+        },
+    }
+}
+
+/// What a leader does on a request.
+pub(crate) fn at_leader(leader: &mut Leader, request: &Request) -> Result<RoleDecision, Refusal>
+    ensures ok { IfOk result (λ decision. Decides (roles.Leader leader.old) (roles.Leader leader.new) decision
+        (λ config who facts memory. on_request config who facts memory request.now)) }
+    ensures err { IfErr result (λ e. e ≡ NoMemory) }
+{
+    match request {
+        Request::Commit { tx } => match leader.commit(tx) {
+            Ok(decision) => Ok(RoleDecision::of_leader(decision)),
+            Err(refusal) => Err(refusal),
+        },
+        Request::Status { tx } => Ok(RoleDecision::of_leader(leader.status(tx))),
+        Request::Timeout { tx } => Ok(RoleDecision::of_leader(leader.timeout(tx))),
+        Request::Call { .. } => Ok(not_taken()),
+        Request::Recover => Ok(not_taken()),
+        Request::View { .. } => Ok(not_taken()),
+    }
+}
+
+/// What a resource manager does on a request.
+pub(crate) fn at_manager(
+    manager: &mut ResourceManager,
+    request: &Request,
+) -> Result<RoleDecision, Refusal>
+    ensures ok { IfOk result (λ decision. Decides (roles.Manager manager.old) (roles.Manager manager.new) decision
+        (λ config who facts memory. on_request config who facts memory request.now)) }
+    ensures err { IfErr result (λ e. e ≡ NoMemory) }
+{
+    match request {
+        Request::Call { xid, action } => match call(manager, xid, action) {
+            Ok(answer) => Ok(RoleDecision::answers(answer)),
+            Err(refusal) => Err(refusal),
+        },
+        Request::Recover => match manager.recover() {
+            Ok(answer) => Ok(RoleDecision::answers(answer)),
+            Err(refusal) => Err(refusal),
+        },
+        Request::View { tx } => match manager.view(tx) {
+            Ok(view) => Ok(RoleDecision::answers(Answer::Stands(standing_of(view)))),
+            Err(refusal) => Ok(RoleDecision::answers(Answer::Refused(refusal))),
+        },
+        Request::Timeout { tx } => Ok(RoleDecision::of_reminder(manager.timeout(tx))),
+        Request::Commit { .. } => Ok(not_taken()),
+        Request::Status { .. } => Ok(not_taken()),
+    }
+}
+
+/// A client call.
+fn call(manager: &mut ResourceManager, xid: &Xid, action: &Action) -> Result<Answer, Refusal>
+    ensures ok { IfOk result (λ answer. (config : Config) (number : ℕ)
+        → IsCall config number manager.old manager.new xid.now action.now answer) }
+    ensures err { IfErr result (λ e. e ≡ NoMemory) }
+{
+    match action {
+        Action::Start => manager.start(xid),
+        Action::Put { key, value } => manager.put(xid, key.as_slice(), value.as_slice()),
+        Action::Del { key } => manager.del(xid, key.as_slice()),
+        Action::Get { key } => manager.get(xid, key.as_slice()),
+        Action::End => Ok(manager.end(xid, Ending::Success)),
+        Action::EndFail => Ok(manager.end(xid, Ending::Fail)),
+        Action::Rollback => Ok(manager.rollback(xid)),
+    }
+}
+
+/// How a view is answered.
+fn standing_of(view: View) -> Standing
+    ensures { result ≡ view_standing view }
+{
+    match view {
+        View::Working => Standing::Working,
+        View::Prepared => Standing::Prepared,
+        View::Committed => Standing::Committed,
+        View::Aborted => Standing::Aborted,
+    }
+}
+
+/// What is decided on a request that a kind of node doesn't take.
+pub(crate) fn not_taken() -> RoleDecision
+    ensures { result ≡ answering (Refused NoSuch) }
+{
+    RoleDecision::answers(Answer::Refused(Refusal::NoSuch))
+}

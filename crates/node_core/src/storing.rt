@@ -1,0 +1,92 @@
+//! How a node stores what was decided: ready for the fact first, then appended, then played. Nothing is sent that wasn't stored before.
+
+ghost use Rattle.std.specs.Prelude.{◌≡◌, IfOk, OnOk, List};
+ghost use Rattle.stable_record.specs.declared.fact.FactKind.{FactKind};
+ghost use Rattle.stable_record.specs.Facts.{IsFact};
+ghost use Rattle.protocol.specs.Effects.{Config, Effect};
+ghost use Rattle.protocol.specs.Nodes.{Memory};
+ghost use Rattle.node_core.specs.Roles.{IsDecided};
+ghost use Rattle.node_core.specs.Storing.{HasStored, Carries};
+
+use crate::output::{Output, change_by};
+use crate::role::{Role, RoleDecision};
+use protocol::NodeId;
+use stable_record::{Fact, Record, RecordError};
+use std::alloc::Global;
+use xid::Refusal;
+
+/// Why a fact wasn't answered as stored.
+#[derive(Clone, Copy, Debug, PartialEq, Eq)]
+pub(crate) enum Stopped {
+    /// The record failed. The fact is there where its whole frame was kept.
+    Fault {
+        /// Whether it was.
+        whole: bool,
+    },
+    /// Memory ran out, and the record is as it was.
+    Memory,
+}
+
+/// Appends the frame of a fact.
+pub(crate) fn store<R: Record>(alloc: Global, device: &mut R, fact: &Fact) -> Result<(), Stopped>
+    ensures stored { HasStored fact.now (R.held device.old) (R.held device.new) result }
+    ensures valid { IsFact fact.now }
+{
+    let mut frame = Vec::new(alloc);
+    match fact.write(alloc, &mut frame) {
+        Ok(()) => {}
+        Err(_) => return Err(Stopped::Memory),
+    }
+    match device.append(&frame) {
+        Ok(()) => Ok(()),
+        Err(RecordError::Fault) => {
+            let whole = device.kept() == frame.len();
+            Err(Stopped::Fault { whole })
+        }
+        Err(RecordError::Memory) => Err(Stopped::Memory),
+    }
+}
+
+/// Carries out what a role decided: with nothing to store, it is answered and sent; else the role makes itself ready for the fact, which
+/// is appended and then played. Refused where the node goes down: the record failed, or memory ran out. Then nothing is sent.
+pub(crate) fn carry_out<R: Record>(
+    alloc: Global,
+    device: &mut R,
+    who: NodeId,
+    role: &mut Role,
+    decision: RoleDecision,
+) -> Result<Output, Output>
+    ensures { (config : Config) (facts : List FactKind) (memory : Memory) (e : Effect Memory)
+        → IsDecided config who facts memory role.old decision e
+        → Carries config who facts memory e (R.held device.old) (R.held device.new) role.new result }
+{
+    let RoleDecision {
+        answer,
+        fact,
+        sends,
+    } = decision;
+    let Some(fact) = fact else {
+        return Ok(Output {
+            reply: answer,
+            now: None,
+            sends,
+        });
+    };
+    match role.ready(&fact) {
+        Ok(()) => {}
+        Err(refusal) => return Err(Output::refuses(refusal)),
+    }
+    let now = change_by(who, &fact);
+    match store(alloc, device, &fact) {
+        Ok(()) => {}
+        Err(stopped) => return Err(Output::stopped(stopped, now)),
+    }
+    match role.take(fact) {
+        Ok(()) => Ok(Output {
+            reply: answer,
+            now,
+            sends,
+        }),
+        Err(refusal) => Err(Output::refuses(refusal)),
+    }
+}

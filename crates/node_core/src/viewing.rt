@@ -1,0 +1,131 @@
+//! What the whole frames of a record say, which is read and left as it is.
+
+ghost use Rattle.std.specs.Prelude.{◌≡◌, List};
+ghost use Rattle.stable_record.specs.declared.fact.FactKind.{FactKind};
+ghost use Rattle.protocol.specs.declared.nodes.NodeId.{NodeId as Id};
+ghost use Rattle.protocol.specs.Effects.{Config};
+ghost use Rattle.protocol.specs.Nodes.{Memory, NodeState};
+ghost use Rattle.node_core.specs.Roles.{RoleStands};
+ghost use Rattle.node_core.specs.Nodes.{AreSizes, HasRows, IsAmong, IsSized, Stands};
+ghost use Rattle.node_core.specs.Viewing.{Peeks, SaysView, SaysTable, Views, Tables};
+
+use crate::config::Sizes;
+use crate::opening::{new_role, replay};
+use crate::role::Role;
+use protocol::{NodeId, Row, View};
+use stable_record::Record;
+use std::alloc::Global;
+use xid::{Refusal, Sequence, Tx};
+
+/// Reads a record and plays its facts, and leaves it as it is. Refused: its bytes are no frames of facts that play, and a tail
+/// (`Damaged`); it failed (`RecordFault`); `NoMemory`.
+fn peek<R: Record>(
+    alloc: Global,
+    device: &mut R,
+    who: NodeId,
+    sizes: Sizes,
+    rows: &[Row],
+) -> Result<Role, Refusal>
+    requires sized { IsSized sizes }
+    requires among { IsAmong sizes who }
+    ensures { (config : Config) → AreSizes config sizes → HasRows config who rows.now
+        → Peeks config who (R.held device.old) (R.held device.new) result }
+{
+    let bytes = match device.read(alloc) {
+        Ok(bytes) => bytes,
+        Err(error) => return Err(Refusal::from(error)),
+    };
+    let mut role = match new_role(alloc, who, sizes, rows) {
+        Ok(role) => role,
+        Err(refusal) => return Err(refusal),
+    };
+    match replay(alloc, &mut role, &bytes) {
+        Ok(_) => Ok(role),
+        Err(refusal) => Err(refusal),
+    }
+}
+
+/// Where a role stands in a transaction. Refused: it is no resource manager's (`NoSuch`), or the transaction names a resource manager
+/// outside the cluster, or doesn't name this one (`BadTx`).
+fn view_of(role: &Role, tx: &Tx) -> Result<View, Refusal>
+    ensures { (config : Config) (who : Id) (facts : List FactKind) (memory : Memory) → RoleStands config who role.now facts memory
+        → SaysView config who facts tx.now result }
+{
+    match role {
+        Role::Manager(manager) => manager.view(tx),
+        Role::Acceptor(_) => Err(Refusal::NoSuch),
+        Role::Leader(_) => Err(Refusal::NoSuch),
+    }
+}
+
+/// The rows of a role's table. Refused: it is no resource manager's (`NoSuch`); `NoMemory`.
+fn table_of(role: &Role) -> Result<Sequence<Row>, Refusal>
+    ensures { (config : Config) (who : Id) (facts : List FactKind) (memory : Memory) → RoleStands config who role.now facts memory
+        → SaysTable config who facts result }
+{
+    match role {
+        Role::Manager(manager) => match manager.rows() {
+            Ok(rows) => Ok(Sequence::new(rows)),
+            Err(refusal) => Err(refusal),
+        },
+        Role::Acceptor(_) => Err(Refusal::NoSuch),
+        Role::Leader(_) => Err(Refusal::NoSuch),
+    }
+}
+
+/// Where a node stands in a transaction: by its role if it is up, else by its record.
+pub(crate) fn view<R: Record>(
+    alloc: Global,
+    device: &mut R,
+    who: NodeId,
+    sizes: Sizes,
+    rows: &[Row],
+    role: &Option<Role>,
+    tx: &Tx,
+) -> Result<View, Refusal>
+    requires sized { IsSized sizes }
+    requires among { IsAmong sizes who }
+    ensures { (config : Config) (m : NodeState) → AreSizes config sizes → HasRows config who rows.now
+        → Stands config who (R.held device.old) role.now m
+        → Views config who m (R.held device.old) (R.held device.new) role.now tx.now result }
+{
+    let NodeId::R(_) = who else {
+        return Err(Refusal::NoSuch);
+    };
+    match role {
+        Some(up) => return view_of(up, tx),
+        None => {}
+    }
+    match peek(alloc, device, who, sizes, rows) {
+        Ok(read) => view_of(&read, tx),
+        Err(refusal) => Err(refusal),
+    }
+}
+
+/// The rows of a node's table: by its role if it is up, else by its record.
+pub(crate) fn table<R: Record>(
+    alloc: Global,
+    device: &mut R,
+    who: NodeId,
+    sizes: Sizes,
+    rows: &[Row],
+    role: &Option<Role>,
+) -> Result<Sequence<Row>, Refusal>
+    requires sized { IsSized sizes }
+    requires among { IsAmong sizes who }
+    ensures { (config : Config) (m : NodeState) → AreSizes config sizes → HasRows config who rows.now
+        → Stands config who (R.held device.old) role.now m
+        → Tables config who m (R.held device.old) (R.held device.new) role.now result }
+{
+    let NodeId::R(_) = who else {
+        return Err(Refusal::NoSuch);
+    };
+    match role {
+        Some(up) => return table_of(up),
+        None => {}
+    }
+    match peek(alloc, device, who, sizes, rows) {
+        Ok(read) => table_of(&read),
+        Err(refusal) => Err(refusal),
+    }
+}
