@@ -7,6 +7,9 @@ stands once in it, and 'new:', in whose place several 'new:' lines are several l
 First the right definitions must be proved, and each run must be refused under them, as its last word says otherwise. Then, for each
 rule, the run alone must be proved under the wrong definitions, which so elaborate; and a worked run of crates/protocol or a lemma of
 crates/safety must be refused. The last line is 'N passed, M failed'.
+
+A rule with a line 'crate: history' is an edit of crates/history, which looks back wrongly: its run must be proved beside the proofs of that
+crate, and of these a lemma must be refused that is no worked run.
 """
 import os
 import re
@@ -16,11 +19,12 @@ import sys
 import tempfile
 import time
 from concurrent.futures import ThreadPoolExecutor
+from contextlib import contextmanager
 from queue import Queue
 
 HERE = os.path.dirname(os.path.realpath(__file__))
 ROOT = os.path.dirname(os.path.dirname(HERE))
-CRATES = ("xid", "wire", "stable_record", "ballot", "protocol", "safety")
+WORDS = ("RunWords", "BackWords")
 RT = os.environ.get("RT", "rt").split()
 JOBS = int(os.environ.get("JOBS", "2"))
 ERROR = re.compile(r"^(?:\./)?(\S+):(\d+):\d+: error: (.*)")
@@ -67,6 +71,15 @@ def has_run(name):
     return os.path.exists(f"{HERE}/{name}.run")
 
 
+def run_of(name):
+    return read(f"{HERE}/{name}.run")
+
+
+def crate_of(name):
+    """The crate that a rule edits."""
+    return "history" if "crate: history" in read(f"{HERE}/{name}.rule").splitlines() else "protocol"
+
+
 def parse_rule(name):
     """The files of a rule, and of each the pairs of texts."""
     edits, file, words = {}, None, set()
@@ -81,25 +94,92 @@ def parse_rule(name):
         elif word == "new":
             last = file[-1]
             last[1] = text if last[1] is None else last[1] + "\n" + text
-        elif word not in ("wrong", "note"):
+        elif word not in ("wrong", "note", "crate"):
             raise BadRule(f"no such line: {line}")
     if "wrong" not in words or not edits or not (has_run(name) or "note" in words):
         raise BadRule("it wants a line 'wrong:', an edit, and a run or a note why there is none")
     return edits
 
 
-class Scratch:
-    """A copy of the crates."""
+class Copy:
+    """A copy of a crate and of those that it stands on."""
+
+    def __init__(self, folder, source, crate):
+        self.folder = folder
+        lines = dict(re.findall(r"^(\w+):(.*)$", read(f"{source}/crates.txt"), re.MULTILINE))
+        copied, wanted = [], [crate]
+        while wanted:
+            name = wanted.pop()
+            if name in lines and name not in copied:
+                copied.append(name)
+                wanted += lines[name].split()
+                shutil.copytree(f"{source}/crates/{name}", f"{folder}/crates/{name}", symlinks=True)
+        write(f"{folder}/crates.txt", "".join(f"{name}:{lines[name]}\n" for name in copied))
+
+    @contextmanager
+    def edited(self, name):
+        """The copy with the edits of a rule, and afterwards as before."""
+        before = {}
+        try:
+            for file, pairs in parse_rule(name).items():
+                path = f"{self.folder}/crates/{crate_of(name)}/{file}"
+                before[path] = text = read(path)
+                for old, new in pairs:
+                    if text.count(old) != 1:
+                        raise BadRule(f"{file}: stands {text.count(old)} times: {old}")
+                    text = text.replace(old, new)
+                write(path, text)
+            yield
+        finally:
+            for path, text in before.items():
+                write(path, text)
+
+
+class BackScratch(Copy):
+    """A copy of the crates for rules of looking back."""
 
     def __init__(self, folder, source):
-        self.folder = folder
+        super().__init__(folder, source, "history")
+        self.history = f"{folder}/crates/history"
+        self.modules = read(f"{self.history}/proofs/Lib.antt")
+
+    def check(self, runs):
+        """Checks history with these runs, texts by module, beside its proofs."""
+        written = {"BackWords": run_of("BackWords"), **runs}
+        proofs = f"{self.history}/proofs"
+        for name, text in written.items():
+            write(f"{proofs}/{name}.antt", text)
+        write(f"{proofs}/Lib.antt", self.modules + "".join(f"pub mod {name}\n" for name in written))
+        checked = Check(self.history)
+        for name in written:
+            os.remove(f"{proofs}/{name}.antt")
+        return checked
+
+    def try_rule(self, name):
+        """Which law refuses a rule."""
+        with self.edited(name):
+            check = self.check({"GoesWrong": run_of(name)})
+        if not check.is_refusal:
+            raise BadRule(check.refused_by)
+        if wrong := [error for error in check.errors if error[0] == "proofs/GoesWrong.antt"]:
+            raise BadRule(f"its run: {wrong[0]}")
+        laws = [error for error in check.errors if not error[0].endswith("WorkedRuns.antt")]
+        if not laws:
+            raise BadRule("no law refuses it")
+        return f"history {check.lemma_at(*laws[0])}"
+
+    def try_right_rules(self, names):
+        """Proves the right definitions, and says of which rules the run is not refused under them."""
+        return unrefused(self.check({module_of(name): run_of(name) for name in names}), names)
+
+
+class Scratch(Copy):
+    """A copy of the crates for rules of the protocol."""
+
+    def __init__(self, folder, source):
+        super().__init__(folder, source, "safety")
         self.protocol = f"{folder}/crates/protocol"
         self.safety = f"{folder}/crates/safety"
-        os.makedirs(f"{folder}/crates")
-        for crate in CRATES:
-            shutil.copytree(f"{source}/crates/{crate}", f"{folder}/crates/{crate}", symlinks=True)
-        lines = re.findall(r"^(\w+)(.*\n)", read(f"{source}/crates.txt"), re.MULTILINE)
-        write(f"{folder}/crates.txt", "".join(name + rest for name, rest in lines if name in CRATES))
         proofs = f"{ROOT}/crates/protocol/proofs"
         named = re.findall(r"^(?:pub )?mod (\w+)", read(f"{proofs}/Lib.antt"), re.MULTILINE)
         self.modules = {name: read(f"{proofs}/{name}.antt") for name in named}
@@ -129,7 +209,7 @@ class Scratch:
 
     def check_runs(self, runs):
         """Checks protocol with runs, texts by module, and nothing else but their words and what safety builds on."""
-        words = {"RowWords": self.modules["RowWords"], "RunWords": read(f"{HERE}/RunWords.run")} if runs else {}
+        words = {"RowWords": self.modules["RowWords"], "RunWords": run_of("RunWords")} if runs else {}
         self.set_proofs({**self.lemmas, **words, **runs})
         return Check(self.protocol)
 
@@ -143,77 +223,78 @@ class Scratch:
 
     def try_rule(self, name):
         """Which proofs refuse a rule."""
-        before = {}
-        try:
-            for file, pairs in parse_rule(name).items():
-                path = f"{self.protocol}/{file}"
-                before[path] = text = read(path)
-                for old, new in pairs:
-                    if text.count(old) != 1:
-                        raise BadRule(f"{file}: stands {text.count(old)} times: {old}")
-                    text = text.replace(old, new)
-                write(path, text)
-            runs = {"GoesWrong": read(f"{HERE}/{name}.run")} if has_run(name) else {}
+        with self.edited(name):
+            runs = {"GoesWrong": run_of(name)} if has_run(name) else {}
             alone = self.check_runs(runs)
             if not alone.proved:
                 raise BadRule(f"with the run alone: {alone.errors[:1] or alone.lines[-3:]}")
             checks = {"worked run": self.check_worked_runs(), "safety": self.check_safety()}
-            refused = [check for check in checks.values() if not check.proved]
-            if not refused or not all(check.is_refusal for check in refused):
-                raise BadRule(next((check.refused_by for check in refused if not check.is_refusal), "nothing refuses it"))
-            return ", ".join(f"{kind} {check.refused_by}" for kind, check in checks.items() if not check.proved)
-        finally:
-            for path, text in before.items():
-                write(path, text)
+        refused = [check for check in checks.values() if not check.proved]
+        if not refused or not all(check.is_refusal for check in refused):
+            raise BadRule(next((check.refused_by for check in refused if not check.is_refusal), "nothing refuses it"))
+        return ", ".join(f"{kind} {check.refused_by}" for kind, check in checks.items() if not check.proved)
+
+    def try_right_rules(self, names):
+        """Proves the right definitions, and says of which rules the run is not refused under them."""
+        for check in (self.check_worked_runs(), self.check_safety()):
+            if not check.proved:
+                sys.exit(f"the right definitions aren't proved: {check.crate}: {(check.errors or check.lines)[:3]}")
+        named = [name for name in names if has_run(name)]
+        return unrefused(self.check_runs({module_of(name): run_of(name) for name in named}), named)
 
 
 def module_of(name):
     return "".join(word.capitalize() for word in name.split("_"))
 
 
-def try_right_rules(scratch, names):
-    """Proves the right definitions, and says of which rules the run is not refused under them."""
-    for check in (scratch.check_worked_runs(), scratch.check_safety()):
-        if not check.proved:
-            sys.exit(f"the right definitions aren't proved: {check.crate}: {(check.errors or check.lines)[:3]}")
-    runs = {module_of(name): read(f"{HERE}/{name}.run") for name in names if has_run(name)}
-    errors = scratch.check_runs(runs).errors
-    wanted = {f"proofs/{module}.antt" for module in runs}
-    strange = [error for error in errors if error[0] not in wanted or not error[2].startswith("`goes_wrong`: ")]
-    return {name: f"with the right rule its run is not refused as it must be: {strange[:1]}" for name in names if module_of(name) in runs
-            and (f"proofs/{module_of(name)}.antt" not in {file for file, _, _ in errors} or strange)}
+def unrefused(check, names):
+    """Of which rules the run is not refused, in a check of all their runs under the right definitions."""
+    wanted = {f"proofs/{module_of(name)}.antt" for name in names}
+    strange = [error for error in check.errors if error[0] not in wanted or not error[2].startswith("`goes_wrong`: ")]
+    refused = {file for file, _, _ in check.errors}
+    return {name: f"with the right rule its run is not refused as it must be: {strange[:1]}" for name in names
+            if f"proofs/{module_of(name)}.antt" not in refused or strange}
+
+
+def try_rules(scratches, names):
+    """Tries rules on as many copies at once, and says of each whether it passed."""
+    began = time.monotonic()
+    failures = scratches[0].try_right_rules(names)
+    print(f"the right definitions: proved, in {time.monotonic() - began:.0f} s", flush=True)
+    free = Queue()
+    for it in scratches:
+        free.put(it)
+
+    def try_one(name):
+        scratch, start = free.get(), time.monotonic()
+        try:
+            told, well = scratch.try_rule(name), True
+            if name in failures:
+                raise BadRule(failures[name])
+        except (BadRule, OSError, IndexError, TypeError) as why:
+            told, well = f"FAILED: {why}", False
+        finally:
+            free.put(scratch)
+        print(f"{name}: {'refused by ' if well else ''}{told} ({time.monotonic() - start:.0f} s)", flush=True)
+        return well
+
+    with ThreadPoolExecutor(len(scratches)) as pool:
+        return list(pool.map(try_one, names))
 
 
 def main():
     files = [os.path.splitext(file) for file in os.listdir(HERE)]
     rules = {name for name, kind in files if kind == ".rule"}
-    if strays := {name for name, kind in files if kind == ".run"} - rules - {"RunWords"}:
+    if strays := {name for name, kind in files if kind == ".run"} - rules - set(WORDS):
         sys.exit(f"runs without a rule: {', '.join(sorted(strays))}")
     names = sys.argv[1:] or sorted(rules)
-    began = time.monotonic()
-    with tempfile.TemporaryDirectory() as folder:
-        first = Scratch(f"{folder}/0", ROOT)
-        failures = try_right_rules(first, names)
-        print(f"the right definitions: proved, in {time.monotonic() - began:.0f} s", flush=True)
-        free = Queue()
-        for it in [first, *(Scratch(f"{folder}/{n}", first.folder) for n in range(1, JOBS))]:
-            free.put(it)
-
-        def try_one(name):
-            scratch, start = free.get(), time.monotonic()
-            try:
-                told, well = scratch.try_rule(name), True
-                if name in failures:
-                    raise BadRule(failures[name])
-            except (BadRule, OSError, IndexError, TypeError) as why:
-                told, well = f"FAILED: {why}", False
-            finally:
-                free.put(scratch)
-            print(f"{name}: {'refused by ' if well else ''}{told} ({time.monotonic() - start:.0f} s)", flush=True)
-            return well
-
-        with ThreadPoolExecutor(JOBS) as pool:
-            passed = list(pool.map(try_one, names))
+    passed = []
+    for kind, crate in ((Scratch, "protocol"), (BackScratch, "history")):
+        if of_crate := [name for name in names if crate_of(name) == crate]:
+            with tempfile.TemporaryDirectory() as folder:
+                first = kind(f"{folder}/0", ROOT)
+                scratches = [first, *(kind(f"{folder}/{n}", first.folder) for n in range(1, min(JOBS, len(of_crate))))]
+                passed += try_rules(scratches, of_crate)
     print(f"{passed.count(True)} passed, {passed.count(False)} failed")
     sys.exit(not all(passed))
 
