@@ -1,5 +1,5 @@
 # pcommit: see README.md. `rt` is the command of the Rattle kit.
-SCRIPT ?= examples/first-branch.script
+SCRIPT ?= examples/plain-commit.script
 PREFIX ?= /usr/local
 
 .PHONY: run build try test golden scripts wrong-rules docs install clean proof-tools test-tools

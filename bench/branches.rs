@@ -1,21 +1,26 @@
 //! A resource manager, for `bench/branches.sh`. It prints how much was done, and the nanoseconds of that.
 //! `calls OPEN CYCLES`: so many branches are open, each with 4 keys put. In a cycle one of them ends, is rolled back and starts anew, and
 //! then puts its 4 keys and gets them: 11 calls.
-//! `commits ROWS BATCHES DONE`: the table has so many rows. In a batch 20 transactions are voted prepared, whose branches put 3 rows of
+//! `commits ROWS BATCHES DONE`: the table is filled with so many rows. In a batch 20 transactions are voted prepared, whose branches put 3 rows of
 //! the table, and a new one in every other batch, which they delete in the others. Of them so many are committed: only that is timed.
 //! `read TRANSACTIONS ROUNDS`, `replay TRANSACTIONS ROUNDS`: a record has the votes and the commits of so many transactions, of 4 keys
 //! each. It is read, and its facts are played by a resource manager that has played none.
 #![tactic(auto)]
 
+mod common;
+mod frames;
+
 use anyhow::bail;
 use branch_table::Ending;
-use protocol::{Answer, Decision, Row};
+use common::tx_of;
+use frames::count;
+use protocol::{Answer, Decision};
 use resource_manager::ResourceManager;
 use stable_record::{Entry, EntryKind, Fact, take_frame};
 use std::alloc::Global;
 use std::env;
 use std::time::Instant;
-use xid::{Bytes, Refusal, Tx, XaCode, Xid};
+use xid::{MAX_TOUCHED, Refusal, Tx, XaCode, Xid};
 
 const USAGE: &str =
     "usage: bench_branches calls OPEN CYCLES | commits ROWS BATCHES DONE | read|replay TRANSACTIONS ROUNDS";
@@ -29,11 +34,6 @@ const STRIDE: u32 = 7919;
 /// The branch of a number.
 fn xid_of(number: u32) -> Result<Xid, Refusal> {
     Xid::new(1, &number.to_be_bytes(), b"a")
-}
-
-/// The transaction of a number, which has its branch alone.
-fn tx_of(number: u32) -> Result<Tx, Refusal> {
-    Tx::new(1, &number.to_be_bytes(), &[(0, b"a".as_slice())])
 }
 
 /// 1 for a call that was done.
@@ -105,17 +105,6 @@ fn calls(rt: &HostRuntime, many: u32, cycles: u32) -> anyhow::Result<(u64, u128)
     call_all(rt, &mut manager, many, cycles)
 }
 
-/// So many rows, with even keys.
-fn table_of(alloc: Global, count: u32) -> Result<Vec<Row>, Refusal> {
-    let mut rows = Vec::new(alloc);
-    for number in 0..count {
-        let key = Bytes::copy_of(alloc, &number.wrapping_mul(2).to_be_bytes())?;
-        let value = Bytes::copy_of(alloc, b"value")?;
-        rows.push(Row { key, value })?;
-    }
-    Ok(rows)
-}
-
 /// A branch puts 3 rows that the table has.
 fn put_rows(
     manager: &mut ResourceManager,
@@ -185,8 +174,34 @@ fn prepare_batch(manager: &mut ResourceManager, rows: u32, batch: u32) -> Result
         write(manager, rows, batch, place)?;
         let _ = vote(
             manager,
-            &tx_of(batch.wrapping_mul(BATCH).wrapping_add(place))?,
+            &tx_of(batch.wrapping_mul(BATCH).wrapping_add(place), 1)?,
         )?;
+    }
+    Ok(())
+}
+
+/// A transaction puts some rows with even keys, from this one on, and is committed. Its number is far from those of the batches.
+fn fill_some(manager: &mut ResourceManager, first: u32, count: u32) -> Result<(), Refusal> {
+    let number = u32::MAX.wrapping_sub(first);
+    let xid = xid_of(number)?;
+    let _ = manager.start(&xid)?;
+    for row in first..first.saturating_add(count) {
+        let _ = manager.put(&xid, &row.wrapping_mul(2).to_be_bytes(), b"value")?;
+    }
+    let _ = manager.end(&xid, Ending::Success);
+    let tx = tx_of(number, 1)?;
+    let _ = vote(manager, &tx)?;
+    let decision = manager.on_commit(&tx);
+    let _ = store(manager, decision)?;
+    Ok(())
+}
+
+/// Fills the table with so many rows, with even keys.
+fn fill(manager: &mut ResourceManager, count: u32) -> Result<(), Refusal> {
+    let most = MAX_TOUCHED as u32;
+    for part in 0..count.div_ceil(most) {
+        let first = part.wrapping_mul(most);
+        fill_some(manager, first, count.saturating_sub(first).min(most))?;
     }
     Ok(())
 }
@@ -205,7 +220,7 @@ fn commit_all(manager: &mut ResourceManager, txs: &[Tx], count: usize) -> Result
 fn batch_of(alloc: Global, batch: u32) -> Result<Vec<Tx>, Refusal> {
     let mut txs = Vec::new(alloc);
     for place in 0..BATCH {
-        txs.push(tx_of(batch.wrapping_mul(BATCH).wrapping_add(place))?)?;
+        txs.push(tx_of(batch.wrapping_mul(BATCH).wrapping_add(place), 1)?)?;
     }
     Ok(txs)
 }
@@ -244,8 +259,8 @@ fn commit_batches(
 
 fn commits(rt: &HostRuntime, rows: u32, batches: u32, count: usize) -> anyhow::Result<(u64, u128)> {
     let alloc = rt.alloc();
-    let table = table_of(alloc, rows)?;
-    let mut manager = ResourceManager::new(alloc, 0, 1, table)?;
+    let mut manager = ResourceManager::new(alloc, 0, 1, Vec::new(alloc))?;
+    fill(&mut manager, rows)?;
     commit_batches(rt, &mut manager, rows, batches, count)
 }
 
@@ -274,7 +289,7 @@ fn record_tx(
     bytes: &mut Vec<u8>,
 ) -> Result<(), Refusal> {
     let _ = manager.end(&xid_of(number)?, Ending::Success);
-    let tx = tx_of(number)?;
+    let tx = tx_of(number, 1)?;
     let vote = manager.on_prepare(&tx)?;
     let _ = record(alloc, manager, vote, bytes)?;
     let commit = manager.on_commit(&tx);
@@ -334,22 +349,6 @@ fn replay(alloc: Global, bytes: &[u8], most: u32) -> Result<u64, Refusal> {
     play_all(alloc, &mut manager, bytes, most)
 }
 
-/// Reads the facts of a record of at most so many frames. Answers how many there were.
-fn read(alloc: Global, bytes: &[u8], most: u32) -> Result<u64, Refusal> {
-    let mut found: u64 = 0;
-    let mut rest = bytes;
-    for _ in 0..most {
-        match take_frame(alloc, rest)? {
-            Some((_, after)) => {
-                found = found.wrapping_add(1);
-                rest = after;
-            }
-            None => break,
-        }
-    }
-    Ok(found)
-}
-
 fn read_all(
     rt: &HostRuntime,
     bytes: &[u8],
@@ -363,7 +362,7 @@ fn read_all(
         let found = if plays {
             replay(alloc, bytes, u32::MAX)?
         } else {
-            read(alloc, bytes, u32::MAX)?
+            u64::from(count(alloc, bytes, u32::MAX)?)
         };
         facts = facts.wrapping_add(found);
     }

@@ -6,12 +6,17 @@
 //! `check FILE` prints how many whole frames stand there, each in its place, and how many bytes its tail has, and cuts the tail.
 #![tactic(auto)]
 
+mod common;
+mod frames;
+
 use anyhow::bail;
-use stable_record::{Entry, EntryKind, Fact, FactKind, FileRecord, Record, entries, take_frame};
+use common::tx_of;
+use frames::count;
+use stable_record::{Entry, EntryKind, Fact, FactKind, FileRecord, Record, entries};
 use std::alloc::Global;
 use std::env;
 use std::time::Instant;
-use xid::{Refusal, Tx, Vote};
+use xid::{Refusal, Vote};
 
 const USAGE: &str =
     "usage: bench_records replay FRAMES ROUNDS | append FILE COUNT | keep FILE | check FILE";
@@ -19,16 +24,10 @@ const USAGE: &str =
 /// After so many frames the whole record is put anew.
 const FRAMES_TO_A_REPLACEMENT: u32 = 40;
 
-/// A transaction of two branches, whose gtrid is a number of 4 bytes.
-fn tx_of(number: u32) -> Result<Tx, Refusal> {
-    let branches = [(0, b"a".as_slice()), (1, b"b".as_slice())];
-    Tx::new(1, &number.to_be_bytes(), &branches)
-}
-
 /// Adds the frame of a phase 2b vote.
 fn put_accept(alloc: Global, number: u32, out: &mut Vec<u8>) -> Result<(), Refusal> {
     let fact = Fact::new(FactKind::Accept {
-        tx: tx_of(number)?,
+        tx: tx_of(number, 2)?,
         instance: 1,
         ballot: 0,
         vote: Vote::Prepared,
@@ -66,7 +65,7 @@ fn frame_of(alloc: Global, number: u32) -> Result<Vec<u8>, Refusal> {
 /// Whether an entry is the one of this number.
 fn is_in_place(entry: &Entry, number: u32) -> Result<bool, Refusal> {
     match entry.kind() {
-        EntryKind::Fact(fact) => Ok(*fact.tx() == tx_of(number)?),
+        EntryKind::Fact(fact) => Ok(*fact.tx() == tx_of(number, 2)?),
         _ => Ok(false),
     }
 }
@@ -93,22 +92,6 @@ fn mend(alloc: Global, record: &mut FileRecord) -> Result<(u32, usize, usize), R
 
 fn open(rt: HostRuntime, path: &str) -> Result<FileRecord, Refusal> {
     Ok(FileRecord::open(rt, path)?)
-}
-
-/// How many whole frames bytes begin with, read one after the other.
-fn count(alloc: Global, bytes: &[u8], most: u32) -> Result<u32, Refusal> {
-    let mut found: u32 = 0;
-    let mut rest = bytes;
-    for _ in 0..most {
-        match take_frame(alloc, rest)? {
-            Some((_, after)) => {
-                found = found.saturating_add(1);
-                rest = after;
-            }
-            None => break,
-        }
-    }
-    Ok(found)
 }
 
 fn replay(rt: &HostRuntime, frames: u32, rounds: u32) -> anyhow::Result<()> {

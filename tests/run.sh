@@ -1,10 +1,13 @@
 #!/bin/sh
-# Runs the built program on each script of tests/golden, and on command lines and scripts made here, and compares what it prints and its
-# exit status. NAME.script is the input, NAME.out what goes to standard output, NAME.err what goes to standard error (none: nothing),
-# NAME.status the exit status (none: 0). A file of tests/golden that belongs to no script that was run has failed too. The last line is
-# 'N passed, M failed'.
+# Runs the built program on each script of tests/golden and tests/udp, on each trace of tests/audit, and on command lines, scripts and
+# folders made here, and compares what it prints and its exit status. NAME.script (or NAME.trace) is the input, NAME.out what goes to
+# standard output, NAME.err what goes to standard error (none: nothing), NAME.status the exit status (none: 0). Of tests/udp, NAME.1.script,
+# NAME.2.script and so on are run one after another over one folder. A file that belongs to no input that was run has failed too. The
+# trace of each script of tests/golden that is run is audited, and has to be consistent. The last line is 'N passed, M failed'.
 program=$(realpath "${1:-bin/pcommit}")
-golden=$(realpath "$(dirname "$0")")/golden
+tests=$(realpath "$(dirname "$0")")
+golden=$tests/golden
+examples=$tests/../examples
 scratch=$(mktemp -d)
 trap 'rm -rf "$scratch"' EXIT
 passed=0
@@ -34,27 +37,52 @@ check() { # NAME EXPECTED_OUT EXPECTED_ERR EXPECTED_STATUS WORDS..
     compare "$name" "$out" "$err" "$status"
 }
 
-# the scripts of tests/golden
-ls -A "$golden" >"$scratch/files" || fail golden "its files can't be listed"
-grep '\.script$' "$scratch/files" >"$scratch/scripts"
-ran=0
-while IFS= read -r script; do
-    name=${script%.script}
-    err=$golden/$name.err
-    [ -e "$err" ] || err=/dev/null
-    status=0
-    [ -e "$golden/$name.status" ] && status=$(cat "$golden/$name.status")
-    check "$name" "$golden/$name.out" "$err" "$status" run "$golden/$script"
-    ran=$((ran + 1))
-done <"$scratch/scripts"
-there=$(find "$golden" -name '*.script' | wc -l)
-[ "$ran" -gt 0 ] && [ "$ran" = "$there" ] || fail golden "$ran scripts were run of $there"
-while IFS= read -r file; do
-    case $file in
-    *.script | *.out | *.err | *.status) [ -e "$golden/${file%.*}.script" ] || fail "$file" 'it belongs to no script' ;;
-    *) fail "$file" 'it belongs to no script' ;;
-    esac
-done <"$scratch/files"
+# The inputs of a folder, those that end in .KIND, each by what is named: RUN NAME OUT ERR STATUS INPUT.
+each() { # FOLDER KIND RUN
+    ls -A "$1" >"$scratch/files" || fail "$1" "its files can't be listed"
+    grep "\\.$2\$" "$scratch/files" | sort >"$scratch/inputs"
+    ran=0
+    while IFS= read -r input; do
+        name=${input%."$2"}
+        err=$1/$name.err
+        [ -e "$err" ] || err=/dev/null
+        status=0
+        [ -e "$1/$name.status" ] && status=$(cat "$1/$name.status")
+        "$3" "$name" "$1/$name.out" "$err" "$status" "$1/$input"
+        ran=$((ran + 1))
+    done <"$scratch/inputs"
+    there=$(find "$1" -name "*.$2" | wc -l)
+    [ "$ran" -gt 0 ] && [ "$ran" = "$there" ] || fail "$1" "$ran inputs were run of $there"
+    while IFS= read -r file; do
+        case $file in
+        *."$2" | *.out | *.err | *.status) [ -e "$1/${file%.*}.$2" ] || fail "$file" 'it belongs to no input' ;;
+        *) fail "$file" 'it belongs to no input' ;;
+        esac
+    done <"$scratch/files"
+}
+
+# a script, whose trace is then audited
+run_golden() { # NAME EXPECTED_OUT EXPECTED_ERR EXPECTED_STATUS SCRIPT
+    check "$1" "$2" "$3" "$4" run "$5"
+    [ "$4" = 0 ] && check "$1, audited" "$scratch/consistent" /dev/null 0 audit "$2"
+}
+
+# a script over a folder, which is new where it is the first of its name
+run_udp() { # NAME EXPECTED_OUT EXPECTED_ERR EXPECTED_STATUS SCRIPT
+    folder=$scratch/${1%.*}.folder
+    [ "${1##*.}" = 1 ] && mkdir "$folder"
+    check "udp $1" "$2" "$3" "$4" udp "$5" "$folder"
+}
+
+run_audit() { # NAME EXPECTED_OUT EXPECTED_ERR EXPECTED_STATUS TRACE
+    check "audit $1" "$2" "$3" "$4" audit "$5"
+}
+
+echo consistent >"$scratch/consistent"
+echo inconsistent >"$scratch/inconsistent"
+each "$golden" script run_golden
+each "$tests/udp" script run_udp
+each "$tests/audit" trace run_audit
 
 # command lines
 echo 'pcommit: usage: pcommit run FILE | udp FILE DIR | audit FILE' >"$scratch/usage"
@@ -63,12 +91,68 @@ check help /dev/null "$scratch/usage" 2 --help
 check no_text /dev/null "$scratch/usage" 2 run "$(printf '\377')"
 check help_of_run /dev/null "$scratch/usage" 2 run --help
 check two_files /dev/null "$scratch/usage" 2 run a b
-check udp_not_yet /dev/null "$scratch/usage" 2 udp a b
+check udp_without_folder /dev/null "$scratch/usage" 2 udp a
+check two_folders /dev/null "$scratch/usage" 2 udp a b c
+check audit_of_two /dev/null "$scratch/usage" 2 audit a b
 
 # files that can't be read
 echo 'pcommit: refused 16' >"$scratch/refused"
 check missing_file /dev/null "$scratch/refused" 3 run "$scratch/no such file"
 check a_folder /dev/null "$scratch/refused" 3 run "$scratch"
+check missing_trace /dev/null "$scratch/refused" 3 audit "$scratch/no such file"
+check missing_udp_script /dev/null "$scratch/refused" 3 udp "$scratch/no such file" "$scratch"
+check missing_udp_folder /dev/null "$scratch/refused" 3 udp "$tests/udp/noise.1.script" "$scratch/no such folder"
+check a_file_as_folder /dev/null "$scratch/refused" 3 udp "$tests/udp/noise.1.script" "$scratch/refused"
+
+# faults come in the order: the script, the sizes, the events that aren't for sockets, the records; nothing is made before
+refused() { # NAME REFUSAL SCRIPT
+    mkdir "$scratch/$1.folder"
+    echo "pcommit: refused $2" >"$scratch/$1.err"
+    printf "$3" >"$scratch/$1.script"
+    check "$1" /dev/null "$scratch/$1.err" 3 udp "$scratch/$1.script" "$scratch/$1.folder"
+    [ -z "$(ls -A "$scratch/$1.folder")" ] || fail "$1" 'it left files in the folder'
+}
+refused udp_line_before_sizes '7 line 3' 'cluster acceptors 2 leaders 1 rms 1\ndeliver 1\nstop r0\n'
+refused udp_sizes_before_events 13 'cluster acceptors 2 leaders 1 rms 1\ndeliver 1\n'
+refused udp_event_not_for_sockets '7 line 2' 'cluster acceptors 1 leaders 1 rms 1\ntear r0 1\ndeliver 1\n'
+
+# records that are there already: of an older version, with a tail, of another role, and what is no record
+one='cluster acceptors 1 leaders 1 rms 1'
+frame='\000\000\000\023\001\004\000\000\000\001\001\164\001\000\001\141\001\001\153\001\000\001\061'
+over() { # NAME FILE BYTES STATUS ERR OUT
+    mkdir "$scratch/$1.folder"
+    printf "$3" >"$scratch/$1.folder/$2"
+    echo old >"$scratch/$1.folder/$2.new"
+    printf '%s\nrecover r0\n' "$one" >"$scratch/$1.script"
+    printf "$5" >"$scratch/$1.err"
+    printf "$6" >"$scratch/$1.out"
+    check "$1" "$scratch/$1.out" "$scratch/$1.err" "$4" udp "$scratch/$1.script" "$scratch/$1.folder"
+}
+over version_1 r0.rec "$frame" 0 '' "$one\nrecover r0 -> xids 1:74:61\nfinal r0\n"
+over a_tail r0.rec "$frame\000\000\000" 0 '' "$one\nrecover r0 -> xids 1:74:61\nfinal r0\n"
+over only_a_tail r0.rec '\000\000\000' 0 '' "$one\nrecover r0 -> xids\nfinal r0\n"
+[ -s "$scratch/only_a_tail.folder/r0.rec" ] && fail only_a_tail 'the tail stands'
+over of_another_role a0.rec "$frame" 3 'pcommit: refused 4\n' ''
+over no_record r0.rec 'no record' 3 'pcommit: refused 4\n' ''
+over no_frame l0.rec '\000\000\000\000' 3 'pcommit: refused 4\n' ''
+
+# a trace cut at every byte: each beginning of it is refused with a line
+trace=$tests/audit/in_order.trace
+length=$(wc -c <"$trace")
+at=0
+cuts=0
+while [ "$at" -lt "$length" ]; do
+    head -c "$at" "$trace" >"$scratch/cut.trace"
+    "$program" audit "$scratch/cut.trace" >"$scratch/out" 2>"$scratch/err"
+    got=$?
+    if [ "$got" = 3 ] && [ ! -s "$scratch/out" ] && grep -q '^pcommit: refused 7 line [0-9]*$' "$scratch/err"; then
+        cuts=$((cuts + 1))
+    else
+        fail "trace cut at byte $at" "status $got"
+    fi
+    at=$((at + 1))
+done
+[ "$cuts" = "$length" ] && passed=$((passed + 1))
 
 # names that begin and end in a space
 cd "$scratch" || exit 1
@@ -86,6 +170,32 @@ calls() {
 { echo "$sizes"; calls | sed 's/$/ -> 0/'; echo 'final r0'; } >large.out
 [ "$(wc -c <large)" -gt 65536 ] || fail large_script 'it has no more than 64 KB'
 check large_script large.out /dev/null 0 run large
+
+# each beginning of a script: it is run, or refused with its last line
+script=$golden/plain_commit.script
+ended=0
+for length in $(seq 0 "$(wc -c <"$script")"); do
+    head -c "$length" "$script" >cut
+    echo "pcommit: refused 7 line $(($(wc -l <cut) + 1))" >cut.err
+    "$program" run cut >out 2>err
+    got=$?
+    if [ "$got" = 0 ] && [ ! -s err ] && tail -n 1 out | grep -q '^final r[0-9]'; then
+        ended=$((ended + 1))
+    else
+        [ "$got" = 3 ] && [ ! -s out ] && cmp -s cut.err err || fail beginnings "status $got at $length bytes"
+    fi
+done
+[ "$ended" -gt 9 ] && passed=$((passed + 1)) || fail beginnings "$ended were run"
+
+# each example is a golden script, the same under a comment
+for example in "$examples"/*.script; do
+    grep -v '^#' "$example" >bare
+    out=/dev/null
+    for script in "$golden"/*.script; do
+        cmp -s bare "$script" && out=${script%.script}.out
+    done
+    check "$(basename "$example")" "$out" /dev/null 0 run "$example"
+done
 
 # output that can't be written, and output that breaks off
 : >out
@@ -113,6 +223,17 @@ compare closed_error /dev/null /dev/null 3
 "$program" >out 2>/dev/full
 got=$?
 compare full_error_of_usage /dev/null /dev/null 2
+
+# the auditor's word, and a run over sockets, that can't be written
+"$program" audit "$trace" >/dev/full 2>err
+got=$?
+compare full_output_of_audit /dev/null refused 3
+mkdir folder
+"$program" udp "$tests/udp/two_runs.1.script" folder >/dev/full 2>err
+got=$?
+compare full_output_of_udp /dev/null refused 3
+# what was stored stays: the second run goes on from there
+check goes_on_after_full_output "$tests/udp/two_runs.2.out" /dev/null 0 udp "$tests/udp/two_runs.2.script" folder
 
 echo "$passed passed, $failed failed"
 [ "$failed" = 0 ]

@@ -111,7 +111,7 @@ each_filtered P p [] each = tt
 each_filtered P p (x ∷ xs) each = choose P (p x) x (filter p xs) each.0 (each_filtered P p xs each.1)
 
 -- each of some branches is among all
-each_named : (all rest : List BranchParts) → ((b : BranchParts) → list_any (is_at b.rm) rest ≡ true → list_any (is_at b.rm) all ≡ true)
+pub each_named : (all rest : List BranchParts) → ((b : BranchParts) → list_any (is_at b.rm) rest ≡ true → list_any (is_at b.rm) all ≡ true)
     → AllByRecursion (λ rm. list_any (is_at rm) all ≡ true) (rm_numbers rest)
 each_named all [] sub = tt
 each_named all (b ∷ rest) sub = (
@@ -182,7 +182,3 @@ module _ {X : Type 0} (f : X → ℕ) (h : ℕ → Option X) (own : (n : ℕ) (x
       → listed_items r ≡ filter_map h (participants tx) → MatchOption r ⊥ (λ xs. xs ≡ filter_map h (participants tx))
   is_gathered tx None i x there e all = absurd (omega (arith, ap length all, some_kept tx.branches i x there e))
   is_gathered tx (Some xs) i x there e all = all
-
-pub each_listed : {X : Type 0} (P : X → Type 0) (r : Option (List X)) → AllByRecursion P (listed_items r) → IfSome r (AllByRecursion P)
-each_listed P None each = tt
-each_listed P (Some xs) each = each

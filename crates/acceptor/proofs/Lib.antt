@@ -4,3 +4,5 @@ pub mod Reports
 pub mod Played
 pub mod Rows
 pub mod Standing
+pub mod Compacting
+pub mod Writing

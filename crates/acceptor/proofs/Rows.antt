@@ -1,128 +1,87 @@
 -- The rows of a table: after one more transaction, and after a change of one.
-use Rattle.std.proofs.Common.{◌≡◌, ◌≢◌, ◌∙◌, ℕ, zero, suc, ◌+◌, ◌<◌, ◌≤◌, Bool, true, false, not, cond, ltb, List, [], ◌∷◌, ◌++◌}
+use Rattle.std.proofs.Common.{◌≡◌, ◌≢◌, ◌∙◌, ℕ, zero, suc, ◌+◌, ◌<◌, ◌≤◌, Bool, true, false, cond, ltb, List, [], ◌∷◌, ◌++◌}
 use Rattle.std.proofs.Common.{length, get_or, set, map, replicate, refl, sym, ap, subst, arith}
-use Rattle.std.proofs.lemmas.Bool.{ltb-true, ltb-false, eq-eqb, ne_eqb, true≢false}
+use Rattle.std.proofs.lemmas.Bool.{ltb-true, ltb-false, true≢false}
 use Rattle.std.proofs.lemmas.List.{get_or_past, get_or_at, get_or-set_same, get_or-set_other, length-set, length-append, length-replicate}
 use Rattle.std.proofs.lemmas.List.{map-append}
-use Rattle.std.proofs.lemmas.List.Folds.{position_or_len_push}
-use Rattle.std.proofs.lemmas.List.Sums.{passes_at_first, prefix_len-le-length}
 use Rattle.xid.specs.Transactions.{TxParts, tx_eq}
-use Rattle.xid.proofs.Deciding.{tx_self, tx_decides}
+use Rattle.xid.proofs.Deciding.{tx_decides}
 use Rattle.ballot.specs.declared.slot.Slot.{Slot}
 use Rattle.ballot.specs.Slots.{empty_slot}
 use Rattle.stable_record.specs.declared.fact.FactKind.{FactKind as Fact}
 use Rattle.stable_record.specs.Facts.{fact_tx}
 use Rattle.transactions.specs.Seen.{place_in, seen_with}
 use Rattle.transactions.proofs.Keys.{absent_from_place}
+use Rattle.transactions.proofs.Rows.{front, place_le, one_at, place_stays, place_ends, number_same, longer, is_seen}
 use Rattle.protocol.specs.Acceptors.{plays_at_acceptor}
 use Rattle.acceptor.specs.Slots.{place_of, slot_at, slot_of, slots_after, after_fact}
 use Rattle.acceptor.specs.Tables.{TableParts, IsSeen, IsTable, slots_in, slot_in}
 use Rattle.acceptor.proofs.Played.{leads_to, stays, whole_after, plays_alone}
 
-front : {X : Type 0} (xs : List X) (x d : X) (k : ℕ) → k < length xs → get_or (xs ++ x ∷ []) k d ≡ get_or xs k d
-front [] x d k lt = absurd (omega arith)
-front (y ∷ xs) x d zero lt = refl
-front (y ∷ xs) x d (suc k) lt = front xs x d k (omega arith)
-
-nobody : TxParts
-nobody = record { format = 0; gtrid = []; branches = [] }
-
-place_le : (ts : List TxParts) (tx : TxParts) → place_in ts tx ≤ length ts
-place_le ts tx = prefix_len-le-length (λ other. not (tx_eq tx other)) ts
-
 -- ---- one more transaction
 
-module _ (ts : List TxParts) (tx : TxParts) (absent : place_in ts tx ≡ length ts) where
-  place_stays : (other : TxParts) → place_in ts other < length ts → place_in (ts ++ tx ∷ []) other ≡ place_in ts other
-  place_stays other lt =
-      position_or_len_push (tx_eq other) ts tx
-      ∙ ap (λ t. cond t (length ts + cond (tx_eq other tx) 0 1) (place_in ts other)) (ne_eqb _ _ (λ e. absurd (omega (arith, lt, e))))
+module _ (ts : List TxParts) (tx : TxParts) (absent : place_in ts tx ≡ length ts) (rows : List (List Slot)) (row : List Slot)
+    (is : IsTable (record { transactions = ts; slots = rows })) where
+  before : TableParts
+  before = record { transactions = ts; slots = rows }
 
-  place_ends : (other : TxParts) → place_in ts other ≡ length ts → place_in (ts ++ tx ∷ []) other ≡ length ts + cond (tx_eq other tx) 0 1
-  place_ends other e =
-      position_or_len_push (tx_eq other) ts tx
-      ∙ ap (λ t. cond t (length ts + cond (tx_eq other tx) 0 1) (place_in ts other)) (eq-eqb _ _ e)
+  abbrev after : TableParts
+  after = record { transactions = ts ++ tx ∷ []; slots = rows ++ row ∷ [] }
 
-  pub number_same : place_in ts tx ≡ place_in (ts ++ tx ∷ []) tx
-  number_same =
-      let e = place_ends tx absent in
-      let zero_more : ◌≡◌ {A = ℕ} (cond (tx_eq tx tx) 0 1) 0 = ap (λ t. cond t 0 1) (tx_self tx) in
-      omega (arith, absent, e, zero_more)
+  row_stays : (other : TxParts) → place_in ts other < length ts → slots_in after other ≡ get_or rows (place_in ts other) []
+  row_stays other lt =
+      ap (λ n. get_or (rows ++ row ∷ []) n []) (place_stays ts tx absent other lt)
+      ∙ front rows row [] (place_in ts other) (omega (arith, lt, is.rows))
 
-  longer : length (ts ++ tx ∷ []) ≡ length ts + 1
-  longer = length-append ts (tx ∷ [])
+  row_new : (other : TxParts) → place_in ts other ≡ length ts → tx_eq other tx ≡ true → slots_in after other ≡ row
+  row_new other e same =
+      let zero_more : ◌≡◌ {A = ℕ} (cond (tx_eq other tx) 0 1) 0 = ap (λ t. cond t 0 1) same in
+      get_or_at rows row [] [] (place_in (ts ++ tx ∷ []) other) (omega (arith, e, zero_more, place_ends ts tx absent other e, is.rows))
 
-  pub is_seen : place_in (ts ++ tx ∷ []) tx < length (ts ++ tx ∷ [])
-  is_seen = omega (arith, absent, number_same, longer)
+  row_none : (other : TxParts) → place_in ts other ≡ length ts → tx_eq other tx ≡ false → slots_in after other ≡ []
+  row_none other e apart =
+      let one_more : ◌≡◌ {A = ℕ} (cond (tx_eq other tx) 0 1) 1 = ap (λ t. cond t 0 1) apart in
+      get_or_past (rows ++ row ∷ []) (place_in (ts ++ tx ∷ []) other) []
+      (omega (arith, e, one_more, place_ends ts tx absent other e, is.rows, length-append rows (row ∷ [])))
 
-  module _ (rows : List (List Slot)) (row : List Slot) (is : IsTable (record { transactions = ts; slots = rows })) where
-    before : TableParts
-    before = record { transactions = ts; slots = rows }
+  -- with a row of slots at first each slot is as it was
+  pub seen_same : ((n : ℕ) → slot_at row n ≡ empty_slot) → (other : TxParts) (i : ℕ)
+      → slot_in after other i ≡ slot_in (record { transactions = ts; slots = rows }) other i
+  seen_same fresh other i = by (ltb (place_in ts other) (length ts)) (tx_eq other tx) refl refl
+    where
+      by : (t same : Bool) → ltb (place_in ts other) (length ts) ≡ t → tx_eq other tx ≡ same
+          → slot_in after other i ≡ slot_in (record { transactions = ts; slots = rows }) other i
+      by true same t e = ap (λ slots. slot_of other slots i) (row_stays other (ltb-true _ _ t))
+      by false true t e =
+          let full : place_in ts other ≡ length ts = omega (arith, ltb-false _ _ t, place_le ts other) in
+          ap (λ slots. slot_of other slots i) (row_new other full e) ∙ fresh (place_of other i)
+          ∙ ap (λ slots. slot_of other slots i) (sym (get_or_past rows (place_in ts other) [] (omega (arith, full, is.rows))))
+      by false false t e =
+          let full : place_in ts other ≡ length ts = omega (arith, ltb-false _ _ t, place_le ts other) in
+          ap (λ slots. slot_of other slots i) (row_none other full e)
+          ∙ ap (λ slots. slot_of other slots i) (sym (get_or_past rows (place_in ts other) [] (omega (arith, full, is.rows))))
 
-    abbrev after : TableParts
-    after = record { transactions = ts ++ tx ∷ []; slots = rows ++ row ∷ [] }
+  pub seen_table : length row ≡ length tx.branches → IsTable after
+  seen_table len = record {
+    rows = omega (arith, is.rows, length-append rows (row ∷ []), longer ts tx absent);
+    branches = each;
+  }
+    where
+      by : (other : TxParts) (t same : Bool) → ltb (place_in ts other) (length ts) ≡ t → tx_eq other tx ≡ same → IsSeen after other
+          → length (slots_in after other) ≡ length other.branches
+      by other true same t e seen = ap length (row_stays other (ltb-true _ _ t)) ∙ is.branches other (ltb-true _ _ t)
+      by other false true t e seen =
+          let full : place_in ts other ≡ length ts = omega (arith, ltb-false _ _ t, place_le ts other) in
+          ap length (row_new other full e) ∙ len ∙ ap (λ (u : TxParts). length u.branches) (sym ((tx_decides other tx).0 e))
+      by other false false t e seen =
+          let full : place_in ts other ≡ length ts = omega (arith, ltb-false _ _ t, place_le ts other) in
+          let one_more : ◌≡◌ {A = ℕ} (cond (tx_eq other tx) 0 1) 1 = ap (λ t. cond t 0 1) e in
+          absurd (omega (arith, seen, place_ends ts tx absent other full, one_more, longer ts tx absent))
 
-    row_stays : (other : TxParts) → place_in ts other < length ts → slots_in after other ≡ get_or rows (place_in ts other) []
-    row_stays other lt =
-        ap (λ n. get_or (rows ++ row ∷ []) n []) (place_stays other lt)
-        ∙ front rows row [] (place_in ts other) (omega (arith, lt, is.rows))
-
-    row_new : (other : TxParts) → place_in ts other ≡ length ts → tx_eq other tx ≡ true → slots_in after other ≡ row
-    row_new other e same =
-        let zero_more : ◌≡◌ {A = ℕ} (cond (tx_eq other tx) 0 1) 0 = ap (λ t. cond t 0 1) same in
-        get_or_at rows row [] [] (place_in (ts ++ tx ∷ []) other) (omega (arith, e, zero_more, place_ends other e, is.rows))
-
-    row_none : (other : TxParts) → place_in ts other ≡ length ts → tx_eq other tx ≡ false → slots_in after other ≡ []
-    row_none other e apart =
-        let one_more : ◌≡◌ {A = ℕ} (cond (tx_eq other tx) 0 1) 1 = ap (λ t. cond t 0 1) apart in
-        get_or_past (rows ++ row ∷ []) (place_in (ts ++ tx ∷ []) other) []
-        (omega (arith, e, one_more, place_ends other e, is.rows, length-append rows (row ∷ [])))
-
-    -- with a row of slots at first each slot is as it was
-    pub seen_same : ((n : ℕ) → slot_at row n ≡ empty_slot) → (other : TxParts) (i : ℕ)
-        → slot_in after other i ≡ slot_in (record { transactions = ts; slots = rows }) other i
-    seen_same fresh other i = by (ltb (place_in ts other) (length ts)) (tx_eq other tx) refl refl
-      where
-        by : (t same : Bool) → ltb (place_in ts other) (length ts) ≡ t → tx_eq other tx ≡ same
-            → slot_in after other i ≡ slot_in (record { transactions = ts; slots = rows }) other i
-        by true same t e = ap (λ slots. slot_of other slots i) (row_stays other (ltb-true _ _ t))
-        by false true t e =
-            let full : place_in ts other ≡ length ts = omega (arith, ltb-false _ _ t, place_le ts other) in
-            ap (λ slots. slot_of other slots i) (row_new other full e) ∙ fresh (place_of other i)
-            ∙ ap (λ slots. slot_of other slots i) (sym (get_or_past rows (place_in ts other) [] (omega (arith, full, is.rows))))
-        by false false t e =
-            let full : place_in ts other ≡ length ts = omega (arith, ltb-false _ _ t, place_le ts other) in
-            ap (λ slots. slot_of other slots i) (row_none other full e)
-            ∙ ap (λ slots. slot_of other slots i) (sym (get_or_past rows (place_in ts other) [] (omega (arith, full, is.rows))))
-
-    pub seen_table : length row ≡ length tx.branches → IsTable after
-    seen_table len = record {
-      rows = omega (arith, is.rows, length-append rows (row ∷ []), longer);
-      branches = each;
-    }
-      where
-        by : (other : TxParts) (t same : Bool) → ltb (place_in ts other) (length ts) ≡ t → tx_eq other tx ≡ same → IsSeen after other
-            → length (slots_in after other) ≡ length other.branches
-        by other true same t e seen = ap length (row_stays other (ltb-true _ _ t)) ∙ is.branches other (ltb-true _ _ t)
-        by other false true t e seen =
-            let full : place_in ts other ≡ length ts = omega (arith, ltb-false _ _ t, place_le ts other) in
-            ap length (row_new other full e) ∙ len ∙ ap (λ (u : TxParts). length u.branches) (sym ((tx_decides other tx).0 e))
-        by other false false t e seen =
-            let full : place_in ts other ≡ length ts = omega (arith, ltb-false _ _ t, place_le ts other) in
-            let one_more : ◌≡◌ {A = ℕ} (cond (tx_eq other tx) 0 1) 1 = ap (λ t. cond t 0 1) e in
-            absurd (omega (arith, seen, place_ends other full, one_more, longer))
-
-        each : (other : TxParts) → IsSeen after other → length (slots_in after other) ≡ length other.branches
-        each other seen = by other (ltb (place_in ts other) (length ts)) (tx_eq other tx) refl refl seen
+      each : (other : TxParts) → IsSeen after other → length (slots_in after other) ≡ length other.branches
+      each other seen = by other (ltb (place_in ts other) (length ts)) (tx_eq other tx) refl refl seen
 
 -- ---- a change of one transaction's slots
-
--- two transactions at one place are one
-one_tx : (ts : List TxParts) (tx other : TxParts) → place_in ts tx < length ts → place_in ts other ≡ place_in ts tx → other ≡ tx
-one_tx ts tx other lt e =
-    let of_tx = (tx_decides tx _).0 (passes_at_first (tx_eq tx) ts nobody lt) in
-    let of_other = (tx_decides other _).0 (passes_at_first (tx_eq other) ts nobody (omega (arith, lt, e))) in
-    of_other ∙ ap (λ n. get_or ts n nobody) e ∙ sym of_tx
 
 module _ (ts : List TxParts) (rows : List (List Slot)) (fact : Fact) (is : IsTable (record { transactions = ts; slots = rows }))
     (seen : place_in ts (fact_tx fact) < length ts) where
@@ -137,8 +96,7 @@ module _ (ts : List TxParts) (rows : List (List Slot)) (fact : Fact) (is : IsTab
 
   other_row : (other : TxParts) → other ≢ fact_tx fact → slots_in changed other ≡ get_or rows (place_in ts other) []
   other_row other apart =
-      get_or-set_other rows (place_in ts (fact_tx fact)) (place_in ts other) changed_row [] (λ e. apart (one_tx ts
-      (fact_tx fact) other seen e))
+      get_or-set_other rows (place_in ts (fact_tx fact)) (place_in ts other) changed_row [] (λ e. apart (one_at ts (fact_tx fact) other seen e))
 
   pub changed_table : IsTable changed
   changed_table = record {

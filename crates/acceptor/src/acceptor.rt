@@ -1,5 +1,6 @@
-ghost use Rattle.std.specs.Prelude.{◌≡◌, ℕ, ◌<◌, []};
+ghost use Rattle.std.specs.Prelude.{◌≡◌, ℕ, ◌<◌, [], IfOk, IfErr};
 ghost use Rattle.xid.specs.Limits.{most_acceptors};
+ghost use Rattle.xid.specs.declared.refusals.Refusal.TheVariants.{NoMemory};
 ghost use Rattle.wire.specs.Messages.{IsMessage};
 ghost use Rattle.wire.specs.declared.message.Kind.TheVariants.{P1a, P2a, B1a};
 ghost use Rattle.stable_record.specs.Facts.{fact_tx};
@@ -7,6 +8,7 @@ ghost use Rattle.protocol.specs.Acceptors.{on_1a, on_b1a, on_2a, on_acceptor_mes
 ghost use Rattle.protocol.specs.Effects.{Config};
 ghost use Rattle.stable_record.specs.Parts.{IsMadeReady, IsPlayed};
 ghost use Rattle.acceptor.specs.Acceptors.{acceptor_part, StandsFor, Decides};
+ghost use Rattle.acceptor.specs.Compaction.{Compacts};
 
 use crate::bundles::Accepted;
 use crate::rules::{Seat, on_1a, on_2a, on_b1a};
@@ -216,5 +218,14 @@ impl Acceptor {
         };
         self.table.change(number, fact);
         Ok(())
+    }
+
+    /// The facts of a shorter record that says the same: for each transaction in the order of first sight, and each instance ascending,
+    /// what was accepted last, and then a promise, where the instance took part in a greater ballot. `NoMemory` is the only refusal.
+    pub fn shorter(&self) -> Result<Vec<Fact>, Refusal>
+        ensures ok { IfOk result (λ kept. Compacts self.now kept.items) }
+        ensures err { IfErr result (λ e. e ≡ NoMemory) }
+    {
+        self.table.compacted()
     }
 }

@@ -4,6 +4,7 @@
 
 mod acceptor;
 mod bundles;
+mod compaction;
 mod rules;
 mod slots;
 mod table;

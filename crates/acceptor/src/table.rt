@@ -1,14 +1,16 @@
 ghost use Rattle.std.specs.Prelude.{◌≡◌, ℕ, ◌<◌, true, [], IfSome, IfOk, IfErr, length, replicate};
-ghost use Rattle.std.specs.List.{slice_index_or};
-ghost use Rattle.xid.specs.Transactions.{TxParts};
+ghost use Rattle.std.specs.List.{slice_index_or, All, IsDistinct};
+ghost use Rattle.xid.specs.Transactions.{TxParts, IsTx, tx_eq};
 ghost use Rattle.xid.specs.declared.refusals.Refusal.TheVariants.{NoMemory};
 ghost use Rattle.ballot.specs.Slots.{empty_slot};
 ghost use Rattle.stable_record.specs.Facts.{fact_tx};
 ghost use Rattle.transactions.specs.Seen.{place_in};
 ghost use Rattle.protocol.specs.Acceptors.{plays_at_acceptor};
 ghost use Rattle.acceptor.specs.Slots.{after_fact};
-ghost use Rattle.acceptor.specs.Tables.{IsSeen, slots_in, slot_in};
+ghost use Rattle.acceptor.specs.Tables.{IsSeen, IsTable, slots_in, slot_in};
+ghost use Rattle.acceptor.specs.Compaction.{compacted};
 
+use crate::compaction::facts_of;
 use crate::slots::{KeptSlot, change};
 use stable_record::Fact;
 use std::alloc::{AllocError, Global};
@@ -108,6 +110,19 @@ impl Table {
         ensures { (other : TxParts) (i : ℕ) → slot_in self.new other i ≡ after_fact other i (slot_in self.old other i) fact.now }
     {
         change(&mut self.slots[number], fact);
+    }
+
+    /// The facts that lead to its slots: for each transaction in the order of first sight, and each instance ascending, what was accepted
+    /// last, and then a promise above it. `NoMemory` is the only refusal.
+    pub fn compacted(&self) -> Result<Vec<Fact>, Refusal>
+        ensures ok { IfOk result (λ facts. facts.items ≡ compacted self.now.transactions (slot_in self.now)) }
+        ensures err { IfErr result (λ e. e ≡ NoMemory) }
+        ensures table { IsTable self.now }
+        ensures valid { All IsTx self.now.transactions }
+        ensures distinct { IsDistinct tx_eq self.now.transactions }
+    {
+        let _ = self.transactions.len();
+        facts_of(self.alloc, &self.transactions, &self.slots)
     }
 }
 

@@ -366,6 +366,48 @@ fn take(
     Ok(true)
 }
 
+/// Of the first instance a vote and a promise above it; of the second its greatest promise.
+#[test]
+fn a_shorter_record(rt: HostRuntime) -> Result<(), Fail> {
+    let tx = small()?;
+    let mut acceptor = Acceptor::new(rt.alloc(), 0, 2, false);
+    let mut decision = Decision::nothing();
+    for message in [
+        p1a(tx, 1, 1),
+        p2a(tx, 0, Vote::Prepared),
+        p1a(tx, 0, 2),
+        p1a(tx, 1, 4),
+    ] {
+        assert!(rt; take(&rt, &mut acceptor, &mut decision, message)?);
+    }
+    let kept = match acceptor.shorter() {
+        Ok(kept) => kept,
+        Err(_) => acceptor.shorter()?,
+    };
+    assert_eq!(rt; kept.len(), 3);
+    assert_eq!(rt;
+        Some(kept[0].kind()),
+        accept(tx, 0, 0, Vote::Prepared).as_ref()
+    );
+    assert_eq!(rt;
+        kept[1].kind(),
+        &FactKind::Promise {
+            tx,
+            instance: 0,
+            ballot: 2
+        }
+    );
+    assert_eq!(rt;
+        kept[2].kind(),
+        &FactKind::Promise {
+            tx,
+            instance: 1,
+            ballot: 4
+        }
+    );
+    Ok(())
+}
+
 /// Each message of many transactions, twice: the second stores nothing.
 #[test]
 fn many_transactions(rt: HostRuntime) -> Result<(), Fail> {

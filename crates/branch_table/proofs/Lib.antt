@@ -5,6 +5,7 @@ mod Uses
 mod Found
 mod Hindered
 mod TableRows
+pub mod RowLimits
 mod HoldTable
 pub mod CallSteps
 mod TableKept

@@ -1,7 +1,9 @@
 -- A resource manager's branches and its table, as lists.
-use Rattle.std.specs.Prelude.{◌≡◌, ◌≢◌, ℕ, Bool, true, false, if◌then◌else◌, List, [], map, find, fold, Option, Some, None}
-use Rattle.std.specs.List.{IsDistinct}
+use Rattle.std.specs.Prelude.{◌≡◌, ◌≢◌, ℕ, Bool, true, false, ◌&&◌, nat_lt, nat_le, if◌then◌else◌, List, [], length, map, find, fold}
+use Rattle.std.specs.Prelude.{Option, Some, None}
+use Rattle.std.specs.List.{IsDistinct, list_all}
 use Rattle.std.specs.Option.{option_map}
+use Rattle.xid.specs.Limits.{most_key, most_value}
 use Rattle.xid.specs.Names.{XidParts, xid_eq}
 use Rattle.stable_record.specs.declared.fact.Act.{Act}
 use Rattle.protocol.specs.declared.answers.Answer.{Answer}
@@ -25,6 +27,14 @@ pub record TableState : Type 0 where
 -- the table of first contents in any order: of two rows with one key the later counts
 abbrev pub first_table : List Row → List Row
 first_table rows = fold put_row [] rows
+
+-- the lengths of a row are within the limits
+abbrev pub is_row : Row → Bool
+is_row row = nat_lt 0 (length row.key) && nat_le (length row.key) most_key && nat_le (length row.value) most_value
+
+-- the lengths of each row are within the limits
+abbrev pub are_rows : List Row → Bool
+are_rows rows = list_all is_row rows
 
 -- whether a branch in this state is active
 abbrev pub is_active : BranchState → Bool

@@ -11,6 +11,7 @@ ghost use Rattle.branch_table.specs.OneCall.{IsHindered};
 ghost use Rattle.protocol.specs.declared.answers.Answer.TheVariants as answers;
 ghost use Rattle.branch_table.specs.Tables.{AreTableBranches, branch_named};
 ghost use Rattle.branch_table.specs.Outcomes.{AreHindered, AreRecovered, Commits, IsRestored, RefusesRestore, SameMeaning, Undoes, is_ready};
+ghost use Rattle.branch_table.specs.Outcomes.{keys_named};
 
 use crate::branch::Branch;
 use crate::holds::Hold;
@@ -96,6 +97,19 @@ impl BranchTable {
     {
         let access = Access::of(&touched.act);
         self.is_hindered(Hold::free(), access, touched.key.as_slice())
+    }
+
+    /// The touched keys of a branch with its last acts on them, ascending, copied; none where there is no such branch. Refused:
+    /// `NoMemory` alone.
+    pub fn keys_of(&self, xid: &Xid) -> Result<Sequence<Touched>, Refusal>
+        ensures ok { IfOk result (λ keys. keys ≡ keys_named self.now.branches xid.now) }
+        ensures valid { IfOk result AreKeys }
+        ensures err { IfErr result (λ e. e ≡ NoMemory) }
+    {
+        match self.branches.get(xid) {
+            Some(branch) => Ok(Sequence::new(copied(self.alloc, branch.keys())?)),
+            None => Ok(Sequence::new(Vec::new(self.alloc))),
+        }
     }
 
     /// Whether an XID has a branch.

@@ -5,10 +5,10 @@ ghost use Rattle.std.specs.List.{list_all, list_any};
 ghost use Rattle.std.specs.Str.{bytes_eq};
 ghost use Rattle.xid.specs.declared.refusals.Refusal.TheVariants.{NoMemory};
 ghost use Rattle.protocol.specs.Branches.{row_at};
-ghost use Rattle.stable_record.specs.Facts.{AreAscending};
+ghost use Rattle.stable_record.specs.Facts.{AreKeys, IsTouched};
 ghost use Rattle.protocol.specs.Tables.{put_row, rows_after, with_writes};
 ghost use Rattle.branch_table.specs.Outcomes.{has_place};
-ghost use Rattle.branch_table.specs.Tables.{first_table};
+ghost use Rattle.branch_table.specs.Tables.{are_rows, first_table, is_row};
 ghost use Rattle.branch_table.specs.Parts.{rows_in, keys_in};
 
 use protocol::Row;
@@ -18,23 +18,28 @@ use std::collections::BTreeMap;
 use std::marker::Model;
 use xid::{Bytes, Refusal};
 
-/// A table: a place for each of its keys, with a row or without one.
+/// A table: a place for each of its keys, with a row or without one. The rows are within the limits.
 #[derive(Debug, Drop)]
 pub struct Rows {
     places: BTreeMap<Vec<u8>, Option<Bytes>>,
 }
 
 impl Model for Rows {
-    ghost use Rattle.std.specs.Prelude.{List, ℕ, Option, map};
+    ghost use Rattle.std.specs.Prelude.{◌≡◌, true, List, ℕ, Option, map};
+    ghost use Rattle.branch_table.specs.Parts.{rows_in};
+    ghost use Rattle.branch_table.specs.Tables.{are_rows};
 
     ghost Value = { List (List ℕ × Option (List ℕ)) };
 
     ghost view = { λ rows. map (λ entry. (entry.0.items, entry.1)) rows.places.entries };
+
+    ghost invariant = { λ rows. are_rows (rows_in (map (λ entry. (entry.0.items, entry.1)) rows.places.entries)) ≡ true };
 }
 
 impl Rows {
     /// The table of rows in any order; of two with one key the later counts. Refused: `NoMemory` alone.
     pub fn new(alloc: Global, rows: Vec<Row>) -> Result<Rows, Refusal>
+        requires { are_rows rows.items ≡ true }
         ensures ok { IfOk result (λ table. rows_in table ≡ first_table rows.items) }
         ensures err { IfErr result (λ e. e ≡ NoMemory) }
     {
@@ -49,6 +54,7 @@ impl Rows {
 
     /// Puts a row in the place of its key. At `NoMemory`, the only refusal, nothing changes; a key that has a place needs none.
     fn add(&mut self, row: Row) -> Result<(), Refusal>
+        requires { is_row row ≡ true }
         ensures ok { OnOk result (rows_in self.new ≡ put_row (rows_in self.old) row) }
         ensures keys { OnOk result ((other : List ℕ) → list_any (bytes_eq other) (keys_in self.new)
             ≡ (bytes_eq row.key other || list_any (bytes_eq other) (keys_in self.old))) }
@@ -141,7 +147,7 @@ impl Rows {
 
     /// Moves the writes among touched keys, which ascend and have their places, into the table. It takes no memory.
     pub fn write_all(&mut self, keys: Vec<Touched>)
-        requires ascending { AreAscending keys.items }
+        requires keys { AreKeys keys.items }
         requires places { list_all (has_place (keys_in self.old)) keys.items ≡ true }
         ensures { rows_in self.new ≡ with_writes (rows_in self.old) keys.items }
     {
@@ -152,7 +158,8 @@ impl Rows {
 
     /// Moves one write into the table.
     fn write(&mut self, touched: Touched)
-        requires { has_place (keys_in self.old) touched ≡ true }
+        requires place { has_place (keys_in self.old) touched ≡ true }
+        requires fits { IsTouched touched }
         ensures rows { rows_in self.new ≡ rows_after (rows_in self.old) touched.key touched.act }
         ensures keys { (other : List ℕ) → bytes_eq touched.key other ≡ false
             → list_any (bytes_eq other) (keys_in self.new) ≡ list_any (bytes_eq other) (keys_in self.old) }
@@ -183,6 +190,7 @@ impl Rows {
     pub fn copied(&self, alloc: Global) -> Result<Vec<Row>, Refusal>
         ensures ok { IfOk result (λ rows. rows.items ≡ rows_in self.now) }
         ensures err { IfErr result (λ e. e ≡ NoMemory) }
+        ensures limits { are_rows (rows_in self.now) ≡ true }
     {
         let mut rows = Vec::new(alloc);
         for (key, value) in &self.places {

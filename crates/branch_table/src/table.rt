@@ -15,7 +15,7 @@ ghost use Rattle.branch_table.specs.Admission.{end_action, end_state, end_code, 
 ghost use Rattle.branch_table.specs.OneCall.{IsHindered};
 ghost use Rattle.branch_table.specs.Outcomes.{Looks as LooksLem, keys_named};
 ghost use Rattle.branch_table.specs.Parts.{uses_held, uses_of};
-ghost use Rattle.branch_table.specs.Tables.{AreTableBranches, Steps, branch_named, first_table};
+ghost use Rattle.branch_table.specs.Tables.{AreTableBranches, Steps, are_rows, branch_named, first_table};
 
 use crate::branch::Branch;
 use crate::branches::Branches;
@@ -94,8 +94,10 @@ impl Model for BranchTable {
 }
 
 impl BranchTable {
-    /// No branches, and a table of these rows, in any order; of two with one key the later counts. Refused: `NoMemory` alone.
+    /// No branches, and a table of these rows, which are within the limits, in any order; of two with one key the later counts. Refused:
+    /// `NoMemory` alone.
     pub fn new(alloc: Global, rows: Vec<Row>) -> Result<BranchTable, Refusal>
+        requires { are_rows rows.items ≡ true }
         ensures ok { IfOk result (λ table. (table.rows ≡ first_table rows.items) × (table.branches ≡ []) × (table.looks ≡ 0)) }
         ensures err { IfErr result (λ e. e ≡ NoMemory) }
     {
@@ -109,10 +111,11 @@ impl BranchTable {
         })
     }
 
-    /// The rows of the table, copied, with their keys ascending. Refused: `NoMemory` alone.
+    /// The rows of the table, copied, with their keys ascending. All are within the limits. Refused: `NoMemory` alone.
     pub fn rows(&self) -> Result<Vec<Row>, Refusal>
         ensures ok { IfOk result (λ rows. rows.items ≡ self.now.rows) }
         ensures err { IfErr result (λ e. e ≡ NoMemory) }
+        ensures limits { are_rows self.now.rows ≡ true }
         ensures branches { AreTableBranches self.now.branches }
     {
         self.rows.copied(self.alloc)

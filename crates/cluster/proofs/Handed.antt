@@ -1,5 +1,5 @@
 -- What the functions of this crate make of each event.
-use Rattle.std.proofs.Common.{◌≡◌, ◌∙◌, ℕ, ◌*◌, ◌<◌, ◌≤◌, false, List, [], ◌∷◌, length, take}
+use Rattle.std.proofs.Common.{◌≡◌, ◌∙◌, ℕ, ◌*◌, ◌<◌, ◌≤◌, true, false, List, [], ◌∷◌, length, take}
 use Rattle.std.proofs.Common.{get_or, set}
 use Rattle.std.proofs.Common.{Option, Some, None, refl, sym, ap, subst, arith}
 use Rattle.std.specs.Prelude.{is_some}
@@ -11,8 +11,9 @@ use Rattle.wire.specs.Grammar.{Spells, spelling}
 use Rattle.wire.specs.declared.grammar.TheConstants.{MAX_MESSAGE_BYTES}
 use Rattle.wire.specs.declared.message.Kind.{Kind}
 use Rattle.stable_record.specs.declared.fact.FactKind.{FactKind as Fact}
-use Rattle.protocol.specs.declared.answers.Answer.TheVariants.{Refused}
-use Rattle.protocol.specs.declared.events.Event.TheVariants.{Ask, Deliver, Lose, Cut, Noise}
+use Rattle.protocol.specs.declared.answers.Answer.TheVariants.{Done, Refused}
+use Rattle.protocol.specs.declared.events.Event.{Event}
+use Rattle.protocol.specs.declared.events.Event.TheVariants.{Ask, Deliver, Lose, Cut, Noise, Tear, Restart, Compact}
 use Rattle.protocol.specs.declared.events.Sent.{Sent}
 use Rattle.protocol.specs.declared.nodes.NodeId.{NodeId}
 use Rattle.protocol.specs.declared.requests.Request.{Request}
@@ -25,15 +26,16 @@ use Rattle.node_core.specs.Sends.{sent}
 use Rattle.node_core.specs.Nodes.{NodeParts, NodeStands, AreSizes, StepsAs, datagram_input}
 use Rattle.network.specs.Networks.{DatagramParts, NetworkParts, StandsFor, Finds, IsKept}
 use Rattle.cluster.specs.declared.handing.Came.{Came}
-use Rattle.cluster.specs.Clusters.{ClusterParts, sized, cluster_of, ClusterStands, IsSound, ReachesAs, OccursAs, Reaches, step_by}
+use Rattle.cluster.specs.Clusters.{ClusterParts, sized, cluster_of, ClusterStands, IsSound, IsSameCluster, ReachesAs, OccursAs, Reaches}
+use Rattle.cluster.specs.Clusters.{step_by}
 use Rattle.cluster.specs.Sending.{HaveSent, HasRoom}
 use Rattle.cluster.proofs.Bounds.{count}
 use Rattle.cluster.proofs.Listed.{none_sent, sent_as}
 use Rattle.cluster.proofs.Standing.{is_there, none_there}
 use Rattle.cluster.proofs.Reaching.{reached, sends_few, room_less}
 use Rattle.cluster.proofs.Occurring.{is_received, cut_is_noise, mark_absent, occurs_asked, occurs_delivered, occurs_cut, unlost}
-use Rattle.cluster.proofs.Occurring.{occurs_forged}
-use Rattle.cluster.proofs.Occurring.{reaches_none}
+use Rattle.cluster.proofs.Occurring.{occurs_forged, reaches_none, refused_before, not_torn, not_restarted, not_compacted, undelivered, uncut, not_cut}
+use Rattle.cluster.proofs.Occurring.{occurs_lost}
 use Rattle.cluster.proofs.Occurring.{with_network, with_marked}
 
 none_left : {X : Type 0} (xs : List X) → length xs ≤ 0 → [] ≡ xs
@@ -63,6 +65,50 @@ module _ (config : Config) (world : World) (sizes : Sizes) (nodes : List NodePar
       → ReachesAs config world who input (cluster_of sizes nodes network) (cluster_of sizes (set nodes at new) after) came
   handed_on after came so answer_is now_is =
       reached config world sizes nodes network s who at (sym is) input node new out by_place after came so answer_is now_is
+
+-- ---- no such node, and no room
+
+module _ (config : Config) (world : World) (sizes : Sizes) (nodes : List NodeParts) (network : NetworkParts)
+    (s : ClusterStands config (cluster_of sizes nodes network) world) (who : NodeId) (none : None ≡ place (sized sizes) who) (came : Came)
+    (answer_is : came.answer ≡ Refused refusals.NoSuch) (now_is : came.now ≡ None) (sent_is : came.sent.items ≡ []) where
+  abbrev cluster : ClusterParts
+  cluster = cluster_of sizes nodes network
+
+  absent : node_at config world who ≡ None
+  absent = none_there config world sizes nodes network s who (sym none)
+
+  pub nowhere : (input : Input) → ReachesAs config world who input cluster cluster came
+  nowhere input = reaches_none config world cluster cluster came refl refl who input absent answer_is now_is sent_is s
+
+  pub asked_nowhere : (request : Request) → OccursAs config world (Ask who request) cluster cluster (step_by (Ask who request) came)
+  asked_nowhere request = occurs_asked config world cluster cluster came who request (nowhere (Asked request))
+
+  pub torn_nowhere : (n : ℕ) → OccursAs config world (Tear who n) cluster cluster (step_by (Tear who n) came)
+  torn_nowhere n = not_torn config world cluster cluster came refl refl who absent n answer_is now_is sent_is s
+
+  pub restarted_nowhere : OccursAs config world (Restart who) cluster cluster (step_by (Restart who) came)
+  restarted_nowhere = not_restarted config world cluster cluster came refl refl who absent answer_is now_is sent_is s
+
+  pub compacted_nowhere : OccursAs config world (Compact who) cluster cluster (step_by (Compact who) came)
+  compacted_nowhere = not_compacted config world cluster cluster came refl refl who absent answer_is now_is sent_is s
+
+  pub forged_nowhere : (bytes : List ℕ) (k : Kind) → Spells k bytes
+      → OccursAs config world (Noise who bytes) cluster cluster (step_by (Noise who bytes) came)
+  forged_nowhere bytes k spells =
+      occurs_forged config world cluster cluster came who bytes refl refl k spells (Refused refusals.NoSuch)
+      (ap (if_found world (λ (node : NodeState). answer_result world (Refused refusals.Forged))) absent) answer_is now_is sent_is s
+
+-- no room was made, and the network stands for what it stood for
+pub no_room : (event : Event) (sizes : Sizes) (nodes : List NodeParts) (before after : NetworkParts)
+    → ((net : List Datagram) → StandsFor before net → StandsFor after net) → (came : Came) → came.answer ≡ Refused refusals.NoMemory
+    → came.now ≡ None → came.sent.items ≡ [] → (config : Config) (world : World)
+    → ClusterStands config (cluster_of sizes nodes before) world
+    → OccursAs config world event (cluster_of sizes nodes before) (cluster_of sizes nodes after) (step_by event came)
+no_room event sizes nodes before after same came answer_is now_is sent_is config world s =
+    refused_before config world event (cluster_of sizes nodes before) (cluster_of sizes nodes after) came refl refl answer_is now_is
+    sent_is (with_network config world sizes nodes before after same s)
+
+-- ---- noise
 
 noise_input : (bytes : List ℕ) → message_at bytes ≡ None → datagram_input bytes ≡ ReceivedNoise
 noise_input bytes none = ap (λ (o : Option Kind). option_map_or Received o ReceivedNoise) none
@@ -119,9 +165,35 @@ pub forged_there : (config : Config) (world : World) (sizes : Sizes) (nodes : Li
     (Noise who bytes) came)
 forged_there config world sizes nodes network s who at is bytes k spells came answer_is now_is sent_is =
     let m : (m : NodeState) × (node_at config world who ≡ Some m) = is_there config world sizes nodes network s who at (sym is) in
-    occurs_forged config world (cluster_of sizes nodes network) (cluster_of sizes nodes network) came who bytes k spells
+    occurs_forged config world (cluster_of sizes nodes network) (cluster_of sizes nodes network) came who bytes refl refl k spells
     (Refused refusals.Forged)
     (ap (if_found world (λ (node : NodeState). answer_result world (Refused refusals.Forged))) m.1) answer_is now_is sent_is s
+
+-- a number that none has
+module _ (sizes : Sizes) (nodes : List NodeParts) (network : NetworkParts) (n : ℕ)
+    (absent : (net : List Datagram) → StandsFor network net → Finds net n None) (came : Came)
+    (answer_is : came.answer ≡ Refused refusals.NoSuch) (now_is : came.now ≡ None) (sent_is : came.sent.items ≡ [])
+    (config : Config) (world : World) (s : ClusterStands config (cluster_of sizes nodes network) world) where
+  abbrev unmoved : ClusterParts
+  unmoved = cluster_of sizes nodes network
+
+  pub delivered_none : OccursAs config world (Deliver n) unmoved unmoved (step_by (Deliver n) came)
+  delivered_none =
+      undelivered config world unmoved unmoved came refl refl n (absent world.net s.net_is) answer_is now_is sent_is s
+
+  pub cut_absent : (k : ℕ) → OccursAs config world (Cut n k) unmoved unmoved (step_by (Cut n k) came)
+  cut_absent k = uncut config world unmoved unmoved came refl refl n k (absent world.net s.net_is) answer_is now_is sent_is s
+
+-- a cut that leaves nothing off
+pub cut_nothing : (sizes : Sizes) (nodes : List NodeParts) (network : NetworkParts) (n k : ℕ) (kept : DatagramParts)
+    → ((net : List Datagram) → StandsFor network net → Finds net n (Some kept)) → length kept.bytes ≤ k → (came : Came)
+    → came.answer ≡ Refused refusals.NoSuch → came.now ≡ None → came.sent.items ≡ [] → (config : Config) (world : World)
+    → ClusterStands config (cluster_of sizes nodes network) world
+    → OccursAs config world (Cut n k) (cluster_of sizes nodes network) (cluster_of sizes nodes network) (step_by (Cut n k) came)
+cut_nothing sizes nodes network n k kept finds le came answer_is now_is sent_is config world s =
+    let f = finds world.net s.net_is in
+    not_cut config world (cluster_of sizes nodes network) (cluster_of sizes nodes network) came n f.0 f.1 refl refl k
+    (subst (λ (bytes : List ℕ). length bytes ≤ k) f.2.spells.spelled le) answer_is now_is sent_is s
 
 -- a number that none has is lost without a mark
 pub lost_none : (network after : NetworkParts) (n : ℕ) (came : Came)
@@ -133,7 +205,7 @@ pub lost_none : (network after : NetworkParts) (n : ℕ) (came : Came)
     → OccursAs config world (Lose n) (cluster_of sizes nodes network) (cluster_of sizes nodes after) (step_by (Lose n) came)
 lost_none network after n came absent marks answer_is now_is sent_is sizes nodes config world s =
     let none : datagram_at world.net n ≡ None = no_some (datagram_at world.net n) (absent world.net s.net_is) in
-    unlost config world (cluster_of sizes nodes network) (cluster_of sizes nodes after) came n none answer_is now_is sent_is
+    unlost config world (cluster_of sizes nodes network) (cluster_of sizes nodes after) came refl refl n none answer_is now_is sent_is
     (record {
       sizes_are = s.sizes_are;
       nodes_are = s.nodes_are;
@@ -144,12 +216,33 @@ lost_none network after n came absent marks answer_is now_is sent_is sizes nodes
     no_some None e = refl
     no_some (Some x) e = absurd (cc (e))
 
+-- one that a datagram has is marked
+pub lost_one : (network after : NetworkParts) (n : ℕ) (came : Came)
+    → ((net : List Datagram) → StandsFor network net → true ≡ is_some (datagram_at net n))
+    → ((net : List Datagram) → StandsFor network net → StandsFor after (mark_at net n))
+    → came.answer ≡ Done → came.now ≡ None → came.sent.items ≡ []
+    → (sizes : Sizes) (nodes : List NodeParts) (config : Config) (world : World) → ClusterStands config
+    (cluster_of sizes nodes network) world
+    → OccursAs config world (Lose n) (cluster_of sizes nodes network) (cluster_of sizes nodes after) (step_by (Lose n) came)
+lost_one network after n came there marks answer_is now_is sent_is sizes nodes config world s =
+    let d = found_one (datagram_at world.net n) (there world.net s.net_is) in
+    occurs_lost config world (cluster_of sizes nodes network) (cluster_of sizes nodes after) came n d.0 d.1 refl refl answer_is now_is
+    sent_is (with_marked config world sizes nodes network after n marks s)
+  where
+    found_one : {X : Type 0} (o : Option X) → true ≡ is_some o → (x : X) × (o ≡ Some x)
+    found_one None e = absurd (cc (e))
+    found_one (Some x) e = (x, refl)
+
+same_as : (sizes : Sizes) (nodes : List NodeParts) (a b : NetworkParts) (new : ClusterParts)
+    → IsSameCluster (cluster_of sizes nodes a) new → IsSameCluster (cluster_of sizes nodes b) new
+same_as sizes nodes a b new same = record { sizes_are = same.sizes_are; nodes_are = same.nodes_are }
+
 -- what is said of the nodes before holds whatever the network was
 as_before : (config : Config) (world : World) (who : NodeId) (input : Input) (sizes : Sizes) (nodes : List NodeParts) (a b : NetworkParts)
     (new : ClusterParts) (came : Came) → ReachesAs config world who input (cluster_of sizes nodes a) new came
     → ReachesAs config world who input (cluster_of sizes nodes b) new came
 as_before config world who input sizes nodes a b new came r =
-    record { fault = r.fault; reached = r.reached; befalls = r.befalls; comes = r.comes }
+    record { fault = r.fault; reached = r.reached; same = same_as sizes nodes a b new r.same; befalls = r.befalls; comes = r.comes }
 
 -- ---- a request
 
@@ -209,7 +302,7 @@ module _ (sizes : Sizes) (nodes : List NodeParts) (network after marked : Networ
       let none : node_at config world d.receiver ≡ None =
       none_there config world sizes nodes network s d.receiver (ap (λ (w : NodeId). place (sized sizes) w) (sym receiver_is) ∙ nowhere) in
       occurs_delivered config world (cluster_of sizes nodes network) (cluster_of sizes nodes marked) came n d f.1
-      (reaches_none config (with_mark world n) (cluster_of sizes nodes network) (cluster_of sizes nodes marked) came d.receiver
+      (reaches_none config (with_mark world n) (cluster_of sizes nodes network) (cluster_of sizes nodes marked) came refl refl d.receiver
       (Received d.message) none answer_is now_is sent_is (stands_marked config world s))
 
   -- it is found again

@@ -4,4 +4,9 @@ pub mod Standing
 pub mod Reaching
 pub mod Occurring
 pub mod Handed
+pub mod Renewed
+pub mod Asked
+pub mod Opened
+pub mod Grown
 pub mod Safe
+pub mod Following

@@ -45,6 +45,12 @@ sent_then a b c x y z first more h k = record {
       (ap (λ (n : ℕ). numbered (suc (length net)) first ++ numbered n more) next ∙ sym (numbered_append (suc (length net)) first more));
 }
 
+-- the same list by other words, and one that was empty
+pub sent_into : (a b : NetworkParts) (x y z : List Sent) (more : List Datagram) → x ≡ [] → z ≡ y → HaveSent a b x y more
+    → HaveSent a b [] z more
+sent_into a b x y z more none same h =
+    subst (λ (l : List Sent). HaveSent a b l z more) none (subst (λ (l : List Sent). HaveSent a b x l more) (sym same) h)
+
 -- the same datagrams by other words
 pub sent_as : (a b : NetworkParts) (x y : List Sent) (first more : List Datagram) → first ≡ more → HaveSent a b x y first
     → HaveSent a b x y more

@@ -16,7 +16,7 @@ use Rattle.protocol.specs.declared.answers.Answer.{Answer}
 use Rattle.protocol.specs.declared.answers.Answer.TheVariants.{Done, Refused}
 use Rattle.protocol.specs.declared.events.Change.{Change}
 use Rattle.protocol.specs.declared.events.Event.{Event}
-use Rattle.protocol.specs.declared.events.Event.TheVariants.{Ask, Deliver, Lose, Cut, Noise}
+use Rattle.protocol.specs.declared.events.Event.TheVariants.{Ask, Deliver, Lose, Cut, Noise, Tear, Restart, Compact}
 use Rattle.protocol.specs.declared.events.Sent.{Sent}
 use Rattle.protocol.specs.declared.events.Step.{Step}
 use Rattle.protocol.specs.declared.nodes.NodeId.{NodeId}
@@ -30,8 +30,9 @@ use Rattle.node_core.specs.declared.config.Sizes.{Sizes}
 use Rattle.node_core.specs.Nodes.{NodeParts, datagram_input}
 use Rattle.network.specs.Networks.{NetworkParts, StandsFor}
 use Rattle.cluster.specs.declared.handing.Came.{Came}
-use Rattle.cluster.specs.Clusters.{ClusterParts, cluster_of, ClusterStands, IsSound, ReachesAs, ComesTo, BefallsAt, BefallsReached}
-use Rattle.cluster.specs.Clusters.{BefallsIn, OccursAs, Occurs, step_by, handed, handed_cut}
+use Rattle.cluster.specs.Clusters.{ClusterParts, cluster_of, ClusterStands, IsSound, IsSameCluster, ReachesAs, ComesTo, BefallsAt}
+use Rattle.cluster.specs.Clusters.{BefallsReached, BefallsRestarted, BefallsCompacted, BefallsEvent, BefallsIn, OccursAs, Occurs, step_by, handed, handed_cut}
+use Rattle.cluster.proofs.Standing.{unchanged}
 
 -- ---- bytes
 
@@ -86,7 +87,7 @@ module _ (config : Config) (world : World) (event : Event) (old new : ClusterPar
   dispatched NoMemoryAt apart = refl
   dispatched (RecordFails whole) apart = refl
 
-  befallen : (fault : Fault) → (fault ≡ NoMemoryBefore → ⊥) → BefallsReached config world old.nodes new.nodes (handed world event) fault
+  befallen : (fault : Fault) → (fault ≡ NoMemoryBefore → ⊥) → BefallsEvent config world event old.nodes new.nodes fault
       → BefallsIn config world event old.nodes new.nodes fault
   befallen NoFault apart b = b
   befallen NoMemoryBefore apart b = absurd (apart refl)
@@ -99,12 +100,13 @@ module _ (config : Config) (world : World) (event : Event) (old new : ClusterPar
       ∙ ap (λ (c : Option Change). step_made event result.answer c came.sent.items) comes.now_is
       ∙ ap (λ (s : List Sent). step_made event result.answer result.now s) comes.sent_is
 
-  pub occurs : (fault : Fault) → (fault ≡ NoMemoryBefore → ⊥) → BefallsReached config world old.nodes new.nodes (handed world event) fault
-      → (result : StepResult) → dispatch config world event fault ≡ result → ComesTo config (length world.net) new came result
-      → OccursAs config world event old new (step_by event came)
-  occurs fault apart befalls result is comes =
+  pub occurs : IsSameCluster old new → (fault : Fault) → (fault ≡ NoMemoryBefore → ⊥)
+      → BefallsEvent config world event old.nodes new.nodes fault → (result : StepResult) → dispatch config world event fault ≡ result
+      → ComesTo config (length world.net) new came result → OccursAs config world event old new (step_by event came)
+  occurs same fault apart befalls result is comes =
       let made : result ≡ world_step config world event fault = sym is ∙ sym (dispatched fault apart) in
       record {
+        same = same;
         fault = fault;
         befalls = befallen fault apart befalls;
         step_is = step_same result comes ∙ ap (step_of world event) made;
@@ -112,9 +114,10 @@ module _ (config : Config) (world : World) (event : Event) (old new : ClusterPar
       }
 
   -- there was no room
-  pub refused_before : new.nodes ≡ old.nodes → came.answer ≡ Refused refusals.NoMemory → came.now ≡ None → came.sent.items ≡ []
+  pub refused_before : new.sizes ≡ old.sizes → new.nodes ≡ old.nodes → came.answer ≡ Refused refusals.NoMemory → came.now ≡ None → came.sent.items ≡ []
       → ClusterStands config new world → OccursAs config world event old new (step_by event came)
-  refused_before nodes_are answer_is now_is sent_is stands = record {
+  refused_before sizes_are nodes_are answer_is now_is sent_is stands = record {
+    same = unchanged old new sizes_are nodes_are;
     fault = NoMemoryBefore;
     befalls = nodes_are;
     step_is =
@@ -130,7 +133,7 @@ pub comes_quiet : (config : Config) (world after : World) (count : ℕ) (new : C
 comes_quiet config world after count new came answer answer_is now_is sent_is stands =
     record { answer_is = answer_is; now_is = now_is; sent_is = sent_is; stands = stands }
 
-no_fault : NoFault ≡ NoMemoryBefore → ⊥
+pub no_fault : NoFault ≡ NoMemoryBefore → ⊥
 no_fault e = absurd (cc (e))
 
 -- ---- each event
@@ -139,95 +142,126 @@ module _ (config : Config) (world : World) (old new : ClusterParts) (came : Came
   pub occurs_asked : (who : NodeId) (request : Request) → ReachesAs config world who (Asked request) old new came
       → OccursAs config world (Ask who request) old new (step_by (Ask who request) came)
   occurs_asked who request r =
-      occurs config world (Ask who request) old new came r.fault r.reached r.befalls
+      occurs config world (Ask who request) old new came r.same r.fault r.reached r.befalls
       (at_node config world who (Asked request) r.fault) refl r.comes
 
   -- a node that isn't there is not reached
-  pub reaches_none : (who : NodeId) (input : Input) → node_at config world who ≡ None → came.answer ≡ Refused refusals.NoSuch
+  pub reaches_none : new.sizes ≡ old.sizes → new.nodes ≡ old.nodes → (who : NodeId) (input : Input) → node_at config world who ≡ None → came.answer ≡ Refused refusals.NoSuch
       → came.now ≡ None → came.sent.items ≡ [] → ClusterStands config new world
       → ReachesAs config world who input old new came
-  reaches_none who input none answer_is now_is sent_is stands = record {
+  reaches_none sizes_are nodes_are who input none answer_is now_is sent_is stands = record {
     fault = NoFault;
     reached = no_fault;
+    same = unchanged old new sizes_are nodes_are;
     befalls = subst (λ (o : Option NodeState). BefallsAt config old.nodes new.nodes (who, input) o NoFault) (sym none) refl;
     comes =
         subst (ComesTo config (length world.net) new came) (sym (ap (if_found world _) none))
         (comes_quiet config world world (length world.net) new came (Refused refusals.NoSuch) answer_is now_is sent_is stands);
   }
 
-  -- no datagram has the number
-  pub no_datagram : (event : Event) → handed world event ≡ None → dispatch config world event NoFault ≡ answer_result world
-      (Refused refusals.NoSuch)
+  -- no node is handed anything
+  none_handed : (h : Option (NodeId × Input)) → h ≡ None → BefallsReached config world old.nodes new.nodes h NoFault
+  none_handed h none =
+      subst (λ (o : Option (NodeId × Input)). BefallsReached config world old.nodes new.nodes o NoFault) (sym none) refl
+
+  -- no node or datagram is there
+  pub not_there : new.sizes ≡ old.sizes → new.nodes ≡ old.nodes → (event : Event)
+      → BefallsEvent config world event old.nodes new.nodes NoFault
+      → dispatch config world event NoFault ≡ answer_result world (Refused refusals.NoSuch)
       → came.answer ≡ Refused refusals.NoSuch → came.now ≡ None → came.sent.items ≡ [] → ClusterStands config new world
       → OccursAs config world event old new (step_by event came)
-  no_datagram event none is answer_is now_is sent_is stands =
-      occurs config world event old new came NoFault no_fault
-      (subst (λ (h : Option (NodeId × Input)). BefallsReached config world old.nodes new.nodes h NoFault) (sym none) refl)
+  not_there sizes_are nodes_are event befalls is answer_is now_is sent_is stands =
+      occurs config world event old new came (unchanged old new sizes_are nodes_are) NoFault no_fault befalls
       (answer_result world (Refused refusals.NoSuch)) is
       (comes_quiet config world world (length world.net) new came (Refused refusals.NoSuch) answer_is now_is sent_is stands)
 
-  module _ (n : ℕ) where
+  module _ (sizes_are : new.sizes ≡ old.sizes) (nodes_are : new.nodes ≡ old.nodes) (n : ℕ) where
     pub undelivered : datagram_at world.net n ≡ None → came.answer ≡ Refused refusals.NoSuch → came.now ≡ None → came.sent.items ≡ []
         → ClusterStands config new world → OccursAs config world (Deliver n) old new (step_by (Deliver n) came)
     undelivered none =
-        no_datagram (Deliver n) (ap (option_map (λ (d : Datagram). (d.receiver, Received d.message))) none) (ap (if_found world _) none)
+        not_there sizes_are nodes_are (Deliver n)
+        (none_handed (handed world (Deliver n)) (ap (option_map (λ (d : Datagram). (d.receiver, Received d.message))) none))
+        (ap (if_found world _) none)
 
     pub unlost : datagram_at world.net n ≡ None → came.answer ≡ Refused refusals.NoSuch → came.now ≡ None → came.sent.items ≡ []
         → ClusterStands config new world → OccursAs config world (Lose n) old new (step_by (Lose n) came)
-    unlost none = no_datagram (Lose n) refl (ap (if_found world _) none)
+    unlost none = not_there sizes_are nodes_are (Lose n) refl (ap (if_found world _) none)
 
     pub uncut : (k : ℕ) → datagram_at world.net n ≡ None → came.answer ≡ Refused refusals.NoSuch → came.now ≡ None → came.sent.items ≡ []
         → ClusterStands config new world → OccursAs config world (Cut n k) old new (step_by (Cut n k) came)
-    uncut k none = no_datagram (Cut n k) (ap (option_and_then (handed_cut k)) none) (ap (if_found world _) none)
+    uncut k none =
+        not_there sizes_are nodes_are (Cut n k) (none_handed (handed world (Cut n k)) (ap (option_and_then (handed_cut k)) none))
+        (ap (if_found world _) none)
 
-    module _ (d : Datagram) (is : datagram_at world.net n ≡ Some d) where
-      pub occurs_delivered : ReachesAs config (with_mark world n) d.receiver (Received d.message) old new came
-          → OccursAs config world (Deliver n) old new (step_by (Deliver n) came)
-      occurs_delivered r =
-          occurs config world (Deliver n) old new came r.fault r.reached
-          (subst (λ (h : Option (NodeId × Input)). BefallsReached config world old.nodes new.nodes h r.fault)
-          (sym (ap (option_map (λ (e : Datagram). (e.receiver, Received e.message))) is)) r.befalls)
-          (at_node config (with_mark world n) d.receiver (Received d.message) r.fault) (ap (if_found world _) is)
-          (subst (λ (k : ℕ). ComesTo config k new came (at_node config (with_mark world n) d.receiver (Received d.message) r.fault))
-          (marked_count world.net n) r.comes)
+  module _ (sizes_are : new.sizes ≡ old.sizes) (nodes_are : new.nodes ≡ old.nodes) (who : NodeId) (none : node_at config world who ≡ None)
+    where
+      pub not_torn : (n : ℕ) → came.answer ≡ Refused refusals.NoSuch → came.now ≡ None → came.sent.items ≡ []
+          → ClusterStands config new world → OccursAs config world (Tear who n) old new (step_by (Tear who n) came)
+      not_torn n = not_there sizes_are nodes_are (Tear who n) refl (ap (if_found world _) none)
 
-      pub occurs_lost : came.answer ≡ Done → came.now ≡ None → came.sent.items ≡ [] → ClusterStands config new (with_mark world n)
-          → OccursAs config world (Lose n) old new (step_by (Lose n) came)
-      occurs_lost answer_is now_is sent_is stands =
-          occurs config world (Lose n) old new came NoFault no_fault refl (answer_result (with_mark world n) Done) (ap
-          (if_found world _) is)
-          (comes_quiet config world (with_mark world n) (length world.net) new came Done answer_is now_is sent_is stands)
+      pub not_restarted : came.answer ≡ Refused refusals.NoSuch → came.now ≡ None → came.sent.items ≡ []
+          → ClusterStands config new world → OccursAs config world (Restart who) old new (step_by (Restart who) came)
+      not_restarted =
+          not_there sizes_are nodes_are (Restart who)
+          (subst (λ (o : Option NodeState). BefallsRestarted config old.nodes new.nodes who o NoFault) (sym none) refl)
+          (ap (if_found world _) none)
 
-      pub occurs_cut : (k : ℕ) → k < length (spelling d.message) → ReachesAs config world d.receiver ReceivedNoise old new came
-          → OccursAs config world (Cut n k) old new (step_by (Cut n k) came)
-      occurs_cut k lt r =
-          let fewer : nat_lt k (length (spelling d.message)) ≡ true = lt-ltb k (length (spelling d.message)) lt in
-          occurs config world (Cut n k) old new came r.fault r.reached
-          (subst (λ (h : Option (NodeId × Input)). BefallsReached config world old.nodes new.nodes h r.fault)
-          (sym (ap (option_and_then (handed_cut k)) is ∙ ap (λ (b : Bool). if b then Some
-          (d.receiver, ReceivedNoise) else None) fewer)) r.befalls)
-          (at_node config world d.receiver ReceivedNoise r.fault)
-          (ap (if_found world _) is
-          ∙ ap (λ (b : Bool). if b then at_node config world d.receiver ReceivedNoise r.fault else answer_result world
-          (Refused refusals.NoSuch)) fewer)
-          r.comes
+      pub not_compacted : came.answer ≡ Refused refusals.NoSuch → came.now ≡ None → came.sent.items ≡ []
+          → ClusterStands config new world → OccursAs config world (Compact who) old new (step_by (Compact who) came)
+      not_compacted =
+          not_there sizes_are nodes_are (Compact who)
+          (subst (λ (o : Option NodeState). BefallsCompacted config old.nodes new.nodes who o NoFault) (sym none) refl)
+          (ap (if_found world _) none)
 
-      pub not_cut : (k : ℕ) → length (spelling d.message) ≤ k → came.answer ≡ Refused refusals.NoSuch → came.now ≡ None
-          → came.sent.items ≡ [] → ClusterStands config new world → OccursAs config world (Cut n k) old new (step_by (Cut n k) came)
-      not_cut k le =
-          let all : nat_lt k (length (spelling d.message)) ≡ false = le-ltb k (length (spelling d.message)) le in
-          no_datagram (Cut n k)
-          (ap (option_and_then (handed_cut k)) is ∙ ap (λ (b : Bool). if b then Some (d.receiver, ReceivedNoise) else None) all)
-          (ap (if_found world _) is
-          ∙ ap (λ (b : Bool). if b then at_node config world d.receiver ReceivedNoise NoFault else answer_result world
-          (Refused refusals.NoSuch)) all)
+  module _ (n : ℕ) (d : Datagram) (is : datagram_at world.net n ≡ Some d) where
+    pub occurs_delivered : ReachesAs config (with_mark world n) d.receiver (Received d.message) old new came
+        → OccursAs config world (Deliver n) old new (step_by (Deliver n) came)
+    occurs_delivered r =
+        occurs config world (Deliver n) old new came r.same r.fault r.reached
+        (subst (λ (h : Option (NodeId × Input)). BefallsReached config world old.nodes new.nodes h r.fault)
+        (sym (ap (option_map (λ (e : Datagram). (e.receiver, Received e.message))) is)) r.befalls)
+        (at_node config (with_mark world n) d.receiver (Received d.message) r.fault) (ap (if_found world _) is)
+        (subst (λ (k : ℕ). ComesTo config k new came (at_node config (with_mark world n) d.receiver (Received d.message) r.fault))
+        (marked_count world.net n) r.comes)
+
+    pub occurs_lost : new.sizes ≡ old.sizes → new.nodes ≡ old.nodes → came.answer ≡ Done → came.now ≡ None → came.sent.items ≡ [] → ClusterStands config new (with_mark world n)
+        → OccursAs config world (Lose n) old new (step_by (Lose n) came)
+    occurs_lost sizes_are nodes_are answer_is now_is sent_is stands =
+        occurs config world (Lose n) old new came (unchanged old new sizes_are nodes_are) NoFault no_fault refl (answer_result (with_mark world n) Done) (ap
+        (if_found world _) is)
+        (comes_quiet config world (with_mark world n) (length world.net) new came Done answer_is now_is sent_is stands)
+
+    pub occurs_cut : (k : ℕ) → k < length (spelling d.message) → ReachesAs config world d.receiver ReceivedNoise old new came
+        → OccursAs config world (Cut n k) old new (step_by (Cut n k) came)
+    occurs_cut k lt r =
+        let fewer : nat_lt k (length (spelling d.message)) ≡ true = lt-ltb k (length (spelling d.message)) lt in
+        occurs config world (Cut n k) old new came r.same r.fault r.reached
+        (subst (λ (h : Option (NodeId × Input)). BefallsReached config world old.nodes new.nodes h r.fault)
+        (sym (ap (option_and_then (handed_cut k)) is ∙ ap (λ (b : Bool). if b then Some
+        (d.receiver, ReceivedNoise) else None) fewer)) r.befalls)
+        (at_node config world d.receiver ReceivedNoise r.fault)
+        (ap (if_found world _) is
+        ∙ ap (λ (b : Bool). if b then at_node config world d.receiver ReceivedNoise r.fault else answer_result world
+        (Refused refusals.NoSuch)) fewer)
+        r.comes
+
+    pub not_cut : new.sizes ≡ old.sizes → new.nodes ≡ old.nodes → (k : ℕ) → length (spelling d.message) ≤ k → came.answer ≡ Refused refusals.NoSuch → came.now ≡ None
+        → came.sent.items ≡ [] → ClusterStands config new world → OccursAs config world (Cut n k) old new (step_by (Cut n k) came)
+    not_cut sizes_are nodes_are k le =
+        let all : nat_lt k (length (spelling d.message)) ≡ false = le-ltb k (length (spelling d.message)) le in
+        not_there sizes_are nodes_are (Cut n k)
+        (none_handed (handed world (Cut n k))
+        (ap (option_and_then (handed_cut k)) is ∙ ap (λ (b : Bool). if b then Some (d.receiver, ReceivedNoise) else None) all))
+        (ap (if_found world _) is
+        ∙ ap (λ (b : Bool). if b then at_node config world d.receiver ReceivedNoise NoFault else answer_result world
+        (Refused refusals.NoSuch)) all)
 
   module _ (who : NodeId) (bytes : List ℕ) where
     pub occurs_noise : message_at bytes ≡ None → ReachesAs config world who ReceivedNoise old new came
         → OccursAs config world (Noise who bytes) old new (step_by (Noise who bytes) came)
     occurs_noise none r =
         let no : spells_message bytes ≡ false = ap is_some none in
-        occurs config world (Noise who bytes) old new came r.fault r.reached
+        occurs config world (Noise who bytes) old new came r.same r.fault r.reached
         (subst (λ (h : Option (NodeId × Input)). BefallsReached config world old.nodes new.nodes h r.fault)
         (sym (ap (λ (b : Bool). if b then None else Some (who, ReceivedNoise)) no)) r.befalls)
         (at_node config world who ReceivedNoise r.fault)
@@ -236,14 +270,14 @@ module _ (config : Config) (world : World) (old new : ClusterParts) (came : Came
         else at_node config world who ReceivedNoise r.fault) no)
         r.comes
 
-    pub occurs_forged : (k : Kind) → Spells k bytes → (answer : Answer)
+    pub occurs_forged : new.sizes ≡ old.sizes → new.nodes ≡ old.nodes → (k : Kind) → Spells k bytes → (answer : Answer)
         → if_found world (λ (node : NodeState). answer_result world (Refused refusals.Forged))
         (node_at config world who) ≡ answer_result world answer
         → came.answer ≡ answer → came.now ≡ None → came.sent.items ≡ [] → ClusterStands config new world
         → OccursAs config world (Noise who bytes) old new (step_by (Noise who bytes) came)
-    occurs_forged k spells answer is answer_is now_is sent_is stands =
+    occurs_forged sizes_are nodes_are k spells answer is answer_is now_is sent_is stands =
         let spelled : spells_message bytes ≡ true = ap is_some (message_found k bytes spells) in
-        occurs config world (Noise who bytes) old new came NoFault no_fault
+        occurs config world (Noise who bytes) old new came (unchanged old new sizes_are nodes_are) NoFault no_fault
         (subst (λ (h : Option (NodeId × Input)). BefallsReached config world old.nodes new.nodes h NoFault)
         (sym (ap (λ (b : Bool). if b then None else Some (who, ReceivedNoise)) spelled)) refl)
         (answer_result world answer)
@@ -279,10 +313,7 @@ pub with_marked : (config : Config) (world : World) (sizes : Sizes) (nodes : Lis
 with_marked config world sizes nodes before after n marks s =
     record { sizes_are = s.sizes_are; nodes_are = s.nodes_are; net_is = marks world.net s.net_is }
 
--- the same event in other words
-pub told_as : (event other : Event) → event ≡ other → (old was new : ClusterParts) → old ≡ was → (came : Came) (step : Step)
-    → step ≡ step_by other came → Occurs event old new (step_by event came) → Occurs other was new step
-told_as event other same old was new is came step made happens =
-    subst (λ (s : Step). Occurs other was new s) (sym made)
-    (subst (λ (o : ClusterParts). Occurs other o new (step_by other came)) is
-    (subst (λ (e : Event). Occurs e old new (step_by e came)) same happens))
+-- the same event by another name
+pub named_as : (event other : Event) → other ≡ event → (old new : ClusterParts) (came : Came)
+    → Occurs event old new (step_by event came) → Occurs other old new (step_by other came)
+named_as event other same old new came happens = subst (λ (e : Event). Occurs e old new (step_by e came)) (sym same) happens

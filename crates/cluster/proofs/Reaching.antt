@@ -1,15 +1,12 @@
 -- A node of a cluster is handed an input: what comes of it is what comes of it in the machine.
-use Rattle.std.proofs.Common.{◌≡◌, ◌∙◌, ℕ, suc, ◌+◌, ◌*◌, ◌<◌, ◌≤◌, Bool, true, false, not, List, [], ◌++◌, length, get_or, set}
+use Rattle.std.proofs.Common.{◌≡◌, ◌∙◌, ℕ, suc, ◌+◌, ◌*◌, ◌≤◌, Bool, true, false, not, List, [], ◌++◌, length, get_or, set}
 use Rattle.std.proofs.Common.{Option, Some, None, sym, ap, subst, arith}
 use Rattle.std.specs.Prelude.{if◌then◌else◌, slice_get}
-use Rattle.std.specs.List.{flat_map, slice_set}
-use Rattle.std.specs.Option.{option_map_or}
+use Rattle.std.specs.List.{flat_map}
 use Rattle.std.proofs.Math.Nat.{mul-le-mul_right}
-use Rattle.std.proofs.lemmas.List.{get_or_default, get_or-set_same}
 use Rattle.wire.specs.declared.grammar.TheConstants.{MAX_MESSAGE_BYTES}
 use Rattle.stable_record.specs.declared.fact.FactKind.{FactKind as Fact}
 use Rattle.protocol.specs.declared.nodes.NodeId.{NodeId}
-use Rattle.protocol.specs.declared.rows.Row.{Row}
 use Rattle.protocol.specs.Effects.{Config, Effect}
 use Rattle.protocol.specs.Nodes.{NodeState, Memory, Input, Fault, Outcome, NoFault, NoMemoryBefore, NoMemoryAt, RecordFails, node_step}
 use Rattle.protocol.specs.Nodes.{effect_of, effect_outcome, accepts_input}
@@ -17,13 +14,13 @@ use Rattle.protocol.specs.Worlds.{World, Datagram, place, node_at, datagrams_of,
 use Rattle.node_core.specs.declared.config.Sizes.{Sizes}
 use Rattle.node_core.specs.declared.output.Output.{Output}
 use Rattle.node_core.specs.Sends.{sent}
-use Rattle.node_core.specs.Nodes.{NodeParts, NodeStands, AreSizes, HasRows, Stands, Steps, StepsAs, IsSameNode, Shows, Befalls}
+use Rattle.node_core.specs.Nodes.{NodeParts, NodeStands, AreSizes, Stands, Steps, StepsAs, IsSameNode, Shows, Befalls}
 use Rattle.node_core.specs.Nodes.{fact_to_store}
 use Rattle.network.specs.Networks.{NetworkParts, StandsFor}
 use Rattle.cluster.specs.declared.handing.Came.{Came}
-use Rattle.cluster.specs.Clusters.{sized, cluster_of, AreNodes, ClusterStands, ReachesAs, ComesTo, BefallsAt}
+use Rattle.cluster.specs.Clusters.{sized, cluster_of, ClusterStands, ReachesAs, ComesTo, BefallsAt}
 use Rattle.cluster.specs.Sending.{HaveSent, HasRoom}
-use Rattle.cluster.proofs.Standing.{placed, within, there, found, named, nodes_set, datagrams_as}
+use Rattle.cluster.proofs.Standing.{there, found, named, node_put, at_place, same_but, stands_still, datagrams_as}
 use Rattle.cluster.proofs.Bounds.{count}
 
 -- ---- how much a step sends
@@ -97,26 +94,19 @@ module _ (config : Config) (world : World) (sizes : Sizes) (nodes : List NodePar
   same : IsSameNode old new
   same = stepped.same
 
-  by_name : Steps config who state input old.held new.held new.role out
-  by_name = subst (λ (n : NodeId). Steps config n state input old.held new.held new.role out) who_is stepped.steps
+  by_name : Steps config who old.rows state input old.held new.held new.role out
+  by_name = subst (λ (n : NodeId). Steps config n old.rows state input old.held new.held new.role out) who_is stepped.steps
 
   abbrev outcome : Outcome
   outcome = node_step config who state input by_name.fault
 
-  shows : Shows config who state.facts new.held new.role out outcome
+  shows : Shows config who old.rows state.facts new.held new.role out outcome
   shows = by_name.shows
 
-  new_who : new.who ≡ who
-  new_who = same.who_is ∙ who_is
-
   new_stands : NodeStands config new outcome.node
-  new_stands = record {
-    sizes_are = subst (λ (z : Sizes). AreSizes config z) (sym same.sizes_are) own.2.sizes_are;
-    rows_are =
-        subst (λ (n : NodeId). HasRows config n new.rows) (sym same.who_is)
-        (subst (λ (rows : List Row). HasRows config old.who rows) (sym same.rows_are) own.2.rows_are);
-    stands = subst (λ (n : NodeId). Stands config n new.held new.role outcome.node) (sym new_who) shows.stands;
-  }
+  new_stands =
+      stands_still config old new state outcome.node same own.2
+      (subst (λ (n : NodeId). Stands config n old.rows new.held new.role outcome.node) (sym who_is) shows.stands)
 
   node_is : node_at config world who ≡ Some state
   node_is = found config world sizes nodes network s who at is state own.1
@@ -133,19 +123,11 @@ module _ (config : Config) (world : World) (sizes : Sizes) (nodes : List NodePar
 
   befallen : (o : Option NodeState) → o ≡ Some state → BefallsAt config nodes (set nodes at new) (who, input) o by_name.fault
   befallen None e = absurd (cc (e))
-  befallen (Some m) e = λ p x h.
-      let placed_at : Some at ≡ Some p = sym (placed config world sizes nodes network s who at is) ∙ h in
-      let p_is : p ≡ at = cc (placed_at) in
+  befallen (Some m) e =
       let m_is : state ≡ m = cc (e) in
-      let lt : at < length nodes = within config world sizes nodes network s who at is in
-      let before : get_or nodes p x ≡ old = ap (λ (q : ℕ). get_or nodes q x) p_is ∙ get_or_default nodes at x d lt in
-      let after : get_or (set nodes at new) p x ≡ new =
-      ap (λ (q : ℕ). get_or (set nodes at new) q x) p_is ∙ get_or-set_same nodes at new x lt in
-      subst (λ (a : NodeState). Befalls (fact_to_store config who a input) (get_or nodes p x).held (get_or
-      (set nodes at new) p x).held by_name.fault) m_is
-      (subst (λ (a : NodeParts). Befalls (fact_to_store config who state input) a.held (get_or (set nodes at new) p x).held by_name.fault)
-      (sym before)
-      (subst (λ (a : NodeParts). Befalls (fact_to_store config who state input) old.held a.held by_name.fault) (sym after) by_name.befalls))
+      at_place config world sizes nodes network s who at is
+      (λ (before after : NodeParts). Befalls (fact_to_store config who m input) before.held after.held by_name.fault) d new
+      (subst (λ (a : NodeState). Befalls (fact_to_store config who a input) old.held new.held by_name.fault) m_is by_name.befalls)
 
   pub reached : (after : NetworkParts) (came : Came)
       → HaveSent network after [] came.sent.items (flat_map (datagrams_of (sized sizes) who) (sent out.sends))
@@ -160,20 +142,15 @@ module _ (config : Config) (world : World) (sizes : Sizes) (nodes : List NodePar
         answer_is = answer_is ∙ shows.reply_is;
         now_is = now_is ∙ shows.now_is;
         sent_is = so.listed world.net s.net_is ∙ ap (λ (ds : List Datagram). numbered (suc (length world.net)) ds) datagrams;
-        stands = record {
-          sizes_are = s.sizes_are;
-          nodes_are =
-              subst
-              (λ (o : Option ℕ). AreNodes config (set nodes at new) (option_map_or (λ
-              (p : ℕ). slice_set world.nodes p outcome.node) o world.nodes))
-              (sym (placed config world sizes nodes network s who at is))
-              (nodes_set config world sizes nodes network s who at is d new outcome.node same.who_is new_stands);
-          net_is = subst (λ (ds : List Datagram). StandsFor after (world.net ++ ds)) datagrams (so.stands world.net s.net_is);
-        };
+        stands =
+            node_put config world sizes nodes network s who at is d new outcome.node same new_stands after
+            (world.net ++ flat_map (datagrams_of config who) outcome.sends)
+            (subst (λ (ds : List Datagram). StandsFor after (world.net ++ ds)) datagrams (so.stands world.net s.net_is));
       } in
       record {
         fault = by_name.fault;
         reached = λ e. subst (λ (f : Fault). Befalls (fact_to_store config who state input) old.held new.held f) e by_name.befalls;
+        same = same_but sizes nodes network after at d new same;
         befalls = befallen (node_at config world who) node_is;
         comes =
             subst (ComesTo config (length world.net) (cluster_of sizes (set nodes at new) after) came)

@@ -1,12 +1,12 @@
 -- The nodes of a cluster and those of its world, place by place.
 use Rattle.std.proofs.Common.{◌≡◌, ◌∙◌, inl, inr, ℕ, zero, suc, ◌+◌, ◌<◌, Bool, true, false, List, [], ◌∷◌, ◌++◌, length, map}
 use Rattle.std.proofs.Common.{get_or, set}
-use Rattle.std.proofs.Common.{Option, Some, None, refl, sym, ap, nat_lt, arith}
+use Rattle.std.proofs.Common.{Option, Some, None, refl, sym, ap, subst, nat_lt, arith}
 use Rattle.std.specs.Prelude.{slice_get, if◌then◌else◌}
-use Rattle.std.specs.List.{AllZip, flat_map, range_with_len}
-use Rattle.std.specs.Option.{option_and_then}
+use Rattle.std.specs.List.{AllZip, flat_map, range_with_len, slice_set}
+use Rattle.std.specs.Option.{option_and_then, option_map_or}
 use Rattle.std.proofs.lemmas.Bool.{cases_eq, ltb-true}
-use Rattle.std.proofs.lemmas.List.{get_or-set_same, get_or-set_other, length-set}
+use Rattle.std.proofs.lemmas.List.{get_or_default, get_or-set_same, get_or-set_other, length-set}
 use Rattle.std.proofs.lemmas.List.FromFn.{length-map-range_with_len, get_or-map-range_with_len}
 use Rattle.xid.specs.Transactions.{TxParts}
 use Rattle.wire.specs.Messages.{message_tx}
@@ -15,13 +15,14 @@ use Rattle.protocol.specs.declared.decisions.Address.TheVariants as addresses
 use Rattle.protocol.specs.declared.decisions.Outgoing.{Outgoing}
 use Rattle.protocol.specs.declared.nodes.NodeId.{NodeId}
 use Rattle.protocol.specs.declared.nodes.NodeId.TheVariants.{A, L, R}
+use Rattle.protocol.specs.declared.rows.Row.{Row}
 use Rattle.protocol.specs.Effects.{Config, receivers}
 use Rattle.protocol.specs.Nodes.{NodeState}
-use Rattle.protocol.specs.Worlds.{World, Datagram, place, node_at, datagrams_of}
+use Rattle.protocol.specs.Worlds.{World, Datagram, place, node_at, set_node, datagrams_of}
 use Rattle.node_core.specs.declared.config.Sizes.{Sizes}
-use Rattle.node_core.specs.Nodes.{NodeParts, NodeStands, AreSizes}
-use Rattle.network.specs.Networks.{NetworkParts, datagram_to}
-use Rattle.cluster.specs.Clusters.{sized, node_count, cluster_of, AreNodes, ClusterStands}
+use Rattle.node_core.specs.Nodes.{NodeParts, NodeStands, AreSizes, Stands, IsSameNode}
+use Rattle.network.specs.Networks.{NetworkParts, StandsFor, datagram_to}
+use Rattle.cluster.specs.Clusters.{ClusterParts, sized, node_count, cluster_of, AreNodes, ClusterStands, IsSameCluster}
 
 -- ---- lists, place by place
 
@@ -39,6 +40,49 @@ module _ {X Y : Type 0} (R : X → Y → Type 0) where
   zip_set (a ∷ xs) [] i x y all is = absurd all
   zip_set (a ∷ xs) (b ∷ ys) zero x y all is = (is, all.1)
   zip_set (a ∷ xs) (b ∷ ys) (suc i) x y all is = (all.0, zip_set xs ys i x y all.1 is)
+
+-- what is found in a place, put there again
+set_found : {X : Type 0} (xs : List X) (i : ℕ) (x : X) → slice_get xs i ≡ Some x → set xs i x ≡ xs
+set_found [] i x e = refl
+set_found (y ∷ xs) zero x e = let same : y ≡ x = cc (e) in ap (λ (z : _). z ∷ xs) (sym same)
+set_found (y ∷ xs) (suc i) x e = ap (λ (ys : List _). y ∷ ys) (set_found xs i x e)
+
+-- ---- what stays
+
+same_self : (node : NodeParts) → IsSameNode node node
+same_self node = record { who_is = refl; sizes_are = refl; rows_are = refl; may_fail_is = refl }
+
+same_all : (nodes : List NodeParts) → AllZip IsSameNode nodes nodes
+same_all [] = tt
+same_all (node ∷ nodes) = (same_self node, same_all nodes)
+
+same_set : (nodes : List NodeParts) (i : ℕ) (d new : NodeParts) → IsSameNode (get_or nodes i d) new → AllZip IsSameNode nodes
+    (set nodes i new)
+same_set [] i d new same = tt
+same_set (node ∷ nodes) zero d new same = (same, same_all nodes)
+same_set (node ∷ nodes) (suc i) d new same = (same_self node, same_set nodes i d new same)
+
+-- a cluster with a node that is still the one it was
+pub same_but : (sizes : Sizes) (nodes : List NodeParts) (before after : NetworkParts) (i : ℕ) (d new : NodeParts)
+    → IsSameNode (get_or nodes i d) new → IsSameCluster (cluster_of sizes nodes before) (cluster_of sizes (set nodes i new) after)
+same_but sizes nodes before after i d new same = record { sizes_are = refl; nodes_are = same_set nodes i d new same }
+
+-- a cluster with its nodes as they were
+pub unchanged : (old new : ClusterParts) → new.sizes ≡ old.sizes → new.nodes ≡ old.nodes → IsSameCluster old new
+unchanged old new sizes_are nodes_are = record {
+  sizes_are = sizes_are;
+  nodes_are = subst (λ (nodes : List NodeParts). AllZip IsSameNode old.nodes nodes) (sym nodes_are) (same_all old.nodes);
+}
+
+-- a node that is still the one it was stands for the node of the machine for which its record and its role stand now
+pub stands_still : (config : Config) (old new : NodeParts) (m next : NodeState) → IsSameNode old new → NodeStands config old m
+    → Stands config old.who old.rows new.held new.role next → NodeStands config new next
+stands_still config old new m next same was stands = record {
+  sizes_are = subst (λ (z : Sizes). AreSizes config z) (sym same.sizes_are) was.sizes_are;
+  stands =
+      subst (λ (n : NodeId). Stands config n new.rows new.held new.role next) (sym same.who_is)
+      (subst (λ (rows : List Row). Stands config old.who rows new.held new.role next) (sym same.rows_are) stands);
+}
 
 -- ---- sizes
 
@@ -181,6 +225,43 @@ module _ (config : Config) (world : World) (sizes : Sizes) (nodes : List NodePar
       ];
       stand = zip_set (NodeStands config) nodes world.nodes at new m s.nodes_are.stand stands;
     }
+
+    -- another node in its place, which is still the one it was, and stands for another of the machine
+    pub node_put : (d new : NodeParts) (m : NodeState) → IsSameNode (get_or nodes at d) new → NodeStands config new m
+        → (after : NetworkParts) (net : List Datagram) → StandsFor after net
+        → ClusterStands config (cluster_of sizes (set nodes at new) after) (record (set_node config world who m) { net = net })
+    node_put d new m same stands after net net_is = record {
+      sizes_are = s.sizes_are;
+      nodes_are =
+          subst
+          (λ (o : Option ℕ). AreNodes config (set nodes at new) (option_map_or (λ (p : ℕ). slice_set world.nodes p m) o world.nodes))
+          (sym placed) (nodes_set d new m same.who_is stands);
+      net_is = net_is;
+    }
+
+    -- another in its place, which stands for the same
+    pub node_kept : (d new : NodeParts) (m : NodeState) → slice_get world.nodes at ≡ Some m → IsSameNode (get_or nodes at d) new
+        → NodeStands config new m → ClusterStands config (cluster_of sizes (set nodes at new) network) world
+    node_kept d new m found_there same stands = record {
+      sizes_are = s.sizes_are;
+      nodes_are =
+          subst (λ (states : List NodeState). AreNodes config (set nodes at new) states) (set_found world.nodes at m found_there)
+          (nodes_set d new m same.who_is stands);
+      net_is = s.net_is;
+    }
+
+    -- what is said of its place in the lists before and after
+    pub at_place : (P : NodeParts → NodeParts → Type 0) (d new : NodeParts) → P (get_or nodes at d) new → (p : ℕ) (x : NodeParts)
+        → place config who ≡ Some p → P (get_or nodes p x) (get_or (set nodes at new) p x)
+    at_place P d new holds p x h =
+        let placed_at : Some at ≡ Some p = sym placed ∙ h in
+        let p_is : p ≡ at = cc (placed_at) in
+        let before : get_or nodes p x ≡ get_or nodes at d =
+        ap (λ (q : ℕ). get_or nodes q x) p_is ∙ get_or_default nodes at x d within in
+        let after : get_or (set nodes at new) p x ≡ new =
+        ap (λ (q : ℕ). get_or (set nodes at new) q x) p_is ∙ get_or-set_same nodes at new x within in
+        subst (λ (a : NodeParts). P a (get_or (set nodes at new) p x)) (sym before)
+        (subst (λ (a : NodeParts). P (get_or nodes at d) a) (sym after) holds)
 
     -- the world has the node, too
     pub is_there : (m : NodeState) × (node_at config world who ≡ Some m)

@@ -1,11 +1,11 @@
 -- A cluster: which world of the machine it stands for, and what an event makes of both.
-use Rattle.std.specs.Prelude.{◌≡◌, ℕ, suc, ◌+◌, nat_lt, if◌then◌else◌, List, [], length, slice_index_or, Option, Some, None}
+use Rattle.std.specs.Prelude.{◌≡◌, ℕ, suc, ◌+◌, Bool, true, false, nat_lt, if◌then◌else◌, List, [], length, slice_index_or, Option, Some, None}
 use Rattle.std.specs.List.{AllZip}
 use Rattle.std.specs.Option.{option_map, option_and_then}
 use Rattle.wire.specs.Grammar.{spelling}
 use Rattle.wire.specs.Decoding.{spells_message}
 use Rattle.protocol.specs.declared.events.Event.{Event}
-use Rattle.protocol.specs.declared.events.Event.TheVariants.{Ask, Deliver, Cut, Noise}
+use Rattle.protocol.specs.declared.events.Event.TheVariants.{Ask, Deliver, Cut, Noise, Restart, Compact}
 use Rattle.protocol.specs.declared.events.Step.{Step}
 use Rattle.protocol.specs.declared.nodes.NodeId.{NodeId}
 use Rattle.protocol.specs.Effects.{Config}
@@ -14,7 +14,9 @@ use Rattle.protocol.specs.Worlds.{World, Datagram, StepResult, place, node_at, a
 use Rattle.protocol.specs.Worlds.{world_step}
 use Rattle.safety.specs.Runs.{IsReachable}
 use Rattle.node_core.specs.declared.config.Sizes.{Sizes}
-use Rattle.node_core.specs.Nodes.{NodeParts, NodeStands, AreSizes, Befalls, fact_to_store}
+use Rattle.node_core.specs.Nodes.{NodeParts, NodeStands, AreSizes, IsSameNode, Befalls, fact_to_store}
+use Rattle.node_core.specs.Compacting.{BefallsCompact}
+use Rattle.node_core.specs.Opening.{BefallsRestart}
 use Rattle.network.specs.Networks.{NetworkParts, StandsFor}
 use Rattle.cluster.specs.declared.handing.Came.{Came}
 
@@ -69,7 +71,7 @@ pub record IsSound (cluster : ClusterParts) : Type 0 where
 abbrev pub handed_cut : ℕ → Datagram → Option (NodeId × Input)
 handed_cut k d = if nat_lt k (length (spelling d.message)) then Some (d.receiver, ReceivedNoise) else None
 
--- the node that an event is to reach, and what it is handed, if it is to reach one
+-- the node that an event hands something, and what it is handed, if there is such a node
 abbrev pub handed : World → Event → Option (NodeId × Input)
 handed world (Ask who request) = Some (who, Asked request)
 handed world (Deliver n) = option_map (λ d. (d.receiver, Received d.message)) (datagram_at world.net n)
@@ -89,10 +91,40 @@ abbrev pub BefallsReached : Config → World → (old new : List NodeParts) → 
 BefallsReached config world old new None fault = fault ≡ NoFault
 BefallsReached config world old new (Some reached) fault = BefallsAt config old new reached (node_at config world reached.0) fault
 
+-- a fault is true to what befell the record of a node that was restarted; where there is no such node, there was no fault
+abbrev pub BefallsRestarted : Config → (old new : List NodeParts) → NodeId → Option NodeState → Fault → Type 0
+BefallsRestarted config old new who None fault = fault ≡ NoFault
+BefallsRestarted config old new who (Some m) fault =
+    (at : ℕ) (d : NodeParts) → place config who ≡ Some at
+    → BefallsRestart (slice_index_or old at d).held (slice_index_or new at d).held fault
+
+-- a fault that only a node that is up can meet
+abbrev pub IsMetIf : (up : Bool) → Type 0 → Fault → Type 0
+IsMetIf true Befallen fault = Befallen
+IsMetIf false Befallen fault = fault ≡ NoFault
+
+-- a fault is true to what befell the record of a node that was compacted; where it is down, or isn't there, there was no fault
+abbrev pub BefallsCompacted : Config → (old new : List NodeParts) → NodeId → Option NodeState → Fault → Type 0
+BefallsCompacted config old new who None fault = fault ≡ NoFault
+BefallsCompacted config old new who (Some m) fault =
+    IsMetIf m.up ((at : ℕ) (d : NodeParts) → place config who ≡ Some at
+    → BefallsCompact (slice_index_or old at d).held (slice_index_or new at d).held fault) fault
+
+-- a fault is true to what befell the node that an event reached
+abbrev pub BefallsEvent : Config → World → Event → (old new : List NodeParts) → Fault → Type 0
+BefallsEvent config world (Restart who) old new fault = BefallsRestarted config old new who (node_at config world who) fault
+BefallsEvent config world (Compact who) old new fault = BefallsCompacted config old new who (node_at config world who) fault
+BefallsEvent config world event old new fault = BefallsReached config world old new (handed world event) fault
+
 -- a fault is true to what happened: where memory was wanted before a node was reached, no node has changed
 abbrev pub BefallsIn : Config → World → Event → (old new : List NodeParts) → Fault → Type 0
 BefallsIn config world event old new NoMemoryBefore = new ≡ old
-BefallsIn config world event old new fault = BefallsReached config world old new (handed world event) fault
+BefallsIn config world event old new fault = BefallsEvent config world event old new fault
+
+-- what a cluster is stays: its sizes, and of each node its name, its first rows, and whether its record may fail of itself
+pub record IsSameCluster (old new : ClusterParts) : Type 0 where
+  pub sizes_are : new.sizes ≡ old.sizes
+  pub nodes_are : AllZip IsSameNode old.nodes new.nodes
 
 -- what came of an event, where so many datagrams were sent before, is what the machine makes of it
 pub record ComesTo (config : Config) (count : ℕ) (new : ClusterParts) (came : Came) (result : StepResult) : Type 0 where
@@ -106,6 +138,7 @@ pub record ReachesAs (config : Config) (world : World) (who : NodeId) (input : I
     : Type 0 where
   pub fault : Fault
   pub reached : fault ≡ NoMemoryBefore → ⊥
+  pub same : IsSameCluster old new
   pub befalls : BefallsAt config old.nodes new.nodes (who, input) (node_at config world who) fault
   pub comes : ComesTo config (length world.net) new came (at_node config world who input fault)
 
@@ -116,6 +149,7 @@ Reaches who input old new came =
 
 -- an event was handled as the machine handles it under a fault that is true
 pub record OccursAs (config : Config) (world : World) (event : Event) (old new : ClusterParts) (step : Step) : Type 0 where
+  pub same : IsSameCluster old new
   pub fault : Fault
   pub befalls : BefallsIn config world event old.nodes new.nodes fault
   pub step_is : step ≡ step_of world event (world_step config world event fault)

@@ -1,3 +1,6 @@
 pub mod Clusters
+pub mod Opening
+pub mod Asking
 pub mod Sending
 pub mod Headlines
+pub mod Runs

@@ -1,18 +1,22 @@
-ghost use Rattle.std.specs.Prelude.{◌≡◌};
-ghost use Rattle.protocol.specs.declared.events.Event.TheVariants.{Ask, Deliver, Lose, Cut, Noise};
-ghost use Rattle.protocol.specs.Effects.{Config};
+ghost use Rattle.std.specs.Prelude.{◌≡◌, map, IfOk, IfErr};
+ghost use Rattle.protocol.specs.Effects.{Config as Settings};
 ghost use Rattle.protocol.specs.Worlds.{World};
 ghost use Rattle.network.specs.Networks.{least_unmarked};
+ghost use Rattle.cluster.specs.Asking.{ViewsIn, TablesIn};
 ghost use Rattle.cluster.specs.Clusters.{ClusterStands, Occurs, step_by};
+ghost use Rattle.cluster.specs.Opening.{IsMade, IsUnmade};
 
-use crate::handing::{Came, ask, cut, deliver, lose, noise};
+use crate::asking::{table, view};
+use crate::handing::{Came, happen};
+use crate::opening::open_all;
+use crate::receivers::count_of;
 use network::Network;
-use node_core::{Node, Sizes};
-use protocol::{Event, NodeId, Request, Step};
-use stable_record::Record;
+use node_core::{Config, Node, Sizes};
+use protocol::{Event, Row, Step, View};
+use stable_record::{Record, Tear};
 use std::alloc::Global;
 use std::marker::Model;
-use xid::{Bytes, Sequence};
+use xid::{Refusal, Sequence, Tx};
 
 /// A whole cluster: its nodes, each over a record, and every datagram that they sent.
 #[derive(Drop)]
@@ -45,78 +49,69 @@ fn step_of(event: Event, came: Came) -> Step
     }
 }
 
+impl<R: Record + Drop> Cluster<R> {
+    /// The cluster of a configuration over records, one empty one for each node: the acceptors', then the leaders', then the resource
+    /// managers'. All nodes are up and nothing was sent; tears that are armed on records stay. Refused, and the records are let go:
+    /// another number of records, or one that isn't empty (`BadConfig`); one failed (`RecordFault`); `NoMemory`.
+    pub fn new(alloc: Global, config: &Config, records: Vec<R>) -> Result<Cluster<R>, Refusal>
+        ensures ok { IfOk result (λ cluster. IsMade config.now (map R.Record.held records.items) cluster) }
+        ensures err { IfErr result (λ e. IsUnmade config.now (map R.Record.held records.items) e) }
+    {
+        let sizes = config.sizes();
+        if records.len() != count_of(sizes) {
+            return Err(Refusal::BadConfig);
+        }
+        let nodes = open_all(alloc, config, sizes, records)?;
+        Ok(Cluster {
+            alloc,
+            sizes,
+            nodes,
+            network: Network::new(alloc),
+        })
+    }
+}
+
+impl<R: Tear> Cluster<R> {
+    /// One event, and what came of it: what `Event` says of each. Where there is no room for the datagrams that the event's node may
+    /// send, it is refused (`NoMemory`) before the node is reached, and nothing has changed.
+    pub fn step(&mut self, event: Event) -> Step
+        ensures { Occurs event self.old self.new result }
+    {
+        let came = happen(
+            self.alloc,
+            self.sizes,
+            &mut self.nodes,
+            &mut self.network,
+            &event,
+        );
+        step_of(event, came)
+    }
+}
+
 impl<R: Record> Cluster<R> {
-    /// A node is asked something: what `Event::Ask` says. Where there is no room for the datagrams that it may send, it is refused
-    /// (`NoMemory`) before the node is reached, and nothing has changed.
-    pub fn ask(&mut self, node: NodeId, request: Request) -> Step
-        ensures { Occurs (Ask node request) self.old self.new result }
+    /// Where a resource manager stands in a transaction, by the whole frames of its record, whether it is up or down. Refused: no such
+    /// resource manager (`NoSuch`); the transaction names a resource manager outside the cluster, or doesn't name this one (`BadTx`);
+    /// where it is down, its record fails (`RecordFault`), or `NoMemory`. The cluster stays as it is.
+    pub fn view(&mut self, rm: u8, tx: &Tx) -> Result<View, Refusal>
+        ensures { (config : Settings) (world : World) → ClusterStands config self.old world
+            → ViewsIn config world self.old self.new rm tx.now result }
     {
-        let came = ask(
-            self.alloc,
-            self.sizes,
-            &mut self.nodes,
-            &mut self.network,
-            node,
-            &request,
-        );
-        step_of(Event::Ask { node, request }, came)
+        view(self.sizes, &mut self.nodes, rm, tx)
     }
 
-    /// A datagram is handed to its receiver, and marked: what `Event::Deliver` says. One that is marked may be handed over again. Refused
-    /// for want of room as `ask` is, and then the datagram isn't marked.
-    pub fn deliver(&mut self, number: u32) -> Step
-        ensures { Occurs (Deliver number) self.old self.new result }
+    /// The rows of a resource manager's table, their keys ascending, by the whole frames of its record, whether it is up or down.
+    /// Refused: no such resource manager (`NoSuch`); `NoMemory`; where it is down, its record fails (`RecordFault`). The cluster stays as
+    /// it is.
+    pub fn table(&mut self, rm: u8) -> Result<Sequence<Row>, Refusal>
+        ensures { (config : Settings) (world : World) → ClusterStands config self.old world
+            → TablesIn config world self.old self.new rm result }
     {
-        let came = deliver(
-            self.alloc,
-            self.sizes,
-            &mut self.nodes,
-            &mut self.network,
-            number,
-        );
-        step_of(Event::Deliver { number }, came)
-    }
-
-    /// A datagram is marked: what `Event::Lose` says.
-    pub fn lose(&mut self, number: u32) -> Step
-        ensures { Occurs (Lose number) self.old self.new result }
-    {
-        let came = lose(self.alloc, &mut self.network, number);
-        step_of(Event::Lose { number }, came)
-    }
-
-    /// The first bytes of a datagram are handed to its receiver: what `Event::Cut` says.
-    pub fn cut(&mut self, number: u32, bytes: u32) -> Step
-        ensures { Occurs (Cut number bytes) self.old self.new result }
-    {
-        let came = cut(
-            self.alloc,
-            self.sizes,
-            &mut self.nodes,
-            &self.network,
-            number,
-            bytes,
-        );
-        step_of(Event::Cut { number, bytes }, came)
-    }
-
-    /// Bytes come to a node that nobody sent: what `Event::Noise` says.
-    pub fn noise(&mut self, node: NodeId, bytes: Bytes) -> Step
-        ensures { Occurs (Noise node bytes) self.old self.new result }
-    {
-        let came = noise(
-            self.alloc,
-            self.sizes,
-            &mut self.nodes,
-            node,
-            bytes.as_slice(),
-        );
-        step_of(Event::Noise { node, bytes }, came)
+        table(self.sizes, &mut self.nodes, rm)
     }
 
     /// The least number of a datagram that isn't marked, if there is one.
     pub fn least_unmarked(&self) -> Option<u32>
-        ensures { (config : Config) (world : World) → ClusterStands config self.now world → result ≡ least_unmarked world.net }
+        ensures { (config : Settings) (world : World) → ClusterStands config self.now world → result ≡ least_unmarked world.net }
     {
         self.network.least_unmarked()
     }

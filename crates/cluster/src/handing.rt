@@ -4,11 +4,13 @@ ghost use Rattle.std.specs.Prelude.{◌≡◌, List, [], None, length};
 ghost use Rattle.std.specs.List.{flat_map};
 ghost use Rattle.std.specs.Vec.{vec_len, vec_capacity};
 ghost use Rattle.wire.specs.Decoding.{message_at};
-ghost use Rattle.protocol.specs.declared.events.Event.TheVariants.{Ask, Deliver, Lose, Cut, Noise};
+ghost use Rattle.protocol.specs.declared.events.Event.TheVariants.{Ask, Deliver, Lose, Cut, Noise, Restart, Compact};
+ghost use Rattle.protocol.specs.declared.events.Event.TheVariants.{Tear as Tears};
 ghost use Rattle.protocol.specs.Nodes.{ReceivedNoise};
 ghost use Rattle.protocol.specs.Worlds.{datagrams_of};
 ghost use Rattle.node_core.specs.declared.config.Sizes.{Sizes as ClusterSizes};
 ghost use Rattle.node_core.specs.Nodes.{NodeParts};
+ghost use Rattle.node_core.specs.Opening.{restart_answer};
 ghost use Rattle.node_core.specs.Sends.{sent as sent_by};
 ghost use Rattle.network.specs.Networks.{NetworkParts};
 ghost use Rattle.cluster.specs.Clusters.{cluster_of, node_count, sized, step_by, IsSound, Occurs, Reaches};
@@ -19,8 +21,8 @@ use crate::room::{make_room, most_asked, most_heard};
 use crate::sending::send_all;
 use network::Network;
 use node_core::{Input, Node, Output, Sizes};
-use protocol::{Answer, Change, NodeId, Request, Sent};
-use stable_record::Record;
+use protocol::{Answer, Change, Event, NodeId, Request, Sent};
+use stable_record::{Record, Tear};
 use std::alloc::Global;
 use wire::decode;
 use xid::Refusal;
@@ -51,8 +53,25 @@ impl Came {
     }
 }
 
+/// A list in the room that it needs, if there is memory for that, else the list as it is.
+fn fitted(alloc: Global, listed: Vec<Sent>) -> Vec<Sent>
+    ensures { result.items ≡ listed.items }
+{
+    match Vec::from_slice(alloc, &listed) {
+        Ok(copy) => copy,
+        Err(_) => listed,
+    }
+}
+
 /// Sends what a node puts out. There is room for that.
-fn put_out(network: &mut Network, listed: Vec<Sent>, sizes: Sizes, who: NodeId, out: Output) -> Came
+fn put_out(
+    alloc: Global,
+    network: &mut Network,
+    listed: Vec<Sent>,
+    sizes: Sizes,
+    who: NodeId,
+    out: Output,
+) -> Came
     requires room { HasRoom (length (flat_map (datagrams_of (sized sizes) who) (sent_by out.sends))) network.old
         (vec_len listed) (vec_capacity listed) }
     requires empty { listed.items ≡ [] }
@@ -66,12 +85,12 @@ fn put_out(network: &mut Network, listed: Vec<Sent>, sizes: Sizes, who: NodeId, 
     Came {
         answer: reply,
         now,
-        sent,
+        sent: fitted(alloc, sent),
     }
 }
 
 /// Asks a node something.
-pub(crate) fn ask<R: Record>(
+fn ask<R: Record>(
     alloc: Global,
     sizes: Sizes,
     nodes: &mut Vec<Node<R>>,
@@ -92,11 +111,11 @@ pub(crate) fn ask<R: Record>(
     };
     let node = &mut nodes[at];
     let out = node.step(Input::Asked(request));
-    put_out(network, listed, sizes, who, out)
+    put_out(alloc, network, listed, sizes, who, out)
 }
 
 /// Hands a datagram to its receiver, and marks it.
-pub(crate) fn deliver<R: Record>(
+fn deliver<R: Record>(
     alloc: Global,
     sizes: Sizes,
     nodes: &mut Vec<Node<R>>,
@@ -125,11 +144,11 @@ pub(crate) fn deliver<R: Record>(
     let node = &mut nodes[at];
     let out = node.step(Input::Received(kept.bytes));
     network.mark(number);
-    put_out(network, listed, sizes, who, out)
+    put_out(alloc, network, listed, sizes, who, out)
 }
 
 /// Marks a datagram.
-pub(crate) fn lose(alloc: Global, network: &mut Network, number: u32) -> Came
+fn lose(alloc: Global, network: &mut Network, number: u32) -> Came
     ensures { (sizes : ClusterSizes) (nodes : List NodeParts)
         → Occurs (Lose number) (cluster_of sizes nodes network.old) (cluster_of sizes nodes network.new) (step_by (Lose number) result) }
 {
@@ -165,7 +184,7 @@ fn hand_noise<R: Record>(
 }
 
 /// Hands the first bytes of a datagram to its receiver, fewer than all.
-pub(crate) fn cut<R: Record>(
+fn cut<R: Record>(
     alloc: Global,
     sizes: Sizes,
     nodes: &mut Vec<Node<R>>,
@@ -188,7 +207,7 @@ pub(crate) fn cut<R: Record>(
 }
 
 /// Hands bytes to a node that nobody sent, unless they spell a message.
-pub(crate) fn noise<R: Record>(
+fn noise<R: Record>(
     alloc: Global,
     sizes: Sizes,
     nodes: &mut Vec<Node<R>>,
@@ -205,5 +224,88 @@ pub(crate) fn noise<R: Record>(
             Some(_) => Came::answers(alloc, Answer::Refused(Refusal::Forged)),
             None => Came::answers(alloc, Answer::Refused(Refusal::NoSuch)),
         },
+    }
+}
+
+/// Arms a tear on a node's record.
+fn tear<R: Tear>(
+    alloc: Global,
+    sizes: Sizes,
+    nodes: &mut Vec<Node<R>>,
+    who: NodeId,
+    bytes: u32,
+) -> Came
+    requires count { length nodes.old.items ≡ node_count sizes }
+    ensures { (network : NetworkParts) → Occurs (Tears who bytes) (cluster_of sizes nodes.old.items network)
+        (cluster_of sizes nodes.new.items network) (step_by (Tears who bytes) result) }
+{
+    let Some(at) = place_of(sizes, who) else {
+        return Came::answers(alloc, Answer::Refused(Refusal::NoSuch));
+    };
+    let node = &mut nodes[at];
+    node.arm(bytes as usize);
+    Came::answers(alloc, Answer::Done)
+}
+
+/// How a restart or a compaction is answered.
+fn answer_of(restarted: Result<(), Refusal>) -> Answer
+    ensures { result ≡ restart_answer restarted }
+{
+    match restarted {
+        Ok(()) => Answer::Done,
+        Err(refusal) => Answer::Refused(refusal),
+    }
+}
+
+/// Restarts a node.
+fn restart<R: Record>(alloc: Global, sizes: Sizes, nodes: &mut Vec<Node<R>>, who: NodeId) -> Came
+    requires count { length nodes.old.items ≡ node_count sizes }
+    ensures { (network : NetworkParts) → Occurs (Restart who) (cluster_of sizes nodes.old.items network)
+        (cluster_of sizes nodes.new.items network) (step_by (Restart who) result) }
+{
+    let Some(at) = place_of(sizes, who) else {
+        return Came::answers(alloc, Answer::Refused(Refusal::NoSuch));
+    };
+    let node = &mut nodes[at];
+    let restarted = node.restart();
+    Came::answers(alloc, answer_of(restarted))
+}
+
+/// Compacts a node.
+fn compact<R: Record>(alloc: Global, sizes: Sizes, nodes: &mut Vec<Node<R>>, who: NodeId) -> Came
+    requires count { length nodes.old.items ≡ node_count sizes }
+    ensures { (network : NetworkParts) → Occurs (Compact who) (cluster_of sizes nodes.old.items network)
+        (cluster_of sizes nodes.new.items network) (step_by (Compact who) result) }
+{
+    let Some(at) = place_of(sizes, who) else {
+        return Came::answers(alloc, Answer::Refused(Refusal::NoSuch));
+    };
+    let node = &mut nodes[at];
+    let compacted = node.compact();
+    Came::answers(alloc, answer_of(compacted))
+}
+
+/// What comes of an event.
+pub(crate) fn happen<R: Tear>(
+    alloc: Global,
+    sizes: Sizes,
+    nodes: &mut Vec<Node<R>>,
+    network: &mut Network,
+    event: &Event,
+) -> Came
+    requires { IsSound (cluster_of sizes nodes.old.items network.old) }
+    ensures occurs { Occurs event.now (cluster_of sizes nodes.old.items network.old)
+        (cluster_of sizes nodes.new.items network.new) (step_by event.now result) }
+    ensures sound { IsSound (cluster_of sizes nodes.new.items network.new) }
+{
+    match event {
+        Event::Ask { node, request } => ask(alloc, sizes, nodes, network, *node, request),
+        Event::Deliver { number } => deliver(alloc, sizes, nodes, network, *number),
+        Event::Lose { number } => lose(alloc, network, *number),
+        Event::Cut { number, bytes } => cut(alloc, sizes, nodes, network, *number, *bytes),
+        Event::Noise { node, bytes } => noise(alloc, sizes, nodes, *node, bytes.as_slice()),
+        Event::Tear { node, bytes } => tear(alloc, sizes, nodes, *node, *bytes),
+        Event::Restart { node } => restart(alloc, sizes, nodes, *node),
+        Event::Compact { node } => compact(alloc, sizes, nodes, *node),
     }
 }

@@ -5,7 +5,8 @@ ghost use Rattle.wire.specs.Messages.{message_tx};
 ghost use Rattle.protocol.specs.declared.nodes.NodeId.TheVariants.{A, L};
 ghost use Rattle.protocol.specs.Worlds.{place};
 ghost use Rattle.protocol.specs.Effects.{receivers};
-ghost use Rattle.cluster.specs.Clusters.{placed_after, sized};
+ghost use Rattle.cluster.specs.Clusters.{node_count, placed_after, sized};
+ghost use Rattle.cluster.specs.Opening.{name_of};
 
 use node_core::Sizes;
 use protocol::{Address, NodeId, Outgoing};
@@ -33,6 +34,29 @@ fn placed(number: u8, bound: u8, before: usize) -> Option<usize>
     } else {
         None
     }
+}
+
+/// How many nodes there are.
+pub(crate) fn count_of(sizes: Sizes) -> usize
+    ensures { result ≡ node_count sizes }
+{
+    usize::from(sizes.acceptors) + usize::from(sizes.leaders) + usize::from(sizes.managers)
+}
+
+/// The node that stands in a place.
+pub(crate) fn name_at(sizes: Sizes, at: usize) -> NodeId
+    requires { at < node_count sizes }
+    ensures { result ≡ name_of (sized sizes) at }
+{
+    let acceptors = usize::from(sizes.acceptors);
+    let leaders = usize::from(sizes.leaders);
+    if at < acceptors {
+        return NodeId::A(at as u8);
+    }
+    if at < acceptors + leaders {
+        return NodeId::L((at - acceptors) as u8);
+    }
+    NodeId::R((at - acceptors - leaders) as u8)
 }
 
 /// To how many nodes a message goes.

@@ -1,7 +1,9 @@
-pub mod Runnable
 pub mod MachineCalls
-pub mod Quiet
-pub mod Stepping
+pub mod Safe
 pub mod Traces
+pub mod Happening
+pub mod OneRun
+pub mod Stepping
+pub mod Configs
+pub mod Opened
 pub mod Running
-pub mod FirstTables

@@ -1,14 +1,22 @@
 -- The trace of a script as a run of the machine, and what it says when one looks back over it. What happens in the cluster, and which
 -- nodes it happens to, is left open here.
-use Rattle.std.specs.Prelude.{◌≡◌, ℕ, ◌==◌, if◌then◌else◌, List, [], ◌∷◌, map}
-use Rattle.std.specs.List.{range_with_len}
-use Rattle.cluster_run.specs.Words.{Row}
+use Rattle.std.specs.Prelude.{◌≡◌, ℕ, ◌==◌, if◌then◌else◌, false, List, [], ◌∷◌, ◌++◌, map, filter_map, Some}
+use Rattle.std.specs.List.{list_any, range_with_len}
+use Rattle.xid.specs.Names.{XidParts}
+use Rattle.xid.specs.Transactions.{TxParts, xid_at}
+use Rattle.cluster_run.specs.Words.{Get, Row, Step}
+use Rattle.protocol.specs.Branches.{get_answer}
 use Rattle.protocol.specs.Effects.{Config}
+use Rattle.protocol.specs.Holds.{IsIn}
 use Rattle.protocol.specs.Nodes.{first_rows}
 use Rattle.protocol.specs.Worlds.{World, Occurrence, opening, trace, world_after, table_at}
 use Rattle.history.specs.Lines.{history}
 use Rattle.history.specs.Answers.{AreAnswered}
+use Rattle.history.specs.Calls.{call_done}
+use Rattle.history.specs.LookingBack.{is_start, done_at}
+use Rattle.history.specs.SerialOrder.{first_commits, committed_at, serial_table, serial_read}
 use Rattle.history.specs.Writes.{table_back}
+use Rattle.net_script.specs.declared.values.Sizes.{Sizes}
 use Rattle.net_script.specs.declared.values.Table.{Table}
 use Rattle.net_script.specs.declared.values.Script.{Script}
 use Rattle.net_script.specs.declared.values.Entry.{Entry}
@@ -23,15 +31,19 @@ first_rows_of (table ∷ tables) rm = if table.rm == rm then table.rows else fir
 abbrev pub each_manager : {X : Type 0} → (ℕ → X) → ℕ → List X
 each_manager f count = map f (range_with_len 0 count)
 
+-- a cluster of these sizes and first tables
+abbrev pub config_for : Sizes → List Table → Config
+config_for sizes tables = record {
+  acceptors = sizes.acceptors;
+  leaders = sizes.leaders;
+  managers = sizes.rms;
+  bundled = sizes.bundled;
+  tables = each_manager (first_rows_of tables) sizes.rms;
+}
+
 -- the cluster of a script
 abbrev pub config_of : Script → Config
-config_of s = record {
-  acceptors = s.sizes.acceptors;
-  leaders = s.sizes.leaders;
-  managers = s.sizes.rms;
-  bundled = s.sizes.bundled;
-  tables = each_manager (first_rows_of s.tables) s.sizes.rms;
-}
+config_of s = config_for s.sizes s.tables
 
 -- the cluster's world after all that happened in it
 abbrev pub last_world : Config → List Occurrence → World
@@ -50,3 +62,19 @@ pub record LooksBack (config : Config) (happened : List Occurrence) (t : Trace) 
   pub answers : AreAnswered config (history config happened)
   pub tables_are : t.finals
       ≡ each_manager (λ rm. table_back (first_rows config rm) rm (history config happened)) config.managers
+
+-- what a get was answered in the branch of a transaction that some manager has committed, since that branch was last started, is what
+-- the serial run shows there: the table after all transactions before its own, with the branch's own earlier writes over it
+abbrev pub AreReadsSerial : Config → List Step → Type 0
+AreReadsSerial config all =
+    (rm : ℕ) (x : XidParts) (tx : TxParts) (key : List ℕ) (later before : List Step) (step : Step)
+    → all ≡ later ++ step ∷ before → call_done rm x step.event step.answer ≡ Some (Get key)
+    → list_any is_start (filter_map (done_at rm x) later) ≡ false → xid_at tx rm ≡ Some x → IsIn (first_commits all) tx
+    → step.answer ≡ get_answer (serial_read (first_rows config rm) rm all before tx x key)
+
+-- one serial order, that of the first commits anywhere, explains each last table of a trace, and each read of a committed transaction
+pub record IsSerial (config : Config) (happened : List Occurrence) (t : Trace) : Type 0 where
+  pub tables_are : t.finals
+      ≡ each_manager (λ rm. let all = history config happened in serial_table (first_rows config rm) rm all (committed_at rm all))
+      config.managers
+  pub reads : AreReadsSerial config (history config happened)

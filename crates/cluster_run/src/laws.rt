@@ -1,5 +1,5 @@
 //! What the machine's client calls come to in a cluster, and what the trace of a script says of itself.
-ghost use Rattle.std.specs.Prelude.{◌≡◌, ◌<◌, ℕ, List, [], Some, slice_index_or};
+ghost use Rattle.std.specs.Prelude.{◌≡◌, ℕ, List, Some};
 ghost use Rattle.xid.specs.Names.{XidParts};
 ghost use Rattle.cluster_run.specs.Words.{R, Action, Row};
 ghost use Rattle.protocol.specs.Managers.{stored_votes};
@@ -13,21 +13,27 @@ ghost use Rattle.safety.specs.Runs.{IsReachable};
 ghost use Rattle.net_script.specs.declared.values.Script.{Script};
 ghost use Rattle.net_script.specs.declared.values.Trace.{Trace};
 ghost use Rattle.cluster_run.specs.MachineCalls.{IsOneCall, AnswersNamed, branch_view};
-ghost use Rattle.cluster_run.specs.Traces.{config_of, first_rows_of, IsTraceOf, LooksBack};
+ghost use Rattle.cluster_run.specs.Traces.{config_of, IsTraceOf, LooksBack, IsSerial};
+ghost use Rattle.cluster_run.specs.Happenings.{AreUnmet};
+ghost use Rattle.cluster_run.specs.Headlines.{AreSafe};
 ghost use Rattle.cluster_run.specs.Runs.{IsRun};
-ghost use Rattle.protocol.specs.Rows.{IsTableOf};
+ghost use Rattle.history.specs.Lines.{history};
 
 /// Whatever happens in the cluster of a script, its trace looks back over itself: each answer of a resource manager is one that the
-/// steps before it leave to it, and each table at the end is the one that all steps make.
+/// steps before it leave to it, and each table at the end is the one that all steps make. At each of its steps it keeps to the
+/// specification of transaction commit. And one serial order explains its tables and the reads of committed transactions.
 pub fn traces_look_back()
-    ensures { (script : Script) (happened : List Occurrence) (trace : Trace) → IsTraceOf script happened trace
+    ensures back { (script : Script) (happened : List Occurrence) (trace : Trace) → IsTraceOf script happened trace
         → LooksBack (config_of script) happened trace }
+    ensures safe { (config : Config) (happened : List Occurrence) → AreSafe (history config happened) }
+    ensures serial { (script : Script) (happened : List Occurrence) (trace : Trace) → IsTraceOf script happened trace
+        → IsSerial (config_of script) happened trace }
 {}
 
-/// No call that is run commits: at the end of a run each table is its first contents, in the order of their keys.
-pub fn calls_keep_tables()
-    ensures { (bytes output : List ℕ) (run : IsRun bytes output) (rm : ℕ) → rm < run.script.sizes.rms
-        → IsTableOf (first_rows_of run.script.tables rm) (slice_index_or run.trace.finals rm []) }
+/// Where no event of a script's run met want of memory, what is printed is a function of the script.
+pub fn ample_runs_are_one()
+    ensures { (bytes one other : List ℕ) (a : IsRun bytes one) (b : IsRun bytes other) → AreUnmet a.is.happened → AreUnmet b.is.happened
+        → one ≡ other }
 {}
 
 /// Whatever has happened in a cluster, a client call at a resource manager is one call on its branches, prepared ones among them: it

@@ -1,10 +1,12 @@
-//! A whole cluster, run from a script: at this stage its resource managers and the client calls on them.
+//! A whole cluster, run from a script.
 #![tactic(auto)]
 
+mod clusters;
+mod happenings;
 pub mod laws;
-mod managers;
 mod runs;
 
+pub use clusters::config_of;
 pub use runs::run;
 
 #[cfg(test)]

@@ -1,11 +1,7 @@
-use crate::managers::{final_rows, first_managers};
 use crate::run;
-use net_script::Table;
-use protocol::Row;
 use std::alloc::Global;
 use std::process::Abort;
-use std::test::Fail;
-use xid::{Bytes, Refusal, Sequence};
+use xid::Refusal;
 
 /// The text of the trace is this.
 fn prints(rt: &impl Abort, alloc: Global, script: &[u8], want: &[u8]) {
@@ -127,42 +123,69 @@ fn refusals(rt: HostRuntime) {
     }
 }
 
-/// The first contents of resource manager 0: two rows of one key, which no script can say.
-fn twice(alloc: Global) -> Result<Vec<Table>, Fail> {
-    let mut rows = Vec::new(alloc);
-    for value in [b"1".as_slice(), b"2"] {
-        let key = Bytes::copy_of(alloc, b"k")?;
-        let value = Bytes::copy_of(alloc, value)?;
-        rows.push(Row { key, value })?;
-    }
-    let mut tables = Vec::new(alloc);
-    tables.push(Table {
-        rm: 0,
-        rows: Sequence::new(rows),
-    })?;
-    Ok(tables)
-}
-
-/// The values of all rows of all resource managers are these.
-fn has_values(rt: &impl Abort, tables: &[Sequence<Row>], want: &[&[u8]]) {
-    let mut count = 0usize;
-    for rows in tables {
-        for row in rows.as_slice() {
-            assert!(rt;
-                want.get(count)
-                    .is_some_and(|value| row.value.as_slice() == *value)
-            );
-            count = count.saturating_add(1);
-        }
-    }
-    assert_eq!(rt; count, want.len());
-}
-
 #[test]
-fn later_row_counts(rt: HostRuntime) -> Result<(), Fail> {
-    let managers = first_managers(rt.alloc(), &twice(rt.alloc())?, 2)?;
-    let finals = final_rows(rt.alloc(), &managers)?;
-    assert_eq!(rt; finals.len(), 2);
-    has_values(&rt, &finals, &[b"2"]);
-    Ok(())
+fn ample_memory_commits(rt: HostRuntime) {
+    prints(
+        &rt,
+        rt.alloc(),
+        b"\
+          cluster acceptors 3 leaders 1 rms 2\n\
+          table r0 6b=30\n\
+          start r0 1:74:61\n\
+          put r0 1:74:61 6b 31\n\
+          end r0 1:74:61\n\
+          start r1 1:74:62\n\
+          put r1 1:74:62 6d 32\n\
+          end r1 1:74:62\n\
+          commit l0 1:74/0=61,1=62\n\
+          flow 100\n",
+        b"\
+          cluster acceptors 3 leaders 1 rms 2\n\
+          table r0 6b=30\n\
+          start r0 1:74:61 -> 0\n\
+          put r0 1:74:61 6b 31 -> 0\n\
+          end r0 1:74:61 -> 0\n\
+          start r1 1:74:62 -> 0\n\
+          put r1 1:74:62 6d 32 -> 0\n\
+          end r1 1:74:62 -> 0\n\
+          commit l0 1:74/0=61,1=62 -> undecided\n\
+          sent 1 l0 r0 prepare 1:74/0=61,1=62\n\
+          sent 2 l0 r1 prepare 1:74/0=61,1=62\n\
+          deliver 1 -> ok\n\
+          now r0 1:74/0=61,1=62 prepared\n\
+          sent 3 r0 a0 p2a 1:74/0=61,1=62 r0 0 prepared\n\
+          sent 4 r0 a1 p2a 1:74/0=61,1=62 r0 0 prepared\n\
+          sent 5 r0 a2 p2a 1:74/0=61,1=62 r0 0 prepared\n\
+          deliver 2 -> ok\n\
+          now r1 1:74/0=61,1=62 prepared\n\
+          sent 6 r1 a0 p2a 1:74/0=61,1=62 r1 0 prepared\n\
+          sent 7 r1 a1 p2a 1:74/0=61,1=62 r1 0 prepared\n\
+          sent 8 r1 a2 p2a 1:74/0=61,1=62 r1 0 prepared\n\
+          deliver 3 -> ok\n\
+          sent 9 a0 l0 p2b 1:74/0=61,1=62 r0 0 prepared a0\n\
+          deliver 4 -> ok\n\
+          sent 10 a1 l0 p2b 1:74/0=61,1=62 r0 0 prepared a1\n\
+          deliver 5 -> ok\n\
+          sent 11 a2 l0 p2b 1:74/0=61,1=62 r0 0 prepared a2\n\
+          deliver 6 -> ok\n\
+          sent 12 a0 l0 p2b 1:74/0=61,1=62 r1 0 prepared a0\n\
+          deliver 7 -> ok\n\
+          sent 13 a1 l0 p2b 1:74/0=61,1=62 r1 0 prepared a1\n\
+          deliver 8 -> ok\n\
+          sent 14 a2 l0 p2b 1:74/0=61,1=62 r1 0 prepared a2\n\
+          deliver 9 -> ok\n\
+          deliver 10 -> ok\n\
+          deliver 11 -> ok\n\
+          deliver 12 -> ok\n\
+          deliver 13 -> ok\n\
+          sent 15 l0 r0 commit 1:74/0=61,1=62\n\
+          sent 16 l0 r1 commit 1:74/0=61,1=62\n\
+          deliver 14 -> ok\n\
+          deliver 15 -> ok\n\
+          now r0 1:74/0=61,1=62 committed\n\
+          deliver 16 -> ok\n\
+          now r1 1:74/0=61,1=62 committed\n\
+          final r0 6b=31\n\
+          final r1 6d=32\n",
+    );
 }

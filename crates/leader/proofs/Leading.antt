@@ -266,10 +266,11 @@ begin_stands config number inner old courses tx b stored memory is changed stand
     (λ other differs. course_same config.acceptors stored other (course_of inner other) memory (with_begun tx b (with_met tx memory))
     (same_then other memory (with_met tx memory) (with_begun tx b (with_met tx memory)) (met_elsewhere other tx memory differs)
     (begun_elsewhere other tx b (with_met tx memory) differs)))
+    inside.begun_are
 
 -- ---- a ballot stored
 
-greatest_with : (facts : List Fact) (tx : TxParts) (fact : Fact)
+pub greatest_with : (facts : List Fact) (tx : TxParts) (fact : Fact)
     → last_ballot (facts ++ fact ∷ []) tx ≡ max (last_ballot facts tx) (greatest (cons_option (ballot_begun tx fact) []))
 greatest_with [] tx fact = omega arith
 greatest_with (first ∷ facts) tx fact = by (ballot_begun tx first) (greatest_with facts tx fact)
@@ -293,9 +294,10 @@ stored_ballot facts tx other b more = greatest_with facts other (Fact.Ballot tx 
 
 pub store_stands : (config : Config) (number : ℕ) (inner old : LeaderParts) (courses : CoursesParts) (tx : TxParts) (b : ℕ)
     (facts : List Fact) (memory : LeaderMemory) → inner ≡ old → IsChanged inner.courses courses tx (after_ballot b (course_of inner tx))
-    → (course_of inner tx).greatest < b → StandsForBallots config number old (last_ballot facts) memory
+    → (course_of inner tx).greatest < b → list_any (tx_eq tx) inner.begun ≡ true
+    → StandsForBallots config number old (last_ballot facts) memory
     → StandsForBallots config number (with_courses inner courses) (last_ballot (facts ++ Fact.Ballot tx b ∷ [])) memory
-store_stands config number inner old courses tx b facts memory is changed more stands =
+store_stands config number inner old courses tx b facts memory is changed more there stands =
     let inside : StandsForBallots config number inner (last_ballot facts) memory = moved config number inner old
     (last_ballot facts) memory is stands in
     let c : CourseParts = course_of inner tx in
@@ -327,6 +329,18 @@ store_stands config number inner old courses tx b facts memory is changed more s
       whole = there.whole;
       told_are = there.told_are;
     })
+    (λ other. by other (tx_eq other tx) refl)
+  where
+    by : (other : TxParts) (t : Bool) → tx_eq other tx ≡ t → 0 < last_ballot (facts ++ Fact.Ballot tx b ∷ []) other
+        → list_any (tx_eq other) inner.begun ≡ true
+    by other true e some = subst (λ (x : TxParts). list_any (tx_eq x) inner.begun ≡ true) (sym (same_tx other tx e)) there
+    by other false e some =
+        let inside : StandsForBallots config number inner (last_ballot facts) memory = moved config number inner old
+        (last_ballot facts) memory is stands in
+        let above : last_ballot facts tx < b = omega (arith, more, (inside.courses_are tx).greatest_is) in
+        let same : last_ballot (facts ++ Fact.Ballot tx b ∷ []) other ≡ last_ballot facts other =
+        stored_ballot facts tx other b above ∙ ap (λ t. if t then b else last_ballot facts other) e in
+        inside.begun_are other (omega (arith, some, same))
 
 -- whether a ballot plays, by the leader's own numbers
 pub plays_here : (config : Config) (number : ℕ) (l : LeaderParts) (tx : TxParts) (b : ℕ) (stored : StoredBallots) (memory : LeaderMemory)
@@ -335,62 +349,6 @@ pub plays_here : (config : Config) (number : ℕ) (l : LeaderParts) (tx : TxPart
     ≡ (nat_lt (course_of l tx).greatest b && (owner_of l.leaders b == l.number))
 plays_here config number l tx b stored memory stands =
     λ k. nat_lt (sym (stands.courses_are tx).greatest_is k) b && (owner_of (sym stands.leaders_are k) b == sym stands.number_is k)
-
--- a fact played, or not for want of memory
-pub played : (config : Config) (number : ℕ) (memory : LeaderMemory) (inner old : LeaderParts) (courses : CoursesParts) (tx : TxParts)
-    (b : ℕ)
-    (fact : Fact) (r : Result (Unit {0}) Refusal) → inner ≡ old → fact ≡ Fact.Ballot tx b → (course_of inner tx).greatest < b
-    → owner_of inner.leaders b ≡ inner.number → OnOk r (IsChanged inner.courses courses tx (after_ballot b (course_of inner tx)))
-    → IfErr r (λ e. e ≡ NoMemory) → OnErr r (IsKept inner.courses courses) → OnErr r (is_placed_in inner.courses tx ≡ false)
-    → IsPlayed (leader_part config number memory) old (with_courses inner courses) fact r
-played config number memory inner old courses tx b fact r is names more owned changed err kept absent =
-    let P : Fact → Type 0 = λ f. IsPlayed (leader_part config number memory) old (with_courses inner courses) f r in
-    subst P (sym names) (by_result r changed err kept absent)
-  where
-    plays : (facts : List Fact) → StandsForBallots config number old (last_ballot facts) memory
-        → rules.plays_at_leader config.leaders number (last_ballot facts) (Fact.Ballot tx b) ≡ true
-    plays facts stands = plays_here config number inner tx b (last_ballot facts) memory (moved config number inner old
-        (last_ballot facts) memory is stands)
-        ∙ (λ k. lt-ltb (course_of inner tx).greatest b more k && eq-eqb (owner_of inner.leaders b) inner.number owned k)
-
-    by_result : (x : Result (Unit {0}) Refusal) → OnOk x (IsChanged inner.courses courses tx (after_ballot b (course_of inner tx)))
-        → IfErr x (λ e. e ≡ NoMemory) → OnErr x (IsKept inner.courses courses) → OnErr x (is_placed_in inner.courses tx ≡ false)
-        → IsPlayed (leader_part config number memory) old (with_courses inner courses) (Fact.Ballot tx b) x
-    by_result (Ok done) changed err kept absent = (
-      plays,
-      λ facts stands.
-          store_stands config number inner old courses tx b facts memory is changed more stands,
-    )
-    by_result (Err e) changed err kept absent =
-        let Q : Refusal → Type 0 = λ x. IsPlayed (leader_part config number memory) old (with_courses inner courses) (Fact.Ballot tx b)
-        (Err x) in
-        subst Q (sym err) (
-          plays,
-          λ ready. false≢true (sym (ap (λ l. is_placed_in l.courses tx) (sym is) ∙ absent) ∙ ready),
-          λ facts stands. kept_same config number inner old courses is kept (last_ballot facts) memory stands,
-        )
-
--- a place made for a fact, or not for want of memory
-pub made_ready : (config : Config) (number : ℕ) (memory : LeaderMemory) (inner old : LeaderParts) (courses : CoursesParts)
-    (tx : TxParts) (b : ℕ)
-    (fact : Fact) (r : Result (Unit {0}) Refusal) → inner ≡ old → fact ≡ Fact.Ballot tx b → IsKept inner.courses courses
-    → IfErr r (λ e. e ≡ NoMemory) → OnOk r (is_placed_in courses tx ≡ true)
-    → IsMadeReady (leader_part config number memory) old (with_courses inner courses) fact r
-made_ready config number memory inner old courses tx b fact r is names kept err there =
-    let P : Fact → Type 0 = λ f. IsMadeReady (leader_part config number memory) old (with_courses inner courses) f r in
-    subst P (sym names) (by_result r err there)
-  where
-    same : (facts : List Fact) → StandsForBallots config number old (last_ballot facts) memory
-        → StandsForBallots config number (with_courses inner courses) (last_ballot facts) memory
-    same facts stands = kept_same config number inner old courses is kept (last_ballot facts) memory stands
-
-    by_result : (x : Result (Unit {0}) Refusal) → IfErr x (λ e. e ≡ NoMemory) → OnOk x (is_placed_in courses tx ≡ true)
-        → IsMadeReady (leader_part config number memory) old (with_courses inner courses) (Fact.Ballot tx b) x
-    by_result (Ok done) err there = (same, there)
-    by_result (Err e) err there =
-        let Q : Refusal → Type 0 = λ x. IsMadeReady (leader_part config number memory) old (with_courses inner courses) (Fact.Ballot tx b)
-        (Err x) in
-        subst Q (sym err) same
 
 -- the status, as it is answered
 pub status_follows : (config : Config) (number : ℕ) (inner old : LeaderParts) (tx : TxParts) (decision : LeaderDecision) → inner ≡ old

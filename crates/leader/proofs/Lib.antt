@@ -8,3 +8,5 @@ pub mod Beginning
 pub mod Proposing
 pub mod Rules
 pub mod Leading
+pub mod Storing
+pub mod Compacting

@@ -80,8 +80,9 @@ pub changed_stands : (config : Config) (number : ℕ) (old : LeaderParts) (cours
     → IsChanged old.courses courses tx c → CourseStands config.acceptors after next tx c
     → ((other : TxParts) → tx_eq other tx ≡ false → CourseStands config.acceptors stored memory other (course_of old other)
     → CourseStands config.acceptors after next other (course_of old other))
+    → ((other : TxParts) → 0 < after other → list_any (tx_eq other) old.begun ≡ true)
     → StandsForBallots config number (record old { courses = courses }) after next
-changed_stands config number old courses tx c stored after memory next stands changed new others = record {
+changed_stands config number old courses tx c stored after memory next stands changed new others begun = record {
   number_is = stands.number_is;
   acceptors_are = stands.acceptors_are;
   leaders_are = stands.leaders_are;
@@ -94,6 +95,7 @@ changed_stands config number old courses tx c stored after memory next stands ch
         | true ↦ λ e. let Q : TxParts → Type 0 = λ x. CourseStands config.acceptors after next x c in subst Q (sym (same_tx other tx e)) new
         | false ↦ λ e. others other e (stands.courses_are other)
       ] refl);
+  begun_are = begun;
 }
 
 pub agreed_stands : (config : Config) (number : ℕ) (old : LeaderParts) (courses : CoursesParts) (tx : TxParts) (c : CourseParts)
@@ -104,6 +106,7 @@ pub agreed_stands : (config : Config) (number : ℕ) (old : LeaderParts) (course
 agreed_stands config number old courses tx c decision stored memory e stands changed agrees =
     changed_stands config number old courses tx c stored stored memory e.memory stands changed agrees.stands
     (λ other differs. course_same config.acceptors stored other (course_of old other) memory e.memory (agrees.elsewhere other differs))
+    stands.begun_are
 
 pub kept_stands : (config : Config) (number : ℕ) (old : LeaderParts) (courses : CoursesParts) (stored : StoredBallots)
     (memory : LeaderMemory)
@@ -118,6 +121,7 @@ kept_stands config number old courses stored memory kept stands = record {
   courses_are = λ other.
       let P : CourseParts → Type 0 = CourseStands config.acceptors stored memory other in
       subst P (sym (kept other)) (stands.courses_are other);
+  begun_are = stands.begun_are;
 }
 
 -- ---- commit and ask

@@ -1,7 +1,7 @@
 -- What contracts see of a leader, and which state of the machine it stands for.
-use Rattle.std.specs.Prelude.{◌≡◌, ℕ, ◌^◌, Some, None, Bool, IsTrue, List, [], if◌then◌else◌, nat_lt, Result, Ok, Err}
-use Rattle.std.specs.List.{list_all}
-use Rattle.xid.specs.Transactions.{TxParts}
+use Rattle.std.specs.Prelude.{◌≡◌, ℕ, ◌<◌, ◌^◌, ◌&&◌, Some, None, Bool, true, IsTrue, List, [], if◌then◌else◌, nat_lt, Result, Ok, Err}
+use Rattle.std.specs.List.{list_all, list_any}
+use Rattle.xid.specs.Transactions.{TxParts, tx_eq}
 use Rattle.xid.specs.declared.refusals.Refusal.{Refusal}
 use Rattle.stable_record.specs.declared.fact.FactKind.{FactKind as Fact}
 use Rattle.ballot.specs.Ballots.{next_of}
@@ -21,7 +21,8 @@ use Rattle.leader.specs.Places.{CoursesParts, course_in, is_placed_in}
 use Rattle.leader.specs.Decisions.{shown}
 use Rattle.leader.specs.Orders.{prepare_messages, phase_1a_by}
 
--- which leader it is, of which cluster, and the transactions that it has a course of
+-- which leader it is, of which cluster, the transactions that it has a course of, and those for which it was made ready to store a
+-- ballot, in the order of the first
 pub record LeaderParts : Type 0 where
   pub number : ℕ
   pub acceptors : ℕ
@@ -29,16 +30,18 @@ pub record LeaderParts : Type 0 where
   pub managers : ℕ
   pub bundled : Bool
   pub courses : CoursesParts
+  pub begun : List TxParts
 
 -- the course of a transaction
 abbrev pub course_of : LeaderParts → TxParts → CourseParts
 course_of leader tx = course_in leader.courses tx
 
--- whether a transaction has a place
-abbrev pub is_placed : LeaderParts → TxParts → Bool
-is_placed leader tx = is_placed_in leader.courses tx
+-- whether a ballot of a transaction can be stored with no memory more: it has a place, and stands among those that begin
+abbrev pub is_ready : LeaderParts → TxParts → Bool
+is_ready leader tx = is_placed_in leader.courses tx && list_any (tx_eq tx) leader.begun
 
--- a leader is this one of a cluster, and answers each question as its stored ballots and memory do
+-- a leader is this one of a cluster, and answers each question as its stored ballots and memory do; each transaction of a stored ballot
+-- is among those that begin
 pub record StandsForBallots (config : Config) (number : ℕ) (leader : LeaderParts) (stored : StoredBallots)
     (memory : LeaderMemory) : Type 0 where
   pub number_is : leader.number ≡ number
@@ -47,6 +50,7 @@ pub record StandsForBallots (config : Config) (number : ℕ) (leader : LeaderPar
   pub managers_are : leader.managers ≡ config.managers
   pub bundled_is : leader.bundled ≡ config.bundled
   pub courses_are : (tx : TxParts) → CourseStands config.acceptors stored memory tx (course_of leader tx)
+  pub begun_are : (tx : TxParts) → 0 < stored tx → list_any (tx_eq tx) leader.begun ≡ true
 
 -- the same by the facts of its record
 abbrev pub StandsFor : (config : Config) (number : ℕ) (leader : LeaderParts) (facts : List Fact) (memory : LeaderMemory) → Type 0
@@ -88,7 +92,7 @@ leader_part config number memory = record {
 }
   where
     IsReady : LeaderParts → Fact → Type 0
-    IsReady leader (Fact.Ballot tx b) = IsTrue (is_placed leader tx)
+    IsReady leader (Fact.Ballot tx b) = IsTrue (is_ready leader tx)
     IsReady leader fact = Unit {0}
 
 -- what a commit call sends, by the status

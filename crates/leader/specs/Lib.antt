@@ -4,3 +4,4 @@ pub mod Places
 pub mod Orders
 pub mod Decisions
 pub mod Leaders
+pub mod Compaction

@@ -6,10 +6,13 @@ ghost use Rattle.protocol.specs.Leaders.{is_final};
 ghost use Rattle.leader.specs.Courses.{after_meeting, after_ballot, after_beginning, after_1b, proposals_after_1b, after_2b};
 ghost use Rattle.leader.specs.Courses.{status_after_2b, status_in};
 ghost use Rattle.leader.specs.Places.{course_in, is_placed_in, IsPlaceOf, IsChanged, IsKept};
+ghost use Rattle.leader.specs.Compaction.{compacted};
 
+use crate::compaction::facts_of;
 use crate::course::Course;
 use crate::proposals::Proposals;
 use protocol::Status;
+use stable_record::Fact;
 use std::alloc::Global;
 use std::marker::Model;
 use transactions::Transactions;
@@ -220,5 +223,13 @@ impl Courses {
             Err(refusal) => return Err(refusal),
         };
         self.rows[place].on_2b(acceptors, acceptor, items)
+    }
+
+    /// The greatest ballot of each transaction that has one, in the order of those that begin. `NoMemory` is the only refusal.
+    pub fn compacted(&self, begun: &Transactions) -> Result<Vec<Fact>, Refusal>
+        ensures ok { IfOk result (λ facts. facts.items ≡ compacted begun.now (λ tx. (course_in self.now tx).greatest)) }
+        ensures err { IfErr result (λ e. e ≡ NoMemory) }
+    {
+        facts_of(self.alloc, self, begun)
     }
 }

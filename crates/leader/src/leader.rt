@@ -1,6 +1,7 @@
-ghost use Rattle.std.specs.Prelude.{◌≡◌, ℕ, ◌<◌, ◌≤◌, true, [], length, None, IfSome, IfNone};
+ghost use Rattle.std.specs.Prelude.{◌≡◌, ℕ, ◌<◌, ◌≤◌, true, [], length, None, IfSome, IfNone, IfOk, IfErr};
 ghost use Rattle.xid.specs.Limits.{most_acceptors, most_branches};
 ghost use Rattle.xid.specs.Transactions.{participants};
+ghost use Rattle.xid.specs.declared.refusals.Refusal.TheVariants.{NoMemory};
 ghost use Rattle.wire.specs.Messages.{IsMessage};
 ghost use Rattle.wire.specs.declared.message.Kind.TheVariants.{B1b};
 ghost use Rattle.protocol.specs.Effects.{Config, decision_of, status_standing};
@@ -9,6 +10,7 @@ ghost use Rattle.protocol.specs.Leaders as rules;
 ghost use Rattle.stable_record.specs.Parts.{IsMadeReady, IsPlayed};
 ghost use Rattle.leader.specs.Leaders.{are_below, commit_messages, decided, taken_over, StandsFor, StandsForBallots, Follows};
 ghost use Rattle.leader.specs.Leaders.{FollowsOrRefuses, leader_part};
+ghost use Rattle.leader.specs.Compaction.{Compacts};
 ghost use Rattle.leader.specs.Decisions.{shown};
 ghost use Rattle.protocol.specs.declared.decisions.Address.TheVariants.{Managers};
 
@@ -21,6 +23,7 @@ use protocol::{Address, Answer, NodeId, Standing, Status};
 use stable_record::{Fact, FactKind};
 use std::alloc::Global;
 use std::marker::Model;
+use transactions::Transactions;
 use wire::{InstanceAccept, InstanceReport, Kind, Message};
 use xid::{Ballot, ManagerNumber, Refusal, Tx};
 
@@ -34,6 +37,8 @@ pub struct Leader {
     managers: u8,
     bundled: bool,
     courses: Courses,
+    /// The transactions that a ballot was to be stored of, in the order of the first.
+    begun: Transactions,
 }
 
 impl Model for Leader {
@@ -50,6 +55,7 @@ impl Model for Leader {
       managers = l.managers;
       bundled = l.bundled;
       courses = l.courses;
+      begun = l.begun;
     } };
 
     ghost invariant = { λ l. (l.number < l.leaders) × (l.acceptors ≤ most_acceptors) };
@@ -77,6 +83,7 @@ impl Leader {
             managers,
             bundled,
             courses: Courses::new(alloc),
+            begun: Transactions::new(alloc),
         }
     }
 
@@ -367,17 +374,20 @@ impl Leader {
         ensures { (config : Config) (number : ℕ) (memory : LeaderMemory)
             → IsMadeReady (leader_part config number memory) self.old self.new fact.now result }
     {
-        if let FactKind::Ballot { tx, .. } = fact.kind() {
-            return match self.courses.make_place(tx) {
-                Ok(_) => Ok(()),
-                Err(refusal) => Err(refusal),
-            };
-        }
+        let FactKind::Ballot { tx, .. } = fact.kind() else {
+            return Ok(());
+        };
+        let Ok(_) = self.courses.make_place(tx) else {
+            return Err(Refusal::NoMemory);
+        };
+        let Ok(_) = self.begun.add(tx) else {
+            return Err(Refusal::NoMemory);
+        };
         Ok(())
     }
 
     /// Plays a ballot that is stored: it is the transaction's greatest, but isn't current before `begin`. Refused (`Damaged`) where it
-    /// isn't this leader's own, or no greater than one before, or is no ballot, and (`NoMemory`) where the transaction has no place;
+    /// isn't this leader's own, or no greater than one before, or is no ballot, and (`NoMemory`) where it wasn't made ready for it;
     /// then it stands for what it stood for.
     pub fn play(&mut self, fact: Fact) -> Result<(), Refusal>
         ensures { (config : Config) (number : ℕ) (memory : LeaderMemory)
@@ -401,7 +411,20 @@ impl Leader {
         if owner(*ballot, self.leaders) != self.number {
             return Err(Refusal::Damaged);
         }
+        let Ok(_) = self.begun.add(tx) else {
+            return Err(Refusal::NoMemory);
+        };
         self.courses.store(tx, place, *ballot)
+    }
+
+    /// The facts of a shorter record that says the same: the greatest ballot of each transaction that has one, in the order of the first
+    /// ballots. `NoMemory` is the only refusal.
+    pub fn shorter(&self) -> Result<Vec<Fact>, Refusal>
+        ensures ok { IfOk result (λ kept. Compacts self.now kept.items) }
+        ensures err { IfErr result (λ e. e ≡ NoMemory) }
+    {
+        let _ = self.begun.len();
+        self.courses.compacted(&self.begun)
     }
 }
 

@@ -230,10 +230,3 @@ count_found {bytes = bytes} {after = after} {number = number} {passed = passed} 
       earlier = so.kept ∙ same;
       says = kept_more so first note ∙ (let one : passed + 1 ≡ suc place = omega arith in one);
     }
-
-pub count_all : {bytes rest : List ℕ} {number passed place : ℕ} → Counted bytes rest number passed place → rest ≡ []
-    → length (lines_kept (lines bytes)) ≤ place
-count_all {bytes = bytes} {number = number} so none =
-    let all : lines bytes ≡ take number (lines bytes) =
-    so.reached.left ∙ (ap (λ (r : List ℕ). take number (lines bytes) ++ lines r) none ∙ append-nil (take number (lines bytes))) in
-    omega (arith, ap (λ (ls : List (List ℕ)). length (lines_kept ls)) all, so.kept, so.few)

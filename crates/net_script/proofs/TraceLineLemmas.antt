@@ -240,35 +240,11 @@ lines_have_one_text = record { same = whole_injective }
 
 -- ---- by the first word
 
-pub only_datagram : (said : TraceLine) (rest : List (List ℕ)) → IsTraceLine said → codes "sent" ∷ rest ≡ trace_line_words said
-    → (s : Sent) × IsSent s × (rest ≡ sent_words s)
-only_datagram (Datagram s) rest is e = (s, is, cc)
-only_datagram (Happened d a) rest is e = absurd (event_apart (codes "sent") d refl (cc))
-only_datagram said rest is e = absurd (differ _ _ (ap first_of e) refl)
-
-pub only_changed : (said : TraceLine) (rest : List (List ℕ)) → IsTraceLine said → codes "now" ∷ rest ≡ trace_line_words said
-    → (c : Change) × IsChange c × (rest ≡ change_words c)
-only_changed (Changed c) rest is e = (c, is, cc)
-only_changed (Happened d a) rest is e = absurd (event_apart (codes "now") d refl (cc))
-only_changed said rest is e = absurd (differ _ _ (ap first_of e) refl)
-
 pub only_final : (said : TraceLine) (rest : List (List ℕ)) → IsTraceLine said → codes "final" ∷ rest ≡ trace_line_words said
     → (rm : ℕ) × (rows : List Row) × (rm < 2 ^ 32) × AreFinalRows rows × (rest ≡ final_words rm rows)
 only_final (Final rm rows) rest is e = (rm, rows, is.0, is.1, cc)
 only_final (Happened d a) rest is e = absurd (event_apart (codes "final") d refl (cc))
 only_final said rest is e = absurd (differ _ _ (ap first_of e) refl)
-
-pub only_contents : (said : TraceLine) (rest : List (List ℕ)) → IsTraceLine said → codes "table" ∷ rest ≡ trace_line_words said
-    → (t : Table) × IsContents t × (rest ≡ contents_words t)
-only_contents (Contents t) rest is e = (t, is, cc)
-only_contents (Happened d a) rest is e = absurd (event_apart (codes "table") d refl (cc))
-only_contents said rest is e = absurd (differ _ _ (ap first_of e) refl)
-
-pub only_cluster : (said : TraceLine) (rest : List (List ℕ)) → IsTraceLine said → codes "cluster" ∷ rest ≡ trace_line_words said
-    → (s : Sizes) × IsSizes s × (rest ≡ sizes_words s)
-only_cluster (Cluster s) rest is e = (s, is, cc)
-only_cluster (Happened d a) rest is e = absurd (event_apart (codes "cluster") d refl (cc))
-only_cluster said rest is e = absurd (differ _ _ (ap first_of e) refl)
 
 -- the words of a line that begins with this one
 pub begins_so : (given rest : List (List ℕ)) (word slice literal : List ℕ) (r : Bool) (said : TraceLine) → given ≡ word ∷ rest

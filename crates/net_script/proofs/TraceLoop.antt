@@ -25,9 +25,6 @@ pub record Told (bytes rest : List ℕ) (number : ℕ) (trace : Option Trace) : 
   pub short : number + length rest ≤ length bytes
   pub valid : ForSome trace IsBegun
 
-pub nothing_told : (bytes : List ℕ) → Told bytes bytes 0 None
-nothing_told bytes = record { text = refl; counted = refl; short = omega arith; valid = λ t e. absurd (cc) }
-
 -- ---- texts of traces
 
 pub ended_text : (t : Trace) → IsBegun t → ended_lines (trace_text t) ≡ map whole_line (lines_of t)

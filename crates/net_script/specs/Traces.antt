@@ -2,6 +2,7 @@
 use Rattle.std.specs.Prelude.{ℕ, suc, List, [], ◌∷◌, ◌++◌, codes, decimal, Option, Some, None}
 use Rattle.std.specs.List.{flat_map}
 use Rattle.net_script.specs.Basics.{tx_text, NodeId, R, Row, Answer, Change, Sent, Step}
+use Rattle.net_script.specs.declared.values.Sizes.{Sizes}
 use Rattle.net_script.specs.declared.values.Table.{Table}
 use Rattle.net_script.specs.declared.values.Entry.{Entry}
 use Rattle.net_script.specs.declared.values.Trace.{Trace}
@@ -75,10 +76,10 @@ abbrev pub final_lines : ℕ → List (List Row) → List ℕ
 final_lines rm [] = []
 final_lines rm (rows ∷ rest) = final_line rm rows ++ final_lines (suc rm) rest
 
--- the text of a trace: the cluster, the first tables, what happened, and the rows at the end
+-- the beginning of a trace: the cluster and the first tables
+abbrev pub head_text : Sizes → List Table → List ℕ
+head_text sizes tables = line_text (codes "cluster" ∷ sizes_words sizes) ++ flat_map table_line tables
+
+-- the text of a trace: its beginning, what happened, and the rows at the end
 abbrev pub trace_text : Trace → List ℕ
-trace_text t =
-    line_text (codes "cluster" ∷ sizes_words t.sizes)
-    ++ flat_map table_line t.tables
-    ++ flat_map entry_text t.entries
-    ++ final_lines 0 t.finals
+trace_text t = head_text t.sizes t.tables ++ flat_map entry_text t.entries ++ final_lines 0 t.finals

@@ -25,7 +25,7 @@ mod words;
 
 pub use scripts::{line_of, one_reading, read_script};
 pub use trace_reading::{one_trace, read_trace};
-pub use traces::write_trace;
+pub use traces::{write_finals, write_head, write_step, write_trace};
 pub use values::{Command, Entry, Script, Sizes, Table, Trace};
 
 #[cfg(test)]
@@ -36,3 +36,5 @@ mod row_tests;
 mod script_tests;
 #[cfg(test)]
 mod trace_tests;
+#[cfg(test)]
+mod trace_texts;

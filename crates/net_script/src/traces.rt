@@ -5,14 +5,14 @@ ghost use Rattle.std.specs.List.{flat_map};
 ghost use Rattle.net_script.specs.Basics.{NoMemory};
 ghost use Rattle.net_script.specs.Events.{event_words};
 ghost use Rattle.net_script.specs.Items.{bundled_words, sizes_words};
-ghost use Rattle.net_script.specs.Traces.{spaced_words, line_text, table_line, serve_words, answered_line, sent_line, entry_text};
-ghost use Rattle.net_script.specs.Traces.{final_line, final_lines, trace_text};
+ghost use Rattle.net_script.specs.Traces.{spaced_words, line_text, table_line, serve_words, answered_line, sent_line, step_text};
+ghost use Rattle.net_script.specs.Traces.{entry_text, final_line, final_lines, head_text, trace_text};
 
 use crate::answers::{put_answer, put_change, put_sent};
 use crate::events::put_event;
 use crate::pieces::{put_manager, put_node, put_number, put_rows, put_word};
 use crate::values::{Entry, Sizes, Table, Trace};
-use protocol::{Answer, Event, NodeId, Row, Sent};
+use protocol::{Answer, Event, NodeId, Row, Sent, Step};
 use std::alloc::Global;
 use xid::{Refusal, Sequence};
 
@@ -109,17 +109,25 @@ fn put_all_sent(alloc: Global, out: &mut Vec<u8>, sent: &[Sent]) -> Result<(), R
     Ok(())
 }
 
+/// Writes the lines of an event after what stands in `out`: its answer, the view that it changed, and what it sent. The only refusal is
+/// `NoMemory`, and then what is new in `out` is no whole text.
+pub fn write_step(alloc: Global, out: &mut Vec<u8>, step: &Step) -> Result<(), Refusal>
+    ensures ok { OnOk result (out.new.items ≡ out.old.items ++ step_text step.entry.now) }
+    ensures err { IfErr result (λ e. e ≡ NoMemory) }
+{
+    put_event_line(alloc, out, &step.event, &step.answer)?;
+    put_change(alloc, out, &step.now)?;
+    put_all_sent(alloc, out, step.sent.as_slice())?;
+    Ok(())
+}
+
 /// The lines of what happened and of what came of it.
 fn put_entry(alloc: Global, out: &mut Vec<u8>, entry: &Entry) -> Result<(), Refusal>
     ensures ok { OnOk result (out.new.items ≡ out.old.items ++ entry_text entry.now) }
     ensures err { IfErr result (λ e. e ≡ NoMemory) }
 {
     match entry {
-        Entry::Step(step) => {
-            put_event_line(alloc, out, &step.event, &step.answer)?;
-            put_change(alloc, out, &step.now)?;
-            put_all_sent(alloc, out, step.sent.as_slice())?;
-        }
+        Entry::Step(step) => write_step(alloc, out, step)?,
         Entry::Serve {
             node,
             answer,
@@ -168,8 +176,13 @@ fn put_entries(alloc: Global, out: &mut Vec<u8>, entries: &[Entry]) -> Result<()
     Ok(())
 }
 
-/// The lines of the last rows.
-fn put_finals(alloc: Global, out: &mut Vec<u8>, finals: &[Sequence<Row>]) -> Result<(), Refusal>
+/// Writes the end of a trace after what stands in `out`: the lines of the last rows, from resource manager 0 on. The only refusal is
+/// `NoMemory`, and then what is new in `out` is no whole text.
+pub fn write_finals(
+    alloc: Global,
+    out: &mut Vec<u8>,
+    finals: &[Sequence<Row>],
+) -> Result<(), Refusal>
     ensures ok { OnOk result (out.new.items ≡ out.old.items ++ final_lines 0 finals.now) }
     ensures err { IfErr result (λ e. e ≡ NoMemory) }
 {
@@ -179,15 +192,30 @@ fn put_finals(alloc: Global, out: &mut Vec<u8>, finals: &[Sequence<Row>]) -> Res
     Ok(())
 }
 
+/// Writes the beginning of a trace after what stands in `out`: the lines of the cluster and of the first tables. The only refusal is
+/// `NoMemory`, and then what is new in `out` is no whole text.
+pub fn write_head(
+    alloc: Global,
+    out: &mut Vec<u8>,
+    sizes: Sizes,
+    tables: &[Table],
+) -> Result<(), Refusal>
+    ensures ok { OnOk result (out.new.items ≡ out.old.items ++ head_text sizes tables.now) }
+    ensures err { IfErr result (λ e. e ≡ NoMemory) }
+{
+    put_sizes(out, sizes)?;
+    put_tables(alloc, out, tables)?;
+    Ok(())
+}
+
 /// The one text of a trace. The only refusal is `NoMemory`.
 pub fn write_trace(alloc: Global, trace: &Trace) -> Result<Vec<u8>, Refusal>
     ensures ok { IfOk result (λ text. text.items ≡ trace_text trace.now) }
     ensures err { IfErr result (λ e. e ≡ NoMemory) }
 {
     let mut out = Vec::new(alloc);
-    put_sizes(&mut out, trace.sizes)?;
-    put_tables(alloc, &mut out, trace.tables.as_slice())?;
+    write_head(alloc, &mut out, trace.sizes, trace.tables.as_slice())?;
     put_entries(alloc, &mut out, trace.entries.as_slice())?;
-    put_finals(alloc, &mut out, trace.finals.as_slice())?;
+    write_finals(alloc, &mut out, trace.finals.as_slice())?;
     Ok(out)
 }

@@ -13,6 +13,7 @@ use Rattle.stable_record.specs.Held.{Held}
 use Rattle.protocol.specs.declared.answers.Answer.{Answer}
 use Rattle.protocol.specs.declared.answers.Answer.TheVariants.{Refused}
 use Rattle.protocol.specs.declared.nodes.NodeId.{NodeId}
+use Rattle.protocol.specs.declared.rows.Row.{Row}
 use Rattle.protocol.specs.Effects.{Config, Effect, answer_only, no_effect}
 use Rattle.protocol.specs.Nodes.{NodeState, Memory, Input, Received, ReceivedNoise, accepts_input, down_answer, effect_of}
 use Rattle.protocol.specs.Nodes.{is_message_inside}
@@ -84,19 +85,19 @@ module _ (config : Config) (who : NodeId) (facts : List Fact) (memory : Memory) 
   inside_carries bytes k new now done spells is h =
       subst (λ e. Carries config who facts memory e held new now done) (sym (heard_is bytes k true spells is)) h
 
-module _ (config : Config) (who : NodeId) (m : NodeState) (bytes : List ℕ) where
+module _ (config : Config) (who : NodeId) (own : List Row) (m : NodeState) (bytes : List ℕ) where
   pub hears_down : (held : Held) (role : Option Role) (out : Output) → role ≡ None → out ≡ output_of (Refused Refusal.Down) None
-      → Stands config who held role m → Steps config who m (datagram_input bytes) held held role out
+      → Stands config who own held role m → Steps config who own m (datagram_input bytes) held held role out
   hears_down held role out is out_is s =
-      subst (λ r. Steps config who m (datagram_input bytes) held held r out) (sym is)
-      (steps_down config who m (datagram_input bytes) held out (subst (λ r. Stands config who held r m) is s)
+      subst (λ r. Steps config who own m (datagram_input bytes) held held r out) (sym is)
+      (steps_down config who own m (datagram_input bytes) held out (subst (λ r. Stands config who own held r m) is s)
       (accepted_by who (message_at bytes)) (out_is ∙ ap (λ a. output_of a None) (sym (down_by (message_at bytes)))))
 
   pub hears : (old new : Held) (was role : Option Role) (up now : Role) (done : Result Output Output) (out : Output)
       → was ≡ Some up → role ≡ role_settled (Some now) done → out ≡ out_of done
       → (RoleStands config who up m.facts m.memory
       → Carries config who m.facts m.memory (effect_of config who m.facts m.memory (datagram_input bytes)) old new now done)
-      → Stands config who old was m → Steps config who m (datagram_input bytes) old new role out
+      → Stands config who own old was m → Steps config who own m (datagram_input bytes) old new role out
   hears old new was role up now done out is role_is out_is carries s =
-      steps_settled config who m (datagram_input bytes) old new was role up now done out is (accepted_by who (message_at bytes))
+      steps_settled config who own m (datagram_input bytes) old new was role up now done out is (accepted_by who (message_at bytes))
       role_is out_is carries s

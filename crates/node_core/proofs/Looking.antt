@@ -1,10 +1,13 @@
 -- What is read of a record that is left as it is.
-use Rattle.std.proofs.Common.{◌≡◌, ◌∙◌, ℕ, List, Option, Some, None, inl, inr, refl, sym, subst}
-use Rattle.std.specs.Prelude.{Result, Ok, Err, drop}
+use Rattle.std.proofs.Common.{◌≡◌, ◌∙◌, ℕ, List, Option, Some, None, inl, inr, refl, sym, ap, subst}
+use Rattle.std.specs.Prelude.{◌⊎◌, Result, Ok, Err, drop}
 use Rattle.xid.specs.Transactions.{TxParts}
 use Rattle.xid.specs.declared.refusals.Refusal.{Refusal}
 use Rattle.stable_record.specs.declared.fact.FactKind.{FactKind as Fact}
-use Rattle.stable_record.specs.Held.{Held, armed_with}
+use Rattle.stable_record.specs.declared.record.RecordError.{RecordError}
+use Rattle.stable_record.specs.declared.record.RecordError.TheVariants as RecordErrors
+use Rattle.stable_record.specs.declared.record.RecordError.TheVariants.{Fault}
+use Rattle.stable_record.specs.Held.{Held, HasRead, refusal_of, armed_with}
 use Rattle.protocol.specs.declared.nodes.NodeId.{NodeId}
 use Rattle.protocol.specs.declared.nodes.NodeId.TheVariants.{A, L, R}
 use Rattle.protocol.specs.declared.rows.Row.{Row}
@@ -17,13 +20,14 @@ use Rattle.acceptor.specs.Acceptors.{AcceptorParts}
 use Rattle.leader.specs.Leaders.{LeaderParts}
 use Rattle.resource_manager.specs.Managers as manager_specs
 use Rattle.resource_manager.specs.Managers.{ManagerParts, view_answer}
+use Rattle.node_core.specs.declared.config.Sizes.{Sizes}
 use Rattle.node_core.specs.declared.role.Role.{Role}
 use Rattle.node_core.specs.Roles.{RoleStands}
-use Rattle.node_core.specs.Nodes.{AreSizes, HasRows, Stands, NodeParts, IsSound}
-use Rattle.node_core.specs.Opening.{HasPlayed}
-use Rattle.node_core.specs.Viewing.{Peeks, SaysView, SaysTable, IsUnread, Views, Tables}
-use Rattle.node_core.proofs.Loading.{same_holds}
-use Rattle.node_core.proofs.Restarting.{held_now, same_role, keeps_as}
+use Rattle.node_core.specs.Nodes.{AreSizes, Stands, NodeParts, NodeStands, IsSameNode, IsSound}
+use Rattle.node_core.specs.Opening.{IsBad, IsReadAs, Reads}
+use Rattle.node_core.specs.Viewing.{Peeks, SaysView, SaysTable, IsUnread, Views, Tables, ViewsAs, TablesAs}
+use Rattle.node_core.proofs.Loading.{read_faulted}
+use Rattle.node_core.proofs.Restarting.{same_role, keeps_as}
 
 -- ---- what a role says
 
@@ -84,76 +88,64 @@ leader_table p config (R rm) facts memory s = absurd s
 pub tables_so : (role inner : Role) (result : Result (List Row) Refusal) → role ≡ inner → TablesAll inner result → TablesAll role result
 tables_so role inner result is h = subst (λ r. TablesAll r result) (sym is) h
 
--- what a node that is no resource manager says
-abbrev pub IsNoManager : NodeId → Type 0
-IsNoManager who = (rm : ℕ) → who ≡ R rm → ⊥
-
-stranger_says : (config : Config) (who : NodeId) (facts : List Fact) (tx : TxParts) → IsNoManager who
-    → SaysView config who facts tx (Err Refusal.NoSuch)
-stranger_says config (A a) facts tx none = refl
-stranger_says config (L l) facts tx none = refl
-stranger_says config (R rm) facts tx none = absurd (none rm refl)
-
-stranger_rows : (config : Config) (who : NodeId) (facts : List Fact) → IsNoManager who → SaysTable config who facts (Err Refusal.NoSuch)
-stranger_rows config (A a) facts none = refl
-stranger_rows config (L l) facts none = refl
-stranger_rows config (R rm) facts none = absurd (none rm refl)
-
-pub stranger_view : (config : Config) (who : NodeId) (m : NodeState) (held : Held) (role : Option Role) (tx : TxParts) → IsNoManager who
-    → Stands config who held role m → Views config who m held held role tx (Err Refusal.NoSuch)
-stranger_view config who m held role tx none s = record { stands = s; says = inl (refl, stranger_says config who m.facts tx none) }
-
-pub stranger_table : (config : Config) (who : NodeId) (m : NodeState) (held : Held) (role : Option Role) → IsNoManager who
-    → Stands config who held role m → Tables config who m held held role (Err Refusal.NoSuch)
-stranger_table config who m held role none s = record { stands = s; says = inl (refl, stranger_rows config who m.facts none) }
-
 -- ---- what is read of a record
 
-pub peeked : (config : Config) (who : NodeId) (old mid : Held) (role : Role) (len : ℕ) (bytes : List ℕ) → bytes ≡ old.bytes → mid ≡ old
-    → HasPlayed config who bytes role len → Peeks config who old mid (Ok role)
-peeked config who old mid role len bytes bytes_are mid_is h =
-    let p = subst (λ bs. HasPlayed config who bs role len) bytes_are h in
-    record { facts = p.facts; tail = drop len old.bytes; held = p.holds; same = mid_is; stands = p.stands }
+pub peeked : (config : Config) (who : NodeId) (own : List Row) (old new : Held) (role : Role) (len : ℕ) (bytes : List ℕ)
+    → bytes ≡ old.bytes → new ≡ old → Reads config who own bytes (Ok (role, len)) → Peeks config who own old new (Ok role)
+peeked config who own old new role len bytes bytes_are same h =
+    let p : IsReadAs config who own old.bytes role len = subst (λ bs. IsReadAs config who own bs role len) bytes_are h in
+    record { kept = p.kept; tail = drop len old.bytes; held = p.holds; same = same; stands = p.stands }
 
-module _ (config : Config) (who : NodeId) (m : NodeState) (old new : Held) (role : Option Role) (s : Stands config who old role m) where
+pub unpeeked : (config : Config) (who : NodeId) (own : List Row) (old new : Held) (bytes : List ℕ) (e : Refusal) → bytes ≡ old.bytes
+    → new ≡ old → Reads config who own bytes (Err e) → Peeks config who own old new (Err e)
+unpeeked config who own old new bytes Refusal.Damaged is same h = (same, subst (IsBad config who) is h)
+unpeeked config who own old new bytes Refusal.NoMemory is same h = same
+unpeeked config who own old new bytes other is same h = absurd h
+
+pub peek_failed : (config : Config) (who : NodeId) (own : List Row) (T : Type 0) (old new : Held) (e : RecordError)
+    → HasRead {T = T} old new (Err e) → Peeks config who own old new (Err (refusal_of e))
+peek_failed config who own T old new Fault h = read_faulted T old new h
+peek_failed config who own T old new RecordErrors.Memory h = h
+
+module _ (config : Config) (who : NodeId) (own : List Row) (m : NodeState) (old new : Held) (role : Option Role)
+    (s : Stands config who own old role m) where
   -- what a role says that stands for the machine's facts
   abbrev pub Standing : Role → Type 0
   Standing r = (memory : Memory) × RoleStands config who r m.facts memory
 
   pub up_stands : (up : Role) → role ≡ Some up → Standing up
-  up_stands up is = let t : Stands config who old (Some up) m = subst (λ r. Stands config who old r m) is s in (m.memory, t.role_is.2)
+  up_stands up is =
+      let t : Stands config who own old (Some up) m = subst (λ r. Stands config who own old r m) is s in
+      (m.memory, t.role_is.2)
 
-  pub down_stands : (read : Role) → Peeks config who old new (Ok read) → Standing read
-  down_stands read p =
-      let same = (same_holds config config who who old.bytes p.facts s.keeps.kept p.tail s.tail p.held
-      (held_now config who m old role s)).0 in
-      (empty_memory, same_role config who m old role s read (subst (λ fs. RoleStands config who read fs empty_memory) same p.stands))
+  pub down_stands : (read : Role) → Peeks config who own old new (Ok read) → Standing read
+  down_stands read p = (empty_memory, same_role config who own m old role s read p.kept p.tail p.held p.stands)
 
-  stays : new ≡ old → Stands config who new role m
-  stays is = subst (λ (h : Held). Stands config who h role m) (sym is) s
+  stays : new ≡ old → Stands config who own new role m
+  stays is = subst (λ (h : Held). Stands config who own h role m) (sym is) s
 
   pub says_view : (r : Role) (tx : TxParts) (result : Result View Refusal) → new ≡ old → Standing r → SaysAll r tx result
-      → Views config who m old new role tx result
+      → Views config who own m old new role tx result
   says_view r tx result is t h = record { stands = stays is; says = inl (is, h config who m.facts t.0 t.1) }
 
   pub says_table : (r : Role) (result : Result (List Row) Refusal) → new ≡ old → Standing r → TablesAll r result
-      → Tables config who m old new role result
+      → Tables config who own m old new role result
   says_table r result is t h = record { stands = stays is; says = inl (is, h config who m.facts t.0 t.1) }
 
   -- where it isn't read
   pub record Unread (X : Type 0) (e : Refusal) : Type 0 where
-    pub stands : Stands config who new role m
+    pub stands : Stands config who own new role m
     pub is : IsUnread {X = X} old new role (Err e)
 
-  pub unread : (X : Type 0) → role ≡ None → (e : Refusal) → Peeks config who old new (Err e) → Unread X e
-  unread X none Refusal.Damaged p = absurd (p.1 s.keeps.kept s.tail (held_now config who m old role s))
+  pub unread : (X : Type 0) → role ≡ None → (e : Refusal) → Peeks config who own old new (Err e) → Unread X e
+  unread X none Refusal.Damaged p = absurd (p.1 s.keeps.kept s.tail s.keeps.holds)
   unread X none Refusal.RecordFault p =
-      let h = p.holds config who s.keeps.kept s.tail (held_now config who m old role s) in
-      let t : Stands config who old None m = subst (λ r. Stands config who old r m) none s in
+      let h = p.holds config who s.keeps.kept s.tail s.keeps.holds in
+      let t : Stands config who own old None m = subst (λ r. Stands config who own old r m) none s in
       record {
-        stands = subst (λ r. Stands config who new r m) (sym none) (record {
+        stands = subst (λ r. Stands config who own new r m) (sym none) (record {
           tail = h.0;
-          keeps = keeps_as config who m old role s new.bytes h.0 h.1;
+          keeps = keeps_as config who own m old role s new.bytes h.0 h.1;
           played = s.played;
           role_is = t.role_is;
           tear_is = s.tear_is ∙ sym p.armed;
@@ -163,11 +155,11 @@ module _ (config : Config) (who : NodeId) (m : NodeState) (old new : Held) (role
   unread X none Refusal.NoMemory p = record { stands = stays p; is = (none, inr (refl, p)) }
   unread X none other p = absurd p
 
-  pub unread_view : (tx : TxParts) → role ≡ None → (e : Refusal) → Peeks config who old new (Err e)
-      → Views config who m old new role tx (Err e)
+  pub unread_view : (tx : TxParts) → role ≡ None → (e : Refusal) → Peeks config who own old new (Err e)
+      → Views config who own m old new role tx (Err e)
   unread_view tx none e p = let u = unread View none e p in record { stands = u.stands; says = inr u.is }
 
-  pub unread_table : role ≡ None → (e : Refusal) → Peeks config who old new (Err e) → Tables config who m old new role (Err e)
+  pub unread_table : role ≡ None → (e : Refusal) → Peeks config who own old new (Err e) → Tables config who own m old new role (Err e)
   unread_table none e p = let u = unread (List Row) none e p in record { stands = u.stands; says = inr u.is }
 
 -- ---- the whole node
@@ -178,27 +170,49 @@ module _ (node : NodeParts) (held : Held) where
 
   -- a node that stands for the same node of the machine
   pub sound_still : IsSound node
-      → ((config : Config) (m : NodeState) → AreSizes config node.sizes → HasRows config node.who node.rows
-      → Stands config node.who node.held node.role m → Stands config node.who held node.role m) → IsSound with_held
+      → ((config : Config) (m : NodeState) → AreSizes config node.sizes → Stands config node.who node.rows node.held node.role m
+      → Stands config node.who node.rows held node.role m) → IsSound with_held
   sound_still sound still = record {
     sized = sound.sized;
     among = sound.among;
+    short = sound.short;
     config = sound.config;
     state = sound.state;
     is = record {
       sizes_are = sound.is.sizes_are;
-      rows_are = sound.is.rows_are;
-      stands = still sound.config sound.state sound.is.sizes_are sound.is.rows_are sound.is.stands;
+      stands = still sound.config sound.state sound.is.sizes_are sound.is.stands;
     };
   }
 
+  same_with : held.may_fail ≡ node.held.may_fail → IsSameNode node with_held
+  same_with is = record { who_is = refl; sizes_are = refl; rows_are = refl; may_fail_is = is }
+
+  -- whether the record may fail of itself stays
+  said_may_fail : (X P : Type 0) (result : Result X Refusal) → ((held ≡ node.held) × P) ⊎ IsUnread node.held held node.role result
+      → held.may_fail ≡ node.held.may_fail
+  said_may_fail X P result (inl is) = ap (λ (r : Held). r.may_fail) is.0
+  said_may_fail X P result (inr (none, inl is)) = is.1.may_fail
+  said_may_fail X P result (inr (none, inr is)) = ap (λ (r : Held). r.may_fail) is.1
+
+  pub views_as : (config : Config) (m : NodeState) (tx : TxParts) (result : Result View Refusal)
+      → Views config node.who node.rows m node.held held node.role tx result → ViewsAs config m node with_held tx result
+  views_as config m tx result v = record { same = same_with (said_may_fail View _ result v.says); role_is = refl; views = v }
+
+  pub tables_as : (config : Config) (m : NodeState) (result : Result (List Row) Refusal)
+      → Tables config node.who node.rows m node.held held node.role result → TablesAs config m node with_held result
+  tables_as config m result v = record { same = same_with (said_may_fail (List Row) _ result v.says); role_is = refl; tables = v }
+
+  pub same_armed : (n : ℕ) → held ≡ armed_with (Some n) node.held → IsSameNode node with_held
+  same_armed n is = same_with (ap (λ (r : Held). r.may_fail) is)
+
 -- a tear that is armed
-pub armed_stands : (config : Config) (who : NodeId) (m : NodeState) (old new : Held) (role : Option Role) (n : ℕ)
-    → new ≡ armed_with (Some n) old → Stands config who old role m → Stands config who new role (record m { tear = Some n })
-armed_stands config who m old new role n is s =
-    subst (λ h. Stands config who h role (record m { tear = Some n })) (sym is) (armed role s)
+pub armed_stands : (config : Config) (who : NodeId) (own : List Row) (m : NodeState) (old new : Held) (role : Option Role) (n : ℕ)
+    → new ≡ armed_with (Some n) old → Stands config who own old role m → Stands config who own new role (record m { tear = Some n })
+armed_stands config who own m old new role n is s =
+    subst (λ h. Stands config who own h role (record m { tear = Some n })) (sym is) (armed role s)
   where
-    armed : (r : Option Role) → Stands config who old r m → Stands config who (armed_with (Some n) old) r (record m { tear = Some n })
+    armed : (r : Option Role) → Stands config who own old r m
+        → Stands config who own (armed_with (Some n) old) r (record m { tear = Some n })
     armed None t = record { tail = t.tail; keeps = t.keeps; played = t.played; role_is = t.role_is; tear_is = refl }
     armed (Some up) t = record { tail = t.tail; keeps = t.keeps; played = t.played; role_is = t.role_is; tear_is = refl }
 
@@ -207,11 +221,45 @@ pub sound_armed : (node : NodeParts) (held : Held) (n : ℕ) → held ≡ armed_
 sound_armed node held n is sound = record {
   sized = sound.sized;
   among = sound.among;
+  short = sound.short;
   config = sound.config;
   state = record sound.state { tear = Some n };
   is = record {
     sizes_are = sound.is.sizes_are;
-    rows_are = sound.is.rows_are;
-    stands = armed_stands sound.config node.who sound.state node.held held node.role n is sound.is.stands;
+    stands = armed_stands sound.config node.who node.rows sound.state node.held held node.role n is sound.is.stands;
   };
 }
+
+-- the same of the node as it is seen
+pub views_from : (inside old new : NodeParts) (tx : TxParts) (result : Result View Refusal) → inside ≡ old
+    → ((config : Config) (m : NodeState) → NodeStands config inside m → ViewsAs config m inside new tx result)
+    → (config : Config) (m : NodeState) → NodeStands config old m → ViewsAs config m old new tx result
+views_from inside old new tx result is h config m s =
+    subst (λ o. ViewsAs config m o new tx result) is (h config m (subst (λ o. NodeStands config o m) (sym is) s))
+
+pub tables_from : (inside old new : NodeParts) (result : Result (List Row) Refusal) → inside ≡ old
+    → ((config : Config) (m : NodeState) → NodeStands config inside m → TablesAs config m inside new result)
+    → (config : Config) (m : NodeState) → NodeStands config old m → TablesAs config m old new result
+tables_from inside old new result is h config m s =
+    subst (λ o. TablesAs config m o new result) is (h config m (subst (λ o. NodeStands config o m) (sym is) s))
+
+-- the same of rows under another name
+pub views_over : (sizes : Sizes) (who : NodeId) (own rows : List Row) (old new : Held) (role : Option Role) (tx : TxParts)
+    (result : Result View Refusal) → own ≡ rows
+    → ((config : Config) (m : NodeState) → AreSizes config sizes → Stands config who own old role m
+    → Views config who own m old new role tx result)
+    → (config : Config) (m : NodeState) → AreSizes config sizes → Stands config who rows old role m
+    → Views config who rows m old new role tx result
+views_over sizes who own rows old new role tx result is h =
+    subst (λ r. (config : Config) (m : NodeState) → AreSizes config sizes → Stands config who r old role m
+    → Views config who r m old new role tx result) is h
+
+pub tables_over : (sizes : Sizes) (who : NodeId) (own rows : List Row) (old new : Held) (role : Option Role)
+    (result : Result (List Row) Refusal) → own ≡ rows
+    → ((config : Config) (m : NodeState) → AreSizes config sizes → Stands config who own old role m
+    → Tables config who own m old new role result)
+    → (config : Config) (m : NodeState) → AreSizes config sizes → Stands config who rows old role m
+    → Tables config who rows m old new role result
+tables_over sizes who own rows old new role result is h =
+    subst (λ r. (config : Config) (m : NodeState) → AreSizes config sizes → Stands config who r old role m
+    → Tables config who r m old new role result) is h

@@ -1,25 +1,64 @@
 -- A node that stood for a node of the machine still does.
-use Rattle.std.proofs.Common.{Option}
+use Rattle.std.proofs.Common.{◌≡◌, ℕ, Option, Some, None, refl, sym, ap, subst}
+use Rattle.stable_record.specs.declared.fact.FactKind.{FactKind as Fact}
 use Rattle.stable_record.specs.Held.{Held}
 use Rattle.protocol.specs.Effects.{Config}
-use Rattle.protocol.specs.Nodes.{NodeState, Input, node_step}
+use Rattle.protocol.specs.Nodes.{NodeState, Input, node_step, Fault, NoFault, NoMemoryBefore, NoMemoryAt, RecordFails}
+use Rattle.node_core.specs.declared.output.Input.{Input as Handed}
 use Rattle.node_core.specs.declared.output.Output.{Output}
 use Rattle.node_core.specs.declared.role.Role.{Role}
-use Rattle.node_core.specs.Nodes.{AreSizes, Stands, Steps, NodeParts, IsSound}
+use Rattle.node_core.specs.Nodes.{AreSizes, Stands, Steps, StepsAs, NodeParts, NodeStands, IsSound, HasMet, Befalls, fact_to_store, input_of}
+
+-- ---- whether the record may fail of itself stays
+
+met_may_fail : (armed : Option ℕ) (fact : Fact) (old new : Held) → HasMet armed fact old new → new.may_fail ≡ old.may_fail
+met_may_fail None fact old new met = met.may_fail
+met_may_fail (Some n) fact old new met = met.may_fail
+
+step_may_fail : (fact : Option Fact) (old new : Held) (fault : Fault) → Befalls fact old new fault → new.may_fail ≡ old.may_fail
+step_may_fail fact old new NoMemoryBefore b = absurd b
+step_may_fail fact old new NoMemoryAt b = ap (λ (r : Held). r.may_fail) b
+step_may_fail None old new NoFault b = ap (λ (r : Held). r.may_fail) b
+step_may_fail None old new (RecordFails whole) b = absurd b
+step_may_fail (Some fact) old new NoFault b = met_may_fail old.armed fact old new b
+step_may_fail (Some fact) old new (RecordFails whole) b = b.1.stopped.may_fail
+
+-- ---- the whole node
 
 module _ (node : NodeParts) (held : Held) (role : Option Role) where
   abbrev with_state : NodeParts
   with_state = record { who = node.who; sizes = node.sizes; rows = node.rows; held = held; role = role }
 
   pub sound_step : (input : Input) (out : Output) → IsSound node
-      → ((config : Config) (m : NodeState) → AreSizes config node.sizes → Stands config node.who node.held node.role m
-      → Steps config node.who m input node.held held role out) → IsSound with_state
+      → ((config : Config) (m : NodeState) → AreSizes config node.sizes → Stands config node.who node.rows node.held node.role m
+      → Steps config node.who node.rows m input node.held held role out) → IsSound with_state
   sound_step input out sound steps =
       let s = steps sound.config sound.state sound.is.sizes_are sound.is.stands in
       record {
         sized = sound.sized;
         among = sound.among;
+        short = sound.short;
         config = sound.config;
         state = (node_step sound.config node.who sound.state input s.fault).node;
-        is = record { sizes_are = sound.is.sizes_are; rows_are = sound.is.rows_are; stands = s.shows.stands };
+        is = record { sizes_are = sound.is.sizes_are; stands = s.shows.stands };
       }
+
+  pub steps_as : (config : Config) (m : NodeState) (input : Input) (out : Output) → Steps config node.who node.rows m input node.held held role out
+      → StepsAs config m input node with_state out
+  steps_as config m input out s = record {
+    same = record {
+      who_is = refl;
+      sizes_are = refl;
+      rows_are = refl;
+      may_fail_is = step_may_fail (fact_to_store config node.who m input) node.held held s.fault s.befalls;
+    };
+    steps = s;
+  }
+
+-- the same of the node as it is seen, and of what it was handed
+pub steps_from : (inside old new : NodeParts) (handed known : Handed) (out : Output) → inside ≡ old → handed ≡ known
+    → ((config : Config) (m : NodeState) → NodeStands config inside m → StepsAs config m (input_of known) inside new out)
+    → (config : Config) (m : NodeState) → NodeStands config old m → StepsAs config m (input_of handed) old new out
+steps_from inside old new handed known out is known_is h config m s =
+    subst (λ o. StepsAs config m (input_of handed) o new out) is
+    (subst (λ i. StepsAs config m (input_of i) inside new out) (sym known_is) (h config m (subst (λ o. NodeStands config o m) (sym is) s)))

@@ -4,11 +4,16 @@ use Rattle.std.proofs.Common.{Some, None, inl, inr}
 use Rattle.std.proofs.Common.{refl, sym, ap, subst, append_assoc, append-nil, arith}
 use Rattle.std.specs.Prelude.{if◌then◌else◌, nat_le, map, Result, Ok, Err}
 use Rattle.std.proofs.lemmas.Bool.Decides.{eqb_tells, leb_tells, nat_tests}
+use Rattle.std.proofs.lemmas.Bool.{and_from}
 use Rattle.std.proofs.lemmas.List.{map-append}
+use Rattle.std.proofs.lemmas.Grind.{flat_map-append}
+use Rattle.std.proofs.lemmas.List.Folds.{list_all-append}
+use Rattle.std.specs.List.{list_all}
 use Rattle.wire.specs.Versions.{version_2}
 use Rattle.wire.specs.declared.grammar.VersionNumber.TheVariants.{Second}
 use Rattle.xid.specs.declared.refusals.Refusal.{Refusal}
 use Rattle.xid.specs.declared.refusals.Refusal.TheVariants.{RecordFault}
+use Rattle.stable_record.specs.declared.entry.EntryKind.{EntryKind as Entry}
 use Rattle.stable_record.specs.declared.entry.EntryKind.TheVariants as entries
 use Rattle.stable_record.specs.declared.fact.FactKind.{FactKind as Fact}
 use Rattle.stable_record.specs.Facts.{IsFact}
@@ -20,6 +25,9 @@ use Rattle.stable_record.proofs.Lengths.{entry_in_version_2, fact_frame_has}
 use Rattle.protocol.specs.declared.answers.Answer.{Answer}
 use Rattle.protocol.specs.declared.answers.Answer.TheVariants.{Refused}
 use Rattle.protocol.specs.declared.nodes.NodeId.{NodeId}
+use Rattle.protocol.specs.declared.nodes.NodeId.TheVariants.{A, L, R}
+use Rattle.protocol.specs.declared.rows.Row.{Row}
+use Rattle.resource_manager.specs.Compacted.{row_entry, is_about_tx, facts_of}
 use Rattle.protocol.specs.Effects.{Config, Effect}
 use Rattle.protocol.specs.Nodes.{NodeState, Memory, Input, Fault, NoFault, NoMemoryAt, RecordFails, plays, accepts_input, effect_of}
 use Rattle.protocol.specs.Nodes.{node_step, effect_outcome, answer_outcome, down_answer, stopped_append}
@@ -30,44 +38,70 @@ use Rattle.node_core.specs.Sends.{sent}
 use Rattle.node_core.specs.Roles.{RoleStands}
 use Rattle.node_core.specs.Storing.{fact_frame, output_of, change_made, IsTorn, IsKept, RanOut, WasStopped, Carries}
 use Rattle.node_core.specs.Nodes.{role_left, role_settled, out_of}
-use Rattle.node_core.specs.Nodes.{SameState, Keeps, Stands, Befalls, HasMet, Shows, Steps, fact_to_store}
+use Rattle.node_core.specs.Nodes.{MeansFrom, begun, SameState, Keeps, Stands, Befalls, HasMet, Shows, Steps, fact_to_store}
 use Rattle.node_core.proofs.Changes.{unchanged, changes_made}
+use Rattle.node_core.proofs.Loading.{holds_again}
 
 -- ---- one fact more
 
-module _ (config : Config) (who : NodeId) (facts : List Fact) (fact : Fact) where
+-- one entry more, of a fact, behind what a record means
+more_meant : (who : NodeId) (all : List Entry) (rows : Option (List Row)) (facts : List Fact) (fact : Fact) → MeansFrom who all rows facts
+    → MeansFrom who (all ++ entries.Fact fact ∷ []) rows (facts ++ fact ∷ [])
+more_meant who all None facts fact is =
+    ap (λ es. es ++ entries.Fact fact ∷ []) is ∙ sym (map-append entries.Fact facts (fact ∷ []))
+more_meant (R rm) all (Some rows) facts fact c = record {
+  later = c.later ++ entries.Fact fact ∷ [];
+  all_is = ap (λ es. es ++ entries.Fact fact ∷ []) c.all_is
+      ∙ ap (λ es. entries.Snapshot ∷ es) (append_assoc (map row_entry rows) c.later (entries.Fact fact ∷ []));
+  ascending = c.ascending;
+  about = list_all-append is_about_tx c.later (entries.Fact fact ∷ []) ∙ and_from (list_all is_about_tx c.later) true c.about refl;
+  facts_are = ap (λ fs. fs ++ fact ∷ []) c.facts_are ∙ sym (flat_map-append facts_of c.later (entries.Fact fact ∷ []));
+}
+more_meant (A a) all (Some rows) facts fact is = absurd is
+more_meant (L l) all (Some rows) facts fact is = absurd is
+
+module _ (config : Config) (who : NodeId) (own : List Row) (facts : List Fact) (fact : Fact) where
   abbrev with_it : List Fact → List Fact
   with_it fs = fs ++ fact ∷ []
 
-  same_more : (kept : List Fact) → SameState config who kept facts → SameState config who (with_it kept) (with_it facts)
-  same_more kept same = record {
+  same_more : (from : Config) (kept : List Fact) → SameState from config who kept facts
+      → SameState from config who (with_it kept) (with_it facts)
+  same_more from kept same = record {
     stands = λ more role memory s.
         subst (λ (fs : List Fact). RoleStands config who role fs memory) (sym (append_assoc facts (fact ∷ []) more))
         (same.stands (fact ∷ more) role memory
-        (subst (λ (fs : List Fact). RoleStands config who role fs memory) (append_assoc kept (fact ∷ []) more) s));
+        (subst (λ (fs : List Fact). RoleStands from who role fs memory) (append_assoc kept (fact ∷ []) more) s));
     fits = λ more f. ap (λ (fs : List Fact). plays config who fs f) (append_assoc kept (fact ∷ []) more)
         ∙ same.fits (fact ∷ more) f ∙ ap (λ (fs : List Fact). plays config who fs f) (sym (append_assoc facts (fact ∷ []) more));
   }
 
-  fits_kept : (kept : List Fact) → SameState config who kept facts → plays config who facts fact ≡ true → plays config who kept fact ≡ true
-  fits_kept kept same fits =
+  fits_kept : (from : Config) (kept : List Fact) → SameState from config who kept facts → plays config who facts fact ≡ true
+      → plays config who kept fact ≡ true
+  fits_kept from kept same fits =
       ap (λ (fs : List Fact). plays config who fs fact) (sym (append-nil kept)) ∙ same.fits [] fact
       ∙ ap (λ (fs : List Fact). plays config who fs fact) (append-nil facts) ∙ fits
 
   -- where the frame was kept whole
-  more_kept : (bytes now : List ℕ) (keeps : Keeps config who bytes facts []) → plays config who facts fact ≡ true
-      → IsStored now (map entries.Fact keeps.kept ++ entries.Fact fact ∷ []) [] → Keeps config who now (with_it facts) []
-  more_kept bytes now keeps fits stored = record {
-    kept = with_it keeps.kept;
-    stored = subst (λ es. IsStored now es []) (sym (map-append entries.Fact keeps.kept (fact ∷ []))) stored;
-    fits = all_play_then config who [] keeps.kept fact keeps.fits (fits_kept keeps.kept keeps.same fits);
-    same = same_more keeps.kept keeps.same;
-  }
+  more_kept : (bytes now : List ℕ) (keeps : Keeps config who own bytes facts []) → plays config who facts fact ≡ true
+      → IsStored now (keeps.holds.all ++ entries.Fact fact ∷ []) [] → Keeps config who own now (with_it facts) []
+  more_kept bytes now keeps fits stored =
+      let k = keeps.kept in
+      let from = begun config who own k.rows in
+      record {
+        kept = record { rows = k.rows; facts = with_it k.facts };
+        holds = record {
+          all = keeps.holds.all ++ entries.Fact fact ∷ [];
+          stored = stored;
+          means = more_meant who keeps.holds.all k.rows k.facts fact keeps.holds.means;
+          fits = all_play_then config who [] k.facts fact keeps.holds.fits (fits_kept from k.facts keeps.same fits);
+        };
+        same = same_more from k.facts keeps.same;
+      }
 
-  pub added_kept : (bytes : List ℕ) → Keeps config who bytes facts [] → IsFact fact → plays config who facts fact ≡ true
-      → Keeps config who (bytes ++ fact_frame fact) (with_it facts) []
+  pub added_kept : (bytes : List ℕ) → Keeps config who own bytes facts [] → IsFact fact → plays config who facts fact ≡ true
+      → Keeps config who own (bytes ++ fact_frame fact) (with_it facts) []
   added_kept bytes keeps valid fits = more_kept bytes (bytes ++ fact_frame fact) keeps fits
-      (stored_joined (map entries.Fact keeps.kept) (entries.Fact fact ∷ []) bytes (fact_frame fact) [] keeps.stored
+      (stored_joined keeps.holds.all (entries.Fact fact ∷ []) bytes (fact_frame fact) [] keeps.holds.stored
       (one_stored Second (entries.Fact fact) (entry_in_version_2 (entries.Fact fact) valid)))
 
   kept_few : (armed : Option ℕ) (may_fail : Bool) (len kept : ℕ) → IsStoppedAt armed may_fail len kept → kept ≤ len
@@ -75,26 +109,27 @@ module _ (config : Config) (who : NodeId) (facts : List Fact) (fact : Fact) wher
   kept_few None may_fail len kept at = at.1
 
   -- what a stopped append leaves
-  pub torn_kept : (old new : Held) (whole : Bool) → Keeps config who old.bytes facts [] → IsFact fact → plays config who facts fact ≡ true
-      → IsTorn fact old new whole → (tail : List ℕ) × Keeps config who new.bytes (if whole then with_it facts else facts) tail
+  pub torn_kept : (old new : Held) (whole : Bool) → Keeps config who own old.bytes facts [] → IsFact fact
+      → plays config who facts fact ≡ true → IsTorn fact old new whole
+      → (tail : List ℕ) × Keeps config who own new.bytes (if whole then with_it facts else facts) tail
   torn_kept old new true keeps valid fits torn =
       let entry = entry_in_version_2 (entries.Fact fact) valid in
       let le : length (fact_frame fact) ≤ new.kept = grind (arith, nat_tests, torn.whole_is) in (
         [],
-        subst (λ bytes. Keeps config who bytes (with_it facts) []) (sym torn.stopped.bytes)
+        subst (λ bytes. Keeps config who own bytes (with_it facts) []) (sym torn.stopped.bytes)
             (more_kept old.bytes _ keeps fits
-            (whole_stored Second old.bytes (map entries.Fact keeps.kept) (entries.Fact fact) new.kept keeps.stored entry le)),
+            (whole_stored Second old.bytes keeps.holds.all (entries.Fact fact) new.kept keeps.holds.stored entry le)),
       )
   torn_kept old new false keeps valid fits torn =
       let entry = entry_in_version_2 (entries.Fact fact) valid in
       let few = kept_few old.armed old.may_fail (length (fact_frame fact)) new.kept torn.stopped.at in
       let lt : new.kept < length (fact_frame fact) = grind (arith, nat_tests, torn.whole_is, few) in
-      let tail = take new.kept (fact_frame fact) in (
+      let tail = take new.kept (fact_frame fact) in
+      let now = torn_stored Second old.bytes keeps.holds.all (entries.Fact fact) new.kept keeps.holds.stored entry lt in (
         tail,
-        subst (λ bytes. Keeps config who bytes facts tail) (sym torn.stopped.bytes) (record {
+        subst (λ bytes. Keeps config who own bytes facts tail) (sym torn.stopped.bytes) (record {
           kept = keeps.kept;
-          stored = torn_stored Second old.bytes (map entries.Fact keeps.kept) (entries.Fact fact) new.kept keeps.stored entry lt;
-          fits = keeps.fits;
+          holds = holds_again config who old.bytes _ keeps.kept [] tail keeps.holds now;
           same = keeps.same;
         }),
       )
@@ -108,17 +143,17 @@ min_whole n len = elim (eqb_tells (min n len) len) [
 
 -- ---- a node that is up
 
-module _ (config : Config) (who : NodeId) (m : NodeState) (e : Effect Memory) (old new : Held) (role : Role)
-    (s : Stands config who old (Some role) m) where
+module _ (config : Config) (who : NodeId) (own : List Row) (m : NodeState) (e : Effect Memory) (old new : Held) (role : Role)
+    (s : Stands config who own old (Some role) m) where
   -- its record has no tail
-  keeps_all : Keeps config who old.bytes m.facts []
-  keeps_all = subst (Keeps config who old.bytes m.facts) s.role_is.1 s.keeps
+  keeps_all : Keeps config who own old.bytes m.facts []
+  keeps_all = subst (Keeps config who own old.bytes m.facts) s.role_is.1 s.keeps
 
   -- what came of an effect with this fact
   record Comes (after : Option Role) (out : Output) (f : Option Fact) : Type 0 where
     pub fault : Fault
     pub befalls : Befalls f old new fault
-    pub shows : Shows config who m.facts new after out (effect_outcome m e f m.tear fault)
+    pub shows : Shows config who own m.facts new after out (effect_outcome m e f m.tear fault)
 
   done_comes : (now : Role) (out : Output) → out.reply ≡ e.answer → sent out.sends ≡ e.sends → (f : Option Fact)
       → IsKept config who m.facts e old new now out.now f → Comes (Some now) out f
@@ -131,7 +166,7 @@ module _ (config : Config) (who : NodeId) (m : NodeState) (e : Effect Memory) (o
       sends_are = sends;
       stands = record {
         tail = [];
-        keeps = subst (λ (h : Held). Keeps config who h.bytes m.facts []) (sym is.same) keeps_all;
+        keeps = subst (λ (h : Held). Keeps config who own h.bytes m.facts []) (sym is.same) keeps_all;
         played = s.played;
         role_is = (refl, refl, is.stands);
         tear_is = s.tear_is ∙ ap (λ (h : Held). h.armed) (sym is.same);
@@ -143,15 +178,15 @@ module _ (config : Config) (who : NodeId) (m : NodeState) (e : Effect Memory) (o
       record {
         fault = NoFault;
         befalls = subst (λ armed. HasMet armed fact old new) (sym is.added.unarmed) is.added;
-        shows = subst (λ tear. Shows config who m.facts new (Some now) out (effect_outcome m e (Some fact) tear NoFault)) (sym untorn)
+        shows = subst (λ tear. Shows config who own m.facts new (Some now) out (effect_outcome m e (Some fact) tear NoFault)) (sym untorn)
             (record {
               reply_is = reply;
               now_is = is.now_is ∙ sym (changes_made config who role m.facts m.memory fact s.role_is.2 is.fits);
               sends_are = sends;
               stands = record {
                 tail = [];
-                keeps = subst (λ bytes. Keeps config who bytes (m.facts ++ fact ∷ []) []) (sym is.added.bytes)
-                    (added_kept config who m.facts fact old.bytes keeps_all is.valid is.fits);
+                keeps = subst (λ bytes. Keeps config who own bytes (m.facts ++ fact ∷ []) []) (sym is.added.bytes)
+                    (added_kept config who own m.facts fact old.bytes keeps_all is.valid is.fits);
                 played = all_play_then config who [] m.facts fact s.played is.fits;
                 role_is = (refl, refl, is.stands);
                 tear_is = untorn ∙ sym is.added.armed;
@@ -169,7 +204,7 @@ module _ (config : Config) (who : NodeId) (m : NodeState) (e : Effect Memory) (o
       sends_are = ap (λ (o : Output). sent o.sends) is.out_is;
       stands = record {
         tail = [];
-        keeps = subst (λ (h : Held). Keeps config who h.bytes m.facts []) (sym is.same) keeps_all;
+        keeps = subst (λ (h : Held). Keeps config who own h.bytes m.facts []) (sym is.same) keeps_all;
         played = s.played;
         role_is = refl;
         tear_is = s.tear_is ∙ ap (λ (h : Held). h.armed) (sym is.same);
@@ -179,9 +214,9 @@ module _ (config : Config) (who : NodeId) (m : NodeState) (e : Effect Memory) (o
 
   stopped_shows : (out : Output) (fact : Fact) (whole : Bool) → IsFact fact → plays config who m.facts fact ≡ true
       → IsTorn fact old new whole → out ≡ output_of (Refused RecordFault) (if whole then change_made who fact else None)
-      → Shows config who m.facts new None out (stopped_append m fact whole)
+      → Shows config who own m.facts new None out (stopped_append m fact whole)
   stopped_shows out fact true valid fits torn is =
-      let kept = torn_kept config who m.facts fact old new true keeps_all valid fits torn in
+      let kept = torn_kept config who own m.facts fact old new true keeps_all valid fits torn in
       record {
         reply_is = ap (λ (o : Output). o.reply) is;
         now_is = ap (λ (o : Output). o.now) is ∙ sym (changes_made config who role m.facts m.memory fact s.role_is.2 fits);
@@ -195,7 +230,7 @@ module _ (config : Config) (who : NodeId) (m : NodeState) (e : Effect Memory) (o
         };
       }
   stopped_shows out fact false valid fits torn is =
-      let kept = torn_kept config who m.facts fact old new false keeps_all valid fits torn in
+      let kept = torn_kept config who own m.facts fact old new false keeps_all valid fits torn in
       record {
         reply_is = ap (λ (o : Output). o.reply) is;
         now_is = ap (λ (o : Output). o.now) is ∙ sym (unchanged who m.facts);
@@ -214,7 +249,7 @@ module _ (config : Config) (who : NodeId) (m : NodeState) (e : Effect Memory) (o
   stopped_by out w None is = record {
     fault = RecordFails w.whole;
     befalls = (is, w.torn);
-    shows = subst (λ tear. Shows config who m.facts new None out (effect_outcome m e (Some w.fact) tear (RecordFails w.whole)))
+    shows = subst (λ tear. Shows config who own m.facts new None out (effect_outcome m e (Some w.fact) tear (RecordFails w.whole)))
         (sym (s.tear_is ∙ is)) (stopped_shows out w.fact w.whole w.valid w.fits w.torn w.out_is);
   }
   stopped_by out w (Some n) is =
@@ -226,9 +261,9 @@ module _ (config : Config) (who : NodeId) (m : NodeState) (e : Effect Memory) (o
       record {
         fault = NoFault;
         befalls = subst (λ armed. HasMet armed w.fact old new) (sym is) w.torn.stopped;
-        shows = subst (λ tear. Shows config who m.facts new None out (effect_outcome m e (Some w.fact) tear NoFault))
+        shows = subst (λ tear. Shows config who own m.facts new None out (effect_outcome m e (Some w.fact) tear NoFault))
             (sym (s.tear_is ∙ is))
-            (subst (λ b. Shows config who m.facts new None out (stopped_append m w.fact b)) whole
+            (subst (λ b. Shows config who own m.facts new None out (stopped_append m w.fact b)) whole
             (stopped_shows out w.fact w.whole w.valid w.fits w.torn w.out_is));
       }
 
@@ -240,16 +275,16 @@ module _ (config : Config) (who : NodeId) (m : NodeState) (e : Effect Memory) (o
 
 -- ---- the machine's step
 
-module _ (config : Config) (who : NodeId) (m : NodeState) (input : Input) where
+module _ (config : Config) (who : NodeId) (own : List Row) (m : NodeState) (input : Input) where
   abbrev whole_effect : Effect Memory
   whole_effect = effect_of config who m.facts m.memory input
 
   -- of a node that is up, on an input that its kind takes
-  pub steps_up : (old new : Held) (role now : Role) (result : Result Output Output) → Stands config who old (Some role) m
+  pub steps_up : (old new : Held) (role now : Role) (result : Result Output Output) → Stands config who own old (Some role) m
       → accepts_input who input ≡ true → Carries config who m.facts m.memory whole_effect old new now result
-      → Steps config who m input old new (role_left now result) (out_of result)
+      → Steps config who own m input old new (role_left now result) (out_of result)
   steps_up old new role now result s accepted is =
-      let c = comes_of config who m whole_effect old new role s now result is in
+      let c = comes_of config who own m whole_effect old new role s now result is in
       let up = s.role_is.0 in
       let same : node_step config who m input c.fault ≡ effect_outcome m whole_effect whole_effect.fact m.tear c.fault = λ i.
       if not (accepted i) then answer_outcome m (Refused Refusal.NoSuch)
@@ -260,16 +295,16 @@ module _ (config : Config) (who : NodeId) (m : NodeState) (input : Input) where
       record {
         fault = c.fault;
         befalls = subst (λ f. Befalls f old new c.fault) (sym fact) c.befalls;
-        shows = subst (Shows config who m.facts new (role_left now result) (out_of result)) (sym same) c.shows;
+        shows = subst (Shows config who own m.facts new (role_left now result) (out_of result)) (sym same) c.shows;
       }
 
-  answered : (held : Held) (role : Option Role) (answer : Answer) (out : Output) → Stands config who held role m
+  answered : (held : Held) (role : Option Role) (answer : Answer) (out : Output) → Stands config who own held role m
       → out ≡ output_of answer None → node_step config who m input NoFault ≡ answer_outcome m answer
-      → fact_to_store config who m input ≡ None → Steps config who m input held held role out
+      → fact_to_store config who m input ≡ None → Steps config who own m input held held role out
   answered held role answer out s is same none = record {
     fault = NoFault;
     befalls = subst (λ f. Befalls f held held NoFault) (sym none) refl;
-    shows = subst (Shows config who m.facts held role out) (sym same) (record {
+    shows = subst (Shows config who own m.facts held role out) (sym same) (record {
       reply_is = ap (λ (o : Output). o.reply) is;
       now_is = ap (λ (o : Output). o.now) is ∙ sym (unchanged who m.facts);
       sends_are = ap (λ (o : Output). sent o.sends) is;
@@ -278,8 +313,8 @@ module _ (config : Config) (who : NodeId) (m : NodeState) (input : Input) where
   }
 
   -- an input that its kind doesn't take
-  pub steps_refused : (held : Held) (role : Option Role) (out : Output) → Stands config who held role m
-      → accepts_input who input ≡ false → out ≡ output_of (Refused Refusal.NoSuch) None → Steps config who m input held held role out
+  pub steps_refused : (held : Held) (role : Option Role) (out : Output) → Stands config who own held role m
+      → accepts_input who input ≡ false → out ≡ output_of (Refused Refusal.NoSuch) None → Steps config who own m input held held role out
   steps_refused held role out s refused is = answered held role (Refused Refusal.NoSuch) out s is
       (λ i. if not (refused i) then answer_outcome m (Refused Refusal.NoSuch)
       else if not m.up then answer_outcome m (down_answer input)
@@ -287,8 +322,8 @@ module _ (config : Config) (who : NodeId) (m : NodeState) (input : Input) where
       (λ i. if refused i && m.up then whole_effect.fact else None)
 
   -- a node that is down
-  pub steps_down : (held : Held) (out : Output) → Stands config who held None m → accepts_input who input ≡ true
-      → out ≡ output_of (down_answer input) None → Steps config who m input held held None out
+  pub steps_down : (held : Held) (out : Output) → Stands config who own held None m → accepts_input who input ≡ true
+      → out ≡ output_of (down_answer input) None → Steps config who own m input held held None out
   steps_down held out s accepted is = answered held None (down_answer input) out s is
       (λ i. if not (accepted i) then answer_outcome m (Refused Refusal.NoSuch)
       else if not (s.role_is i) then answer_outcome m (down_answer input)
@@ -303,10 +338,10 @@ module _ (config : Config) (who : NodeId) (m : NodeState) (input : Input) where
   pub steps_settled : (old new : Held) (was role : Option Role) (up now : Role) (done : Result Output Output) (out : Output)
       → was ≡ Some up → accepts_input who input ≡ true → role ≡ role_settled (Some now) done → out ≡ out_of done
       → (RoleStands config who up m.facts m.memory → Carries config who m.facts m.memory whole_effect old new now done)
-      → Stands config who old was m → Steps config who m input old new role out
+      → Stands config who own old was m → Steps config who own m input old new role out
   steps_settled old new was role up now done out is accepted role_is out_is carries s =
-      let stands : Stands config who old (Some up) m = subst (λ r. Stands config who old r m) is s in
-      let P : Option Role → Output → Type 0 = λ r o. Steps config who m input old new r o in
+      let stands : Stands config who own old (Some up) m = subst (λ r. Stands config who own old r m) is s in
+      let P : Option Role → Output → Type 0 = λ r o. Steps config who own m input old new r o in
       subst (λ r. P r out) (sym (role_is ∙ settled_left now done))
       (subst (λ o. P (role_left now done) o) (sym out_is)
       (steps_up old new up now done stands accepted (carries stands.role_is.2)))

@@ -1,7 +1,8 @@
 -- The clusters that there may be, and their nodes.
 use Rattle.std.specs.Prelude.{ℕ, Bool, true, false, ◌&&◌, ◌||◌, ◌==◌, nat_lt, nat_le, List, length}
 use Rattle.std.specs.List.{list_all}
-use Rattle.xid.specs.Limits.{most_leaders, most_managers, most_key, most_value}
+use Rattle.xid.specs.Limits.{most_leaders, most_managers}
+use Rattle.branch_table.specs.Tables.{are_rows}
 use Rattle.protocol.specs.declared.nodes.NodeId.{NodeId}
 use Rattle.protocol.specs.declared.nodes.NodeId.TheVariants.{A, L, R}
 use Rattle.protocol.specs.declared.rows.Row.{Row}
@@ -32,14 +33,6 @@ abbrev pub are_sizes : (acceptors leaders managers : ℕ) → Bool
 are_sizes acceptors leaders managers =
     (acceptors == 1 || acceptors == 3 || acceptors == 5 || acceptors == 7) && (nat_lt 0 leaders && nat_le leaders most_leaders)
     && (nat_lt 0 managers && nat_le managers most_managers)
-
--- the lengths of a row are within the limits
-abbrev pub is_row : Row → Bool
-is_row row = nat_lt 0 (length row.key) && nat_le (length row.key) most_key && nat_le (length row.value) most_value
-
--- the lengths of each row are within the limits
-abbrev pub are_rows : List Row → Bool
-are_rows rows = list_all is_row rows
 
 -- a cluster is within the limits, and has a table for each resource manager
 abbrev pub is_config : Config → Bool

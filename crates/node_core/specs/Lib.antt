@@ -3,5 +3,7 @@ pub mod Roles
 pub mod Storing
 pub mod Nodes
 pub mod Configs
+pub mod Places
 pub mod Opening
 pub mod Viewing
+pub mod Compacting

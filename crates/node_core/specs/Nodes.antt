@@ -1,9 +1,11 @@
 -- A node: which node of the machine it stands for, and what an input makes of both.
 use Rattle.xid.specs.Limits.{most_acceptors}
 use Rattle.std.specs.Prelude.{◌≡◌, ◌<◌, ◌≤◌, ℕ, true, false, ◌&&◌, if◌then◌else◌, List, [], ◌++◌, map, Option, Some, None, Result, Ok, Err}
+use Rattle.std.specs.Prelude.{unwrap_or}
 use Rattle.std.specs.Option.{option_map_or}
 use Rattle.wire.specs.Decoding.{message_at}
 use Rattle.stable_record.specs.declared.fact.FactKind.{FactKind as Fact}
+use Rattle.stable_record.specs.declared.entry.EntryKind.{EntryKind as Entry}
 use Rattle.stable_record.specs.declared.entry.EntryKind.TheVariants as entries
 use Rattle.stable_record.specs.Grammar.{IsStored}
 use Rattle.stable_record.specs.Held.{Held, IsAdded, IsStopped}
@@ -20,25 +22,49 @@ use Rattle.node_core.specs.declared.output.Input.{Input as Handed}
 use Rattle.node_core.specs.declared.output.Input.TheVariants as inputs
 use Rattle.node_core.specs.declared.output.Output.{Output}
 use Rattle.node_core.specs.declared.role.Role.{Role}
+use Rattle.resource_manager.specs.Compacted.{IsCompacted, beginning_with}
+use Rattle.branch_table.specs.Tables.{are_rows}
 use Rattle.node_core.specs.Sends.{sent}
 use Rattle.node_core.specs.Roles.{RoleStands}
 use Rattle.node_core.specs.Storing.{fact_frame, IsTorn}
 
 -- ---- what a record keeps
 
--- facts in a record say the same as others: whatever is played after them, a role that stands for the one stands for the other, and the
--- same facts play
-pub record SameState (config : Config) (who : NodeId) (kept facts : List Fact) : Type 0 where
-  pub stands : (more : List Fact) (role : Role) (memory : Memory) → RoleStands config who role (kept ++ more) memory
+-- what a record keeps: the rows that the table begins with, where it was made shorter, and facts
+pub record Kept : Type 0 where
+  pub rows : Option (List Row)
+  pub facts : List Fact
+
+-- what entries mean: they are facts, or, at a resource manager, those of a record that was made shorter
+abbrev pub MeansFrom : NodeId → List Entry → Option (List Row) → List Fact → Type 0
+MeansFrom who all None facts = all ≡ map entries.Fact facts
+MeansFrom (R rm) all (Some rows) facts = IsCompacted all rows facts
+MeansFrom who all (Some rows) facts = ⊥
+
+-- bytes hold what a record keeps, the facts of which play, and a tail
+pub record Holds (config : Config) (who : NodeId) (bytes : List ℕ) (kept : Kept) (tail : List ℕ) : Type 0 where
+  pub all : List Entry
+  pub stored : IsStored bytes all tail
+  pub means : MeansFrom who all kept.rows kept.facts
+  pub fits : all_play config who [] kept.facts ≡ true
+
+-- the cluster in which a resource manager's table begins with the rows that its record begins with, or else with its own
+abbrev pub begun : Config → NodeId → (own : List Row) → Option (List Row) → Config
+begun config (R rm) own rows = beginning_with config rm (unwrap_or rows own)
+begun config who own rows = config
+
+-- facts in a record say the same as others, in a cluster that may have other first contents: whatever is played after them, a role that
+-- stands for the one stands for the other, and the same facts play
+pub record SameState (from config : Config) (who : NodeId) (kept facts : List Fact) : Type 0 where
+  pub stands : (more : List Fact) (role : Role) (memory : Memory) → RoleStands from who role (kept ++ more) memory
       → RoleStands config who role (facts ++ more) memory
   pub fits : (more : List Fact) (fact : Fact) → plays config who (kept ++ more) fact ≡ plays config who (facts ++ more) fact
 
--- bytes keep facts: they are the frames of facts that play and say the same, and a tail
-pub record Keeps (config : Config) (who : NodeId) (bytes : List ℕ) (facts : List Fact) (tail : List ℕ) : Type 0 where
-  pub kept : List Fact
-  pub stored : IsStored bytes (map entries.Fact kept) tail
-  pub fits : all_play config who [] kept ≡ true
-  pub same : SameState config who kept facts
+-- bytes keep facts: what they hold says the same, beside a tail
+pub record Keeps (config : Config) (who : NodeId) (own : List Row) (bytes : List ℕ) (facts : List Fact) (tail : List ℕ) : Type 0 where
+  pub kept : Kept
+  pub holds : Holds config who bytes kept tail
+  pub same : SameState (begun config who own kept.rows) config who kept.facts facts
 
 -- ---- which node of the machine a node stands for
 
@@ -47,10 +73,10 @@ abbrev pub RoleIs : Config → NodeId → NodeState → (tail : List ℕ) → Op
 RoleIs config who m tail None = m.up ≡ false
 RoleIs config who m tail (Some role) = (m.up ≡ true) × (tail ≡ []) × RoleStands config who role m.facts m.memory
 
--- a record and a role stand for a node of the machine
-pub record Stands (config : Config) (who : NodeId) (held : Held) (role : Option Role) (m : NodeState) : Type 0 where
+-- a record and a role stand for a node of the machine, whose table begins with rows of its own
+pub record Stands (config : Config) (who : NodeId) (own : List Row) (held : Held) (role : Option Role) (m : NodeState) : Type 0 where
   pub tail : List ℕ
-  pub keeps : Keeps config who held.bytes m.facts tail
+  pub keeps : Keeps config who own held.bytes m.facts tail
   pub played : all_play config who [] m.facts ≡ true
   pub role_is : RoleIs config who m tail role
   pub tear_is : m.tear ≡ held.armed
@@ -94,19 +120,19 @@ Befalls (Some fact) old new NoFault = HasMet old.armed fact old new
 Befalls (Some fact) old new (RecordFails whole) = (old.armed ≡ None) × IsTorn fact old new whole
 
 -- an outcome of the machine is what came of an input
-pub record Shows (config : Config) (who : NodeId) (before : List Fact) (new : Held) (role : Option Role) (out : Output)
+pub record Shows (config : Config) (who : NodeId) (own : List Row) (before : List Fact) (new : Held) (role : Option Role) (out : Output)
     (outcome : Outcome) : Type 0 where
   pub reply_is : out.reply ≡ outcome.answer
   pub now_is : out.now ≡ change_of who before outcome.node.facts
   pub sends_are : sent out.sends ≡ outcome.sends
-  pub stands : Stands config who new role outcome.node
+  pub stands : Stands config who own new role outcome.node
 
 -- an input was handled as the machine handles it under a fault that is true
-pub record Steps (config : Config) (who : NodeId) (m : NodeState) (input : Input) (old new : Held) (role : Option Role) (out : Output)
-    : Type 0 where
+pub record Steps (config : Config) (who : NodeId) (own : List Row) (m : NodeState) (input : Input) (old new : Held) (role : Option Role)
+    (out : Output) : Type 0 where
   pub fault : Fault
   pub befalls : Befalls (fact_to_store config who m input) old new fault
-  pub shows : Shows config who m.facts new role out (node_step config who m input fault)
+  pub shows : Shows config who own m.facts new role out (node_step config who m input fault)
 
 -- what is left of a role once a decision was carried out: where it wasn't, the node is down
 abbrev pub role_left : Role → Result Output Output → Option Role
@@ -125,7 +151,8 @@ role_settled role (Err out) = None
 
 -- ---- the whole node
 
--- which node it is, of which cluster; the first contents of its table; its record; and its role, where it is up
+-- which node it is, of which cluster; the first contents of its table, unless its record says others; its record; and its role, where it
+-- is up
 pub record NodeParts : Type 0 where
   pub who : NodeId
   pub sizes : Sizes
@@ -133,7 +160,7 @@ pub record NodeParts : Type 0 where
   pub held : Held
   pub role : Option Role
 
--- the rows are the first contents of a resource manager's table
+-- rows are the first contents of a resource manager's table
 abbrev pub HasRows : Config → NodeId → List Row → Type 0
 HasRows config (R rm) rows = rows ≡ first_rows config rm
 HasRows config who rows = Unit {0}
@@ -152,24 +179,25 @@ IsAmong sizes (R rm) = rm < sizes.managers
 -- a node stands for a node of the machine, in a cluster
 pub record NodeStands (config : Config) (node : NodeParts) (m : NodeState) : Type 0 where
   pub sizes_are : AreSizes config node.sizes
-  pub rows_are : HasRows config node.who node.rows
-  pub stands : Stands config node.who node.held node.role m
+  pub stands : Stands config node.who node.rows node.held node.role m
 
 -- each node stands for some node of the machine in some cluster
 pub record IsSound (node : NodeParts) : Type 0 where
   pub sized : IsSized node.sizes
   pub among : IsAmong node.sizes node.who
+  pub short : are_rows node.rows ≡ true
   pub config : Config
   pub state : NodeState
   pub is : NodeStands config node state
 
--- what a node is stays
+-- what a node is stays, and whether its record may fail of itself
 pub record IsSameNode (old new : NodeParts) : Type 0 where
   pub who_is : new.who ≡ old.who
   pub sizes_are : new.sizes ≡ old.sizes
   pub rows_are : new.rows ≡ old.rows
+  pub may_fail_is : new.held.may_fail ≡ old.held.may_fail
 
 -- an input was handled as the machine handles it
 pub record StepsAs (config : Config) (m : NodeState) (input : Input) (old new : NodeParts) (out : Output) : Type 0 where
   pub same : IsSameNode old new
-  pub steps : Steps config old.who m input old.held new.held new.role out
+  pub steps : Steps config old.who old.rows m input old.held new.held new.role out

@@ -1,127 +1,298 @@
 -- How a node reads its record.
-use Rattle.std.specs.Prelude.{◌≡◌, ℕ, ◌≤◌, true, false, List, [], ◌∷◌, ◌++◌, length, drop, map, Option, is_some, Result, Ok, Err}
-use Rattle.std.specs.Prelude.{IsTrue}
+use Rattle.std.specs.Prelude.{◌≡◌, ◌≢◌, ◌⊎◌, ℕ, ◌≤◌, Bool, true, false, List, [], ◌∷◌, ◌++◌, length, drop, map, Option, Some, None, is_some, Result}
+use Rattle.std.specs.Prelude.{Ok, Err, IsTrue}
+use Rattle.std.specs.List.{list_all, flat_map}
+use Rattle.std.specs.Cmp.Lexicographic.{slice_cmp}
+use Rattle.std.specs.Ordering.{nat_cmp, is_lt}
 use Rattle.xid.specs.declared.refusals.Refusal.{Refusal}
+use Rattle.wire.specs.Versions.{version_2}
 use Rattle.stable_record.specs.declared.entry.EntryKind.{EntryKind as Entry}
 use Rattle.stable_record.specs.declared.entry.EntryKind.TheVariants as entries
 use Rattle.stable_record.specs.declared.fact.FactKind.{FactKind as Fact}
-use Rattle.stable_record.specs.Grammar.{IsStored}
-use Rattle.stable_record.specs.Held.{Held, IsCounted}
+use Rattle.stable_record.specs.Grammar.{IsStored, IsDamaged, IsFramed, frame}
+use Rattle.stable_record.specs.Held.{Held, IsCounted, HasFailed, with_bytes}
 use Rattle.protocol.specs.declared.nodes.NodeId.{NodeId}
+use Rattle.protocol.specs.declared.nodes.NodeId.TheVariants.{R}
+use Rattle.protocol.specs.declared.rows.Row.{Row}
 use Rattle.protocol.specs.Effects.{Config}
 use Rattle.protocol.specs.declared.answers.Answer.{Answer}
 use Rattle.protocol.specs.declared.answers.Answer.TheVariants.{Done, Refused}
-use Rattle.protocol.specs.Nodes.{NodeState, Fault, empty_memory, plays, all_play, restart_outcome}
+use Rattle.protocol.specs.Nodes.{NodeState, Fault, empty_memory, all_play, restart_outcome}
 use Rattle.protocol.specs.Nodes.{NoFault, NoMemoryBefore, NoMemoryAt, RecordFails}
+use Rattle.resource_manager.specs.Compacted.{IsCompacted, beginning_with, row_entry, are_ascending, is_about_tx, facts_of}
 use Rattle.node_core.specs.Configs.{is_among}
-use Rattle.node_core.specs.Nodes.{NodeParts, NodeStands, Stands, IsSameNode}
+use Rattle.branch_table.specs.Tables.{is_row, are_rows}
+use Rattle.node_core.specs.Nodes.{Kept, Holds, begun, NodeParts, NodeStands, Stands, IsSameNode}
 use Rattle.node_core.specs.declared.role.Role.{Role}
 use Rattle.node_core.specs.Roles.{RoleStands}
 
--- an entry was played after facts
-pub record IsEntryPlayed (config : Config) (who : NodeId) (facts : List Fact) (new : Role) (entry : Entry) : Type 0 where
-  pub fact : Fact
-  pub entry_is : entry ≡ entries.Fact fact
-  pub fits : plays config who facts fact ≡ true
-  pub stands : RoleStands config who new (facts ++ fact ∷ []) empty_memory
+-- ---- entries behind the rows
 
--- an entry was played, or is no fact that plays
-abbrev pub IsPlayedAs : Config → NodeId → List Fact → Role → Entry → Result (Unit {0}) Refusal → Type 0
-IsPlayedAs config who facts new entry (Ok done) = IsEntryPlayed config who facts new entry
-IsPlayedAs config who facts new entry (Err Refusal.Damaged) =
-    (fact : Fact) → entry ≡ entries.Fact fact → plays config who facts fact ≡ false
-IsPlayedAs config who facts new entry (Err Refusal.NoMemory) = Unit {0}
-IsPlayedAs config who facts new entry (Err other) = ⊥
+-- whether an entry is a fact
+abbrev pub is_fact : Entry → Bool
+is_fact (entries.Fact fact) = true
+is_fact other = false
+
+-- whether an entry may stand behind the rows, or with none in front: in a record that was made shorter also past outcomes
+abbrev pub may_stand : (compacted : Bool) → Entry → Bool
+may_stand true entry = is_about_tx entry
+may_stand false entry = is_fact entry
+
+-- facts were played after others, or don't play
+abbrev pub AreReplayed : Config → NodeId → (before played : List Fact) → Role → Result (Unit {0}) Refusal → Type 0
+AreReplayed config who before played new (Ok done) =
+    (all_play config who before played ≡ true) × RoleStands config who new (before ++ played) empty_memory
+AreReplayed config who before played new (Err Refusal.Damaged) = all_play config who before played ≡ false
+AreReplayed config who before played new (Err Refusal.NoMemory) = Unit {0}
+AreReplayed config who before played new (Err other) = ⊥
+
+-- it plays facts, whatever facts it stood for with nothing in memory
+abbrev pub ReplaysAll : (old new : Role) → (played : List Fact) → Result (Unit {0}) Refusal → Type 0
+ReplaysAll old new played result =
+    (config : Config) (who : NodeId) (facts : List Fact) → RoleStands config who old facts empty_memory
+    → AreReplayed config who facts played new result
+
+-- an entry was played after facts
+pub record IsEntryPlayed (config : Config) (who : NodeId) (compacted : Bool) (facts : List Fact) (new : Role) (entry : Entry) : Type 0 where
+  pub may : may_stand compacted entry ≡ true
+  pub fits : all_play config who facts (facts_of entry) ≡ true
+  pub stands : RoleStands config who new (facts ++ facts_of entry) empty_memory
+
+-- an entry was played, or may not stand there, or doesn't play
+abbrev pub IsPlayedAs : Config → NodeId → Bool → List Fact → Role → Entry → Result (Unit {0}) Refusal → Type 0
+IsPlayedAs config who compacted facts new entry (Ok done) = IsEntryPlayed config who compacted facts new entry
+IsPlayedAs config who compacted facts new entry (Err Refusal.Damaged) =
+    may_stand compacted entry ≡ true → all_play config who facts (facts_of entry) ≡ false
+IsPlayedAs config who compacted facts new entry (Err Refusal.NoMemory) = Unit {0}
+IsPlayedAs config who compacted facts new entry (Err other) = ⊥
 
 -- it plays an entry of a record, whatever facts it stood for with nothing in memory
-abbrev pub PlaysEntry : (old new : Role) → Entry → Result (Unit {0}) Refusal → Type 0
-PlaysEntry old new entry result =
+abbrev pub PlaysEntry : (compacted : Bool) → (old new : Role) → Entry → Result (Unit {0}) Refusal → Type 0
+PlaysEntry compacted old new entry result =
     (config : Config) (who : NodeId) (facts : List Fact) → RoleStands config who old facts empty_memory
-    → IsPlayedAs config who facts new entry result
+    → IsPlayedAs config who compacted facts new entry result
 
--- bytes hold facts, which play, and a tail
-pub record Holds (config : Config) (who : NodeId) (bytes : List ℕ) (facts : List Fact) (tail : List ℕ) : Type 0 where
-  pub stored : IsStored bytes (map entries.Fact facts) tail
-  pub fits : all_play config who [] facts ≡ true
+-- bytes hold entries that may stand there, and that play, and a tail
+pub record Goes (config : Config) (who : NodeId) (compacted : Bool) (bytes : List ℕ) (all : List Entry) (tail : List ℕ) : Type 0 where
+  pub stored : IsStored bytes all tail
+  pub may : list_all (may_stand compacted) all ≡ true
+  pub fits : all_play config who [] (flat_map facts_of all) ≡ true
 
--- bytes hold no facts that play
-abbrev pub IsBad : Config → NodeId → List ℕ → Type 0
-IsBad config who bytes = (facts : List Fact) (tail : List ℕ) → Holds config who bytes facts tail → ⊥
-
--- the facts of bytes were played: their frames fill so many
-pub record HasPlayed (config : Config) (who : NodeId) (bytes : List ℕ) (role : Role) (len : ℕ) : Type 0 where
-  pub facts : List Fact
+-- the entries of bytes were played: their frames fill so many
+pub record HasPlayed (config : Config) (who : NodeId) (compacted : Bool) (bytes : List ℕ) (role : Role) (len : ℕ) : Type 0 where
+  pub all : List Entry
   pub within : len ≤ length bytes
-  pub holds : Holds config who bytes facts (drop len bytes)
-  pub stands : RoleStands config who role facts empty_memory
+  pub goes : Goes config who compacted bytes all (drop len bytes)
+  pub stands : RoleStands config who role (flat_map facts_of all) empty_memory
 
--- what comes of reading bytes: their facts were played, or they hold none that play
-abbrev pub IsRead : Config → NodeId → List ℕ → Role → Result ℕ Refusal → Type 0
-IsRead config who bytes role (Ok len) = HasPlayed config who bytes role len
-IsRead config who bytes role (Err Refusal.Damaged) = IsBad config who bytes
-IsRead config who bytes role (Err Refusal.NoMemory) = Unit {0}
-IsRead config who bytes role (Err other) = ⊥
+-- bytes hold no entries that may stand there and play
+abbrev pub IsUnplayable : Config → NodeId → Bool → List ℕ → Type 0
+IsUnplayable config who compacted bytes = (all : List Entry) (tail : List ℕ) → Goes config who compacted bytes all tail → ⊥
 
--- what was read so far: the facts before the rest, which were played
-pub record HasReadTo (config : Config) (who : NodeId) (bytes rest : List ℕ) (role : Role) : Type 0 where
-  pub facts : List Fact
-  pub goes : (more : List Entry) (tail : List ℕ) → IsStored rest more tail → IsStored bytes (map entries.Fact facts ++ more) tail
-  pub fits : all_play config who [] facts ≡ true
-  pub stands : RoleStands config who role facts empty_memory
-  pub came : (all : List Entry) (tail : List ℕ) → IsStored bytes all tail
-      → (more : List Entry) × (all ≡ map entries.Fact facts ++ more) × IsStored rest more tail
+-- what comes of playing the entries of bytes
+abbrev pub IsPlayedWhole : Config → NodeId → Bool → List ℕ → Role → Result ℕ Refusal → Type 0
+IsPlayedWhole config who compacted bytes role (Ok len) = HasPlayed config who compacted bytes role len
+IsPlayedWhole config who compacted bytes role (Err Refusal.Damaged) = IsUnplayable config who compacted bytes
+IsPlayedWhole config who compacted bytes role (Err Refusal.NoMemory) = Unit {0}
+IsPlayedWhole config who compacted bytes role (Err other) = ⊥
 
--- a record was read and played, and has no tail any more
-pub record IsLoaded (config : Config) (who : NodeId) (old new : Held) (role : Role) : Type 0 where
-  pub facts : List Fact
-  pub tail : List ℕ
-  pub held : Holds config who old.bytes facts tail
-  pub holds : Holds config who new.bytes facts []
+-- the same with the role that has played them
+abbrev pub IsPlayedFrom : Config → NodeId → Bool → List ℕ → Result (Role × ℕ) Refusal → Type 0
+IsPlayedFrom config who compacted bytes (Ok read) = HasPlayed config who compacted bytes read.0 read.1
+IsPlayedFrom config who compacted bytes (Err Refusal.Damaged) = IsUnplayable config who compacted bytes
+IsPlayedFrom config who compacted bytes (Err Refusal.NoMemory) = Unit {0}
+IsPlayedFrom config who compacted bytes (Err other) = ⊥
+
+-- entries were read before the rest of bytes: whatever the rest holds comes after them
+pub record IsReadUpTo (bytes rest : List ℕ) (read : List Entry) : Type 0 where
+  pub place : (before : List ℕ) × (bytes ≡ before ++ rest)
+  pub goes : (more : List Entry) (tail : List ℕ) → IsStored rest more tail → IsStored bytes (read ++ more) tail
+  pub came : (all : List Entry) (tail : List ℕ) → IsStored bytes all tail → (more : List Entry) × (all ≡ read ++ more) × IsStored rest more tail
+
+-- what was played so far: the entries before the rest
+pub record HasPlayedTo (config : Config) (who : NodeId) (compacted : Bool) (bytes rest : List ℕ) (role : Role) : Type 0 where
+  pub read : List Entry
+  pub up_to : IsReadUpTo bytes rest read
+  pub may : list_all (may_stand compacted) read ≡ true
+  pub fits : all_play config who [] (flat_map facts_of read) ≡ true
+  pub stands : RoleStands config who role (flat_map facts_of read) empty_memory
+
+-- ---- a snapshot and its rows
+
+-- the row of an entry
+abbrev pub row_of : Entry → Option Row
+row_of (entries.Row key value) = Some (record { key = key; value = value })
+row_of other = None
+
+-- a row, if there is one, is within the limits
+abbrev pub IsShort : Option Row → Type 0
+IsShort None = Unit {0}
+IsShort (Some row) = is_row row ≡ true
+
+-- whether an entry is a snapshot
+abbrev pub is_snapshot : Entry → Bool
+is_snapshot entries.Snapshot = true
+is_snapshot other = false
+
+-- whether a row may follow others: its key is greater than that of the last
+abbrev pub may_follow : List Row → Row → Bool
+may_follow [] row = true
+may_follow (last ∷ []) row = is_lt (slice_cmp nat_cmp last.key row.key)
+may_follow (first ∷ second ∷ rows) row = may_follow (second ∷ rows) row
+
+-- rows were read before the rest of bytes, their keys ascending
+pub record AreRowsTo (bytes rest : List ℕ) (rows : List Row) : Type 0 where
+  pub up_to : IsReadUpTo bytes rest (map row_entry rows)
+  pub ascending : are_ascending rows ≡ true
+  pub short : are_rows rows ≡ true
+
+-- all rows were read that stand in front of bytes with their keys ascending
+pub record AreAllRows (bytes rest : List ℕ) (rows : List Row) : Type 0 where
+  pub read : AreRowsTo bytes rest rows
+  pub last : (row : Row) (after : List ℕ) → IsFramed (row_entry row) rest after → may_follow rows row ≡ false
+
+-- bytes begin with a snapshot and rows, which are all that any such reading of them has
+pub record IsSnapshot (bytes rest : List ℕ) (rows : List Row) : Type 0 where
+  pub few : length rest ≤ length bytes
+  pub up_to : IsReadUpTo bytes rest (entries.Snapshot ∷ map row_entry rows)
+  pub ascending : are_ascending rows ≡ true
+  pub short : are_rows rows ≡ true
+  pub only : (all : List Entry) (tail : List ℕ) (others : List Row) (facts : List Fact) → IsStored bytes all tail
+      → (c : IsCompacted all others facts) → (others ≡ rows) × IsStored rest c.later tail
+
+-- bytes are no record that was made shorter
+abbrev pub IsUncompacted : List ℕ → Type 0
+IsUncompacted bytes = (all : List Entry) (tail : List ℕ) (rows : List Row) (facts : List Fact) → IsStored bytes all tail
+    → IsCompacted all rows facts → ⊥
+
+-- why nothing was taken of bytes: they hold no entries, or memory ran out
+abbrev pub TakesNothing : List ℕ → Refusal → Type 0
+TakesNothing bytes e = ((e ≡ Refusal.Damaged) × IsDamaged bytes) ⊎ (e ≡ Refusal.NoMemory)
+
+-- whether a node's record may begin with a snapshot
+abbrev pub IsManager : NodeId → Type 0
+IsManager (R rm) = Unit {0}
+IsManager who = ⊥
+
+-- a node's record doesn't begin with a snapshot, or may not
+abbrev pub IsPlain : NodeId → List ℕ → Type 0
+IsPlain (R rm) bytes = IsUncompacted bytes
+IsPlain who bytes = Unit {0}
+
+-- ---- the frames of version 1
+
+-- the frames of entries, as they are written today
+abbrev pub frames_of : List Entry → List ℕ
+frames_of all = flat_map (frame version_2) all
+
+-- bytes are the frames of entries, as they are written today
+pub record AreFrames (bytes : List ℕ) (all : List Entry) : Type 0 where
+  pub bytes_are : bytes ≡ frames_of all
+  pub stored : IsStored bytes all []
+
+-- bytes that hold entries and no tail are the frames of these as they are written today, or not
+abbrev pub IsCurrent : List ℕ → Bool → Type 0
+IsCurrent bytes true = (all : List Entry) → IsStored bytes all [] → bytes ≡ frames_of all
+IsCurrent bytes false = (all : List Entry) → IsStored bytes all [] → bytes ≢ frames_of all
+
+-- what a replacement leaves, as a refusal tells it
+abbrev pub IsReplaced : (next : List ℕ) → (old new : Held) → Result (Unit {0}) Refusal → Type 0
+IsReplaced next old new (Ok done) = new ≡ with_bytes next old
+IsReplaced next old new (Err Refusal.RecordFault) = HasFailed next old new
+IsReplaced next old new (Err Refusal.NoMemory) = new ≡ old
+IsReplaced next old new (Err other) = ⊥
+
+-- a record with no tail got the frames of its entries as they are written today
+abbrev pub Rewrites : (old new : Held) → Result (Unit {0}) Refusal → Type 0
+Rewrites old new result = (all : List Entry) → IsStored old.bytes all [] → IsReplaced (frames_of all) old new result
+
+-- ---- the whole record
+
+-- bytes hold nothing that plays
+abbrev pub IsBad : Config → NodeId → List ℕ → Type 0
+IsBad config who bytes = (kept : Kept) (tail : List ℕ) → Holds config who bytes kept tail → ⊥
+
+-- a record was read, and its entries were played: their frames fill so many bytes
+pub record IsReadAs (config : Config) (who : NodeId) (own : List Row) (bytes : List ℕ) (role : Role) (len : ℕ) : Type 0 where
+  pub kept : Kept
+  pub within : len ≤ length bytes
+  pub holds : Holds config who bytes kept (drop len bytes)
+  pub stands : RoleStands (begun config who own kept.rows) who role kept.facts empty_memory
+
+-- what comes of reading bytes
+abbrev pub Reads : Config → NodeId → (own : List Row) → List ℕ → Result (Role × ℕ) Refusal → Type 0
+Reads config who own bytes (Ok read) = IsReadAs config who own bytes read.0 read.1
+Reads config who own bytes (Err Refusal.Damaged) = IsBad config who bytes
+Reads config who own bytes (Err Refusal.NoMemory) = Unit {0}
+Reads config who own bytes (Err other) = ⊥
+
+-- no call of a record failed: it holds what it held, and its tail or none
+pub record HasStayed (old new : Held) : Type 0 where
   pub armed : new.armed ≡ old.armed
   pub faults : new.faults ≡ old.faults
-  pub stands : RoleStands config who role facts empty_memory
+  pub may_fail : new.may_fail ≡ old.may_fail
+  pub holds : (config : Config) (who : NodeId) (kept : Kept) (tail : List ℕ) → Holds config who old.bytes kept tail
+      → (end : List ℕ) × Holds config who new.bytes kept end
 
--- a record failed, which it may, and counted it: it holds what it held, and a tail or none
+-- a record was read and played: it has no tail any more, and its frames are of version 2
+pub record IsLoaded (config : Config) (who : NodeId) (own : List Row) (old new : Held) (role : Role) : Type 0 where
+  pub kept : Kept
+  pub tail : List ℕ
+  pub held : Holds config who old.bytes kept tail
+  pub written : new.bytes ≡ frames_of held.all
+  pub stayed : HasStayed old new
+  pub stands : RoleStands (begun config who own kept.rows) who role kept.facts empty_memory
+
+-- a record failed, which it may, and counted it: it holds what it held, and its tail or none
 pub record HasFaulted (old new : Held) : Type 0 where
   pub may : IsTrue old.may_fail
   pub counted : IsCounted old.faults new.faults
   pub armed : new.armed ≡ old.armed
-  pub holds : (config : Config) (who : NodeId) (facts : List Fact) (tail : List ℕ) → Holds config who old.bytes facts tail
-      → (end : List ℕ) × Holds config who new.bytes facts end
+  pub may_fail : new.may_fail ≡ old.may_fail
+  pub holds : (config : Config) (who : NodeId) (kept : Kept) (tail : List ℕ) → Holds config who old.bytes kept tail
+      → (end : List ℕ) × Holds config who new.bytes kept end
 
 -- what reading a record leaves
-abbrev pub Loads : Config → NodeId → (old new : Held) → Result Role Refusal → Type 0
-Loads config who old new (Ok role) = IsLoaded config who old new role
-Loads config who old new (Err Refusal.Damaged) = (new ≡ old) × IsBad config who old.bytes
-Loads config who old new (Err Refusal.RecordFault) = HasFaulted old new
-Loads config who old new (Err Refusal.NoMemory) = new ≡ old
-Loads config who old new (Err other) = ⊥
+abbrev pub Loads : Config → NodeId → (own : List Row) → (old new : Held) → Result Role Refusal → Type 0
+Loads config who own old new (Ok role) = IsLoaded config who own old new role
+Loads config who own old new (Err Refusal.Damaged) = (new ≡ old) × IsBad config who old.bytes
+Loads config who own old new (Err Refusal.RecordFault) = HasFaulted old new
+Loads config who own old new (Err Refusal.NoMemory) = HasStayed old new
+Loads config who own old new (Err other) = ⊥
 
 -- ---- opened and restarted
 
--- a node was opened: it holds the facts that stood in its record, and stands for the node of the machine that stored them
+-- the cluster that a record is of: where it begins with rows of a table, these are its first contents
+abbrev pub cluster_of : Config → NodeId → Option (List Row) → Config
+cluster_of config who None = config
+cluster_of config (R rm) (Some rows) = beginning_with config rm rows
+cluster_of config who (Some rows) = config
+
+-- a node was opened: it holds what stood in its record, and stands for the node of the machine that stored it
 pub record IsOpened (config : Config) (who : NodeId) (old : Held) (node : NodeParts) : Type 0 where
-  pub facts : List Fact
+  pub kept : Kept
   pub tail : List ℕ
-  pub held : Holds config who old.bytes facts tail
-  pub holds : Holds config who node.held.bytes facts []
+  pub held : Holds config who old.bytes kept tail
+  pub written : node.held.bytes ≡ frames_of held.all
   pub who_is : node.who ≡ who
   pub up : is_some node.role ≡ true
-  pub stands : NodeStands config node (record { facts = facts; up = true; tear = old.armed; memory = empty_memory })
+  pub may_fail : node.held.may_fail ≡ old.may_fail
+  pub stands : NodeStands (cluster_of config who kept.rows) node
+      (record { facts = kept.facts; up = true; tear = old.armed; memory = empty_memory })
 
 -- why a node wasn't opened, and what is left of its record
 abbrev pub IsUnopened : Config → NodeId → (old new : Held) → Refusal → Type 0
 IsUnopened config who old new Refusal.NoSuch = (new ≡ old) × (is_among config who ≡ false)
 IsUnopened config who old new Refusal.Damaged = (new ≡ old) × IsBad config who old.bytes
 IsUnopened config who old new Refusal.RecordFault = HasFaulted old new
-IsUnopened config who old new Refusal.NoMemory = new ≡ old
+IsUnopened config who old new Refusal.NoMemory = HasStayed old new
 IsUnopened config who old new other = ⊥
 
 -- a fault of a restart is true to what befell the record
 abbrev pub BefallsRestart : (old new : Held) → Fault → Type 0
-BefallsRestart old new NoFault = new.faults ≡ old.faults
+BefallsRestart old new NoFault = HasStayed old new
 BefallsRestart old new NoMemoryBefore = ⊥
-BefallsRestart old new NoMemoryAt = new ≡ old
+BefallsRestart old new NoMemoryAt = HasStayed old new
 BefallsRestart old new (RecordFails whole) = HasFaulted old new
 
 -- how a restart is answered
@@ -129,16 +300,23 @@ abbrev pub restart_answer : Result (Unit {0}) Refusal → Answer
 restart_answer (Ok done) = Done
 restart_answer (Err refusal) = Refused refusal
 
--- a node restarted as the machine's does, under a fault that is true; its record holds the very facts that it held
-pub record Restarts (config : Config) (who : NodeId) (m : NodeState) (old new : Held) (role : Option Role)
+-- where a restart is answered with no refusal, a record is the frames of what it held, of version 2
+abbrev pub IsWritten : Config → NodeId → (old new : Held) → Result (Unit {0}) Refusal → Type 0
+IsWritten config who old new (Ok done) =
+    (kept : Kept) (tail : List ℕ) → (held : Holds config who old.bytes kept tail) → new.bytes ≡ frames_of held.all
+IsWritten config who old new (Err refusal) = Unit {0}
+
+-- a node restarted as the machine's does, under a fault that is true; its record holds what it held
+pub record Restarts (config : Config) (who : NodeId) (own : List Row) (m : NodeState) (old new : Held) (role : Option Role)
     (result : Result (Unit {0}) Refusal) : Type 0 where
   pub fault : Fault
   pub befalls : BefallsRestart old new fault
   pub answer_is : restart_answer result ≡ (restart_outcome config who m fault).answer
-  pub holds : (facts : List Fact) (tail : List ℕ) → Holds config who old.bytes facts tail → (end : List ℕ) × Holds config who new.bytes facts end
-  pub stands : Stands config who new role (restart_outcome config who m fault).node
+  pub holds : (kept : Kept) (tail : List ℕ) → Holds config who old.bytes kept tail → (end : List ℕ) × Holds config who new.bytes kept end
+  pub written : IsWritten config who old new result
+  pub stands : Stands config who own new role (restart_outcome config who m fault).node
 
 -- the same of a whole node
 pub record RestartsAs (config : Config) (m : NodeState) (old new : NodeParts) (result : Result (Unit {0}) Refusal) : Type 0 where
   pub same : IsSameNode old new
-  pub restarts : Restarts config old.who m old.held new.held new.role result
+  pub restarts : Restarts config old.who old.rows m old.held new.held new.role result

@@ -15,21 +15,24 @@ use Rattle.protocol.specs.Tables.{table}
 use Rattle.resource_manager.specs.Managers.{view_answer}
 use Rattle.node_core.specs.declared.role.Role.{Role}
 use Rattle.node_core.specs.Roles.{RoleStands}
-use Rattle.node_core.specs.Nodes.{NodeParts, IsSameNode, Stands}
-use Rattle.node_core.specs.Opening.{Holds, HasFaulted, Loads}
+use Rattle.node_core.specs.Nodes.{Kept, Holds, begun, NodeParts, IsSameNode, Stands}
+use Rattle.node_core.specs.Opening.{HasFaulted, IsBad}
 
 -- a record was read and played, and is as it was
-pub record IsPeeked (config : Config) (who : NodeId) (old new : Held) (role : Role) : Type 0 where
-  pub facts : List Fact
+pub record IsPeeked (config : Config) (who : NodeId) (own : List Row) (old new : Held) (role : Role) : Type 0 where
+  pub kept : Kept
   pub tail : List ℕ
-  pub held : Holds config who old.bytes facts tail
+  pub held : Holds config who old.bytes kept tail
   pub same : new ≡ old
-  pub stands : RoleStands config who role facts empty_memory
+  pub stands : RoleStands (begun config who own kept.rows) who role kept.facts empty_memory
 
 -- what reading a record leaves that is to stay as it is
-abbrev pub Peeks : Config → NodeId → (old new : Held) → Result Role Refusal → Type 0
-Peeks config who old new (Ok role) = IsPeeked config who old new role
-Peeks config who old new (Err refusal) = Loads config who old new (Err refusal)
+abbrev pub Peeks : Config → NodeId → (own : List Row) → (old new : Held) → Result Role Refusal → Type 0
+Peeks config who own old new (Ok role) = IsPeeked config who own old new role
+Peeks config who own old new (Err Refusal.Damaged) = (new ≡ old) × IsBad config who old.bytes
+Peeks config who own old new (Err Refusal.RecordFault) = HasFaulted old new
+Peeks config who own old new (Err Refusal.NoMemory) = new ≡ old
+Peeks config who own old new (Err other) = ⊥
 
 -- a view is what a resource manager of the machine answers, by the facts
 abbrev pub SaysView : Config → NodeId → List Fact → TxParts → Result View Refusal → Type 0
@@ -52,25 +55,25 @@ IsUnread old new role result =
     (role ≡ None) × (((result ≡ Err Refusal.RecordFault) × HasFaulted old new) ⊎ ((result ≡ Err Refusal.NoMemory) × (new ≡ old)))
 
 -- a node was asked where it stands in a transaction: it stays what it is
-pub record Views (config : Config) (who : NodeId) (m : NodeState) (old new : Held) (role : Option Role) (tx : TxParts)
+pub record Views (config : Config) (who : NodeId) (own : List Row) (m : NodeState) (old new : Held) (role : Option Role) (tx : TxParts)
     (result : Result View Refusal) : Type 0 where
-  pub stands : Stands config who new role m
+  pub stands : Stands config who own new role m
   pub says : ((new ≡ old) × SaysView config who m.facts tx result) ⊎ IsUnread old new role result
 
 -- a node was asked for its table: it stays what it is
-pub record Tables (config : Config) (who : NodeId) (m : NodeState) (old new : Held) (role : Option Role)
+pub record Tables (config : Config) (who : NodeId) (own : List Row) (m : NodeState) (old new : Held) (role : Option Role)
     (result : Result (List Row) Refusal) : Type 0 where
-  pub stands : Stands config who new role m
+  pub stands : Stands config who own new role m
   pub says : ((new ≡ old) × SaysTable config who m.facts result) ⊎ IsUnread old new role result
 
 -- the same of a whole node
 pub record ViewsAs (config : Config) (m : NodeState) (old new : NodeParts) (tx : TxParts) (result : Result View Refusal) : Type 0 where
   pub same : IsSameNode old new
   pub role_is : new.role ≡ old.role
-  pub views : Views config old.who m old.held new.held old.role tx result
+  pub views : Views config old.who old.rows m old.held new.held old.role tx result
 
 -- the same of a whole node, asked for its table
 pub record TablesAs (config : Config) (m : NodeState) (old new : NodeParts) (result : Result (List Row) Refusal) : Type 0 where
   pub same : IsSameNode old new
   pub role_is : new.role ≡ old.role
-  pub tables : Tables config old.who m old.held new.held old.role result
+  pub tables : Tables config old.who old.rows m old.held new.held old.role result

@@ -4,6 +4,7 @@ ghost use Rattle.std.specs.Prelude.{◌≡◌, List, Option, Some, None};
 ghost use Rattle.stable_record.specs.declared.fact.FactKind.{FactKind};
 ghost use Rattle.xid.specs.Transactions.{participants};
 ghost use Rattle.resource_manager.specs.Messages.{are_below};
+ghost use Rattle.protocol.specs.declared.rows.Row.{Row};
 ghost use Rattle.protocol.specs.Effects.{Config};
 ghost use Rattle.protocol.specs.Nodes.{Memory, NodeState, Asked, effect_of, is_message_inside, down_answer as down_answer_of};
 ghost use Rattle.node_core.specs.Roles.{RoleStands};
@@ -138,8 +139,9 @@ pub(crate) fn receive<R: Record>(
     role: &mut Option<Role>,
     bytes: &[u8],
 ) -> Output
-    ensures { (config : Config) (m : NodeState) → AreSizes config sizes → Stands config who (R.held device.old) role.old m
-        → Steps config who m (datagram_input bytes.now) (R.held device.old) (R.held device.new) role.new result }
+    ensures { (config : Config) (own : List Row) (m : NodeState) → AreSizes config sizes
+        → Stands config who own (R.held device.old) role.old m
+        → Steps config who own m (datagram_input bytes.now) (R.held device.old) (R.held device.new) role.new result }
 {
     let done = match role {
         Some(up) => hear(alloc, device, who, sizes, up, bytes),
@@ -156,8 +158,8 @@ pub(crate) fn ask<R: Record>(
     role: &mut Option<Role>,
     request: &Request,
 ) -> Output
-    ensures { (config : Config) (m : NodeState) → Stands config who (R.held device.old) role.old m
-        → Steps config who m (Asked request.now) (R.held device.old) (R.held device.new) role.new result }
+    ensures { (config : Config) (own : List Row) (m : NodeState) → Stands config who own (R.held device.old) role.old m
+        → Steps config who own m (Asked request.now) (R.held device.old) (R.held device.new) role.new result }
 {
     if !accepts_request(who, request) {
         return Output::refuses(Refusal::NoSuch);

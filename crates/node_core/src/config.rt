@@ -1,7 +1,8 @@
 ghost use Rattle.std.specs.Prelude.{◌≡◌, IfOk, IfErr, true, false, length};
 ghost use Rattle.std.specs.List.{list_all};
 ghost use Rattle.xid.specs.declared.refusals.Refusal.TheVariants.{BadConfig};
-ghost use Rattle.node_core.specs.Configs.{is_row, are_rows, are_sizes as are_sizes_of, is_config, is_among, config_of, bundled_config};
+ghost use Rattle.node_core.specs.Configs.{are_sizes as are_sizes_of, is_config, is_among, config_of, bundled_config};
+ghost use Rattle.branch_table.specs.Tables.{is_row, are_rows};
 ghost use Rattle.node_core.specs.Nodes.{AreSizes, HasRows};
 
 use protocol::{NodeId, Row};
@@ -109,7 +110,8 @@ impl Config {
 
     /// The first rows of a node's table, none where it has none.
     pub fn rows_of(&self, who: NodeId) -> &[Row]
-        ensures { HasRows self.now who result.now }
+        ensures rows { HasRows self.now who result.now }
+        ensures short { are_rows result.now ≡ true }
     {
         let NodeId::R(rm) = who else {
             return &[];

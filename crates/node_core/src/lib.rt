@@ -3,18 +3,28 @@
 #![tactic(auto)]
 
 mod acting;
+mod compacting;
 mod config;
+mod frames;
+mod migrating;
 mod node;
 mod opening;
 mod output;
+mod receivers;
+mod records;
 mod requests;
 mod role;
 mod sends;
+mod snapshots;
 mod storing;
 mod viewing;
 
 pub use config::{Config, Sizes};
 pub use node::Node;
 pub use output::{Input, Output};
+pub use receivers::{place_of, receiver_at, receiver_count};
 pub use role::{Role, RoleDecision};
 pub use sends::NodeSends;
+
+#[cfg(test)]
+mod tests;

@@ -1,11 +1,13 @@
 ghost use Rattle.std.specs.Prelude.{◌≡◌, is_none, IfOk, IfErr, Some};
 ghost use Rattle.protocol.specs.Effects.{Config as ConfigParts};
 ghost use Rattle.protocol.specs.Nodes.{NodeState};
-ghost use Rattle.node_core.specs.Nodes.{NodeStands, StepsAs, input_of};
+ghost use Rattle.node_core.specs.Nodes.{IsSameNode, IsSound, NodeStands, StepsAs, input_of};
 ghost use Rattle.node_core.specs.Opening.{IsOpened, IsUnopened, RestartsAs};
 ghost use Rattle.node_core.specs.Viewing.{ViewsAs, TablesAs};
+ghost use Rattle.node_core.specs.Compacting.{CompactsAs};
 
 use crate::acting::{ask, receive};
+use crate::compacting::compact;
 use crate::config::{Config, Sizes};
 use crate::opening::{copy_rows, load, reload};
 use crate::output::{Input, Output};
@@ -46,10 +48,11 @@ impl<R: Record> Model for Node<R> {
 }
 
 impl<R: Record> Node<R> {
-    /// The node over a record, with the facts that stand there: its whole frames, one after the other; what follows them is cut. It is
-    /// up, and its record has no tail. Refused, with the record: no such node in the cluster (`NoSuch`); bytes that are no frames of
-    /// facts that play, and a tail (`Damaged`): the record is as it was; it failed (`RecordFault`), and may still have its tail;
-    /// `NoMemory`.
+    /// The node over a record, with what stands there: its whole frames, one after the other; what follows them is cut, and where a frame
+    /// of version 1 stands, all are written anew, in version 2. It is up, and its record is these frames. Where the record begins with
+    /// a snapshot, the table begins with its rows. Refused, with the record: no such node in the cluster (`NoSuch`); bytes that are no
+    /// frames of entries that play, and a tail (`Damaged`): the record is as it was; it failed (`RecordFault`), or `NoMemory`: it says
+    /// what it said, and may have lost its tail.
     pub fn open(
         alloc: Global,
         config: &Config,
@@ -81,8 +84,9 @@ impl<R: Record> Node<R> {
         }
     }
 
-    /// Reads the record again, whether the node is up or down, and goes on from there: what was in memory is lost, and a tail is cut.
-    /// Refused: the record failed (`RecordFault`), or `NoMemory`; then the node is down.
+    /// Reads the record again, whether the node is up or down, and goes on from there: what was in memory is lost, a tail is cut, and
+    /// frames of version 1 are written anew, as by `open`. Refused: the record failed (`RecordFault`), or `NoMemory`; then the node is
+    /// down.
     pub fn restart(&mut self) -> Result<(), Refusal>
         ensures { (config : ConfigParts) (m : NodeState) → NodeStands config self.old m → RestartsAs config m self.old self.new result }
     {
@@ -94,6 +98,15 @@ impl<R: Record> Node<R> {
             &self.rows,
             &mut self.role,
         )
+    }
+
+    /// Makes its record shorter: by one replacement it becomes frames that play to the same. An armed tear stays armed. Refused: the node
+    /// is down (`Down`), and nothing changes; the record failed (`RecordFault`), and is the one or the other, or `NoMemory`: then the
+    /// node is down.
+    pub fn compact(&mut self) -> Result<(), Refusal>
+        ensures { (config : ConfigParts) (m : NodeState) → NodeStands config self.old m → CompactsAs config m self.old self.new result }
+    {
+        compact(self.alloc, &mut self.device, &mut self.role)
     }
 
     /// Where the resource manager stands in a transaction, by the whole frames of its record, whether it is up or down. Refused: it is
@@ -143,6 +156,14 @@ impl<R: Record> Node<R> {
         self.who
     }
 
+    /// The sizes of its cluster, and its kind.
+    pub fn sizes(&self) -> Sizes
+        ensures sizes { result ≡ self.now.sizes }
+        ensures sound { IsSound self.now }
+    {
+        self.sizes
+    }
+
     /// Whether it is down.
     pub fn is_down(&self) -> bool
         ensures { result ≡ is_none self.now.role }
@@ -183,7 +204,8 @@ impl<R: Tear> Node<R> {
     /// The next append of its record that doesn't answer for want of memory keeps the first so many of its bytes, all if it has fewer,
     /// and fails. An earlier tear is armed no longer; a restart leaves it.
     pub fn arm(&mut self, n: usize)
-        ensures { (config : ConfigParts) (m : NodeState) → NodeStands config self.old m
+        ensures same { IsSameNode self.old self.new }
+        ensures armed { (config : ConfigParts) (m : NodeState) → NodeStands config self.old m
             → NodeStands config self.new (record m { tear = Some n }) }
     {
         self.device.arm(n);

@@ -1,22 +1,27 @@
-//! How a node reads its record: frame by frame, each fact played as it is read; then the tail is cut.
+//! How a node reads its record: the rows of its table, if it was made shorter, then entry by entry, each played as it is read; then the
+//! tail is cut, and frames of version 1 are written anew.
 
-ghost use Rattle.std.specs.Prelude.{◌≡◌, ◌≤◌, List, [], length, take, IfOk, IfErr};
+ghost use Rattle.std.specs.Prelude.{◌≡◌, ◌≤◌, true, List, [], length, take, IfOk, IfErr, MatchOption};
 ghost use Rattle.stable_record.specs.Held.{HasPut};
 ghost use Rattle.xid.specs.declared.refusals.Refusal.TheVariants.{NoMemory};
 ghost use Rattle.protocol.specs.Effects.{Config};
 ghost use Rattle.protocol.specs.Nodes.{NodeState, empty_memory};
 ghost use Rattle.protocol.specs.declared.nodes.NodeId.{NodeId as Id};
+ghost use Rattle.branch_table.specs.Tables.{are_rows};
 ghost use Rattle.node_core.specs.Roles.{RoleStands};
 ghost use Rattle.node_core.specs.Nodes.{AreSizes, HasRows, IsAmong, IsSized, Stands};
-ghost use Rattle.node_core.specs.Opening.{PlaysEntry, IsRead, Loads, Restarts};
+ghost use Rattle.node_core.specs.Opening.{IsManager, IsPlain, IsSnapshot, TakesNothing, IsPlayedFrom, Reads, Loads, Restarts};
 
 use crate::config::Sizes;
+use crate::migrating::migrate;
+use crate::records::replay;
 use crate::role::Role;
+use crate::snapshots::take_snapshot;
 use acceptor::Acceptor;
 use leader::Leader;
 use protocol::{NodeId, Row};
 use resource_manager::ResourceManager;
-use stable_record::{Entry, EntryKind, Fact, Record, RecordError, take_frame};
+use stable_record::{Record, RecordError};
 use std::alloc::Global;
 use xid::{Bytes, Refusal};
 
@@ -34,16 +39,12 @@ pub(crate) fn copy_rows(alloc: Global, rows: &[Row]) -> Result<Vec<Row>, Refusal
     Ok(copy)
 }
 
-/// The role of a node that has played nothing. Refused: `NoMemory` alone.
-pub(crate) fn new_role(
-    alloc: Global,
-    who: NodeId,
-    sizes: Sizes,
-    rows: &[Row],
-) -> Result<Role, Refusal>
+/// The role of a node that has played nothing, over a table of these rows. Refused: `NoMemory` alone.
+fn new_role(alloc: Global, who: NodeId, sizes: Sizes, rows: Vec<Row>) -> Result<Role, Refusal>
     requires sized { IsSized sizes }
     requires among { IsAmong sizes who }
-    ensures ok { IfOk result (λ role. (config : Config) → AreSizes config sizes → HasRows config who rows.now
+    requires short { are_rows rows.items ≡ true }
+    ensures ok { IfOk result (λ role. (config : Config) → AreSizes config sizes → HasRows config who rows.items
         → RoleStands config who role [] empty_memory) }
     ensures err { IfErr result (λ e. e ≡ NoMemory) }
 {
@@ -57,78 +58,117 @@ pub(crate) fn new_role(
             sizes.managers,
             sizes.bundled,
         ))),
-        NodeId::R(rm) => {
-            let rows = copy_rows(alloc, rows)?;
-            match ResourceManager::new(alloc, rm, sizes.managers, rows) {
-                Ok(manager) => Ok(Role::Manager(manager)),
-                Err(refusal) => Err(refusal),
-            }
-        }
+        NodeId::R(rm) => match ResourceManager::new(alloc, rm, sizes.managers, rows) {
+            Ok(manager) => Ok(Role::Manager(manager)),
+            Err(refusal) => Err(refusal),
+        },
     }
 }
 
-/// Plays an entry of a record. Refused: it is no fact that plays (`Damaged`), or `NoMemory`.
-fn play_entry(role: &mut Role, entry: Entry) -> Result<(), Refusal>
-    ensures { PlaysEntry role.old role.new entry result }
+/// A role over a table of these rows that has played the entries of bytes, and how many bytes their frames fill. Refused: the bytes are no
+/// frames of entries that may stand there and play, and a tail (`Damaged`); `NoMemory`.
+fn play_from(
+    alloc: Global,
+    who: NodeId,
+    sizes: Sizes,
+    rows: Vec<Row>,
+    compacted: bool,
+    bytes: &[u8],
+) -> Result<(Role, usize), Refusal>
+    requires sized { IsSized sizes }
+    requires among { IsAmong sizes who }
+    requires short { are_rows rows.items ≡ true }
+    ensures within { IfOk result (λ read. read.1 ≤ length bytes.now) }
+    ensures read { (config : Config) → AreSizes config sizes → HasRows config who rows.items
+        → IsPlayedFrom config who compacted bytes.now result }
 {
-    match entry.into_kind() {
-        EntryKind::Fact(kind) => role.replay(Fact::new(kind)),
-        EntryKind::Snapshot => Err(Refusal::Damaged),
-        EntryKind::Row { .. } => Err(Refusal::Damaged),
-        EntryKind::PastCommitted(_) => Err(Refusal::Damaged),
-        EntryKind::PastAborted(_) => Err(Refusal::Damaged),
+    let mut role = match new_role(alloc, who, sizes, rows) {
+        Ok(role) => role,
+        Err(refusal) => return Err(refusal),
+    };
+    match replay(alloc, &mut role, compacted, bytes) {
+        Ok(len) => Ok((role, len)),
+        Err(refusal) => Err(refusal),
     }
 }
 
-/// Plays the facts of bytes, and answers how many bytes their frames fill. Refused: the bytes are no frames of facts that play, and a
-/// tail (`Damaged`); `NoMemory`.
-pub(crate) fn replay(alloc: Global, role: &mut Role, bytes: &[u8]) -> Result<usize, Refusal>
-    ensures within { IfOk result (λ len. len ≤ length bytes.now) }
-    ensures read { (config : Config) (who : Id) → RoleStands config who role.old [] empty_memory
-        → IsRead config who bytes.now role.new result }
+/// The rows of the snapshot with which a resource manager's record begins, and what follows them; none where it begins with none, and at
+/// other nodes. Refused as `take_snapshot` is.
+fn take_start(
+    alloc: Global,
+    who: NodeId,
+    bytes: &[u8],
+) -> Result<Option<(Vec<Row>, &[u8])>, Refusal>
+    ensures ok { IfOk result (λ found. MatchOption found (IsPlain who bytes.now)
+        (λ x. IsManager who × IsSnapshot bytes.now x.1.now x.0.items)) }
+    ensures err { IfErr result (λ e. TakesNothing bytes.now e) }
 {
-    let mut rest = bytes;
-    loop {
-        match take_frame(alloc, rest) {
-            Ok(Some((entry, after))) => match play_entry(role, entry) {
-                Ok(()) => rest = after,
-                Err(refusal) => return Err(refusal),
-            },
-            Ok(None) => return Ok(bytes.len() - rest.len()),
-            Err(refusal) => return Err(refusal),
-        }
+    match who {
+        NodeId::R(_) => take_snapshot(alloc, bytes),
+        NodeId::A(_) => Ok(None),
+        NodeId::L(_) => Ok(None),
     }
 }
 
-/// Reads a record, plays its facts, and cuts its tail. Refused: its bytes are no frames of facts that play, and a tail (`Damaged`), and
-/// then it is as it was; it failed (`RecordFault`), and then it has its tail or not; `NoMemory`, and it is as it was.
+/// The role of a node whose record holds these bytes: it begins with the rows of a snapshot where one stands in front, at a resource
+/// manager, else with its own, and plays what follows; and how many bytes all frames fill. Refused: the bytes are no frames of entries
+/// that play, and a tail (`Damaged`); `NoMemory`.
+pub(crate) fn read_role(
+    alloc: Global,
+    who: NodeId,
+    sizes: Sizes,
+    own: &[Row],
+    bytes: &[u8],
+) -> Result<(Role, usize), Refusal>
+    requires sized { IsSized sizes }
+    requires among { IsAmong sizes who }
+    requires short { are_rows own.now ≡ true }
+    ensures within { IfOk result (λ read. read.1 ≤ length bytes.now) }
+    ensures read { (config : Config) → AreSizes config sizes → Reads config who own.now bytes.now result }
+{
+    match take_start(alloc, who, bytes) {
+        Ok(Some((rows, rest))) => match play_from(alloc, who, sizes, rows, true, rest) {
+            Ok((role, len)) => Ok((role, bytes.len() - (rest.len() - len))),
+            Err(refusal) => Err(refusal),
+        },
+        Ok(None) => match copy_rows(alloc, own) {
+            Ok(rows) => play_from(alloc, who, sizes, rows, false, bytes),
+            Err(refusal) => Err(refusal),
+        },
+        Err(refusal) => Err(refusal),
+    }
+}
+
+/// Reads a record, plays its entries, and cuts its tail; where a frame of version 1 stands, the frames are then written anew, in version
+/// 2. Refused: its bytes are no frames of entries that play, and a tail (`Damaged`), and then it is as it was; it failed
+/// (`RecordFault`), and then it has its tail or not, and its frames are old or new; `NoMemory`, and it has its tail or not.
 pub(crate) fn load<R: Record>(
     alloc: Global,
     device: &mut R,
     who: NodeId,
     sizes: Sizes,
-    rows: &[Row],
+    own: &[Row],
 ) -> Result<Role, Refusal>
     requires sized { IsSized sizes }
     requires among { IsAmong sizes who }
-    ensures { (config : Config) → AreSizes config sizes → HasRows config who rows.now
-        → Loads config who (R.held device.old) (R.held device.new) result }
+    requires short { are_rows own.now ≡ true }
+    ensures { (config : Config) → AreSizes config sizes → Loads config who own.now (R.held device.old) (R.held device.new) result }
 {
     let bytes = match device.read(alloc) {
         Ok(bytes) => bytes,
         Err(error) => return Err(Refusal::from(error)),
     };
-    let mut role = match new_role(alloc, who, sizes, rows) {
-        Ok(role) => role,
-        Err(refusal) => return Err(refusal),
-    };
-    let len = match replay(alloc, &mut role, &bytes) {
-        Ok(len) => len,
+    let (role, len) = match read_role(alloc, who, sizes, own, &bytes) {
+        Ok(read) => read,
         Err(refusal) => return Err(refusal),
     };
     match cut_tail(device, len, bytes.len()) {
+        Ok(()) => {}
+        Err(error) => return Err(Refusal::from(error)),
+    }
+    match migrate(alloc, device, &bytes[..len]) {
         Ok(()) => Ok(role),
-        Err(error) => Err(Refusal::from(error)),
+        Err(refusal) => Err(refusal),
     }
 }
 
@@ -150,16 +190,16 @@ pub(crate) fn reload<R: Record>(
     device: &mut R,
     who: NodeId,
     sizes: Sizes,
-    rows: &[Row],
+    own: &[Row],
     role: &mut Option<Role>,
 ) -> Result<(), Refusal>
     requires sized { IsSized sizes }
     requires among { IsAmong sizes who }
-    ensures { (config : Config) (m : NodeState) → AreSizes config sizes → HasRows config who rows.now
-        → Stands config who (R.held device.old) role.old m
-        → Restarts config who m (R.held device.old) (R.held device.new) role.new result }
+    requires short { are_rows own.now ≡ true }
+    ensures { (config : Config) (m : NodeState) → AreSizes config sizes → Stands config who own.now (R.held device.old) role.old m
+        → Restarts config who own.now m (R.held device.old) (R.held device.new) role.new result }
 {
-    match load(alloc, device, who, sizes, rows) {
+    match load(alloc, device, who, sizes, own) {
         Ok(loaded) => {
             *role = Some(loaded);
             Ok(())

@@ -1,46 +1,43 @@
 //! What the whole frames of a record say, which is read and left as it is.
 
-ghost use Rattle.std.specs.Prelude.{◌≡◌, List};
+ghost use Rattle.std.specs.Prelude.{◌≡◌, true, List};
 ghost use Rattle.stable_record.specs.declared.fact.FactKind.{FactKind};
 ghost use Rattle.protocol.specs.declared.nodes.NodeId.{NodeId as Id};
 ghost use Rattle.protocol.specs.Effects.{Config};
 ghost use Rattle.protocol.specs.Nodes.{Memory, NodeState};
 ghost use Rattle.node_core.specs.Roles.{RoleStands};
-ghost use Rattle.node_core.specs.Nodes.{AreSizes, HasRows, IsAmong, IsSized, Stands};
+ghost use Rattle.branch_table.specs.Tables.{are_rows};
+ghost use Rattle.node_core.specs.Nodes.{AreSizes, IsAmong, IsSized, Stands};
 ghost use Rattle.node_core.specs.Viewing.{Peeks, SaysView, SaysTable, Views, Tables};
 
 use crate::config::Sizes;
-use crate::opening::{new_role, replay};
+use crate::opening::read_role;
 use crate::role::Role;
 use protocol::{NodeId, Row, View};
 use stable_record::Record;
 use std::alloc::Global;
 use xid::{Refusal, Sequence, Tx};
 
-/// Reads a record and plays its facts, and leaves it as it is. Refused: its bytes are no frames of facts that play, and a tail
+/// Reads a record and plays its entries, and leaves it as it is. Refused: its bytes are no frames of entries that play, and a tail
 /// (`Damaged`); it failed (`RecordFault`); `NoMemory`.
 fn peek<R: Record>(
     alloc: Global,
     device: &mut R,
     who: NodeId,
     sizes: Sizes,
-    rows: &[Row],
+    own: &[Row],
 ) -> Result<Role, Refusal>
     requires sized { IsSized sizes }
     requires among { IsAmong sizes who }
-    ensures { (config : Config) → AreSizes config sizes → HasRows config who rows.now
-        → Peeks config who (R.held device.old) (R.held device.new) result }
+    requires short { are_rows own.now ≡ true }
+    ensures { (config : Config) → AreSizes config sizes → Peeks config who own.now (R.held device.old) (R.held device.new) result }
 {
     let bytes = match device.read(alloc) {
         Ok(bytes) => bytes,
         Err(error) => return Err(Refusal::from(error)),
     };
-    let mut role = match new_role(alloc, who, sizes, rows) {
-        Ok(role) => role,
-        Err(refusal) => return Err(refusal),
-    };
-    match replay(alloc, &mut role, &bytes) {
-        Ok(_) => Ok(role),
+    match read_role(alloc, who, sizes, own, &bytes) {
+        Ok(read) => Ok(read.0),
         Err(refusal) => Err(refusal),
     }
 }
@@ -79,15 +76,15 @@ pub(crate) fn view<R: Record>(
     device: &mut R,
     who: NodeId,
     sizes: Sizes,
-    rows: &[Row],
+    own: &[Row],
     role: &Option<Role>,
     tx: &Tx,
 ) -> Result<View, Refusal>
     requires sized { IsSized sizes }
     requires among { IsAmong sizes who }
-    ensures { (config : Config) (m : NodeState) → AreSizes config sizes → HasRows config who rows.now
-        → Stands config who (R.held device.old) role.now m
-        → Views config who m (R.held device.old) (R.held device.new) role.now tx.now result }
+    requires short { are_rows own.now ≡ true }
+    ensures { (config : Config) (m : NodeState) → AreSizes config sizes → Stands config who own.now (R.held device.old) role.now m
+        → Views config who own.now m (R.held device.old) (R.held device.new) role.now tx.now result }
 {
     let NodeId::R(_) = who else {
         return Err(Refusal::NoSuch);
@@ -96,7 +93,7 @@ pub(crate) fn view<R: Record>(
         Some(up) => return view_of(up, tx),
         None => {}
     }
-    match peek(alloc, device, who, sizes, rows) {
+    match peek(alloc, device, who, sizes, own) {
         Ok(read) => view_of(&read, tx),
         Err(refusal) => Err(refusal),
     }
@@ -108,14 +105,14 @@ pub(crate) fn table<R: Record>(
     device: &mut R,
     who: NodeId,
     sizes: Sizes,
-    rows: &[Row],
+    own: &[Row],
     role: &Option<Role>,
 ) -> Result<Sequence<Row>, Refusal>
     requires sized { IsSized sizes }
     requires among { IsAmong sizes who }
-    ensures { (config : Config) (m : NodeState) → AreSizes config sizes → HasRows config who rows.now
-        → Stands config who (R.held device.old) role.now m
-        → Tables config who m (R.held device.old) (R.held device.new) role.now result }
+    requires short { are_rows own.now ≡ true }
+    ensures { (config : Config) (m : NodeState) → AreSizes config sizes → Stands config who own.now (R.held device.old) role.now m
+        → Tables config who own.now m (R.held device.old) (R.held device.new) role.now result }
 {
     let NodeId::R(_) = who else {
         return Err(Refusal::NoSuch);
@@ -124,7 +121,7 @@ pub(crate) fn table<R: Record>(
         Some(up) => return table_of(up),
         None => {}
     }
-    match peek(alloc, device, who, sizes, rows) {
+    match peek(alloc, device, who, sizes, own) {
         Ok(read) => table_of(&read),
         Err(refusal) => Err(refusal),
     }

@@ -7,7 +7,7 @@ use udp_edge::{Rejected, program, reject};
 
 fn main(rt: HostRuntime) -> ExitCode {
     let status = match words(&rt) {
-        Ok(words) => program(&rt, words.as_slice(), &mut rt.stdout(), &mut rt.stderr()),
+        Ok(words) => program(rt, words.as_slice(), &mut rt.stdout(), &mut rt.stderr()),
         Err(rejected) => reject(rejected, &mut rt.stderr()),
     };
     ExitCode::from(status)

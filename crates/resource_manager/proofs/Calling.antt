@@ -408,6 +408,7 @@ module _ (config : Config) (number : ℕ) (m : ManagerParts) (now : TableState) 
           (first_rows config number) action;
       unprepared = unprepared_then;
       stored_are = stands.stored_are;
+      begun_are = stands.begun_are;
       spent_are = stands.spent_are;
       rows_are = steps.rows ∙ stands.rows_are;
       branches_are = λ y. each_branch y (xid_eq y x) refl;

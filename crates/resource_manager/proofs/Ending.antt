@@ -100,7 +100,7 @@ module _ (config : Config) (number : ℕ) (m new : ManagerParts) (facts : List F
     pub ended_stands : StandsFor config number new then_facts (unspent_branches number then_facts branches)
     ended_stands =
         stands_then config number m new facts branches fact x stands plays name apart course now becomes.number becomes.managers
-        becomes.courses stored becomes.spent (rows_stay config number m new facts was stands fact none becomes.rows) becomes.branches own
+        becomes.courses becomes.begun stored becomes.spent (rows_stay config number m new facts was stands fact none becomes.rows) becomes.branches own
 
 -- ---- conditions of ends
 
@@ -229,6 +229,6 @@ module _ (config : Config) (number : ℕ) (m new : ManagerParts) (facts : List F
         let stored = committed_then facts tx (stands.stored_are tx ∙ ap stored_by prepared) in
         stands_then config number m new facts branches fact x stands plays name
         (apart config number m new facts branches fact x stands plays name is_end) Course.Committed None becomes.number becomes.managers
-        becomes.courses stored spent_then rows_then becomes.branches
+        becomes.courses becomes.begun stored spent_then rows_then becomes.branches
         (branch_ends config number m new facts branches fact x stands plays name is_end voted
         (ap (λ (s : Stored). is_prepared_view (view_among s)) stored))

@@ -2,6 +2,8 @@ pub mod Numbers
 pub mod Spending
 pub mod Named
 pub mod More
+pub mod Begun
+pub mod Pieces
 pub mod Standing
 pub mod Calling
 pub mod Votes
@@ -9,3 +11,8 @@ pub mod Ending
 pub mod Played
 pub mod Deciding
 pub mod Recovering
+pub mod Kept
+pub mod Entries
+pub mod Ascending
+pub mod Same
+pub mod Shortened

@@ -1,6 +1,15 @@
 -- How far transactions have come, by number: after one more is seen, and after one has come further.
-use Rattle.std.proofs.Common.{◌≡◌, ◌∙◌, ℕ, ◌+◌, ◌<◌, cond, List, [], ◌∷◌, ◌++◌, length, get_or, set, sym, ap, subst}
+use Rattle.std.proofs.Common.{◌≡◌, ◌∙◌, ℕ, zero, suc, ◌+◌, ◌<◌, true, nat_lt, cond, List, [], ◌∷◌, ◌++◌, length, get_or, set, refl, sym, ap, subst}
+use Rattle.std.proofs.Common.{Option, Some, arith}
+use Rattle.std.specs.Prelude.{filter_map, slice_get}
+use Rattle.std.proofs.Common.{Bool}
+use Rattle.std.specs.List.{list_all, cons_option}
+use Rattle.std.proofs.lemmas.Bool.{and_from, and_parts, lt-ltb, ltb-true}
 use Rattle.std.proofs.lemmas.List.{length-append}
+use Rattle.std.proofs.lemmas.List.Elements.{filter_map-append}
+use Rattle.std.proofs.lemmas.List.Sums.{passes_at_first}
+use Rattle.std.proofs.lemmas.Option.{slice_get-get_or}
+use Rattle.xid.proofs.Deciding.{tx_decides}
 use Rattle.xid.specs.Transactions.{TxParts, tx_eq}
 use Rattle.transactions.specs.Seen.{place_in, seen_with}
 use Rattle.transactions.proofs.Keys.{absent_from_place}
@@ -11,6 +20,15 @@ use Rattle.resource_manager.specs.declared.course.Course.{Course}
 abbrev new_course : TxParts → Course
 new_course tx = Course.Working
 
+-- whether numbers are below one
+abbrev pub all_below : ℕ → List ℕ → Bool
+all_below n numbers = list_all (λ number. nat_lt number n) numbers
+
+get_front : {X : Type 0} (xs : List X) (x : X) (k : ℕ) → k < length xs → slice_get (xs ++ x ∷ []) k ≡ slice_get xs k
+get_front [] x k lt = absurd (omega (arith, lt))
+get_front (y ∷ xs) x zero lt = refl
+get_front (y ∷ xs) x (suc k) lt = get_front xs x k (omega (arith, lt))
+
 module _ (ts us : List TxParts) (tx : TxParts) (absent : place_in ts tx ≡ length ts) (added : us ≡ seen_with ts tx) where
   last : us ≡ ts ++ tx ∷ []
   last = added ∙ ap (λ t. cond t ts (ts ++ tx ∷ [])) (absent_from_place (tx_eq tx) ts absent)
@@ -19,6 +37,25 @@ module _ (ts us : List TxParts) (tx : TxParts) (absent : place_in ts tx ≡ leng
   saw_number =
       subst (λ xs. (place_in ts tx ≡ place_in xs tx) × (place_in xs tx < length xs)) (sym last)
       (number_same ts tx absent, is_seen ts tx absent)
+
+  -- what is found by numbers from before is the same
+  pub saw_begun : (numbers : List ℕ) → all_below (length ts) numbers ≡ true
+      → filter_map (slice_get us) numbers ≡ filter_map (slice_get ts) numbers
+  saw_begun [] below = refl
+  saw_begun (k ∷ numbers) below =
+      let parts = and_parts (nat_lt k (length ts)) (all_below (length ts) numbers) below in
+      let same : slice_get us k ≡ slice_get ts k =
+      ap (λ xs. slice_get xs k) last ∙ get_front ts tx k (ltb-true k (length ts) parts.0) in
+      λ i. cons_option (same i) (saw_begun numbers parts.1 i)
+
+  pub saw_below : (numbers : List ℕ) → all_below (length ts) numbers ≡ true → all_below (length us) numbers ≡ true
+  saw_below [] below = refl
+  saw_below (k ∷ numbers) below =
+      let parts = and_parts (nat_lt k (length ts)) (all_below (length ts) numbers) below in
+      let more : length us ≡ length ts + 1 = ap length last ∙ length-append ts (tx ∷ []) in
+      let lt = ltb-true k (length ts) parts.0 in
+      and_from (nat_lt k (length us)) (all_below (length us) numbers) (lt-ltb k (length us) (omega (arith, lt, more)))
+      (saw_below numbers parts.1)
 
   module _ (cs ds : List Course) (pushed : ds ≡ cs ++ Course.Working ∷ []) (whole : length cs ≡ length ts) where
     pub saw_whole : length ds ≡ length us
@@ -37,3 +74,26 @@ pub set_course : (ts : List TxParts) (cs : List Course) (n : ℕ) (tx : TxParts)
 set_course ts cs n tx course number seen whole other =
     ap (λ k. get_or (set cs k course) (place_in ts other) Course.Working) number
     ∙ row_changed new_course ts cs whole tx course seen other
+
+nobody : TxParts
+nobody = record { format = 0; gtrid = []; branches = [] }
+
+-- a transaction that was seen is found by its number
+place_gets : (ts : List TxParts) (tx : TxParts) → place_in ts tx < length ts → slice_get ts (place_in ts tx) ≡ Some tx
+place_gets ts tx seen =
+    slice_get-get_or ts (place_in ts tx) nobody seen
+    ∙ ap Some (sym ((tx_decides tx (get_or ts (place_in ts tx) nobody)).0 (passes_at_first (tx_eq tx) ts nobody seen)))
+
+pub begun_push : (ts : List TxParts) (numbers : List ℕ) (n : ℕ) (tx : TxParts) → n ≡ place_in ts tx → place_in ts tx < length ts
+    → filter_map (slice_get ts) (numbers ++ n ∷ []) ≡ filter_map (slice_get ts) numbers ++ tx ∷ []
+begun_push ts numbers n tx number seen =
+    filter_map-append (slice_get ts) numbers (n ∷ [])
+    ∙ ap (λ (o : Option TxParts). filter_map (slice_get ts) numbers ++ cons_option o []) (ap (slice_get ts) number ∙ place_gets ts tx seen)
+
+pub below_push : (ts : List TxParts) (numbers : List ℕ) (n : ℕ) (tx : TxParts) → n ≡ place_in ts tx → place_in ts tx < length ts
+    → all_below (length ts) numbers ≡ true → all_below (length ts) (numbers ++ n ∷ []) ≡ true
+below_push ts [] n tx number seen below =
+    and_from (nat_lt n (length ts)) true (lt-ltb n (length ts) (omega (arith, number, seen))) refl
+below_push ts (k ∷ numbers) n tx number seen below =
+    let parts = and_parts (nat_lt k (length ts)) (all_below (length ts) numbers) below in
+    and_from (nat_lt k (length ts)) (all_below (length ts) (numbers ++ n ∷ [])) parts.0 (below_push ts numbers n tx number seen parts.1)

@@ -20,7 +20,7 @@ use Rattle.branch_table.specs.Tables.{TableState, ChangesOnly, branch_named}
 use Rattle.branch_table.specs.Outcomes.{Commits, RefusesRestore, SameMeaning, is_ready, keys_named}
 use Rattle.resource_manager.specs.declared.course.Course.{Course}
 use Rattle.resource_manager.specs.Courses.{CoursesParts, stored_by, view_among, view_of, vote_among, is_ended_among, is_new_course}
-use Rattle.resource_manager.specs.Courses.{course_in, Sets}
+use Rattle.resource_manager.specs.Courses.{course_in, begun_with, Sets}
 use Rattle.resource_manager.specs.SpentNames.{is_spent_in}
 use Rattle.resource_manager.specs.Managers.{ManagerParts, StandsFor, CanCommit, unspent_branches}
 use Rattle.resource_manager.specs.Playing.{MeansSame, BecomesCommitted, PlaysEnd, PlaysVote, RefusesVote, Plays}
@@ -34,6 +34,7 @@ same_itself m = record {
   number = refl;
   managers = refl;
   courses = λ tx. refl;
+  begun = refl;
   spent = λ x. refl;
   rows = refl;
   branches = λ x. refl;
@@ -301,13 +302,14 @@ open_working Course.AbortedUnvoted e f = absurd (cc (e))
 
 -- a commit by its steps: places are made, the branch is committed, and the course is set
 pub committed_by : (m : ManagerParts) (ready now : TableState) (courses : CoursesParts) (tx : TxParts) (x : XidParts)
-    → SameMeaning m.table ready → Commits ready now x → Sets m.courses courses tx Course.Committed
+    → SameMeaning m.table ready → Commits ready now x → Sets m.courses courses tx Course.Committed → courses.begun ≡ begun_with m.courses tx
     → BecomesCommitted m
     (record { number = m.number; managers = m.managers; courses = courses; spent = m.spent; table = now }) tx x
-committed_by m ready now courses tx x same commits sets = record {
+committed_by m ready now courses tx x same commits sets begun = record {
   number = refl;
   managers = refl;
   courses = sets;
+  begun = begun;
   spent = λ y. refl;
   rows = commits.rows ∙ (λ i. with_writes (same.rows i) (keys_named (same.branches i) x));
   branches = subst (λ bs. ChangesOnly bs now.branches x None) same.branches commits.branches;
@@ -319,6 +321,7 @@ rows_same m ready same = record {
   number = refl;
   managers = refl;
   courses = λ tx. refl;
+  begun = refl;
   spent = λ x. refl;
   rows = same.rows;
   branches = λ x. ap (λ bs. branch_named bs x) same.branches;
@@ -365,6 +368,7 @@ restore_refused m old now tx x keys e view is =
         number = refl;
         managers = refl;
         courses = λ t. refl;
+        begun = refl;
         spent = λ y. refl;
         rows = ap (λ (table : TableState). table.rows) is.1;
         branches = λ y. ap (λ (table : TableState). branch_named table.branches y) is.1;
@@ -390,10 +394,10 @@ module _ (m old : ManagerParts) (tx : TxParts) (x : XidParts) (view : m ≡ old)
       (lacks_commit m new tx x own_name own_course (λ can. both_ways (is_ready m.table x) is.1 (can x own_name)) (rows_same m now same)))
 
   pub commits_by : (ready now : TableState) (courses : CoursesParts) → SameMeaning m.table ready → Commits ready now x
-      → Sets m.courses courses tx Course.Committed
+      → Sets m.courses courses tx Course.Committed → courses.begun ≡ begun_with m.courses tx
       → Plays old (record { number = m.number; managers = m.managers; courses = courses; spent = m.spent; table = now })
       (Fact.Committed tx) (Ok tt)
-  commits_by ready now courses same commits sets =
+  commits_by ready now courses same commits sets begun =
       let new : ManagerParts = record { number = m.number; managers = m.managers; courses = courses; spent = m.spent; table = now } in
       from_view m old new (Fact.Committed tx) (Ok tt) view
-      (plays_commit m new tx x own_name own_course (committed_by m ready now courses tx x same commits sets))
+      (plays_commit m new tx x own_name own_course (committed_by m ready now courses tx x same commits sets begun))

@@ -26,12 +26,13 @@ use Rattle.protocol.proofs.Manager.Played.{all_play_then}
 use Rattle.protocol.proofs.Manager.Prepared.{prepared_or_not, names_held_once, votes_named}
 use Rattle.branch_table.specs.Tables.{ChangesOnly, branch_named}
 use Rattle.resource_manager.specs.declared.course.Course.{Course}
-use Rattle.resource_manager.specs.Courses.{stored_in, stored_by, view_among, course_in, Sets}
+use Rattle.resource_manager.specs.Courses.{stored_in, stored_by, view_among, course_in, begun_with, Sets}
 use Rattle.resource_manager.specs.SpentNames.{is_spent_in}
 use Rattle.resource_manager.specs.Managers.{ManagerParts, StandsFor, branches_in, unspent_branches}
 use Rattle.resource_manager.specs.Playing.{MeansSame}
 use Rattle.resource_manager.proofs.Named.{named_none, same_named}
 use Rattle.resource_manager.proofs.More.{stored_other, spent_more, unspent_more}
+use Rattle.resource_manager.proofs.Begun.{begun_then}
 
 -- ---- names
 
@@ -159,6 +160,7 @@ same_stands old new same config number facts branches stands = record {
   apart = stands.apart;
   unprepared = stands.unprepared;
   stored_are = λ tx. stands.stored_are tx ∙ ap stored_by (sym (same.courses tx));
+  begun_are = same.begun ∙ stands.begun_are;
   spent_are = λ x. stands.spent_are x ∙ sym (same.spent x);
   rows_are = same.rows ∙ stands.rows_are;
   branches_are = λ x. same.branches x ∙ stands.branches_are x;
@@ -193,12 +195,13 @@ module _ (config : Config) (number : ℕ) (m new : ManagerParts) (facts : List F
       (λ b e h. without_some was x b h)
 
   pub stands_then : (course : Course) (now : Option Branch) → new.number ≡ m.number → new.managers ≡ m.managers
-      → Sets m.courses new.courses (fact_tx fact) course → stored_in then_facts (fact_tx fact) ≡ stored_by course
+      → Sets m.courses new.courses (fact_tx fact) course → new.courses.begun ≡ begun_with m.courses (fact_tx fact)
+      → stored_in then_facts (fact_tx fact) ≡ stored_by course
       → ((y : XidParts) → is_spent_in new.spent y ≡ (xid_eq y x || is_spent_in m.spent y))
       → new.table.rows ≡ table (first_rows config number) then_facts
       → ChangesOnly m.table.branches new.table.branches x now → branch_named (branches_in number then_facts left) x ≡ now
       → StandsFor config number new then_facts (unspent_branches number then_facts branches)
-  stands_then course now numbers managers sets stored spent rows changes own =
+  stands_then course now numbers managers sets begun stored spent rows changes own =
       subst (StandsFor config number new then_facts) (sym (unspent_more number facts fact x name branches))
       (record {
         number_is = numbers ∙ stands.number_is;
@@ -207,6 +210,7 @@ module _ (config : Config) (number : ℕ) (m new : ManagerParts) (facts : List F
         apart = apart;
         unprepared = λ b h. stands.unprepared b (without_some was x b h);
         stored_are = each_stored;
+        begun_are = begun ∙ begun_then config number m facts was stands fact;
         spent_are = λ y. spent_more number facts fact x name y ∙ ap (λ (b : Bool). xid_eq y x || b) (stands.spent_are y) ∙ sym (spent y);
         rows_are = rows;
         branches_are = each_branch;

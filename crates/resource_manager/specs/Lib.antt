@@ -3,3 +3,4 @@ pub mod SpentNames
 pub mod Managers
 pub mod Messages
 pub mod Playing
+pub mod Compacted

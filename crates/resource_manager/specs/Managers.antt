@@ -22,7 +22,7 @@ use Rattle.protocol.specs.Facts.{with_fact}
 use Rattle.protocol.specs.Tables.{table}
 use Rattle.branch_table.specs.Tables.{TableState, branch_named}
 use Rattle.branch_table.specs.Outcomes.{is_ready}
-use Rattle.resource_manager.specs.Courses.{CoursesParts, IsSeen, course_in, stored_in, stored_by}
+use Rattle.resource_manager.specs.Courses.{CoursesParts, IsSeen, course_in, stored_in, stored_by, begun_in}
 use Rattle.resource_manager.specs.SpentNames.{SpentParts, is_spent_in}
 
 -- which resource manager it is, of how many; how far each transaction has come, the spent names, and the branches with the table
@@ -38,8 +38,8 @@ abbrev pub branches_in : ℕ → List Fact → List Branch → List Branch
 branches_in number facts branches = all_branches number (bound_branches facts) branches
 
 -- a resource manager is this one of a cluster, and stands for these facts, which played, and these branches that aren't prepared: of
--- each transaction the same is stored, the same names are spent, the rows are the same, and each name has the same branch. No branch
--- that isn't prepared has a spent name, or holds a key that another one writes
+-- each transaction the same is stored, they have come in the same order, the same names are spent, the rows are the same, and each name
+-- has the same branch. No branch that isn't prepared has a spent name, or holds a key that another one writes
 pub record StandsFor (config : Config) (number : ℕ) (m : ManagerParts) (facts : List Fact) (branches : List Branch) : Type 0 where
   pub number_is : m.number ≡ number
   pub managers_are : m.managers ≡ config.managers
@@ -47,6 +47,7 @@ pub record StandsFor (config : Config) (number : ℕ) (m : ManagerParts) (facts 
   pub apart : AreApart number facts branches
   pub unprepared : (branch : Branch) → IsIn branches branch → branch.state ≢ BranchState.Prepared
   pub stored_are : (tx : TxParts) → stored_in facts tx ≡ stored_by (course_in m.courses tx)
+  pub begun_are : m.courses.begun ≡ begun_in facts
   pub spent_are : (x : XidParts) → is_spent number facts x ≡ is_spent_in m.spent x
   pub rows_are : m.table.rows ≡ table (first_rows config number) facts
   pub branches_are : (x : XidParts) → branch_named m.table.branches x ≡ branch_named (branches_in number facts branches) x
@@ -59,7 +60,7 @@ unspent_branches number facts branches = filter (λ branch. not (is_spent number
 
 -- there are places for one fact more of a transaction
 abbrev pub HasPlaces : ManagerParts → TxParts → Type 0
-HasPlaces m tx = IsSeen m.courses tx × (0 < m.spent.room)
+HasPlaces m tx = IsSeen m.courses tx × (0 < m.courses.room) × (0 < m.spent.room)
 
 -- the name that a transaction has here, if it has one, has a branch
 abbrev pub HasBranch : ManagerParts → TxParts → Type 0

@@ -11,7 +11,7 @@ use Rattle.stable_record.specs.Parts.{IsPlayed}
 use Rattle.protocol.specs.Tables.{with_writes}
 use Rattle.branch_table.specs.Tables.{ChangesOnly, branch_named}
 use Rattle.branch_table.specs.Outcomes.{CanBePrepared, keys_named, prepared_branch}
-use Rattle.resource_manager.specs.Courses.{course_in, Sets}
+use Rattle.resource_manager.specs.Courses.{course_in, Sets, begun_with}
 use Rattle.resource_manager.specs.SpentNames.{is_spent_in}
 use Rattle.resource_manager.specs.Managers.{ManagerParts, HasPlaces, IsPlayable, StandsForSame, manager_part}
 use Rattle.resource_manager.specs.declared.course.Course.{Course}
@@ -21,6 +21,7 @@ pub record MeansSame (old new : ManagerParts) : Type 0 where
   pub number : new.number ≡ old.number
   pub managers : new.managers ≡ old.managers
   pub courses : (tx : TxParts) → course_in new.courses tx ≡ course_in old.courses tx
+  pub begun : new.courses.begun ≡ old.courses.begun
   pub spent : (x : XidParts) → is_spent_in new.spent x ≡ is_spent_in old.spent x
   pub rows : new.table.rows ≡ old.table.rows
   pub branches : (x : XidParts) → branch_named new.table.branches x ≡ branch_named old.table.branches x
@@ -30,6 +31,7 @@ pub record Stores (old new : ManagerParts) (tx : TxParts) (x : XidParts) (course
   pub number : new.number ≡ old.number
   pub managers : new.managers ≡ old.managers
   pub courses : Sets old.courses new.courses tx course
+  pub begun : new.courses.begun ≡ begun_with old.courses tx
   pub spent : (y : XidParts) → is_spent_in new.spent y ≡ (xid_eq y x || is_spent_in old.spent y)
   pub table : new.table ≡ old.table
 
@@ -38,6 +40,7 @@ pub record Becomes (old new : ManagerParts) (tx : TxParts) (x : XidParts) (cours
   pub number : new.number ≡ old.number
   pub managers : new.managers ≡ old.managers
   pub courses : Sets old.courses new.courses tx course
+  pub begun : new.courses.begun ≡ begun_with old.courses tx
   pub spent : (y : XidParts) → is_spent_in new.spent y ≡ (xid_eq y x || is_spent_in old.spent y)
   pub rows : new.table.rows ≡ old.table.rows
   pub branches : ChangesOnly old.table.branches new.table.branches x now
@@ -47,6 +50,7 @@ pub record BecomesCommitted (old new : ManagerParts) (tx : TxParts) (x : XidPart
   pub number : new.number ≡ old.number
   pub managers : new.managers ≡ old.managers
   pub courses : Sets old.courses new.courses tx Course.Committed
+  pub begun : new.courses.begun ≡ begun_with old.courses tx
   pub spent : (y : XidParts) → is_spent_in new.spent y ≡ is_spent_in old.spent y
   pub rows : new.table.rows ≡ with_writes old.table.rows (keys_named old.table.branches x)
   pub branches : ChangesOnly old.table.branches new.table.branches x None

@@ -1,9 +1,9 @@
-ghost use Rattle.std.specs.Prelude.{◌≡◌, ◌<◌, [], IfOk, IfErr, MatchOption, length};
+ghost use Rattle.std.specs.Prelude.{◌≡◌, ◌<◌, [], IfOk, IfErr, OnOk, MatchOption, length, filter_map, slice_get};
 ghost use Rattle.std.specs.List.{slice_index_or};
 ghost use Rattle.xid.specs.Transactions.{TxParts};
 ghost use Rattle.xid.specs.declared.refusals.Refusal.TheVariants.{NoMemory};
 ghost use Rattle.transactions.specs.Seen.{place_in};
-ghost use Rattle.resource_manager.specs.Courses.{IsSeen, course_in, Sets};
+ghost use Rattle.resource_manager.specs.Courses.{IsSeen, begun_with, course_in, Sets};
 ghost use Rattle.resource_manager.specs.declared.course.Course.TheVariants as courses;
 
 use crate::course::Course;
@@ -12,22 +12,32 @@ use std::marker::Model;
 use transactions::Transactions;
 use xid::{Refusal, Tx};
 
-/// The transactions that a resource manager has seen, and how far each has come. One that wasn't seen is working.
+/// The transactions that a resource manager has seen, and how far each has come. One that wasn't seen is working. The others stand in
+/// the order of their first facts too, by their numbers.
 #[derive(Debug, Drop)]
 pub struct Courses {
     transactions: Transactions,
     courses: Vec<Course>,
+    begun: Vec<usize>,
 }
 
 impl Model for Courses {
-    ghost use Rattle.std.specs.Prelude.{◌≡◌, length};
+    ghost use Rattle.std.specs.Prelude.{◌≡◌, ◌-◌, true, nat_lt, length, filter_map, slice_get};
+    ghost use Rattle.std.specs.List.{list_all};
+    ghost use Rattle.std.specs.Vec.{vec_len, vec_capacity};
     ghost use Rattle.resource_manager.specs.Courses.{CoursesParts};
 
     ghost Value = { CoursesParts };
 
-    ghost view = { λ c. record { transactions = c.transactions; courses = c.courses.items } };
+    ghost view = { λ c. record {
+      transactions = c.transactions;
+      courses = c.courses.items;
+      begun = filter_map (slice_get c.transactions) c.begun.items;
+      room = vec_capacity c.begun - vec_len c.begun;
+    } };
 
-    ghost invariant = { λ c. length c.courses.items ≡ length c.transactions };
+    ghost invariant = { λ c. (length c.courses.items ≡ length c.transactions)
+        × (list_all (λ number. nat_lt number (length c.transactions)) c.begun.items ≡ true) };
 }
 
 impl Courses {
@@ -35,10 +45,12 @@ impl Courses {
     pub fn new(alloc: Global) -> Courses
         ensures transactions { result.transactions ≡ [] }
         ensures courses { result.courses ≡ [] }
+        ensures begun { result.begun ≡ [] }
     {
         Courses {
             transactions: Transactions::new(alloc),
             courses: Vec::new(alloc),
+            begun: Vec::new(alloc),
         }
     }
 
@@ -73,6 +85,8 @@ impl Courses {
     pub fn see(&mut self, tx: &Tx) -> Result<usize, Refusal>
         ensures number { IfOk result (λ number. (number ≡ place_in self.new.transactions tx.now) × IsSeen self.new tx.now) }
         ensures same { (other : TxParts) → course_in self.new other ≡ course_in self.old other }
+        ensures begun { self.new.begun ≡ self.old.begun }
+        ensures room { self.new.room ≡ self.old.room }
         ensures err { IfErr result (λ e. (e ≡ NoMemory) × (¬ IsSeen self.old tx.now)) }
     {
         if let Some(number) = self.transactions.number_of(tx) {
@@ -88,12 +102,49 @@ impl Courses {
         Ok(number)
     }
 
-    /// Sets how far the transaction of a number has come.
+    /// Makes room for one transaction more of which a fact is stored. At `NoMemory`, the only refusal, there was none; then, and else
+    /// too, each has come as far as before.
+    pub fn reserve(&mut self) -> Result<(), Refusal>
+        ensures room { OnOk result (0 < self.new.room) }
+        ensures transactions { self.new.transactions ≡ self.old.transactions }
+        ensures courses { self.new.courses ≡ self.old.courses }
+        ensures begun { self.new.begun ≡ self.old.begun }
+        ensures err { IfErr result (λ e. (e ≡ NoMemory) × (¬ (0 < self.old.room))) }
+    {
+        match self.begun.reserve(1) {
+            Ok(()) => Ok(()),
+            Err(_) => Err(Refusal::NoMemory),
+        }
+    }
+
+    /// Sets how far the transaction of a number has come. One that was working is the last then of which a fact is stored: there is room
+    /// for it.
     pub fn set(&mut self, tx: &Tx, number: usize, course: Course)
         requires number { number ≡ place_in self.old.transactions tx.now }
         requires seen { IsSeen self.old tx.now }
-        ensures { Sets self.old self.new tx.now course }
+        requires room { course_in self.old tx.now ≡ courses.Working → 0 < self.old.room }
+        ensures courses { Sets self.old self.new tx.now course }
+        ensures begun { self.new.begun ≡ begun_with self.old tx.now }
     {
+        if !self.at(number).is_working() {
+            self.courses[number] = course;
+            return;
+        }
+        self.begun.push_reserved(number);
         self.courses[number] = course;
+    }
+
+    /// The numbers of the transactions of which a fact is stored, in the order of their first facts.
+    pub fn begun(&self) -> &[usize]
+        ensures { filter_map (slice_get self.now.transactions) result.now ≡ self.now.begun }
+    {
+        &self.begun
+    }
+
+    /// The transaction of a number, where there is one. It takes no memory.
+    pub fn get(&self, number: usize) -> Option<Tx>
+        ensures { result ≡ slice_get self.now.transactions number }
+    {
+        self.transactions.get(number)
     }
 }

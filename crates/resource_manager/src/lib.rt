@@ -7,10 +7,13 @@ mod courses;
 mod manager;
 mod messages;
 mod playing;
+mod shorter;
 mod spent;
 
 pub use manager::ResourceManager;
 pub use messages::Reminder;
 
+#[cfg(test)]
+mod shorter_tests;
 #[cfg(test)]
 mod tests;

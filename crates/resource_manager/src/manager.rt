@@ -1,4 +1,4 @@
-ghost use Rattle.std.specs.Prelude.{◌≡◌, ℕ, List, [], IfOk, IfErr};
+ghost use Rattle.std.specs.Prelude.{◌≡◌, ℕ, true, List, [], IfOk, IfErr};
 ghost use Rattle.xid.specs.declared.refusals.Refusal.TheVariants.{NoMemory};
 ghost use Rattle.stable_record.specs.declared.fact.FactKind.{FactKind as Fact};
 ghost use Rattle.protocol.specs.declared.requests.Action.TheVariants as actions;
@@ -7,6 +7,7 @@ ghost use Rattle.protocol.specs.Managers.{Branch, on_recover, on_view_call, stor
 ghost use Rattle.protocol.specs.Nodes.{first_rows};
 ghost use Rattle.protocol.specs.Tables.{table};
 ghost use Rattle.branch_table.specs.Admission.{end_action};
+ghost use Rattle.branch_table.specs.Tables.{are_rows};
 ghost use Rattle.resource_manager.specs.Managers.{IsCall, StandsFor, view_answer};
 
 use crate::courses::Courses;
@@ -44,14 +45,15 @@ impl Model for ResourceManager {
 }
 
 impl ResourceManager {
-    /// A resource manager that has played nothing, over a table of these rows; of two with one key the later counts. Refused:
-    /// `NoMemory` alone.
+    /// A resource manager that has played nothing, over a table of these rows, which are within the limits; of two with one key the later
+    /// counts. Refused: `NoMemory` alone.
     pub fn new(
         alloc: Global,
         number: u8,
         managers: u8,
         rows: Vec<Row>,
     ) -> Result<ResourceManager, Refusal>
+        requires { are_rows rows.items ≡ true }
         ensures ok { IfOk result (λ m. (config : Config) → managers ≡ config.managers → rows.items ≡ first_rows config number
             → StandsFor config number m [] []) }
         ensures err { IfErr result (λ e. e ≡ NoMemory) }

@@ -63,7 +63,7 @@ impl ResourceManager {
         }
     }
 
-    /// Makes a place for a transaction, and room for a name to spend. It answers the transaction's number. At `NoMemory`, the only
+    /// Makes a place for a transaction, room for it in the order of first facts, and room for a name to spend. It answers the transaction's number. At `NoMemory`, the only
     /// refusal, and else too, all means what it meant.
     fn make_places(&mut self, tx: &Tx) -> Result<usize, Refusal>
         ensures ok { IfOk result (λ number. (number ≡ place_in self.new.courses.transactions tx.now) × HasPlaces self.new tx.now) }
@@ -74,6 +74,10 @@ impl ResourceManager {
             Ok(number) => number,
             Err(refusal) => return Err(refusal),
         };
+        match self.courses.reserve() {
+            Ok(()) => {}
+            Err(refusal) => return Err(refusal),
+        }
         match self.spent.reserve() {
             Ok(()) => Ok(number),
             Err(refusal) => Err(refusal),

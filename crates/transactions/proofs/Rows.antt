@@ -2,15 +2,17 @@
 use Rattle.std.proofs.Common.{◌≡◌, ◌∙◌, ℕ, zero, suc, ◌+◌, ◌<◌, ◌≤◌, Bool, true, false, not, cond, ltb, List, [], ◌∷◌, ◌++◌}
 use Rattle.std.proofs.Common.{length, get_or, set, refl, sym, ap, arith}
 use Rattle.std.specs.Prelude.{if◌then◌else◌}
-use Rattle.std.proofs.lemmas.Bool.{ltb-true, ltb-false, eq-eqb, ne_eqb, true≢false}
+use Rattle.std.specs.List.{IsDistinct}
+use Rattle.std.proofs.lemmas.Bool.{ltb-true, ltb-false, eq-eqb, ne_eqb, true≢false, false_from_ne_true}
 use Rattle.std.proofs.lemmas.List.{get_or_past, get_or_at, get_or-set_same, get_or-set_other, length-append}
 use Rattle.std.proofs.lemmas.List.Folds.{position_or_len_push}
-use Rattle.std.proofs.lemmas.List.Sums.{passes_at_first, prefix_len-le-length}
+use Rattle.std.proofs.lemmas.List.Sums.{passes_at_first, position_or_len_is, prefix_len-le-length}
+use Rattle.std.proofs.lemmas.Map.Made.{AllPairs-from_IsDistinct}
 use Rattle.xid.specs.Transactions.{TxParts, tx_eq}
 use Rattle.xid.proofs.Deciding.{tx_self, tx_decides}
 use Rattle.transactions.specs.Seen.{place_in}
 
-front : {X : Type 0} (xs : List X) (x d : X) (k : ℕ) → k < length xs → get_or (xs ++ x ∷ []) k d ≡ get_or xs k d
+pub front : {X : Type 0} (xs : List X) (x d : X) (k : ℕ) → k < length xs → get_or (xs ++ x ∷ []) k d ≡ get_or xs k d
 front [] x d k lt = absurd (omega arith)
 front (y ∷ xs) x d zero lt = refl
 front (y ∷ xs) x d (suc k) lt = front xs x d k (omega arith)
@@ -28,15 +30,24 @@ one_at ts tx other lt e =
     let of_other = (tx_decides other _).0 (passes_at_first (tx_eq other) ts nobody (omega (arith, lt, e))) in
     of_other ∙ ap (λ n. get_or ts n nobody) e ∙ sym of_tx
 
+-- a transaction's place is where it stands, where each stands once
+pub number_at : (ts : List TxParts) (n : ℕ) (d : TxParts) → IsDistinct tx_eq ts → n < length ts → place_in ts (get_or ts n d) ≡ n
+number_at ts n d once lt =
+    position_or_len_is (tx_eq (get_or ts n d)) ts n d (omega (arith, lt)) earlier (λ within. tx_self (get_or ts n d))
+  where
+    earlier : (k : ℕ) → k < n → tx_eq (get_or ts n d) (get_or ts k d) ≡ false
+    earlier k below = false_from_ne_true (tx_eq (get_or ts n d) (get_or ts k d)) (λ e.
+        AllPairs-from_IsDistinct tx_decides ts once k n d below lt (sym ((tx_decides (get_or ts n d) (get_or ts k d)).0 e)))
+
 -- ---- one more transaction
 
 module _ (ts : List TxParts) (tx : TxParts) (absent : place_in ts tx ≡ length ts) where
-  place_stays : (other : TxParts) → place_in ts other < length ts → place_in (ts ++ tx ∷ []) other ≡ place_in ts other
+  pub place_stays : (other : TxParts) → place_in ts other < length ts → place_in (ts ++ tx ∷ []) other ≡ place_in ts other
   place_stays other lt =
       position_or_len_push (tx_eq other) ts tx
       ∙ ap (λ t. cond t (length ts + cond (tx_eq other tx) 0 1) (place_in ts other)) (ne_eqb _ _ (λ e. absurd (omega (arith, lt, e))))
 
-  place_ends : (other : TxParts) → place_in ts other ≡ length ts → place_in (ts ++ tx ∷ []) other ≡ length ts + cond (tx_eq other tx) 0 1
+  pub place_ends : (other : TxParts) → place_in ts other ≡ length ts → place_in (ts ++ tx ∷ []) other ≡ length ts + cond (tx_eq other tx) 0 1
   place_ends other e =
       position_or_len_push (tx_eq other) ts tx
       ∙ ap (λ t. cond t (length ts + cond (tx_eq other tx) 0 1) (place_in ts other)) (eq-eqb _ _ e)

@@ -61,6 +61,7 @@ impl Transactions {
     pub fn len(&self) -> usize
         ensures value { result ≡ length self.now }
         ensures distinct { IsDistinct tx_eq self.now }
+        ensures valid { All IsTx self.now }
     {
         self.spelled.len()
     }

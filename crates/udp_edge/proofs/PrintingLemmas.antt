@@ -7,12 +7,10 @@ use Rattle.std.proofs.KnownBytes.{Appends-trans, Appends-kept, Keeps-refl}
 use Rattle.xid.specs.declared.refusals.Refusal.{Refusal}
 use Rattle.xid.specs.declared.refusals.Refusal.TheVariants as refusal
 use Rattle.clap.specs.Words.{Text}
-use Rattle.udp_edge.specs.CommandLines.{AsksFor, AsksForRun, IsMisuse, RejectsLine, exit_status}
+use Rattle.udp_edge.specs.CommandLines.{IsMisuse, RejectsLine, exit_status}
 use Rattle.udp_edge.specs.Printing.{BreaksOff, IsRefused, TriesToAppend, WritesText, rejection_line, usage_line}
 use Rattle.udp_edge.specs.declared.command.Rejected.{Rejected}
 use Rattle.udp_edge.specs.declared.command.Rejected.TheVariants.{Usage, NoMemory}
-use Rattle.udp_edge.specs.declared.command.Subcommand.{Subcommand}
-use Rattle.udp_edge.specs.declared.command.Subcommand.TheVariants.{Run}
 
 -- a text is written but for this rest
 abbrev pub IsWrittenBut : (old new : Option (List ℕ)) (text rest : List ℕ) → Type 0
@@ -72,10 +70,6 @@ pub tries_to_append : {X : Type 0} (a b : Option (List ℕ)) (r : Result X Refus
     → WritesText a b r text → TriesToAppend a b text
 tries_to_append a b (Ok x) text p = inl p
 tries_to_append a b (Err e) text (file, broken) = inr broken
-
--- the only subcommand is a run
-pub asks_for_run : (words : List Text) (s : Subcommand) → AsksFor words s → AsksForRun words
-asks_for_run words (Run file) p = (file.now, p)
 
 -- a command line that is rejected with status 2 is misuse
 pub is_misuse : (words : List Text) (r : Rejected) (old new : Option (List ℕ)) → exit_status r ≡ 2 → RejectsLine words r

@@ -5,7 +5,7 @@ mod command;
 mod printing;
 
 pub use command::{Rejected, Subcommand, action};
-pub use printing::{DONE, MISUSED, REFUSED, answer_script, program, reject};
+pub use printing::{DONE, INCONSISTENT, MISUSED, REFUSED, answer, program, reject};
 
 #[cfg(test)]
 mod tests;

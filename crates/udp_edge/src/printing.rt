@@ -1,17 +1,20 @@
-ghost use Rattle.std.specs.Prelude.{◌≡◌, ◌⊎◌, ◌++◌, ◌∷◌, [], map, decimal, OnOk, IfErr};
+ghost use Rattle.std.specs.Prelude.{◌≡◌, ◌<◌, ◌≤◌, ◌++◌, ◌∷◌, [], map, decimal, IfOk, IfErr};
 ghost use Rattle.std.specs.Io.KnownBytes.{Keeps};
-ghost use Rattle.udp_edge.specs.Printing.{PrintsRun, PrintsRunOf, RefusesFile, RefusesScript, IsRefused, IsFileRefusal};
-ghost use Rattle.udp_edge.specs.Printing.{TriesToAppend, WritesText, refusal_line, rejection_line, usage_line};
-ghost use Rattle.udp_edge.specs.CommandLines.{AsksForRun, IsMisuse, exit_status};
+ghost use Rattle.net_script.specs.TraceReading.{RefusesTrace};
+ghost use Rattle.udp_edge.specs.Printing.{IsOutput, IsAudited, RefusesBytes, PrintsOf, Refuses, PrintsFile, RefusesFile, CarriesOut};
+ghost use Rattle.udp_edge.specs.Printing.{IsRefused, IsFileRefusal, TriesToAppend, WritesText, refusal_line, rejection_line, usage_line};
+ghost use Rattle.udp_edge.specs.CommandLines.{IsMisuse, exit_status};
 
 use crate::command::{Rejected, Subcommand, action};
+use audit::audit;
 use cluster_run::run;
 use itoa::Buffer;
+use net_script::read_trace;
 use std::alloc::Global;
 use std::convert::AsStr;
 use std::io::Write;
-use std::rt::Files;
 use std::{fs, io};
+use udp_run::udp;
 use xid::Refusal;
 
 /// The line for a command line that is refused.
@@ -19,35 +22,37 @@ const USAGE: &str = "pcommit: usage: pcommit run FILE | udp FILE DIR | audit FIL
 
 /// The exit status where a command line is carried out.
 pub const DONE: u8 = 0;
+/// The exit status where a trace was audited that doesn't keep what was promised.
+pub const INCONSISTENT: u8 = 1;
 /// The exit status where the command line is refused.
 pub const MISUSED: u8 = 2;
 /// The exit status for any refusal.
 pub const REFUSED: u8 = 3;
 
-/// Carries out a command line, the program's own name first, and gives the exit status: 0; 2 where the command line is
-/// refused, after the usage line on `err`; 3 for any refusal, after its line on `err`. `out` has the whole trace with 0, nothing
-/// new with 2, and with 3 a beginning of the trace at most, where it couldn't be written. `err` has nothing new with 0; of a line that it
-/// couldn't take it has a beginning.
-pub fn program<R: Files + Alloc<A = Global>, S: AsStr, W: Write, E: Write>(
-    rt: &R,
+/// Carries out a command line, the program's own name first, and gives the exit status: 0, and 1 where a trace was audited that keeps not
+/// what was promised; 2 where the command line is refused, after the usage line on `err`; 3 for any refusal, after its line on `err`.
+/// `out` has the whole text with 0 and 1, nothing new with 2, and with 3 a beginning of the text at most, where it couldn't be written.
+/// `err` has nothing new with 0 and 1; of a line that it couldn't take it has a beginning.
+pub fn program<S: AsStr, W: Write, E: Write>(
+    rt: HostRuntime,
     words: &[S],
     out: &mut W,
     err: &mut E,
 ) -> u8
-    ensures status { (result ≡ 0) ⊎ (result ≡ 2) ⊎ (result ≡ 3) }
-    ensures done { result ≡ 0 → AsksForRun (map S.text words.now)
-        × PrintsRun (W.contents out.old) (W.contents out.new) × Keeps (E.contents err.old) (E.contents err.new) }
+    ensures status { result ≤ 3 }
+    ensures done { result < 2 → CarriesOut (map S.text words.now) result (W.contents out.old) (W.contents out.new)
+        × Keeps (E.contents err.old) (E.contents err.new) }
     ensures misused { result ≡ 2 → IsMisuse (map S.text words.now)
         × Keeps (W.contents out.old) (W.contents out.new) × TriesToAppend (E.contents err.old) (E.contents err.new) usage_line }
     ensures refused { result ≡ 3 → IsRefused (map S.text words.now)
         (W.contents out.old) (W.contents out.new) (E.contents err.old) (E.contents err.new) }
 {
     let outcome = match action(rt.alloc(), words) {
-        Ok(Subcommand::Run { file }) => run_file(rt, file, out),
+        Ok(subcommand) => answer_file(rt, subcommand, out),
         Err(rejected) => return reject(rejected, err),
     };
     match outcome {
-        Ok(()) => DONE,
+        Ok(status) => status,
         Err(refusal) => {
             let _ = report(refusal, err);
             REFUSED
@@ -94,30 +99,89 @@ fn write_number<E: Write>(head: &str, number: usize, err: &mut E) -> Result<(), 
     write_text(b"\n", err)
 }
 
-/// Prints the trace of a script that a file has.
-fn run_file<R: Files + Alloc<A = Global>, W: Write>(
-    rt: &R,
-    file: &str,
-    out: &mut W,
-) -> Result<(), Refusal>
-    ensures ok { OnOk result (PrintsRun (W.contents out.old) (W.contents out.new)) }
-    ensures err { IfErr result (λ e. RefusesFile e (W.contents out.old) (W.contents out.new)) }
-{
-    let script = fs::read(rt, file).map_err(file_refusal)?;
-    answer_script(rt.alloc(), &script, out)
+/// The file of a subcommand.
+fn file_of<'a>(subcommand: Subcommand<'a>) -> &'a str {
+    match subcommand {
+        Subcommand::Run { file } => file,
+        Subcommand::Udp { file, .. } => file,
+        Subcommand::Audit { file } => file,
+    }
 }
 
-/// Runs a script and prints its trace. Refused as `run` refuses it, with nothing printed; and `FileFault`, or want of memory, where the
-/// output can't be written, of which a beginning, and nothing else, stands then.
-pub fn answer_script<W: Write>(alloc: Global, script: &[u8], out: &mut W) -> Result<(), Refusal>
-    ensures ok { OnOk result (PrintsRunOf script.now (W.contents out.old) (W.contents out.new)) }
-    ensures err { IfErr result (λ e. RefusesScript script.now e (W.contents out.old) (W.contents out.new)) }
+/// Carries out a subcommand over its file, and gives the exit status.
+fn answer_file<W: Write>(
+    rt: HostRuntime,
+    subcommand: Subcommand,
+    out: &mut W,
+) -> Result<u8, Refusal>
+    ensures ok { IfOk result (λ status. (status < 2) × PrintsFile subcommand.entry status (W.contents out.old) (W.contents out.new)) }
+    ensures err { IfErr result (λ e. RefusesFile subcommand.entry e (W.contents out.old) (W.contents out.new)) }
 {
-    let output = match run(alloc, script) {
+    let bytes = fs::read(&rt, file_of(subcommand)).map_err(file_refusal)?;
+    answer(rt, subcommand, &bytes, out)
+}
+
+/// Carries out a subcommand over the bytes of its file, and gives the exit status: 0, or 1 where a trace was audited that doesn't keep
+/// what was promised. Refused as the run or the audit is, with nothing printed; and `FileFault`, or want of memory, where the output
+/// can't be written, of which a beginning, and nothing else, stands then.
+pub fn answer<W: Write>(
+    rt: HostRuntime,
+    subcommand: Subcommand,
+    bytes: &[u8],
+    out: &mut W,
+) -> Result<u8, Refusal>
+    ensures ok { IfOk result (λ status. (status < 2) × PrintsOf subcommand.entry bytes.now status (W.contents out.old) (W.contents out.new)) }
+    ensures err { IfErr result (λ e. Refuses subcommand.entry bytes.now e (W.contents out.old) (W.contents out.new)) }
+{
+    let (text, status) = match output_of(rt, subcommand, bytes) {
         Ok(output) => output,
         Err(refusal) => return Err(refusal),
     };
-    write_text(&output, out)
+    match write_text(&text, out) {
+        Ok(()) => Ok(status),
+        Err(refusal) => Err(refusal),
+    }
+}
+
+/// What a subcommand makes of the bytes of its file: the text to print, and the exit status.
+fn output_of(
+    rt: HostRuntime,
+    subcommand: Subcommand,
+    bytes: &[u8],
+) -> Result<(Vec<u8>, u8), Refusal>
+    ensures ok { IfOk result (λ output. (output.1 < 2) × IsOutput subcommand.entry bytes.now output.1 output.0.items) }
+    ensures err { IfErr result (RefusesBytes subcommand.entry bytes.now) }
+{
+    match subcommand {
+        Subcommand::Run { .. } => match run(rt.alloc(), bytes) {
+            Ok(text) => Ok((text, DONE)),
+            Err(refusal) => Err(refusal),
+        },
+        Subcommand::Udp { folder, .. } => match udp(rt, bytes, folder) {
+            Ok(text) => Ok((text, DONE)),
+            Err(refusal) => Err(refusal),
+        },
+        Subcommand::Audit { .. } => audited(rt.alloc(), bytes),
+    }
+}
+
+/// What the auditor says of a trace's bytes, and the exit status.
+fn audited(alloc: Global, bytes: &[u8]) -> Result<(Vec<u8>, u8), Refusal>
+    ensures ok { IfOk result (λ output. (output.1 < 2) × IsAudited bytes.now output.1 output.0.items) }
+    ensures err { IfErr result (RefusesTrace bytes.now) }
+{
+    let trace = match read_trace(alloc, bytes) {
+        Ok(trace) => trace,
+        Err(refusal) => return Err(refusal),
+    };
+    let is_consistent = match audit(alloc, &trace) {
+        Ok(is_consistent) => is_consistent,
+        Err(refusal) => return Err(refusal),
+    };
+    if is_consistent {
+        return Ok((Vec::from_slice(alloc, b"consistent\n")?, DONE));
+    }
+    Ok((Vec::from_slice(alloc, b"inconsistent\n")?, INCONSISTENT))
 }
 
 /// Writes a text, one `write` after another: `write_all` doesn't say what stands after it failed.

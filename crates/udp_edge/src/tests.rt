@@ -11,6 +11,17 @@ fn lines(rt: HostRuntime) -> Result<(), Fail> {
         action(alloc, ["pcommit", "run", "a.script"].as_slice())
             == Ok(Subcommand::Run { file: "a.script" })
     );
+    assert!(rt;
+        action(alloc, ["pcommit", "udp", "a.script", "a folder"].as_slice())
+            == Ok(Subcommand::Udp {
+                file: "a.script",
+                folder: "a folder"
+            })
+    );
+    assert!(rt;
+        action(alloc, ["pcommit", "audit", "a.trace"].as_slice())
+            == Ok(Subcommand::Audit { file: "a.trace" })
+    );
     for words in [
         ["pcommit", "help", "run"].as_slice(),
         ["pcommit", "run"].as_slice(),
@@ -18,13 +29,18 @@ fn lines(rt: HostRuntime) -> Result<(), Fail> {
         ["pcommit", "run", "--help"].as_slice(),
         ["pcommit", "--version", "x"].as_slice(),
         ["pcommit", "run", "a", "b"].as_slice(),
-        ["pcommit", "udp", "a", "b"].as_slice(),
-        ["pcommit", "audit", "a"].as_slice(),
+        ["pcommit", "udp", "a"].as_slice(),
+        ["pcommit", "udp", "a", "b", "c"].as_slice(),
+        ["pcommit", "audit"].as_slice(),
+        ["pcommit", "audit", "a", "b"].as_slice(),
     ] {
         assert!(rt; action(alloc, words) == Err(Rejected::Usage));
     }
     Ok(())
 }
+
+/// A run of some script.
+const RUN: Subcommand<'static> = Subcommand::Run { file: "a.script" };
 
 const SIZES: &[u8] = b"cluster acceptors 1 leaders 1 rms 1\n";
 
@@ -32,15 +48,13 @@ const SIZES: &[u8] = b"cluster acceptors 1 leaders 1 rms 1\n";
 fn a_run_is_printed_whole_or_not_at_all(rt: HostRuntime) -> Result<(), Fail> {
     let alloc = rt.alloc();
     let mut out = Vec::new(alloc);
-    answer_script(alloc, SIZES, &mut out)?;
+    answer(rt, RUN, SIZES, &mut out)?;
     assert_eq!(rt;
         out.as_slice(),
         b"cluster acceptors 1 leaders 1 rms 1\nfinal r0\n".as_slice()
     );
     let mut nothing = Vec::new(alloc);
-    assert!(rt;
-        answer_script(alloc, b"stop r0", &mut nothing) == Err(Refusal::BadScript { line: 1 })
-    );
+    assert!(rt; answer(rt, RUN, b"stop r0", &mut nothing) == Err(Refusal::BadScript { line: 1 }));
     assert!(rt; nothing.is_empty());
     Ok(())
 }
@@ -80,11 +94,11 @@ fn a_run_is_printed_in_parts(rt: HostRuntime) -> Result<(), Fail> {
             room,
             is_interrupted: false,
         };
-        let printed = answer_script(alloc, SIZES, &mut out);
+        let printed = answer(rt, RUN, SIZES, &mut out);
         if room < whole.len() {
             assert!(rt; printed == Err(Refusal::FileFault));
         } else {
-            assert!(rt; printed == Ok(()));
+            assert!(rt; printed == Ok(DONE));
         }
         assert_eq!(rt; out.bytes.as_slice(), &whole[..room]);
     }
@@ -97,11 +111,11 @@ fn refusals_have_their_lines(rt: HostRuntime) -> Result<(), Fail> {
     let mut out = Vec::new(alloc);
     let mut err = Vec::new(alloc);
     let words = ["pcommit", "run", "no such folder/no such file"];
-    assert_eq!(rt; program(&rt, words.as_slice(), &mut out, &mut err), REFUSED);
+    assert_eq!(rt; program(rt, words.as_slice(), &mut out, &mut err), REFUSED);
     assert_eq!(rt; err.as_slice(), b"pcommit: refused 16\n".as_slice());
     let mut usage = Vec::new(alloc);
     assert_eq!(rt;
-        program(&rt, ["pcommit"].as_slice(), &mut out, &mut usage),
+        program(rt, ["pcommit"].as_slice(), &mut out, &mut usage),
         MISUSED
     );
     assert!(rt; usage.starts_with(b"pcommit: usage: "));

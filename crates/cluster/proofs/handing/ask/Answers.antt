@@ -1,5 +1,6 @@
 use Rattle.std.specs.Vec.{vec_len, vec_capacity}
-use Rattle.cluster.proofs.Handed.{ask_room, ask_made}
+use Rattle.protocol.specs.declared.events.Event.TheVariants.{Ask}
+use Rattle.cluster.proofs.Handed.{ask_room, ask_made, asked_nowhere, no_room}
 use Rattle.cluster.proofs.handing.ask.Goals as goal
 
 pub put_out-requires-clause-room : goal.put_out-requires-clause-room
@@ -14,3 +15,14 @@ returns g c =
     ask_made c.args.sizes c.args.nodes.now.items c.args.network.now c.make_room.new.network c.make_room.ensures.same c.args.who c.in-Some.at
     c.in-Some.ensures c.args.request.now c.index_mut-node.result.now c.step-out.new.self c.step-out.result c.index_mut-node.ensures.value
     c.step-out.ensures c.put_out.new.network c.put_out.result c.put_out.ensures.sent c.put_out.ensures.answer c.put_out.ensures.now
+
+pub returns-in_default : goal.returns-in_default
+returns-in_default g c = λ config world s.
+    asked_nowhere config world c.args.sizes c.args.nodes.now.items c.args.network.now s c.args.who c.in_default.ensures c.answers.result
+    c.answers.ensures.answer c.answers.ensures.now c.answers.ensures.sent c.args.request.now
+
+pub returns-in-Err : goal.returns-in-Err
+returns-in-Err g c =
+    no_room (Ask c.args.who c.args.request.now) c.args.sizes c.args.nodes.now.items c.args.network.now c.make_room.new.network
+    c.make_room.ensures.same c.answers-in-Err.result c.answers-in-Err.ensures.answer c.answers-in-Err.ensures.now
+    c.answers-in-Err.ensures.sent

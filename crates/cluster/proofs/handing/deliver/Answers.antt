@@ -1,6 +1,8 @@
+use Rattle.std.proofs.Common.{sym}
 use Rattle.std.specs.Vec.{vec_len, vec_capacity}
 use Rattle.network.specs.Networks.{shown}
-use Rattle.cluster.proofs.Handed.{deliver_room, deliver_made}
+use Rattle.protocol.specs.declared.events.Event.TheVariants.{Deliver}
+use Rattle.cluster.proofs.Handed.{deliver_room, deliver_made, deliver_nowhere, delivered_none, no_room}
 use Rattle.cluster.proofs.handing.deliver.Goals as goal
 
 pub put_out-requires-clause-room : goal.put_out-requires-clause-room
@@ -18,3 +20,20 @@ returns g c =
     c.in-Some-get.ensures c.in-Some-place_of.at c.in-Some-place_of.ensures c.index_mut-node.result.now c.step-out.new.self c.step-out.result
     c.index_mut-node.ensures.value c.step-out.ensures c.put_out.new.network c.put_out.result c.put_out.ensures.sent c.put_out.ensures.answer
     c.put_out.ensures.now
+
+pub returns-in-None : goal.returns-in-None
+returns-in-None g c =
+    delivered_none c.args.sizes c.args.nodes.now.items c.args.network.now c.args.number c.in-None.ensures c.answers.result
+    c.answers.ensures.answer c.answers.ensures.now c.answers.ensures.sent
+
+pub returns-in-Err : goal.returns-in-Err
+returns-in-Err g c =
+    no_room (Deliver c.args.number) c.args.sizes c.args.nodes.now.items c.args.network.now c.make_room.new.network
+    c.make_room.ensures.same c.answers-in-Err.result c.answers-in-Err.ensures.answer c.answers-in-Err.ensures.now
+    c.answers-in-Err.ensures.sent
+
+pub returns-in_default : goal.returns-in_default
+returns-in_default g c =
+    deliver_nowhere c.args.sizes c.args.nodes.now.items c.args.network.now c.make_room.new.network c.mark.new.self c.args.number
+    c.make_room.ensures.same c.mark.ensures.stands (shown c.in-Some.kept) c.in-Some.ensures (sym c.in_default.ensures)
+    c.answers-in_default.result c.answers-in_default.ensures.answer c.answers-in_default.ensures.now c.answers-in_default.ensures.sent

@@ -1,5 +1,6 @@
 use Rattle.std.proofs.Common.{refl}
-use Rattle.cluster.proofs.Handed.{noise_handed}
+use Rattle.protocol.specs.Nodes.{ReceivedNoise}
+use Rattle.cluster.proofs.Handed.{noise_handed, nowhere}
 use Rattle.cluster.proofs.handing.hand_noise.Goals as goal
 
 pub returns : goal.returns
@@ -7,3 +8,8 @@ returns g c = λ network config world s.
     noise_handed config world c.args.sizes c.args.nodes.now.items network s c.args.who c.in-Some.at c.in-Some.ensures c.args.bytes.now
     c.requires.noise c.index_mut-node.result.now c.step-out.new.self c.step-out.result c.index_mut-node.ensures.value c.step-out.ensures
     (record { answer = c.step-out.result.reply; now = c.step-out.result.now; sent = c.new.result }) refl refl c.new.ensures.items
+
+pub returns-in_default : goal.returns-in_default
+returns-in_default g c = λ network config world s.
+    nowhere config world c.args.sizes c.args.nodes.now.items network s c.args.who c.in_default.ensures c.answers.result
+    c.answers.ensures.answer c.answers.ensures.now c.answers.ensures.sent ReceivedNoise

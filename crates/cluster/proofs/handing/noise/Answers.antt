@@ -1,6 +1,6 @@
 use Rattle.cluster.specs.Clusters.{cluster_of}
 use Rattle.cluster.proofs.Occurring.{no_message, occurs_noise}
-use Rattle.cluster.proofs.Handed.{forged_there}
+use Rattle.cluster.proofs.Handed.{forged_there, forged_nowhere}
 use Rattle.cluster.proofs.handing.noise.Goals as goal
 
 pub hand_noise-requires-clause-noise : goal.hand_noise-requires-clause-noise
@@ -16,3 +16,9 @@ pub returns-in-Some : goal.returns-in-Some
 returns-in-Some g c = λ network config world s.
     forged_there config world c.args.sizes c.args.nodes.now.items network s c.args.who c.in-Some.field-0 c.in-Some.ensures c.args.bytes.now
     c.in-Ok.field-0 c.in-Ok.ensures.ok c.answers.result c.answers.ensures.answer c.answers.ensures.now c.answers.ensures.sent
+
+pub returns-in-None : goal.returns-in-None
+returns-in-None g c = λ network config world s.
+    forged_nowhere config world c.args.sizes c.args.nodes.now.items network s c.args.who c.in-None.ensures c.answers-in-None.result
+    c.answers-in-None.ensures.answer c.answers-in-None.ensures.now c.answers-in-None.ensures.sent c.args.bytes.now c.in-Ok.field-0
+    c.in-Ok.ensures.ok

@@ -3,20 +3,20 @@ use Rattle.node_core.proofs.Looking.{says_table, up_stands, down_stands, unread_
 use Rattle.node_core.proofs.viewing.table.Goals as goal
 
 pub returns-in-Some : goal.returns-in-Some
-returns-in-Some g c = λ config m sizes rows s.
+returns-in-Some g c = λ config m sizes s.
     let held = g.R.Record.held c.args.device.now in
-    says_table config c.args.who m held held c.args.role.now s c.in-Some.up c.table_of.result refl
-    (up_stands config c.args.who m held held c.args.role.now s c.in-Some.up c.in-Some.is) c.table_of.ensures
+    says_table config c.args.who c.args.own.now m held held c.args.role.now s c.in-Some.up c.table_of.result refl
+    (up_stands config c.args.who c.args.own.now m held held c.args.role.now s c.in-Some.up c.in-Some.is) c.table_of.ensures
 
 pub returns-in-Ok : goal.returns-in-Ok
-returns-in-Ok g c = λ config m sizes rows s.
+returns-in-Ok g c = λ config m sizes s.
     let old = g.R.Record.held c.args.device.now in
     let new = g.R.Record.held c.peek.new.device in
-    let p = c.in-Ok.ensures config sizes rows in
-    says_table config c.args.who m old new c.args.role.now s c.in-Ok.read c.table_of-in-Ok.result p.same
-    (down_stands config c.args.who m old new c.args.role.now s c.in-Ok.read p) c.table_of-in-Ok.ensures
+    let p = c.in-Ok.ensures config sizes in
+    says_table config c.args.who c.args.own.now m old new c.args.role.now s c.in-Ok.read c.table_of-in-Ok.result p.same
+    (down_stands config c.args.who c.args.own.now m old new c.args.role.now s c.in-Ok.read p) c.table_of-in-Ok.ensures
 
 pub returns-in-Err : goal.returns-in-Err
-returns-in-Err g c = λ config m sizes rows s.
-    unread_table config c.args.who m (g.R.Record.held c.args.device.now) (g.R.Record.held c.peek.new.device) c.args.role.now s
-    c.in-None.is c.in-Err.refusal (c.in-Err.ensures config sizes rows)
+returns-in-Err g c = λ config m sizes s.
+    unread_table config c.args.who c.args.own.now m (g.R.Record.held c.args.device.now) (g.R.Record.held c.peek.new.device) c.args.role.now s
+    c.in-None.is c.in-Err.refusal (c.in-Err.ensures config sizes)

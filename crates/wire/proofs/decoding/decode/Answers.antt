@@ -1,8 +1,8 @@
-use Rattle.std.proofs.Common.{◌≡◌, ℕ, suc, List, [], ◌∷◌, ◌++◌, Some, None, ◌∙◌, refl, sym, subst, ap}
+use Rattle.std.proofs.Common.{◌≡◌, ℕ, suc, List, [], ◌∷◌, ◌++◌, Some, ◌∙◌, refl, sym, subst}
 use Rattle.std.proofs.Math.Facts.{Fits-lt-pow}
 use Rattle.xid.specs.Names.{IsBytes}
 use Rattle.xid.specs.Transactions.{IsTx}
-use Rattle.wire.specs.Messages.{IsMessage, message_tx}
+use Rattle.wire.specs.Messages.{message_tx}
 use Rattle.wire.specs.Versions.{version_2}
 use Rattle.wire.specs.Grammar.{Spells, tx_spelling, kind_byte, rest_spelling, spelling}
 use Rattle.wire.specs.Reading.{kind_at}

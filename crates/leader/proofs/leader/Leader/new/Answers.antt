@@ -1,4 +1,4 @@
-use Rattle.std.proofs.Common.{refl, sym, subst, []}
+use Rattle.std.proofs.Common.{refl, sym, subst, [], arith}
 use Rattle.protocol.specs.Facts.{last_ballot}
 use Rattle.protocol.specs.LeaderMemory.{nothing_heard}
 use Rattle.leader.specs.Courses.{CourseStands}
@@ -16,4 +16,5 @@ returns c = λ config acceptors leaders managers bundled. record {
   courses_are = λ tx.
       let P : CoursesParts → Type 0 = λ k. CourseStands config.acceptors (last_ballot []) nothing_heard tx (course_in k tx) in
       subst P (sym c.new.ensures) (fresh_stands config.acceptors tx);
+  begun_are = λ tx some. absurd (omega (arith, some));
 }

@@ -34,4 +34,4 @@ returns c =
     (course_of _ c.args.self.now c.args.tx.now c.at.result c.self.view_is
     (c.at.ensures ∙ ap (λ n. slice_index_or c.self.inside.courses.courses n Course.Working) c.in-Some-number_of.ensures.0)
     ∙ prepared_course c.at.result (sym c.if-not-is_prepared.ensures))
-    c.make_rows_ready.new.table c.commit.new.self c.set.new.self c.in-Ok.ensures.same c.commit.ensures c.set.ensures
+    c.make_rows_ready.new.table c.commit.new.self c.set.new.self c.in-Ok.ensures.same c.commit.ensures c.set.ensures.courses c.set.ensures.begun

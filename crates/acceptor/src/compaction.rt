@@ -1,0 +1,109 @@
+ghost use Rattle.std.specs.Prelude.{◌≡◌, ◌^◌, ◌++◌, length, map, OnOk, IfOk, IfErr};
+ghost use Rattle.xid.specs.declared.refusals.Refusal.TheVariants.{NoMemory};
+ghost use Rattle.wire.specs.Messages.{IsReportBelow};
+ghost use Rattle.acceptor.specs.Slots.{IsKept, slots_of};
+ghost use Rattle.acceptor.specs.Tables.{IsTable, slot_in};
+ghost use Rattle.acceptor.specs.Compaction.{accept_facts, promise_facts, slot_facts, transaction_facts, compacted};
+
+use crate::slots::{KeptSlot, slot_at};
+use ballot::{Report, Slot};
+use stable_record::{Fact, FactKind};
+use std::alloc::Global;
+use transactions::Transactions;
+use xid::{ManagerNumber, Refusal, Tx};
+
+/// Puts what was accepted last of an instance, if anything was, after other facts.
+fn put_accept(
+    facts: &mut Vec<Fact>,
+    tx: &Tx,
+    instance: ManagerNumber,
+    report: Report,
+) -> Result<(), Refusal>
+    requires { IsReportBelow (2 ^ 32) report }
+    ensures ok { OnOk result (facts.new.items ≡ facts.old.items ++ accept_facts tx.now instance report) }
+    ensures err { IfErr result (λ e. e ≡ NoMemory) }
+{
+    let _ = tx.count();
+    if let Some((ballot, vote)) = report {
+        facts.push(Fact::new(FactKind::Accept {
+            tx: *tx,
+            instance,
+            ballot,
+            vote,
+        }))?;
+    }
+    Ok(())
+}
+
+/// Puts the greatest ballot that an instance took part in, if it is above the one accepted in, after other facts.
+fn put_promise(
+    facts: &mut Vec<Fact>,
+    tx: &Tx,
+    instance: ManagerNumber,
+    slot: Slot,
+) -> Result<(), Refusal>
+    requires { IsKept slot }
+    ensures ok { OnOk result (facts.new.items ≡ facts.old.items ++ promise_facts tx.now instance slot) }
+    ensures err { IfErr result (λ e. e ≡ NoMemory) }
+{
+    let _ = tx.count();
+    let accepted = match slot.report {
+        Some((ballot, _)) => ballot,
+        None => 0,
+    };
+    if accepted < slot.mbal {
+        facts.push(Fact::new(FactKind::Promise {
+            tx: *tx,
+            instance,
+            ballot: slot.mbal,
+        }))?;
+    }
+    Ok(())
+}
+
+/// Puts the facts that lead an instance to a slot after other facts.
+fn put_slot(
+    facts: &mut Vec<Fact>,
+    tx: &Tx,
+    instance: ManagerNumber,
+    slot: Slot,
+) -> Result<(), Refusal>
+    requires { IsKept slot }
+    ensures ok { OnOk result (facts.new.items ≡ facts.old.items ++ slot_facts tx.now instance slot) }
+    ensures err { IfErr result (λ e. e ≡ NoMemory) }
+{
+    put_accept(facts, tx, instance, slot.report)?;
+    put_promise(facts, tx, instance, slot)
+}
+
+/// Puts the facts that lead each instance of a transaction to its slot, of which these are the slots, after other facts.
+fn put_transaction(facts: &mut Vec<Fact>, tx: &Tx, slots: &[KeptSlot]) -> Result<(), Refusal>
+    ensures ok { OnOk result (facts.new.items ≡ facts.old.items ++ transaction_facts (slots_of tx.now slots.now) tx.now) }
+    ensures err { IfErr result (λ e. e ≡ NoMemory) }
+{
+    for place in 0..tx.count() {
+        put_slot(facts, tx, tx.rm(place), slot_at(slots, place))?;
+    }
+    Ok(())
+}
+
+/// The facts that lead each transaction to its slots: each instance to what it accepted last, and then to a promise above it.
+pub fn facts_of(
+    alloc: Global,
+    transactions: &Transactions,
+    rows: &[Vec<KeptSlot>],
+) -> Result<Vec<Fact>, Refusal>
+    requires { IsTable (record { transactions = transactions.now; slots = map (λ slots. slots.items) rows.now }) }
+    ensures ok { IfOk result (λ facts. facts.items ≡ compacted transactions.now
+        (slot_in (record { transactions = transactions.now; slots = map (λ slots. slots.items) rows.now }))) }
+    ensures err { IfErr result (λ e. e ≡ NoMemory) }
+{
+    let mut facts = Vec::new(alloc);
+    for number in 0..transactions.len() {
+        let Some(tx) = transactions.get(number) else {
+            unreachable!();
+        };
+        put_transaction(&mut facts, &tx, &rows[number])?;
+    }
+    Ok(facts)
+}

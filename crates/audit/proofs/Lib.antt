@@ -1,0 +1,11 @@
+mod RowLemmas
+mod PlaceLemmas
+mod MoveLemmas
+mod LedgerLemmas
+mod SerialLemmas
+mod BranchLemmas
+mod ViewLemmas
+mod ListLemmas
+mod ReplayLemmas
+mod AuditLemmas
+mod CommitLemmas

@@ -1,0 +1,7 @@
+pub mod Words
+pub mod Told
+pub mod Stretches
+pub mod Tables
+pub mod Consistent
+pub mod Books
+pub mod Following

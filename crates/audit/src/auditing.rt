@@ -1,0 +1,31 @@
+ghost use Rattle.std.specs.Prelude.{◌≡◌, IfOk, IfErr};
+ghost use Rattle.xid.specs.declared.refusals.Refusal.TheVariants.{NoMemory};
+ghost use Rattle.audit.specs.Consistent.{is_consistent};
+
+use crate::ledger::Ledger;
+use crate::serial::is_serial;
+use net_script::Trace;
+use std::alloc::Global;
+use xid::Refusal;
+
+/// Whether a trace keeps what was promised, by looking at the trace alone. Each change of a view is a step of TCommit; each get that was
+/// answered a value or none showed the table so far, with the writes of its branch over it; the last rows are the tables so made; and
+/// one serial order, that of the first commits anywhere, explains the last rows and the gets of committed transactions. Refused:
+/// `NoMemory` alone.
+pub fn audit(alloc: Global, trace: &Trace) -> Result<bool, Refusal>
+    ensures ok { IfOk result (λ yes. yes ≡ is_consistent trace.now) }
+    ensures err { IfErr result (λ e. e ≡ NoMemory) }
+{
+    let tables = trace.tables.as_slice();
+    let finals = trace.finals.as_slice();
+    let mut ledger = Ledger::new(alloc, tables)?;
+    for entry in trace.entries.as_slice() {
+        if !ledger.take(alloc, entry)? {
+            return Ok(false);
+        }
+    }
+    if !ledger.tables.are(finals) {
+        return Ok(false);
+    }
+    is_serial(alloc, &ledger, tables, finals)
+}

@@ -1,0 +1,18 @@
+//! Whether a trace keeps what was promised, by looking at the trace alone.
+#![tactic(auto)]
+
+mod auditing;
+mod branches;
+/// What the questions say in the words of the paper.
+pub mod laws;
+mod ledger;
+mod rows;
+mod serial;
+mod stretch;
+mod tables;
+mod views;
+
+pub use auditing::audit;
+
+#[cfg(test)]
+mod tests;

@@ -1,0 +1,165 @@
+//! One serial order: committed transactions one after another, in the order of their first commits.
+
+ghost use Rattle.std.specs.Prelude.{◌≡◌, ℕ, ◌<◌, ◌&&◌, ◌==◌, length, if◌then◌else◌, IfOk, IfErr, OnOk};
+ghost use Rattle.std.specs.List.{list_all};
+ghost use Rattle.std.specs.Option.{option_copied};
+ghost use Rattle.xid.specs.Transactions.{nth_branch};
+ghost use Rattle.xid.specs.declared.refusals.Refusal.TheVariants.{NoMemory};
+ghost use Rattle.protocol.specs.Tables.{with_writes};
+ghost use Rattle.history.specs.Writes.{is_committed_view};
+ghost use Rattle.audit.specs.Words.{participants};
+ghost use Rattle.audit.specs.Stretches.{branch_at, gets_in, writes_at};
+ghost use Rattle.audit.specs.Tables.{first_tables, shows};
+ghost use Rattle.audit.specs.Consistent.{are_shown, is_order_kept};
+ghost use Rattle.audit.specs.Books.{rows_of, stretch_of, has_committed, view_in};
+
+use crate::branches::Branches;
+use crate::ledger::Ledger;
+use crate::stretch::{Shown, Stretch, shows};
+use crate::tables::Tables;
+use net_script::Table;
+use protocol::Row;
+use stable_record::Act;
+use std::alloc::Global;
+use xid::{Refusal, Sequence, Tx};
+
+/// Whether gets showed the rows of a resource manager, with the writes of their branch over them.
+fn are_shown(tables: &Tables, rm: u8, gets: &[Shown]) -> bool
+    ensures { result ≡ are_shown (rows_of tables.now rm) gets.now }
+{
+    gets.iter().all(|get| is_shown(tables, rm, get))
+}
+
+/// Whether a get did.
+fn is_shown(tables: &Tables, rm: u8, get: &Shown) -> bool
+    ensures { result ≡ shows (rows_of tables.now rm) get.now.key get.now.own get.now.found }
+{
+    let found = match &get.found {
+        Some(value) => Some(value.as_slice()),
+        None => None,
+    };
+    shows(
+        tables.rows(rm).get(get.key.as_slice()),
+        Some(&get.own),
+        found,
+    )
+}
+
+/// What was done in the branch of a participant, by its place, if that was started.
+fn stretch_at<'a>(branches: &'a Branches, tx: &Tx, place: usize) -> Option<&'a Stretch>
+    requires { place < length tx.now.branches }
+    ensures { option_copied result ≡ branch_at (stretch_of branches.now) (nth_branch tx.now place).rm tx.now }
+{
+    let rm = tx.rm(place);
+    let Some(xid) = tx.branch(rm) else {
+        return None;
+    };
+    branches.get(rm as u8, &xid)
+}
+
+/// Whether the gets of the branch of a participant, by its place, showed these tables.
+fn reads_serially_at(tables: &Tables, branches: &Branches, tx: &Tx, place: usize) -> bool
+    requires { place < length tx.now.branches }
+    ensures { let rm = (nth_branch tx.now place).rm in
+        result ≡ are_shown (rows_of tables.now rm) (gets_in (branch_at (stretch_of branches.now) rm tx.now)) }
+{
+    match stretch_at(branches, tx, place) {
+        Some(stretch) => are_shown(tables, tx.rm(place) as u8, stretch.gets()),
+        None => true,
+    }
+}
+
+/// Whether the gets of the branches of a transaction showed these tables.
+fn reads_serially(tables: &Tables, branches: &Branches, tx: &Tx) -> bool
+    ensures { result ≡ list_all (λ rm. are_shown (rows_of tables.now rm) (gets_in (branch_at (stretch_of branches.now) rm tx.now)))
+        (participants tx.now) }
+{
+    for place in 0..tx.count() {
+        if !reads_serially_at(tables, branches, tx, place) {
+            return false;
+        }
+    }
+    true
+}
+
+/// Tables in the course of an order of transactions.
+#[derive(Debug, Drop)]
+struct Replay {
+    /// After all transactions so far.
+    all: Tables,
+    /// After those of them that the table's resource manager has committed.
+    committed: Tables,
+}
+
+impl Replay {
+    /// The writes of a participant, by its place. Refused: `NoMemory` alone.
+    fn add_at(
+        &mut self,
+        alloc: Global,
+        ledger: &Ledger,
+        tx: &Tx,
+        place: usize,
+    ) -> Result<(), Refusal>
+        requires { place < length tx.now.branches }
+        ensures all { OnOk result (let rm = (nth_branch tx.now place).rm in (other : ℕ) → rows_of self.new.all other
+            ≡ (if rm == other then with_writes (rows_of self.old.all rm) (writes_at (stretch_of ledger.now.branches) rm tx.now)
+            else rows_of self.old.all other)) }
+        ensures committed { OnOk result (let rm = (nth_branch tx.now place).rm in (other : ℕ) → rows_of self.new.committed other
+            ≡ (if (rm == other) && is_committed_view (view_in ledger.now.views tx.now place)
+            then with_writes (rows_of self.old.committed rm) (writes_at (stretch_of ledger.now.branches) rm tx.now)
+            else rows_of self.old.committed other)) }
+        ensures err { IfErr result (λ e. e ≡ NoMemory) }
+    {
+        let Some(stretch) = stretch_at(&ledger.branches, tx, place) else {
+            return Ok(());
+        };
+        let rm = tx.rm(place) as u8;
+        self.all.write_all(alloc, rm, stretch.writes())?;
+        if ledger.views.has_committed(tx, place) {
+            self.committed.write_all(alloc, rm, stretch.writes())?;
+        }
+        Ok(())
+    }
+
+    /// Makes the writes of a transaction. Refused: `NoMemory` alone.
+    fn add(&mut self, alloc: Global, ledger: &Ledger, tx: &Tx) -> Result<(), Refusal>
+        ensures all { OnOk result ((rm : ℕ)
+            → rows_of self.new.all rm ≡ with_writes (rows_of self.old.all rm) (writes_at (stretch_of ledger.now.branches) rm tx.now)) }
+        ensures committed { OnOk result ((rm : ℕ) → rows_of self.new.committed rm ≡ (if has_committed ledger.now.views rm tx.now
+            then with_writes (rows_of self.old.committed rm) (writes_at (stretch_of ledger.now.branches) rm tx.now)
+            else rows_of self.old.committed rm)) }
+        ensures err { IfErr result (λ e. e ≡ NoMemory) }
+    {
+        for place in 0..tx.count() {
+            self.add_at(alloc, ledger, tx, place)?;
+        }
+        Ok(())
+    }
+}
+
+/// Whether the order of first commits explains the last rows and the gets. Refused: `NoMemory` alone.
+pub fn is_serial(
+    alloc: Global,
+    ledger: &Ledger,
+    tables: &[Table],
+    finals: &[Sequence<Row>],
+) -> Result<bool, Refusal>
+    ensures ok { IfOk result (λ yes. yes ≡ is_order_kept (first_tables tables.now) (stretch_of ledger.now.branches)
+        (has_committed ledger.now.views) ledger.now.firsts finals.now) }
+    ensures err { IfErr result (λ e. e ≡ NoMemory) }
+{
+    let mut replay = Replay {
+        all: Tables::first(alloc, tables)?,
+        committed: Tables::first(alloc, tables)?,
+    };
+    for number in 0..ledger.firsts.len() {
+        let Some(tx) = ledger.firsts.get(number) else {
+            return Ok(false);
+        };
+        if !reads_serially(&replay.all, &ledger.branches, &tx) {
+            return Ok(false);
+        }
+        replay.add(alloc, ledger, &tx)?;
+    }
+    Ok(replay.committed.are(finals))
+}

@@ -1,0 +1,85 @@
+-- How a cluster begins: a node over each record, none of which has done anything.
+use Rattle.std.specs.Prelude.{◌≡◌, ℕ, ◌+◌, ◌-◌, ◌<◌, false, nat_lt, if◌then◌else◌, List, [], length, map, slice_index_or, Option, None}
+use Rattle.std.specs.List.{All, AllZip}
+use Rattle.xid.specs.declared.refusals.Refusal.{Refusal}
+use Rattle.stable_record.specs.Held.{Held}
+use Rattle.protocol.specs.declared.nodes.NodeId.{NodeId}
+use Rattle.protocol.specs.declared.nodes.NodeId.TheVariants.{A, L, R}
+use Rattle.protocol.specs.Effects.{Config}
+use Rattle.protocol.specs.Nodes.{NodeState, new_node}
+use Rattle.protocol.specs.Worlds.{World, opening}
+use Rattle.node_core.specs.Nodes.{NodeParts, NodeStands}
+use Rattle.cluster.specs.Clusters.{ClusterParts, ClusterStands}
+
+-- a node that has done nothing, over a record on which a tear may be armed
+abbrev pub torn_node : Option ℕ → NodeState
+torn_node tear = record new_node { tear = tear }
+
+-- the world at first, where these tears are armed already
+abbrev pub opening_with : List (Option ℕ) → World
+opening_with tears = record { nodes = map torn_node tears; net = [] }
+
+-- the tears that are armed on records
+abbrev pub tears_of : List Held → List (Option ℕ)
+tears_of records = map (λ held. held.armed) records
+
+-- there is a record for each node, and each is empty
+pub record AreNew (config : Config) (records : List Held) : Type 0 where
+  pub count : length records ≡ config.acceptors + config.leaders + config.managers
+  pub empty : All (λ held. held.bytes ≡ []) records
+
+-- no tear is armed on any of them
+abbrev pub NoneArmed : List Held → Type 0
+NoneArmed records = All (λ held. held.armed ≡ None) records
+
+-- none of them may fail of itself
+abbrev pub NoneFails : List Held → Type 0
+NoneFails records = All (λ held. held.may_fail ≡ false) records
+
+-- a node's record may fail of itself where the one may that it was opened over
+abbrev pub IsOver : Held → NodeParts → Type 0
+IsOver held node = node.held.may_fail ≡ held.may_fail
+
+-- a cluster was made over empty records: it stands for the opening world, in which the tears are armed that were
+pub record IsMade (config : Config) (records : List Held) (cluster : ClusterParts) : Type 0 where
+  pub new : AreNew config records
+  pub over : AllZip IsOver records cluster.nodes
+  pub stands : ClusterStands config cluster (opening_with (tears_of records))
+  pub unarmed : NoneArmed records → ClusterStands config cluster (opening config)
+
+-- why a cluster wasn't made: the records aren't one empty one for each node, one of them failed, or memory ran out
+abbrev pub IsUnmade : Config → List Held → Refusal → Type 0
+IsUnmade config records Refusal.BadConfig = AreNew config records → ⊥
+IsUnmade config records Refusal.RecordFault = NoneFails records → ⊥
+IsUnmade config records Refusal.NoMemory = Unit {0}
+IsUnmade config records other = ⊥
+
+-- ---- node by node
+
+-- the node that stands in a place
+abbrev pub name_of : Config → ℕ → NodeId
+name_of config at =
+    if nat_lt at config.acceptors then A at
+    else if nat_lt at (config.acceptors + config.leaders) then L (at - config.acceptors)
+    else R (at - config.acceptors - config.leaders)
+
+-- a node was opened over an empty record
+pub record IsBegun (config : Config) (who : NodeId) (held : Held) (node : NodeParts) : Type 0 where
+  pub who_is : node.who ≡ who
+  pub empty : held.bytes ≡ []
+  pub over : IsOver held node
+  pub stands : NodeStands config node (torn_node held.armed)
+
+-- why a node wasn't opened over a record as an empty one: it isn't empty, it failed, which it may, or memory ran out
+abbrev pub IsUnbegun : Held → Refusal → Type 0
+IsUnbegun held Refusal.BadConfig = held.bytes ≡ [] → ⊥
+IsUnbegun held Refusal.RecordFault = held.may_fail ≡ false → ⊥
+IsUnbegun held Refusal.NoMemory = Unit {0}
+IsUnbegun held other = ⊥
+
+-- nodes were opened over empty records, in the order of their places
+pub record AreBegun (config : Config) (records : List Held) (nodes : List NodeParts) : Type 0 where
+  pub empty : All (λ held. held.bytes ≡ []) records
+  pub over : AllZip IsOver records nodes
+  pub named : (at : ℕ) (d : NodeParts) → at < length nodes → (slice_index_or nodes at d).who ≡ name_of config at
+  pub stand : AllZip (NodeStands config) nodes (map torn_node (tears_of records))

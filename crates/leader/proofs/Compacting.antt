@@ -1,0 +1,198 @@
+-- The ballots of a compacted record play, and each transaction's is its greatest.
+use Rattle.std.proofs.Common.{◌≡◌, ◌∙◌, ◌==◌, ℕ, ◌<◌, ◌≤◌, max, Bool, true, false, ◌&&◌, ◌||◌, ltb, List, [], ◌∷◌, ◌++◌}
+use Rattle.std.proofs.Common.{refl, sym, ap, subst, append_assoc, arith}
+use Rattle.std.specs.Prelude.{if◌then◌else◌}
+use Rattle.std.specs.List.{AllByRecursion, IsDistinct, list_any, cons_option}
+use Rattle.std.specs.Cmp.{first_so, second_so}
+use Rattle.std.proofs.lemmas.Bool.{ltb-true, ltb-false, lt-ltb, and_from, true≢false}
+use Rattle.std.proofs.lemmas.List.{append-nil}
+use Rattle.std.proofs.lemmas.Map.Keys.{IsDistinct-head, IsDistinct-tail}
+use Rattle.xid.specs.Transactions.{TxParts, tx_eq}
+use Rattle.ballot.specs.Ballots.{owner_of}
+use Rattle.ballot.specs.Greatest.{greatest}
+use Rattle.stable_record.specs.declared.fact.FactKind.{FactKind as Fact}
+use Rattle.protocol.specs.declared.nodes.NodeId.TheVariants.{L}
+use Rattle.protocol.specs.Effects.{Config}
+use Rattle.protocol.specs.Facts.{last_ballot, ballot_begun}
+use Rattle.protocol.specs.LeaderMemory.{LeaderMemory, StoredBallots}
+use Rattle.protocol.specs.Leaders.{plays_at_leader}
+use Rattle.protocol.specs.Nodes.{plays, all_play}
+use Rattle.protocol.proofs.Manager.Played.{all_play_then}
+use Rattle.leader.specs.Leaders.{LeaderParts, StandsForBallots, course_of}
+use Rattle.leader.specs.Compaction.{ballot_facts, compacted, SaysTheSame, IsCompacted}
+use Rattle.leader.proofs.Basics.{same_tx, other_turned}
+use Rattle.leader.proofs.Leading.{greatest_with, stored_ballot}
+
+-- ---- greatest ballots, with more facts after them
+
+pub same_after : (a b more : List Fact) → ((tx : TxParts) → last_ballot a tx ≡ last_ballot b tx) → (tx : TxParts)
+    → last_ballot (a ++ more) tx ≡ last_ballot (b ++ more) tx
+same_after a b [] same tx = (λ k. last_ballot (append-nil a k) tx) ∙ same tx ∙ (λ k. last_ballot (sym (append-nil b) k) tx)
+same_after a b (fact ∷ more) same tx =
+    (λ k. last_ballot (sym (append_assoc a (fact ∷ []) more) k) tx)
+    ∙ same_after (a ++ fact ∷ []) (b ++ fact ∷ []) more
+    (λ other. greatest_with a other fact ∙ ap (λ n. max n (greatest (cons_option (ballot_begun other fact) []))) (same other)
+    ∙ sym (greatest_with b other fact)) tx
+    ∙ (λ k. last_ballot (append_assoc b (fact ∷ []) more k) tx)
+
+module _ (config : Config) (number : ℕ) where
+  -- each greatest ballot is this leader's own
+  abbrev AreOwned : List Fact → Type 0
+  AreOwned facts = (tx : TxParts) → 0 < last_ballot facts tx → (owner_of config.leaders (last_ballot facts tx) == number) ≡ true
+
+  owned_then : (before : List Fact) (fact : Fact) → plays config (L number) before fact ≡ true → AreOwned before
+      → AreOwned (before ++ fact ∷ [])
+  owned_then before (Fact.Ballot tx b) fits owned other some =
+      let above = ltb-true _ _ (first_so (ltb (last_ballot before tx) b) (owner_of config.leaders b == number) fits) in
+      by (tx_eq other tx) (stored_ballot before tx other b above) some
+    where
+      by : (t : Bool) → last_ballot (before ++ Fact.Ballot tx b ∷ []) other ≡ (if t then b else last_ballot before other)
+          → 0 < last_ballot (before ++ Fact.Ballot tx b ∷ []) other
+          → (owner_of config.leaders (last_ballot (before ++ Fact.Ballot tx b ∷ []) other) == number) ≡ true
+      by true is some =
+          ap (λ n. owner_of config.leaders n == number) is
+          ∙ second_so (ltb (last_ballot before tx) b) (owner_of config.leaders b == number) fits
+      by false is some = ap (λ n. owner_of config.leaders n == number) is ∙ owned other (omega (arith, some, is))
+  owned_then before (Fact.Promise tx i b) fits owned other some = absurd (true≢false (sym fits))
+  owned_then before (Fact.Accept tx i b v) fits owned other some = absurd (true≢false (sym fits))
+  owned_then before (Fact.PromiseAll tx b) fits owned other some = absurd (true≢false (sym fits))
+  owned_then before (Fact.VotePrepared tx keys) fits owned other some = absurd (true≢false (sym fits))
+  owned_then before (Fact.VoteAborted tx) fits owned other some = absurd (true≢false (sym fits))
+  owned_then before (Fact.Committed tx) fits owned other some = absurd (true≢false (sym fits))
+  owned_then before (Fact.Aborted tx) fits owned other some = absurd (true≢false (sym fits))
+
+  owned_after : (before more : List Fact) → all_play config (L number) before more ≡ true → AreOwned before → AreOwned (before ++ more)
+  owned_after before [] play owned = subst AreOwned (sym (append-nil before)) owned
+  owned_after before (fact ∷ more) play owned =
+      let rest = all_play config (L number) (before ++ fact ∷ []) more in
+      subst AreOwned (append_assoc before (fact ∷ []) more)
+      (owned_after (before ++ fact ∷ []) more (second_so (plays config (L number) before fact) rest play)
+      (owned_then before fact (first_so (plays config (L number) before fact) rest play) owned))
+
+  -- ---- ballots one after the other
+
+  -- facts play, and each greatest ballot is this
+  record Leads (facts : List Fact) (g : StoredBallots) : Type 0 where
+    play : all_play config (L number) [] facts ≡ true
+    ballots_are : (tx : TxParts) → last_ballot facts tx ≡ g tx
+
+  leads_to_same : {facts : List Fact} {g : StoredBallots} (h : StoredBallots) → Leads facts g → ((tx : TxParts) → g tx ≡ h tx)
+      → Leads facts h
+  leads_to_same h leads same = record { play = leads.play; ballots_are = λ tx. leads.ballots_are tx ∙ same tx }
+
+  with_ballot : {facts : List Fact} {g : StoredBallots} (tx : TxParts) (b : ℕ) → Leads facts g → g tx < b
+      → (owner_of config.leaders b == number) ≡ true
+      → Leads (facts ++ Fact.Ballot tx b ∷ []) (λ other. if tx_eq other tx then b else g other)
+  with_ballot {facts} {g} tx b leads lt owned =
+      let above : last_ballot facts tx < b = omega (arith, lt, leads.ballots_are tx) in
+      record {
+        play =
+            all_play_then config (L number) [] facts (Fact.Ballot tx b) leads.play
+            (and_from (ltb (last_ballot facts tx) b) (owner_of config.leaders b == number) (lt-ltb _ _ above) owned);
+        ballots_are = λ other.
+            stored_ballot facts tx other b above ∙ ap (λ n. if tx_eq other tx then b else n) (leads.ballots_are other);
+      }
+
+  module _ (stored : StoredBallots)
+      (owned : (tx : TxParts) → 0 < stored tx → (owner_of config.leaders (stored tx) == number) ≡ true) where
+    -- the ballots of those that are done, and none of all others
+    abbrev so_far : (TxParts → Bool) → StoredBallots
+    so_far done tx = if done tx then stored tx else 0
+
+    one_more : {facts : List Fact} (done : TxParts → Bool) (tx : TxParts) → Leads facts (so_far done) → done tx ≡ false
+        → Leads (facts ++ ballot_facts tx (stored tx)) (so_far (λ other. tx_eq other tx || done other))
+    one_more {facts} done tx leads new = by (ltb 0 (stored tx)) refl
+      where
+        by : (t : Bool) → ltb 0 (stored tx) ≡ t
+            → Leads (facts ++ (if t then Fact.Ballot tx (stored tx) ∷ [] else [])) (so_far (λ other. tx_eq other tx || done other))
+        by true e =
+            let some : 0 < stored tx = ltb-true 0 (stored tx) e in
+            let none : so_far done tx ≡ 0 = ap (λ t. if t then stored tx else 0) new in
+            leads_to_same _ (with_ballot tx (stored tx) leads (omega (arith, some, none)) (owned tx some))
+            (λ other. alike other (tx_eq other tx) refl)
+          where
+            alike : (other : TxParts) (t : Bool) → tx_eq other tx ≡ t
+                → (if t then stored tx else so_far done other) ≡ (if t || done other then stored other else 0)
+            alike other true e = ap stored (sym (same_tx other tx e))
+            alike other false e = refl
+        by false e =
+            subst (λ (fs : List Fact). Leads fs (so_far (λ other. tx_eq other tx || done other))) (sym (append-nil facts))
+            (leads_to_same _ leads (λ other. alike other (tx_eq other tx) refl))
+          where
+            alike : (other : TxParts) (t : Bool) → tx_eq other tx ≡ t → so_far done other ≡ (if t || done other then stored other else 0)
+            alike other true same =
+                let is = same_tx other tx same in
+                let zero_here : stored tx ≡ 0 = omega (arith, ltb-false 0 (stored tx) e) in
+                ap (so_far done) is ∙ ap (λ t. if t then stored tx else 0) new ∙ sym (ap stored is ∙ zero_here)
+            alike other false same = refl
+
+    all_more : (txs : List TxParts) (facts : List Fact) (done : TxParts → Bool) → Leads facts (so_far done)
+        → AllByRecursion (λ tx. done tx ≡ false) txs → IsDistinct tx_eq txs
+        → Leads (facts ++ compacted txs stored) (so_far (λ other. list_any (tx_eq other) txs || done other))
+    all_more [] facts done leads new once = subst (λ (fs : List Fact). Leads fs (so_far done)) (sym (append-nil facts)) leads
+    all_more (tx ∷ txs) facts done leads new once =
+        subst (λ (fs : List Fact). Leads fs (so_far (λ other. list_any (tx_eq other) (tx ∷ txs) || done other)))
+        (append_assoc facts (ballot_facts tx (stored tx)) (compacted txs stored))
+        (leads_to_same _
+        (all_more txs (facts ++ ballot_facts tx (stored tx)) (λ other. tx_eq other tx || done other) (one_more done tx leads new.0)
+        (still_new txs new.1 (IsDistinct-head tx_eq tx txs once)) (IsDistinct-tail tx_eq tx txs once))
+        (λ other. ap (λ t. if t then stored other else 0) (swap (tx_eq other tx) (list_any (tx_eq other) txs) (done other))))
+      where
+        swap : (a b c : Bool) → (b || (a || c)) ≡ ((a || b) || c)
+        swap true true c = refl
+        swap true false c = refl
+        swap false b c = refl
+
+        still_new : (ys : List TxParts) → AllByRecursion (λ y. done y ≡ false) ys → AllByRecursion (λ y. tx_eq tx y ≡ false) ys
+            → AllByRecursion (λ y. (tx_eq y tx || done y) ≡ false) ys
+        still_new [] each apart = tt
+        still_new (y ∷ ys) each apart = (
+          ap (λ t. t || done y) (other_turned tx y apart.0) ∙ each.0,
+          still_new ys each.1 apart.1,
+        )
+
+    compacted_leads : (txs : List TxParts) → IsDistinct tx_eq txs → ((tx : TxParts) → 0 < stored tx → list_any (tx_eq tx) txs ≡ true)
+        → Leads (compacted txs stored) stored
+    compacted_leads txs once there =
+        leads_to_same stored (all_more txs [] (λ other. false) (record { play = refl; ballots_are = λ tx. refl }) (at_start txs) once)
+        (λ tx. by tx (list_any (tx_eq tx) txs) refl)
+      where
+        at_start : (ys : List TxParts) → AllByRecursion (λ y. ◌≡◌ {A = Bool} false false) ys
+        at_start [] = tt
+        at_start (y ∷ ys) = (refl, at_start ys)
+
+        by : (tx : TxParts) (t : Bool) → list_any (tx_eq tx) txs ≡ t → (if t || false then stored tx else 0) ≡ stored tx
+        by tx true e = refl
+        by tx false e = none (ltb 0 (stored tx)) refl
+          where
+            none : (t : Bool) → ltb 0 (stored tx) ≡ t → 0 ≡ stored tx
+            none true some = absurd (true≢false (sym (there tx (ltb-true 0 (stored tx) some)) ∙ e))
+            none false e = omega (arith, ltb-false 0 (stored tx) e)
+
+-- ---- those of a leader
+
+-- what is compacted says the same as whatever plays and a leader stands for
+pub is_compacted : (l : LeaderParts) (kept : List Fact) → IsDistinct tx_eq l.begun
+    → kept ≡ compacted l.begun (λ tx. (course_of l tx).greatest) → (config : Config) (number : ℕ) (facts : List Fact) (memory : LeaderMemory)
+    → StandsForBallots config number l (last_ballot facts) memory → all_play config (L number) [] facts ≡ true
+    → IsCompacted l kept config number facts
+is_compacted l kept once e config number facts memory stands play = record {
+  list = is;
+  same = record {
+    play = ap (λ (fs : List Fact). all_play config (L number) [] fs) is ∙ leads.play;
+    stands = λ more other heard h.
+        subst (λ (s : StoredBallots). StandsForBallots config number other s heard) (λ k tx. same_after kept facts more alike tx k) h;
+    fits = λ more fact. λ k. plays_at_leader config.leaders number (λ tx. same_after kept facts more alike tx k) fact;
+  };
+}
+  where
+    is : kept ≡ compacted l.begun (last_ballot facts)
+    is = e ∙ (λ k. compacted l.begun (λ tx. (stands.courses_are tx).greatest_is k))
+
+    leads : Leads config number (compacted l.begun (last_ballot facts)) (last_ballot facts)
+    leads =
+        compacted_leads config number (last_ballot facts)
+        (owned_after config number [] facts play (λ tx some. absurd (omega (arith, some)))) l.begun once stands.begun_are
+
+    alike : (tx : TxParts) → last_ballot kept tx ≡ last_ballot facts tx
+    alike tx = ap (λ (fs : List Fact). last_ballot fs tx) is ∙ leads.ballots_are tx

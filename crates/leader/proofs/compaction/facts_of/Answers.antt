@@ -1,0 +1,14 @@
+use Rattle.std.proofs.Common.{◌∙◌, ◌++◌, sym, ap, arith}
+use Rattle.std.proofs.lemmas.Option.{get_or_from_slice_get}
+use Rattle.transactions.proofs.Pieces.{next_put}
+use Rattle.leader.specs.Places.{course_in}
+use Rattle.leader.specs.Compaction.{ballot_facts}
+use Rattle.leader.proofs.compaction.facts_of.Goals as goal
+
+pub loop-number-preserved : goal.loop-number-preserved
+loop-number-preserved c =
+    next_put (λ tx. ballot_facts tx (course_in c.args.courses.now tx).greatest) c.args.begun.now c.loop-number.number c.in-Some.tx
+    c.loop-number.facts.items c.put_ballot.new.facts.items _ (omega (arith, c.loop-number-test.true, c.len-number-end.ensures.value))
+    (get_or_from_slice_get c.args.begun.now c.loop-number.number c.in-Some.tx c.in-Some.tx (sym c.in-Some.ensures))
+    (c.in_ok-put_ballot.ensures.ok ∙ ap (λ b. c.loop-number.facts.items ++ ballot_facts c.in-Some.tx b) c.greatest_at.ensures)
+    c.loop-number.invariant

@@ -1,0 +1,42 @@
+ghost use Rattle.std.specs.Prelude.{◌≡◌, ◌++◌, OnOk, IfOk, IfErr};
+ghost use Rattle.xid.specs.declared.refusals.Refusal.TheVariants.{NoMemory};
+ghost use Rattle.leader.specs.Places.{course_in};
+ghost use Rattle.leader.specs.Compaction.{ballot_facts, compacted};
+
+use crate::courses::Courses;
+use stable_record::{Fact, FactKind};
+use std::alloc::Global;
+use transactions::Transactions;
+use xid::{Ballot, Refusal, Tx};
+
+/// Puts the greatest ballot of a transaction, if it has one, after other facts.
+fn put_ballot(facts: &mut Vec<Fact>, tx: &Tx, ballot: Ballot) -> Result<(), Refusal>
+    ensures ok { OnOk result (facts.new.items ≡ facts.old.items ++ ballot_facts tx.now ballot) }
+    ensures err { IfErr result (λ e. e ≡ NoMemory) }
+{
+    let _ = tx.count();
+    if ballot > 0 {
+        facts.push(Fact::new(FactKind::Ballot { tx: *tx, ballot }))?;
+    }
+    Ok(())
+}
+
+/// The greatest ballot of each transaction that has one, in the order of those that begin.
+pub fn facts_of(
+    alloc: Global,
+    courses: &Courses,
+    begun: &Transactions,
+) -> Result<Vec<Fact>, Refusal>
+    ensures ok { IfOk result (λ facts. facts.items ≡ compacted begun.now (λ tx. (course_in courses.now tx).greatest)) }
+    ensures err { IfErr result (λ e. e ≡ NoMemory) }
+{
+    let mut facts = Vec::new(alloc);
+    for number in 0..begun.len() {
+        let Some(tx) = begun.get(number) else {
+            unreachable!();
+        };
+        let place = courses.place_of(&tx);
+        put_ballot(&mut facts, &tx, courses.greatest_at(&tx, place))?;
+    }
+    Ok(facts)
+}

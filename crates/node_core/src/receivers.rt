@@ -1,0 +1,78 @@
+//! Where nodes stand in a cluster, and which of them an address means.
+
+ghost use Rattle.std.specs.Prelude.{◌≡◌, ◌<◌, [], length, slice_index_or};
+ghost use Rattle.wire.specs.Messages.{message_tx};
+ghost use Rattle.protocol.specs.declared.nodes.NodeId.TheVariants.{A, L};
+ghost use Rattle.protocol.specs.Effects.{receivers};
+ghost use Rattle.protocol.specs.Worlds.{place};
+ghost use Rattle.node_core.specs.Configs.{config_by};
+ghost use Rattle.node_core.specs.Places.{placed_after};
+
+use crate::config::Sizes;
+use protocol::{Address, NodeId, Outgoing};
+
+/// Where a node stands: acceptors first, then leaders, then resource managers. None where there is no such node.
+pub fn place_of(sizes: Sizes, who: NodeId) -> Option<usize>
+    ensures { result ≡ place (config_by sizes []) who }
+{
+    let acceptors = usize::from(sizes.acceptors);
+    let leaders = usize::from(sizes.leaders);
+    match who {
+        NodeId::A(a) => placed(a, sizes.acceptors, 0),
+        NodeId::L(l) => placed(l, sizes.leaders, acceptors),
+        NodeId::R(rm) => placed(rm, sizes.managers, acceptors + leaders),
+    }
+}
+
+/// The place of a number below a bound, after so many others.
+fn placed(number: u8, bound: u8, before: usize) -> Option<usize>
+    requires { before < 1000 }
+    ensures { result ≡ placed_after number bound before }
+{
+    if number < bound {
+        Some(before + usize::from(number))
+    } else {
+        None
+    }
+}
+
+/// To how many nodes a message goes.
+pub fn receiver_count(sizes: Sizes, outgoing: &Outgoing) -> usize
+    ensures { result ≡ length (receivers (config_by sizes []) outgoing.now.to (message_tx outgoing.now.message)) }
+{
+    match outgoing.to {
+        Address::Node(_) => 1,
+        Address::Acceptors => usize::from(sizes.acceptors),
+        Address::Leaders => usize::from(sizes.leaders),
+        Address::Managers => outgoing.message.kind().tx().count(),
+    }
+}
+
+/// The acceptor of a number.
+fn acceptor_at(sizes: Sizes, i: usize) -> NodeId
+    requires { i < sizes.acceptors }
+    ensures { result ≡ A i }
+{
+    NodeId::A(i as u8)
+}
+
+/// The leader of a number.
+fn leader_at(sizes: Sizes, i: usize) -> NodeId
+    requires { i < sizes.leaders }
+    ensures { result ≡ L i }
+{
+    NodeId::L(i as u8)
+}
+
+/// The node of a place among those to which a message goes.
+pub fn receiver_at(sizes: Sizes, outgoing: &Outgoing, i: usize) -> NodeId
+    requires { i < length (receivers (config_by sizes []) outgoing.now.to (message_tx outgoing.now.message)) }
+    ensures { result ≡ slice_index_or (receivers (config_by sizes []) outgoing.now.to (message_tx outgoing.now.message)) i result }
+{
+    match outgoing.to {
+        Address::Node(node) => node,
+        Address::Acceptors => acceptor_at(sizes, i),
+        Address::Leaders => leader_at(sizes, i),
+        Address::Managers => NodeId::R(outgoing.message.kind().tx().rm(i) as u8),
+    }
+}

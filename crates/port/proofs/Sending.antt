@@ -1,0 +1,75 @@
+-- Datagrams that go out by a port, one send after another.
+use Rattle.std.proofs.Common.{◌≡◌, ◌∙◌, ℕ, false, ◌+◌, ◌<◌, List, [], ◌∷◌, ◌++◌, length, map, take, get_or, refl, sym, ap, subst, Result}
+use Rattle.std.specs.List.{flat_map, range_with_len}
+use Rattle.std.proofs.lemmas.Grind.{flat_map-append}
+use Rattle.std.proofs.lemmas.List.{append-nil, map_push, take_more}
+use Rattle.xid.specs.declared.refusals.Refusal.{Refusal}
+use Rattle.xid.specs.Transactions.{TxParts}
+use Rattle.wire.specs.Grammar.{spelling}
+use Rattle.wire.specs.Messages.{message_tx}
+use Rattle.wire.specs.declared.message.Kind.{Kind}
+use Rattle.protocol.specs.declared.decisions.Address.{Address}
+use Rattle.protocol.specs.declared.decisions.Address.TheVariants as addresses
+use Rattle.protocol.specs.declared.decisions.Outgoing.{Outgoing}
+use Rattle.protocol.specs.declared.nodes.NodeId.{NodeId}
+use Rattle.protocol.specs.declared.nodes.NodeId.TheVariants.{A, L}
+use Rattle.protocol.specs.Effects.{Config, receivers}
+use Rattle.protocol.specs.Worlds.{Datagram, datagrams_of}
+use Rattle.node_core.specs.declared.config.Sizes.{Sizes}
+use Rattle.node_core.specs.Configs.{config_by}
+use Rattle.node_core.specs.Nodes.{AreSizes}
+use Rattle.port.specs.Calls.{Sending, SendsAll}
+
+-- an unmarked datagram
+abbrev pub datagram_for : NodeId → Kind → NodeId → Datagram
+datagram_for sender message receiver = record { sender = sender; receiver = receiver; message = message; marked = false }
+
+module _ {P : Type 0} (Sent : Sending P) where
+  -- more of them after some
+  pub sends_then : (ds more : List Datagram) (a b c : P) → SendsAll Sent a b ds → SendsAll Sent b c more → SendsAll Sent a c (ds ++ more)
+  sends_then [] more a b c none rest = subst (λ (p : P). SendsAll Sent p c more) none rest
+  sends_then (d ∷ ds) more a b c some rest = (some.0, some.1, some.2, sends_then ds more some.0 b c some.3 rest)
+
+  -- one more after some
+  pub sends_one : (ds : List Datagram) (a b c : P) (d : Datagram) (result : Result (Unit {0}) Refusal) → SendsAll Sent a b ds
+      → Sent b c d.receiver (spelling d.message) result → SendsAll Sent a c (ds ++ d ∷ [])
+  sends_one ds a b c d result some one = sends_then ds (d ∷ []) a b c some (c, result, one, refl)
+
+  -- one receiver more
+  pub sends_next : (f : NodeId → Datagram) (receivers : List NodeId) (i : ℕ) (a b c : P) (receiver : NodeId)
+      (result : Result (Unit {0}) Refusal) → i < length receivers → receiver ≡ get_or receivers i receiver
+      → SendsAll Sent a b (map f (take i receivers)) → Sent b c (f receiver).receiver (spelling (f receiver).message) result
+      → SendsAll Sent a c (map f (take (i + 1) receivers))
+  sends_next f receivers i a b c receiver result lt read some one =
+      let more : take (i + 1) receivers ≡ take i receivers ++ receiver ∷ [] =
+      take_more receivers i receiver lt ∙ ap (λ (r : NodeId). take i receivers ++ r ∷ []) (sym read) in
+      let grown : map f (take i receivers) ++ f receiver ∷ [] ≡ map f (take (i + 1) receivers) =
+      sym (map_push f (take i receivers) receiver) ∙ ap (λ (rs : List NodeId). map f rs) (sym more) in
+      subst (λ (ds : List Datagram). SendsAll Sent a c ds) grown
+      (sends_one (map f (take i receivers)) a b c (f receiver) result some one)
+
+  -- one message more
+  pub sends_more : {X : Type 0} (f : X → List Datagram) (xs : List X) (k : ℕ) (a b c : P) (x : X) → k < length xs → x ≡ get_or xs k x
+      → SendsAll Sent a b (flat_map f (take k xs)) → SendsAll Sent b c (f x) → SendsAll Sent a c (flat_map f (take (k + 1) xs))
+  sends_more {X} f xs k a b c x lt read some more =
+      let grown : flat_map f (take k xs) ++ f x ≡ flat_map f (take (k + 1) xs) =
+      ap (λ (ds : List Datagram). flat_map f (take k xs) ++ ds) (sym (append-nil (f x)))
+      ∙ sym (flat_map-append f (take k xs) (x ∷ []))
+      ∙ ap (flat_map f) (ap (λ (y : X). take k xs ++ y ∷ []) read ∙ sym (take_more xs k x lt)) in
+      subst (λ (ds : List Datagram). SendsAll Sent a c ds) grown (sends_then (flat_map f (take k xs)) (f x) a b c some more)
+
+receivers_as : (config : Config) (sizes : Sizes) → AreSizes config sizes → (address : Address) (tx : TxParts)
+    → receivers (config_by sizes []) address tx ≡ receivers config address tx
+receivers_as config sizes are (addresses.Node node) tx = refl
+receivers_as config sizes are addresses.Acceptors tx = ap (λ (n : ℕ). map A (range_with_len 0 n)) are.acceptors_are
+receivers_as config sizes are addresses.Leaders tx = ap (λ (n : ℕ). map L (range_with_len 0 n)) are.leaders_are
+receivers_as config sizes are addresses.Managers tx = refl
+
+-- datagrams depend on the sizes of a cluster alone
+pub datagrams_as : (config : Config) (sizes : Sizes) → AreSizes config sizes → (who : NodeId) (sends : List Outgoing)
+    → flat_map (datagrams_of (config_by sizes []) who) sends ≡ flat_map (datagrams_of config who) sends
+datagrams_as config sizes are who [] = refl
+datagrams_as config sizes are who (send ∷ sends) =
+    ap (λ (rs : List NodeId). map (datagram_for who send.message) rs ++ flat_map (datagrams_of (config_by sizes []) who) sends)
+    (receivers_as config sizes are send.to (message_tx send.message))
+    ∙ ap (λ (ds : List Datagram). datagrams_of config who send ++ ds) (datagrams_as config sizes are who sends)

@@ -1,0 +1,56 @@
+-- What a node makes of an input at its port: the machine's step, and one send for each datagram of it.
+use Rattle.std.specs.Prelude.{◌≡◌, ℕ, List, [], ◌∷◌, Option, Some, None, Result, Ok, Err}
+use Rattle.std.specs.List.{flat_map}
+use Rattle.xid.specs.declared.refusals.Refusal.{Refusal}
+use Rattle.wire.specs.Grammar.{spelling}
+use Rattle.protocol.specs.declared.nodes.NodeId.{NodeId}
+use Rattle.protocol.specs.Effects.{Config}
+use Rattle.protocol.specs.Nodes.{NodeState, Input}
+use Rattle.protocol.specs.Worlds.{Datagram, datagrams_of}
+use Rattle.node_core.specs.declared.output.Output.{Output}
+use Rattle.node_core.specs.Sends.{sent}
+use Rattle.node_core.specs.Nodes.{NodeParts, NodeStands, StepsAs, datagram_input}
+use Rattle.port.specs.declared.calling.Served.{Served}
+
+-- a way in which sends change a port
+abbrev pub Sending : Type 0 → Type 1
+Sending P = P → P → NodeId → List ℕ → Result (Unit {0}) Refusal → Type 0
+
+-- a port goes by one send for each datagram, in order, whether they fail or not
+abbrev pub SendsAll : {P : Type 0} → Sending P → P → P → List Datagram → Type 0
+SendsAll Sent old new [] = new ≡ old
+SendsAll {P} Sent old new (d ∷ more) =
+    (next : P) × (result : Result (Unit {0}) Refusal) × Sent old next d.receiver (spelling d.message) result × SendsAll Sent next new more
+
+-- a node was handed an input at its port: it made the machine's step of it, and the port went by one send for each datagram of that
+pub record CallsAs {P : Type 0} (Sent : Sending P) (config : Config) (m : NodeState) (input : Input) (old new : NodeParts)
+    (before after : P) (served : Served) : Type 0 where
+  pub out : Output
+  pub steps : StepsAs config m input old new out
+  pub reply_is : served.reply ≡ out.reply
+  pub now_is : served.now ≡ out.now
+  pub sends : SendsAll Sent before after (flat_map (datagrams_of config old.who) (sent out.sends))
+
+-- whatever node of the machine it stood for
+abbrev pub Calls : {P : Type 0} → Sending P → Input → (old new : NodeParts) → (before after : P) → Served → Type 0
+Calls Sent input old new before after served =
+    (config : Config) (m : NodeState) → NodeStands config old m → CallsAs Sent config m input old new before after served
+
+-- a way in which receives change a port
+abbrev pub Receiving : Type 0 → Type 1
+Receiving P = P → P → Result (Option (List ℕ)) Refusal → Type 0
+
+-- a datagram was received, and the node was handed its bytes
+pub record ServesAs {P : Type 0} (Received : Receiving P) (Sent : Sending P) (old new : NodeParts) (before after : P) (served : Served)
+    : Type 0 where
+  pub bytes : List ℕ
+  pub between : P
+  pub received : Received before between (Ok (Some bytes))
+  pub calls : Calls Sent (datagram_input bytes) old new between after served
+
+-- a node took one datagram at its port, or none, and then it is as it was
+abbrev pub Serves : {P : Type 0} → Receiving P → Sending P → (old new : NodeParts) → (before after : P) → Result (Option Served) Refusal
+    → Type 0
+Serves Received Sent old new before after (Ok None) = Received before after (Ok None) × (new ≡ old)
+Serves Received Sent old new before after (Ok (Some served)) = ServesAs Received Sent old new before after served
+Serves Received Sent old new before after (Err refusal) = Received before after (Err refusal) × (new ≡ old)

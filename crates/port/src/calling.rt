@@ -1,0 +1,78 @@
+ghost use Rattle.std.specs.Prelude.{◌≡◌, [], IfErr};
+ghost use Rattle.std.specs.List.{flat_map};
+ghost use Rattle.xid.specs.declared.refusals.Refusal.TheVariants.{PortFault};
+ghost use Rattle.stable_record.specs.Held.{IsCounted};
+ghost use Rattle.protocol.specs.declared.nodes.NodeId.{NodeId as Sender};
+ghost use Rattle.protocol.specs.Worlds.{datagrams_of};
+ghost use Rattle.node_core.specs.Configs.{config_by};
+ghost use Rattle.node_core.specs.Sends.{sent as sent_by};
+ghost use Rattle.node_core.specs.Nodes.{input_of};
+ghost use Rattle.port.specs.Calls.{SendsAll, Calls, Serves};
+
+use crate::port::{MAX_TAKEN, Port};
+use node_core::{Input, Node, NodeSends, Output, Sizes, receiver_at, receiver_count};
+use protocol::{Answer, Change, Outgoing};
+use stable_record::Record;
+use wire::{MAX_DATAGRAM, encode};
+use xid::Refusal;
+
+/// What came of an input: its sends are out.
+#[derive(Debug, Drop)]
+pub struct Served {
+    /// What it was answered.
+    pub reply: Answer,
+    /// The view that it changed at a resource manager, if it changed one.
+    pub now: Option<Change>,
+}
+
+/// Sends a message to each of its receivers.
+fn send<P: Port>(port: &mut P, sizes: Sizes, outgoing: &Outgoing)
+    ensures { (sender : Sender) → SendsAll P.sent port.old port.new (datagrams_of (config_by sizes []) sender outgoing.now) }
+{
+    let mut buffer = [0; MAX_DATAGRAM];
+    let len = encode(&outgoing.message, &mut buffer);
+    let bytes = &buffer[..len];
+    for i in 0..receiver_count(sizes, outgoing) {
+        // what isn't sent is lost, as a datagram may be
+        let _ = port.send(receiver_at(sizes, outgoing, i), bytes);
+    }
+}
+
+/// Sends all messages that a node puts out, in their order.
+fn send_all<P: Port>(port: &mut P, sizes: Sizes, sends: &NodeSends)
+    ensures { (sender : Sender) → SendsAll P.sent port.old port.new (flat_map (datagrams_of (config_by sizes []) sender) (sent_by sends.now)) }
+{
+    for k in 0..sends.count() {
+        let outgoing = sends.at(k);
+        send(port, sizes, &outgoing);
+    }
+}
+
+/// Hands an input to a node, and sends what it puts out, once to each receiver and in order. A send that fails is a loss, which the port
+/// counts, and the next is tried.
+pub fn call<R: Record, P: Port>(node: &mut Node<R>, port: &mut P, input: Input) -> Served
+    ensures { Calls P.sent (input_of input.entry) node.old node.new port.old port.new result }
+{
+    let sizes = node.sizes();
+    let Output { reply, now, sends } = node.step(input);
+    send_all(port, sizes, &sends);
+    Served { reply, now }
+}
+
+/// Takes a datagram at a node's port, if one is there, and hands its bytes to the node as `call` does. Refused: the port failed
+/// (`PortFault`), and the node is as it was.
+pub fn serve_once<R: Record, P: Port>(
+    node: &mut Node<R>,
+    port: &mut P,
+) -> Result<Option<Served>, Refusal>
+    ensures serves { Serves P.received P.sent node.old node.new port.old port.new result }
+    ensures fault { IfErr result (λ e. (e ≡ PortFault) × IsCounted (P.fault_count port.old) (P.fault_count port.new)) }
+{
+    let mut buffer = [0; MAX_TAKEN];
+    let len = match port.recv(&mut buffer) {
+        Ok(Some(len)) => len,
+        Ok(None) => return Ok(None),
+        Err(refusal) => return Err(refusal),
+    };
+    Ok(Some(call(node, port, Input::Received(&buffer[..len]))))
+}

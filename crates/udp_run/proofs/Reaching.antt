@@ -1,0 +1,121 @@
+-- The node of a place, and what becomes of it.
+use Rattle.std.proofs.Common.{◌≡◌, ◌≢◌, ℕ, ◌+◌, ◌<◌, Bool, true, false, List, length, get_or, set, refl, sym, ap, subst, Option, Some, None, Result, arith, nat_lt}
+use Rattle.std.specs.Prelude.{if◌then◌else◌, is_some, MatchBool}
+use Rattle.std.proofs.lemmas.Bool.{ltb-true}
+use Rattle.xid.specs.declared.refusals.Refusal.{Refusal}
+use Rattle.xid.specs.declared.refusals.Refusal.TheVariants.{Forged}
+use Rattle.wire.specs.Decoding.{message_at, spells_message}
+use Rattle.wire.specs.Grammar.{Spells, spelling}
+use Rattle.wire.specs.Messages.{IsMessage}
+use Rattle.wire.specs.declared.message.Kind.{Kind}
+use Rattle.wire.proofs.DecodingLemmas.{found as message_found, spelled as message_spelled}
+use Rattle.protocol.specs.declared.answers.Answer.TheVariants.{Refused}
+use Rattle.protocol.specs.Effects.{Config}
+use Rattle.protocol.specs.Nodes.{NodeState}
+use Rattle.protocol.specs.declared.nodes.NodeId.{NodeId}
+use Rattle.protocol.specs.declared.nodes.NodeId.TheVariants.{A, L, R}
+use Rattle.node_core.specs.declared.config.Sizes.{Sizes}
+use Rattle.node_core.specs.Nodes.{NodeParts, NodeStands}
+use Rattle.node_core.specs.Opening.{RestartsAs, restart_answer}
+use Rattle.port.specs.Calls.{Sending}
+use Rattle.port.specs.declared.calling.Served.{Served}
+use Rattle.udp_run.specs.Sites.{node_count, place_in, site_of, Making, ReachesAt, RestartsIn, SendsNoise, IsSentBy, answer_served}
+
+below_by : (number bound before at : ℕ) (t : Bool) → nat_lt number bound ≡ t → (if t then Some (before + number) else None) ≡ Some at
+    → at < before + bound
+below_by number bound before at true e h =
+    let lt : number < bound = ltb-true number bound e in
+    let same : before + number ≡ at = cc (h) in
+    omega (arith, lt, same)
+below_by number bound before at false e h = absurd (cc (h))
+
+first_below : (number bound at : ℕ) (t : Bool) → nat_lt number bound ≡ t → (if t then Some number else None) ≡ Some at → at < bound
+first_below number bound at true e h =
+    let lt : number < bound = ltb-true number bound e in
+    let same : number ≡ at = cc (h) in
+    omega (arith, lt, same)
+first_below number bound at false e h = absurd (cc (h))
+
+place_within : (sizes : Sizes) (who : NodeId) (at : ℕ) → place_in sizes who ≡ Some at → at < node_count sizes
+place_within sizes (A a) at h =
+    let lt : at < sizes.acceptors = first_below a sizes.acceptors at (nat_lt a sizes.acceptors) refl h in omega (arith, lt)
+place_within sizes (L l) at h =
+    let lt : at < sizes.acceptors + sizes.leaders =
+    below_by l sizes.leaders sizes.acceptors at (nat_lt l sizes.leaders) refl h in
+    omega (arith, lt)
+place_within sizes (R rm) at h =
+    below_by rm sizes.managers (sizes.acceptors + sizes.leaders) at (nat_lt rm sizes.managers) refl h
+
+-- a place that a cluster has is one of so many
+pub place_fits : {X : Type 0} (sizes : Sizes) (xs : List X) (who : NodeId) (at : ℕ) → length xs ≡ node_count sizes
+    → Some at ≡ place_in sizes who → at < length xs
+place_fits sizes xs who at count is =
+    let lt : at < node_count sizes = place_within sizes who at (sym is) in omega (arith, lt, count)
+
+-- ---- what became of it
+
+-- the node of a place and its port became others
+pub reaches : {P : Type 0} (Makes : Served → Making P) (sizes : Sizes) (nodes : List NodeParts) (ports : List P) (noise : P)
+    (who : NodeId) (at : ℕ) → Some at ≡ place_in sizes who → length nodes ≡ node_count sizes → (was node : NodeParts) (before port : P)
+    (served : Served) → was ≡ get_or nodes at was → before ≡ get_or ports at before → Makes served was node before port
+    → ReachesAt Makes (place_in sizes who) (site_of sizes nodes ports noise) (site_of sizes (set nodes at node) (set ports at port) noise) served
+reaches Makes sizes nodes ports noise who at is count was node before port served read read_port makes =
+    subst (λ (o : Option ℕ). ReachesAt Makes o (site_of sizes nodes ports noise) (site_of sizes (set nodes at node) (set ports at port) noise)
+    served) is
+    (record {
+      was = was;
+      node = node;
+      before = before;
+      port = port;
+      within = place_fits sizes nodes who at count is;
+      was_is = read;
+      before_is = read_port;
+      makes = makes;
+      site_is = refl;
+    })
+
+-- the node of a place was restarted
+pub restarts : (sizes : Sizes) (nodes : List NodeParts) (who : NodeId) (at : ℕ) → Some at ≡ place_in sizes who
+    → length nodes ≡ node_count sizes → (was node : NodeParts) (result : Result (Unit {0}) Refusal) (served : Served)
+    → was ≡ get_or nodes at was
+    → ((config : Config) (m : NodeState) → NodeStands config was m → RestartsAs config m was node result)
+    → served ≡ answer_served (restart_answer result) → RestartsIn (place_in sizes who) nodes (set nodes at node) served
+restarts sizes nodes who at is count was node result served read restarted answered =
+    subst (λ (o : Option ℕ). RestartsIn o nodes (set nodes at node) served) is
+    (record {
+      was = was;
+      node = node;
+      within = place_fits sizes nodes who at count is;
+      was_is = read;
+      restarted = record { result = result; restarts = restarted; served_is = answered };
+      nodes_are = refl;
+    })
+
+-- ---- noise
+
+none_by : (bytes : List ℕ) (read : Option Kind) → message_at bytes ≡ read → ((k : Kind) → Spells k bytes → ⊥) → message_at bytes ≡ None
+none_by bytes None e none = e
+none_by bytes (Some k) e none = absurd (none k (message_spelled k bytes e))
+
+pub is_spelled : (bytes : List ℕ) (k : Kind) → Spells k bytes → true ≡ spells_message bytes
+is_spelled bytes k spells = sym (ap is_some (message_found k bytes spells))
+
+pub is_unspelled : (bytes : List ℕ) → ((k : Kind) → IsMessage k → bytes ≢ spelling k) → false ≡ spells_message bytes
+is_unspelled bytes none = sym (ap is_some (none_by bytes (message_at bytes) refl (λ k s. none k s.message s.spelled)))
+
+module _ {P : Type 0} (Sent : Sending P) (sizes : Sizes) (who : NodeId) (at : ℕ) (is : Some at ≡ place_in sizes who) (bytes : List ℕ)
+    (before after : P) (served : Served) where
+  pub noise_forged : spells_message bytes ≡ true → after ≡ before → served ≡ answer_served (Refused Forged)
+      → SendsNoise Sent (place_in sizes who) who bytes before after served
+  noise_forged spelled same answered =
+      subst (λ (o : Option ℕ). SendsNoise Sent o who bytes before after served) is
+      (subst (λ (b : Bool). MatchBool b ((after ≡ before) × (served ≡ answer_served (Refused Forged)))
+      (IsSentBy Sent who bytes before after served)) (sym spelled) (same, answered))
+
+  pub noise_sent : spells_message bytes ≡ false → (result : Result (Unit {0}) Refusal) → Sent before after who bytes result
+      → served ≡ answer_served (restart_answer result) → SendsNoise Sent (place_in sizes who) who bytes before after served
+  noise_sent spelled result sent answered =
+      subst (λ (o : Option ℕ). SendsNoise Sent o who bytes before after served) is
+      (subst (λ (b : Bool). MatchBool b ((after ≡ before) × (served ≡ answer_served (Refused Forged)))
+      (IsSentBy Sent who bytes before after served)) (sym spelled)
+      (record { result = result; sent = sent; served_is = answered }))

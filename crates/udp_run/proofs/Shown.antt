@@ -1,0 +1,153 @@
+-- Tables of nodes, one after another.
+use Rattle.std.proofs.Common.{◌≡◌, ◌∙◌, ◌⊎◌, inl, inr, ℕ, ◌+◌, ◌<◌, ◌≤◌, Bool, true, false, List, [], ◌∷◌, ◌++◌, length, get_or, set, take, drop, refl, sym}
+use Rattle.std.proofs.Common.{ap, subst, Option, Some, None, Result, Ok, Err, arith}
+use Rattle.std.specs.Prelude.{cond}
+use Rattle.std.specs.List.{AllZip, filter}
+use Rattle.std.proofs.lemmas.List.{append-nil, take_more, take_all, drop_more, get_or-drop, drop-set-lt, length-set}
+use Rattle.std.proofs.lemmas.List.Elements.{filter-append}
+use Rattle.xid.specs.declared.refusals.Refusal.{Refusal}
+use Rattle.xid.specs.declared.refusals.Refusal.TheVariants as refusals
+use Rattle.stable_record.specs.Held.{Held}
+use Rattle.protocol.specs.declared.nodes.NodeId.{NodeId}
+use Rattle.protocol.specs.declared.nodes.NodeId.TheVariants as nodes
+use Rattle.protocol.specs.declared.rows.Row.{Row}
+use Rattle.protocol.specs.Effects.{Config}
+use Rattle.protocol.specs.Nodes.{NodeState}
+use Rattle.stable_record.specs.declared.fact.FactKind.{FactKind as Fact}
+use Rattle.node_core.specs.declared.role.Role.{Role}
+use Rattle.node_core.specs.Nodes.{NodeParts, NodeStands, IsSound}
+use Rattle.node_core.specs.Viewing.{TablesAs, SaysTable, IsUnread}
+use Rattle.udp_run.specs.Tables.{is_manager, IsTableOf, ShowsTable, AreTablesOf}
+
+-- ---- one node
+
+-- what a call of a node's table says
+abbrev pub Tabled : (old new : NodeParts) → Result (List Row) Refusal → Type 0
+Tabled old new result = (config : Config) (m : NodeState) → NodeStands config old m → TablesAs config m old new result
+
+-- a record that couldn't be read gives no rows
+unread_no_rows : (old new : Held) (role : Option Role) (rows : List Row) → IsUnread old new role (Ok rows) → ⊥
+unread_no_rows old new role rows (down, inl (e, fault)) = absurd (cc (e))
+unread_no_rows old new role rows (down, inr (e, same)) = absurd (cc (e))
+
+says_rows : (config : Config) (who : NodeId) (facts : List Fact) (old new : Held) (role : Option Role) (rows : List Row)
+    → ((new ≡ old) × SaysTable config who facts (Ok rows)) ⊎ IsUnread old new role (Ok rows) → SaysTable config who facts (Ok rows)
+says_rows config who facts old new role rows (inl (same, says)) = says
+says_rows config who facts old new role rows (inr unread) = absurd (unread_no_rows old new role rows unread)
+
+-- the rows that a node gives are its table
+pub table_is : (old new : NodeParts) (rows : List Row) → Tabled old new (Ok rows) → IsTableOf old rows
+table_is old new rows tabled = record {
+  says = λ config m stands.
+      says_rows config old.who m.facts old.held new.held old.role rows (tabled config m stands).tables.says;
+}
+
+-- the refusals of a table
+abbrev pub IsUntold : Refusal → Type 0
+IsUntold e = (e ≡ refusals.NoMemory) ⊎ (e ≡ refusals.RecordFault)
+
+unread_refusal : (old new : Held) (role : Option Role) (e : Refusal) → IsUnread {X = List Row} old new role (Err e) → IsUntold e
+unread_refusal old new role e (down, inl (is, fault)) = inr (cc (is))
+unread_refusal old new role e (down, inr (is, same)) = inl (cc (is))
+
+-- what a call of a node's table can say
+abbrev Said : (config : Config) → NodeId → List Fact → (old new : Held) → Option Role → Result (List Row) Refusal → Type 0
+Said config who facts old new role result = ((new ≡ old) × SaysTable config who facts result) ⊎ IsUnread old new role result
+
+told : (config : Config) (rm : ℕ) (facts : List Fact) (old new : Held) (role : Option Role) (e : Refusal)
+    → Said config (nodes.R rm) facts old new role (Err e) → IsUntold e
+told config rm facts old new role e (inl (same, says)) = inl says
+told config rm facts old new role e (inr unread) = unread_refusal old new role e unread
+
+-- a resource manager's table is refused for want of memory or a record that fails
+pub table_untold : (rm : ℕ) (old new : NodeParts) (e : Refusal) → old.who ≡ nodes.R rm → IsSound old → Tabled old new (Err e) → IsUntold e
+table_untold rm old new e is sound tabled =
+    told sound.config rm sound.state.facts old.held new.held old.role e
+    (subst (λ (who : NodeId). Said sound.config who sound.state.facts old.held new.held old.role (Err e)) is
+    (tabled sound.config sound.state sound.is).tables.says)
+
+-- ---- one after another
+
+zip_last : {X Y : Type 0} (R : X → Y → Type 0) (xs : List X) (ys : List Y) (x : X) (y : Y) → AllZip R xs ys → R x y
+    → AllZip R (xs ++ x ∷ []) (ys ++ y ∷ [])
+zip_last R [] [] x y all is = (is, tt)
+zip_last R [] (b ∷ ys) x y all is = absurd all
+zip_last R (a ∷ xs) [] x y all is = absurd all
+zip_last R (a ∷ xs) (b ∷ ys) x y all is = (all.0, zip_last R xs ys x y all.1 is)
+
+filter_one : {X : Type 0} (p : X → Bool) (x : X) (t : Bool) → p x ≡ t → filter p (x ∷ []) ≡ cond t (x ∷ []) []
+filter_one p x t e = ap (λ (b : Bool). cond b (x ∷ []) []) e
+
+-- tables of the nodes so far, and nodes that are as they were from there on
+pub record AreShown (at : ℕ) (start now : List NodeParts) (tables : List (List Row)) : Type 0 where
+  pub shown : AreTablesOf (take at start) tables
+  pub rest : drop at now ≡ drop at start
+  pub long : length now ≡ length start
+
+pub none_shown : (nodes : List NodeParts) → AreShown 0 nodes nodes []
+none_shown nodes = record { shown = tt; rest = refl; long = refl }
+
+abbrev managing : NodeParts → Bool
+managing node = is_manager node.who
+
+at_front : (n : ℕ) (xs : List NodeParts) (d : NodeParts) → get_or (drop n xs) 0 d ≡ get_or xs n d
+at_front n xs d = let e : n + 0 ≡ n = omega arith in get_or-drop n xs 0 d ∙ ap (λ (k : ℕ). get_or xs k d) e
+
+module _ (at : ℕ) (start now : List NodeParts) (tables : List (List Row)) (was new : NodeParts) (lt : at < length now)
+    (read : was ≡ get_or now at was) (so : AreShown at start now tables) where
+  within : at < length start
+  within = let long : length now ≡ length start = so.long in omega (arith, lt, long)
+
+  here : was ≡ get_or start at was
+  here =
+      read ∙ sym (at_front at now was) ∙ ap (λ (xs : List NodeParts). get_or xs 0 was) so.rest ∙ at_front at start was
+
+  longer : take (at + 1) start ≡ take at start ++ was ∷ []
+  longer = take_more start at was within ∙ ap (λ (n : NodeParts). take at start ++ n ∷ []) (sym here)
+
+  picked : (t : Bool) → managing was ≡ t → filter managing (take (at + 1) start) ≡ filter managing (take at start) ++ cond t (was ∷ []) []
+  picked t e =
+      ap (filter managing) longer ∙ filter-append managing (take at start) (was ∷ [])
+      ∙ ap (λ (ns : List NodeParts). filter managing (take at start) ++ ns) (filter_one managing was t e)
+
+  behind : drop (at + 1) now ≡ drop (at + 1) start
+  behind = ap (drop 1) (sym (drop_more now at was lt) ∙ so.rest ∙ drop_more start at was within)
+
+  left : drop (at + 1) (set now at new) ≡ drop (at + 1) start
+  left = drop-set-lt (at + 1) now at new (omega arith) ∙ behind
+
+  -- the node is no resource manager
+  shown_without : is_manager was.who ≡ false → AreShown (at + 1) start (set now at new) tables
+  shown_without e = record {
+    shown =
+        subst (λ (ns : List NodeParts). AllZip IsTableOf ns tables)
+        (sym (picked false e ∙ append-nil (filter managing (take at start)))) so.shown;
+    rest = left;
+    long = length-set now at new ∙ so.long;
+  }
+
+  -- it is one, with a table
+  shown_with : (rows : List Row) → is_manager was.who ≡ true → IsTableOf was rows
+      → AreShown (at + 1) start (set now at new) (tables ++ rows ∷ [])
+  shown_with rows e is = record {
+    shown =
+        subst (λ (ns : List NodeParts). AllZip IsTableOf ns (tables ++ rows ∷ [])) (sym (picked true e))
+        (zip_last IsTableOf (filter managing (take at start)) tables was rows so.shown is);
+    rest = left;
+    long = length-set now at new ∙ so.long;
+  }
+
+  -- one or the other
+  pub shown_next : (more : List (List Row)) → ShowsTable was tables more → AreShown (at + 1) start (set now at new) more
+  shown_next more (inl (e, same)) =
+      subst (λ (ts : List (List Row)). AreShown (at + 1) start (set now at new) ts) (sym same) (shown_without e)
+  shown_next more (inr puts) =
+      subst (λ (ts : List (List Row)). AreShown (at + 1) start (set now at new) ts) (sym puts.put)
+      (shown_with puts.rows puts.manages puts.is)
+
+-- all were shown
+pub all_shown : (at : ℕ) (start now : List NodeParts) (tables : List (List Row)) → length now ≤ at → AreShown at start now tables
+    → AreTablesOf start tables
+all_shown at start now tables end so =
+    let long : length now ≡ length start = so.long in
+    subst (λ (ns : List NodeParts). AreTablesOf ns tables) (take_all at start (omega (arith, end, long))) so.shown

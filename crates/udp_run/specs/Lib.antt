@@ -1,0 +1,5 @@
+pub mod Clusters
+pub mod Sites
+pub mod Commands
+pub mod Tables
+pub mod Runs

@@ -1,0 +1,39 @@
+-- What the tables of resource managers hold.
+use Rattle.std.specs.Prelude.{◌≡◌, ◌⊎◌, Bool, true, false, List, [], ◌∷◌, ◌++◌, Option, Some, None, Ok}
+use Rattle.std.specs.List.{AllZip, filter}
+use Rattle.protocol.specs.declared.nodes.NodeId.{NodeId}
+use Rattle.protocol.specs.declared.nodes.NodeId.TheVariants.{R}
+use Rattle.protocol.specs.declared.rows.Row.{Row}
+use Rattle.protocol.specs.Effects.{Config}
+use Rattle.protocol.specs.Nodes.{NodeState}
+use Rattle.node_core.specs.Nodes.{NodeParts, NodeStands}
+use Rattle.node_core.specs.Viewing.{SaysTable}
+
+-- whether a node is a resource manager
+abbrev pub is_manager : NodeId → Bool
+is_manager (R rm) = true
+is_manager who = false
+
+-- rows are the table of a node's facts, whatever node of the machine it stands for
+pub record IsTableOf (node : NodeParts) (rows : List Row) : Type 0 where
+  pub says : (config : Config) (m : NodeState) → NodeStands config node m → SaysTable config node.who m.facts (Ok rows)
+
+-- a resource manager has a table, and no other node
+abbrev pub HasTable : NodeParts → Option (List Row) → Type 0
+HasTable node None = is_manager node.who ≡ false
+HasTable node (Some rows) = (is_manager node.who ≡ true) × IsTableOf node rows
+
+-- a resource manager's table was put after others
+pub record PutsTable (node : NodeParts) (old new : List (List Row)) : Type 0 where
+  pub manages : is_manager node.who ≡ true
+  pub rows : List Row
+  pub is : IsTableOf node rows
+  pub put : new ≡ old ++ rows ∷ []
+
+-- the table of a node was put after others, if it is a resource manager
+abbrev pub ShowsTable : NodeParts → (old new : List (List Row)) → Type 0
+ShowsTable node old new = ((is_manager node.who ≡ false) × (new ≡ old)) ⊎ PutsTable node old new
+
+-- the tables of the resource managers among nodes, in order
+abbrev pub AreTablesOf : List NodeParts → List (List Row) → Type 0
+AreTablesOf nodes tables = AllZip IsTableOf (filter (λ node. is_manager node.who) nodes) tables

@@ -1,0 +1,83 @@
+//! The run of a script over sockets.
+
+ghost use Rattle.std.specs.Prelude.{◌≡◌, ◌⊎◌, true, IfOk, IfErr, MatchOption};
+ghost use Rattle.std.specs.List.{list_all};
+ghost use Rattle.xid.specs.declared.refusals.Refusal.TheVariants.{NoMemory};
+ghost use Rattle.udp_run.specs.Commands.{is_served as is_served_lem};
+ghost use Rattle.udp_run.specs.Runs.{IsDeviceRefusal, IsFirstRefused, IsServed, IsUdpRun, RefusesUdp};
+
+use crate::clusters::config_of;
+use crate::opening::open;
+use net_script::{Command, Script, Trace, line_of, read_script, write_trace};
+use node_core::Config;
+use protocol::Event;
+use xid::{Refusal, Sequence};
+
+/// Runs a script over sockets and gives the text of its trace: its nodes are taken up from the records in a folder, each takes datagrams
+/// at a socket of its own on 127.0.0.1, and `flow` is so many rounds in which each takes one. Refused: `BadScript` with the first line
+/// at fault; `BadConfig` for sizes outside the limits; `BadScript` with the first event that can't happen over sockets (a datagram's
+/// number, a tear or a compaction); and then, after the records that were opened before, node by node: a file that can't be opened and read
+/// (`FileFault`), a record that can't be taken up (`Damaged`, `RecordFault`), and a socket that can't be made (`PortFault`); at the end
+/// the record of a node that is down (`RecordFault`); and `NoMemory` anywhere. What was stored stays stored.
+pub fn udp(rt: HostRuntime, script: &[u8], folder: &str) -> Result<Vec<u8>, Refusal>
+    ensures ok { IfOk result (λ output. IsUdpRun script.now output.items) }
+    ensures err { IfErr result (RefusesUdp script.now) }
+{
+    let alloc = rt.alloc();
+    let text = script;
+    let script = read_script(alloc, text)?;
+    let config = config_of(alloc, script.sizes, script.tables.as_slice())?;
+    if let Some(at) = first_refused(script.commands.as_slice()) {
+        let Some(line) = line_of(text, 1 + script.tables.as_slice().len() + at) else {
+            unreachable!();
+        };
+        return Err(Refusal::BadScript { line });
+    }
+    serve(rt, script, folder, &config)
+}
+
+/// Runs a script whose commands all happen over sockets.
+fn serve(rt: HostRuntime, script: Script, folder: &str, config: &Config) -> Result<Vec<u8>, Refusal>
+    requires { list_all is_served_lem script.commands ≡ true }
+    ensures ok { IfOk result (λ output. IsServed config.now script output.items) }
+    ensures err { IfErr result (λ e. (e ≡ NoMemory) ⊎ IsDeviceRefusal e) }
+{
+    let Script {
+        sizes,
+        tables,
+        commands,
+    } = script;
+    let mut site = open(rt, folder, config)?;
+    let entries = site.carry_out_all(commands.into_vec())?;
+    let finals = site.tables()?;
+    let trace = Trace {
+        sizes,
+        tables,
+        entries: Sequence::new(entries),
+        finals: Sequence::new(finals),
+    };
+    write_trace(rt.alloc(), &trace)
+}
+
+/// Whether a command happens over sockets: datagrams there have no numbers, and files can't be torn.
+fn is_served(command: &Command) -> bool
+    ensures { result ≡ is_served_lem command.now }
+{
+    matches!(
+        command,
+        Command::Do(Event::Ask { .. } | Event::Noise { .. } | Event::Restart { .. })
+            | Command::Flow(_)
+    )
+}
+
+/// The place of the first command that doesn't happen over sockets.
+fn first_refused(commands: &[Command]) -> Option<usize>
+    ensures { MatchOption result (list_all is_served_lem commands.now ≡ true) (IsFirstRefused commands.now) }
+{
+    for (at, command) in commands.iter().enumerate() {
+        if !is_served(command) {
+            return Some(at);
+        }
+    }
+    None
+}
