@@ -1,4 +1,5 @@
-ghost use Rattle.std.specs.Prelude.{◌<◌};
+ghost use Rattle.std.specs.Prelude.{◌≡◌, ◌<◌, true, IfOk};
+ghost use Rattle.branch_table.specs.Tables.{is_row};
 
 use crate::{BranchTable, Ending};
 use protocol::{Answer, Row};
@@ -7,22 +8,24 @@ use std::process::Abort;
 use std::test::Fail;
 use xid::{Bytes, Refusal, XaCode, Xid};
 
-/// A row of these bytes.
-fn row(alloc: Global, key: &[u8], value: &[u8]) -> Result<Row, Fail> {
-    let key = Bytes::copy_of(alloc, key)?;
-    let value = Bytes::copy_of(alloc, value)?;
+/// A row whose key and value are a byte each.
+fn row(alloc: Global, key: u8, value: u8) -> Result<Row, Refusal>
+    ensures { IfOk result (λ row. is_row row ≡ true) }
+{
+    let key = Bytes::copy_of(alloc, &[key])?;
+    let value = Bytes::copy_of(alloc, &[value])?;
     Ok(Row { key, value })
 }
 
 /// No branches, and a table of one row.
 fn one_row(alloc: Global) -> Result<BranchTable, Fail> {
     let mut rows = Vec::new(alloc);
-    rows.push(row(alloc, b"k", b"0")?)?;
+    rows.push(row(alloc, b'k', b'0')?)?;
     Ok(BranchTable::new(alloc, rows)?)
 }
 
 /// A row has this key and this value.
-fn is_row(rt: &impl Abort, row: &Row, key: &[u8], value: &[u8]) {
+fn are_bytes(rt: &impl Abort, row: &Row, key: &[u8], value: &[u8]) {
     assert_eq!(rt; row.key.as_slice(), key);
     assert_eq!(rt; row.value.as_slice(), value);
 }
@@ -77,13 +80,13 @@ fn prepared_read(rt: &impl Abort, table: &mut BranchTable, xid: &Xid) -> Result<
 fn later_row_counts(rt: HostRuntime) -> Result<(), Fail> {
     let alloc = rt.alloc();
     let mut rows = Vec::new(alloc);
-    rows.push(row(alloc, b"b", b"1")?)?;
-    rows.push(row(alloc, b"a", b"2")?)?;
-    rows.push(row(alloc, b"a", b"1")?)?;
+    rows.push(row(alloc, b'b', b'1')?)?;
+    rows.push(row(alloc, b'a', b'2')?)?;
+    rows.push(row(alloc, b'a', b'1')?)?;
     let rows = BranchTable::new(alloc, rows)?.into_rows()?;
     assert_eq!(rt; rows.len(), 2);
-    is_row(&rt, &rows[0], b"a", b"1");
-    is_row(&rt, &rows[1], b"b", b"1");
+    are_bytes(&rt, &rows[0], b"a", b"1");
+    are_bytes(&rt, &rows[1], b"b", b"1");
     Ok(())
 }
 
@@ -213,7 +216,7 @@ fn commits(rt: HostRuntime) -> Result<(), Fail> {
     commit(&rt, &mut table, &x)?;
     let rows = table.into_rows()?;
     assert_eq!(rt; rows.len(), 1);
-    is_row(&rt, &rows[0], b"j", b"1");
+    are_bytes(&rt, &rows[0], b"j", b"1");
     Ok(())
 }
 
