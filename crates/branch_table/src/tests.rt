@@ -1,8 +1,10 @@
 ghost use Rattle.std.specs.Prelude.{◌≡◌, ◌<◌, true, IfOk};
+ghost use Rattle.stable_record.specs.Facts.{AreKeys};
 ghost use Rattle.branch_table.specs.Tables.{is_row};
 
 use crate::{BranchTable, Ending};
 use protocol::{Answer, Row};
+use stable_record::Touched;
 use std::alloc::Global;
 use std::process::Abort;
 use std::test::Fail;
@@ -59,12 +61,23 @@ fn are_xids(rt: &impl Abort, answer: Answer, count: usize, first: &Xid) {
     }
 }
 
+/// Makes a branch prepared with these keys. Where that wants memory, there is no such branch, and it is made the second time.
+fn restores(rt: &impl Abort, table: &mut BranchTable, xid: &Xid, keys: &[Touched])
+    requires { AreKeys keys.now }
+{
+    if let Err(refusal) = table.restore(xid, keys) {
+        assert!(rt; refusal == Refusal::NoMemory);
+        assert!(rt; !table.has_branch(xid));
+        assert!(rt; table.restore(xid, keys).is_ok());
+    }
+}
+
 /// Votes prepared for an idle branch.
-fn prepare(table: &mut BranchTable, xid: &Xid) -> Result<(), Fail> {
+fn prepare(rt: &impl Abort, table: &mut BranchTable, xid: &Xid) -> Result<(), Fail> {
     let Some(keys) = table.prepare(xid)? else {
         return Err(Refusal::NoSuch)?;
     };
-    let _ = table.restore(xid, keys.as_slice());
+    restores(rt, table, xid, keys.as_slice());
     Ok(())
 }
 
@@ -73,7 +86,7 @@ fn prepared_read(rt: &impl Abort, table: &mut BranchTable, xid: &Xid) -> Result<
     is_code(rt, table.start(xid)?, XaCode::Ok);
     is_value(rt, table.get(xid, b"k")?, b"0");
     is_code(rt, table.end(xid, Ending::Success), XaCode::Ok);
-    prepare(table, xid)
+    prepare(rt, table, xid)
 }
 
 #[test]
@@ -178,7 +191,7 @@ fn commit(rt: &impl Abort, table: &mut BranchTable, x: &Xid) -> Result<(), Fail>
     is_code(rt, table.put(x, b"j", b"1")?, XaCode::Ok);
     is_code(rt, table.del(x, b"k")?, XaCode::Ok);
     is_code(rt, table.end(x, Ending::Success), XaCode::Ok);
-    prepare(table, x)?;
+    prepare(rt, table, x)?;
     table.ready_commit(x)?;
     if table.is_ready(x) {
         table.commit(x);
@@ -191,7 +204,7 @@ fn commit(rt: &impl Abort, table: &mut BranchTable, x: &Xid) -> Result<(), Fail>
 fn bind(rt: &impl Abort, table: &mut BranchTable, x: &Xid) -> Result<(), Fail> {
     is_code(rt, table.start(x)?, XaCode::Ok);
     is_code(rt, table.end(x, Ending::Success), XaCode::Ok);
-    prepare(table, x)?;
+    prepare(rt, table, x)?;
     assert!(rt; table.prepare(x)?.is_none());
     are_xids(rt, table.recover()?, 1, x);
     table.ready_commit(x)?;
@@ -234,10 +247,10 @@ fn replay(
         return Err(Refusal::NoSuch)?;
     };
     let y = Xid::new(1, b"u", b"a")?;
-    assert!(rt; again.restore(x, keys.as_slice()).is_ok());
+    restores(rt, again, x, keys.as_slice());
     assert!(rt; again.restore(&y, keys.as_slice()) == Err(Refusal::Damaged));
     again.undo(x);
-    assert!(rt; again.restore(&y, keys.as_slice()).is_ok());
+    restores(rt, again, &y, keys.as_slice());
     Ok(())
 }
 
