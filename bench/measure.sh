@@ -110,19 +110,27 @@ courses() {
     beside $((each * $4)) "$2 of $3 branches in a $1 cluster, $4 transactions" "$@"
 }
 
-# what is measured, and the words of a run but its repetitions: how many instructions an event takes, where there is a valgrind
-instructions() {
-    command -v valgrind >/dev/null || return 0
-    label=$1
-    shift
+# a program, and the words of a run but its repetitions: how many instructions an event takes
+counted_in() {
     for repetitions in 1 "${more:-11}"; do
-        valgrind --tool=callgrind --callgrind-out-file="$scratch/callgrind" "$scratch/crates/$name/out/$name" "$@" "$repetitions" \
-            >"$scratch/counts" 2>/dev/null || return 0
+        valgrind --tool=callgrind --callgrind-out-file="$scratch/callgrind" "$@" "$repetitions" >"$scratch/counts" 2>/dev/null || return 1
         read -r count _ <"$scratch/counts"
         taken=$(sed -n 's/^summary: //p' "$scratch/callgrind")
         if [ "$repetitions" = 1 ]; then few=$count least=$taken; fi
     done
-    echo "$label: $(((taken - least) / (count - few))) instructions per event"
+    each=$(((taken - least) / (count - few)))
+}
+
+# what is measured, and the words of a run but its repetitions: how many instructions an event takes, and how many in the plain Rust
+# program, where there is a valgrind
+instructions() {
+    command -v valgrind >/dev/null || return 0
+    label=$1
+    shift
+    counted_in "$scratch/crates/$name/out/$name" "$@" || return 0
+    line="$label: $each instructions per event"
+    if [ -x "$scratch/plain" ] && counted_in "$scratch/plain" "$@"; then line="$line; plain Rust $each"; fi
+    echo "$line"
 }
 
 # how many bytes a transaction takes: the peak of memory with an acceptor and without
@@ -170,6 +178,7 @@ else
         done
         for what in commit takeover; do
             instructions "$what in a $kind cluster, 10 transactions" "$kind" "$what" 2 10
+            instructions "$what of 16 branches in a $kind cluster, 10 transactions" "$kind" "$what" 16 10
             more=2 instructions "$what in a $kind cluster, 100000 transactions" "$kind" "$what" 2 100000
         done
     done

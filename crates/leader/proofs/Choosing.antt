@@ -26,10 +26,6 @@ abbrev BestOf : Report → List Report → Type 0
 BestOf None reports = IsNone reports
 BestOf (Some last) reports = IsBest last reports
 
-said_true : (t r : Bool) → r ≡ true → (not t || true) && r ≡ true
-said_true true r h = h
-said_true false r h = h
-
 -- of another ballot
 not_said : (b c : ℕ) (v : Vote) → (b ≡ c → ⊥) → says_prepared c (Some (b, v)) ≡ true
 not_said b c v other = ap (λ t. not t || is_prepared v) (ne_eqb b c other)

@@ -172,8 +172,8 @@ module _ (config : Config) (number : ℕ) where
 -- ---- those of a leader
 
 -- what is compacted says the same as whatever plays and a leader stands for
-pub is_compacted : (l : LeaderParts) (kept : List Fact) → IsDistinct tx_eq l.begun
-    → kept ≡ compacted l.begun (λ tx. (course_of l tx).greatest) → (config : Config) (number : ℕ) (facts : List Fact) (memory : LeaderMemory)
+pub is_compacted : (l : LeaderParts) (kept : List Fact) → IsDistinct tx_eq l.courses.begun
+    → kept ≡ compacted l.courses.begun (λ tx. (course_of l tx).greatest) → (config : Config) (number : ℕ) (facts : List Fact) (memory : LeaderMemory)
     → StandsForBallots config number l (last_ballot facts) memory → all_play config (L number) [] facts ≡ true
     → IsCompacted l kept config number facts
 is_compacted l kept once e config number facts memory stands play = record {
@@ -186,13 +186,13 @@ is_compacted l kept once e config number facts memory stands play = record {
   };
 }
   where
-    is : kept ≡ compacted l.begun (last_ballot facts)
-    is = e ∙ (λ k. compacted l.begun (λ tx. (stands.courses_are tx).greatest_is k))
+    is : kept ≡ compacted l.courses.begun (last_ballot facts)
+    is = e ∙ (λ k. compacted l.courses.begun (λ tx. (stands.courses_are tx).greatest_is k))
 
-    leads : Leads config number (compacted l.begun (last_ballot facts)) (last_ballot facts)
+    leads : Leads config number (compacted l.courses.begun (last_ballot facts)) (last_ballot facts)
     leads =
         compacted_leads config number (last_ballot facts)
-        (owned_after config number [] facts play (λ tx some. absurd (omega (arith, some)))) l.begun once stands.begun_are
+        (owned_after config number [] facts play (λ tx some. absurd (omega (arith, some)))) l.courses.begun once stands.begun_are
 
     alike : (tx : TxParts) → last_ballot kept tx ≡ last_ballot facts tx
     alike tx = ap (λ (fs : List Fact). last_ballot fs tx) is ∙ leads.ballots_are tx

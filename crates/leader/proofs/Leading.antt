@@ -294,7 +294,7 @@ stored_ballot facts tx other b more = greatest_with facts other (Fact.Ballot tx 
 
 pub store_stands : (config : Config) (number : ℕ) (inner old : LeaderParts) (courses : CoursesParts) (tx : TxParts) (b : ℕ)
     (facts : List Fact) (memory : LeaderMemory) → inner ≡ old → IsChanged inner.courses courses tx (after_ballot b (course_of inner tx))
-    → (course_of inner tx).greatest < b → list_any (tx_eq tx) inner.begun ≡ true
+    → (course_of inner tx).greatest < b → list_any (tx_eq tx) inner.courses.begun ≡ true
     → StandsForBallots config number old (last_ballot facts) memory
     → StandsForBallots config number (with_courses inner courses) (last_ballot (facts ++ Fact.Ballot tx b ∷ [])) memory
 store_stands config number inner old courses tx b facts memory is changed more there stands =
@@ -332,8 +332,8 @@ store_stands config number inner old courses tx b facts memory is changed more t
     (λ other. by other (tx_eq other tx) refl)
   where
     by : (other : TxParts) (t : Bool) → tx_eq other tx ≡ t → 0 < last_ballot (facts ++ Fact.Ballot tx b ∷ []) other
-        → list_any (tx_eq other) inner.begun ≡ true
-    by other true e some = subst (λ (x : TxParts). list_any (tx_eq x) inner.begun ≡ true) (sym (same_tx other tx e)) there
+        → list_any (tx_eq other) inner.courses.begun ≡ true
+    by other true e some = subst (λ (x : TxParts). list_any (tx_eq x) inner.courses.begun ≡ true) (sym (same_tx other tx e)) there
     by other false e some =
         let inside : StandsForBallots config number inner (last_ballot facts) memory = moved config number inner old
         (last_ballot facts) memory is stands in

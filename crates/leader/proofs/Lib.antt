@@ -1,8 +1,11 @@
 pub mod Basics
 pub mod Choosing
 pub mod PlaceSteps
+pub mod Listing
 pub mod Elsewhere
+pub mod Hearing
 pub mod Telling
+pub mod ToldPlaces
 pub mod Reporting
 pub mod Beginning
 pub mod Proposing

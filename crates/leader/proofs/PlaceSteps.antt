@@ -1,24 +1,49 @@
 -- The course of a transaction is found again.
-use Rattle.std.proofs.Common.{◌≡◌, ◌∙◌, ℕ, ◌+◌, ◌<◌, true, false, List, [], ◌∷◌, ◌++◌, length, get_or, set, Some, None}
+use Rattle.std.proofs.Common.{◌≡◌, ◌∙◌, ℕ, ◌+◌, ◌<◌, ◌≤◌, true, false, List, [], ◌∷◌, ◌++◌, length, get_or, set, Some, None}
 use Rattle.std.proofs.Common.{sym, ap, refl, subst, arith}
 use Rattle.std.specs.Prelude.{if◌then◌else◌, map}
-use Rattle.std.specs.List.{list_any}
-use Rattle.std.proofs.lemmas.Bool.{le-ltb, lt-ltb}
+use Rattle.std.specs.List.{list_any, AllByRecursion}
+use Rattle.std.proofs.lemmas.Bool.{lt-ltb}
 use Rattle.std.proofs.lemmas.List.{get_or_default, get_or_past, length-append}
 use Rattle.xid.specs.Transactions.{TxParts, BranchParts, tx_eq}
 use Rattle.transactions.specs.Seen.{place_in, seen_with}
 use Rattle.transactions.proofs.Keys.{absent_from_place}
-use Rattle.transactions.proofs.Rows.{row_added, row_changed, number_same, is_seen}
+use Rattle.transactions.proofs.Rows.{front, row_added, row_changed, number_same, is_seen}
 use Rattle.protocol.specs.declared.states.Status.{Status}
 use Rattle.leader.specs.Courses.{CourseParts, fresh, fresh_instance, status_by}
-use Rattle.leader.specs.Places.{CoursesParts, course_in, is_placed_in, IsPlaceOf, IsChanged, IsKept}
+use Rattle.leader.specs.Places.{CoursesParts, course_in, is_placed_in, no_transaction, at_places, IsPlaceOf, IsChanged, IsKept}
 use Rattle.leader.proofs.Basics.{same_tx}
+
+-- ---- those that begin, by their places
+
+abbrev pub AreInside : ℕ → List ℕ → Type 0
+AreInside n places = AllByRecursion (λ place. place < n) places
+
+-- each transaction has a row, and each of those that begin a place
+abbrev pub IsCourses : List TxParts → List CourseParts → List ℕ → Type 0
+IsCourses ts rows places = (length rows ≡ length ts) × AreInside (length ts) places
+
+still_inside : (places : List ℕ) (n m : ℕ) → n ≤ m → AreInside n places → AreInside m places
+still_inside [] n m more each = tt
+still_inside (place ∷ places) n m more each = (omega (arith, more, each.0), still_inside places n m more each.1)
+
+at_places_grown : (ts : List TxParts) (tx : TxParts) (places : List ℕ) → AreInside (length ts) places
+    → at_places (ts ++ tx ∷ []) places ≡ at_places ts places
+at_places_grown ts tx [] each = refl
+at_places_grown ts tx (place ∷ places) each =
+    λ k. front ts tx no_transaction place each.0 k ∷ at_places_grown ts tx places each.1 k
 
 -- ---- a look-up, by the fields that some courses are kept in
 
-module _ (ts : List TxParts) (rows : List CourseParts) (each : length rows ≡ length ts) (tx : TxParts) where
+abbrev pub courses_at : List TxParts → List CourseParts → List ℕ → CoursesParts
+courses_at ts rows places = record { transactions = ts; rows = rows; begun = at_places ts places }
+
+module _ (ts : List TxParts) (rows : List CourseParts) (places : List ℕ) (inside : IsCourses ts rows places) (tx : TxParts) where
+  each : length rows ≡ length ts
+  each = inside.0
+
   abbrev here : CoursesParts
-  here = record { transactions = ts; rows = rows }
+  here = courses_at ts rows places
 
   read_here : (i : ℕ) (old : CourseParts) → IsPlaceOf here tx (Some i) → old ≡ get_or rows i old → old ≡ course_in here tx
   read_here i old found read =
@@ -26,11 +51,14 @@ module _ (ts : List TxParts) (rows : List CourseParts) (each : length rows ≡ l
 
   changed_here : (f : CourseParts → CourseParts) (i : ℕ) (old new : CourseParts) → IsPlaceOf here tx (Some i)
       → old ≡ get_or rows i old → new ≡ f old
-      → IsChanged here (record { transactions = ts; rows = set rows i new }) tx (f (course_in here tx))
-  changed_here f i old new found read is other =
-      ap (λ k. get_or (set rows k new) (place_in ts other) (fresh other)) found.0
-      ∙ row_changed fresh ts rows each tx new (omega (arith, found)) other
-      ∙ ap (λ c. if tx_eq other tx then c else course_in here other) (is ∙ ap f (read_here i old found read))
+      → IsChanged here (courses_at ts (set rows i new) places) tx (f (course_in here tx))
+  changed_here f i old new found read is = record {
+    begun_is = refl;
+    courses_are = λ other.
+        ap (λ k. get_or (set rows k new) (place_in ts other) (fresh other)) found.0
+        ∙ row_changed fresh ts rows each tx new (omega (arith, found)) other
+        ∙ ap (λ c. if tx_eq other tx then c else course_in here other) (is ∙ ap f (read_here i old found read));
+  }
 
   module _ (courses : CoursesParts) (is : here ≡ courses) where
     -- no place: the course of one unknown
@@ -47,9 +75,9 @@ module _ (ts : List TxParts) (rows : List CourseParts) (each : length rows ≡ l
     -- another course in the place
     pub changed_at : (f : CourseParts → CourseParts) (i : ℕ) (old new : CourseParts) → IsPlaceOf courses tx (Some i)
         → old ≡ get_or rows i old → new ≡ f old
-        → IsChanged courses (record { transactions = ts; rows = set rows i new }) tx (f (course_in courses tx))
+        → IsChanged courses (courses_at ts (set rows i new) places) tx (f (course_in courses tx))
     changed_at f i old new found read changes =
-        subst (λ k. IsPlaceOf k tx (Some i) → IsChanged k (record { transactions = ts; rows = set rows i new }) tx (f (course_in k tx))) is
+        subst (λ k. IsPlaceOf k tx (Some i) → IsChanged k (courses_at ts (set rows i new) places) tx (f (course_in k tx))) is
         (λ there. changed_here f i old new there read changes) found
 
     -- ---- a place more
@@ -62,25 +90,29 @@ module _ (ts : List TxParts) (rows : List CourseParts) (each : length rows ≡ l
       last : us ≡ ts ++ tx ∷ []
       last = added ∙ ap (λ t. if t then ts else ts ++ tx ∷ []) (absent_from_place (tx_eq tx) ts none_here)
 
-      pub added_each : length more ≡ length us
-      added_each =
-          ap length pushed ∙ length-append rows (fresh tx ∷ []) ∙ ap (λ n. n + 1) each ∙ sym (length-append ts (tx ∷ []))
-          ∙ ap length (sym last)
+      abbrev there : CoursesParts
+      there = courses_at us more places
 
-      pub added_kept : IsKept courses (record { transactions = us; rows = more })
-      added_kept other =
-          (λ k. get_or (pushed k) (place_in (last k) other) (fresh other)) ∙ row_added fresh ts rows each tx none_here other
-          ∙ ap (λ k. course_in k other) is
+      pub added_inside : IsCourses us more places
+      added_inside = (
+        ap length pushed ∙ length-append rows (fresh tx ∷ []) ∙ ap (λ n. n + 1) each ∙ sym (length-append ts (tx ∷ []))
+            ∙ ap length (sym last),
+        still_inside places (length ts) (length us) (omega (arith, ap length last, length-append ts (tx ∷ []))) inside.1,
+      )
 
-      pub added_there : (i : ℕ) → i ≡ place_in ts tx → IsPlaceOf (record { transactions = us; rows = more }) tx (Some i)
+      pub added_kept : IsKept courses there
+      added_kept = record {
+        begun_is = (λ k. at_places (last k) places) ∙ at_places_grown ts tx places inside.1 ∙ ap (λ k. k.begun) is;
+        courses_are = λ other.
+            (λ k. get_or (pushed k) (place_in (last k) other) (fresh other)) ∙ row_added fresh ts rows each tx none_here other
+            ∙ ap (λ k. course_in k other) is;
+      }
+
+      pub added_there : (i : ℕ) → i ≡ place_in ts tx → IsPlaceOf there tx (Some i)
       added_there i at =
           let P : List TxParts → Type 0 = λ xs. (i ≡ place_in xs tx) × (i < length xs) in
           let same : i ≡ place_in (ts ++ tx ∷ []) tx = at ∙ number_same ts tx none_here in
           subst P (sym last) (same, omega (arith, same, is_seen ts tx none_here))
-
--- no place
-pub not_placed : (courses : CoursesParts) (tx : TxParts) → IsPlaceOf courses tx None → is_placed_in courses tx ≡ false
-not_placed courses tx none = le-ltb (place_in courses.transactions tx) (length courses.transactions) (omega (arith, none))
 
 -- a place
 pub is_placed_at : (courses : CoursesParts) (tx : TxParts) (i : ℕ) → IsPlaceOf courses tx (Some i) → is_placed_in courses tx ≡ true
@@ -89,17 +121,22 @@ is_placed_at courses tx i found =
 
 -- a course that stays
 pub not_changed : (courses : CoursesParts) (tx : TxParts) (c : CourseParts) → c ≡ course_in courses tx → IsChanged courses courses tx c
-not_changed courses tx c is other =
-    elim (tx_eq other tx) as (λ t. tx_eq other tx ≡ t → course_in courses other ≡ (if t then c else course_in courses other)) [
-      | true ↦ λ e. ap (course_in courses) (same_tx other tx e) ∙ sym is
-      | false ↦ λ e. refl
-    ] refl
+not_changed courses tx c is = record {
+  begun_is = refl;
+  courses_are = λ other.
+      elim (tx_eq other tx) as (λ t. tx_eq other tx ≡ t → course_in courses other ≡ (if t then c else course_in courses other)) [
+        | true ↦ λ e. ap (course_in courses) (same_tx other tx e) ∙ sym is
+        | false ↦ λ e. refl
+      ] refl;
+}
 
 -- a course changed after a place was made
 pub after_made : (old made new : CoursesParts) (tx : TxParts) (f : CourseParts → CourseParts) → IsKept old made
     → IsChanged made new tx (f (course_in made tx)) → IsChanged old new tx (f (course_in old tx))
-after_made old made new tx f kept changed other =
-    changed other ∙ (λ k. if tx_eq other tx then f (kept tx k) else kept other k)
+after_made old made new tx f kept changed = record {
+  begun_is = changed.begun_is ∙ kept.begun_is;
+  courses_are = λ other. changed.courses_are other ∙ (λ k. if tx_eq other tx then f (kept.courses_are tx k) else kept.courses_are other k);
+}
 
 -- ---- the status of one unknown
 

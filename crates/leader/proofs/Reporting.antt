@@ -109,9 +109,6 @@ report_step n tx b a item memory row now within stands =
     by_tests true false true is alike = absurd (false≢true (alike is))
     by_tests true false false is alike = this_instance n tx b a item memory row is now within stands
 
-heard_if : LeaderMemory → Kind → Bool → LeaderMemory
-heard_if memory m t = if t then memory else with_heard m memory
-
 still_current : (tx : TxParts) (memory : LeaderMemory) (m : Kind) (t : Bool) → current (if t then memory else with_heard m memory) tx
     ≡ current memory tx
 still_current tx memory m true = refl

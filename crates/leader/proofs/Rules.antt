@@ -80,7 +80,7 @@ pub changed_stands : (config : Config) (number : ℕ) (old : LeaderParts) (cours
     → IsChanged old.courses courses tx c → CourseStands config.acceptors after next tx c
     → ((other : TxParts) → tx_eq other tx ≡ false → CourseStands config.acceptors stored memory other (course_of old other)
     → CourseStands config.acceptors after next other (course_of old other))
-    → ((other : TxParts) → 0 < after other → list_any (tx_eq other) old.begun ≡ true)
+    → ((other : TxParts) → 0 < after other → list_any (tx_eq other) old.courses.begun ≡ true)
     → StandsForBallots config number (record old { courses = courses }) after next
 changed_stands config number old courses tx c stored after memory next stands changed new others begun = record {
   number_is = stands.number_is;
@@ -90,12 +90,13 @@ changed_stands config number old courses tx c stored after memory next stands ch
   bundled_is = stands.bundled_is;
   courses_are = λ other.
       let P : CourseParts → Type 0 = CourseStands config.acceptors after next other in
-      subst P (sym (changed other))
+      subst P (sym (changed.courses_are other))
       (elim (tx_eq other tx) as (λ t. tx_eq other tx ≡ t → P (if t then c else course_of old other)) [
         | true ↦ λ e. let Q : TxParts → Type 0 = λ x. CourseStands config.acceptors after next x c in subst Q (sym (same_tx other tx e)) new
         | false ↦ λ e. others other e (stands.courses_are other)
       ] refl);
-  begun_are = begun;
+  begun_are = λ x some.
+      subst (λ (txs : List TxParts). list_any (tx_eq x) txs ≡ true) (sym changed.begun_is) (begun x some);
 }
 
 pub agreed_stands : (config : Config) (number : ℕ) (old : LeaderParts) (courses : CoursesParts) (tx : TxParts) (c : CourseParts)
@@ -120,8 +121,9 @@ kept_stands config number old courses stored memory kept stands = record {
   bundled_is = stands.bundled_is;
   courses_are = λ other.
       let P : CourseParts → Type 0 = CourseStands config.acceptors stored memory other in
-      subst P (sym (kept other)) (stands.courses_are other);
-  begun_are = stands.begun_are;
+      subst P (sym (kept.courses_are other)) (stands.courses_are other);
+  begun_are = λ x some.
+      subst (λ (txs : List TxParts). list_any (tx_eq x) txs ≡ true) (sym kept.begun_is) (stands.begun_are x some);
 }
 
 -- ---- commit and ask

@@ -18,8 +18,8 @@ use Rattle.protocol.specs.LeaderMemory.{LeaderMemory, StoredBallots, is_accept_o
 use Rattle.protocol.specs.StandsFor.{accept_messages_of}
 use Rattle.leader.specs.declared.instance.InstanceCourse.{InstanceCourse}
 use Rattle.leader.specs.declared.instance.Told.{Told}
-use Rattle.leader.specs.Courses.{CourseParts, InstanceStands, CourseStands, nobody, joined, is_place_of, told_of, with_place, with_teller}
-use Rattle.leader.specs.Courses.{told_by}
+use Rattle.leader.specs.Courses.{CourseParts, InstanceStands, CourseStands, nobody, joined, is_place_of, told_of, with_member}
+use Rattle.leader.specs.Courses.{first_told, told_by}
 use Rattle.leader.specs.Courses.{with_decided, Telling, after_accept, telling_of, after_accepts}
 use Rattle.leader.proofs.Basics.{tx_self, nat_self, nat_turned, is_false}
 
@@ -81,35 +81,6 @@ same_key i b v j c w h = same_key_of i b v j c w (b == c) (vote_eq v w) (i == j)
 abbrev AreWhole : List Told → Type 0
 AreWhole rows = AllByRecursion (λ row. length row.members ≡ most_acceptors) rows
 
--- a place stays one
-kept_key : (j c : ℕ) (w : Vote) (i b : ℕ) (v : Vote) (a : ℕ) (row : Told) → is_place_of j c w (with_teller i b v a row)
-    ≡ is_place_of j c w row
-kept_key j c w i b v a row =
-    elim (is_place_of i b v row) as (λ t. is_place_of j c w (if t then record row { members = joined a row.members } else row)
-    ≡ is_place_of j c w row) [
-      | true ↦ refl
-      | false ↦ refl
-    ]
-
--- a place that is this one
-row_told : (j c : ℕ) (w : Vote) (i b : ℕ) (v : Vote) (a x : ℕ) (row : Told) (t : Bool) → is_place_of i b v row ≡ t → key_eq j c w i b v ≡ t
-    → a < length row.members → has (with_teller i b v a row).members x ≡ (((x == a) && key_eq j c w i b v) || has row.members x)
-row_told j c w i b v a x row true e f within =
-    ap (λ t. has (if t then record row { members = joined a row.members } else row).members x) e
-    ∙ has_joined row.members a x within ∙ ap (λ t. t || has row.members x) (sym (and_yes (x == a)))
-    ∙ sym (ap (λ t. ((x == a) && t) || has row.members x) f)
-  where
-    and_yes : (t : Bool) → (t && true) ≡ t
-    and_yes true = refl
-    and_yes false = refl
-row_told j c w i b v a x row false e f within =
-    ap (λ t. has (if t then record row { members = joined a row.members } else row).members x) e
-    ∙ ap (λ t. t || has row.members x) (sym (and_no (x == a))) ∙ sym (ap (λ t. ((x == a) && t) || has row.members x) f)
-  where
-    and_no : (t : Bool) → (t && false) ≡ false
-    and_no true = refl
-    and_no false = refl
-
 this_key : (j c : ℕ) (w : Vote) (i b : ℕ) (v : Vote) (row : Told) → is_place_of j c w row ≡ true → is_place_of i b v row
     ≡ key_eq j c w i b v
 this_key j c w i b v row h =
@@ -119,30 +90,7 @@ this_key j c w i b v row h =
 abbrev members_of : Told → List Bool
 members_of row = row.members
 
--- an acceptor tells at places that are there
-told_mapped : (j c : ℕ) (w : Vote) (i b : ℕ) (v : Vote) (a x : ℕ) (rows : List Told) → AreWhole rows → a < most_acceptors
-    → (key_eq j c w i b v ≡ true → list_any (is_place_of j c w) rows ≡ true)
-    → has (told_of (map (with_teller i b v a) rows) j c w) x ≡ (((x == a) && key_eq j c w i b v) || has (told_of rows j c w) x)
-told_mapped j c w i b v a x [] whole within there =
-    sym (ap (λ t. ((x == a) && t) || false) (is_false (key_eq j c w i b v) (λ e. false≢true (there e))) ∙ no_and (x == a))
-  where
-    no_and : (t : Bool) → ((t && false) || false) ≡ false
-    no_and true = refl
-    no_and false = refl
-told_mapped j c w i b v a x (row ∷ rows) whole within there =
-    ap (λ s. has (option_map_or members_of (cond s (Some (with_teller i b v a row)) (find (is_place_of j c w) (map
-    (with_teller i b v a) rows))) []) x)
-    (kept_key j c w i b v a row)
-    ∙ (elim (is_place_of j c w row) as (λ t. is_place_of j c w row ≡ t
-    → has (option_map_or members_of (cond t (Some (with_teller i b v a row)) (find (is_place_of j c w) (map
-    (with_teller i b v a) rows))) []) x
-    ≡ (((x == a) && key_eq j c w i b v) || has (option_map_or members_of (cond t (Some row) (find (is_place_of j c w) rows)) []) x)) [
-      | true ↦ λ e. row_told j c w i b v a x row (key_eq j c w i b v) (this_key j c w i b v row e) refl (omega (arith, whole.0, within))
-      | false ↦ λ e. told_mapped j c w i b v a x rows whole.1 within
-          (λ f. sym (ap (λ t. t || list_any (is_place_of j c w) rows) e) ∙ there f)
-    ] refl)
-
--- a place made says nothing
+-- nobody has told
 none_of : (n x : ℕ) → get_or (replicate n false) x false ≡ false
 none_of zero x = refl
 none_of (suc n) zero = refl
@@ -151,77 +99,70 @@ none_of (suc n) (suc x) = none_of n x
 pub has_nobody : (x : ℕ) → has nobody x ≡ false
 has_nobody x = none_of most_acceptors x
 
-told_pushed : (j c : ℕ) (w : Vote) (row : Told) (x : ℕ) (rows : List Told) → row.members ≡ nobody
-    → has (told_of (rows ++ row ∷ []) j c w) x ≡ has (told_of rows j c w) x
-told_pushed j c w row x [] empty =
-    elim (is_place_of j c w row) as (λ t. has (option_map_or members_of (cond t (Some row) None) []) x ≡ false) [
-      | true ↦ ap (λ m. has m x) empty ∙ has_nobody x
-      | false ↦ refl
-    ]
-told_pushed j c w row x (first ∷ rows) empty =
-    elim (is_place_of j c w first) as (λ t. has (option_map_or members_of (cond t (Some first) (find (is_place_of j c w)
-    (rows ++ row ∷ []))) []) x
-    ≡ has (option_map_or members_of (cond t (Some first) (find (is_place_of j c w) rows)) []) x) [
-      | true ↦ refl
-      | false ↦ told_pushed j c w row x rows empty
-    ]
-
-any_pushed : (j c : ℕ) (w : Vote) (row : Told) (rows : List Told) → is_place_of j c w row ≡ true
-    → list_any (is_place_of j c w) (rows ++ row ∷ []) ≡ true
-any_pushed j c w row [] h = ap (λ t. t || false) h
-any_pushed j c w row (first ∷ rows) h =
-    ap (λ t. is_place_of j c w first || t) (any_pushed j c w row rows h) ∙ or_yes (is_place_of j c w first)
-  where
-    or_yes : (t : Bool) → (t || true) ≡ true
-    or_yes true = refl
-    or_yes false = refl
-
-whole_pushed : (row : Told) (rows : List Told) → length row.members ≡ most_acceptors → AreWhole rows → AreWhole (rows ++ row ∷ [])
-whole_pushed row [] h whole = (h, tt)
-whole_pushed row (first ∷ rows) h whole = (whole.0, whole_pushed row rows h whole.1)
-
-whole_mapped : (i b : ℕ) (v : Vote) (a : ℕ) (rows : List Told) → AreWhole rows → AreWhole (map (with_teller i b v a) rows)
-whole_mapped i b v a [] whole = tt
-whole_mapped i b v a (row ∷ rows) whole = (
-  elim (is_place_of i b v row) as (λ t. length (if t then record row { members = joined a row.members } else row).members
-      ≡ most_acceptors) [
-        | true ↦ length-set row.members a true ∙ whole.0
-        | false ↦ whole.0
-      ],
-  whole_mapped i b v a rows whole.1,
-)
-
 -- ---- who told, after one more
 
-record IsPlaceMade (i b : ℕ) (v : Vote) (rows made : List Told) : Type 0 where
-  whole : AreWhole made
-  alike : (j c : ℕ) (w : Vote) (x : ℕ) → has (told_of made j c w) x ≡ has (told_of rows j c w) x
-  there : list_any (is_place_of i b v) made ≡ true
+and_yes : (t : Bool) → (t && true) ≡ t
+and_yes true = refl
+and_yes false = refl
 
-place_made : (i b : ℕ) (v : Vote) (rows : List Told) → AreWhole rows → IsPlaceMade i b v rows (with_place i b v rows)
-place_made i b v rows whole =
-    let row : Told = record { instance = i; ballot = b; vote = v; members = nobody } in
-    elim (list_any (is_place_of i b v) rows) as (λ t. list_any (is_place_of i b v) rows ≡ t
-    → IsPlaceMade i b v rows (if t then rows else rows ++ row ∷ [])) [
-      | true ↦ λ e. record { whole = whole; alike = λ j c w x. refl; there = e }
-      | false ↦ λ e. record {
-        whole = whole_pushed row rows refl whole;
-        alike = λ j c w x. told_pushed j c w row x rows refl;
-        there = any_pushed i b v row rows (λ k. nat_self b k && vote_self v k && nat_self i k);
-      }
-    ] refl
+and_no : (t : Bool) → (t && false) ≡ false
+and_no true = refl
+and_no false = refl
+
+-- at the place
+joined_at : (x a : ℕ) (key : Bool) (members : List Bool) → key ≡ true → a < length members
+    → has (joined a members) x ≡ (((x == a) && key) || has members x)
+joined_at x a key members e within =
+    has_joined members a x within ∙ ap (λ t. t || has members x) (sym (and_yes (x == a)))
+    ∙ sym (ap (λ t. ((x == a) && t) || has members x) e)
+
+-- at another
+stays_at : (x a : ℕ) (key rest : Bool) → key ≡ false → rest ≡ (((x == a) && key) || rest)
+stays_at x a key rest e = sym (ap (λ t. ((x == a) && t) || rest) e ∙ ap (λ t. t || rest) (and_no (x == a)))
+
+other_key : (j c : ℕ) (w : Vote) (i b : ℕ) (v : Vote) (row : Told) → is_place_of i b v row ≡ true → is_place_of j c w row ≡ false
+    → key_eq j c w i b v ≡ false
+other_key j c w i b v row e f = is_false (key_eq j c w i b v) (λ h.
+    let same : IsSameKey j c w i b v = same_key j c w i b v h in
+    false≢true (sym f ∙ (λ k. is_place_of (same.instance_is k) (same.ballot_is k) (same.vote_is k) row) ∙ e))
+
+told_first : (j c : ℕ) (w : Vote) (i b : ℕ) (v : Vote) (a x : ℕ) → a < most_acceptors
+    → has (told_of (first_told i b v a ∷ []) j c w) x ≡ (((x == a) && key_eq j c w i b v) || false)
+told_first j c w i b v a x within =
+    elim (key_eq j c w i b v) as (λ t. has (option_map_or members_of (cond t (Some (first_told i b v a)) None) []) x
+    ≡ (((x == a) && t) || false)) [
+      | true ↦ joined_at x a true nobody refl within ∙ ap (λ t. ((x == a) && true) || t) (has_nobody x)
+      | false ↦ stays_at x a false false refl
+    ]
 
 pub told_step : (j c : ℕ) (w : Vote) (i b : ℕ) (v : Vote) (a x : ℕ) (rows : List Told) → AreWhole rows → a < most_acceptors
     → has (told_of (told_by i b v a rows) j c w) x ≡ (((x == a) && key_eq j c w i b v) || has (told_of rows j c w) x)
-told_step j c w i b v a x rows whole within =
-    let made : IsPlaceMade i b v rows (with_place i b v rows) = place_made i b v rows whole in
-    told_mapped j c w i b v a x (with_place i b v rows) made.whole within (λ e.
-    let same : IsSameKey j c w i b v = same_key j c w i b v e in
-    (λ k. list_any (is_place_of (same.instance_is k) (same.ballot_is k) (same.vote_is k)) (with_place i b v rows)) ∙ made.there)
-    ∙ ap (λ t. ((x == a) && key_eq j c w i b v) || t) (made.alike j c w x)
+told_step j c w i b v a x [] whole within = told_first j c w i b v a x within
+told_step j c w i b v a x (row ∷ rows) whole within =
+    by (is_place_of i b v row) (is_place_of j c w row) refl refl (told_step j c w i b v a x rows whole.1 within)
+  where
+    found : Told → List Told → Bool → Bool
+    found first rest t = has (option_map_or members_of (cond t (Some first) (find (is_place_of j c w) rest)) []) x
+
+    by : (t s : Bool) → is_place_of i b v row ≡ t → is_place_of j c w row ≡ s
+        → has (told_of (told_by i b v a rows) j c w) x ≡ (((x == a) && key_eq j c w i b v) || has (told_of rows j c w) x)
+        → has (told_of (if t then with_member a row ∷ rows else row ∷ told_by i b v a rows) j c w) x
+        ≡ (((x == a) && key_eq j c w i b v) || found row rows s)
+    by true true e f rest = ap (found (with_member a row) rows) f
+        ∙ joined_at x a (key_eq j c w i b v) row.members (sym (this_key j c w i b v row f) ∙ e) (omega (arith, whole.0, within))
+    by true false e f rest = ap (found (with_member a row) rows) f
+        ∙ stays_at x a (key_eq j c w i b v) (has (told_of rows j c w) x) (other_key j c w i b v row e f)
+    by false true e f rest = ap (found row (told_by i b v a rows)) f
+        ∙ stays_at x a (key_eq j c w i b v) (has row.members x) (sym (this_key j c w i b v row f) ∙ e)
+    by false false e f rest = ap (found row (told_by i b v a rows)) f ∙ rest
 
 pub whole_step : (i b : ℕ) (v : Vote) (a : ℕ) (rows : List Told) → AreWhole rows → AreWhole (told_by i b v a rows)
-whole_step i b v a rows whole = whole_mapped i b v a (with_place i b v rows) (place_made i b v rows whole).whole
+whole_step i b v a [] whole = (length-set nobody a true, tt)
+whole_step i b v a (row ∷ rows) whole = by (is_place_of i b v row) (whole_step i b v a rows whole.1)
+  where
+    by : (t : Bool) → AreWhole (told_by i b v a rows) → AreWhole (if t then with_member a row ∷ rows else row ∷ told_by i b v a rows)
+    by true rest = (length-set row.members a true ∙ whole.0, whole.1)
+    by false rest = (whole.0, rest)
 
 -- ---- what is decided, after one message more
 
@@ -376,10 +317,6 @@ row_decides n tx i b v a memory row is stands =
     (ap (λ t. ((vote_eq Vote.Aborted v && (row.instance == i)) && true) || t) stands.aborted_is
     ∙ flag n tx i b v a memory.heard row.instance Vote.Aborted true is)
     stands)
-
-and_no : (t : Bool) → (t && false) ≡ false
-and_no true = refl
-and_no false = refl
 
 row_stays : (n : ℕ) (tx : TxParts) (i b : ℕ) (v : Vote) (a : ℕ) (memory : LeaderMemory) (row : InstanceCourse)
     → false ≡ is_told n (P2b tx i b v a ∷ memory.heard) tx i v b

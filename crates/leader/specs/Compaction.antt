@@ -28,7 +28,7 @@ pub record SaysTheSame (config : Config) (number : ℕ) (kept facts : List Fact)
 
 -- facts are a leader's greatest ballots, of each transaction in the order in which it began them, and say the same as others
 pub record IsCompacted (leader : LeaderParts) (kept : List Fact) (config : Config) (number : ℕ) (facts : List Fact) : Type 0 where
-  pub list : kept ≡ compacted leader.begun (last_ballot facts)
+  pub list : kept ≡ compacted leader.courses.begun (last_ballot facts)
   pub same : SaysTheSame config number kept facts
 
 -- facts to keep in place of whatever plays and a leader stands for

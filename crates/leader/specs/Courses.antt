@@ -8,6 +8,7 @@ use Rattle.xid.specs.Transactions.{TxParts, participants}
 use Rattle.xid.specs.declared.transaction.Vote.{Vote}
 use Rattle.wire.specs.declared.items.InstanceReport.{InstanceReport}
 use Rattle.wire.specs.declared.items.InstanceAccept.{InstanceAccept}
+use Rattle.ballot.specs.Choice.{Report}
 use Rattle.ballot.specs.Majority.{has, is_majority}
 use Rattle.protocol.specs.declared.states.Status.{Status}
 use Rattle.protocol.specs.Facts.{vote_eq}
@@ -59,6 +60,16 @@ with_report a item row =
     then record row { reporters = joined a row.reporters; best = merged item.report row.best }
     else row
 
+-- the same, of an acceptor whose report is of this instance
+abbrev pub with_said : ℕ → Report → InstanceCourse → InstanceCourse
+with_said a report row =
+    if not (has row.reporters a) then record row { reporters = joined a row.reporters; best = merged report row.best } else row
+
+-- the first of some reports of instance i
+abbrev pub first_report : (i : ℕ) → List InstanceReport → Option Report
+first_report i [] = None
+first_report i (item ∷ items) = if item.instance == i then Some item.report else first_report i items
+
 -- an instance after some reports
 abbrev pub with_reports : ℕ → List InstanceReport → InstanceCourse → InstanceCourse
 with_reports a [] row = row
@@ -102,19 +113,37 @@ is_place_of i b v row = (b == row.ballot) && vote_eq v row.vote && (i == row.ins
 abbrev pub told_of : List Told → ℕ → ℕ → Vote → List Bool
 told_of rows i b v = option_map_or (λ row. row.members) (find (is_place_of i b v) rows) []
 
--- a place for a ballot and value of an instance
-abbrev pub with_place : ℕ → ℕ → Vote → List Told → List Told
-with_place i b v rows =
-    if list_any (is_place_of i b v) rows then rows
-    else rows ++ record { instance = i; ballot = b; vote = v; members = nobody } ∷ []
+-- a place with an acceptor more
+abbrev pub with_member : ℕ → Told → Told
+with_member a row = record row { members = joined a row.members }
 
--- an acceptor more at a place
-abbrev pub with_teller : ℕ → ℕ → Vote → ℕ → Told → Told
-with_teller i b v a row = if is_place_of i b v row then record row { members = joined a row.members } else row
+-- the same, where the acceptor may be there already
+abbrev pub with_teller : ℕ → Told → Told
+with_teller a row = if has row.members a then row else with_member a row
+
+-- whether it makes those there a majority of n
+abbrev pub completes : ℕ → ℕ → Told → Bool
+completes n a row = not (has row.members a) && is_majority n (has (joined a row.members))
+
+-- a place for a ballot and value of an instance, which an acceptor is the first to tell
+abbrev pub first_told : ℕ → ℕ → Vote → ℕ → Told
+first_told i b v a = record { instance = i; ballot = b; vote = v; members = joined a nobody }
 
 -- who told, and this acceptor of a ballot and value of an instance
 abbrev pub told_by : ℕ → ℕ → Vote → ℕ → List Told → List Told
-told_by i b v a rows = map (with_teller i b v a) (with_place i b v rows)
+told_by i b v a [] = first_told i b v a ∷ []
+told_by i b v a (row ∷ rows) = if is_place_of i b v row then with_member a row ∷ rows else row ∷ told_by i b v a rows
+
+-- the same, where the acceptor may have told it before
+abbrev pub told_once : ℕ → InstanceAccept → List Told → List Told
+told_once a item rows =
+    if has (told_of rows item.instance item.ballot item.vote) a then rows else told_by item.instance item.ballot item.vote a rows
+
+-- whether an acceptor makes those that told it a majority of n; where it told it before, it makes none
+abbrev pub makes_majority : ℕ → ℕ → InstanceAccept → List Told → Bool
+makes_majority n a item rows =
+    not (has (told_of rows item.instance item.ballot item.vote) a)
+    && is_majority n (has (told_of (told_by item.instance item.ballot item.vote a rows) item.instance item.ballot item.vote))
 
 -- an instance, where it is the one that has decided a value
 abbrev pub with_decided : ℕ → Vote → InstanceCourse → InstanceCourse

@@ -1,5 +1,5 @@
 -- What contracts see of a leader, and which state of the machine it stands for.
-use Rattle.std.specs.Prelude.{◌≡◌, ℕ, ◌<◌, ◌^◌, ◌&&◌, Some, None, Bool, true, IsTrue, List, [], if◌then◌else◌, nat_lt, Result, Ok, Err}
+use Rattle.std.specs.Prelude.{◌≡◌, ℕ, ◌<◌, ◌^◌, Some, None, Bool, true, IsTrue, List, [], if◌then◌else◌, nat_lt, Result, Ok, Err}
 use Rattle.std.specs.List.{list_all, list_any}
 use Rattle.xid.specs.Transactions.{TxParts, tx_eq}
 use Rattle.xid.specs.declared.refusals.Refusal.{Refusal}
@@ -17,12 +17,11 @@ use Rattle.protocol.specs.Leaders.{plays_at_leader, is_final, outcome_messages}
 use Rattle.stable_record.specs.Parts.{Part}
 use Rattle.leader.specs.declared.decision.LeaderDecision.{LeaderDecision}
 use Rattle.leader.specs.Courses.{CourseParts, CourseStands}
-use Rattle.leader.specs.Places.{CoursesParts, course_in, is_placed_in}
+use Rattle.leader.specs.Places.{CoursesParts, course_in, is_ready_in}
 use Rattle.leader.specs.Decisions.{shown}
 use Rattle.leader.specs.Orders.{prepare_messages, phase_1a_by}
 
--- which leader it is, of which cluster, the transactions that it has a course of, and those for which it was made ready to store a
--- ballot, in the order of the first
+-- which leader it is, of which cluster, and the transactions that it has a course of
 pub record LeaderParts : Type 0 where
   pub number : ℕ
   pub acceptors : ℕ
@@ -30,15 +29,10 @@ pub record LeaderParts : Type 0 where
   pub managers : ℕ
   pub bundled : Bool
   pub courses : CoursesParts
-  pub begun : List TxParts
 
 -- the course of a transaction
 abbrev pub course_of : LeaderParts → TxParts → CourseParts
 course_of leader tx = course_in leader.courses tx
-
--- whether a ballot of a transaction can be stored with no memory more: it has a place, and stands among those that begin
-abbrev pub is_ready : LeaderParts → TxParts → Bool
-is_ready leader tx = is_placed_in leader.courses tx && list_any (tx_eq tx) leader.begun
 
 -- a leader is this one of a cluster, and answers each question as its stored ballots and memory do; each transaction of a stored ballot
 -- is among those that begin
@@ -50,7 +44,7 @@ pub record StandsForBallots (config : Config) (number : ℕ) (leader : LeaderPar
   pub managers_are : leader.managers ≡ config.managers
   pub bundled_is : leader.bundled ≡ config.bundled
   pub courses_are : (tx : TxParts) → CourseStands config.acceptors stored memory tx (course_of leader tx)
-  pub begun_are : (tx : TxParts) → 0 < stored tx → list_any (tx_eq tx) leader.begun ≡ true
+  pub begun_are : (tx : TxParts) → 0 < stored tx → list_any (tx_eq tx) leader.courses.begun ≡ true
 
 -- the same by the facts of its record
 abbrev pub StandsFor : (config : Config) (number : ℕ) (leader : LeaderParts) (facts : List Fact) (memory : LeaderMemory) → Type 0
@@ -92,7 +86,7 @@ leader_part config number memory = record {
 }
   where
     IsReady : LeaderParts → Fact → Type 0
-    IsReady leader (Fact.Ballot tx b) = IsTrue (is_ready leader tx)
+    IsReady leader (Fact.Ballot tx b) = IsTrue (is_ready_in leader.courses tx)
     IsReady leader fact = Unit {0}
 
 -- what a commit call sends, by the status

@@ -6,7 +6,6 @@ ghost use Rattle.leader.specs.Compaction.{ballot_facts, compacted};
 use crate::courses::Courses;
 use stable_record::{Fact, FactKind};
 use std::alloc::Global;
-use transactions::Transactions;
 use xid::{Ballot, Refusal, Tx};
 
 /// Puts the greatest ballot of a transaction, if it has one, after other facts.
@@ -22,17 +21,13 @@ fn put_ballot(facts: &mut Vec<Fact>, tx: &Tx, ballot: Ballot) -> Result<(), Refu
 }
 
 /// The greatest ballot of each transaction that has one, in the order of those that begin.
-pub fn facts_of(
-    alloc: Global,
-    courses: &Courses,
-    begun: &Transactions,
-) -> Result<Vec<Fact>, Refusal>
-    ensures ok { IfOk result (λ facts. facts.items ≡ compacted begun.now (λ tx. (course_in courses.now tx).greatest)) }
+pub fn facts_of(alloc: Global, courses: &Courses) -> Result<Vec<Fact>, Refusal>
+    ensures ok { IfOk result (λ facts. facts.items ≡ compacted courses.now.begun (λ tx. (course_in courses.now tx).greatest)) }
     ensures err { IfErr result (λ e. e ≡ NoMemory) }
 {
     let mut facts = Vec::new(alloc);
-    for number in 0..begun.len() {
-        let Some(tx) = begun.get(number) else {
+    for i in 0..courses.begun_count() {
+        let Some(tx) = courses.begun_at(i) else {
             unreachable!();
         };
         let place = courses.place_of(&tx);

@@ -1,18 +1,16 @@
-ghost use Rattle.std.specs.Prelude.{◌≡◌, ◌+◌, ◌<◌, ◌≤◌, [], length, map, OnOk, IfOk, IfErr, vec_len};
+ghost use Rattle.std.specs.Prelude.{◌≡◌, ◌+◌, ◌<◌, ◌≤◌, [], length, map, position, OnOk, IfOk, IfErr, vec_len};
 ghost use Rattle.std.specs.List.{list_any, list_all};
-ghost use Rattle.std.specs.Option.{option_map_or};
 ghost use Rattle.std.specs.Vec.{vec_capacity};
 ghost use Rattle.xid.specs.Limits.{most_acceptors, most_branches};
 ghost use Rattle.xid.specs.Transactions.{participants};
 ghost use Rattle.xid.specs.declared.refusals.Refusal.TheVariants.{NoMemory};
-ghost use Rattle.ballot.specs.Majority.{has, is_majority};
 ghost use Rattle.protocol.specs.Leaders.{is_final as is_final_lem};
 ghost use Rattle.leader.specs.Courses.{fresh, fresh_instance, proposals_of as proposals_of_lem, proposal_at as proposal_at_lem};
 ghost use Rattle.leader.specs.Courses.{after_accept};
 ghost use Rattle.leader.specs.Courses.{after_each_accept, after_accepts, after_meeting, after_beginning, after_ballot, status_in};
 ghost use Rattle.leader.specs.Courses.{status_by as status_by_lem};
 ghost use Rattle.leader.specs.Courses.{counts_report, proposals_after_1b, after_1b, after_2b, status_after_2b};
-ghost use Rattle.leader.specs.Courses.{told_of, is_place_of, with_place, with_teller, with_decided, with_nothing_reported, with_reports};
+ghost use Rattle.leader.specs.Courses.{is_place_of, told_once, makes_majority, with_decided, with_nothing_reported, with_reports};
 ghost use Rattle.leader.specs.Courses.{with_proposals};
 
 use crate::instance::{InstanceCourse, Told};
@@ -288,72 +286,29 @@ fn proposal_at(rows: &[InstanceCourse], acceptors: u8, instance: ManagerNumber) 
     None
 }
 
-/// Who told of what this acceptor tells.
-fn tellers(rows: &[Told], item: &InstanceAccept) -> Option<Quorum>
-    ensures { option_map_or (λ members. members) result [] ≡ told_of rows.now item.now.instance item.now.ballot item.now.vote }
+/// The place of what is told, where there is one.
+fn place_of(rows: &[Told], item: &InstanceAccept) -> Option<usize>
+    ensures { result ≡ position (is_place_of item.now.instance item.now.ballot item.now.vote) rows.now }
 {
-    for row in rows {
-        if row.is_of(item) {
-            return Some(row.members);
-        }
-    }
-    None
+    rows.iter().position(|row| row.is_of(item))
 }
 
-/// Whether there is a place for what is told.
-fn has_place(rows: &[Told], item: &InstanceAccept) -> bool
-    ensures { result ≡ list_any (is_place_of item.now.instance item.now.ballot item.now.vote) rows.now }
-{
-    rows.iter().any(|row| row.is_of(item))
-}
-
-/// A place for what is told, where there is none.
-fn make_place(rows: &mut Vec<Told>, item: &InstanceAccept)
-    requires { vec_len rows.old < vec_capacity rows.old }
-    ensures items { rows.new.items ≡ with_place item.now.instance item.now.ballot item.now.vote rows.old.items }
+/// An acceptor tells. Whether it makes those that told the same a majority. There is room for a place more.
+fn tell(rows: &mut Vec<Told>, acceptors: u8, acceptor: u8, item: &InstanceAccept) -> bool
+    requires acceptors { acceptors ≤ most_acceptors }
+    requires acceptor { acceptor < most_acceptors }
+    requires room { vec_len rows.old < vec_capacity rows.old }
+    ensures result { result ≡ makes_majority acceptors acceptor item.now rows.old.items }
+    ensures items { rows.new.items ≡ told_once acceptor item.now rows.old.items }
     ensures len { vec_len rows.new ≤ vec_len rows.old + 1 }
     ensures capacity { vec_capacity rows.new ≡ vec_capacity rows.old }
 {
-    if has_place(rows, item) {
-        return;
+    if let Some(place) = place_of(rows, item) {
+        return rows[place].tell(acceptors, acceptor);
     }
-    rows.push_reserved(Told {
-        instance: item.instance,
-        ballot: item.ballot,
-        vote: item.vote,
-        members: Quorum::new(),
-    });
-}
-
-fn add_teller(rows: &mut [Told], acceptor: u8, item: &InstanceAccept)
-    requires { acceptor < most_acceptors }
-    ensures { rows.new ≡ map (with_teller item.now.instance item.now.ballot item.now.vote acceptor) rows.old }
-{
-    for row in rows.iter_mut() {
-        row.add(acceptor, item);
-    }
-}
-
-/// Whether an acceptor is among those that told.
-fn has_told(rows: &[Told], acceptor: u8, item: &InstanceAccept) -> bool
-    requires { acceptor < most_acceptors }
-    ensures { result ≡ has (told_of rows.now item.now.instance item.now.ballot item.now.vote) acceptor }
-{
-    match tellers(rows, item) {
-        Some(members) => members.has(acceptor),
-        None => false,
-    }
-}
-
-/// Whether those that told are a majority.
-fn is_decided(rows: &[Told], acceptors: u8, item: &InstanceAccept) -> bool
-    requires { acceptors ≤ most_acceptors }
-    ensures { result ≡ is_majority acceptors (has (told_of rows.now item.now.instance item.now.ballot item.now.vote)) }
-{
-    match tellers(rows, item) {
-        Some(members) => members.majority(acceptors),
-        None => Quorum::new().majority(acceptors),
-    }
+    let row = Told::first(acceptor, item);
+    rows.push_reserved(row);
+    row.members.majority(acceptors)
 }
 
 /// An acceptor told of an instance. There is room for a place more.
@@ -372,12 +327,7 @@ fn hear_accept(
     ensures len { vec_len told.new ≤ vec_len told.old + 1 }
     ensures capacity { vec_capacity told.new ≡ vec_capacity told.old }
 {
-    if has_told(told, acceptor, item) {
-        return;
-    }
-    make_place(told, item);
-    add_teller(told, acceptor, item);
-    if is_decided(told, acceptors, item) {
+    if tell(told, acceptors, acceptor, item) {
         mark_all_decided(instances, item.instance, item.vote);
     }
 }

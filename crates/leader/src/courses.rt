@@ -1,11 +1,13 @@
-ghost use Rattle.std.specs.Prelude.{◌≡◌, ◌<◌, ◌≤◌, true, false, [], length, Some, IfOk, OnOk, IfErr, OnErr};
+ghost use Rattle.std.specs.Prelude.{◌≡◌, ◌<◌, ◌≤◌, true, false, [], length, slice_get, Some, IfOk, OnOk, IfErr, OnErr};
+ghost use Rattle.std.specs.List.{IsDistinct, list_any};
 ghost use Rattle.xid.specs.Limits.{most_acceptors, most_branches};
 ghost use Rattle.xid.specs.declared.refusals.Refusal.TheVariants.{NoMemory};
+ghost use Rattle.xid.specs.Transactions.{tx_eq};
 ghost use Rattle.transactions.specs.Seen.{place_in};
 ghost use Rattle.protocol.specs.Leaders.{is_final};
 ghost use Rattle.leader.specs.Courses.{after_meeting, after_ballot, after_beginning, after_1b, proposals_after_1b, after_2b};
 ghost use Rattle.leader.specs.Courses.{status_after_2b, status_in};
-ghost use Rattle.leader.specs.Places.{course_in, is_placed_in, IsPlaceOf, IsChanged, IsKept};
+ghost use Rattle.leader.specs.Places.{course_in, is_placed_in, is_ready_in, with_beginning, IsPlaceOf, IsChanged, IsKept, IsGrown};
 ghost use Rattle.leader.specs.Compaction.{compacted};
 
 use crate::compaction::facts_of;
@@ -15,7 +17,7 @@ use protocol::Status;
 use stable_record::Fact;
 use std::alloc::Global;
 use std::marker::Model;
-use transactions::Transactions;
+use transactions::{Order, Transactions};
 use wire::{InstanceAccept, InstanceReport};
 use xid::{Ballot, Refusal, Tx};
 
@@ -26,28 +28,37 @@ pub struct Courses {
     alloc: Global,
     transactions: Transactions,
     rows: Vec<Course>,
+    /// The places of those for which a ballot was to be stored, in the order of the first.
+    begun: Order,
 }
 
 impl Model for Courses {
-    ghost use Rattle.std.specs.Prelude.{◌≡◌, length};
-    ghost use Rattle.leader.specs.Places.{CoursesParts};
+    ghost use Rattle.std.specs.Prelude.{◌≡◌, ◌<◌, length};
+    ghost use Rattle.std.specs.List.{AllByRecursion};
+    ghost use Rattle.leader.specs.Places.{CoursesParts, at_places};
 
     ghost Value = { CoursesParts };
 
-    ghost view = { λ c. record { transactions = c.transactions; rows = c.rows.items } };
+    ghost view = { λ c. record {
+      transactions = c.transactions;
+      rows = c.rows.items;
+      begun = at_places c.transactions c.begun;
+    } };
 
-    ghost invariant = { λ c. length c.rows.items ≡ length c.transactions };
+    ghost invariant = { λ c. (length c.rows.items ≡ length c.transactions)
+        × AllByRecursion (λ place. place < length c.transactions) c.begun };
 }
 
 impl Courses {
     /// No transaction. It takes no memory.
     pub fn new(alloc: Global) -> Courses
-        ensures { result ≡ record { transactions = []; rows = [] } }
+        ensures { result ≡ record { transactions = []; rows = []; begun = [] } }
     {
         Courses {
             alloc,
             transactions: Transactions::new(alloc),
             rows: Vec::new(alloc),
+            begun: Order::new(alloc),
         }
     }
 
@@ -154,18 +165,47 @@ impl Courses {
         }
     }
 
-    /// A greater ballot of a transaction was stored, whose place was looked up. At `NoMemory`, the only refusal, it has none, and
-    /// nothing changes.
+    /// Puts a transaction among those that begin, unless it is there. At `NoMemory`, the only refusal, it isn't there, and nothing changes.
+    fn list(&mut self, tx: &Tx, place: usize) -> Result<(), Refusal>
+        requires { IsPlaceOf self.old tx.now (Some place) }
+        ensures ok { OnOk result (self.new ≡ with_beginning self.old tx.now) }
+        ensures err { IfErr result (λ e. e ≡ NoMemory) }
+        ensures absent { OnErr result (list_any (tx_eq tx.now) self.old.begun ≡ false) }
+        ensures kept { OnErr result (self.new ≡ self.old) }
+    {
+        let _ = self.transactions.len();
+        self.begun.add(place)
+    }
+
+    /// A place for a transaction, also among those that begin. At `NoMemory`, the only refusal, it may have a place of the first kind.
+    pub fn make_ready(&mut self, tx: &Tx) -> Result<(), Refusal>
+        ensures ready { OnOk result (is_ready_in self.new tx.now ≡ true) }
+        ensures grown { IsGrown self.old self.new }
+        ensures err { IfErr result (λ e. e ≡ NoMemory) }
+    {
+        let place = match self.make_place(tx) {
+            Ok(place) => place,
+            Err(refusal) => return Err(refusal),
+        };
+        self.list(tx, place)
+    }
+
+    /// A greater ballot of a transaction was stored, whose place was looked up. At `NoMemory`, the only refusal, it wasn't ready, and
+    /// its course stays.
     pub fn store(&mut self, tx: &Tx, place: Option<usize>, ballot: Ballot) -> Result<(), Refusal>
         requires { IsPlaceOf self.old tx.now place }
-        ensures now { OnOk result (IsChanged self.old self.new tx.now (after_ballot ballot (course_in self.old tx.now))) }
+        ensures now { OnOk result (IsChanged (with_beginning self.old tx.now) self.new tx.now
+            (after_ballot ballot (course_in self.old tx.now))) }
         ensures err { IfErr result (λ e. e ≡ NoMemory) }
         ensures kept { OnErr result (IsKept self.old self.new) }
-        ensures absent { OnErr result (is_placed_in self.old tx.now ≡ false) }
+        ensures absent { OnErr result (is_ready_in self.old tx.now ≡ false) }
     {
         let place = match self.place_or_new(tx, place) {
             Ok(place) => place,
             Err(refusal) => return Err(refusal),
+        };
+        let Ok(()) = self.list(tx, place) else {
+            return Err(Refusal::NoMemory);
         };
         self.rows[place].store(ballot);
         Ok(())
@@ -225,11 +265,30 @@ impl Courses {
         self.rows[place].on_2b(acceptors, acceptor, items)
     }
 
+    /// How many begin. No two are the same.
+    pub fn begun_count(&self) -> usize
+        ensures value { result ≡ length self.now.begun }
+        ensures distinct { IsDistinct tx_eq self.now.begun }
+    {
+        let _ = self.transactions.len();
+        self.begun.len()
+    }
+
+    /// The transaction at a place among those that begin, where there is one.
+    pub fn begun_at(&self, i: usize) -> Option<Tx>
+        ensures { result ≡ slice_get self.now.begun i }
+    {
+        match self.begun.get(i) {
+            Some(place) => self.transactions.get(place),
+            None => None,
+        }
+    }
+
     /// The greatest ballot of each transaction that has one, in the order of those that begin. `NoMemory` is the only refusal.
-    pub fn compacted(&self, begun: &Transactions) -> Result<Vec<Fact>, Refusal>
-        ensures ok { IfOk result (λ facts. facts.items ≡ compacted begun.now (λ tx. (course_in self.now tx).greatest)) }
+    pub fn compacted(&self) -> Result<Vec<Fact>, Refusal>
+        ensures ok { IfOk result (λ facts. facts.items ≡ compacted self.now.begun (λ tx. (course_in self.now tx).greatest)) }
         ensures err { IfErr result (λ e. e ≡ NoMemory) }
     {
-        facts_of(self.alloc, self, begun)
+        facts_of(self.alloc, self)
     }
 }

@@ -1,9 +1,11 @@
-ghost use Rattle.std.specs.Prelude.{◌≡◌, ◌<◌, ◌≤◌, ◌==◌};
+ghost use Rattle.std.specs.Prelude.{◌≡◌, ◌<◌, ◌≤◌, ◌==◌, true};
 ghost use Rattle.std.specs.List.{list_any};
 ghost use Rattle.xid.specs.Limits.{most_acceptors};
+ghost use Rattle.ballot.specs.Majority.{has};
 ghost use Rattle.leader.specs.Choices.{both, merged, vote_of};
-ghost use Rattle.leader.specs.Courses.{fresh_instance, joined, with_report, with_reports, instance_proposal, with_proposals, with_decided};
-ghost use Rattle.leader.specs.Courses.{with_nothing_reported, is_place_of, with_teller};
+ghost use Rattle.leader.specs.Courses.{fresh_instance, with_said, with_reports, instance_proposal, with_proposals, with_decided};
+ghost use Rattle.leader.specs.Courses.{first_report as first_report_lem};
+ghost use Rattle.leader.specs.Courses.{with_nothing_reported, is_place_of, first_told, with_teller, completes};
 
 use crate::proposals::Proposal;
 use ballot::{Quorum, Report};
@@ -36,6 +38,18 @@ fn merge(new: Report, before: Report) -> Report
             }
         }
     }
+}
+
+/// The first of some reports of an instance.
+fn first_report(items: &[InstanceReport], instance: ManagerNumber) -> Option<Report>
+    ensures { result ≡ first_report_lem instance items.now }
+{
+    for item in items {
+        if item.instance == instance {
+            return Some(item.report);
+        }
+    }
+    None
 }
 
 /// Whether there is a proposal of an instance.
@@ -78,25 +92,26 @@ impl InstanceCourse {
         }
     }
 
-    /// A report, where it is of this instance; it counts once for an acceptor.
-    fn hear_report(&mut self, acceptor: u8, item: &InstanceReport)
+    /// A report of this instance; it counts once for an acceptor.
+    fn hear_report(&mut self, acceptor: u8, report: Report)
         requires { acceptor < most_acceptors }
-        ensures { self.new ≡ with_report acceptor item.now self.old }
+        ensures now { self.new ≡ with_said acceptor report self.old }
+        ensures heard { has self.new.reporters acceptor ≡ true }
     {
-        if item.instance != self.instance || self.reporters.has(acceptor) {
+        if self.reporters.has(acceptor) {
             return;
         }
         self.reporters.add(acceptor);
-        self.best = merge(item.report, self.best);
+        self.best = merge(report, self.best);
     }
 
-    /// Those of some reports that are of this instance.
+    /// Those of some reports that are of this instance; only the first counts.
     pub fn hear_reports(&mut self, acceptor: u8, items: &[InstanceReport])
         requires { acceptor < most_acceptors }
         ensures { self.new ≡ with_reports acceptor items.now self.old }
     {
-        for item in items {
-            self.hear_report(acceptor, item);
+        if let Some(report) = first_report(items, self.instance) {
+            self.hear_report(acceptor, report);
         }
     }
 
@@ -166,13 +181,32 @@ impl Told {
         item.ballot == self.ballot && item.vote == self.vote && item.instance == self.instance
     }
 
-    /// An acceptor tells.
-    pub fn add(&mut self, acceptor: u8, item: &InstanceAccept)
+    /// What an acceptor is the first to tell.
+    pub fn first(acceptor: u8, item: &InstanceAccept) -> Told
         requires { acceptor < most_acceptors }
-        ensures { self.new ≡ with_teller item.now.instance item.now.ballot item.now.vote acceptor self.old }
+        ensures { result ≡ first_told item.now.instance item.now.ballot item.now.vote acceptor }
     {
-        if self.is_of(item) {
-            self.members.add(acceptor);
+        let mut members = Quorum::new();
+        members.add(acceptor);
+        Told {
+            instance: item.instance,
+            ballot: item.ballot,
+            vote: item.vote,
+            members,
         }
+    }
+
+    /// An acceptor tells. Whether it makes those that told this a majority.
+    pub fn tell(&mut self, acceptors: u8, acceptor: u8) -> bool
+        requires acceptors { acceptors ≤ most_acceptors }
+        requires acceptor { acceptor < most_acceptors }
+        ensures row { self.new ≡ with_teller acceptor self.old }
+        ensures result { result ≡ completes acceptors acceptor self.old }
+    {
+        if self.members.has(acceptor) {
+            return false;
+        }
+        self.members.add(acceptor);
+        self.members.majority(acceptors)
     }
 }

@@ -23,7 +23,6 @@ use protocol::{Address, Answer, NodeId, Standing, Status};
 use stable_record::{Fact, FactKind};
 use std::alloc::Global;
 use std::marker::Model;
-use transactions::Transactions;
 use wire::{InstanceAccept, InstanceReport, Kind, Message};
 use xid::{Ballot, ManagerNumber, Refusal, Tx};
 
@@ -37,8 +36,6 @@ pub struct Leader {
     managers: u8,
     bundled: bool,
     courses: Courses,
-    /// The transactions that a ballot was to be stored of, in the order of the first.
-    begun: Transactions,
 }
 
 impl Model for Leader {
@@ -55,7 +52,6 @@ impl Model for Leader {
       managers = l.managers;
       bundled = l.bundled;
       courses = l.courses;
-      begun = l.begun;
     } };
 
     ghost invariant = { λ l. (l.number < l.leaders) × (l.acceptors ≤ most_acceptors) };
@@ -83,7 +79,6 @@ impl Leader {
             managers,
             bundled,
             courses: Courses::new(alloc),
-            begun: Transactions::new(alloc),
         }
     }
 
@@ -377,13 +372,7 @@ impl Leader {
         let FactKind::Ballot { tx, .. } = fact.kind() else {
             return Ok(());
         };
-        let Ok(_) = self.courses.make_place(tx) else {
-            return Err(Refusal::NoMemory);
-        };
-        let Ok(_) = self.begun.add(tx) else {
-            return Err(Refusal::NoMemory);
-        };
-        Ok(())
+        self.courses.make_ready(tx)
     }
 
     /// Plays a ballot that is stored: it is the transaction's greatest, but isn't current before `begin`. Refused (`Damaged`) where it
@@ -411,9 +400,6 @@ impl Leader {
         if owner(*ballot, self.leaders) != self.number {
             return Err(Refusal::Damaged);
         }
-        let Ok(_) = self.begun.add(tx) else {
-            return Err(Refusal::NoMemory);
-        };
         self.courses.store(tx, place, *ballot)
     }
 
@@ -423,8 +409,8 @@ impl Leader {
         ensures ok { IfOk result (λ kept. Compacts self.now kept.items) }
         ensures err { IfErr result (λ e. e ≡ NoMemory) }
     {
-        let _ = self.begun.len();
-        self.courses.compacted(&self.begun)
+        let _ = self.courses.begun_count();
+        self.courses.compacted()
     }
 }
 

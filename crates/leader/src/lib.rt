@@ -16,4 +16,8 @@ pub use leader::Leader;
 pub use orders::LeaderSends;
 
 #[cfg(test)]
+mod many_tests;
+#[cfg(test)]
+mod shorter_tests;
+#[cfg(test)]
 mod tests;

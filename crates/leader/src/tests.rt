@@ -8,15 +8,12 @@ use std::test::Fail;
 use wire::{InstanceAccept, InstanceReport, Items, Kind, Message, is_message};
 use xid::{Ballot, ManagerNumber, Refusal, Tx, Vote};
 
-const PREPARED: Vote = Vote::Prepared;
+pub const PREPARED: Vote = Vote::Prepared;
 
 const ABORTED: Vote = Vote::Aborted;
 
 /// What an acceptor reports that accepted a vote in ballot 0.
 const VOTED: Report = Some((0, PREPARED));
-
-/// How many transactions are many. With no proof they take minutes: `rt try --test --seconds 600`.
-const MANY: u32 = 100000;
 
 /// A transaction of resource managers 0 and 1.
 fn both_managers() -> Result<Tx, Refusal> {
@@ -29,7 +26,7 @@ fn one_manager() -> Result<Tx, Refusal> {
 }
 
 /// A transaction of resource managers 0 and 1, another one for each number.
-fn numbered(number: u32) -> Result<Tx, Refusal> {
+pub fn numbered(number: u32) -> Result<Tx, Refusal> {
     Tx::new(
         i64::from(number),
         b"t",
@@ -58,7 +55,7 @@ fn p2b(tx: Tx, instance: ManagerNumber, ballot: Ballot, vote: Vote, acceptor: u8
 }
 
 /// Phase 1b of both instances, the first prepared in ballot 0.
-fn b1b(tx: Tx, ballot: Ballot, acceptor: u8, second: Report) -> Kind {
+pub fn b1b(tx: Tx, ballot: Ballot, acceptor: u8, second: Report) -> Kind {
     let mut reports = Items::one(InstanceReport {
         instance: 0,
         report: VOTED,
@@ -76,7 +73,7 @@ fn b1b(tx: Tx, ballot: Ballot, acceptor: u8, second: Report) -> Kind {
 }
 
 /// Phase 2b of both instances in one ballot, the first prepared.
-fn b2b(tx: Tx, acceptor: u8, ballot: Ballot, second: Vote) -> Kind {
+pub fn b2b(tx: Tx, acceptor: u8, ballot: Ballot, second: Vote) -> Kind {
     let mut accepts = Items::one(InstanceAccept {
         instance: 0,
         ballot,
@@ -94,7 +91,7 @@ fn b2b(tx: Tx, acceptor: u8, ballot: Ballot, second: Vote) -> Kind {
     }
 }
 
-fn prepares(tx: Tx) -> (Address, Kind) {
+pub fn prepares(tx: Tx) -> (Address, Kind) {
     (Address::Managers, Kind::Prepare(tx))
 }
 
@@ -137,7 +134,7 @@ fn check_sends(rt: &impl Abort, sends: &LeaderSends, wanted: &[(Address, Kind)])
 }
 
 /// What a client is told of a transaction.
-fn standing_of(rt: &impl Abort, leader: &Leader, tx: &Tx) -> Option<Standing> {
+pub fn standing_of(rt: &impl Abort, leader: &Leader, tx: &Tx) -> Option<Standing> {
     let decision = leader.status(tx);
     assert!(rt; decision.fact.is_none());
     assert_eq!(rt; decision.sends.count(), 0);
@@ -147,7 +144,7 @@ fn standing_of(rt: &impl Abort, leader: &Leader, tx: &Tx) -> Option<Standing> {
     }
 }
 
-fn stands(rt: &impl Abort, leader: &Leader, tx: &Tx, standing: Standing) {
+pub fn stands(rt: &impl Abort, leader: &Leader, tx: &Tx, standing: Standing) {
     assert_eq!(rt; standing_of(rt, leader, tx), Some(standing));
 }
 
@@ -197,7 +194,7 @@ fn hears_in_silence(
 }
 
 /// A commit call. Where memory is refused, the transaction stands as before, and the call is made again.
-fn calls_commit(
+pub fn calls_commit(
     rt: &impl Abort,
     leader: &mut Leader,
     tx: &Tx,
@@ -220,7 +217,7 @@ fn calls_commit(
 
 /// A timeout that takes over in a ballot: its fact is made ready for and played, and it begins. Where memory is refused, the same is
 /// decided as before.
-fn takes_over(
+pub fn takes_over(
     rt: &impl Abort,
     leader: &mut Leader,
     tx: &Tx,
@@ -250,7 +247,7 @@ fn plain(alloc: Global, number: u8, leaders: u8) -> Leader {
     Leader::new(alloc, 0, 3, 1, 2, false)
 }
 
-fn bundled(alloc: Global) -> Leader {
+pub fn bundled(alloc: Global) -> Leader {
     Leader::new(alloc, 0, 3, 1, 2, true)
 }
 
@@ -490,124 +487,5 @@ fn a_ballot_plays_once(rt: HostRuntime) -> Result<(), Fail> {
     }
     assert_eq!(rt; leader.play_by(&fact), Ok(()));
     assert_eq!(rt; leader.play_by(&fact), Err(Refusal::Damaged));
-    Ok(())
-}
-
-/// The first ballots of two transactions in another order than the first calls, and one that has none.
-#[test]
-fn a_shorter_record(rt: HostRuntime) -> Result<(), Fail> {
-    let first = numbered(1)?;
-    let second = numbered(2)?;
-    let mut leader = bundled(rt.alloc());
-    calls_commit(
-        &rt,
-        &mut leader,
-        &first,
-        Standing::Undecided,
-        prepares(first),
-    )?;
-    calls_commit(
-        &rt,
-        &mut leader,
-        &numbered(3)?,
-        Standing::Undecided,
-        prepares(numbered(3)?),
-    )?;
-    for (tx, ballot) in [(second, 1), (first, 1), (second, 2)] {
-        let wanted = [(Address::Acceptors, Kind::B1a { tx, ballot })];
-        takes_over(&rt, &mut leader, &tx, ballot, &wanted)?;
-    }
-    let kept = match leader.shorter() {
-        Ok(kept) => kept,
-        Err(_) => leader.shorter()?,
-    };
-    assert_eq!(rt; kept.len(), 2);
-    assert_eq!(rt;
-        kept[0].kind(),
-        &FactKind::Ballot {
-            tx: second,
-            ballot: 2
-        }
-    );
-    assert_eq!(rt;
-        kept[1].kind(),
-        &FactKind::Ballot {
-            tx: first,
-            ballot: 1
-        }
-    );
-    Ok(())
-}
-
-/// A message comes twice, first with so many messages to send, and then with none.
-fn hears_twice(
-    rt: &impl Abort,
-    leader: &mut Leader,
-    decision: &mut LeaderDecision,
-    message: Kind,
-    sent: usize,
-) -> Result<(), Refusal> {
-    assert!(rt; is_message(&message));
-    let message = Message::new(message);
-    if leader.decide(&message, decision).is_err() {
-        leader.decide(&message, decision)?;
-    }
-    assert_eq!(rt; decision.sends.count(), sent);
-    leader.decide(&message, decision)?;
-    assert_eq!(rt; decision.sends.count(), 0);
-    Ok(())
-}
-
-/// Each vote of many transactions, twice.
-#[test]
-fn many_transactions(rt: HostRuntime) -> Result<(), Fail> {
-    let mut leader = bundled(rt.alloc());
-    let mut decision = LeaderDecision::nothing();
-    for acceptor in 0..2u8 {
-        for number in 0..MANY {
-            let message = b2b(numbered(number)?, acceptor, 0, PREPARED);
-            let sent = usize::from(acceptor);
-            hears_twice(&rt, &mut leader, &mut decision, message, sent)?;
-        }
-    }
-    for number in 0..MANY {
-        stands(&rt, &leader, &numbered(number)?, Standing::Committed);
-    }
-    Ok(())
-}
-
-/// A take-over, in place of what was decided before.
-fn begins_in_place(
-    rt: &impl Abort,
-    leader: &mut Leader,
-    decision: &mut LeaderDecision,
-    tx: &Tx,
-) -> Result<(), Fail> {
-    leader.decide_timeout(tx, decision);
-    assert_eq!(rt; decision.sends.count(), 1);
-    let fact = decision.fact.as_ref().ok_or("a ballot")?;
-    if leader.ready(fact).is_err() {
-        leader.ready(fact)?;
-    }
-    assert_eq!(rt; leader.play_by(fact), Ok(()));
-    leader.begin(tx, 1);
-    Ok(())
-}
-
-/// A take-over of many transactions, and each report twice.
-#[test]
-fn many_take_overs(rt: HostRuntime) -> Result<(), Fail> {
-    let mut leader = bundled(rt.alloc());
-    let mut decision = LeaderDecision::nothing();
-    for number in 0..MANY {
-        begins_in_place(&rt, &mut leader, &mut decision, &numbered(number)?)?;
-    }
-    for acceptor in 0..2u8 {
-        for number in 0..MANY {
-            let message = b1b(numbered(number)?, 1, acceptor, None);
-            let sent = 2 * usize::from(acceptor);
-            hears_twice(&rt, &mut leader, &mut decision, message, sent)?;
-        }
-    }
     Ok(())
 }

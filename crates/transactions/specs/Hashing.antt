@@ -1,6 +1,7 @@
--- How spelled bytes are hashed. Nothing that a contract says of transactions depends on it.
-use Rattle.std.specs.Prelude.{ℕ, ◌+◌, ◌-◌, ◌*◌, ◌/◌, ◌%◌, ◌^◌, ◌==◌, nat_lt, if◌then◌else◌, List, length, slice_index, bit_and, bit_xor}
+-- How spelled bytes and numbers are hashed. Nothing that a contract says of transactions depends on it.
+use Rattle.std.specs.Prelude.{ℕ, ◌+◌, ◌-◌, ◌*◌, ◌/◌, ◌%◌, ◌^◌, ◌==◌, nat_lt, if◌then◌else◌, List, [], ◌∷◌, length, slice_index, bit_and, bit_xor}
 use Rattle.transactions.specs.declared.hasher.SpellingHasher.{SpellingHasher}
+use Rattle.transactions.specs.declared.hasher.NumberHasher.{NumberHasher}
 
 -- nothing is hashed
 abbrev pub first : SpellingHasher
@@ -27,3 +28,18 @@ with_byte h byte =
 -- after bytes that are written at once: one by itself is taken
 abbrev pub written : SpellingHasher → List ℕ → SpellingHasher
 written h bytes = if length bytes == 1 then with_byte h (slice_index bytes 0) else h
+
+-- ---- a number
+
+-- nothing is hashed
+abbrev pub no_number : NumberHasher
+no_number = record { state = 0 }
+
+-- after one byte more of a number
+abbrev pub with_digit : NumberHasher → ℕ → NumberHasher
+with_digit h byte = record { state = longer h.state byte }
+
+-- after all of them
+abbrev pub digits_written : NumberHasher → List ℕ → NumberHasher
+digits_written h [] = h
+digits_written h (byte ∷ bytes) = digits_written (with_digit h byte) bytes

@@ -1,5 +1,5 @@
 -- Transactions in the order of first sight, and the bytes that each is kept by.
-use Rattle.std.specs.Prelude.{◌≡◌, ℕ, if◌then◌else◌, List, [], ◌∷◌, ◌++◌}
+use Rattle.std.specs.Prelude.{◌≡◌, ◌==◌, ℕ, if◌then◌else◌, List, [], ◌∷◌, ◌++◌}
 use Rattle.std.specs.List.{list_any, position_or_len}
 use Rattle.std.specs.Option.{option_map_or}
 use Rattle.xid.specs.Transactions.{TxParts, IsTx, tx_eq}
@@ -23,3 +23,7 @@ place_in seen tx = position_or_len (tx_eq tx) seen
 -- the transactions seen once this one is: a new one comes last
 abbrev pub seen_with : List TxParts → TxParts → List TxParts
 seen_with seen tx = if list_any (tx_eq tx) seen then seen else seen ++ tx ∷ []
+
+-- numbers, each once, with this one: a new one comes last
+abbrev pub numbered_with : List ℕ → ℕ → List ℕ
+numbered_with numbers n = if list_any (λ m. n == m) numbers then numbers else numbers ++ n ∷ []

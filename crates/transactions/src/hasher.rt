@@ -1,5 +1,5 @@
 ghost use Rattle.std.specs.Prelude.{◌≡◌};
-ghost use Rattle.transactions.specs.Hashing.{folded_multiply, mixed, with_byte};
+ghost use Rattle.transactions.specs.Hashing.{folded_multiply, mixed, with_byte, with_digit};
 
 use std::hash::Hasher;
 
@@ -72,6 +72,49 @@ impl Hasher for SpellingHasher {
     fn write(&mut self, bytes: &[u8]) {
         if bytes.len() == 1 {
             self.take(bytes[0]);
+        }
+    }
+}
+
+/// Hashes a number by its eight bytes.
+#[derive(Clone, Copy)]
+pub struct NumberHasher {
+    state: u64,
+}
+
+impl NumberHasher {
+    /// One byte more.
+    fn take(&mut self, byte: u8)
+        ensures { self.new ≡ with_digit self.old byte }
+    {
+        self.state = self.state.wrapping_mul(256).wrapping_add(byte as u64);
+    }
+}
+
+impl Default for NumberHasher {
+    ghost use Rattle.transactions.specs.Hashing.{no_number};
+
+    ghost is_default = { λ h. h ≡ no_number };
+
+    fn default() -> NumberHasher {
+        NumberHasher { state: 0 }
+    }
+}
+
+impl Hasher for NumberHasher {
+    ghost use Rattle.transactions.specs.Hashing.{digits_written};
+
+    ghost write = { digits_written };
+
+    ghost finish = { λ h. mixed h.state 0 };
+
+    fn finish(&self) -> u64 {
+        mixed(self.state, 0)
+    }
+
+    fn write(&mut self, bytes: &[u8]) {
+        for byte in bytes {
+            self.take(*byte);
         }
     }
 }

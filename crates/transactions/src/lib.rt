@@ -3,8 +3,10 @@
 
 mod hasher;
 mod numbers;
+mod order;
 
 pub use numbers::Transactions;
+pub use order::Order;
 
 #[cfg(test)]
 mod tests;

@@ -3,7 +3,7 @@ use Rattle.std.specs.List.{slice_set}
 use Rattle.xid.specs.declared.refusals.Refusal.{Refusal}
 use Rattle.protocol.specs.declared.states.Status.{Status}
 use Rattle.leader.specs.Courses.{after_2b}
-use Rattle.leader.proofs.PlaceSteps.{changed_at, after_made}
+use Rattle.leader.proofs.PlaceSteps.{changed_at, after_made, courses_at}
 use Rattle.leader.proofs.courses.Courses.hear_2b.Goals as goal
 
 on_ok : {P Q : Type 0} (r : Result Status Refusal) → OnOk r P → (P → Q) → OnOk r Q
@@ -14,8 +14,8 @@ pub returns-clause-now : goal.returns-clause-now
 returns-clause-now c =
     on_ok c.on_2b.result c.on_2b.ensures.now (λ is.
     after_made c.args.self.now c.make_place.new.self
-    (record { transactions = c.self.inside.transactions; rows = slice_set c.self.inside.rows.items c.in-Ok.place c.on_2b.new.self })
+    (courses_at c.self.inside.transactions (slice_set c.self.inside.rows.items c.in-Ok.place c.on_2b.new.self) c.self.inside.begun)
     c.args.tx.now (after_2b c.args.acceptors c.args.acceptor c.args.items.now) c.in-Ok.ensures.kept
-    (changed_at c.self.inside.transactions c.self.inside.rows.items c.self.invariant c.args.tx.now c.make_place.new.self c.self.view_is
+    (changed_at c.self.inside.transactions c.self.inside.rows.items c.self.inside.begun c.self.invariant c.args.tx.now c.make_place.new.self c.self.view_is
     (after_2b c.args.acceptors c.args.acceptor c.args.items.now) c.in-Ok.place c.index_mut.result.now c.on_2b.new.self
     c.in-Ok.ensures.there c.index_mut.ensures.value is))
