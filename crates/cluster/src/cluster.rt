@@ -11,7 +11,7 @@ use crate::handing::{Came, happen};
 use crate::opening::open_all;
 use crate::receivers::count_of;
 use network::Network;
-use node_core::{Config, Node, Sizes};
+use node_core::{Config, Node, Output, Sizes};
 use protocol::{Event, Row, Step, View};
 use stable_record::{Record, Tear};
 use std::alloc::Global;
@@ -25,6 +25,8 @@ pub struct Cluster<R: Record> {
     sizes: Sizes,
     nodes: Vec<Node<R>>,
     network: Network,
+    // what came of an input last, in whose place goes what comes of the next
+    out: Output,
 }
 
 impl<R: Record> Model for Cluster<R> {
@@ -67,6 +69,7 @@ impl<R: Record + Drop> Cluster<R> {
             sizes,
             nodes,
             network: Network::new(alloc),
+            out: Output::nothing(),
         })
     }
 }
@@ -83,6 +86,7 @@ impl<R: Tear> Cluster<R> {
             &mut self.nodes,
             &mut self.network,
             &event,
+            &mut self.out,
         );
         step_of(event, came)
     }

@@ -24,6 +24,7 @@ use node_core::{Input, Node, Output, Sizes};
 use protocol::{Answer, Change, Event, NodeId, Request, Sent};
 use stable_record::{Record, Tear};
 use std::alloc::Global;
+use std::mem;
 use wire::decode;
 use xid::Refusal;
 
@@ -51,6 +52,19 @@ impl Came {
             sent: Vec::new(alloc),
         }
     }
+
+    /// What a node put out, whose answer is taken, and what was sent of it.
+    fn of(out: &mut Output, sent: Vec<Sent>) -> Came
+        ensures answer { result.answer ≡ out.old.reply }
+        ensures now { result.now ≡ out.old.now }
+        ensures sent { result.sent.items ≡ sent.items }
+    {
+        Came {
+            answer: mem::replace(&mut out.reply, Answer::Done),
+            now: out.now,
+            sent,
+        }
+    }
 }
 
 /// A list in the room that it needs, if there is memory for that, else the list as it is.
@@ -63,30 +77,25 @@ fn fitted(alloc: Global, listed: Vec<Sent>) -> Vec<Sent>
     }
 }
 
-/// Sends what a node puts out. There is room for that.
+/// Sends what a node puts out. There is room for that. Its answer is taken.
 fn put_out(
     alloc: Global,
     network: &mut Network,
     listed: Vec<Sent>,
     sizes: Sizes,
     who: NodeId,
-    out: Output,
+    out: &mut Output,
 ) -> Came
-    requires room { HasRoom (length (flat_map (datagrams_of (sized sizes) who) (sent_by out.sends))) network.old
+    requires room { HasRoom (length (flat_map (datagrams_of (sized sizes) who) (sent_by out.old.sends))) network.old
         (vec_len listed) (vec_capacity listed) }
     requires empty { listed.items ≡ [] }
-    ensures sent { HaveSent network.old network.new [] result.sent.items (flat_map (datagrams_of (sized sizes) who) (sent_by out.sends)) }
-    ensures answer { result.answer ≡ out.reply }
-    ensures now { result.now ≡ out.now }
+    ensures sent { HaveSent network.old network.new [] result.sent.items (flat_map (datagrams_of (sized sizes) who) (sent_by out.old.sends)) }
+    ensures answer { result.answer ≡ out.old.reply }
+    ensures now { result.now ≡ out.old.now }
 {
     let mut sent = listed;
-    let Output { reply, now, sends } = out;
-    send_all(network, &mut sent, sizes, who, &sends);
-    Came {
-        answer: reply,
-        now,
-        sent: fitted(alloc, sent),
-    }
+    send_all(network, &mut sent, sizes, who, &out.sends);
+    Came::of(out, fitted(alloc, sent))
 }
 
 /// Asks a node something.
@@ -97,6 +106,7 @@ fn ask<R: Record>(
     network: &mut Network,
     who: NodeId,
     request: &Request,
+    out: &mut Output,
 ) -> Came
     requires { IsSound (cluster_of sizes nodes.old.items network.old) }
     ensures { Occurs (Ask who request.now) (cluster_of sizes nodes.old.items network.old) (cluster_of sizes nodes.new.items network.new)
@@ -110,7 +120,7 @@ fn ask<R: Record>(
         Err(_) => return Came::answers(alloc, Answer::Refused(Refusal::NoMemory)),
     };
     let node = &mut nodes[at];
-    let out = node.step(Input::Asked(request));
+    node.step_into(Input::Asked(request), out);
     put_out(alloc, network, listed, sizes, who, out)
 }
 
@@ -121,6 +131,7 @@ fn deliver<R: Record>(
     nodes: &mut Vec<Node<R>>,
     network: &mut Network,
     number: u32,
+    out: &mut Output,
 ) -> Came
     requires { IsSound (cluster_of sizes nodes.old.items network.old) }
     ensures { Occurs (Deliver number) (cluster_of sizes nodes.old.items network.old) (cluster_of sizes nodes.new.items network.new)
@@ -142,7 +153,7 @@ fn deliver<R: Record>(
         unreachable!();
     };
     let node = &mut nodes[at];
-    let out = node.step(Input::Received(kept.bytes));
+    node.step_into(Input::Received(kept.bytes), out);
     network.mark(number);
     put_out(alloc, network, listed, sizes, who, out)
 }
@@ -165,6 +176,7 @@ fn hand_noise<R: Record>(
     nodes: &mut Vec<Node<R>>,
     who: NodeId,
     bytes: &[u8],
+    out: &mut Output,
 ) -> Came
     requires count { length nodes.old.items ≡ node_count sizes }
     requires noise { message_at bytes.now ≡ None }
@@ -175,12 +187,8 @@ fn hand_noise<R: Record>(
         return Came::answers(alloc, Answer::Refused(Refusal::NoSuch));
     };
     let node = &mut nodes[at];
-    let out = node.step(Input::Received(bytes));
-    Came {
-        answer: out.reply,
-        now: out.now,
-        sent: Vec::new(alloc),
-    }
+    node.step_into(Input::Received(bytes), out);
+    Came::of(out, Vec::new(alloc))
 }
 
 /// Hands the first bytes of a datagram to its receiver, fewer than all.
@@ -191,6 +199,7 @@ fn cut<R: Record>(
     network: &Network,
     number: u32,
     bytes: u32,
+    out: &mut Output,
 ) -> Came
     requires sound { IsSound (cluster_of sizes nodes.old.items network.now) }
     ensures { Occurs (Cut number bytes) (cluster_of sizes nodes.old.items network.now) (cluster_of sizes nodes.new.items network.now)
@@ -203,7 +212,7 @@ fn cut<R: Record>(
     if len >= kept.bytes.len() {
         return Came::answers(alloc, Answer::Refused(Refusal::NoSuch));
     }
-    hand_noise(alloc, sizes, nodes, kept.receiver, &kept.bytes[..len])
+    hand_noise(alloc, sizes, nodes, kept.receiver, &kept.bytes[..len], out)
 }
 
 /// Hands bytes to a node that nobody sent, unless they spell a message.
@@ -213,13 +222,14 @@ fn noise<R: Record>(
     nodes: &mut Vec<Node<R>>,
     who: NodeId,
     bytes: &[u8],
+    out: &mut Output,
 ) -> Came
     requires count { length nodes.old.items ≡ node_count sizes }
     ensures { (network : NetworkParts) → Occurs (Noise who bytes.now) (cluster_of sizes nodes.old.items network)
         (cluster_of sizes nodes.new.items network) (step_by (Noise who bytes.now) result) }
 {
     match decode(bytes) {
-        Err(_) => hand_noise(alloc, sizes, nodes, who, bytes),
+        Err(_) => hand_noise(alloc, sizes, nodes, who, bytes, out),
         Ok(_) => match place_of(sizes, who) {
             Some(_) => Came::answers(alloc, Answer::Refused(Refusal::Forged)),
             None => Came::answers(alloc, Answer::Refused(Refusal::NoSuch)),
@@ -292,6 +302,7 @@ pub(crate) fn happen<R: Tear>(
     nodes: &mut Vec<Node<R>>,
     network: &mut Network,
     event: &Event,
+    out: &mut Output,
 ) -> Came
     requires { IsSound (cluster_of sizes nodes.old.items network.old) }
     ensures occurs { Occurs event.now (cluster_of sizes nodes.old.items network.old)
@@ -299,11 +310,11 @@ pub(crate) fn happen<R: Tear>(
     ensures sound { IsSound (cluster_of sizes nodes.new.items network.new) }
 {
     match event {
-        Event::Ask { node, request } => ask(alloc, sizes, nodes, network, *node, request),
-        Event::Deliver { number } => deliver(alloc, sizes, nodes, network, *number),
+        Event::Ask { node, request } => ask(alloc, sizes, nodes, network, *node, request, out),
+        Event::Deliver { number } => deliver(alloc, sizes, nodes, network, *number, out),
         Event::Lose { number } => lose(alloc, network, *number),
-        Event::Cut { number, bytes } => cut(alloc, sizes, nodes, network, *number, *bytes),
-        Event::Noise { node, bytes } => noise(alloc, sizes, nodes, *node, bytes.as_slice()),
+        Event::Cut { number, bytes } => cut(alloc, sizes, nodes, network, *number, *bytes, out),
+        Event::Noise { node, bytes } => noise(alloc, sizes, nodes, *node, bytes.as_slice(), out),
         Event::Tear { node, bytes } => tear(alloc, sizes, nodes, *node, *bytes),
         Event::Restart { node } => restart(alloc, sizes, nodes, *node),
         Event::Compact { node } => compact(alloc, sizes, nodes, *node),

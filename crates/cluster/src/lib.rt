@@ -11,3 +11,6 @@ mod room;
 mod sending;
 
 pub use cluster::Cluster;
+
+#[cfg(test)]
+mod tests;

@@ -55,16 +55,15 @@ fn send(
     ensures capacity { vec_capacity listed.new ≡ vec_capacity listed.old }
 {
     let count = receiver_count(sizes, outgoing);
-    let message = outgoing.message;
     for i in 0..count {
         let receiver = receiver_at(sizes, outgoing, i);
         let again = i > 0;
-        let number = put(network, sender, receiver, &message, again);
+        let number = put(network, sender, receiver, &outgoing.message, again);
         listed.push_reserved(Sent {
             number,
             sender,
             receiver,
-            message,
+            message: outgoing.message,
         });
     }
 }

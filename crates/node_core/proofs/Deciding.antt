@@ -6,8 +6,8 @@ use Rattle.protocol.specs.Effects.{stores}
 use Rattle.protocol.specs.declared.decisions.Outgoing.{Outgoing}
 use Rattle.protocol.specs.declared.answers.Answer.TheVariants.{Refused}
 use Rattle.node_core.specs.Roles.{memory_after}
-use Rattle.std.proofs.Common.{◌≡◌, ◌∙◌, ℕ, true, false, not, ◌||◌, List, [], ◌∷◌, Option, Some, None, refl, sym, ap, subst}
-use Rattle.std.specs.Prelude.{IfSome, IfNone, Err, nat_lt, ◌^◌}
+use Rattle.std.proofs.Common.{◌≡◌, ◌∙◌, ℕ, true, false, not, ◌||◌, List, [], ◌∷◌, ◌++◌, Option, Some, None, refl, sym, ap, subst}
+use Rattle.std.specs.Prelude.{IfSome, IfNone, IfOk, IfErr, Result, Ok, Err, nat_lt, ◌^◌}
 use Rattle.xid.specs.Names.{XidParts}
 use Rattle.xid.specs.Transactions.{TxParts, xid_at}
 use Rattle.xid.specs.declared.refusals.Refusal.{Refusal}
@@ -45,8 +45,9 @@ use Rattle.resource_manager.specs.Messages.{IsReminder}
 use Rattle.resource_manager.specs.declared.messages.Reminder.{Reminder}
 use Rattle.resource_manager.proofs.More.{unspent_all}
 use Rattle.node_core.specs.declared.role.Role.{Role}
-use Rattle.node_core.specs.declared.role.RoleDecision.{RoleDecision}
-use Rattle.node_core.specs.Roles.{IsLeft, IsDecided, Decides, Rule, from_part, from_leader, from_reminder, answering}
+use Rattle.node_core.specs.declared.output.Output.{Output}
+use Rattle.node_core.specs.Sends.{led}
+use Rattle.node_core.specs.Roles.{decided, IsLeft, IsDecided, Decides, Rule, from_reminder, answering}
 
 -- ---- acceptors
 
@@ -58,7 +59,7 @@ module _ (p : AcceptorParts) (d : Decision) (message : Kind)
   acceptor_left config a facts memory e s None plays = s
   acceptor_left config a facts memory e s (Some fact) plays = record { stands = s; fits = plays; playable = tt; leaves = refl }
 
-  pub acceptor_decides : Decides (Role.Acceptor p) (Role.Acceptor p) (from_part d)
+  pub acceptor_decides : Decides (Role.Acceptor p) (Role.Acceptor p) d
       (λ config who facts memory. on_message config who facts memory message)
   acceptor_decides config (A a) facts memory s =
       let is = h config a facts s in
@@ -87,7 +88,7 @@ module _ (p : ManagerParts) (d : Decision) (message : Kind) (h : manager_specs.D
     leaves = ap (λ (branches : List Branch). record memory { branches = branches }) leaves;
   }
 
-  pub manager_decides : Decides (Role.Manager p) (Role.Manager p) (from_part d)
+  pub manager_decides : Decides (Role.Manager p) (Role.Manager p) d
       (λ config who facts memory. on_message config who facts memory message)
   manager_decides config (A a) facts memory s = absurd s
   manager_decides config (L l) facts memory s = absurd s
@@ -138,7 +139,7 @@ module _ (old new : LeaderParts) (d : LeaderDecision) (rule : leader_specs.Rule)
   pub leader_follows : (config : Config) (l : ℕ) (facts : List Fact) (memory : Memory)
       → NoFact (rule (last_ballot facts) memory.leader) → Follows config l old new d rule
       → leader_specs.StandsFor config l old facts memory.leader
-      → IsDecided config (L l) facts memory (Role.Leader new) (from_leader d) (of_leader memory (rule (last_ballot facts) memory.leader))
+      → IsDecided config (L l) facts memory (Role.Leader new) (leader_decisions.shown d) (of_leader memory (rule (last_ballot facts) memory.leader))
   leader_follows config l facts memory none h s =
       let is = h.decides (last_ballot facts) memory.leader s in
       record {
@@ -160,7 +161,7 @@ no_config = record { acceptors = 0; leaders = 0; managers = 0; bundled = false; 
 pub leader_decides : (old new : LeaderParts) (d : LeaderDecision) (message : Kind)
     → ((config : Config) (number : ℕ) → Follows config number old new d
     (λ stored memory. rules.on_leader_message config stored memory message))
-    → Decides (Role.Leader old) (Role.Leader new) (from_leader d) (λ config who facts memory. on_message config who facts memory message)
+    → Decides (Role.Leader old) (Role.Leader new) (leader_decisions.shown d) (λ config who facts memory. on_message config who facts memory message)
 leader_decides old new d message h config (A a) facts memory s = absurd s
 leader_decides old new d message h config (R rm) facts memory s = absurd s
 leader_decides old new d message h config (L l) facts memory s =
@@ -170,7 +171,7 @@ leader_decides old new d message h config (L l) facts memory s =
 pub commit_decides : (old new : LeaderParts) (d : LeaderDecision) (tx : TxParts)
     → ((config : Config) (number : ℕ) → Follows config number old new d
     (λ stored memory. rules.on_commit_call config stored memory tx))
-    → Decides (Role.Leader old) (Role.Leader new) (from_leader d)
+    → Decides (Role.Leader old) (Role.Leader new) (leader_decisions.shown d)
     (λ config who facts memory. on_request config who facts memory (requests.Commit tx))
 commit_decides old new d tx h config (A a) facts memory s = absurd s
 commit_decides old new d tx h config (R rm) facts memory s = absurd s
@@ -181,7 +182,7 @@ commit_decides old new d tx h config (L l) facts memory s =
 pub status_decides : (p : LeaderParts) (d : LeaderDecision) (tx : TxParts)
     → ((config : Config) (number : ℕ) → Follows config number p p d
     (λ stored memory. rules.on_status_call config stored memory tx))
-    → Decides (Role.Leader p) (Role.Leader p) (from_leader d)
+    → Decides (Role.Leader p) (Role.Leader p) (leader_decisions.shown d)
     (λ config who facts memory. on_request config who facts memory (requests.Status tx))
 status_decides p d tx h config (A a) facts memory s = absurd s
 status_decides p d tx h config (R rm) facts memory s = absurd s
@@ -236,7 +237,7 @@ module _ (old new : LeaderParts) (d : LeaderDecision) (tx : TxParts) where
       → IfNone d.fact ((config : Config) (number : ℕ) (stored : StoredBallots) (memory : LeaderMemory)
       → StandsForBallots config number old stored memory
       → StandsForBallots config number new stored (rules.on_leader_timeout config number stored memory tx).memory)
-      → Decides (Role.Leader old) (Role.Leader new) (from_leader d)
+      → Decides (Role.Leader old) (Role.Leader new) (leader_decisions.shown d)
       (λ config who facts memory. on_request config who facts memory (requests.Timeout tx))
   timeout_decides decides plays waits stands config (A a) facts memory s = absurd s
   timeout_decides decides plays waits stands config (R rm) facts memory s = absurd s
@@ -338,15 +339,42 @@ manager_refuses p request out config (R rm) facts memory s =
 
 -- ---- what is decided, under other names
 
-pub asked_so : (old new : Role) (d e : RoleDecision) (r s : Request) → d ≡ e → r ≡ s
+pub asked_so : (old new : Role) (d e : Decision) (r s : Request) → d ≡ e → r ≡ s
     → Decides old new e (λ config who facts memory. on_request config who facts memory s)
     → Decides old new d (λ config who facts memory. on_request config who facts memory r)
 asked_so old new d e r s is_d is_r h =
-    let P : RoleDecision → Request → Type 0 = λ x y. Decides old new x (λ config who facts memory. on_request config who facts memory y) in
+    let P : Decision → Request → Type 0 = λ x y. Decides old new x (λ config who facts memory. on_request config who facts memory y) in
     subst (λ x. P x r) (sym is_d) (subst (λ y. P e y) (sym is_r) h)
 
-pub told_so : (old inner new : Role) (d e : RoleDecision) (rule : Rule) → old ≡ inner → d ≡ e → Decides inner new e rule
+pub told_so : (old inner new : Role) (d e : Decision) (rule : Rule) → old ≡ inner → d ≡ e → Decides inner new e rule
     → Decides old new d rule
 told_so old inner new d e rule is is_d h =
-    let P : Role → RoleDecision → Type 0 = λ x y. Decides x new y rule in
+    let P : Role → Decision → Type 0 = λ x y. Decides x new y rule in
     subst (λ x. P x d) (sym is) (subst (λ y. P inner y) (sym is_d) h)
+
+-- what a leader decided, once its parts stand apart, beside no other message
+pub led_follows : (config : Config) (number : ℕ) (old new : LeaderParts) (rule : leader_specs.Rule) (d : LeaderDecision) (answer : Answer)
+    (fact : Option Fact) (first question : List Outgoing) → answer ≡ d.answer → fact ≡ d.fact → first ≡ [] → question ≡ []
+    → Follows config number old new d rule
+    → Follows config number old new (record { answer = answer; fact = fact; sends = first ++ question ++ d.sends }) rule
+led_follows config number old new rule d answer fact first question answer_is fact_is first_is question_is h =
+    subst (λ (x : LeaderDecision). Follows config number old new x rule)
+    (λ i. record { answer = sym answer_is i; fact = sym fact_is i; sends = sym first_is i ++ sym question_is i ++ d.sends }) h
+
+-- a leader that left what it decided in a place, or refused
+pub led_so : (old : Role) (inner new : LeaderParts) (message : Kind) → old ≡ Role.Leader inner → (result : Result (Option Fact) Refusal)
+    (out : Output) → ((config : Config) (number : ℕ) → FollowsOrRefuses config number inner new (led out.reply out.sends result)
+    (λ stored memory. rules.on_leader_message config stored memory message))
+    → IfOk result (λ fact. Decides old (Role.Leader new) (decided fact out)
+    (λ config who facts memory. on_message config who facts memory message))
+led_so old inner new message is (Ok fact) out h =
+    told_so old (Role.Leader inner) (Role.Leader new) _ _ _ is refl
+    (leader_decides inner new (record { answer = out.reply; fact = fact; sends = out.sends }) message h)
+led_so old inner new message is (Err refusal) out h = tt
+
+pub led_refused : (old new : LeaderParts) (message : Kind) (result : Result (Option Fact) Refusal) (out : Output)
+    → ((config : Config) (number : ℕ) → FollowsOrRefuses config number old new (led out.reply out.sends result)
+    (λ stored memory. rules.on_leader_message config stored memory message)) → IfErr result (λ e. e ≡ NoMemory)
+led_refused old new message (Ok fact) out h = tt
+led_refused old new message (Err refusal) out h =
+    refused_memory no_config 0 old new (λ stored memory. rules.on_leader_message no_config stored memory message) refusal (h no_config 0)

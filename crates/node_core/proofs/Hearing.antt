@@ -22,8 +22,8 @@ use Rattle.node_core.specs.declared.output.Output.{Output}
 use Rattle.node_core.specs.declared.role.Role.{Role}
 use Rattle.node_core.specs.Sends.{sent}
 use Rattle.node_core.specs.Roles.{RoleStands}
-use Rattle.node_core.specs.Storing.{IsDone, Carries, output_of}
-use Rattle.node_core.specs.Nodes.{Stands, Steps, datagram_input, role_settled, out_of}
+use Rattle.node_core.specs.Storing.{IsDone, Carries, carried, output_of}
+use Rattle.node_core.specs.Nodes.{Stands, Steps, datagram_input, role_settled}
 use Rattle.node_core.proofs.Steps.{steps_settled, steps_down}
 
 abbrev handed : Option Kind → Input
@@ -93,11 +93,11 @@ module _ (config : Config) (who : NodeId) (own : List Row) (m : NodeState) (byte
       (steps_down config who own m (datagram_input bytes) held out (subst (λ r. Stands config who own held r m) is s)
       (accepted_by who (message_at bytes)) (out_is ∙ ap (λ a. output_of a None) (sym (down_by (message_at bytes)))))
 
-  pub hears : (old new : Held) (was role : Option Role) (up now : Role) (done : Result Output Output) (out : Output)
-      → was ≡ Some up → role ≡ role_settled (Some now) done → out ≡ out_of done
-      → (RoleStands config who up m.facts m.memory
-      → Carries config who m.facts m.memory (effect_of config who m.facts m.memory (datagram_input bytes)) old new now done)
+  pub hears : (old new : Held) (was role : Option Role) (before now : Role) (up : Bool) (out : Output)
+      → was ≡ Some before → role ≡ role_settled (Some now) up
+      → (RoleStands config who before m.facts m.memory
+      → Carries config who m.facts m.memory (effect_of config who m.facts m.memory (datagram_input bytes)) old new now (carried up out))
       → Stands config who own old was m → Steps config who own m (datagram_input bytes) old new role out
-  hears old new was role up now done out is role_is out_is carries s =
-      steps_settled config who own m (datagram_input bytes) old new was role up now done out is (accepted_by who (message_at bytes))
-      role_is out_is carries s
+  hears old new was role before now up out is role_is carries s =
+      steps_settled config who own m (datagram_input bytes) old new was role before now up out is (accepted_by who (message_at bytes))
+      role_is carries s

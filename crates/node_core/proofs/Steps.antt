@@ -36,7 +36,7 @@ use Rattle.node_core.specs.declared.output.Output.{Output}
 use Rattle.node_core.specs.declared.role.Role.{Role}
 use Rattle.node_core.specs.Sends.{sent}
 use Rattle.node_core.specs.Roles.{RoleStands}
-use Rattle.node_core.specs.Storing.{fact_frame, output_of, change_made, IsTorn, IsKept, RanOut, WasStopped, Carries}
+use Rattle.node_core.specs.Storing.{fact_frame, output_of, change_made, IsTorn, IsKept, RanOut, WasStopped, Carries, carried}
 use Rattle.node_core.specs.Nodes.{role_left, role_settled, out_of}
 use Rattle.node_core.specs.Nodes.{MeansFrom, begun, SameState, Keeps, Stands, Befalls, HasMet, Shows, Steps, fact_to_store}
 use Rattle.node_core.proofs.Changes.{unchanged, changes_made}
@@ -330,18 +330,23 @@ module _ (config : Config) (who : NodeId) (own : List Row) (m : NodeState) (inpu
       else effect_outcome m whole_effect whole_effect.fact m.tear NoFault)
       (λ i. if accepted i && s.role_is i then whole_effect.fact else None)
 
-  settled_left : (now : Role) (done : Result Output Output) → role_settled (Some now) done ≡ role_left now done
-  settled_left now (Ok out) = refl
-  settled_left now (Err out) = refl
+  settled_left : (now : Role) (up : Bool) (out : Output) → role_settled (Some now) up ≡ role_left now (carried up out)
+  settled_left now true out = refl
+  settled_left now false out = refl
+
+  put_out : (up : Bool) (out : Output) → out ≡ out_of (carried up out)
+  put_out true out = refl
+  put_out false out = refl
 
   -- of a node that was up, once it is settled
-  pub steps_settled : (old new : Held) (was role : Option Role) (up now : Role) (done : Result Output Output) (out : Output)
-      → was ≡ Some up → accepts_input who input ≡ true → role ≡ role_settled (Some now) done → out ≡ out_of done
-      → (RoleStands config who up m.facts m.memory → Carries config who m.facts m.memory whole_effect old new now done)
+  pub steps_settled : (old new : Held) (was role : Option Role) (before now : Role) (up : Bool) (out : Output)
+      → was ≡ Some before → accepts_input who input ≡ true → role ≡ role_settled (Some now) up
+      → (RoleStands config who before m.facts m.memory
+      → Carries config who m.facts m.memory whole_effect old new now (carried up out))
       → Stands config who own old was m → Steps config who own m input old new role out
-  steps_settled old new was role up now done out is accepted role_is out_is carries s =
-      let stands : Stands config who own old (Some up) m = subst (λ r. Stands config who own old r m) is s in
+  steps_settled old new was role before now up out is accepted role_is carries s =
+      let stands : Stands config who own old (Some before) m = subst (λ r. Stands config who own old r m) is s in
       let P : Option Role → Output → Type 0 = λ r o. Steps config who own m input old new r o in
-      subst (λ r. P r out) (sym (role_is ∙ settled_left now done))
-      (subst (λ o. P (role_left now done) o) (sym out_is)
-      (steps_up old new up now done stands accepted (carries stands.role_is.2)))
+      subst (λ r. P r out) (sym (role_is ∙ settled_left now up out))
+      (subst (λ o. P (role_left now (carried up out)) o) (sym (put_out up out))
+      (steps_up old new before now (carried up out) stands accepted (carries stands.role_is.2)))

@@ -13,14 +13,13 @@ use Rattle.protocol.specs.Effects.{Config, Effect}
 use Rattle.protocol.specs.Nodes.{Memory}
 use Rattle.node_core.specs.declared.output.Output.{Output}
 use Rattle.node_core.specs.declared.role.Role.{Role}
-use Rattle.node_core.specs.declared.role.RoleDecision.{RoleDecision}
 use Rattle.node_core.specs.declared.storing.Stopped.{Stopped}
 use Rattle.node_core.specs.declared.storing.Stopped.TheVariants as stops
 use Rattle.node_core.specs.Roles.{IsDecided, IsLeft}
 use Rattle.node_core.specs.Storing.{HasStored, RanOut, WasStopped, output_of, stopped_output, change_made}
 
 pub was_stopped : (config : Config) (who : NodeId) (facts : List Fact) (memory : Memory) (e : Effect Memory) (role : Role)
-    (decision : RoleDecision) (fact : Fact) (old new : Held) (stopped : Stopped) (now : Option Change) (out : Output)
+    (decision : Decision) (fact : Fact) (old new : Held) (stopped : Stopped) (now : Option Change) (out : Output)
     → IsDecided config who facts memory role decision e → decision.fact ≡ Some fact → IsFact fact
     → HasStored fact old new (Err stopped) → now ≡ change_made who fact → out ≡ stopped_output stopped now
     → RanOut old new out ⊎ WasStopped config who facts e old new out

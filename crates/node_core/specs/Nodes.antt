@@ -1,6 +1,6 @@
 -- A node: which node of the machine it stands for, and what an input makes of both.
 use Rattle.xid.specs.Limits.{most_acceptors}
-use Rattle.std.specs.Prelude.{◌≡◌, ◌<◌, ◌≤◌, ℕ, true, false, ◌&&◌, if◌then◌else◌, List, [], ◌++◌, map, Option, Some, None, Result, Ok, Err}
+use Rattle.std.specs.Prelude.{◌≡◌, ◌<◌, ◌≤◌, ℕ, Bool, true, false, ◌&&◌, if◌then◌else◌, List, [], ◌++◌, map, Option, Some, None, Result, Ok, Err}
 use Rattle.std.specs.Prelude.{unwrap_or}
 use Rattle.std.specs.Option.{option_map_or}
 use Rattle.wire.specs.Decoding.{message_at}
@@ -145,9 +145,9 @@ out_of (Ok out) = out
 out_of (Err out) = out
 
 -- what a place for a role holds then
-abbrev pub role_settled : Option Role → Result Output Output → Option Role
-role_settled role (Ok out) = role
-role_settled role (Err out) = None
+abbrev pub role_settled : Option Role → (up : Bool) → Option Role
+role_settled role true = role
+role_settled role false = None
 
 -- ---- the whole node
 

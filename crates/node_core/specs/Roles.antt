@@ -14,12 +14,9 @@ use Rattle.acceptor.specs.Tables.{IsSeen}
 use Rattle.leader.specs.Leaders as of_leader
 use Rattle.resource_manager.specs.Managers as of_manager
 use Rattle.node_core.specs.declared.role.Role.{Role}
-use Rattle.node_core.specs.declared.role.RoleDecision.{RoleDecision}
-use Rattle.node_core.specs.declared.sends.NodeSends.TheVariants.{Few, OfLeader, Reminder as ReminderSends}
-use Rattle.leader.specs.declared.decision.LeaderDecision.{LeaderDecision}
+use Rattle.node_core.specs.declared.output.Output.{Output}
 use Rattle.resource_manager.specs.declared.messages.Reminder.{Reminder}
 use Rattle.protocol.specs.declared.answers.Answer.{Answer}
-use Rattle.node_core.specs.Sends.{sent}
 
 -- a role is the one of this node of a cluster, and stands for these facts and this memory
 abbrev pub RoleStands : Config → NodeId → Role → List Fact → Memory → Type 0
@@ -37,25 +34,17 @@ IsReadyFor (Role.Manager p) fact = of_manager.IsReadyFor p fact
 
 -- ---- what is decided
 
--- a decision as the machine has it
-abbrev pub shown : RoleDecision → Decision
-shown decision = record { answer = decision.answer; fact = decision.fact; sends = sent decision.sends }
-
--- what an acceptor or a resource manager decided
-abbrev pub from_part : Decision → RoleDecision
-from_part decision = record { answer = decision.answer; fact = decision.fact; sends = Few decision.sends }
-
--- what a leader decided
-abbrev pub from_leader : LeaderDecision → RoleDecision
-from_leader decision = record { answer = decision.answer; fact = decision.fact; sends = OfLeader decision.sends }
+-- what was decided: a fact, beside what is put out
+abbrev pub decided : Option Fact → Output → Decision
+decided fact out = record { answer = out.reply; fact = fact; sends = out.sends }
 
 -- what a resource manager is reminded of
-abbrev pub from_reminder : Reminder → RoleDecision
-from_reminder r = record { answer = r.answer; fact = None; sends = ReminderSends r.vote r.question }
+abbrev pub from_reminder : Reminder → Decision
+from_reminder r = record { answer = r.answer; fact = None; sends = r.vote ++ r.question }
 
 -- an answer, with nothing to store or to send
-abbrev pub answering : Answer → RoleDecision
-answering answer = record { answer = answer; fact = None; sends = Few [] }
+abbrev pub answering : Answer → Decision
+answering answer = record { answer = answer; fact = None; sends = [] }
 
 -- what is in memory after a fact that was decided: a leader begins its ballot, and a resource manager keeps no branch whose name is spent
 abbrev pub memory_after : NodeId → List Fact → Memory → Fact → Memory
@@ -83,9 +72,9 @@ IsLeft config who facts memory role e None = RoleStands config who role facts e.
 IsLeft config who facts memory role e (Some fact) = WaitsFor config who facts memory role e fact
 
 -- a decision is what the machine makes of it
-pub record IsDecided (config : Config) (who : NodeId) (facts : List Fact) (memory : Memory) (role : Role) (decision : RoleDecision)
+pub record IsDecided (config : Config) (who : NodeId) (facts : List Fact) (memory : Memory) (role : Role) (decision : Decision)
     (e : Effect Memory) : Type 0 where
-  pub effect_is : shown decision ≡ decision_of e
+  pub effect_is : decision ≡ decision_of e
   pub leaves : IsLeft config who facts memory role e decision.fact
 
 -- what the machine makes of an input, by the node's facts and memory
@@ -93,7 +82,7 @@ abbrev pub Rule : Type 0
 Rule = Config → NodeId → List Fact → Memory → Effect Memory
 
 -- a role decides by a rule, whatever it stood for
-abbrev pub Decides : (old new : Role) → RoleDecision → Rule → Type 0
+abbrev pub Decides : (old new : Role) → Decision → Rule → Type 0
 Decides old new decision rule =
     (config : Config) (who : NodeId) (facts : List Fact) (memory : Memory) → RoleStands config who old facts memory
     → IsDecided config who facts memory new decision (rule config who facts memory)

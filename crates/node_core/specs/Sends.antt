@@ -1,11 +1,16 @@
 -- What a node sends, as the machine has it.
-use Rattle.std.specs.Prelude.{List, ◌++◌}
+use Rattle.std.specs.Prelude.{List, Option, Result, Ok, Err}
+use Rattle.xid.specs.declared.refusals.Refusal.{Refusal}
+use Rattle.stable_record.specs.declared.fact.FactKind.{FactKind as Fact}
+use Rattle.protocol.specs.declared.answers.Answer.{Answer}
 use Rattle.protocol.specs.declared.decisions.Outgoing.{Outgoing}
-use Rattle.node_core.specs.declared.sends.NodeSends.{NodeSends}
-use Rattle.node_core.specs.declared.sends.NodeSends.TheVariants.{Few, Reminder, OfLeader}
+use Rattle.leader.specs.declared.decision.LeaderDecision.{LeaderDecision}
 
 -- the messages, in order
-abbrev pub sent : NodeSends → List Outgoing
-sent (Few sends) = sends
-sent (Reminder vote question) = vote ++ question
-sent (OfLeader sends) = sends
+abbrev pub sent : List Outgoing → List Outgoing
+sent all = all
+
+-- what a leader decided, whose parts stand apart; or a refusal
+abbrev pub led : Answer → List Outgoing → Result (Option Fact) Refusal → Result LeaderDecision Refusal
+led answer sends (Ok fact) = Ok (record { answer = answer; fact = fact; sends = sends })
+led answer sends (Err refusal) = Err refusal

@@ -1,5 +1,5 @@
 -- How a node carries out what its role decided, and what it leaves of its record.
-use Rattle.std.specs.Prelude.{◌≡◌, ◌⊎◌, ℕ, Bool, true, ◌==◌, if◌then◌else◌, List, [], ◌∷◌, ◌++◌, length, Option, Some, None, Result, Ok}
+use Rattle.std.specs.Prelude.{◌≡◌, ◌⊎◌, ℕ, Bool, true, false, ◌==◌, if◌then◌else◌, List, [], ◌∷◌, ◌++◌, length, Option, Some, None, Result, Ok}
 use Rattle.std.specs.Prelude.{Err}
 use Rattle.xid.specs.declared.refusals.Refusal.TheVariants.{RecordFault, NoMemory}
 use Rattle.wire.specs.Versions.{version_2}
@@ -18,7 +18,6 @@ use Rattle.protocol.specs.Effects.{Config, Effect}
 use Rattle.protocol.specs.Nodes.{Memory, plays}
 use Rattle.node_core.specs.declared.output.Output.{Output}
 use Rattle.node_core.specs.declared.role.Role.{Role}
-use Rattle.node_core.specs.declared.sends.NodeSends.TheVariants.{Few}
 use Rattle.node_core.specs.declared.storing.Stopped.{Stopped}
 use Rattle.node_core.specs.declared.storing.Stopped.TheVariants as stops
 use Rattle.node_core.specs.Sends.{sent}
@@ -41,7 +40,7 @@ HasStored fact old new (Err stops.Memory) = new ≡ old
 
 -- an answer and the change of a view, with nothing sent
 abbrev pub output_of : Answer → Option Change → Output
-output_of reply now = record { reply = reply; now = now; sends = Few [] }
+output_of reply now = record { reply = reply; now = now; sends = [] }
 
 -- what is put out where an append was stopped
 abbrev pub stopped_output : Stopped → Option Change → Output
@@ -99,6 +98,11 @@ pub record WasStopped (config : Config) (who : NodeId) (facts : List Fact) (e : 
   pub whole : Bool
   pub torn : IsTorn fact old new whole
   pub out_is : out ≡ output_of (Refused RecordFault) (if whole then change_made who fact else None)
+
+-- what is put out, and whether the node stays up
+abbrev pub carried : (up : Bool) → Output → Result Output Output
+carried true out = Ok out
+carried false out = Err out
 
 -- what came of a decision
 abbrev pub Carries : Config → NodeId → List Fact → Memory → Effect Memory → (old new : Held) → Role → Result Output Output → Type 0

@@ -8,8 +8,8 @@ ghost use Rattle.protocol.specs.declared.rows.Row.{Row};
 ghost use Rattle.protocol.specs.Effects.{Config};
 ghost use Rattle.protocol.specs.Nodes.{Memory, NodeState, Asked, effect_of, is_message_inside, down_answer as down_answer_of};
 ghost use Rattle.node_core.specs.Roles.{RoleStands};
-ghost use Rattle.node_core.specs.Storing.{Carries};
-ghost use Rattle.node_core.specs.Nodes.{AreSizes, Stands, Steps, datagram_input, role_left, role_settled, out_of};
+ghost use Rattle.node_core.specs.Storing.{Carries, carried};
+ghost use Rattle.node_core.specs.Nodes.{AreSizes, Stands, Steps, datagram_input, role_settled};
 
 use crate::config::Sizes;
 use crate::output::Output;
@@ -57,7 +57,7 @@ fn is_of_cluster(sizes: Sizes, message: &Message) -> bool
     }
 }
 
-/// What a node that is up does on the bytes of a datagram. Refused where it goes down.
+/// What a node that is up does on the bytes of a datagram. False where it goes down.
 fn hear<R: Record>(
     alloc: Global,
     device: &mut R,
@@ -65,54 +65,61 @@ fn hear<R: Record>(
     sizes: Sizes,
     role: &mut Role,
     bytes: &[u8],
-) -> Result<Output, Output>
+    out: &mut Output,
+) -> bool
     ensures { (config : Config) (facts : List FactKind) (memory : Memory) → AreSizes config sizes
         → RoleStands config who role.old facts memory
         → Carries config who facts memory (effect_of config who facts memory (datagram_input bytes.now))
-        (R.held device.old) (R.held device.new) role.new result }
+        (R.held device.old) (R.held device.new) role.new (carried result out.new) }
 {
     let message = match decode(bytes) {
         Ok(message) => message,
-        Err(_) => return Ok(Output::refuses(Refusal::BadMessage)),
+        Err(_) => {
+            out.refuse(Refusal::BadMessage);
+            return true;
+        }
     };
     if !is_of_cluster(sizes, &message) {
-        return Ok(Output::answers(Answer::Done));
+        out.answer(Answer::Done);
+        return true;
     }
-    match role.on_message(&message) {
-        Ok(decision) => carry_out(alloc, device, who, role, decision),
-        Err(refusal) => Err(Output::refuses(refusal)),
+    match role.on_message(&message, out) {
+        Ok(fact) => carry_out(alloc, device, who, role, fact, out),
+        Err(refusal) => {
+            out.refuse(refusal);
+            false
+        }
     }
 }
 
-/// What a node that is up does on a request. Refused where it goes down.
+/// What a node that is up does on a request. False where it goes down.
 fn serve<R: Record>(
     alloc: Global,
     device: &mut R,
     who: NodeId,
     role: &mut Role,
     request: &Request,
-) -> Result<Output, Output>
+    out: &mut Output,
+) -> bool
     ensures { (config : Config) (facts : List FactKind) (memory : Memory) → RoleStands config who role.old facts memory
         → Carries config who facts memory (effect_of config who facts memory (Asked request.now))
-        (R.held device.old) (R.held device.new) role.new result }
+        (R.held device.old) (R.held device.new) role.new (carried result out.new) }
 {
-    match role.on_request(request) {
-        Ok(decision) => carry_out(alloc, device, who, role, decision),
-        Err(refusal) => Err(Output::refuses(refusal)),
+    match role.on_request(request, out) {
+        Ok(fact) => carry_out(alloc, device, who, role, fact, out),
+        Err(refusal) => {
+            out.refuse(refusal);
+            false
+        }
     }
 }
 
-/// What is put out; where a decision wasn't carried out, the node is down.
-fn settle(role: &mut Option<Role>, done: Result<Output, Output>) -> Output
-    ensures out { result ≡ out_of done }
-    ensures role { role.new ≡ role_settled role.old done }
+/// Where a decision wasn't carried out, the node is down.
+fn settle(role: &mut Option<Role>, up: bool)
+    ensures { role.new ≡ role_settled role.old up }
 {
-    match done {
-        Ok(output) => output,
-        Err(output) => {
-            *role = None;
-            output
-        }
+    if !up {
+        *role = None;
     }
 }
 
@@ -138,16 +145,20 @@ pub(crate) fn receive<R: Record>(
     sizes: Sizes,
     role: &mut Option<Role>,
     bytes: &[u8],
-) -> Output
+    out: &mut Output,
+)
     ensures { (config : Config) (own : List Row) (m : NodeState) → AreSizes config sizes
         → Stands config who own (R.held device.old) role.old m
-        → Steps config who own m (datagram_input bytes.now) (R.held device.old) (R.held device.new) role.new result }
+        → Steps config who own m (datagram_input bytes.now) (R.held device.old) (R.held device.new) role.new out.new }
 {
-    let done = match role {
-        Some(up) => hear(alloc, device, who, sizes, up, bytes),
-        None => return Output::refuses(Refusal::Down),
+    let stays = match role {
+        Some(up) => hear(alloc, device, who, sizes, up, bytes, out),
+        None => {
+            out.refuse(Refusal::Down);
+            return;
+        }
     };
-    settle(role, done)
+    settle(role, stays);
 }
 
 /// What a node does on a request.
@@ -157,16 +168,21 @@ pub(crate) fn ask<R: Record>(
     who: NodeId,
     role: &mut Option<Role>,
     request: &Request,
-) -> Output
+    out: &mut Output,
+)
     ensures { (config : Config) (own : List Row) (m : NodeState) → Stands config who own (R.held device.old) role.old m
-        → Steps config who own m (Asked request.now) (R.held device.old) (R.held device.new) role.new result }
+        → Steps config who own m (Asked request.now) (R.held device.old) (R.held device.new) role.new out.new }
 {
     if !accepts_request(who, request) {
-        return Output::refuses(Refusal::NoSuch);
+        out.refuse(Refusal::NoSuch);
+        return;
     }
-    let done = match role {
-        Some(up) => serve(alloc, device, who, up, request),
-        None => return Output::answers(down_answer(request)),
+    let stays = match role {
+        Some(up) => serve(alloc, device, who, up, request, out),
+        None => {
+            out.answer(down_answer(request));
+            return;
+        }
     };
-    settle(role, done)
+    settle(role, stays);
 }

@@ -23,7 +23,7 @@ pub use config::{Config, Sizes};
 pub use node::Node;
 pub use output::{Input, Output};
 pub use receivers::{place_of, receiver_at, receiver_count};
-pub use role::{Role, RoleDecision};
+pub use role::Role;
 pub use sends::NodeSends;
 
 #[cfg(test)]

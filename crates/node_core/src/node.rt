@@ -180,6 +180,16 @@ impl<R: Record> Node<R> {
         ensures { (config : ConfigParts) (m : NodeState) → NodeStands config self.old m
             → StepsAs config m (input_of input.entry) self.old self.new result }
     {
+        let mut out = Output::nothing();
+        self.step_into(input, &mut out);
+        out
+    }
+
+    /// What it does on an input, as `step` says, in place of what came of another.
+    pub fn step_into(&mut self, input: Input, out: &mut Output)
+        ensures { (config : ConfigParts) (m : NodeState) → NodeStands config self.old m
+            → StepsAs config m (input_of input.entry) self.old self.new out.new }
+    {
         match input {
             Input::Asked(request) => ask(
                 self.alloc,
@@ -187,6 +197,7 @@ impl<R: Record> Node<R> {
                 self.who,
                 &mut self.role,
                 request,
+                out,
             ),
             Input::Received(bytes) => receive(
                 self.alloc,
@@ -195,6 +206,7 @@ impl<R: Record> Node<R> {
                 self.sizes,
                 &mut self.role,
                 bytes,
+                out,
             ),
         }
     }

@@ -1,10 +1,13 @@
 ghost use Rattle.std.specs.Prelude.{◌≡◌, None, Some};
-ghost use Rattle.protocol.specs.declared.answers.Answer.TheVariants.{Refused};
+ghost use Rattle.protocol.specs.declared.answers.Answer.TheVariants.{Done, Refused};
+ghost use Rattle.node_core.specs.Roles.{decided, from_reminder, answering};
 ghost use Rattle.node_core.specs.Storing.{output_of, stopped_output, change_made};
 
 use crate::sends::NodeSends;
 use crate::storing::Stopped;
-use protocol::{Answer, Change, NodeId, Request, View};
+use leader::LeaderSends;
+use protocol::{Answer, Change, NodeId, Request, Sends, View};
+use resource_manager::Reminder;
 use stable_record::{Fact, FactKind};
 use xid::{Refusal, Tx};
 
@@ -29,36 +32,90 @@ pub struct Output {
 }
 
 impl Output {
-    /// An answer alone.
-    pub(crate) fn answers(reply: Answer) -> Output
-        ensures { result ≡ output_of reply None }
+    /// Nothing that came of anything yet.
+    pub fn nothing() -> Output
+        ensures { result ≡ output_of Done None }
     {
         Output {
-            reply,
+            reply: Answer::Done,
             now: None,
             sends: NodeSends::none(),
         }
     }
 
-    /// A refusal alone.
-    pub(crate) fn refuses(refusal: Refusal) -> Output
-        ensures { result ≡ output_of (Refused refusal) None }
+    /// An answer alone.
+    pub(crate) fn answer(&mut self, reply: Answer)
+        ensures { self.new ≡ output_of reply None }
     {
-        Output::answers(Answer::Refused(refusal))
+        self.reply = reply;
+        self.keep_view();
+        self.sends.clear();
+    }
+
+    /// A refusal alone.
+    pub(crate) fn refuse(&mut self, refusal: Refusal)
+        ensures { self.new ≡ output_of (Refused refusal) None }
+    {
+        self.answer(Answer::Refused(refusal));
+    }
+
+    /// No view changed.
+    pub(crate) fn keep_view(&mut self)
+        ensures { self.new ≡ record { reply = self.old.reply; now = None; sends = self.old.sends } }
+    {
+        let Some(_) = &self.now else {
+            return;
+        };
+        self.now = None;
     }
 
     /// The refusal of an append that was stopped, with the change that the fact makes where its whole frame was kept.
-    pub(crate) fn stopped(stopped: Stopped, now: Option<Change>) -> Output
-        ensures { result ≡ stopped_output stopped now }
+    pub(crate) fn stop(&mut self, stopped: Stopped, now: Option<Change>)
+        ensures { self.new ≡ stopped_output stopped now }
     {
         match stopped {
-            Stopped::Memory => Output::refuses(Refusal::NoMemory),
-            Stopped::Fault { whole } => Output {
-                reply: Answer::Refused(Refusal::RecordFault),
-                now: if whole { now } else { None },
-                sends: NodeSends::none(),
-            },
+            Stopped::Memory => self.refuse(Refusal::NoMemory),
+            Stopped::Fault { whole } => {
+                self.refuse(Refusal::RecordFault);
+                if whole {
+                    self.now = now;
+                }
+            }
         }
+    }
+
+    /// What an acceptor or a resource manager answers and sends.
+    pub(crate) fn put(&mut self, reply: Answer, sends: Sends)
+        ensures { self.new ≡ record { reply = reply; now = self.old.now; sends = sends } }
+    {
+        self.reply = reply;
+        self.sends.put(sends);
+    }
+
+    /// What a leader answers and sends.
+    pub(crate) fn put_led(&mut self, reply: Answer, sends: LeaderSends)
+        ensures { self.new ≡ record { reply = reply; now = self.old.now; sends = sends } }
+    {
+        self.reply = reply;
+        self.sends.put_led(sends);
+    }
+
+    /// What a resource manager is reminded of at a timeout. There is no fact to store.
+    pub(crate) fn take_reminder(&mut self, reminder: Reminder) -> Option<Fact>
+        ensures { decided result self.new ≡ from_reminder reminder }
+    {
+        self.reply = reminder.answer;
+        self.sends.remind(reminder.vote, reminder.question);
+        None
+    }
+
+    /// What is answered where there is nothing to store or to send.
+    pub(crate) fn take_answer(&mut self, reply: Answer) -> Option<Fact>
+        ensures { decided result self.new ≡ answering reply }
+    {
+        self.reply = reply;
+        self.sends.clear();
+        None
     }
 }
 

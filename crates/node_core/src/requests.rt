@@ -7,13 +7,14 @@ ghost use Rattle.protocol.specs.Effects.{Config, view_standing};
 ghost use Rattle.protocol.specs.Nodes.{on_request, accepts_request as is_accepted};
 ghost use Rattle.resource_manager.specs.Managers.{IsCall};
 ghost use Rattle.node_core.specs.declared.role.Role.TheVariants as roles;
-ghost use Rattle.node_core.specs.Roles.{Decides, answering};
+ghost use Rattle.node_core.specs.Roles.{Decides, decided, answering};
 
-use crate::role::RoleDecision;
+use crate::output::Output;
 use branch_table::Ending;
 use leader::Leader;
 use protocol::{Action, Answer, NodeId, Request, Standing, View};
 use resource_manager::ResourceManager;
+use stable_record::Fact;
 use xid::{Refusal, Xid};
 
 /// Whether a kind of node takes a request: an acceptor none, a leader those on transactions, a resource manager the client calls too.
@@ -37,21 +38,36 @@ pub(crate) fn accepts_request(who: NodeId, request: &Request) -> bool
 }
 
 /// What a leader does on a request.
-pub(crate) fn at_leader(leader: &mut Leader, request: &Request) -> Result<RoleDecision, Refusal>
-    ensures ok { IfOk result (λ decision. Decides (roles.Leader leader.old) (roles.Leader leader.new) decision
+pub(crate) fn at_leader(
+    leader: &mut Leader,
+    request: &Request,
+    out: &mut Output,
+) -> Result<Option<Fact>, Refusal>
+    ensures ok { IfOk result (λ fact. Decides (roles.Leader leader.old) (roles.Leader leader.new) (decided fact out.new)
         (λ config who facts memory. on_request config who facts memory request.now)) }
     ensures err { IfErr result (λ e. e ≡ NoMemory) }
 {
     match request {
         Request::Commit { tx } => match leader.commit(tx) {
-            Ok(decision) => Ok(RoleDecision::of_leader(decision)),
+            Ok(decision) => {
+                out.put_led(decision.answer, decision.sends);
+                Ok(decision.fact)
+            }
             Err(refusal) => Err(refusal),
         },
-        Request::Status { tx } => Ok(RoleDecision::of_leader(leader.status(tx))),
-        Request::Timeout { tx } => Ok(RoleDecision::of_leader(leader.timeout(tx))),
-        Request::Call { .. } => Ok(not_taken()),
-        Request::Recover => Ok(not_taken()),
-        Request::View { .. } => Ok(not_taken()),
+        Request::Status { tx } => {
+            let decision = leader.status(tx);
+            out.put_led(decision.answer, decision.sends);
+            Ok(decision.fact)
+        }
+        Request::Timeout { tx } => {
+            let decision = leader.timeout(tx);
+            out.put_led(decision.answer, decision.sends);
+            Ok(decision.fact)
+        }
+        Request::Call { .. } => Ok(not_taken(out)),
+        Request::Recover => Ok(not_taken(out)),
+        Request::View { .. } => Ok(not_taken(out)),
     }
 }
 
@@ -59,27 +75,28 @@ pub(crate) fn at_leader(leader: &mut Leader, request: &Request) -> Result<RoleDe
 pub(crate) fn at_manager(
     manager: &mut ResourceManager,
     request: &Request,
-) -> Result<RoleDecision, Refusal>
-    ensures ok { IfOk result (λ decision. Decides (roles.Manager manager.old) (roles.Manager manager.new) decision
+    out: &mut Output,
+) -> Result<Option<Fact>, Refusal>
+    ensures ok { IfOk result (λ fact. Decides (roles.Manager manager.old) (roles.Manager manager.new) (decided fact out.new)
         (λ config who facts memory. on_request config who facts memory request.now)) }
     ensures err { IfErr result (λ e. e ≡ NoMemory) }
 {
     match request {
         Request::Call { xid, action } => match call(manager, xid, action) {
-            Ok(answer) => Ok(RoleDecision::answers(answer)),
+            Ok(answer) => Ok(out.take_answer(answer)),
             Err(refusal) => Err(refusal),
         },
         Request::Recover => match manager.recover() {
-            Ok(answer) => Ok(RoleDecision::answers(answer)),
+            Ok(answer) => Ok(out.take_answer(answer)),
             Err(refusal) => Err(refusal),
         },
         Request::View { tx } => match manager.view(tx) {
-            Ok(view) => Ok(RoleDecision::answers(Answer::Stands(standing_of(view)))),
-            Err(refusal) => Ok(RoleDecision::answers(Answer::Refused(refusal))),
+            Ok(view) => Ok(out.take_answer(Answer::Stands(standing_of(view)))),
+            Err(refusal) => Ok(out.take_answer(Answer::Refused(refusal))),
         },
-        Request::Timeout { tx } => Ok(RoleDecision::of_reminder(manager.timeout(tx))),
-        Request::Commit { .. } => Ok(not_taken()),
-        Request::Status { .. } => Ok(not_taken()),
+        Request::Timeout { tx } => Ok(out.take_reminder(manager.timeout(tx))),
+        Request::Commit { .. } => Ok(not_taken(out)),
+        Request::Status { .. } => Ok(not_taken(out)),
     }
 }
 
@@ -113,8 +130,8 @@ fn standing_of(view: View) -> Standing
 }
 
 /// What is decided on a request that a kind of node doesn't take.
-pub(crate) fn not_taken() -> RoleDecision
-    ensures { result ≡ answering (Refused NoSuch) }
+pub(crate) fn not_taken(out: &mut Output) -> Option<Fact>
+    ensures { decided result out.new ≡ answering (Refused NoSuch) }
 {
-    RoleDecision::answers(Answer::Refused(Refusal::NoSuch))
+    out.take_answer(Answer::Refused(Refusal::NoSuch))
 }

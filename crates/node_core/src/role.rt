@@ -1,16 +1,16 @@
-ghost use Rattle.std.specs.Prelude.{◌≡◌, ℕ, [], None, IfOk, IfErr, OnOk};
+ghost use Rattle.std.specs.Prelude.{◌≡◌, ℕ, [], IfOk, IfErr, OnOk};
 ghost use Rattle.xid.specs.declared.refusals.Refusal.TheVariants.{NoMemory};
 ghost use Rattle.protocol.specs.Effects.{Config};
 ghost use Rattle.protocol.specs.Nodes.{on_message as on_message_of, on_request as on_request_of, empty_memory};
 ghost use Rattle.node_core.specs.declared.role.Role.TheVariants as roles;
-ghost use Rattle.node_core.specs.Roles.{Decides, IsReadyFor, IsSame, Replays, Takes, from_part, from_leader, from_reminder, answering};
+ghost use Rattle.node_core.specs.Roles.{Decides, IsReadyFor, IsSame, Replays, Takes, decided};
 
+use crate::output::Output;
 use crate::requests::{at_leader, at_manager, not_taken};
-use crate::sends::NodeSends;
 use acceptor::Acceptor;
-use leader::{Leader, LeaderDecision};
-use protocol::{Answer, Decision, Request, Sends};
-use resource_manager::{Reminder, ResourceManager};
+use leader::Leader;
+use protocol::Request;
+use resource_manager::ResourceManager;
 use stable_record::{Fact, FactKind};
 use wire::Message;
 use xid::Refusal;
@@ -26,97 +26,50 @@ pub enum Role {
     Manager(ResourceManager),
 }
 
-/// What a role decides on an input.
-#[derive(Debug, Drop)]
-pub struct RoleDecision {
-    /// What the input is answered.
-    pub answer: Answer,
-    /// The fact to store, if there is one. Nothing is sent before it is stored.
-    pub fact: Option<Fact>,
-    /// What to send then, in order.
-    pub sends: NodeSends,
-}
-
-impl RoleDecision {
-    /// What an acceptor or a resource manager decided.
-    pub(crate) fn of_part(decision: Decision) -> RoleDecision
-        ensures { result ≡ from_part decision }
-    {
-        RoleDecision {
-            answer: decision.answer,
-            fact: decision.fact,
-            sends: NodeSends::Few(decision.sends),
-        }
-    }
-
-    /// What a leader decided.
-    pub(crate) fn of_leader(decision: LeaderDecision) -> RoleDecision
-        ensures { result ≡ from_leader decision }
-    {
-        RoleDecision {
-            answer: decision.answer,
-            fact: decision.fact,
-            sends: NodeSends::OfLeader(decision.sends),
-        }
-    }
-
-    /// What a resource manager is reminded of at a timeout.
-    pub(crate) fn of_reminder(reminder: Reminder) -> RoleDecision
-        ensures { result ≡ from_reminder reminder }
-    {
-        RoleDecision {
-            answer: reminder.answer,
-            fact: None,
-            sends: NodeSends::Reminder {
-                vote: reminder.vote,
-                question: reminder.question,
-            },
-        }
-    }
-
-    /// An answer, with nothing to store or to send.
-    pub(crate) fn answers(answer: Answer) -> RoleDecision
-        ensures { result ≡ answering answer }
-    {
-        RoleDecision {
-            answer,
-            fact: None,
-            sends: NodeSends::Few(Sends::none()),
-        }
-    }
-}
-
 impl Role {
-    /// What it does on a message of the cluster. A fact that it decides is stored by its caller, who makes ready for it before and then
-    /// has it taken. Refused: `NoMemory` alone, and then the role is of no use any more.
-    pub fn on_message(&mut self, message: &Message) -> Result<RoleDecision, Refusal>
-        ensures ok { IfOk result (λ decision. Decides self.old self.new decision
+    /// What it does on a message of the cluster: the answer and what to send are put out, and the fact is given that is to be stored
+    /// before, if there is one. Its caller makes ready for it, stores it and then has it taken. Refused: `NoMemory` alone, and then the
+    /// role is of no use any more.
+    pub fn on_message(
+        &mut self,
+        message: &Message,
+        out: &mut Output,
+    ) -> Result<Option<Fact>, Refusal>
+        ensures ok { IfOk result (λ fact. Decides self.old self.new (decided fact out.new)
             (λ config who facts memory. on_message_of config who facts memory message.now)) }
         ensures err { IfErr result (λ e. e ≡ NoMemory) }
     {
         match self {
-            Role::Acceptor(acceptor) => Ok(RoleDecision::of_part(acceptor.on_message(message))),
-            Role::Leader(leader) => match leader.on_message(message) {
-                Ok(decision) => Ok(RoleDecision::of_leader(decision)),
-                Err(refusal) => Err(refusal),
-            },
+            Role::Acceptor(acceptor) => {
+                let decision = acceptor.on_message(message);
+                out.put(decision.answer, decision.sends);
+                Ok(decision.fact)
+            }
+            Role::Leader(leader) => out.sends.lead(leader, message, &mut out.reply),
             Role::Manager(manager) => match manager.on_message(message) {
-                Ok(decision) => Ok(RoleDecision::of_part(decision)),
+                Ok(decision) => {
+                    out.put(decision.answer, decision.sends);
+                    Ok(decision.fact)
+                }
                 Err(refusal) => Err(refusal),
             },
         }
     }
 
     /// What it does on a request. One that its kind doesn't take is answered `NoSuch`. For the rest it is as `on_message`.
-    pub fn on_request(&mut self, request: &Request) -> Result<RoleDecision, Refusal>
-        ensures ok { IfOk result (λ decision. Decides self.old self.new decision
+    pub fn on_request(
+        &mut self,
+        request: &Request,
+        out: &mut Output,
+    ) -> Result<Option<Fact>, Refusal>
+        ensures ok { IfOk result (λ fact. Decides self.old self.new (decided fact out.new)
             (λ config who facts memory. on_request_of config who facts memory request.now)) }
         ensures err { IfErr result (λ e. e ≡ NoMemory) }
     {
         match self {
-            Role::Acceptor(_) => Ok(not_taken()),
-            Role::Leader(leader) => at_leader(leader, request),
-            Role::Manager(manager) => at_manager(manager, request),
+            Role::Acceptor(_) => Ok(not_taken(out)),
+            Role::Leader(leader) => at_leader(leader, request, out),
+            Role::Manager(manager) => at_manager(manager, request, out),
         }
     }
 

@@ -5,11 +5,11 @@ ghost use Rattle.stable_record.specs.declared.fact.FactKind.{FactKind};
 ghost use Rattle.stable_record.specs.Facts.{IsFact};
 ghost use Rattle.protocol.specs.Effects.{Config, Effect};
 ghost use Rattle.protocol.specs.Nodes.{Memory};
-ghost use Rattle.node_core.specs.Roles.{IsDecided};
-ghost use Rattle.node_core.specs.Storing.{HasStored, Carries};
+ghost use Rattle.node_core.specs.Roles.{IsDecided, decided};
+ghost use Rattle.node_core.specs.Storing.{HasStored, Carries, carried};
 
 use crate::output::{Output, change_by};
-use crate::role::{Role, RoleDecision};
+use crate::role::Role;
 use protocol::NodeId;
 use stable_record::{Fact, Record, RecordError};
 use std::alloc::Global;
@@ -48,45 +48,46 @@ pub(crate) fn store<R: Record>(alloc: Global, device: &mut R, fact: &Fact) -> Re
 }
 
 /// Carries out what a role decided: with nothing to store, it is answered and sent; else the role makes itself ready for the fact, which
-/// is appended and then played. Refused where the node goes down: the record failed, or memory ran out. Then nothing is sent.
+/// is appended and then played. False where the node goes down: the record failed, or memory ran out. Then nothing is sent.
 pub(crate) fn carry_out<R: Record>(
     alloc: Global,
     device: &mut R,
     who: NodeId,
     role: &mut Role,
-    decision: RoleDecision,
-) -> Result<Output, Output>
+    fact: Option<Fact>,
+    out: &mut Output,
+) -> bool
     ensures { (config : Config) (facts : List FactKind) (memory : Memory) (e : Effect Memory)
-        → IsDecided config who facts memory role.old decision e
-        → Carries config who facts memory e (R.held device.old) (R.held device.new) role.new result }
+        → IsDecided config who facts memory role.old (decided fact out.old) e
+        → Carries config who facts memory e (R.held device.old) (R.held device.new) role.new (carried result out.new) }
 {
-    let RoleDecision {
-        answer,
-        fact,
-        sends,
-    } = decision;
     let Some(fact) = fact else {
-        return Ok(Output {
-            reply: answer,
-            now: None,
-            sends,
-        });
+        out.keep_view();
+        return true;
     };
     match role.ready(&fact) {
         Ok(()) => {}
-        Err(refusal) => return Err(Output::refuses(refusal)),
+        Err(refusal) => {
+            out.refuse(refusal);
+            return false;
+        }
     }
     let now = change_by(who, &fact);
     match store(alloc, device, &fact) {
         Ok(()) => {}
-        Err(stopped) => return Err(Output::stopped(stopped, now)),
+        Err(stopped) => {
+            out.stop(stopped, now);
+            return false;
+        }
     }
     match role.take(fact) {
-        Ok(()) => Ok(Output {
-            reply: answer,
-            now,
-            sends,
-        }),
-        Err(refusal) => Err(Output::refuses(refusal)),
+        Ok(()) => {
+            out.now = now;
+            true
+        }
+        Err(refusal) => {
+            out.refuse(refusal);
+            false
+        }
     }
 }

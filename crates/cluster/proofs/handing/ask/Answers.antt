@@ -6,15 +6,15 @@ use Rattle.cluster.proofs.handing.ask.Goals as goal
 pub put_out-requires-clause-room : goal.put_out-requires-clause-room
 put_out-requires-clause-room g c =
     ask_room c.args.sizes c.args.nodes.now.items c.args.network.now c.make_room.new.network c.make_room.ensures.same c.args.who c.in-Some.at
-    c.in-Some.ensures c.args.request.now c.index_mut-node.result.now c.step-out.new.self c.step-out.result c.index_mut-node.ensures.value
-    c.step-out.ensures c.requires c.most_asked.result (vec_len c.in-Ok.listed) (vec_capacity c.in-Ok.listed) c.most_asked.ensures.bound
+    c.in-Some.ensures c.args.request.now c.index_mut-node.result.now c.step_into.new.self c.step_into.new.out c.index_mut-node.ensures.value
+    c.step_into.ensures c.requires c.most_asked.result (vec_len c.in-Ok.listed) (vec_capacity c.in-Ok.listed) c.most_asked.ensures.bound
     c.in-Ok.ensures.room
 
 pub returns : goal.returns
 returns g c =
     ask_made c.args.sizes c.args.nodes.now.items c.args.network.now c.make_room.new.network c.make_room.ensures.same c.args.who c.in-Some.at
-    c.in-Some.ensures c.args.request.now c.index_mut-node.result.now c.step-out.new.self c.step-out.result c.index_mut-node.ensures.value
-    c.step-out.ensures c.put_out.new.network c.put_out.result c.put_out.ensures.sent c.put_out.ensures.answer c.put_out.ensures.now
+    c.in-Some.ensures c.args.request.now c.index_mut-node.result.now c.step_into.new.self c.step_into.new.out c.index_mut-node.ensures.value
+    c.step_into.ensures c.put_out.new.network c.put_out.result c.put_out.ensures.sent c.put_out.ensures.answer c.put_out.ensures.now
 
 pub returns-in_default : goal.returns-in_default
 returns-in_default g c = λ config world s.

@@ -1,4 +1,4 @@
-use Rattle.std.proofs.Common.{refl}
+use Rattle.std.proofs.Common.{◌∙◌}
 use Rattle.protocol.specs.Nodes.{ReceivedNoise}
 use Rattle.cluster.proofs.Handed.{noise_handed, nowhere}
 use Rattle.cluster.proofs.handing.hand_noise.Goals as goal
@@ -6,8 +6,8 @@ use Rattle.cluster.proofs.handing.hand_noise.Goals as goal
 pub returns : goal.returns
 returns g c = λ network config world s.
     noise_handed config world c.args.sizes c.args.nodes.now.items network s c.args.who c.in-Some.at c.in-Some.ensures c.args.bytes.now
-    c.requires.noise c.index_mut-node.result.now c.step-out.new.self c.step-out.result c.index_mut-node.ensures.value c.step-out.ensures
-    (record { answer = c.step-out.result.reply; now = c.step-out.result.now; sent = c.new.result }) refl refl c.new.ensures.items
+    c.requires.noise c.index_mut-node.result.now c.step_into.new.self c.step_into.new.out c.index_mut-node.ensures.value c.step_into.ensures
+    c.of.result c.of.ensures.answer c.of.ensures.now (c.of.ensures.sent ∙ c.new.ensures.items)
 
 pub returns-in_default : goal.returns-in_default
 returns-in_default g c = λ network config world s.

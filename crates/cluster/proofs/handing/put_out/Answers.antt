@@ -1,3 +1,4 @@
+use Rattle.std.proofs.Common.{◌∙◌}
 use Rattle.std.specs.List.{flat_map}
 use Rattle.protocol.specs.Worlds.{datagrams_of}
 use Rattle.node_core.specs.Sends.{sent as sent_by}
@@ -7,6 +8,7 @@ use Rattle.cluster.proofs.handing.put_out.Goals as goal
 
 pub returns-clause-sent : goal.returns-clause-sent
 returns-clause-sent c =
-    sent_into c.args.network.now c.send_all.new.network c.args.listed.items c.send_all.new.listed.items c.fitted.result.items
-    (flat_map (datagrams_of (sized c.args.sizes) c.args.who) (sent_by c.args.out.sends)) c.requires.empty c.fitted.ensures
+    sent_into c.args.network.now c.send_all.new.network c.args.listed.items c.send_all.new.listed.items c.of.result.sent.items
+    (flat_map (datagrams_of (sized c.args.sizes) c.args.who) (sent_by c.args.out.now.sends)) c.requires.empty
+    (c.of.ensures.sent ∙ c.fitted.ensures)
     c.send_all.ensures
