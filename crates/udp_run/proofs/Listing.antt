@@ -1,15 +1,13 @@
 -- Entries of one step after another.
-use Rattle.std.proofs.Common.{◌≡◌, ◌∙◌, ℕ, suc, ◌+◌, ◌<◌, List, [], ◌∷◌, ◌++◌, length, get_or, set, refl, sym, ap, subst, add-one, append_assoc}
-use Rattle.std.proofs.Common.{arith, Option, Some, None, true}
-use Rattle.std.proofs.lemmas.List.{append-nil, length-set}
-use Rattle.std.specs.List.{list_all}
+use Rattle.std.proofs.Common.{◌≡◌, ◌∙◌, ℕ, ◌+◌, ◌<◌, List, [], ◌∷◌, ◌++◌, length, get_or, set, refl, sym, ap, subst, add-one, append_assoc}
+use Rattle.std.proofs.lemmas.List.{append-nil}
 use Rattle.net_script.specs.declared.values.Command.{Command}
 use Rattle.net_script.specs.declared.values.Entry.{Entry}
 use Rattle.node_core.specs.declared.config.Sizes.{Sizes}
 use Rattle.node_core.specs.Nodes.{NodeParts}
 use Rattle.port.specs.Calls.{Receiving, Sending}
 use Rattle.udp_run.specs.Sites.{SiteParts, site_of, ChangesAt}
-use Rattle.udp_run.specs.Commands.{Joins, JoinsServed, Then, ServesFirst, ServesListed, Flows, CarriesOut, CarriesAll, is_served}
+use Rattle.udp_run.specs.Commands.{Joins, JoinsServed, Then, ServesFirst, ServesListed, Flows, CarriesOut, CarriesAll}
 
 module _ {S : Type 0} where
   -- what some steps list, and then others

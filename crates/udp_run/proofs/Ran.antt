@@ -1,18 +1,16 @@
 -- A script's run over sockets, from what its parts have made.
-use Rattle.std.proofs.Common.{◌≡◌, ◌∙◌, ◌⊎◌, inl, inr, ℕ, ◌+◌, ◌<◌, ◌≤◌, true, List, ◌++◌, length, map, sym, ap, ap₂, subst, length-append, arith}
+use Rattle.std.proofs.Common.{◌≡◌, ◌∙◌, ◌⊎◌, inl, inr, ℕ, ◌+◌, ◌<◌, ◌≤◌, true, List, ◌++◌, length, map, sym, ap, ap₂, length-append, arith}
 use Rattle.std.specs.List.{list_all}
 use Rattle.std.proofs.lemmas.List.{length-map}
 use Rattle.xid.specs.declared.refusals.Refusal.{Refusal}
 use Rattle.xid.specs.declared.refusals.Refusal.TheVariants.{NoMemory}
-use Rattle.protocol.specs.Effects.{Config}
 use Rattle.net_script.specs.declared.values.Script.{Script}
-use Rattle.net_script.specs.declared.items.Item.TheVariants.{Cluster, Contents, Then}
+use Rattle.net_script.specs.declared.items.Item.TheVariants.{Contents, Then}
 use Rattle.net_script.specs.Lines.{lines, words}
 use Rattle.net_script.specs.Items.{item_words, is_in_limits}
 use Rattle.net_script.specs.Scripts.{lines_kept, script_items, SpellsScript}
-use Rattle.cluster_run.specs.Traces.{config_of}
 use Rattle.udp_run.specs.Commands.{is_served}
-use Rattle.udp_run.specs.Runs.{IsServed, IsUdpRun, IsDeviceRefusal, RefusesUdp}
+use Rattle.udp_run.specs.Runs.{IsDeviceRefusal, RefusesUdp}
 
 -- a line says each command
 pub has_line : (bytes : List ℕ) (s : Script) (at : ℕ) → SpellsScript bytes s → at < length s.commands
@@ -25,18 +23,7 @@ has_line bytes s at spelled lt few =
     ∙ ap₂ (λ (a b : ℕ). a + b) (length-map s.tables Contents) (length-map s.commands Then) in
     omega (arith, same, long, lt, few)
 
--- what was served is the run of the script
-pub ran : (bytes : List ℕ) (s : Script) (config : Config) (output : List ℕ) → SpellsScript bytes s → is_in_limits s.sizes ≡ true
-    → list_all is_served s.commands ≡ true → config ≡ config_of s → IsServed config s output → IsUdpRun bytes output
-ran bytes s config output spelled limits happens is served = record {
-  script = s;
-  spelled = spelled;
-  limits = limits;
-  happens = happens;
-  served = subst (λ (c : Config). IsServed c s output) is served;
-}
-
--- and what was refused then, for memory or by a device
+-- what was refused late, for memory or by a device
 pub refused_late : (bytes : List ℕ) (s : Script) (e : Refusal) → SpellsScript bytes s → is_in_limits s.sizes ≡ true
     → list_all is_served s.commands ≡ true → (e ≡ NoMemory) ⊎ IsDeviceRefusal e → RefusesUdp bytes e
 refused_late bytes s e spelled limits happens (inl memory) = inl memory

@@ -10,16 +10,14 @@ use Rattle.wire.specs.Messages.{IsMessage}
 use Rattle.wire.specs.declared.message.Kind.{Kind}
 use Rattle.wire.proofs.DecodingLemmas.{found as message_found, spelled as message_spelled}
 use Rattle.protocol.specs.declared.answers.Answer.TheVariants.{Refused}
-use Rattle.protocol.specs.Effects.{Config}
-use Rattle.protocol.specs.Nodes.{NodeState}
 use Rattle.protocol.specs.declared.nodes.NodeId.{NodeId}
 use Rattle.protocol.specs.declared.nodes.NodeId.TheVariants.{A, L, R}
 use Rattle.node_core.specs.declared.config.Sizes.{Sizes}
-use Rattle.node_core.specs.Nodes.{NodeParts, NodeStands}
-use Rattle.node_core.specs.Opening.{RestartsAs, restart_answer}
+use Rattle.node_core.specs.Nodes.{NodeParts}
+use Rattle.node_core.specs.Opening.{restart_answer}
 use Rattle.port.specs.Calls.{Sending}
 use Rattle.port.specs.declared.calling.Served.{Served}
-use Rattle.udp_run.specs.Sites.{node_count, place_in, site_of, Making, ReachesAt, RestartsIn, SendsNoise, IsSentBy, answer_served}
+use Rattle.udp_run.specs.Sites.{node_count, place_in, site_of, Making, ReachesAt, Handling, HandlesIn, SendsNoise, IsSentBy, answer_served}
 
 below_by : (number bound before at : ℕ) (t : Bool) → nat_lt number bound ≡ t → (if t then Some (before + number) else None) ≡ Some at
     → at < before + bound
@@ -74,20 +72,21 @@ reaches Makes sizes nodes ports noise who at is count was node before port serve
       site_is = refl;
     })
 
--- the node of a place was restarted
-pub restarts : (sizes : Sizes) (nodes : List NodeParts) (who : NodeId) (at : ℕ) → Some at ≡ place_in sizes who
+-- the node of a place was handled
+pub handled : (Handles : Handling) (sizes : Sizes) (nodes : List NodeParts) (who : NodeId) (at : ℕ) → Some at ≡ place_in sizes who
     → length nodes ≡ node_count sizes → (was node : NodeParts) (result : Result (Unit {0}) Refusal) (served : Served)
-    → was ≡ get_or nodes at was
-    → ((config : Config) (m : NodeState) → NodeStands config was m → RestartsAs config m was node result)
-    → served ≡ answer_served (restart_answer result) → RestartsIn (place_in sizes who) nodes (set nodes at node) served
-restarts sizes nodes who at is count was node result served read restarted answered =
-    subst (λ (o : Option ℕ). RestartsIn o nodes (set nodes at node) served) is
+    → was ≡ get_or nodes at was → Handles was node result → served ≡ answer_served (restart_answer result)
+    → HandlesIn Handles (place_in sizes who) nodes (set nodes at node) served
+handled Handles sizes nodes who at is count was node result served read handles answered =
+    subst (λ (o : Option ℕ). HandlesIn Handles o nodes (set nodes at node) served) is
     (record {
       was = was;
       node = node;
+      result = result;
       within = place_fits sizes nodes who at count is;
       was_is = read;
-      restarted = record { result = result; restarts = restarted; served_is = answered };
+      handles = handles;
+      served_is = answered;
       nodes_are = refl;
     })
 

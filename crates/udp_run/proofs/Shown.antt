@@ -1,6 +1,6 @@
 -- Tables of nodes, one after another.
 use Rattle.std.proofs.Common.{◌≡◌, ◌∙◌, ◌⊎◌, inl, inr, ℕ, ◌+◌, ◌<◌, ◌≤◌, Bool, true, false, List, [], ◌∷◌, ◌++◌, length, get_or, set, take, drop, refl, sym}
-use Rattle.std.proofs.Common.{ap, subst, Option, Some, None, Result, Ok, Err, arith}
+use Rattle.std.proofs.Common.{ap, subst, Option, Result, Err, arith}
 use Rattle.std.specs.Prelude.{cond}
 use Rattle.std.specs.List.{AllZip, filter}
 use Rattle.std.proofs.lemmas.List.{append-nil, take_more, take_all, drop_more, get_or-drop, drop-set-lt, length-set}
@@ -24,23 +24,6 @@ use Rattle.udp_run.specs.Tables.{is_manager, IsTableOf, ShowsTable, AreTablesOf}
 -- what a call of a node's table says
 abbrev pub Tabled : (old new : NodeParts) → Result (List Row) Refusal → Type 0
 Tabled old new result = (config : Config) (m : NodeState) → NodeStands config old m → TablesAs config m old new result
-
--- a record that couldn't be read gives no rows
-unread_no_rows : (old new : Held) (role : Option Role) (rows : List Row) → IsUnread old new role (Ok rows) → ⊥
-unread_no_rows old new role rows (down, inl (e, fault)) = absurd (cc (e))
-unread_no_rows old new role rows (down, inr (e, same)) = absurd (cc (e))
-
-says_rows : (config : Config) (who : NodeId) (facts : List Fact) (old new : Held) (role : Option Role) (rows : List Row)
-    → ((new ≡ old) × SaysTable config who facts (Ok rows)) ⊎ IsUnread old new role (Ok rows) → SaysTable config who facts (Ok rows)
-says_rows config who facts old new role rows (inl (same, says)) = says
-says_rows config who facts old new role rows (inr unread) = absurd (unread_no_rows old new role rows unread)
-
--- the rows that a node gives are its table
-pub table_is : (old new : NodeParts) (rows : List Row) → Tabled old new (Ok rows) → IsTableOf old rows
-table_is old new rows tabled = record {
-  says = λ config m stands.
-      says_rows config old.who m.facts old.held new.held old.role rows (tabled config m stands).tables.says;
-}
 
 -- the refusals of a table
 abbrev pub IsUntold : Refusal → Type 0

@@ -3,7 +3,7 @@ use Rattle.std.specs.Prelude.{◌≡◌, ℕ, zero, suc, Bool, true, false, List
 use Rattle.xid.specs.declared.refusals.Refusal.{Refusal}
 use Rattle.protocol.specs.declared.answers.Answer.TheVariants.{Refused}
 use Rattle.protocol.specs.declared.events.Event.{Event}
-use Rattle.protocol.specs.declared.events.Event.TheVariants.{Ask, Noise, Restart}
+use Rattle.protocol.specs.declared.events.Event.TheVariants.{Ask, Noise, Restart, Compact}
 use Rattle.protocol.specs.declared.events.Step.{Step}
 use Rattle.protocol.specs.declared.nodes.NodeId.{NodeId}
 use Rattle.net_script.specs.declared.values.Command.{Command}
@@ -12,13 +12,14 @@ use Rattle.net_script.specs.declared.values.Entry.{Entry}
 use Rattle.node_core.specs.Nodes.{NodeParts}
 use Rattle.port.specs.declared.calling.Served.{Served}
 use Rattle.port.specs.Calls.{Receiving, Sending, Serves}
-use Rattle.udp_run.specs.Sites.{SiteParts, ChangesAt, Making, Happens, answer_served}
+use Rattle.udp_run.specs.Sites.{SiteParts, ChangesAt, Happens}
 
 -- whether an event happens over sockets
 abbrev pub is_served_event : Event → Bool
 is_served_event (Ask who request) = true
 is_served_event (Noise who bytes) = true
 is_served_event (Restart who) = true
+is_served_event (Compact who) = true
 is_served_event event = false
 
 -- whether a command does

@@ -1,4 +1,3 @@
-pub mod Clusters
 pub mod Sites
 pub mod Commands
 pub mod Tables

@@ -1,5 +1,5 @@
 -- What a run over sockets gives, and why one is refused.
-use Rattle.std.specs.Prelude.{◌≡◌, ◌⊎◌, ℕ, ◌+◌, ◌<◌, true, false, List, [], length, take, slice_index_or, Some}
+use Rattle.std.specs.Prelude.{◌≡◌, ◌⊎◌, ℕ, ◌+◌, ◌<◌, true, false, List, length, take, slice_index_or, Some}
 use Rattle.std.specs.List.{list_all}
 use Rattle.xid.specs.declared.refusals.Refusal.{Refusal}
 use Rattle.xid.specs.declared.refusals.Refusal.TheVariants.{Damaged, RecordFault, BadScript, NoMemory, PortFault, BadConfig, FileFault}

@@ -1,13 +1,13 @@
 -- Nodes at their ports, and what an event makes of them.
 use Rattle.std.specs.Prelude.{◌≡◌, ℕ, ◌+◌, ◌<◌, MatchBool, List, [], length, slice_index_or, slice_set}
-use Rattle.std.specs.Prelude.{Option, Some, None, Result, Ok, Err}
+use Rattle.std.specs.Prelude.{Option, Some, None, Result}
 use Rattle.xid.specs.declared.refusals.Refusal.{Refusal}
 use Rattle.xid.specs.declared.refusals.Refusal.TheVariants.{NoSuch, Forged}
 use Rattle.wire.specs.Decoding.{spells_message}
 use Rattle.protocol.specs.declared.answers.Answer.{Answer}
-use Rattle.protocol.specs.declared.answers.Answer.TheVariants.{Done, Refused}
+use Rattle.protocol.specs.declared.answers.Answer.TheVariants.{Refused}
 use Rattle.protocol.specs.declared.events.Event.{Event}
-use Rattle.protocol.specs.declared.events.Event.TheVariants.{Ask, Noise, Restart}
+use Rattle.protocol.specs.declared.events.Event.TheVariants.{Ask, Noise, Restart, Compact}
 use Rattle.protocol.specs.declared.events.Step.{Step}
 use Rattle.protocol.specs.declared.nodes.NodeId.{NodeId}
 use Rattle.protocol.specs.declared.requests.Request.{Request}
@@ -17,6 +17,7 @@ use Rattle.protocol.specs.Worlds.{place}
 use Rattle.node_core.specs.declared.config.Sizes.{Sizes}
 use Rattle.node_core.specs.Configs.{config_by}
 use Rattle.node_core.specs.Nodes.{NodeParts, NodeStands}
+use Rattle.node_core.specs.Compacting.{CompactsAs}
 use Rattle.node_core.specs.Opening.{RestartsAs, restart_answer}
 use Rattle.port.specs.declared.calling.Served.{Served}
 use Rattle.port.specs.Calls.{Sending, Calls}
@@ -76,25 +77,35 @@ ReachesAt Makes (Some at) old new served = ChangesAt (Makes served) at old new
 abbrev pub AsksAt : {P : Type 0} → Sending P → Request → Served → Making P
 AsksAt Sent request served old new before after = Calls Sent (Asked request) old new before after served
 
--- a node was restarted, whatever node of the machine it stood for
-pub record IsRestarted (old new : NodeParts) (served : Served) : Type 0 where
-  pub result : Result (Unit {0}) Refusal
-  pub restarts : (config : Config) (m : NodeState) → NodeStands config old m → RestartsAs config m old new result
-  pub served_is : served ≡ answer_served (restart_answer result)
+-- ---- one node's record
 
--- a restart of the node of a place
-pub record RestartsAt (at : ℕ) (old new : List NodeParts) (served : Served) : Type 0 where
+-- what a call that reaches a record alone can make of a node
+abbrev pub Handling : Type 1
+Handling = (old new : NodeParts) → Result (Unit {0}) Refusal → Type 0
+
+-- a node was restarted, whatever node of the machine it stood for
+abbrev pub IsRestarted : Handling
+IsRestarted old new result = (config : Config) (m : NodeState) → NodeStands config old m → RestartsAs config m old new result
+
+-- its record was made shorter, whatever node of the machine it stood for
+abbrev pub IsShortened : Handling
+IsShortened old new result = (config : Config) (m : NodeState) → NodeStands config old m → CompactsAs config m old new result
+
+-- such a call of the node of a place; its result is answered
+pub record HandlesAt (Handles : Handling) (at : ℕ) (old new : List NodeParts) (served : Served) : Type 0 where
   pub was : NodeParts
   pub node : NodeParts
+  pub result : Result (Unit {0}) Refusal
   pub within : at < length old
   pub was_is : was ≡ slice_index_or old at was
-  pub restarted : IsRestarted was node served
+  pub handles : Handles was node result
+  pub served_is : served ≡ answer_served (restart_answer result)
   pub nodes_are : new ≡ slice_set old at node
 
 -- where there is no such node it is refused
-abbrev pub RestartsIn : Option ℕ → (old new : List NodeParts) → Served → Type 0
-RestartsIn None old new served = (new ≡ old) × (served ≡ answer_served (Refused NoSuch))
-RestartsIn (Some at) old new served = RestartsAt at old new served
+abbrev pub HandlesIn : Handling → Option ℕ → (old new : List NodeParts) → Served → Type 0
+HandlesIn Handles None old new served = (new ≡ old) × (served ≡ answer_served (Refused NoSuch))
+HandlesIn Handles (Some at) old new served = HandlesAt Handles at old new served
 
 -- ---- noise
 
@@ -117,7 +128,9 @@ SendsNoise Sent (Some at) who bytes before after served =
 abbrev pub Comes : {P : Type 0} → Sending P → Event → (old new : SiteParts P) → Served → Type 0
 Comes Sent (Ask who request) old new served = ReachesAt (AsksAt Sent request) (place_in old.sizes who) old new served
 Comes Sent (Restart who) old new served =
-    (new ≡ record old { nodes = new.nodes }) × RestartsIn (place_in old.sizes who) old.nodes new.nodes served
+    (new ≡ record old { nodes = new.nodes }) × HandlesIn IsRestarted (place_in old.sizes who) old.nodes new.nodes served
+Comes Sent (Compact who) old new served =
+    (new ≡ record old { nodes = new.nodes }) × HandlesIn IsShortened (place_in old.sizes who) old.nodes new.nodes served
 Comes Sent (Noise who bytes) old new served =
     (new ≡ record old { noise = new.noise }) × SendsNoise Sent (place_in old.sizes who) who bytes old.noise new.noise served
 Comes Sent event old new served = ⊥

@@ -4,8 +4,8 @@ ghost use Rattle.std.specs.Prelude.{◌≡◌, length};
 ghost use Rattle.protocol.specs.declared.answers.Answer.TheVariants.{Refused};
 ghost use Rattle.wire.specs.Decoding.{spells_message};
 ghost use Rattle.node_core.specs.Opening.{restart_answer};
-ghost use Rattle.udp_run.specs.Sites.{AsksAt, IsSite, ReachesAt, RestartsIn, SendsNoise, answer_served, node_count, place_in};
-ghost use Rattle.udp_run.specs.Sites.{site_of};
+ghost use Rattle.udp_run.specs.Sites.{AsksAt, HandlesIn, IsRestarted, IsShortened, IsSite, ReachesAt, SendsNoise};
+ghost use Rattle.udp_run.specs.Sites.{answer_served, node_count, place_in, site_of};
 
 use node_core::{Input, Node, Sizes, place_of};
 use port::{Port, Served, call};
@@ -62,7 +62,7 @@ pub(crate) fn ask<R: Record, P: Port>(
 /// A node reads its record again.
 pub(crate) fn restart<R: Record>(sizes: Sizes, nodes: &mut Vec<Node<R>>, who: NodeId) -> Served
     requires { length nodes.old.items ≡ node_count sizes }
-    ensures restarts { RestartsIn (place_in sizes who) nodes.old.items nodes.new.items result }
+    ensures restarts { HandlesIn IsRestarted (place_in sizes who) nodes.old.items nodes.new.items result }
     ensures count { length nodes.new.items ≡ length nodes.old.items }
 {
     let Some(at) = place_of(sizes, who) else {
@@ -70,6 +70,19 @@ pub(crate) fn restart<R: Record>(sizes: Sizes, nodes: &mut Vec<Node<R>>, who: No
     };
     let node = &mut nodes[at];
     answered(node.restart())
+}
+
+/// A node's record is made shorter.
+pub(crate) fn compact<R: Record>(sizes: Sizes, nodes: &mut Vec<Node<R>>, who: NodeId) -> Served
+    requires { length nodes.old.items ≡ node_count sizes }
+    ensures compacts { HandlesIn IsShortened (place_in sizes who) nodes.old.items nodes.new.items result }
+    ensures count { length nodes.new.items ≡ length nodes.old.items }
+{
+    let Some(at) = place_of(sizes, who) else {
+        return refuses(Refusal::NoSuch);
+    };
+    let node = &mut nodes[at];
+    answered(node.compact())
 }
 
 /// Whether bytes spell a message.

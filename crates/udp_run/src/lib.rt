@@ -1,7 +1,6 @@
 //! A script's cluster over sockets: its nodes in one process, each over a record in a file and at a port of its own.
 #![tactic(auto)]
 
-mod clusters;
 mod happenings;
 mod opening;
 mod rounds;

@@ -6,8 +6,8 @@ ghost use Rattle.xid.specs.declared.refusals.Refusal.TheVariants.{NoMemory};
 ghost use Rattle.udp_run.specs.Commands.{is_served as is_served_lem};
 ghost use Rattle.udp_run.specs.Runs.{IsDeviceRefusal, IsFirstRefused, IsServed, IsUdpRun, RefusesUdp};
 
-use crate::clusters::config_of;
 use crate::opening::open;
+use cluster_run::config_of;
 use net_script::{Command, Script, Trace, line_of, read_script, write_trace};
 use node_core::Config;
 use protocol::Event;
@@ -16,7 +16,7 @@ use xid::{Refusal, Sequence};
 /// Runs a script over sockets and gives the text of its trace: its nodes are taken up from the records in a folder, each takes datagrams
 /// at a socket of its own on 127.0.0.1, and `flow` is so many rounds in which each takes one. Refused: `BadScript` with the first line
 /// at fault; `BadConfig` for sizes outside the limits; `BadScript` with the first event that can't happen over sockets (a datagram's
-/// number, a tear or a compaction); and then, after the records that were opened before, node by node: a file that can't be opened and read
+/// number or a tear); and then, after the records that were opened before, node by node: a file that can't be opened and read
 /// (`FileFault`), a record that can't be taken up (`Damaged`, `RecordFault`), and a socket that can't be made (`PortFault`); at the end
 /// the record of a node that is down (`RecordFault`); and `NoMemory` anywhere. What was stored stays stored.
 pub fn udp(rt: HostRuntime, script: &[u8], folder: &str) -> Result<Vec<u8>, Refusal>
@@ -65,8 +65,9 @@ fn is_served(command: &Command) -> bool
 {
     matches!(
         command,
-        Command::Do(Event::Ask { .. } | Event::Noise { .. } | Event::Restart { .. })
-            | Command::Flow(_)
+        Command::Do(
+            Event::Ask { .. } | Event::Noise { .. } | Event::Restart { .. } | Event::Compact { .. }
+        ) | Command::Flow(_)
     )
 }
 

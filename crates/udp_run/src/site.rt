@@ -5,7 +5,7 @@ ghost use Rattle.udp_run.specs.Sites.{Comes, Happens, IsSite, site_of};
 ghost use Rattle.udp_run.specs.Commands.{CarriesAll, CarriesOut, Flows, Joins, ServesFirst, is_served_event, is_served};
 ghost use Rattle.udp_run.specs.Tables.{AreTablesOf};
 
-use crate::happenings::{ask, noise, restart};
+use crate::happenings::{ask, compact, noise, restart};
 use crate::rounds::serve_each;
 use crate::tables::tables_of;
 use net_script::{Command, Entry};
@@ -58,7 +58,7 @@ impl<R: Record, P: Port> Site<R, P> {
         }
     }
 
-    /// What comes of an event: a request, a restart or noise. What a node sends goes out by its port.
+    /// What comes of an event: a request, a restart, a compaction or noise. What a node sends goes out by its port.
     fn come(&mut self, event: &Event) -> Served
         requires { is_served_event event.now ≡ true }
         ensures { Comes P.sent event.now self.old self.new result }
@@ -68,6 +68,7 @@ impl<R: Record, P: Port> Site<R, P> {
                 ask(self.sizes, &mut self.nodes, &mut self.ports, *node, request)
             }
             Event::Restart { node } => restart(self.sizes, &mut self.nodes, *node),
+            Event::Compact { node } => compact(self.sizes, &mut self.nodes, *node),
             Event::Noise { node, bytes } => {
                 noise(self.sizes, &mut self.noise, *node, bytes.as_slice())
             }

@@ -1,4 +1,4 @@
-use Rattle.udp_run.proofs.Taken.{none_opened, one_opened, place_among}
+use Rattle.udp_run.proofs.Taken.{one_opened, place_among}
 use Rattle.udp_run.proofs.opening.open_nodes.Goals as goal
 
 pub open_node-requires : goal.open_node-requires

@@ -1,4 +1,4 @@
-use Rattle.std.proofs.Common.{◌≡◌, ◌∙◌, ◌<◌, false, List, ap, sym, arith, length, get_or, take}
+use Rattle.std.proofs.Common.{◌≡◌, ◌∙◌, ◌<◌, false, ap, sym, arith, length}
 use Rattle.std.proofs.lemmas.List.{take_all, get_or_read}
 use Rattle.std.specs.List.{list_all}
 use Rattle.udp_run.specs.Commands.{is_served}
