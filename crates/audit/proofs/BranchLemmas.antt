@@ -1,5 +1,5 @@
 -- Results, and one branch that is set among others.
-use Rattle.std.proofs.Common.{◌≡◌, ◌∙◌, ℕ, Bool, true, false, ◌==◌, ◌&&◌, cond, List, Option, Some, None, Result, Ok, Err, refl, sym, ap, subst}
+use Rattle.std.proofs.Common.{◌≡◌, ◌∙◌, ℕ, Bool, true, false, ◌==◌, ◌&&◌, cond, List, Option, Some, Result, Ok, Err, refl, sym, ap, subst}
 use Rattle.std.specs.Prelude.{IfOk, OnOk}
 use Rattle.std.specs.Cmp.{unsigned_Decides}
 use Rattle.std.specs.Option.{option_map}
@@ -7,7 +7,7 @@ use Rattle.std.proofs.lemmas.Bool.{and_parts}
 use Rattle.xid.specs.declared.refusals.Refusal.{Refusal}
 use Rattle.xid.proofs.Deciding.{xid_decides}
 use Rattle.audit.specs.Words.{XidParts, xid_eq, Action, Answer, Event, Ask, Call, R}
-use Rattle.audit.specs.Stretches.{StretchParts, stretch_after, stretch_by}
+use Rattle.audit.specs.Stretches.{StretchParts, stretch_after}
 use Rattle.audit.specs.Tables.{is_call_right, is_event_right}
 use Rattle.audit.specs.Books.{rows_of, stretch_of, Called, Sets}
 use Rattle.audit.specs.Following.{IsHappened}

@@ -9,3 +9,7 @@ mod ListLemmas
 mod ReplayLemmas
 mod AuditLemmas
 mod CommitLemmas
+mod MachineStretches
+mod MachineGets
+mod MachineTables
+mod MachineTraces

@@ -1,6 +1,6 @@
 -- The views of a transaction's participants, by place and looked back at.
-use Rattle.std.proofs.Common.{◌≡◌, ◌∙◌, ℕ, zero, suc, ◌+◌, ◌<◌, ◌≤◌, Bool, true, false, ◌==◌, ◌&&◌, cond, ltb, List, [], ◌∷◌, length, map, get_or, set, Option, Some, None, refl, sym, ap, subst, arith}
-use Rattle.std.specs.Prelude.{find, filter_map, position, not}
+use Rattle.std.proofs.Common.{◌≡◌, ◌∙◌, ℕ, suc, ◌+◌, ◌<◌, ◌≤◌, Bool, true, false, ◌==◌, ◌&&◌, cond, ltb, List, [], ◌∷◌, length, map, get_or, set, Option, Some, None, refl, sym, ap, subst, arith}
+use Rattle.std.specs.Prelude.{find, position, not}
 use Rattle.std.specs.Cmp.{unsigned_Decides}
 use Rattle.std.specs.List.{cons_option, list_any, position_or_len}
 use Rattle.std.specs.List.Sorted.{IsStrictlyIncreasing}
@@ -12,11 +12,11 @@ use Rattle.xid.specs.Transactions.{BranchParts, IsTx, is_at, rm_numbers}
 use Rattle.xid.proofs.Deciding.{tx_decides}
 use Rattle.transactions.proofs.Keys.{absent_from_place, present_from_place}
 use Rattle.wire.proofs.Ascending.{later}
-use Rattle.history.specs.Lines.{view_back, changes_at, change_here}
-use Rattle.audit.specs.Words.{TxParts, tx_eq, participants, is_participant, Answer, Event, Change, Step, View}
+use Rattle.history.specs.Lines.{view_back, changes_at}
+use Rattle.audit.specs.Words.{TxParts, tx_eq, participants, Answer, Event, Change, Step, View}
 use Rattle.protocol.specs.declared.events.Sent.{Sent}
 use Rattle.audit.specs.Told.{may_move, is_move, views_back}
-use Rattle.audit.specs.Books.{ViewsParts, views_in, view_in, place_at, is_move_from, views_moved}
+use Rattle.audit.specs.Books.{ViewsParts, views_in, place_at, is_move_from}
 
 off_so : (a b : ℕ) → (b == a) ≡ false → (a == b) ≡ false
 off_so a b e = ne_eqb a b (λ same. false≢true (sym e ∙ (unsigned_Decides b a).1 (sym same)))

@@ -1,8 +1,8 @@
 -- The writes of a transaction, made participant by participant.
-use Rattle.std.proofs.Common.{◌≡◌, ◌∙◌, ℕ, zero, suc, ◌+◌, ◌<◌, ◌≤◌, Bool, true, false, ◌==◌, ◌&&◌, ◌||◌, cond, List, [], ◌∷◌, length, get_or, take, Option, Some, None, refl, sym, ap, subst, arith}
+use Rattle.std.proofs.Common.{◌≡◌, ◌∙◌, ℕ, zero, suc, ◌+◌, ◌<◌, ◌≤◌, Bool, true, false, ◌==◌, ◌&&◌, ◌||◌, cond, List, [], ◌∷◌, length, get_or, take, Some, None, refl, sym, ap, subst, arith}
 use Rattle.std.specs.Prelude.{find}
 use Rattle.std.specs.Cmp.{unsigned_Decides}
-use Rattle.std.specs.List.{All, list_any, position_or_len}
+use Rattle.std.specs.List.{list_any}
 use Rattle.std.specs.List.Sorted.{IsStrictlyIncreasing}
 use Rattle.std.specs.Option.{option_map, option_and_then}
 use Rattle.std.proofs.lemmas.Bool.{ne_eqb}
@@ -12,7 +12,7 @@ use Rattle.std.proofs.lemmas.List.Sums.{position_or_len_is}
 use Rattle.xid.specs.Transactions.{BranchParts, TxParts, IsTx, is_at, nth_branch, rm_numbers, xid_of}
 use Rattle.wire.proofs.Ascending.{later}
 use Rattle.protocol.specs.Tables.{with_writes}
-use Rattle.audit.specs.Words.{Touched, Row, View}
+use Rattle.audit.specs.Words.{Touched, Row}
 use Rattle.audit.specs.Stretches.{Stretches, writes_in, writes_at}
 use Rattle.audit.specs.Books.{place_at}
 

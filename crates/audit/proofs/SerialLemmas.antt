@@ -1,5 +1,5 @@
 -- One serial order: transactions by their places, and which of them a resource manager has committed.
-use Rattle.std.proofs.Common.{◌≡◌, ◌∙◌, ◌⊎◌, inl, inr, ℕ, zero, suc, ◌+◌, ◌<◌, Bool, true, false, ◌&&◌, cond, ltb, List, [], ◌∷◌, ◌++◌, length, map, get_or, take, Option, Some, None, refl, sym, ap, subst, arith}
+use Rattle.std.proofs.Common.{◌≡◌, ◌∙◌, ◌⊎◌, inl, inr, ℕ, zero, suc, ◌+◌, ◌<◌, Bool, true, false, ◌&&◌, cond, ltb, List, [], ◌∷◌, ◌++◌, length, get_or, take, Option, Some, None, refl, sym, ap, subst, arith}
 use Rattle.std.specs.Prelude.{find, filter, fold, not, slice_get}
 use Rattle.std.specs.List.{AllByRecursion, IsDistinct, list_all, position_or_len}
 use Rattle.std.specs.Option.{option_map, option_and_then, unwrap_or}
@@ -17,7 +17,7 @@ use Rattle.protocol.specs.Tables.{with_writes}
 use Rattle.history.specs.Lines.{view_back}
 use Rattle.history.specs.SerialOrder.{those_before, first_commits}
 use Rattle.history.specs.Writes.{is_committed_view}
-use Rattle.audit.specs.Words.{TxParts, tx_eq, xid_at, participants, Step, Row, View}
+use Rattle.audit.specs.Words.{TxParts, tx_eq, participants, Step, Row, View}
 use Rattle.audit.specs.Told.{views_back}
 use Rattle.audit.specs.Stretches.{Stretches, stretches_back, branch_at, gets_in, writes_in, writes_at}
 use Rattle.audit.specs.Tables.{are_tables}

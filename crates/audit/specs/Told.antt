@@ -1,9 +1,9 @@
 -- What a trace tells, step by step, and whether its changes of views are steps of the machine TCommit (Gray and Lamport, "Consensus on
 -- Transaction Commit", ACM TODS 31(1), 2006, section 2). A history is a trace with the newest step first.
-use Rattle.std.specs.Prelude.{ℕ, Bool, true, false, not, ◌&&◌, List, [], ◌∷◌, map, reverse, Option}
+use Rattle.std.specs.Prelude.{Bool, true, false, not, ◌&&◌, List, [], ◌∷◌, map, reverse}
 use Rattle.std.specs.List.{list_all}
 use Rattle.std.specs.Option.{option_map_or}
-use Rattle.audit.specs.Words.{TxParts, participants, is_participant, Change, Event, Deliver, Step, View, Entry}
+use Rattle.audit.specs.Words.{TxParts, participants, is_participant, Change, Deliver, Step, View, Entry}
 use Rattle.history.specs.Lines.{view_back}
 use Rattle.history.specs.Writes.{is_committed_view}
 

@@ -1,4 +1,4 @@
-use Rattle.std.proofs.Common.{◌≡◌, ◌∙◌, ℕ, ◌&&◌, sym, ap}
+use Rattle.std.proofs.Common.{◌∙◌, ◌&&◌, sym, ap}
 use Rattle.std.specs.Prelude.{filter}
 use Rattle.audit.specs.Books.{rows_of, stretch_of, has_committed}
 use Rattle.audit.specs.Consistent.{serial_table}

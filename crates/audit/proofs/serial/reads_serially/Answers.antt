@@ -1,4 +1,4 @@
-use Rattle.std.proofs.Common.{◌≡◌, ◌∙◌, ℕ, ◌<◌, false, length, sym, ap, arith}
+use Rattle.std.proofs.Common.{◌∙◌, ℕ, ◌<◌, length, sym, ap, arith}
 use Rattle.xid.specs.Transactions.{participants}
 use Rattle.audit.specs.Stretches.{branch_at, gets_in}
 use Rattle.audit.specs.Books.{rows_of, stretch_of}

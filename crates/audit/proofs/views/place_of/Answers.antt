@@ -1,4 +1,4 @@
-use Rattle.std.proofs.Common.{◌≡◌, ◌∙◌, ℕ, ◌<◌, length, sym, [], arith}
+use Rattle.std.proofs.Common.{◌∙◌, ◌<◌, length, sym, [], arith}
 use Rattle.std.specs.Cmp.{unsigned_Decides}
 use Rattle.xid.specs.Transactions.{BranchParts, is_at}
 use Rattle.audit.proofs.ViewLemmas.{found_at, found_none}

@@ -1,4 +1,4 @@
-use Rattle.std.proofs.Common.{◌≡◌, ◌∙◌, ◌==◌, ◌&&◌, cond, Some}
+use Rattle.std.proofs.Common.{◌∙◌, ◌==◌, ◌&&◌, cond, Some}
 use Rattle.xid.specs.Names.{xid_eq}
 use Rattle.audit.specs.Books.{stretch_of}
 use Rattle.audit.proofs.branches.Branches.start.Goals as goal

@@ -1,4 +1,4 @@
-use Rattle.std.proofs.Common.{◌≡◌, ap}
+use Rattle.std.proofs.Common.{ap}
 use Rattle.audit.specs.Books.{stretch_of}
 use Rattle.audit.proofs.ledger.Ledger.new.Goals as goal
 

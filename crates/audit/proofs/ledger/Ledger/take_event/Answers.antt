@@ -1,5 +1,5 @@
-use Rattle.std.proofs.Common.{◌≡◌, ◌∙◌, ap}
-use Rattle.audit.specs.Words.{Ask, Call, R}
+use Rattle.std.proofs.Common.{◌∙◌}
+use Rattle.audit.specs.Words.{Ask}
 use Rattle.audit.proofs.BranchLemmas.{called_so}
 use Rattle.audit.proofs.ledger.Ledger.take_event.Goals as goal
 

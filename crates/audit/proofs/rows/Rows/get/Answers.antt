@@ -1,4 +1,4 @@
-use Rattle.std.proofs.Common.{◌≡◌, ◌∙◌, Some, sym, ap}
+use Rattle.std.proofs.Common.{◌∙◌, Some, sym, ap}
 use Rattle.protocol.specs.Branches.{row_at}
 use Rattle.audit.proofs.RowLemmas.{row_found}
 use Rattle.audit.proofs.rows.Rows.get.Goals as goal

@@ -1,4 +1,4 @@
-use Rattle.std.proofs.Common.{◌≡◌, ◌∙◌, ap}
+use Rattle.std.proofs.Common.{◌∙◌, ap}
 use Rattle.audit.specs.Books.{rows_in}
 use Rattle.protocol.specs.Tables.{put_row}
 use Rattle.audit.proofs.RowLemmas.{row_put}

@@ -1,4 +1,4 @@
-use Rattle.std.proofs.Common.{◌≡◌, ◌∙◌, ℕ, ◌<◌, ◌≤◌, length, sym, ap, arith}
+use Rattle.std.proofs.Common.{ℕ, ◌<◌, ◌≤◌, length, sym, ap, arith}
 use Rattle.history.specs.Writes.{is_committed_view}
 use Rattle.audit.specs.Stretches.{writes_at}
 use Rattle.audit.specs.Books.{rows_of, stretch_of, has_committed, view_in}

@@ -1,4 +1,4 @@
-use Rattle.std.proofs.Common.{◌≡◌, ◌∙◌, [], get_or, ap}
+use Rattle.std.proofs.Common.{◌∙◌, [], get_or, ap}
 use Rattle.audit.proofs.ListLemmas.{none_among}
 use Rattle.audit.proofs.tables.Tables.empty.Goals as goal
 

@@ -1,4 +1,4 @@
-use Rattle.std.proofs.Common.{◌≡◌, ◌∙◌, [], ◌==◌, cond, sym, ap}
+use Rattle.std.proofs.Common.{◌∙◌, [], ◌==◌, cond, sym}
 use Rattle.std.specs.List.{fold}
 use Rattle.protocol.specs.Tables.{put_row}
 use Rattle.audit.proofs.ListLemmas.{first_more}

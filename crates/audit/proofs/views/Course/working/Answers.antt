@@ -1,4 +1,4 @@
-use Rattle.std.proofs.Common.{◌≡◌, ◌∙◌, ◌<◌, [], ◌∷◌, ◌++◌, length, ap, arith}
+use Rattle.std.proofs.Common.{◌∙◌, ◌<◌, [], ◌∷◌, ◌++◌, length, ap, arith}
 use Rattle.xid.specs.Transactions.{participants}
 use Rattle.audit.specs.Words.{View}
 use Rattle.audit.proofs.ListLemmas.{participants_many, working_more}

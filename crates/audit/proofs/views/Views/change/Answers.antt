@@ -1,4 +1,4 @@
-use Rattle.std.proofs.Common.{◌≡◌, ◌∙◌, sym, ap, subst}
+use Rattle.std.proofs.Common.{◌∙◌, sym, ap, subst}
 use Rattle.audit.specs.Books.{IsNumberOf, views_in}
 use Rattle.audit.proofs.ViewLemmas.{course_is, moved_so}
 use Rattle.audit.proofs.views.Views.change.Goals as goal

@@ -1,4 +1,4 @@
-use Rattle.std.proofs.Common.{◌≡◌, ◌∙◌, ℕ, sym, ap}
+use Rattle.std.proofs.Common.{◌∙◌, sym, ap}
 use Rattle.history.specs.Writes.{is_committed_view}
 use Rattle.audit.specs.Books.{view_in}
 use Rattle.audit.proofs.ViewLemmas.{unnoted}

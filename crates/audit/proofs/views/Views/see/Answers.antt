@@ -1,4 +1,4 @@
-use Rattle.std.proofs.Common.{◌≡◌, ◌∙◌, ℕ, [], ◌∷◌, ◌++◌, ap}
+use Rattle.std.proofs.Common.{◌∙◌, [], ◌∷◌, ◌++◌, ap}
 use Rattle.audit.specs.Books.{views_in}
 use Rattle.audit.proofs.ViewLemmas.{noted_whole, noted_number, noted_same}
 use Rattle.audit.proofs.views.Views.see.Goals as goal

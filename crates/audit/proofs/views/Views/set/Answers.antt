@@ -1,7 +1,7 @@
-use Rattle.std.proofs.Common.{◌≡◌, ◌∙◌, cond, get_or, set, sym, ap, subst}
+use Rattle.std.proofs.Common.{◌∙◌, cond, set, sym, ap, subst}
 use Rattle.audit.specs.Words.{tx_eq}
-use Rattle.audit.specs.Books.{IsNumberOf, all_working, views_in}
-use Rattle.audit.proofs.ViewLemmas.{course_is, view_set, views_of}
+use Rattle.audit.specs.Books.{IsNumberOf, views_in}
+use Rattle.audit.proofs.ViewLemmas.{course_is, view_set}
 use Rattle.audit.proofs.views.Views.set.Goals as goal
 
 pub returns : goal.returns
