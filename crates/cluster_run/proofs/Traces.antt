@@ -15,7 +15,7 @@ use Rattle.history.proofs.Runs.{IsRun, run_is}
 use Rattle.history.proofs.Answering.{answered_ever, inside_stands}
 use Rattle.history.proofs.Laws as laws
 use Rattle.history.proofs.SerialReads.{reads_serial}
-use Rattle.history.proofs.SerialTables.{serial_is}
+use Rattle.history.proofs.SerialTables.{conflict_ordered, serial_is}
 use Rattle.net_script.specs.declared.values.Script.{Script}
 use Rattle.net_script.specs.declared.values.Trace.{Trace}
 
@@ -79,6 +79,7 @@ module _ (s : Script) (happened : List Occurrence) (t : Trace) (is : IsTraceOf s
 
   pub is_serial : IsSerial config happened t
   is_serial = record {
+    conflicts = λ rm. conflict_ordered config (last_world config happened) all rm run;
     tables_are = tables_by (λ rm. serial_table (first_rows config rm) rm all (committed_at rm all)) (λ rm node stands.
         looked rm node stands ∙ sym (laws.looked_table config (last_world config happened) all rm run (first_rows config rm))
         ∙ serial_is config (last_world config happened) all rm run (first_rows config rm));

@@ -1,6 +1,6 @@
 -- The trace of a script as a run of the machine, and what it says when one looks back over it. What happens in the cluster, and which
 -- nodes it happens to, is left open here.
-use Rattle.std.specs.Prelude.{◌≡◌, ℕ, ◌==◌, if◌then◌else◌, false, List, [], ◌∷◌, ◌++◌, map, filter_map, Some}
+use Rattle.std.specs.Prelude.{◌≡◌, ◌≢◌, true, ℕ, ◌==◌, if◌then◌else◌, false, List, [], ◌∷◌, ◌++◌, map, filter_map, Some}
 use Rattle.std.specs.List.{list_any, range_with_len}
 use Rattle.xid.specs.Names.{XidParts}
 use Rattle.xid.specs.Transactions.{TxParts, xid_at}
@@ -14,8 +14,8 @@ use Rattle.history.specs.Lines.{history}
 use Rattle.history.specs.Answers.{AreAnswered}
 use Rattle.history.specs.Calls.{call_done}
 use Rattle.history.specs.LookingBack.{is_start, done_at}
-use Rattle.history.specs.SerialOrder.{first_commits, committed_at, serial_table, serial_read}
-use Rattle.history.specs.Writes.{table_back}
+use Rattle.history.specs.SerialOrder.{first_commits, committed_at, stands_first, voted_branch, is_conflict, serial_table, serial_read}
+use Rattle.history.specs.Writes.{commit_order, table_back}
 use Rattle.net_script.specs.declared.values.Sizes.{Sizes}
 use Rattle.net_script.specs.declared.values.Table.{Table}
 use Rattle.net_script.specs.declared.values.Script.{Script}
@@ -72,8 +72,18 @@ AreReadsSerial config all =
     → list_any is_start (filter_map (done_at rm x) later) ≡ false → xid_at tx rm ≡ Some x → IsIn (first_commits all) tx
     → step.answer ≡ get_answer (serial_read (first_rows config rm) rm all before tx x key)
 
--- one serial order, that of the first commits anywhere, explains each last table of a trace, and each read of a committed transaction
+-- of two transactions that some manager has committed, and whose branches at one manager conflicted on a key when it voted prepared, the
+-- one that this manager committed first was committed first anywhere
+abbrev pub AreConflictsOrdered : List Step → Type 0
+AreConflictsOrdered all =
+    (rm : ℕ) (tx other : TxParts) (key : List ℕ) → IsIn (first_commits all) tx → IsIn (first_commits all) other → tx ≢ other
+    → is_conflict (voted_branch rm all tx) (voted_branch rm all other) key ≡ true
+    → stands_first tx other (commit_order rm all) ≡ true → stands_first tx other (first_commits all) ≡ true
+
+-- one serial order, that of the first commits anywhere, explains each last table of a trace, and each read of a committed transaction;
+-- and each manager keeps to it where two transactions conflict
 pub record IsSerial (config : Config) (happened : List Occurrence) (t : Trace) : Type 0 where
+  pub conflicts : AreConflictsOrdered (history config happened)
   pub tables_are : t.finals
       ≡ each_manager (λ rm. let all = history config happened in serial_table (first_rows config rm) rm all (committed_at rm all))
       config.managers
