@@ -2,11 +2,12 @@
 
 A rule has a line 'wrong:', what is wrong in a sentence; and edits: 'file:' a file of crates/protocol, then pairs of 'old:', a text that
 stands once in it, and 'new:', in whose place several 'new:' lines are several lines. Beside it NAME.run is a run that goes wrong:
-`goes_wrong`, which the prover computes, ends in what must never be. A rule that has none has a line 'note:', why.
+`goes_wrong`, which the prover computes, ends in what must never be. A rule that has none has a line 'note:', why. NAME.law is a run that
+breaks a law of one serial order: its `goes_wrong` proves that under the rule the clause of crates/history/src/serial.rt is false.
 
 First the right definitions must be proved, and each run must be refused under them, as its last word says otherwise. Then, for each
-rule, the run alone must be proved under the wrong definitions, which so elaborate; and a worked run of crates/protocol or a lemma of
-crates/safety must be refused. The last line is 'N passed, M failed'.
+rule, its runs alone, with no lemma beside them, must be proved under the wrong definitions, which so elaborate; and a proof of
+crates/protocol or of crates/safety must be refused. The last line is 'N passed, M failed'.
 
 A rule with a line 'crate: history' is an edit of crates/history, which looks back wrongly: its run must be proved beside the proofs of that
 crate, and of these a lemma must be refused that is no worked run.
@@ -24,7 +25,8 @@ from queue import Queue
 
 HERE = os.path.dirname(os.path.realpath(__file__))
 ROOT = os.path.dirname(os.path.dirname(HERE))
-WORDS = ("RunWords", "BackWords")
+WORDS = ("RunWords", "BackWords", "LawWords")
+DEFINITIONS = re.compile(r"Rattle\.(history|branch_table)\.specs\.(\w+)")
 RT = os.environ.get("RT", "rt").split()
 JOBS = int(os.environ.get("JOBS", "2"))
 ERROR = re.compile(r"^(?:\./)?(\S+):(\d+):\d+: error: (.*)")
@@ -67,12 +69,37 @@ def write(file, text):
         it.write(text)
 
 
-def has_run(name):
-    return os.path.exists(f"{HERE}/{name}.run")
+def run_of(name, kind="run"):
+    return read(f"{HERE}/{name}.{kind}")
 
 
-def run_of(name):
-    return read(f"{HERE}/{name}.run")
+def runs_of(name):
+    """The runs of a rule, texts by module."""
+    return {module_of(name) + kind.capitalize(): run_of(name, kind) for kind in ("run", "law") if os.path.exists(f"{HERE}/{name}.{kind}")}
+
+
+def law_of(name):
+    """The law that a run breaks, if it breaks one."""
+    if not os.path.exists(f"{HERE}/{name}.law"):
+        return ""
+    return re.search(r"^pub goes_wrong : (\w+) → ⊥$", run_of(name, "law"), re.MULTILINE)[1]
+
+
+def law_modules():
+    """The definitions of looking back and the laws of one serial order, which stand on them, as modules of protocol's proofs."""
+    laws = read(f"{ROOT}/crates/history/src/serial.rt")
+    uses = re.findall(r"^ghost (use .*);$", laws, re.MULTILINE)
+    clauses = re.findall(r"^pub fn (\w+)\(\)\s+ensures \{ (.*?) \}\n\{\}", laws, re.MULTILINE | re.DOTALL)
+    stated = [f"abbrev pub {law} : Type 0\n{law} = {clause}" for law, clause in clauses]
+    modules, wanted = {"HistoryLaws": "\n".join(uses + stated) + "\n"}, {"HistoryLaws"}
+    while wanted:
+        name = wanted.pop()
+        for crate, file in DEFINITIONS.findall(modules[name]):
+            if (module := module_of(crate) + file) not in modules:
+                modules[module] = read(f"{ROOT}/crates/{crate}/specs/{file}.antt")
+                wanted.add(module)
+        modules[name] = DEFINITIONS.sub(lambda found: f"Rattle.protocol.proofs.{module_of(found[1])}{found[2]}", modules[name])
+    return modules
 
 
 def crate_of(name):
@@ -96,7 +123,7 @@ def parse_rule(name):
             last[1] = text if last[1] is None else last[1] + "\n" + text
         elif word not in ("wrong", "note", "crate"):
             raise BadRule(f"no such line: {line}")
-    if "wrong" not in words or not edits or not (has_run(name) or "note" in words):
+    if "wrong" not in words or not edits or not (runs_of(name) or "note" in words):
         raise BadRule("it wants a line 'wrong:', an edit, and a run or a note why there is none")
     return edits
 
@@ -158,10 +185,10 @@ class BackScratch(Copy):
     def try_rule(self, name):
         """Which law refuses a rule."""
         with self.edited(name):
-            check = self.check({"GoesWrong": run_of(name)})
+            check = self.check(runs_of(name))
         if not check.is_refusal:
             raise BadRule(check.refused_by)
-        if wrong := [error for error in check.errors if error[0] == "proofs/GoesWrong.antt"]:
+        if wrong := [error for error in check.errors if error[0] in {f"proofs/{module}.antt" for module in runs_of(name)}]:
             raise BadRule(f"its run: {wrong[0]}")
         laws = [error for error in check.errors if not error[0].endswith("WorkedRuns.antt")]
         if not laws:
@@ -170,7 +197,7 @@ class BackScratch(Copy):
 
     def try_right_rules(self, names):
         """Proves the right definitions, and says of which rules the run is not refused under them."""
-        return unrefused(self.check({module_of(name): run_of(name) for name in names}), names)
+        return unrefused(self.check({module: text for name in names for module, text in runs_of(name).items()}), names)
 
 
 class Scratch(Copy):
@@ -199,18 +226,21 @@ class Scratch(Copy):
 
     def set_proofs(self, modules):
         """Makes these modules, texts by name, all of protocol's proofs."""
-        proofs = f"{self.protocol}/proofs"
-        for name in os.listdir(proofs):
-            if name.endswith(".antt"):
-                os.remove(f"{proofs}/{name}")
+        right, proofs = f"{ROOT}/crates/protocol/proofs", f"{self.protocol}/proofs"
+        shutil.rmtree(proofs)
+        os.mkdir(proofs)
         for name, text in modules.items():
             write(f"{proofs}/{name}.antt", text)
+            if os.path.isdir(f"{right}/{name}"):
+                shutil.copytree(f"{right}/{name}", f"{proofs}/{name}")
         write(f"{proofs}/Lib.antt", "".join(f"pub mod {name}\n" for name in modules))
 
     def check_runs(self, runs):
-        """Checks protocol with runs, texts by module, and nothing else but their words and what safety builds on."""
+        """Checks protocol with runs, texts by module, and nothing else but their words."""
         words = {"RowWords": self.modules["RowWords"], "RunWords": run_of("RunWords")} if runs else {}
-        self.set_proofs({**self.lemmas, **words, **runs})
+        if any(module.endswith("Law") for module in runs):
+            words |= {"LawWords": run_of("LawWords"), **law_modules()}
+        self.set_proofs({**words, **runs})
         return Check(self.protocol)
 
     def check_worked_runs(self):
@@ -224,23 +254,29 @@ class Scratch(Copy):
     def try_rule(self, name):
         """Which proofs refuse a rule."""
         with self.edited(name):
-            runs = {"GoesWrong": run_of(name)} if has_run(name) else {}
-            alone = self.check_runs(runs)
+            alone = self.check_runs(runs_of(name))
             if not alone.proved:
                 raise BadRule(f"with the run alone: {alone.errors[:1] or alone.lines[-3:]}")
-            checks = {"worked run": self.check_worked_runs(), "safety": self.check_safety()}
+            checks = {"protocol": self.check_worked_runs()}
+            if checks["protocol"].proved or not self.are_lemmas_refused(checks["protocol"]):
+                checks["safety"] = self.check_safety()
         refused = [check for check in checks.values() if not check.proved]
         if not refused or not all(check.is_refusal for check in refused):
             raise BadRule(next((check.refused_by for check in refused if not check.is_refusal), "nothing refuses it"))
-        return ", ".join(f"{kind} {check.refused_by}" for kind, check in checks.items() if not check.proved)
+        broken = [law_of(name)] if law_of(name) else []
+        return ", ".join([f"{kind} {check.refused_by}" for kind, check in checks.items() if not check.proved] + broken)
+
+    def are_lemmas_refused(self, check):
+        """Whether a check of protocol refused a lemma that safety builds on, so that there is no safety to check."""
+        return any(re.match(r"proofs/(\w+)", file)[1] in self.lemmas for file, _, _ in check.errors if file.startswith("proofs/"))
 
     def try_right_rules(self, names):
         """Proves the right definitions, and says of which rules the run is not refused under them."""
         for check in (self.check_worked_runs(), self.check_safety()):
             if not check.proved:
                 sys.exit(f"the right definitions aren't proved: {check.crate}: {(check.errors or check.lines)[:3]}")
-        named = [name for name in names if has_run(name)]
-        return unrefused(self.check_runs({module_of(name): run_of(name) for name in named}), named)
+        runs = [runs_of(name) for name in names]
+        return unrefused(self.check_runs({module: text for of_one in runs for module, text in of_one.items()}), names)
 
 
 def module_of(name):
@@ -249,11 +285,12 @@ def module_of(name):
 
 def unrefused(check, names):
     """Of which rules the run is not refused, in a check of all their runs under the right definitions."""
-    wanted = {f"proofs/{module_of(name)}.antt" for name in names}
-    strange = [error for error in check.errors if error[0] not in wanted or not error[2].startswith("`goes_wrong`: ")]
+    wanted = {name: {f"proofs/{module}.antt" for module in runs_of(name)} for name in names}
+    files = {file for of_one in wanted.values() for file in of_one}
+    strange = [error for error in check.errors if error[0] not in files or not error[2].startswith("`goes_wrong`: ")]
     refused = {file for file, _, _ in check.errors}
     return {name: f"with the right rule its run is not refused as it must be: {strange[:1]}" for name in names
-            if f"proofs/{module_of(name)}.antt" not in refused or strange}
+            if not wanted[name] <= refused or wanted[name] and strange}
 
 
 def try_rules(scratches, names):
@@ -285,7 +322,7 @@ def try_rules(scratches, names):
 def main():
     files = [os.path.splitext(file) for file in os.listdir(HERE)]
     rules = {name for name, kind in files if kind == ".rule"}
-    if strays := {name for name, kind in files if kind == ".run"} - rules - set(WORDS):
+    if strays := {name for name, kind in files if kind in (".run", ".law")} - rules - set(WORDS):
         sys.exit(f"runs without a rule: {', '.join(sorted(strays))}")
     names = sys.argv[1:] or sorted(rules)
     passed = []
