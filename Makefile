@@ -21,18 +21,20 @@ try: proof-tools
 	@cd crates/pcommit && rt try --data script=$(abspath $(SCRIPT)) -- run script
 
 # everything: the page of definitions, each proof from nothing, the must-fail edits, the tests, the program as two compilers build it,
-# and then, of the program that was built so, the golden scripts and a run with each block of memory refused in turn
+# then, of the program that was built so, the golden scripts and runs with each block of memory refused in turn, and tests with that refused
 test: test-tools
 	tools/definitions.py --check
 	rt ci
 	@mkdir -p bin
 	@cp crates/pcommit/out/pcommit bin/pcommit
 	$(MAKE) scripts
+	tests/refused.sh acceptor branch_table leader
 
 golden: test-tools build scripts
 
 scripts:
 	tests/run.sh bin/pcommit
+	tests/sweeps.py bin/pcommit
 	tests/memory.sh bin/pcommit
 
 # tries each wrong rule of the protocol on a copy of the definitions, outside the gate: about ten minutes

@@ -30,7 +30,7 @@ asked_again() {
     [ "$status" = 0 ] && [ ! -s "$scratch/err" ] && cmp -s "$scratch/ample" "$scratch/out"
 }
 
-for name in first_branch plain_commit bundled_commit torn_vote_whole ballots_after_restart; do
+for name in first_branch plain_commit takeover_before_vote_late bundled_commit torn_vote_whole ballots_after_restart limits compacted; do
     script=$tests/golden/$name.script
     run "$script" 0 || exit 1
     cp "$scratch/out" "$scratch/ample"

@@ -2,8 +2,9 @@
 # Runs the built program on each script of tests/golden and tests/udp, on each trace of tests/audit, and on command lines, scripts and
 # folders made here, and compares what it prints and its exit status. NAME.script (or NAME.trace) is the input, NAME.out what goes to
 # standard output, NAME.err what goes to standard error (none: nothing), NAME.status the exit status (none: 0). Of tests/udp, NAME.1.script,
-# NAME.2.script and so on are run one after another over one folder. A file that belongs to no input that was run has failed too. The
-# trace of each script of tests/golden that is run is audited, and has to be consistent. The last line is 'N passed, M failed'.
+# NAME.2.script and so on are run one after another over one folder, into which NAME.py, where there is one, writes records first. A file
+# that belongs to no input that was run has failed too. The trace of each script of tests/golden that is run, and of each of tests/udp over
+# a new folder, is audited, and has to be consistent. The last line is 'N passed, M failed'.
 program=$(realpath "${1:-bin/pcommit}")
 tests=$(realpath "$(dirname "$0")")
 golden=$tests/golden
@@ -56,6 +57,7 @@ each() { # FOLDER KIND RUN
     while IFS= read -r file; do
         case $file in
         *."$2" | *.out | *.err | *.status) [ -e "$1/${file%.*}.$2" ] || fail "$file" 'it belongs to no input' ;;
+        *.py) [ -e "$1/${file%.*}.1.$2" ] || fail "$file" 'it belongs to no input' ;;
         *) fail "$file" 'it belongs to no input' ;;
         esac
     done <"$scratch/files"
@@ -70,8 +72,14 @@ run_golden() { # NAME EXPECTED_OUT EXPECTED_ERR EXPECTED_STATUS SCRIPT
 # a script over a folder, which is new where it is the first of its name
 run_udp() { # NAME EXPECTED_OUT EXPECTED_ERR EXPECTED_STATUS SCRIPT
     folder=$scratch/${1%.*}.folder
-    [ "${1##*.}" = 1 ] && mkdir "$folder"
+    records=$tests/udp/${1%.*}.py
+    is_new=false
+    if [ "${1##*.}" = 1 ]; then
+        mkdir "$folder"
+        if [ -e "$records" ]; then python3 "$records" "$folder"; else is_new=true; fi
+    fi
     check "udp $1" "$2" "$3" "$4" udp "$5" "$folder"
+    $is_new && [ "$4" = 0 ] && check "udp $1, audited" "$scratch/consistent" /dev/null 0 audit "$2"
 }
 
 run_audit() { # NAME EXPECTED_OUT EXPECTED_ERR EXPECTED_STATUS TRACE
@@ -102,6 +110,7 @@ check a_folder /dev/null "$scratch/refused" 3 run "$scratch"
 check missing_trace /dev/null "$scratch/refused" 3 audit "$scratch/no such file"
 check missing_udp_script /dev/null "$scratch/refused" 3 udp "$scratch/no such file" "$scratch"
 check missing_udp_folder /dev/null "$scratch/refused" 3 udp "$tests/udp/noise.1.script" "$scratch/no such folder"
+check an_unwritable_folder /dev/null "$scratch/refused" 3 udp "$tests/udp/noise.1.script" /proc
 check a_file_as_folder /dev/null "$scratch/refused" 3 udp "$tests/udp/noise.1.script" "$scratch/refused"
 
 # faults come in the order: the script, the sizes, the events that aren't for sockets, the records; nothing is made before
@@ -136,6 +145,25 @@ over of_another_role a0.rec "$frame" 3 'pcommit: refused 4\n' ''
 over no_record r0.rec 'no record' 3 'pcommit: refused 4\n' ''
 over no_frame l0.rec '\000\000\000\000' 3 'pcommit: refused 4\n' ''
 
+# what was compacted over sockets, and what was written in version 1 and taken up, stands as frames of version 2
+python3 - "$scratch" <<END && passed=$((passed + 1)) || fail records 'they are not as they should be'
+import glob, sys
+folder = sys.argv[1]
+compacted = '000000020209' '00000007020a016b000131' '0000000d020b0000000101740100000161'
+assert open(folder + '/compacted.folder/r0.rec', 'rb').read().hex() == compacted
+files = glob.glob(folder + '/version_1.folder/*.rec')
+assert len(files) == 4
+for name in files:
+    data = open(name, 'rb').read()
+    while data:
+        size = int.from_bytes(data[:4], 'big')
+        assert data[4] == 2 and len(data) >= 4 + size, name
+        data = data[4 + size:]
+END
+
+# hostile datagrams
+if python3 "$tests/hostile.py" "$program" "$scratch" >"$scratch/said"; then passed=$((passed + 2)); else fail hostile "$(cat "$scratch/said")"; fi
+
 # a trace cut at every byte: each beginning of it is refused with a line
 trace=$tests/audit/in_order.trace
 length=$(wc -c <"$trace")
@@ -153,6 +181,29 @@ while [ "$at" -lt "$length" ]; do
     at=$((at + 1))
 done
 [ "$cuts" = "$length" ] && passed=$((passed + 1))
+
+# a trace whose final lines are missing, doubled, out of order or not the last, and whose lines have words too few or too many
+faulty() { # LINE AT FAULT, COMMAND OF sed OVER THE TRACE
+    sed "$2" "$tests/audit/split_outcome.trace" >"$scratch/faulty.trace"
+    echo "pcommit: refused 7 line $1" >"$scratch/faulty.err"
+    check "trace after $2" /dev/null "$scratch/faulty.err" 3 audit "$scratch/faulty.trace"
+}
+faulty 10 '/^final r0/d'
+faulty 11 '/^final r1/d'
+faulty 10 '/^final/d'
+faulty 11 '/^final r0/p'
+faulty 12 '/^final r1/p'
+faulty 10 '/^final/s/[01]/2/'
+faulty 12 '$a deliver 5 -> ok'
+faulty 2 '2s/1//'
+faulty 2 '2s/1/1 1/'
+faulty 2 '2s/ ok//'
+faulty 2 '2s/ok/ok ok/'
+faulty 3 '3s/ prepared//'
+faulty 3 '3s/$/ prepared/'
+faulty 4 3p
+faulty 1 '1s/ 2$//'
+faulty 1 '1s/$/ 1/'
 
 # names that begin and end in a space
 cd "$scratch" || exit 1
@@ -228,6 +279,14 @@ compare full_error_of_usage /dev/null /dev/null 2
 "$program" audit "$trace" >/dev/full 2>err
 got=$?
 compare full_output_of_audit /dev/null refused 3
+: >out
+"$program" audit "$trace" >&- 2>err
+got=$?
+compare closed_output_of_audit /dev/null refused 3
+mkdir closed
+"$program" udp "$tests/udp/two_runs.1.script" closed >&- 2>err
+got=$?
+compare closed_output_of_udp /dev/null refused 3
 mkdir folder
 "$program" udp "$tests/udp/two_runs.1.script" folder >/dev/full 2>err
 got=$?

@@ -2,7 +2,8 @@
 # Runs the nodes over sockets and one folder, part by part of a long script, and kills the program (SIGKILL) at a random moment of each
 # part. At the end every record opens, all transactions are settled by timeouts, and tests/soak_check.py reads the records' bytes: no
 # transaction is committed at one resource manager and aborted at another, and each table is its first contents with the writes of its
-# committed branches. `tests/soak.sh [PROGRAM [KILLS [FOLDER]]]`. The last line is 'N passed, M failed'.
+# committed branches. Then the managers' records are made shorter, over and over, with a tenth of as many kills, and say what they said.
+# `tests/soak.sh [PROGRAM [KILLS [FOLDER]]]`. The last line is 'N passed, M failed'.
 tests=$(cd "$(dirname "$0")" && pwd)
 program=$(realpath "${1:-bin/pcommit}")
 kills=${2:-200}
@@ -50,6 +51,8 @@ part() { # NUMBER
         # what an earlier kill has left over is taken up again
         [ "$number" -gt 40 ] && echo "timeout l1 $(transaction $((number - 40)))"
         [ "$number" -gt 40 ] && echo "flow 6"
+        # acceptors and leaders are compacted; what managers have done is read from their records, which stay as they were written
+        [ $((number % 6)) = 5 ] && echo "compact a$((number % 3))" && echo "compact l$((number % 2))"
     done
 }
 
@@ -66,8 +69,9 @@ for kill in $(seq "$kills"); do
     "$program" udp "$scratch/script" "$scratch/records" >"$scratch/out" 2>"$scratch/err" &
     child=$!
     sleep "$(awk -v seed="$kill$$" -v took="$took" 'BEGIN { srand(seed); printf "%.6f", rand() * took * 1.1 / 1000000 }')"
-    if kill -KILL $child 2>/dev/null; then cut=$((cut + 1)); fi
+    kill -KILL $child 2>/dev/null
     wait $child 2>/dev/null
+    if [ $? = 137 ]; then cut=$((cut + 1)); fi
     # every record opens
     echo "$sizes" >"$scratch/empty"
     if "$program" udp "$scratch/empty" "$scratch/records" >"$scratch/out" 2>"$scratch/err"; then
@@ -91,10 +95,30 @@ echo "$kills parts of up to $((took / 1000)) ms, of which $cut were cut off"
 } >"$scratch/script"
 "$program" udp "$scratch/script" "$scratch/records" >"$scratch/settled" 2>"$scratch/err" || cat "$scratch/err"
 "$program" udp "$scratch/empty" "$scratch/records" >"$scratch/tables" 2>"$scratch/err" || cat "$scratch/err"
-if python3 "$tests/soak_check.py" "$scratch/records" "$scratch/tables"; then
-    passed=$((passed + 1))
-else
-    failed=$((failed + 1))
-fi
+audit_records() { # FILE FOR WHAT IS SAID
+    if python3 "$tests/soak_check.py" "$scratch/records" "$scratch/tables" >"$1"; then passed=$((passed + 1)); else failed=$((failed + 1)); fi
+    cat "$1"
+}
+audit_records "$scratch/said"
+
+# compactions
+{
+    echo "$sizes"
+    for step in $(seq 100); do echo "compact r$((step % 3))"; done
+} >"$scratch/script"
+cut=0
+for kill in $(seq $((kills / 10))); do
+    "$program" udp "$scratch/script" "$scratch/records" >"$scratch/out" 2>"$scratch/err" &
+    child=$!
+    sleep "$(awk -v seed="$kill$$" 'BEGIN { srand(seed); printf "%.6f", rand() / 10 }')"
+    kill -KILL $child 2>/dev/null
+    wait $child 2>/dev/null
+    if [ $? = 137 ]; then cut=$((cut + 1)); fi
+    "$program" udp "$scratch/empty" "$scratch/records" >"$scratch/out" 2>"$scratch/err"
+    if cmp -s "$scratch/tables" "$scratch/out"; then passed=$((passed + 1)); else failed=$((failed + 1)); fi
+done
+echo "$((kills / 10)) runs of compactions, of which $cut were cut off"
+audit_records "$scratch/said_then"
+cmp -s "$scratch/said" "$scratch/said_then" || failed=$((failed + 1))
 echo "$passed passed, $failed failed"
 [ "$failed" = 0 ]

@@ -52,6 +52,13 @@ def manager(data, rows):
         reader = Reader(body)
         width = {1: 1, 2: 2}[reader.number(1)]
         kind = reader.number(1)
+        if kind == 9:
+            rows.clear()
+            continue
+        if kind == 10:
+            key = reader.take(reader.number(1))
+            rows[key] = reader.take(reader.number(2))
+            continue
         tx = transaction(reader, width)
         if kind == 4:
             votes[tx] = list(keys(reader))
@@ -67,8 +74,10 @@ def manager(data, rows):
                     rows[key] = value
                 elif act == 2:
                     rows.pop(key, None)
-        elif kind == 7:
+        elif kind in (7, 12):
             outcomes[tx] = 'aborted'
+        elif kind == 11:
+            outcomes[tx] = 'committed'
         else:
             raise ValueError('a fact of kind %d' % kind)
     return votes, outcomes

@@ -1,0 +1,341 @@
+#!/usr/bin/env python3
+"""Runs the built program on scripts made of those in tests/golden: a vote torn after each number of bytes; each append of whole runs torn
+after each number of bytes; and records made shorter after each event. Then over record files: frames of both versions in every mixture,
+with a tail, cut at each byte, and what is no record. `tests/sweeps.py [PROGRAM]`. The last line is 'N passed, M failed'."""
+import itertools
+import os
+import re
+import subprocess
+import sys
+import tempfile
+
+GOLDEN = os.path.join(os.path.dirname(os.path.realpath(__file__)), "golden")
+program = os.path.realpath(sys.argv[1] if len(sys.argv) > 1 else "bin/pcommit")
+scratch = tempfile.TemporaryDirectory()
+passed = failed = 0
+
+# a frame's length, version and kind
+HEAD = 6
+# what follows the transaction in the fact that a message or a timeout makes a node store
+BEHIND = {"p1a": 6, "p2a": 7, "b1a": 4, "timeout": 4}
+# how many tears there are, by hand from the facts that are stored and the sizes in docs/FORMATS.md
+TORN_ROWS = {
+    "plain_commit": 276,
+    "takeover_finds_prepared": 530,
+    "takeover_before_vote_late": 329,
+    "takeover_before_vote_early": 249,
+    "two_lists_one_gtrid": 106,
+    "bundled_commit": 276,
+    "bundled_takeover": 281,
+}
+SHORTER_ROWS = ["plain_commit", "takeover_finds_prepared", "takeover_before_vote_late", "takeover_before_vote_early", "bundled_takeover",
+                "torn_vote_before_first_byte", "torn_vote_in_length", "torn_vote_after_length", "torn_vote_in_body",
+                "torn_vote_one_short", "torn_vote_whole", "torn_vote_far"]
+
+
+def check(name, is_right, why=""):
+    global passed, failed
+    if is_right:
+        passed += 1
+    else:
+        failed += 1
+        print(f"FAILED {name}: {why}")
+
+
+def golden(name):
+    with open(os.path.join(GOLDEN, name)) as file:
+        return file.read()
+
+
+def call(word, text):
+    """What the program prints of a text, or None where its status isn't 0 or it says something on standard error."""
+    path = os.path.join(scratch.name, "text")
+    with open(path, "w") as file:
+        file.write(text)
+    done = subprocess.run([program, word, path], capture_output=True, text=True)
+    return done.stdout if done.returncode == 0 and not done.stderr else None
+
+
+class Event:
+    """An event of a trace: its line, its answer, and the lines of what it changed and sent."""
+
+    def __init__(self, line):
+        self.text, self.answer = line.split(" -> ")
+        self.then = []
+
+    def lines(self):
+        return [f"{self.text} -> {self.answer}"] + self.then
+
+
+def read_trace(trace):
+    """The lines before the first event, the events, and the lines of the last tables."""
+    head, events, finals = [], [], []
+    for line in trace.splitlines():
+        if line.startswith("final "):
+            finals.append(line)
+        elif " -> " in line:
+            events.append(Event(line))
+        elif events:
+            events[-1].then.append(line)
+        else:
+            head.append(line)
+    return head, events, finals
+
+
+def script_of(head, lines):
+    return "\n".join(head + lines) + "\n"
+
+
+# ---- a vote torn after each number of bytes
+
+def torn_votes():
+    script, short, whole = golden("torn_vote_whole.script"), golden("torn_vote_one_short.out"), golden("torn_vote_whole.out")
+    frame = int(re.search(r"^tear r0 (\d+)$", script, re.M)[1])
+    for kept in range(frame + 2):
+        form = short if kept < frame else whole
+        wanted = re.sub(r"^tear r0 \d+ ", f"tear r0 {kept} ", form, flags=re.M)
+        got = call("run", re.sub(r"^tear r0 \d+$", f"tear r0 {kept}", script, flags=re.M))
+        check(f"a vote torn at {kept}", got == wanted, got)
+    check("torn votes", frame == 24, f"the frame has {frame} bytes")
+
+
+# ---- each append of a run torn after each number of bytes
+
+def spelled(tx):
+    """How many bytes a transaction has in a frame."""
+    gtrid, branches = re.fullmatch(r"\d+:([0-9a-f]+)/(.*)", tx).groups()
+    return 6 + len(gtrid) // 2 + sum(3 + len(bqual) // 2 for bqual in re.findall(r"=([0-9a-f]+)", branches))
+
+
+def touched(events, rm, tx):
+    """How many bytes the keys have that a resource manager's branch of a transaction has touched since its start."""
+    number = rm[1:]
+    xid = tx.split("/")[0] + ":" + re.search(rf"[/,]{number}=([0-9a-f]+)", tx)[1]
+    keys = {}
+    for event in events:
+        words = event.text.split()
+        if words[1:3] != [rm, xid] or event.answer.startswith("refused"):
+            continue
+        if words[0] == "start":
+            keys = {}
+        elif words[0] == "put":
+            keys[words[3]] = 4 + len(words[3]) // 2 + len(words[4]) // 2
+        elif words[0] == "del" or words[0] == "get" and words[3] not in keys:
+            keys[words[3]] = 2 + len(words[3]) // 2
+    return sum(keys.values())
+
+
+def reached(events, event):
+    """The node that an event hands something to which it may store, and the word of that; or none."""
+    words = event.text.split()
+    if words[0] in ("timeout", "commit"):
+        return words[1], words[0], words[2]
+    if words[0] != "deliver":
+        return None
+    for other in events:
+        for line in other.then:
+            sent = line.split()
+            if sent[:2] == ["sent", words[1]]:
+                return sent[3], sent[4], sent[5]
+    return None
+
+
+def frame_of(events, at, rm_or_node, word, tx):
+    """How many bytes the frame has that an event adds, if it adds one."""
+    for line in events[at].then:
+        if line.startswith("now "):
+            votes = line.endswith(" prepared")
+            return HEAD + spelled(tx) + (1 + touched(events[:at], rm_or_node, tx) if votes else 0)
+    return HEAD + spelled(tx) + BEHIND.get(word, 0)
+
+
+def tear(head, events, at, node, kept):
+    """The trace where an event's append is torn and its node is restarted then."""
+    lines = [event.text for event in events]
+    return call("run", script_of(head, lines[:at] + [f"tear {node} {kept}", lines[at], f"restart {node}"] + lines[at + 1:]))
+
+
+def is_torn_so(trace, head, events, at, node, moves):
+    """Whether a trace is the run's up to the tear, then refuses the event, shows the view that it moved, if any, and restarts."""
+    before = head + [line for event in events[:at] for line in event.lines()]
+    lines = trace.splitlines()
+    then = lines[len(before) + 1:]
+    wanted = [f"{events[at].text} -> refused 5"] + moves + [f"restart {node} -> ok"]
+    return lines[:len(before)] == before and then[:len(wanted)] == wanted
+
+
+def torn_appends(name, tears):
+    head, events, _ = read_trace(golden(name + ".out"))
+    runs = appends = 0
+    for at, event in enumerate(events):
+        target = reached(events[:at], event)
+        if target is None:
+            continue
+        node, word, tx = target
+        first = tear(head, events, at, node, 0)
+        if first is None or f"{event.text} -> refused 5" not in first.splitlines():
+            continue
+        appends += 1
+        frame = frame_of(events, at, node, word, tx)
+        for kept in range(frame + 1):
+            trace = tear(head, events, at, node, kept)
+            moved = [line for line in event.then if line.startswith("now ")] if kept == frame else []
+            is_right = trace is not None and is_torn_so(trace, head, events, at, node, moved)
+            check(f"{name}: {event.text} torn at {kept} of {frame}", is_right and call("audit", trace) == "consistent\n", trace)
+            runs += 1
+    print(f"{name}: {appends} appends, {runs} tears")
+    check(f"tears of {name}", runs == tears, f"{runs} were run of {tears}")
+
+
+# ---- records made shorter after each event
+
+def nodes_of(head):
+    sizes = re.match(r"cluster acceptors (\d+) leaders (\d+) rms (\d+)", head[0])
+    return [f"{kind}{number}" for kind, count in zip("alr", sizes.groups()) for number in range(int(count))]
+
+
+def is_same_but_for_compactions(trace, wanted):
+    """Whether a trace is the wanted one, where every compaction is answered ok, or 8 by a node that is down."""
+    if trace is None:
+        return False
+    others, down = [], set()
+    for line in trace.splitlines():
+        words = line.split()
+        if words[0] == "compact":
+            if line.split(" -> ")[1] != ("refused 8" if words[1] in down else "ok"):
+                return False
+        else:
+            others.append(line)
+            if words[0] == "tear":
+                torn = words[1]
+            if line.endswith(" -> refused 5"):
+                down.add(torn)
+            if words[0] == "restart":
+                down.discard(words[1])
+    return others == wanted.splitlines()
+
+
+def shorter(name):
+    wanted = golden(name + ".out")
+    head, events, _ = read_trace(wanted)
+    compactions = [f"compact {node}" for node in nodes_of(head)]
+    texts = [event.text for event in events]
+    everywhere = [line for text in texts for line in [text] + compactions]
+    trace = call("run", script_of(head, compactions + everywhere))
+    check(f"{name}, made shorter after every event", is_same_but_for_compactions(trace, wanted), trace)
+    for at in range(len(texts) + 1):
+        trace = call("run", script_of(head, texts[:at] + compactions + texts[at:]))
+        check(f"{name}, made shorter after {at} events", is_same_but_for_compactions(trace, wanted), trace)
+
+
+# ---- records in files
+
+TX = {1: "00000001 0174 01 00 0161", 2: "00000001 0174 01 0000 0161"}
+INSTANCE = {1: "00", 2: "0000"}
+
+
+def frame(version, kind, behind="", has_tx=True, has_instance=False):
+    body = f"{version:02x}{kind:02x}" + (TX[version] if has_tx else "") + (INSTANCE[version] if has_instance else "") + behind
+    body = bytes.fromhex(body)
+    return len(body).to_bytes(4, "big") + body
+
+
+def both(*words, **others):
+    """A frame in version 1 and in version 2."""
+    return frame(1, *words, **others), frame(2, *words, **others)
+
+
+PROMISE = both(1, "00000001", has_instance=True)
+ACCEPT = both(2, "00000102 02", has_instance=True)
+BALLOT = both(3, "00000001")
+VOTE = both(4, "01 016b 01 0001 31")
+VOTE_ABORTED, COMMITTED, ABORTED, PAST_COMMITTED, PAST_ABORTED = both(5), both(6), both(7), both(11), both(12)
+PROMISE_ALL = both(8, "00000001")
+SNAPSHOT, ROW = both(9, has_tx=False), both(10, "016b 0001 31", has_tx=False)
+RECORDS = [
+    ("a0", [PROMISE], ""), ("a0", [ACCEPT], ""), ("a0", [PROMISE, ACCEPT], ""), ("a0", [PROMISE_ALL], ""), ("l0", [BALLOT], ""),
+    ("r0", [VOTE], "prepared"), ("r0", [VOTE, COMMITTED], "committed"), ("r0", [VOTE, ABORTED], "aborted"),
+    ("r0", [VOTE_ABORTED], "aborted"), ("r0", [ABORTED], "aborted"), ("r0", [SNAPSHOT], "working"),
+    ("r0", [SNAPSHOT, ROW, PAST_COMMITTED], "committed"), ("r0", [SNAPSHOT, ROW, PAST_ABORTED], "aborted"),
+    ("r0", [SNAPSHOT, VOTE, COMMITTED], "committed"), ("r0", [], "working"), ("a0", [], ""), ("l0", [], ""),
+]
+REFUSED = [
+    ("a0", [PROMISE, PROMISE]), ("a0", [BALLOT]), ("a0", [VOTE]), ("a0", [SNAPSHOT]), ("l0", [PROMISE]), ("l0", [COMMITTED]),
+    ("r0", [PROMISE]), ("r0", [BALLOT]), ("r0", [COMMITTED]), ("r0", [VOTE, VOTE]), ("r0", [PAST_COMMITTED]), ("r0", [VOTE, SNAPSHOT]),
+    ("r0", [SNAPSHOT, SNAPSHOT]), ("r0", [SNAPSHOT, ROW, ROW]), ("r0", [ROW]),
+]
+
+
+def open_over(node, record, stops=False):
+    """What the program says over a folder with this record of a node, and the record then; a replacement stops there, or not."""
+    with tempfile.TemporaryDirectory() as folder:
+        path = os.path.join(folder, node + ".rec")
+        with open(path, "wb") as file:
+            file.write(record)
+        if stops:
+            os.mkdir(path + ".new")
+        script = os.path.join(scratch.name, "script")
+        with open(script, "w") as file:
+            file.write("cluster acceptors 1 leaders 1 rms 1\nview r0 1:74/0=61\n")
+        done = subprocess.run([program, "udp", script, folder], capture_output=True, text=True)
+        with open(path, "rb") as file:
+            return done, file.read()
+
+
+def is_opened(node, record, left, view):
+    done, found = open_over(node, record)
+    says = f"view r0 1:74/0=61 -> {view or 'working'}"
+    return done.returncode == 0 and not done.stderr and says in done.stdout.splitlines() and found == left
+
+
+def is_refused(node, record):
+    done, found = open_over(node, record)
+    return (done.returncode, done.stdout, done.stderr) == (3, "", "pcommit: refused 4\n") and found == record
+
+
+def is_stopped(node, record, left):
+    """Whether a record whose frames can't be written anew is refused, and has lost its tail alone."""
+    done, found = open_over(node, record, stops=True)
+    return (done.returncode, done.stdout, done.stderr) == (3, "", "pcommit: refused 5\n") and found == left
+
+
+def records():
+    runs = 0
+    for node, frames, view in RECORDS:
+        left = b"".join(second for _, second in frames)
+        for versions in itertools.product(*frames):
+            for tail in (b"", b"\0\0\0", b"\0\0\0\x14\2"):
+                record = b"".join(versions) + tail
+                check(f"{node} over {record.hex()}", is_opened(node, record, left, view), "it isn't opened so")
+                runs += 1
+        old = b"".join(first for first, _ in frames)
+        if old:
+            check(f"{node}, stopped over {old.hex()}", is_stopped(node, old + b"\0\0\0", old), "it isn't stopped so")
+            check(f"{node} over {left.hex()}, stopped", is_opened(node, left, left, view), "it isn't opened")
+            runs += 2
+    for node, frames in REFUSED:
+        for versions in itertools.product(*frames):
+            record = b"".join(versions)
+            check(f"{node} over {record.hex()}", is_refused(node, record), "it isn't refused so")
+            runs += 1
+    for node in ("a0", "l0", "r0"):
+        for record in (bytes(4), b"\0\0\x80\1", b"\0\0\0\2\3\5", b"\0\0\0\2\2\0", b"\0\0\0\2\2\x0d"):
+            check(f"{node} over {record.hex()}", is_refused(node, record), "it isn't refused so")
+            runs += 1
+    whole = VOTE[1] + COMMITTED[1]
+    for length in range(len(whole) + 1):
+        kept = whole if length == len(whole) else VOTE[1] if length >= len(VOTE[1]) else b""
+        view = "committed" if kept == whole else "prepared" if kept else "working"
+        check(f"a record cut at {length}", is_opened("r0", whole[:length], kept, view), "it isn't opened so")
+        runs += 1
+    print(f"{runs} records in files")
+
+
+torn_votes()
+for row, tears in TORN_ROWS.items():
+    torn_appends(row, tears)
+for row in SHORTER_ROWS:
+    shorter(row)
+records()
+print(f"{passed} passed, {failed} failed")
+sys.exit(1 if failed else 0)
