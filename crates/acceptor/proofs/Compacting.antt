@@ -1,6 +1,6 @@
 -- The facts of a compacted record play, and lead each slot to where it stands.
-use Rattle.std.proofs.Common.{◌≡◌, ◌≢◌, ◌∙◌, ◌==◌, ℕ, ◌<◌, ◌≤◌, max, Bool, true, false, not, ◌&&◌, ◌||◌, ltb, leb, List, [], ◌∷◌, ◌++◌, length}
-use Rattle.std.proofs.Common.{Option, Some, None, refl, sym, ap, subst, append_assoc, arith}
+use Rattle.std.proofs.Common.{◌≡◌, ◌∙◌, ◌==◌, ℕ, ◌<◌, ◌≤◌, max, Bool, true, false, not, ◌&&◌, ◌||◌, ltb, leb, List, [], ◌∷◌, ◌++◌, length}
+use Rattle.std.proofs.Common.{Some, None, refl, sym, ap, subst, append_assoc, arith}
 use Rattle.std.specs.Prelude.{if◌then◌else◌}
 use Rattle.std.specs.List.{AllByRecursion, IsDistinct, list_any, flat_map}
 use Rattle.std.specs.Cmp.{unsigned_Decides, first_so, second_so}
@@ -19,18 +19,17 @@ use Rattle.ballot.specs.Slots.{empty_slot}
 use Rattle.stable_record.specs.declared.fact.FactKind.{FactKind as Fact}
 use Rattle.transactions.specs.Seen.{place_in}
 use Rattle.transactions.proofs.Keys.{present_from_place}
-use Rattle.transactions.proofs.Rows.{place_le}
 use Rattle.protocol.specs.declared.nodes.NodeId.TheVariants.{A}
 use Rattle.protocol.specs.Acceptors.{Slots, plays_at_acceptor, is_accepted}
 use Rattle.protocol.specs.Effects.{Config}
 use Rattle.protocol.specs.Facts.{instance_eq, slot}
-use Rattle.protocol.specs.Nodes.{plays, all_play}
+use Rattle.protocol.specs.Nodes.{all_play}
 use Rattle.protocol.proofs.Manager.Played.{all_play_then}
 use Rattle.acceptor.specs.Slots.{place_of, slot_of, after_fact, raised, latest}
 use Rattle.acceptor.specs.Tables.{TableParts, IsSeen, IsTable, slots_in, slot_in}
 use Rattle.acceptor.specs.Acceptors.{AcceptorParts, StandsFor}
-use Rattle.acceptor.specs.Compaction.{accepted_ballot, accept_facts, promise_facts, slot_facts, transaction_facts, compacted}
-use Rattle.acceptor.specs.Compaction.{SaysTheSame, IsCompacted}
+use Rattle.acceptor.specs.Compaction.{accepted_ballot, accept_facts, slot_facts, transaction_facts, compacted}
+use Rattle.acceptor.specs.Compaction.{IsCompacted}
 use Rattle.acceptor.proofs.Instances.{each_named}
 use Rattle.acceptor.proofs.Played.{slot_more}
 
