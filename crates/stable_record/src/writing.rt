@@ -1,4 +1,4 @@
-ghost use Rattle.std.specs.Prelude.{◌≡◌, ◌≤◌, ◌∷◌, ◌++◌, length, OnOk, IfErr};
+ghost use Rattle.std.specs.Prelude.{◌≡◌, ◌≤◌, [], ◌∷◌, ◌++◌, length, OnOk, IfErr};
 ghost use Rattle.std.specs.List.{flat_map};
 ghost use Rattle.xid.specs.declared.refusals.Refusal.TheVariants.{NoMemory};
 ghost use Rattle.wire.specs.Versions.{version_2};
@@ -15,6 +15,9 @@ use byteorder::{BigEndian, ByteOrder};
 use std::alloc::{AllocError, Global};
 use wire::{MAX_TX_BYTES, VERSION, put_tx};
 use xid::{ManagerNumber, Refusal, Tx, Vote};
+
+/// How many bytes a usual body has, at most.
+const USUAL_BODY_BYTES: usize = 128;
 
 /// Puts a number of 32 bits at the end. Each of these functions puts the spelling of its name at the end.
 fn put_number(out: &mut Vec<u8>, number: u32) -> Result<(), AllocError>
@@ -204,6 +207,16 @@ fn put_framed(alloc: Global, body: &[u8], out: &mut Vec<u8>) -> Result<(), Refus
     Ok(out.extend_from_slice(&frame)?)
 }
 
+/// An empty content with room for a usual body, so that one doesn't have its block grow; where there is no such block, without room.
+fn room(alloc: Global) -> Vec<u8>
+    ensures { result.items ≡ [] }
+{
+    match Vec::with_capacity(alloc, USUAL_BODY_BYTES) {
+        Ok(body) => body,
+        Err(_) => Vec::new(alloc),
+    }
+}
+
 impl Entry {
     /// Writes its frame, in version 2, at the end. At `NoMemory`, the only refusal, the content is as it was.
     pub fn write(&self, alloc: Global, out: &mut Vec<u8>) -> Result<(), Refusal>
@@ -211,7 +224,7 @@ impl Entry {
         ensures err { IfErr result (λ e. (e ≡ NoMemory) × (out.new.items ≡ out.old.items)) }
         ensures valid { IsEntry self.now }
     {
-        let mut body = Vec::new(alloc);
+        let mut body = room(alloc);
         put_body(&mut body, self.kind())?;
         put_framed(alloc, &body, out)
     }
@@ -225,7 +238,7 @@ impl Fact {
         ensures err { IfErr result (λ e. (e ≡ NoMemory) × (out.new.items ≡ out.old.items)) }
         ensures valid { IsFact self.now }
     {
-        let mut body = Vec::new(alloc);
+        let mut body = room(alloc);
         put_fact(&mut body, self.kind())?;
         put_framed(alloc, &body, out)
     }

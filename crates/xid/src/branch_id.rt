@@ -11,7 +11,7 @@ ghost use Rattle.xid.specs.declared.refusals.Refusal.TheVariants.{BadXid, NoMemo
 use crate::component::Component;
 use crate::limits::{FORMATS, MAX_COMPONENT};
 use crate::refusals::Refusal;
-use crate::text;
+use crate::text::{self, USUAL_TEXT_BYTES};
 use itoa::Buffer;
 use std::alloc::Global;
 use std::cmp::Ordering;
@@ -121,13 +121,14 @@ impl Xid {
         ensures ok { OnOk result (out.new.items ≡ out.old.items ++ xid_text self.now) }
         ensures err { IfErr result (λ e. (e ≡ NoMemory) × (out.new.items ≡ out.old.items)) }
     {
-        let mut format = Buffer::new();
-        let mut text = Vec::new(alloc);
-        text.extend_from_slice(format.format(self.format).as_bytes())?;
+        let mut digits = Buffer::new();
+        let format = digits.format(self.format);
+        let mut text = Vec::with_capacity(alloc, USUAL_TEXT_BYTES)?;
+        text.extend_from_slice(format.as_bytes())?;
         text.push(b':')?;
-        text.extend_from_slice(hex::encode(alloc, self.gtrid.as_bytes())?.as_bytes())?;
+        text::put_hex(self.gtrid.as_bytes(), &mut text)?;
         text.push(b':')?;
-        text.extend_from_slice(hex::encode(alloc, self.bqual.as_bytes())?.as_bytes())?;
+        text::put_hex(self.bqual.as_bytes(), &mut text)?;
         out.extend_from_slice(&text)?;
         Ok(())
     }

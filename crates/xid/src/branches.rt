@@ -49,7 +49,8 @@ impl Branch {
 
     /// Its bqual.
     pub(crate) fn bqual(&self) -> &[u8]
-        ensures { result.now ≡ self.now.bqual }
+        ensures value { result.now ≡ self.now.bqual }
+        ensures few { length self.now.bqual ≤ most_component }
     {
         self.bqual.as_bytes()
     }

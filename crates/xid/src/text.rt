@@ -1,14 +1,19 @@
 //! Numbers and bytes as text. A text is read leniently and then compared with the one text of what was read, so that
 //! each value has one text.
 
-ghost use Rattle.std.specs.Prelude.{◌≡◌, ◌≢◌, ℕ, ◌+◌, ◌<◌, ◌^◌, List, ◌∷◌, ◌++◌, ◌≤◌, ◌↔◌, IsTrue, length, true, decimal, MatchOption};
+ghost use Rattle.std.specs.Prelude.{◌≡◌, ◌≢◌, ℕ, ◌+◌, ◌<◌, ◌^◌, List, ◌∷◌, ◌++◌, ◌≤◌, ◌↔◌, IsTrue, length, true, decimal, MatchOption, IfErr, OnOk};
 ghost use Rattle.xid.specs.Limits.{most_component};
 ghost use Rattle.xid.specs.Names.{IsBytes, IsComponent};
 ghost use Rattle.xid.specs.Text.{hex_text, lacks};
+ghost use Rattle.xid.specs.declared.refusals.Refusal.TheVariants.{NoMemory};
 
 use crate::component::Component;
 use crate::limits::MAX_COMPONENT;
+use crate::refusals::Refusal;
 use itoa::Buffer;
+
+/// Room for the text of a name, so that one of usual length doesn't have its block grow.
+pub(crate) const USUAL_TEXT_BYTES: usize = 128;
 
 /// The number below 2^32 whose text this is: decimal digits, with no leading zero. None where the text is no such one.
 pub fn number(text: &[u8]) -> Option<u32>
@@ -52,6 +57,21 @@ fn is_hex_text(bytes: &[u8], text: &[u8]) -> bool
         unreachable!();
     };
     text == &written[..]
+}
+
+/// Writes the hex text of bytes at the end.
+pub(crate) fn put_hex(bytes: &[u8], out: &mut Vec<u8>) -> Result<(), Refusal>
+    requires { length bytes.now ≤ most_component }
+    ensures ok { OnOk result (out.new.items ≡ out.old.items ++ hex_text bytes.now) }
+    ensures err { IfErr result (λ e. e ≡ NoMemory) }
+{
+    let mut text = [0; 2 * MAX_COMPONENT];
+    let written = &mut text[..2 * bytes.len()];
+    let Ok(()) = hex::encode_to_slice(bytes, written) else {
+        unreachable!();
+    };
+    out.extend_from_slice(written)?;
+    Ok(())
 }
 
 /// Decodes a hex text, in either case, into room of its size.

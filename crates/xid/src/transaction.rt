@@ -12,6 +12,7 @@ use crate::branches::{Branches, are_branches};
 use crate::component::Component;
 use crate::limits::{FORMATS, ManagerNumber};
 use crate::refusals::Refusal;
+use crate::text::{self, USUAL_TEXT_BYTES};
 use crate::transaction_text::{tx_of, write_branches};
 use itoa::Buffer;
 use std::alloc::Global;
@@ -187,13 +188,14 @@ impl Tx {
         ensures ok { OnOk result (out.new.items ≡ out.old.items ++ tx_text self.now) }
         ensures err { IfErr result (λ e. (e ≡ NoMemory) × (out.new.items ≡ out.old.items)) }
     {
-        let mut format = Buffer::new();
-        let mut text = Vec::new(alloc);
-        text.extend_from_slice(format.format(self.format).as_bytes())?;
+        let mut digits = Buffer::new();
+        let format = digits.format(self.format);
+        let mut text = Vec::with_capacity(alloc, USUAL_TEXT_BYTES)?;
+        text.extend_from_slice(format.as_bytes())?;
         text.push(b':')?;
-        text.extend_from_slice(hex::encode(alloc, self.gtrid.as_bytes())?.as_bytes())?;
+        text::put_hex(self.gtrid.as_bytes(), &mut text)?;
         text.push(b'/')?;
-        write_branches(alloc, self.branches.as_slice(), &mut text)?;
+        write_branches(self.branches.as_slice(), &mut text)?;
         out.extend_from_slice(&text)?;
         Ok(())
     }

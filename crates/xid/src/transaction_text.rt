@@ -13,7 +13,6 @@ use crate::refusals::Refusal;
 use crate::text;
 use crate::transaction::Tx;
 use itoa::Buffer;
-use std::alloc::Global;
 
 /// The resource manager's number and the bqual of the branch whose text this is, as `0=6231`.
 fn branch_of(text: &[u8]) -> Option<(ManagerNumber, Component)>
@@ -89,33 +88,28 @@ pub(crate) fn tx_of(text: &[u8]) -> Option<Tx>
 }
 
 /// Writes a branch's text at the end.
-fn write_branch(alloc: Global, branch: &Branch, text: &mut Vec<u8>) -> Result<(), Refusal>
+fn write_branch(branch: &Branch, text: &mut Vec<u8>) -> Result<(), Refusal>
     ensures ok { OnOk result (text.new.items ≡ text.old.items ++ branch_text branch.now) }
     ensures err { IfErr result (λ e. e ≡ NoMemory) }
 {
     let mut rm = Buffer::new();
     text.extend_from_slice(rm.format(branch.rm()).as_bytes())?;
     text.push(b'=')?;
-    text.extend_from_slice(hex::encode(alloc, branch.bqual())?.as_bytes())?;
-    Ok(())
+    text::put_hex(branch.bqual(), text)
 }
 
 /// Writes the text of branches at the end.
-pub(crate) fn write_branches(
-    alloc: Global,
-    branches: &[Branch],
-    text: &mut Vec<u8>,
-) -> Result<(), Refusal>
+pub(crate) fn write_branches(branches: &[Branch], text: &mut Vec<u8>) -> Result<(), Refusal>
     ensures ok { OnOk result (text.new.items ≡ text.old.items ++ branches_text branches.now) }
     ensures err { IfErr result (λ e. e ≡ NoMemory) }
 {
     let Some((first, others)) = branches.split_first() else {
         return Ok(());
     };
-    write_branch(alloc, first, text)?;
+    write_branch(first, text)?;
     for branch in others {
         text.push(b',')?;
-        write_branch(alloc, branch, text)?;
+        write_branch(branch, text)?;
     }
     Ok(())
 }
