@@ -1,7 +1,7 @@
 -- The spelled bytes that are kept, and the transactions that are seen of them.
 use Rattle.std.proofs.Common.{◌≡◌, ◌∙◌, ℕ, zero, suc, ◌+◌, ◌<◌, ◌≤◌, Bool, true, false, not, cond, ◌||◌, ltb, List, [], ◌∷◌, ◌++◌, length}
 use Rattle.std.proofs.Common.{get_or, map, slice_get, Option, Some, None, refl, sym, ap, subst, arith}
-use Rattle.std.specs.Prelude.{MatchOption, position}
+use Rattle.std.specs.Prelude.{MatchOption, position, Result, Ok, Err, IfErr}
 use Rattle.std.specs.Bool.{one_answer}
 use Rattle.std.specs.Cmp.Lexicographic.{bytes_decides}
 use Rattle.std.specs.List.{All, AllByRecursion, IsDistinct, list_any, position_or_len}
@@ -12,6 +12,8 @@ use Rattle.std.proofs.lemmas.List.{append-nil, length-map, map-append}
 use Rattle.std.proofs.lemmas.List.Elements.{recursion_from_All, All-map, All-push}
 use Rattle.std.proofs.lemmas.List.Sums.{prefix_len-le-length}
 use Rattle.xid.specs.Transactions.{TxParts, IsTx, tx_eq}
+use Rattle.xid.specs.declared.refusals.Refusal.{Refusal}
+use Rattle.xid.specs.declared.refusals.Refusal.TheVariants.{NoMemory}
 use Rattle.xid.proofs.Deciding.{tx_decides}
 use Rattle.indexmap.specs.IndexSet.{insert_key}
 use Rattle.wire.specs.Grammar.{tx_spelling}
@@ -256,6 +258,74 @@ module _ {K : Type 0} (bytes : K → List ℕ) where
   taken_at spelled key keys n each at e told =
       let is = spelled_at key keys n each at in
       told (tx_spelled (bytes key)) [] is.valid (e ∙ is.spelled ∙ sym (append-nil (tx_spelling version_2 (tx_spelled (bytes key)))))
+
+  -- ---- the number of a key
+
+  one_bytes : (a b : List ℕ) → bytes_eq a b ≡ bytes_eq b a
+  one_bytes a b = one_answer (bytes_eq a b) (bytes_eq b a) (bytes_decides a b)
+      (λ h. sym ((bytes_decides b a).0 h), λ e. (bytes_decides b a).1 (sym e))
+
+  apart_at : (first key : K) (keys : List K) (n : ℕ) → AllByRecursion (λ b. bytes_eq (bytes first) (bytes b) ≡ false) keys
+      → slice_get keys n ≡ Some key → bytes_eq (bytes first) (bytes key) ≡ false
+  apart_at first key [] n each e = absurd (cc)
+  apart_at first key (other ∷ keys) zero each e = subst (λ k. bytes_eq (bytes first) (bytes k) ≡ false) (one other key e) each.0
+    where
+      one : (a b : K) → Some a ≡ Some b → a ≡ b
+      one a b e = cc
+  apart_at first key (other ∷ keys) (suc n) each e = apart_at first key keys n each.1 e
+
+  -- a key of no two the same stands at its number
+  number_at : (key : K) (keys : List K) (n : ℕ) → IsDistinct (λ a b. bytes_eq (bytes a) (bytes b)) keys → slice_get keys n ≡ Some key
+      → position_or_len (λ other. bytes_eq (bytes key) (bytes other)) keys ≡ n
+  unfolding IsDistinct
+  number_at key [] n apart e = absurd (cc)
+  number_at key (first ∷ keys) zero apart e =
+      ap (λ (b : Bool). cond (not b) (1 + position_or_len (λ other. bytes_eq (bytes key) (bytes other)) keys) 0)
+      ((bytes_decides (bytes key) (bytes first)).1 (ap bytes (sym (one first key e))))
+    where
+      one : (a b : K) → Some a ≡ Some b → a ≡ b
+      one a b e = cc
+  number_at key (first ∷ keys) (suc n) apart e =
+      let past : position_or_len (λ other. bytes_eq (bytes key) (bytes other)) (first ∷ keys)
+      ≡ 1 + position_or_len (λ other. bytes_eq (bytes key) (bytes other)) keys =
+      ap (λ (b : Bool). cond (not b) (1 + position_or_len (λ other. bytes_eq (bytes key) (bytes other)) keys) 0)
+      (one_bytes (bytes key) (bytes first) ∙ apart_at first key keys n apart.0 e) in
+      let later = number_at key keys n apart.1 e in
+      omega (arith, past, later)
+
+  within_at : (key : K) (keys : List K) (n : ℕ) → slice_get keys n ≡ Some key → n < length keys
+  within_at key [] n e = absurd (cc)
+  within_at key (first ∷ keys) zero e = omega arith
+  within_at key (first ∷ keys) (suc n) e = let lt = within_at key keys n e in omega (arith, lt)
+
+  -- where the bytes of a number's key are these, the transaction that they spell stands there
+  pub stands_at : (spelled : List ℕ) (key : K) (keys : List K) (n : ℕ) → All (λ key. IsSpelled (bytes key)) keys
+      → IsDistinct (λ a b. bytes_eq (bytes a) (bytes b)) keys → slice_get keys n ≡ Some key → spelled ≡ bytes key
+      → (n ≡ position_or_len (λ tx. bytes_eq spelled (tx_spelling version_2 tx)) (seen_of bytes keys)) × (n < length (seen_of bytes keys))
+  stands_at spelled key keys n each apart at e =
+      let here = number_at key keys n apart at in
+      let place = same_place (λ key. bytes_eq spelled (bytes key))
+      (λ key. bytes_eq spelled (tx_spelling version_2 (tx_spelled (bytes key)))) keys (same_bytes bytes spelled keys each)
+      ∙ sym (place-map (λ key. tx_spelled (bytes key)) (λ tx. bytes_eq spelled (tx_spelling version_2 tx)) keys) in
+      let within = within_at key keys n at in
+      let len : length (seen_of bytes keys) ≡ length keys = length-map keys (λ key. tx_spelled (bytes key)) in (
+        sym here ∙ ap (λ (xs : List ℕ). position_or_len (λ other. bytes_eq xs (bytes other)) keys) (sym e) ∙ place,
+        omega (arith, within, len),
+      )
+
+-- a refused transaction that wasn't seen before
+pub with_absent : (seen now : List TxParts) (tx : TxParts) (r : Result ℕ Refusal) → list_any (tx_eq tx) seen ≡ false
+    → IfErr r (λ e. (e ≡ NoMemory) × (now ≡ seen))
+    → IfErr r (λ e. (e ≡ NoMemory) × (list_any (tx_eq tx) seen ≡ false) × (now ≡ seen))
+with_absent seen now tx (Ok number) absent h = tt
+with_absent seen now tx (Err e) absent h = (h.0, absent, h.1)
+
+-- a transaction stands where its spelling does
+pub place_of_spelling : (spelled : List ℕ) (tx : TxParts) (seen : List TxParts) → IsTx tx → spelled ≡ tx_spelling version_2 tx
+    → All IsTx seen
+    → position_or_len (λ other. bytes_eq spelled (tx_spelling version_2 other)) seen ≡ place_in seen tx
+place_of_spelling spelled tx seen is e each =
+    ap (λ (bytes : List ℕ). position_or_len (λ other. bytes_eq bytes (tx_spelling version_2 other)) seen) e ∙ place_by_tx tx seen is each
 
 -- ---- what is taken from the front of bytes
 

@@ -1,5 +1,5 @@
-ghost use Rattle.std.specs.Prelude.{◌≡◌, ◌<◌, [], IfOk, IfErr, MatchOption, length, position, slice_get, false};
-ghost use Rattle.std.specs.List.{All, IsDistinct, list_any};
+ghost use Rattle.std.specs.Prelude.{◌≡◌, ◌<◌, [], IfOk, IfErr, IsTrue, MatchOption, length, position, slice_get, false};
+ghost use Rattle.std.specs.List.{All, IsDistinct, list_any, position_or_len};
 ghost use Rattle.std.specs.Str.{bytes_eq};
 ghost use Rattle.xid.specs.Transactions.{IsTx, tx_eq};
 ghost use Rattle.xid.specs.declared.refusals.Refusal.TheVariants.{NoMemory};
@@ -98,6 +98,54 @@ impl Transactions {
         Some(tx)
     }
 
+    /// Whether the transaction of a number is the one that these bytes spell.
+    fn is_at(&self, number: usize, spelled: &[u8]) -> bool
+        ensures place { IsTrue result → (number ≡ position_or_len (λ tx. bytes_eq spelled.now (tx_spelling version_2 tx)) self.now)
+            × (number < length self.now) }
+        ensures valid { All IsTx self.now }
+    {
+        let _ = self.spelled.len();
+        match self.spelled.get_index(number) {
+            Some(key) => key.as_slice() == spelled,
+            None => false,
+        }
+    }
+
+    /// The number of a transaction, where it was seen, as `number_of` gives it. A number that is likely, and the one after it, are
+    /// tried before the bytes are hashed. It takes no memory.
+    pub fn number_near(&self, tx: &Tx, likely: usize) -> Option<usize>
+        ensures { MatchOption result (place_in self.now tx.now ≡ length self.now)
+            (λ number. (number ≡ place_in self.now tx.now) × (number < length self.now)) }
+    {
+        let mut buffer = [0; MAX_TX_BYTES];
+        let spelled = spell(tx, &mut buffer);
+        if self.is_at(likely, spelled) {
+            return Some(likely);
+        }
+        let next = likely.wrapping_add(1);
+        if self.is_at(next, spelled) {
+            return Some(next);
+        }
+        self.number_of_spelled(spelled)
+    }
+
+    /// Puts a transaction, spelled so, after the others, unless it was seen.
+    fn put(&mut self, tx: &Tx, spelled: &[u8]) -> Result<usize, Refusal>
+        requires valid { IsTx tx.now }
+        requires spelled { spelled.now ≡ tx_spelling version_2 tx.now }
+        ensures ok { IfOk result (λ number. (number ≡ place_in self.old tx.now) × (self.new ≡ seen_with self.old tx.now)) }
+        ensures err { IfErr result (λ e. (e ≡ NoMemory) × (self.new ≡ self.old)) }
+    {
+        let Ok(key) = Vec::from_slice(self.alloc, spelled) else {
+            return Err(Refusal::NoMemory);
+        };
+        let Ok((number, _)) = self.spelled.insert_full(key) else {
+            return Err(Refusal::NoMemory);
+        };
+        let _ = tx;
+        Ok(number)
+    }
+
     /// Puts a transaction after the others, unless it was seen, and answers its number. At `NoMemory`, the only refusal, it wasn't
     /// seen, and all is as before.
     pub fn add(&mut self, tx: &Tx) -> Result<usize, Refusal>
@@ -107,15 +155,21 @@ impl Transactions {
     {
         let mut buffer = [0; MAX_TX_BYTES];
         let spelled = spell(tx, &mut buffer);
-        if let Some(number) = self.number_of_spelled(spelled) {
-            return Ok(number);
+        match self.number_of_spelled(spelled) {
+            Some(number) => Ok(number),
+            None => self.put(tx, spelled),
         }
-        let Ok(key) = Vec::from_slice(self.alloc, spelled) else {
-            return Err(Refusal::NoMemory);
-        };
-        let Ok((number, _)) = self.spelled.insert_full(key) else {
-            return Err(Refusal::NoMemory);
-        };
-        Ok(number)
+    }
+
+    /// The same, of a transaction that is likely to be new: it isn't looked for first. At `NoMemory`, the only refusal, all is as
+    /// before, whether it was seen or not.
+    pub fn insert(&mut self, tx: &Tx) -> Result<usize, Refusal>
+        ensures valid { IsTx tx.now }
+        ensures ok { IfOk result (λ number. (number ≡ place_in self.old tx.now) × (self.new ≡ seen_with self.old tx.now)) }
+        ensures err { IfErr result (λ e. (e ≡ NoMemory) × (self.new ≡ self.old)) }
+    {
+        let mut buffer = [0; MAX_TX_BYTES];
+        let spelled = spell(tx, &mut buffer);
+        self.put(tx, spelled)
     }
 }
