@@ -1,4 +1,4 @@
-ghost use Rattle.std.specs.Prelude.{◌≡◌, ◌+◌, ◌<◌, ◌≤◌, [], length, map, position, OnOk, IfOk, IfErr, vec_len};
+ghost use Rattle.std.specs.Prelude.{◌≡◌, ◌+◌, ◌<◌, ◌≤◌, [], ◌∷◌, length, map, position, OnOk, IfOk, IfErr, vec_len};
 ghost use Rattle.std.specs.List.{list_any, list_all};
 ghost use Rattle.std.specs.Vec.{vec_capacity};
 ghost use Rattle.xid.specs.Limits.{most_acceptors, most_branches};
@@ -252,14 +252,31 @@ fn hear_all_reports(rows: &mut [InstanceCourse], acceptor: u8, items: &[Instance
     requires { acceptor < most_acceptors }
     ensures { rows.new ≡ map (with_reports acceptor items.now) rows.old }
 {
+    if let [item] = items {
+        hear_one_report(rows, acceptor, item);
+        return;
+    }
     for row in rows.iter_mut() {
         row.hear_reports(acceptor, items);
+    }
+}
+
+/// The same of a single report.
+fn hear_one_report(rows: &mut [InstanceCourse], acceptor: u8, item: &InstanceReport)
+    requires { acceptor < most_acceptors }
+    ensures { rows.new ≡ map (with_reports acceptor (item.now ∷ [])) rows.old }
+{
+    for row in rows.iter_mut() {
+        row.hear_single(acceptor, item);
     }
 }
 
 fn mark_all_proposed(rows: &mut [InstanceCourse], proposals: &[Proposal])
     ensures { rows.new ≡ map (with_proposals proposals.now) rows.old }
 {
+    if proposals.is_empty() {
+        return;
+    }
     for row in rows.iter_mut() {
         row.mark_proposed(proposals);
     }

@@ -30,6 +30,8 @@ pub struct Courses {
     rows: Vec<Course>,
     /// The places of those for which a ballot was to be stored, in the order of the first.
     begun: Order,
+    /// The place that was found last: most often that of the next event, or the one before it.
+    near: usize,
 }
 
 impl Model for Courses {
@@ -59,6 +61,7 @@ impl Courses {
             transactions: Transactions::new(alloc),
             rows: Vec::new(alloc),
             begun: Order::new(alloc),
+            near: 0,
         }
     }
 
@@ -66,7 +69,7 @@ impl Courses {
     pub fn place_of(&self, tx: &Tx) -> Option<usize>
         ensures { IsPlaceOf self.now tx.now result }
     {
-        self.transactions.number_of(tx)
+        self.transactions.number_near(tx, self.near)
     }
 
     /// A place for a transaction that has none. At `NoMemory`, the only refusal, nothing changes.
@@ -82,10 +85,11 @@ impl Courses {
         if self.rows.reserve(1).is_err() {
             return Err(Refusal::NoMemory);
         }
-        let Ok(place) = self.transactions.add(tx) else {
+        let Ok(place) = self.transactions.insert(tx) else {
             return Err(Refusal::NoMemory);
         };
         self.rows.push_reserved(course);
+        self.near = place;
         Ok(place)
     }
 
@@ -109,7 +113,10 @@ impl Courses {
         ensures absent { OnErr result (is_placed_in self.old tx.now ≡ false) }
     {
         match place {
-            Some(place) => Ok(place),
+            Some(place) => {
+                self.near = place;
+                Ok(place)
+            }
             None => self.add_place(tx),
         }
     }
@@ -239,6 +246,7 @@ impl Courses {
         let Some(place) = self.place_of(tx) else {
             return Proposals::new();
         };
+        self.near = place;
         self.rows[place].on_1b(acceptors, ballot, acceptor, items)
     }
 

@@ -1,4 +1,4 @@
-ghost use Rattle.std.specs.Prelude.{◌≡◌, ◌<◌, ◌≤◌, ◌==◌, true};
+ghost use Rattle.std.specs.Prelude.{◌≡◌, ◌<◌, ◌≤◌, ◌==◌, [], ◌∷◌, true};
 ghost use Rattle.std.specs.List.{list_any};
 ghost use Rattle.xid.specs.Limits.{most_acceptors};
 ghost use Rattle.ballot.specs.Majority.{has};
@@ -103,6 +103,16 @@ impl InstanceCourse {
         }
         self.reporters.add(acceptor);
         self.best = merge(report, self.best);
+    }
+
+    /// A report, where it is of this instance.
+    pub fn hear_single(&mut self, acceptor: u8, item: &InstanceReport)
+        requires { acceptor < most_acceptors }
+        ensures { self.new ≡ with_reports acceptor (item.now ∷ []) self.old }
+    {
+        if self.instance == item.instance {
+            self.hear_report(acceptor, item.report);
+        }
     }
 
     /// Those of some reports that are of this instance; only the first counts.
