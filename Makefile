@@ -28,7 +28,7 @@ test: test-tools
 	@mkdir -p bin
 	@cp crates/pcommit/out/pcommit bin/pcommit
 	$(MAKE) scripts
-	tests/refused.sh acceptor branch_table leader
+	tests/refused.sh acceptor branch_table leader resource_manager
 
 golden: test-tools build scripts
 

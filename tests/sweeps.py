@@ -1,7 +1,9 @@
 #!/usr/bin/env python3
 """Runs the built program on scripts made of those in tests/golden: a vote torn after each number of bytes; each append of whole runs torn
-after each number of bytes; and records made shorter after each event. Then over record files: frames of both versions in every mixture,
-with a tail, cut at each byte, and what is no record. `tests/sweeps.py [PROGRAM]`. The last line is 'N passed, M failed'."""
+after each number of bytes; records made shorter after each event; and, before and after each event, lines that are refused: its call with
+wrong lengths, of a branch that isn't there or once more, and every event at a node that isn't there. Then over record files: frames of both
+versions in every mixture, with a tail, cut at each byte, and what is no record. `tests/sweeps.py [PROGRAM]`. The last line is 'N passed, M
+failed'."""
 import itertools
 import os
 import re
@@ -228,6 +230,118 @@ def shorter(name):
         check(f"{name}, made shorter after {at} events", is_same_but_for_compactions(trace, wanted), trace)
 
 
+# ---- what is refused changes nothing
+
+LONG_KEY, LONG_VALUE = "61" * 65, "62" * 257
+# a branch that no row starts
+STRANGER = "9:78:78"
+# what a call that was done is answered at once after it
+AGAIN = {("start", "0"): "-8", ("end", "0"): "-6", ("end", "100"): "-6", ("rollback", "0"): "-4"}
+PREPARE = "0201000000010174010000" "0161"
+# how many lines are refused about two rows, by hand: 37 about each event, and so many for each word of them
+REFUSED_LINES = {
+    # 3 put, 1 get, 2 start, 1 commit, 1 deliver
+    "busy_then_free": 8 * 37 + 3 * 4 + 3 + 2 + 1,
+    # 1 start, 2 rollback, 1 end, 1 put; once more: a start and an end; a start that isn't done, a commit and a deliver
+    "rollback_only": 8 * 37 + 2 + 1 + 4 + 1 + 1 + 1,
+}
+
+
+def of_wrong_length(words):
+    """A call on a key, with each of its words of a wrong length."""
+    if words[0] not in ("put", "del", "get"):
+        return []
+    lines = [words[:3] + [key] + words[4:] for key in ("-", LONG_KEY)]
+    return lines + [words[:4] + [LONG_VALUE]] if words[0] == "put" else lines
+
+
+def of_no_branch(words):
+    """A call on a branch, of one that isn't there."""
+    return [words[:2] + [STRANGER] + words[3:]] if words[0] in ("put", "del", "get", "end", "rollback") else []
+
+
+def of_strange_manager(words, managers):
+    """An event of a transaction, of one that names a resource manager outside the cluster."""
+    is_one = words[0] in ("view", "commit", "status", "timeout") and managers < 64
+    return [words[:2] + [f"1:74/{managers}=61"]] if is_one else []
+
+
+def at_no_node(nodes, sent):
+    """Every event at the first node of each kind that isn't there, and of datagrams that aren't there."""
+    absent = {kind: kind + str(sum(node[0] == kind for node in nodes)) for kind in "alr"}
+    calls = ["start {} 1:74:61", "put {} 1:74:61 6b 31", "put {} 1:74:61 - " + LONG_VALUE, "del {} 1:74:61 6b", "get {} 1:74:61 6b",
+             "end {} 1:74:61", "end {} 1:74:61 fail", "rollback {} 1:74:61", "recover {}", "view {} 1:74/0=61", "timeout {} 1:74/0=61"]
+    lines = [call.format(absent["r"]) for call in calls]
+    lines += [f"{word} {absent['l']} 1:74/0=61" for word in ("commit", "status", "timeout")]
+    for node in absent.values():
+        lines += [f"tear {node} 0", f"restart {node}", f"compact {node}", f"noise {node} -", f"noise {node} {PREPARE}"]
+    for number in (0, sent + 1):
+        lines += [f"deliver {number}", f"lose {number}", f"cut {number} 0", f"cut {number} 99"]
+    return lines
+
+
+def refused_before(words, nodes, sent, down):
+    """Lines that are refused before an event, with their answers; some nodes are down then."""
+    lines = [f"{line} -> refused 15" for line in at_no_node(nodes, sent)]
+    if words[1] not in nodes:
+        return lines
+    is_call = words[0] in ("put", "del", "get", "end", "rollback", "view")
+    managers = sum(node[0] == "r" for node in nodes)
+    for others, answer in ((of_wrong_length(words), "-5"), (of_no_branch(words), "-4"), (of_strange_manager(words, managers), "refused 2")):
+        if words[1] in down:
+            answer = "-7" if is_call else "refused 8"
+        lines += [f"{' '.join(other)} -> {answer}" for other in others]
+    return lines
+
+
+def refused_about(head, events):
+    """For each event the lines that are refused before it, and those after it."""
+    nodes, down, sent, about = nodes_of(head), set(), 0, []
+    for at, event in enumerate(events):
+        words = event.text.split()
+        before = refused_before(words, nodes, sent, down)
+        again = AGAIN.get((words[0], event.answer))
+        about.append((before, [f"{event.text} -> {again}"] if again else []))
+        sent += sum(line.startswith("sent ") for line in event.then)
+        if event.answer == "refused 5":
+            down.add(reached(events[:at], event)[0])
+        if words[0] == "restart":
+            down.discard(words[1])
+    return about
+
+
+def trace_about(head, events, finals, about, places):
+    """The trace of a row with what is refused about the events at some places."""
+    lines = list(head)
+    for at, event in enumerate(events):
+        before, after = about[at] if at in places else ([], [])
+        lines += before + event.lines() + after
+    return "\n".join(lines + finals) + "\n"
+
+
+def refuses_about(name):
+    """Runs a row with what is refused about each event alone, and about all; answers how many lines are refused about all."""
+    head, events, finals = read_trace(golden(name + ".out"))
+    about = refused_about(head, events)
+    everywhere = range(len(events))
+    for places in [everywhere] + [[at] for at in everywhere if len(events) <= 60]:
+        wanted = trace_about(head, events, finals, about, places)
+        _, lines, _ = read_trace(wanted)
+        trace = call("run", script_of(head, [line.text for line in lines]))
+        check(f"{name}, with what is refused about the events from {list(places)[:1]} on", trace == wanted, trace)
+    check(f"{name}, audited", call("audit", trace_about(head, events, finals, about, everywhere)) == "consistent\n")
+    return sum(len(before) + len(after) for before, after in about)
+
+
+def refuses():
+    rows = sorted(name[:-4] for name in os.listdir(GOLDEN) if name.endswith(".out"))
+    rows = [name for name in rows if not os.path.exists(os.path.join(GOLDEN, name + ".status"))]
+    counts = {name: refuses_about(name) for name in rows}
+    print(f"{sum(counts.values())} lines refused in {len(rows)} rows")
+    for name, count in REFUSED_LINES.items():
+        check(f"lines refused in {name}", counts[name] == count, f"{counts[name]} were of {count}")
+
+
 # ---- records in files
 
 TX = {1: "00000001 0174 01 00 0161", 2: "00000001 0174 01 0000 0161"}
@@ -336,6 +450,7 @@ for row, tears in TORN_ROWS.items():
     torn_appends(row, tears)
 for row in SHORTER_ROWS:
     shorter(row)
+refuses()
 records()
 print(f"{passed} passed, {failed} failed")
 sys.exit(1 if failed else 0)

@@ -17,3 +17,5 @@ pub use messages::Reminder;
 mod shorter_tests;
 #[cfg(test)]
 mod tests;
+#[cfg(test)]
+mod unplayed_tests;

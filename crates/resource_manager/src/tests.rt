@@ -8,11 +8,11 @@ use std::test::Fail;
 use wire::{Kind, Message, is_message};
 use xid::{Bytes, Refusal, Tx, Vote, XaCode, Xid};
 
-const OK: Wanted = Wanted::Code(XaCode::Ok);
+pub(crate) const OK: Wanted = Wanted::Code(XaCode::Ok);
 
 /// A client call on a branch. Its key is k, and its value has one byte.
 #[derive(Clone, Copy)]
-enum Call {
+pub(crate) enum Call {
     Start,
     Put(u8),
     Del,
@@ -23,7 +23,7 @@ enum Call {
 
 /// What a call is answered.
 #[derive(Clone, Copy)]
-enum Wanted {
+pub(crate) enum Wanted {
     Code(XaCode),
     Value(u8),
     NoValue,
@@ -32,7 +32,7 @@ enum Wanted {
 
 /// What a message leads to.
 #[derive(Clone, Copy)]
-enum Led {
+pub(crate) enum Led {
     /// The vote prepared is stored and sent, of a branch that has touched no key.
     Prepares,
     /// The vote prepared is stored and sent, of a branch that has read k alone.
@@ -50,22 +50,22 @@ enum Led {
 }
 
 /// The branch of resource manager 0 in the transactions of this gtrid.
-fn name(gtrid: &[u8]) -> Result<Xid, Refusal> {
+pub(crate) fn name(gtrid: &[u8]) -> Result<Xid, Refusal> {
     Xid::new(1, gtrid, b"a")
 }
 
 /// The transaction of resource manager 0 alone.
-fn alone(gtrid: &[u8]) -> Result<Tx, Refusal> {
+pub(crate) fn alone(gtrid: &[u8]) -> Result<Tx, Refusal> {
     Tx::new(1, gtrid, &[(0, b"a".as_slice())])
 }
 
 /// The transaction of resource managers 0 and 1 that has the same branch at 0.
-fn shared(gtrid: &[u8]) -> Result<Tx, Refusal> {
+pub(crate) fn shared(gtrid: &[u8]) -> Result<Tx, Refusal> {
     Tx::new(1, gtrid, &[(0, b"a".as_slice()), (1, b"b".as_slice())])
 }
 
 /// Resource manager 0 of two, with an empty table.
-fn empty(alloc: Global) -> Result<ResourceManager, Refusal> {
+pub(crate) fn empty(alloc: Global) -> Result<ResourceManager, Refusal> {
     ResourceManager::new(alloc, 0, 2, Vec::new(alloc))
 }
 
@@ -100,7 +100,7 @@ fn is_wanted(answer: &Answer, wanted: Wanted) -> bool {
 }
 
 /// A call is answered so. One that wants memory is made again.
-fn answers(
+pub(crate) fn answers(
     rt: &impl Abort,
     manager: &mut ResourceManager,
     line: (Xid, Call, Wanted),
@@ -246,7 +246,7 @@ fn stores(rt: &impl Abort, manager: &mut ResourceManager, fact: Fact) -> Result<
 }
 
 /// A message leads to this.
-fn hears(
+pub(crate) fn hears(
     rt: &impl Abort,
     manager: &mut ResourceManager,
     message: Kind,
@@ -267,7 +267,7 @@ fn hears(
 }
 
 /// These branches are prepared. Where that wants memory, it is asked again.
-fn recovers(rt: &impl Abort, manager: &ResourceManager, names: &[Xid]) -> Result<(), Refusal> {
+pub(crate) fn recovers(rt: &impl Abort, manager: &ResourceManager, names: &[Xid]) -> Result<(), Refusal> {
     let answer = match manager.recover() {
         Ok(answer) => answer,
         Err(refusal) => {
@@ -294,7 +294,7 @@ fn is_table(rows: &[Row], wanted: Option<u8>) -> bool {
 }
 
 /// The table has a row k with this value alone, or none. Where that wants memory, it is asked again.
-fn has_row(rt: &impl Abort, manager: &ResourceManager, wanted: Option<u8>) -> Result<(), Refusal> {
+pub(crate) fn has_row(rt: &impl Abort, manager: &ResourceManager, wanted: Option<u8>) -> Result<(), Refusal> {
     let rows = match manager.rows() {
         Ok(rows) => rows,
         Err(refusal) => {
@@ -422,7 +422,7 @@ fn read_twice(rt: &impl Abort, manager: &mut ResourceManager) -> Result<(), Refu
 }
 
 /// Another resource manager plays the vote that this one decides on.
-fn play_vote(voter: &ResourceManager, again: &mut ResourceManager, tx: &Tx) -> Result<(), Refusal> {
+pub(crate) fn play_vote(voter: &ResourceManager, again: &mut ResourceManager, tx: &Tx) -> Result<(), Refusal> {
     let Decision { fact, .. } = voter.on_prepare(tx)?;
     match fact {
         Some(fact) => again.play(fact),
@@ -486,7 +486,7 @@ fn shared_reads_prepared(rt: HostRuntime) -> Result<(), Fail> {
 }
 
 /// A branch puts k, and ends.
-fn write(rt: &impl Abort, manager: &mut ResourceManager, x: Xid) -> Result<(), Refusal> {
+pub(crate) fn write(rt: &impl Abort, manager: &mut ResourceManager, x: Xid) -> Result<(), Refusal> {
     let lines = [
         (x, Call::Start, OK),
         (x, Call::Put(b'1'), OK),
