@@ -237,13 +237,14 @@ LONG_KEY, LONG_VALUE = "61" * 65, "62" * 257
 STRANGER = "9:78:78"
 # what a call that was done is answered at once after it
 AGAIN = {("start", "0"): "-8", ("end", "0"): "-6", ("end", "100"): "-6", ("rollback", "0"): "-4"}
-PREPARE = "0201000000010174010000" "0161"
+# the message Prepare of a transaction
+PREPARE = "02010000000101740100000161"
 # how many lines are refused about two rows, by hand: 37 about each event, and so many for each word of them
 REFUSED_LINES = {
-    # 3 put, 1 get, 2 start, 1 commit, 1 deliver
-    "busy_then_free": 8 * 37 + 3 * 4 + 3 + 2 + 1,
-    # 1 start, 2 rollback, 1 end, 1 put; once more: a start and an end; a start that isn't done, a commit and a deliver
-    "rollback_only": 8 * 37 + 2 + 1 + 4 + 1 + 1 + 1,
+    # 3 put, 1 get, 2 start that are done, 1 commit, 1 deliver
+    "busy_then_free": 8 * 37 + 3 * 4 + 3 + 2 * 1 + 1 + 0,
+    # 2 rollback and 1 end that is done, 1 put, a start that is done and one that isn't, 1 commit, 1 deliver
+    "rollback_only": 8 * 37 + 2 * 1 + 2 + 4 + 1 + 0 + 1 + 0,
 }
 
 

@@ -267,7 +267,11 @@ pub(crate) fn hears(
 }
 
 /// These branches are prepared. Where that wants memory, it is asked again.
-pub(crate) fn recovers(rt: &impl Abort, manager: &ResourceManager, names: &[Xid]) -> Result<(), Refusal> {
+pub(crate) fn recovers(
+    rt: &impl Abort,
+    manager: &ResourceManager,
+    names: &[Xid],
+) -> Result<(), Refusal> {
     let answer = match manager.recover() {
         Ok(answer) => answer,
         Err(refusal) => {
@@ -294,7 +298,11 @@ fn is_table(rows: &[Row], wanted: Option<u8>) -> bool {
 }
 
 /// The table has a row k with this value alone, or none. Where that wants memory, it is asked again.
-pub(crate) fn has_row(rt: &impl Abort, manager: &ResourceManager, wanted: Option<u8>) -> Result<(), Refusal> {
+pub(crate) fn has_row(
+    rt: &impl Abort,
+    manager: &ResourceManager,
+    wanted: Option<u8>,
+) -> Result<(), Refusal> {
     let rows = match manager.rows() {
         Ok(rows) => rows,
         Err(refusal) => {
@@ -422,7 +430,11 @@ fn read_twice(rt: &impl Abort, manager: &mut ResourceManager) -> Result<(), Refu
 }
 
 /// Another resource manager plays the vote that this one decides on.
-pub(crate) fn play_vote(voter: &ResourceManager, again: &mut ResourceManager, tx: &Tx) -> Result<(), Refusal> {
+pub(crate) fn play_vote(
+    voter: &ResourceManager,
+    again: &mut ResourceManager,
+    tx: &Tx,
+) -> Result<(), Refusal> {
     let Decision { fact, .. } = voter.on_prepare(tx)?;
     match fact {
         Some(fact) => again.play(fact),

@@ -1,6 +1,7 @@
 use crate::ResourceManager;
-use crate::tests::{Call, Led, OK, alone, answers, empty, has_row, hears, name, play_vote};
-use crate::tests::{recovers, shared, write};
+use crate::tests::{
+    Call, Led, OK, alone, answers, empty, has_row, hears, name, play_vote, recovers, shared, write,
+};
 use protocol::View;
 use stable_record::{Fact, FactKind};
 use std::alloc::Global;
