@@ -1,5 +1,5 @@
 -- The ballots of a compacted record play, and each transaction's is its greatest.
-use Rattle.std.proofs.Common.{◌≡◌, ◌∙◌, ◌==◌, ℕ, ◌<◌, ◌≤◌, max, Bool, true, false, ◌&&◌, ◌||◌, ltb, List, [], ◌∷◌, ◌++◌}
+use Rattle.std.proofs.Common.{◌≡◌, ◌∙◌, ◌==◌, ℕ, ◌<◌, max, Bool, true, false, ◌||◌, ltb, List, [], ◌∷◌, ◌++◌}
 use Rattle.std.proofs.Common.{refl, sym, ap, subst, append_assoc, arith}
 use Rattle.std.specs.Prelude.{if◌then◌else◌}
 use Rattle.std.specs.List.{AllByRecursion, IsDistinct, list_any, cons_option}
@@ -19,7 +19,7 @@ use Rattle.protocol.specs.Leaders.{plays_at_leader}
 use Rattle.protocol.specs.Nodes.{plays, all_play}
 use Rattle.protocol.proofs.Manager.Played.{all_play_then}
 use Rattle.leader.specs.Leaders.{LeaderParts, StandsForBallots, course_of}
-use Rattle.leader.specs.Compaction.{ballot_facts, compacted, SaysTheSame, IsCompacted}
+use Rattle.leader.specs.Compaction.{ballot_facts, compacted, IsCompacted}
 use Rattle.leader.proofs.Basics.{same_tx, other_turned}
 use Rattle.leader.proofs.Leading.{greatest_with, stored_ballot}
 

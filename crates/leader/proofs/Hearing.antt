@@ -1,5 +1,5 @@
 -- Of some reports of an acceptor the first of an instance counts.
-use Rattle.std.proofs.Common.{◌≡◌, ◌∙◌, ℕ, Bool, true, false, not, ◌&&◌, ◌==◌, List, [], ◌∷◌, Option, Some, None, sym, ap, refl}
+use Rattle.std.proofs.Common.{◌≡◌, ◌∙◌, ℕ, Bool, true, false, not, ◌&&◌, ◌==◌, List, [], ◌∷◌, Some, None, sym, ap, refl}
 use Rattle.std.specs.Prelude.{if◌then◌else◌}
 use Rattle.wire.specs.declared.items.InstanceReport.{InstanceReport}
 use Rattle.ballot.specs.Choice.{Report}

@@ -1,9 +1,9 @@
 -- Each call of a leader, by the rule at the course of its transaction.
 use Rattle.std.proofs.Common.{◌≡◌, ◌∙◌, ℕ, ◌<◌, ◌^◌, max, Bool, true, false, not, ◌&&◌, ◌||◌, ◌==◌, List, [], ◌∷◌, ◌++◌, Option, Some, None}
 use Rattle.std.proofs.Common.{sym, ap, refl, subst, arith}
-use Rattle.std.specs.Prelude.{if◌then◌else◌, nat_lt, filter_map, map, IsTrue, Result, Ok, Err, OnOk, OnErr, IfErr, IfSome, IfNone}
+use Rattle.std.specs.Prelude.{if◌then◌else◌, nat_lt, filter_map, map, IsTrue, Result, Ok, Err, IfSome, IfNone}
 use Rattle.std.specs.List.{list_any, AllByRecursion, cons_option}
-use Rattle.std.proofs.lemmas.Bool.{false≢true, lt-ltb, eq-eqb}
+use Rattle.std.proofs.lemmas.Bool.{false≢true, lt-ltb}
 use Rattle.xid.specs.Limits.{most_acceptors}
 use Rattle.xid.specs.Transactions.{TxParts, tx_eq, is_participant, participants}
 use Rattle.xid.specs.declared.refusals.Refusal.{Refusal}
@@ -29,9 +29,8 @@ use Rattle.leader.specs.Courses.{status_after_2b, after_beginning, fresh, fresh_
 use Rattle.leader.specs.Courses.{after_ballot}
 use Rattle.leader.specs.Orders.{proposal_messages, phase_1a_by}
 use Rattle.leader.specs.Decisions.{shown}
-use Rattle.leader.specs.Places.{CoursesParts, is_placed_in, IsChanged, IsKept}
-use Rattle.stable_record.specs.Parts.{IsPlayed, IsMadeReady}
-use Rattle.leader.specs.Leaders.{leader_part, taken_over, taken_over_if}
+use Rattle.leader.specs.Places.{CoursesParts, IsChanged, IsKept}
+use Rattle.leader.specs.Leaders.{taken_over, taken_over_if}
 use Rattle.leader.specs.Leaders.{LeaderParts, StandsForBallots, course_of, commit_messages, Rule, Follows, FollowsOrRefuses}
 use Rattle.leader.specs.Leaders.{IsSame, are_below}
 use Rattle.leader.proofs.Basics.{tx_self, same_tx}

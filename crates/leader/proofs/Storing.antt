@@ -1,5 +1,5 @@
 -- A ballot that is made ready for, and one that is stored.
-use Rattle.std.proofs.Common.{◌≡◌, ◌∙◌, ℕ, ◌<◌, Bool, true, false, ◌&&◌, ◌||◌, ◌==◌, List, [], ◌∷◌, ◌++◌, sym, ap, refl, subst, arith}
+use Rattle.std.proofs.Common.{◌≡◌, ◌∙◌, ℕ, ◌<◌, Bool, true, false, ◌&&◌, ◌||◌, List, [], ◌∷◌, ◌++◌, sym, ap, refl, subst}
 use Rattle.std.specs.Prelude.{if◌then◌else◌, Some, Result, Ok, Err, OnOk, OnErr, IfErr}
 use Rattle.std.specs.List.{list_any}
 use Rattle.std.proofs.lemmas.Bool.{false≢true, lt-ltb, eq-eqb, and_from}
@@ -13,7 +13,7 @@ use Rattle.stable_record.specs.Parts.{IsPlayed, IsMadeReady}
 use Rattle.transactions.specs.Seen.{seen_with}
 use Rattle.protocol.specs.Effects.{Config}
 use Rattle.protocol.specs.Facts.{last_ballot}
-use Rattle.protocol.specs.LeaderMemory.{LeaderMemory, StoredBallots}
+use Rattle.protocol.specs.LeaderMemory.{LeaderMemory}
 use Rattle.protocol.specs.Leaders as rules
 use Rattle.leader.specs.Courses.{CourseParts, CourseStands, after_ballot}
 use Rattle.leader.specs.Places.{CoursesParts, course_in, is_placed_in, is_ready_in, with_beginning, IsPlaceOf, IsChanged, IsKept, IsGrown}

@@ -1,5 +1,5 @@
 -- What an acceptor tells in phase 2b, at a course and in a leader's memory.
-use Rattle.std.proofs.Common.{◌≡◌, ◌∙◌, ℕ, zero, suc, ◌+◌, ◌*◌, ◌<◌, ◌≤◌, Bool, true, false, ◌&&◌, ◌||◌, ◌==◌, List, [], ◌∷◌, ◌++◌, length}
+use Rattle.std.proofs.Common.{◌≡◌, ◌∙◌, ℕ, zero, suc, ◌+◌, ◌*◌, ◌<◌, ◌≤◌, Bool, true, false, ◌&&◌, ◌||◌, ◌==◌, List, [], ◌∷◌, length}
 use Rattle.std.proofs.Common.{get_or, replicate, Some, None, sym, ap, refl, arith, inl, inr, subst}
 use Rattle.std.specs.Prelude.{cond, if◌then◌else◌, filter_map, find, map}
 use Rattle.std.specs.List.{list_any, cons_option, AllByRecursion}
@@ -21,7 +21,7 @@ use Rattle.leader.specs.declared.instance.Told.{Told}
 use Rattle.leader.specs.Courses.{CourseParts, InstanceStands, CourseStands, nobody, joined, is_place_of, told_of, with_member}
 use Rattle.leader.specs.Courses.{first_told, told_by}
 use Rattle.leader.specs.Courses.{with_decided, Telling, after_accept, telling_of, after_accepts}
-use Rattle.leader.proofs.Basics.{tx_self, nat_self, nat_turned, is_false}
+use Rattle.leader.proofs.Basics.{tx_self, nat_turned, is_false}
 
 -- ---- an acceptor more
 

@@ -1,5 +1,5 @@
 -- The course of one transaction at a leader, and what each message makes of it.
-use Rattle.std.specs.Prelude.{◌≡◌, ℕ, Bool, true, false, not, ◌&&◌, ◌||◌, ◌==◌, if◌then◌else◌, List, [], ◌∷◌, ◌++◌, length, map, replicate}
+use Rattle.std.specs.Prelude.{◌≡◌, ℕ, Bool, true, false, not, ◌&&◌, ◌||◌, ◌==◌, if◌then◌else◌, List, [], ◌∷◌, length, map, replicate}
 use Rattle.std.specs.Prelude.{filter_map, find, Option, Some, None}
 use Rattle.std.specs.List.{list_any, list_all, slice_set, AllByRecursion}
 use Rattle.std.specs.Option.{option_map_or, option_and_then}

@@ -1,4 +1,4 @@
-use Rattle.leader.proofs.Storing.{listed_grown, listed_ready, kept_grown}
+use Rattle.leader.proofs.Storing.{listed_grown, listed_ready}
 use Rattle.leader.proofs.courses.Courses.make_ready.Goals as goal
 
 pub returns-clause-ready : goal.returns-clause-ready
