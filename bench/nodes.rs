@@ -167,33 +167,71 @@ fn repeat(
     Ok((sent, begin.elapsed(rt)?.as_nanos()))
 }
 
-fn main(rt: HostRuntime) -> anyhow::Result<()> {
-    let words: Vec<String> = env::args(&rt)?.collect(rt.alloc())?;
-    let [_, role, what, transactions, repetitions] = words.as_slice() else {
+/// All repetitions. Answers how many steps were made, their nanoseconds, and how many messages were sent.
+fn repeat_all(
+    rt: &HostRuntime,
+    who: NodeId,
+    transactions: u32,
+    datagrams: &[Vec<u8>],
+    repetitions: u32,
+) -> anyhow::Result<(u64, u128, u64)> {
+    let mut steps: u64 = 0;
+    let mut nanoseconds: u128 = 0;
+    let mut sent: u64 = 0;
+    for _ in 0..repetitions {
+        let (more, taken) = repeat(rt, who, transactions, datagrams)?;
+        steps = steps.wrapping_add(datagrams.len() as u64);
+        nanoseconds = nanoseconds.wrapping_add(taken);
+        sent = sent.wrapping_add(more);
+    }
+    Ok((steps, nanoseconds, sent))
+}
+
+/// All repetitions of a node, which is handed all datagrams or none.
+fn measured(
+    rt: &HostRuntime,
+    who: NodeId,
+    is_stepped: bool,
+    transactions: u32,
+    repetitions: u32,
+) -> anyhow::Result<(u64, u128, u64)> {
+    let datagrams = datagrams_of(rt.alloc(), who, transactions)?;
+    if !is_stepped {
+        return repeat_all(rt, who, transactions, &[], repetitions);
+    }
+    repeat_all(rt, who, transactions, &datagrams, repetitions)
+}
+
+/// The node of a role, if a word names one.
+fn node_of(role: &str) -> Option<NodeId> {
+    if role == "acceptor" {
+        return Some(NodeId::A(FIRST));
+    }
+    if role == "leader" {
+        return Some(NodeId::L(FIRST));
+    }
+    if role == "manager" {
+        return Some(NodeId::R(FIRST));
+    }
+    None
+}
+
+/// Does what the words say.
+fn run(rt: &HostRuntime, words: &[String]) -> anyhow::Result<(u64, u128, u64)> {
+    let [_, role, what, transactions, repetitions] = words else {
         bail!("{USAGE}");
     };
-    let who = match role.as_str() {
-        "acceptor" => NodeId::A(FIRST),
-        "leader" => NodeId::L(FIRST),
-        "manager" => NodeId::R(FIRST),
-        _ => bail!("{USAGE}"),
+    let Some(who) = node_of(role.as_str()) else {
+        bail!("{USAGE}");
     };
+    let is_stepped = what.as_str() == "stepped";
     let transactions = transactions.parse::<u32>()?;
-    let datagrams = datagrams_of(rt.alloc(), who, transactions)?;
-    let handed: &[Vec<u8>] = if what.as_str() == "stepped" {
-        &datagrams
-    } else {
-        &[]
-    };
-    let mut steps: u64 = 0;
-    let mut sent: u64 = 0;
-    let mut nanoseconds: u128 = 0;
-    for _ in 0..repetitions.parse::<u32>()? {
-        let (more, taken) = repeat(&rt, who, transactions, handed)?;
-        steps = steps.wrapping_add(handed.len() as u64);
-        sent = sent.wrapping_add(more);
-        nanoseconds = nanoseconds.wrapping_add(taken);
-    }
+    measured(rt, who, is_stepped, transactions, repetitions.parse::<u32>()?)
+}
+
+fn main(rt: HostRuntime) -> anyhow::Result<()> {
+    let words: Vec<String> = env::args(&rt)?.collect(rt.alloc())?;
+    let (steps, nanoseconds, sent) = run(&rt, &words)?;
     println!(rt; "{steps} {nanoseconds} {sent}")?;
     Ok(())
 }
