@@ -16,3 +16,5 @@ pub use udp::UdpPort;
 
 #[cfg(test)]
 mod tests;
+#[cfg(test)]
+mod udp_tests;

@@ -33,6 +33,14 @@ const P1A: [u8; 19] = [
     2, 2, 0, 0, 0, 1, 1, 0x74, 1, 0, 0, 1, 0x61, 0, 0, 0, 0, 0, 1,
 ];
 
+/// The spelling of P2a for it, with instance 0, ballot 0 and the vote aborted.
+const P2A: [u8; 20] = [
+    2, 4, 0, 0, 0, 1, 1, 0x74, 1, 0, 0, 1, 0x61, 0, 0, 0, 0, 0, 0, 2,
+];
+
+/// The frame of the vote aborted on it.
+const VOTE: [u8; 17] = *b"\x00\x00\x00\x0d\x02\x05\x00\x00\x00\x01\x01t\x01\x00\x00\x01a";
+
 /// These bytes went to these nodes, in this order.
 fn has_sent(rt: &impl Abort, port: &FakePort, bytes: &[u8], receivers: &[NodeId]) {
     assert_eq!(rt; port.gone().len(), receivers.len());
@@ -138,5 +146,88 @@ fn a_receive_that_fails(rt: HostRuntime) -> Result<(), Fail> {
     assert_eq!(&rt; port.faults(), 1);
     assert!(&rt; port.gone().is_empty());
     votes(&rt, &mut node, &mut port);
+    Ok(())
+}
+
+/// Each acceptor twice, but for the lost one of these six.
+fn twice_but(alloc: Global, lost: Option<u8>) -> Result<Vec<NodeId>, Refusal> {
+    let mut receivers = Vec::new(alloc);
+    for i in 0..6 {
+        if lost != Some(i) {
+            receivers.push(NodeId::A(i % 3))?;
+        }
+    }
+    Ok(receivers)
+}
+
+/// A manager that is asked twice to prepare, at a port that fails in this call, has stored its vote once and sent it twice, but for
+/// what the port lost.
+fn loses_alone<R: Abort>(
+    rt: &R,
+    alloc: Global,
+    call: u64,
+    lost: Option<u8>,
+) -> Result<(), Refusal> {
+    let mut port = FakePort::new(alloc, call);
+    port.put(&PREPARE)?;
+    port.put(&PREPARE)?;
+    let mut node = opened(alloc, NodeId::R(0))?;
+    for _ in 0..4 {
+        let _ = serve_once(&mut node, &mut port);
+    }
+    has_sent(rt, &port, &P2A, &twice_but(alloc, lost)?);
+    assert_eq!(rt; port.faults(), u64::from(call != 0));
+    assert_eq!(rt; node.into_record().as_slice(), VOTE.as_slice());
+    Ok(())
+}
+
+/// A serve is one receive and three sends, so the first, fifth and ninth calls are receives: what one of these failed to give comes by the
+/// next.
+#[test]
+fn a_port_that_fails_loses_and_no_more(rt: HostRuntime) -> Result<(), Fail> {
+    for (call, lost) in [
+        (0, None),
+        (1, None),
+        (2, Some(0)),
+        (3, Some(1)),
+        (4, Some(2)),
+        (5, None),
+        (6, Some(3)),
+        (7, Some(4)),
+        (8, Some(5)),
+        (9, None),
+    ] {
+        loses_alone(&rt, rt.alloc(), call, lost)?;
+    }
+    Ok(())
+}
+
+/// Bytes that spell no message send nothing, so the third call of the port is the receive of the third serve.
+#[test]
+fn a_serve_is_one_receive(rt: HostRuntime) -> Result<(), Fail> {
+    let alloc = rt.alloc();
+    let mut port = FakePort::new(alloc, 3);
+    for _ in 0..3 {
+        port.put(b"noise")?;
+    }
+    let mut node = opened(alloc, NodeId::R(0))?;
+    is_noise(&rt, &mut node, &mut port);
+    is_noise(&rt, &mut node, &mut port);
+    assert!(&rt; matches!(serve_once(&mut node, &mut port), Err(Refusal::PortFault)));
+    is_noise(&rt, &mut node, &mut port);
+    assert!(&rt; matches!(serve_once(&mut node, &mut port), Ok(None)));
+    Ok(())
+}
+
+/// The record is as it was.
+#[test]
+fn nothing_came(rt: HostRuntime) -> Result<(), Fail> {
+    let alloc = rt.alloc();
+    let mut port = FakePort::new(alloc, 0);
+    let mut node = opened(alloc, NodeId::R(0))?;
+    assert!(&rt; matches!(serve_once(&mut node, &mut port), Ok(None)));
+    assert!(&rt; port.gone().is_empty());
+    assert_eq!(&rt; port.faults(), 0);
+    assert!(&rt; node.into_record().as_slice().is_empty());
     Ok(())
 }
