@@ -124,7 +124,7 @@ impl Acceptor {
                 ballot,
                 vote,
             } => self.decide_2a(tx, *instance, *ballot, *vote, decision),
-            _ => *decision = Decision::nothing(),
+            _ => decision.clear(),
         }
     }
 

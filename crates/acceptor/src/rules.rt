@@ -59,7 +59,7 @@ pub fn on_1a(
 {
     let slot = slot_of(tx, slots, instance);
     if ballot <= slot.mbal {
-        *decision = Decision::nothing();
+        decision.clear();
         return;
     }
     decision.answer = Answer::Done;
@@ -90,7 +90,7 @@ pub fn on_b1a(seat: Seat, tx: &Tx, slots: &[KeptSlot], ballot: Ballot, decision:
         → decision.new ≡ decision_of (on_b1a_of config seat.number (slots_of tx.now slots.now) tx.now ballot) }
 {
     let Some(reports) = reports_below(tx, slots, ballot) else {
-        *decision = Decision::nothing();
+        decision.clear();
         return;
     };
     decision.answer = Answer::Done;
@@ -117,11 +117,11 @@ fn accept_bundle(seat: Seat, tx: &Tx, slots: &[KeptSlot], accepted: Accepted, se
         (slots_of tx.now slots.now) tx.now accepted.instance accepted.ballot accepted.vote }
 {
     if accepted.vote == Vote::Prepared && !have_all_values(tx, slots, accepted) {
-        *sends = Sends::none();
+        sends.clear();
         return;
     }
     let Some(accepts) = accepts_after(tx, slots, accepted) else {
-        *sends = Sends::none();
+        sends.clear();
         return;
     };
     *sends = Sends::one(Outgoing {
@@ -186,7 +186,7 @@ pub fn on_2a(seat: Seat, tx: &Tx, slots: &[KeptSlot], accepted: Accepted, decisi
 {
     let slot = slot_of(tx, slots, accepted.instance);
     if accepted.ballot < slot.mbal {
-        *decision = Decision::nothing();
+        decision.clear();
         return;
     }
     decision.answer = Answer::Done;

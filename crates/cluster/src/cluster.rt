@@ -7,15 +7,16 @@ ghost use Rattle.cluster.specs.Clusters.{ClusterStands, Occurs, step_by};
 ghost use Rattle.cluster.specs.Opening.{IsMade, IsUnmade};
 
 use crate::asking::{table, view};
-use crate::handing::{Came, happen};
+use crate::handing::{Came, copy_change, happen};
 use crate::opening::open_all;
 use crate::receivers::count_of;
 use network::Network;
 use node_core::{Config, Node, Output, Sizes};
-use protocol::{Event, Row, Step, View};
+use protocol::{Answer, Event, Row, Sent, Step, View};
 use stable_record::{Record, Tear};
 use std::alloc::Global;
 use std::marker::Model;
+use std::mem;
 use xid::{Refusal, Sequence, Tx};
 
 /// A whole cluster: its nodes, each over a record, and every datagram that they sent.
@@ -27,6 +28,8 @@ pub struct Cluster<R: Record> {
     network: Network,
     // what came of an input last, in whose place goes what comes of the next
     out: Output,
+    // and of an event
+    came: Came,
 }
 
 impl<R: Record> Model for Cluster<R> {
@@ -39,15 +42,35 @@ impl<R: Record> Model for Cluster<R> {
     ghost invariant = { λ c. IsSound (cluster_of c.sizes c.nodes.items c.network) };
 }
 
-/// The step of an event of which this came.
-fn step_of(event: Event, came: Came) -> Step
-    ensures { result ≡ step_by event came }
-{
+/// A step in whose place `Cluster::step_into` may put others: it sent nothing, and its event is none of any cluster. It takes no memory.
+pub fn no_step(alloc: Global) -> Step {
     Step {
-        event,
-        answer: came.answer,
-        now: came.now,
-        sent: Sequence::new(came.sent),
+        event: Event::Lose { number: 0 },
+        answer: Answer::Done,
+        now: None,
+        sent: Sequence::new(Vec::new(alloc)),
+    }
+}
+
+/// Puts what came of an event in the place of a step, whose list is kept for the next.
+fn put_step(alloc: Global, event: Event, came: &mut Came, step: &mut Step)
+    ensures { step.new ≡ step_by event came.old }
+{
+    step.event = event;
+    step.answer = mem::replace(&mut came.answer, Answer::Done);
+    copy_change(&came.now, &mut step.now);
+    let sent = mem::replace(&mut came.sent, Vec::new(alloc));
+    let before = mem::replace(&mut step.sent, Sequence::new(sent));
+    came.sent = before.into_vec();
+}
+
+/// A list in the room that it needs, if there is memory for that, else the list as it is.
+fn fitted(alloc: Global, listed: Vec<Sent>) -> Vec<Sent>
+    ensures { result.items ≡ listed.items }
+{
+    match Vec::from_slice(alloc, &listed) {
+        Ok(copy) => copy,
+        Err(_) => listed,
     }
 }
 
@@ -70,6 +93,7 @@ impl<R: Record + Drop> Cluster<R> {
             nodes,
             network: Network::new(alloc),
             out: Output::nothing(),
+            came: Came::nothing(alloc),
         })
     }
 }
@@ -80,15 +104,27 @@ impl<R: Tear> Cluster<R> {
     pub fn step(&mut self, event: Event) -> Step
         ensures { Occurs event self.old self.new result }
     {
-        let came = happen(
-            self.alloc,
+        let mut step = no_step(self.alloc);
+        self.step_into(event, &mut step);
+        let sent = mem::replace(&mut step.sent, Sequence::new(Vec::new(self.alloc)));
+        step.sent = Sequence::new(fitted(self.alloc, sent.into_vec()));
+        step
+    }
+
+    /// One event as by `step`, and what came of it in the place of another step, in the room of that one and of those before it: so that
+    /// many events take no more memory for their steps than the one that may send most.
+    pub fn step_into(&mut self, event: Event, step: &mut Step)
+        ensures { Occurs event self.old self.new step.new }
+    {
+        happen(
             self.sizes,
             &mut self.nodes,
             &mut self.network,
             &event,
             &mut self.out,
+            &mut self.came,
         );
-        step_of(event, came)
+        put_step(self.alloc, event, &mut self.came, step);
     }
 }
 

@@ -28,7 +28,7 @@ use std::mem;
 use wire::decode;
 use xid::Refusal;
 
-/// What came of an event.
+/// What came of an event last, in whose place goes what comes of the next.
 #[derive(Debug, Drop)]
 pub(crate) struct Came {
     /// What it was answered.
@@ -40,114 +40,132 @@ pub(crate) struct Came {
 }
 
 impl Came {
-    /// An answer, and nothing sent.
-    fn answers(alloc: Global, answer: Answer) -> Came
-        ensures answer { result.answer ≡ answer }
-        ensures now { result.now ≡ None }
-        ensures sent { result.sent.items ≡ [] }
-    {
+    /// Nothing that came of anything yet.
+    pub(crate) fn nothing(alloc: Global) -> Came {
         Came {
-            answer,
+            answer: Answer::Done,
             now: None,
             sent: Vec::new(alloc),
         }
     }
 
-    /// What a node put out, whose answer is taken, and what was sent of it.
-    fn of(out: &mut Output, sent: Vec<Sent>) -> Came
-        ensures answer { result.answer ≡ out.old.reply }
-        ensures now { result.now ≡ out.old.now }
-        ensures sent { result.sent.items ≡ sent.items }
+    /// An answer, and nothing sent, in place of what came of the event before.
+    fn answers(&mut self, answer: Answer)
+        ensures answer { self.new.answer ≡ answer }
+        ensures now { self.new.now ≡ None }
+        ensures sent { self.new.sent.items ≡ [] }
     {
-        Came {
-            answer: mem::replace(&mut out.reply, Answer::Done),
-            now: out.now,
-            sent,
-        }
+        self.answer = answer;
+        copy_change(&None, &mut self.now);
+        self.sent.clear();
+    }
+
+    /// What a node put out, whose answer is taken, beside what was sent of it.
+    fn take(&mut self, out: &mut Output)
+        ensures answer { self.new.answer ≡ out.old.reply }
+        ensures now { self.new.now ≡ out.old.now }
+        ensures sent { self.new.sent.items ≡ self.old.sent.items }
+    {
+        self.answer = mem::replace(&mut out.reply, Answer::Done);
+        copy_change(&out.now, &mut self.now);
     }
 }
 
-/// A list in the room that it needs, if there is memory for that, else the list as it is.
-fn fitted(alloc: Global, listed: Vec<Sent>) -> Vec<Sent>
-    ensures { result.items ≡ listed.items }
+/// A change of a view, in place of one before. Where there is none, no place of one is written.
+pub(crate) fn copy_change(from: &Option<Change>, to: &mut Option<Change>)
+    ensures { to.new ≡ from.now }
 {
-    match Vec::from_slice(alloc, &listed) {
-        Ok(copy) => copy,
-        Err(_) => listed,
+    match from {
+        Some(change) => *to = Some(*change),
+        None => forget_change(to),
     }
+}
+
+/// No change of a view any more.
+fn forget_change(now: &mut Option<Change>)
+    ensures { now.new ≡ None }
+{
+    let Some(_) = &*now else {
+        return;
+    };
+    *now = None;
 }
 
 /// Sends what a node puts out. There is room for that. Its answer is taken.
-fn put_out(
-    alloc: Global,
-    network: &mut Network,
-    listed: Vec<Sent>,
-    sizes: Sizes,
-    who: NodeId,
-    out: &mut Output,
-) -> Came
+fn put_out(network: &mut Network, sizes: Sizes, who: NodeId, out: &mut Output, came: &mut Came)
     requires room { HasRoom (length (flat_map (datagrams_of (sized sizes) who) (sent_by out.old.sends))) network.old
-        (vec_len listed) (vec_capacity listed) }
-    requires empty { listed.items ≡ [] }
-    ensures sent { HaveSent network.old network.new [] result.sent.items (flat_map (datagrams_of (sized sizes) who) (sent_by out.old.sends)) }
-    ensures answer { result.answer ≡ out.old.reply }
-    ensures now { result.now ≡ out.old.now }
+        (vec_len came.old.sent) (vec_capacity came.old.sent) }
+    requires empty { came.old.sent.items ≡ [] }
+    ensures sent { HaveSent network.old network.new [] came.new.sent.items
+        (flat_map (datagrams_of (sized sizes) who) (sent_by out.old.sends)) }
+    ensures answer { came.new.answer ≡ out.old.reply }
+    ensures now { came.new.now ≡ out.old.now }
 {
-    let mut sent = listed;
-    send_all(network, &mut sent, sizes, who, &out.sends);
-    Came::of(out, fitted(alloc, sent))
+    send_all(network, &mut came.sent, sizes, who, &out.sends);
+    came.take(out);
 }
 
 /// Asks a node something.
 fn ask<R: Record>(
-    alloc: Global,
     sizes: Sizes,
     nodes: &mut Vec<Node<R>>,
     network: &mut Network,
     who: NodeId,
     request: &Request,
     out: &mut Output,
-) -> Came
+    came: &mut Came,
+)
     requires { IsSound (cluster_of sizes nodes.old.items network.old) }
     ensures { Occurs (Ask who request.now) (cluster_of sizes nodes.old.items network.old) (cluster_of sizes nodes.new.items network.new)
-        (step_by (Ask who request.now) result) }
+        (step_by (Ask who request.now) came.new) }
 {
     let Some(at) = place_of(sizes, who) else {
-        return Came::answers(alloc, Answer::Refused(Refusal::NoSuch));
+        came.answers(Answer::Refused(Refusal::NoSuch));
+        return;
     };
-    let listed = match make_room(alloc, network, most_asked(sizes, who, request)) {
-        Ok(listed) => listed,
-        Err(_) => return Came::answers(alloc, Answer::Refused(Refusal::NoMemory)),
-    };
+    match make_room(network, &mut came.sent, most_asked(sizes, who, request)) {
+        Ok(()) => {}
+        Err(_) => {
+            came.answers(Answer::Refused(Refusal::NoMemory));
+            return;
+        }
+    }
     let node = &mut nodes[at];
     node.step_into(Input::Asked(request), out);
-    put_out(alloc, network, listed, sizes, who, out)
+    put_out(network, sizes, who, out, came);
 }
 
 /// Hands a datagram to its receiver, and marks it.
 fn deliver<R: Record>(
-    alloc: Global,
     sizes: Sizes,
     nodes: &mut Vec<Node<R>>,
     network: &mut Network,
     number: u32,
     out: &mut Output,
-) -> Came
+    came: &mut Came,
+)
     requires { IsSound (cluster_of sizes nodes.old.items network.old) }
     ensures { Occurs (Deliver number) (cluster_of sizes nodes.old.items network.old) (cluster_of sizes nodes.new.items network.new)
-        (step_by (Deliver number) result) }
+        (step_by (Deliver number) came.new) }
 {
     let who = match network.get(number) {
         Some(kept) => kept.receiver,
-        None => return Came::answers(alloc, Answer::Refused(Refusal::NoSuch)),
+        None => {
+            came.answers(Answer::Refused(Refusal::NoSuch));
+            return;
+        }
     };
-    let listed = match make_room(alloc, network, most_heard(sizes, who)) {
-        Ok(listed) => listed,
-        Err(_) => return Came::answers(alloc, Answer::Refused(Refusal::NoMemory)),
-    };
+    match make_room(network, &mut came.sent, most_heard(sizes, who)) {
+        Ok(()) => {}
+        Err(_) => {
+            came.answers(Answer::Refused(Refusal::NoMemory));
+            return;
+        }
+    }
     let Some(at) = place_of(sizes, who) else {
         network.mark(number);
-        return Came::answers(alloc, Answer::Refused(Refusal::NoSuch));
+        came.answers(Answer::Refused(Refusal::NoSuch));
+        return;
     };
     let Some(kept) = network.get(number) else {
         unreachable!();
@@ -155,106 +173,112 @@ fn deliver<R: Record>(
     let node = &mut nodes[at];
     node.step_into(Input::Received(kept.bytes), out);
     network.mark(number);
-    put_out(alloc, network, listed, sizes, who, out)
+    put_out(network, sizes, who, out, came);
 }
 
 /// Marks a datagram.
-fn lose(alloc: Global, network: &mut Network, number: u32) -> Came
+fn lose(network: &mut Network, number: u32, came: &mut Came)
     ensures { (sizes : ClusterSizes) (nodes : List NodeParts)
-        → Occurs (Lose number) (cluster_of sizes nodes network.old) (cluster_of sizes nodes network.new) (step_by (Lose number) result) }
+        → Occurs (Lose number) (cluster_of sizes nodes network.old) (cluster_of sizes nodes network.new) (step_by (Lose number) came.new) }
 {
     if !network.mark(number) {
-        return Came::answers(alloc, Answer::Refused(Refusal::NoSuch));
+        came.answers(Answer::Refused(Refusal::NoSuch));
+        return;
     }
-    Came::answers(alloc, Answer::Done)
+    came.answers(Answer::Done);
 }
 
 /// Hands bytes that spell no message to a node. Nothing is sent.
 fn hand_noise<R: Record>(
-    alloc: Global,
     sizes: Sizes,
     nodes: &mut Vec<Node<R>>,
     who: NodeId,
     bytes: &[u8],
     out: &mut Output,
-) -> Came
+    came: &mut Came,
+)
     requires count { length nodes.old.items ≡ node_count sizes }
     requires noise { message_at bytes.now ≡ None }
     ensures { (network : NetworkParts) → Reaches who ReceivedNoise (cluster_of sizes nodes.old.items network)
-        (cluster_of sizes nodes.new.items network) result }
+        (cluster_of sizes nodes.new.items network) came.new }
 {
     let Some(at) = place_of(sizes, who) else {
-        return Came::answers(alloc, Answer::Refused(Refusal::NoSuch));
+        came.answers(Answer::Refused(Refusal::NoSuch));
+        return;
     };
     let node = &mut nodes[at];
     node.step_into(Input::Received(bytes), out);
-    Came::of(out, Vec::new(alloc))
+    came.sent.clear();
+    came.take(out);
 }
 
 /// Hands the first bytes of a datagram to its receiver, fewer than all.
 fn cut<R: Record>(
-    alloc: Global,
     sizes: Sizes,
     nodes: &mut Vec<Node<R>>,
     network: &Network,
     number: u32,
     bytes: u32,
     out: &mut Output,
-) -> Came
+    came: &mut Came,
+)
     requires sound { IsSound (cluster_of sizes nodes.old.items network.now) }
     ensures { Occurs (Cut number bytes) (cluster_of sizes nodes.old.items network.now) (cluster_of sizes nodes.new.items network.now)
-        (step_by (Cut number bytes) result) }
+        (step_by (Cut number bytes) came.new) }
 {
     let Some(kept) = network.get(number) else {
-        return Came::answers(alloc, Answer::Refused(Refusal::NoSuch));
+        came.answers(Answer::Refused(Refusal::NoSuch));
+        return;
     };
     let len = bytes as usize;
     if len >= kept.bytes.len() {
-        return Came::answers(alloc, Answer::Refused(Refusal::NoSuch));
+        came.answers(Answer::Refused(Refusal::NoSuch));
+        return;
     }
-    hand_noise(alloc, sizes, nodes, kept.receiver, &kept.bytes[..len], out)
+    hand_noise(sizes, nodes, kept.receiver, &kept.bytes[..len], out, came);
 }
 
 /// Hands bytes to a node that nobody sent, unless they spell a message.
 fn noise<R: Record>(
-    alloc: Global,
     sizes: Sizes,
     nodes: &mut Vec<Node<R>>,
     who: NodeId,
     bytes: &[u8],
     out: &mut Output,
-) -> Came
+    came: &mut Came,
+)
     requires count { length nodes.old.items ≡ node_count sizes }
     ensures { (network : NetworkParts) → Occurs (Noise who bytes.now) (cluster_of sizes nodes.old.items network)
-        (cluster_of sizes nodes.new.items network) (step_by (Noise who bytes.now) result) }
+        (cluster_of sizes nodes.new.items network) (step_by (Noise who bytes.now) came.new) }
 {
     match decode(bytes) {
-        Err(_) => hand_noise(alloc, sizes, nodes, who, bytes, out),
+        Err(_) => hand_noise(sizes, nodes, who, bytes, out, came),
         Ok(_) => match place_of(sizes, who) {
-            Some(_) => Came::answers(alloc, Answer::Refused(Refusal::Forged)),
-            None => Came::answers(alloc, Answer::Refused(Refusal::NoSuch)),
+            Some(_) => came.answers(Answer::Refused(Refusal::Forged)),
+            None => came.answers(Answer::Refused(Refusal::NoSuch)),
         },
     }
 }
 
 /// Arms a tear on a node's record.
 fn tear<R: Tear>(
-    alloc: Global,
     sizes: Sizes,
     nodes: &mut Vec<Node<R>>,
     who: NodeId,
     bytes: u32,
-) -> Came
+    came: &mut Came,
+)
     requires count { length nodes.old.items ≡ node_count sizes }
     ensures { (network : NetworkParts) → Occurs (Tears who bytes) (cluster_of sizes nodes.old.items network)
-        (cluster_of sizes nodes.new.items network) (step_by (Tears who bytes) result) }
+        (cluster_of sizes nodes.new.items network) (step_by (Tears who bytes) came.new) }
 {
     let Some(at) = place_of(sizes, who) else {
-        return Came::answers(alloc, Answer::Refused(Refusal::NoSuch));
+        came.answers(Answer::Refused(Refusal::NoSuch));
+        return;
     };
     let node = &mut nodes[at];
     node.arm(bytes as usize);
-    Came::answers(alloc, Answer::Done)
+    came.answers(Answer::Done);
 }
 
 /// How a restart or a compaction is answered.
@@ -268,55 +292,67 @@ fn answer_of(restarted: Result<(), Refusal>) -> Answer
 }
 
 /// Restarts a node.
-fn restart<R: Record>(alloc: Global, sizes: Sizes, nodes: &mut Vec<Node<R>>, who: NodeId) -> Came
+fn restart<R: Record>(
+    sizes: Sizes,
+    nodes: &mut Vec<Node<R>>,
+    who: NodeId,
+    came: &mut Came,
+)
     requires count { length nodes.old.items ≡ node_count sizes }
     ensures { (network : NetworkParts) → Occurs (Restart who) (cluster_of sizes nodes.old.items network)
-        (cluster_of sizes nodes.new.items network) (step_by (Restart who) result) }
+        (cluster_of sizes nodes.new.items network) (step_by (Restart who) came.new) }
 {
     let Some(at) = place_of(sizes, who) else {
-        return Came::answers(alloc, Answer::Refused(Refusal::NoSuch));
+        came.answers(Answer::Refused(Refusal::NoSuch));
+        return;
     };
     let node = &mut nodes[at];
     let restarted = node.restart();
-    Came::answers(alloc, answer_of(restarted))
+    came.answers(answer_of(restarted));
 }
 
 /// Compacts a node.
-fn compact<R: Record>(alloc: Global, sizes: Sizes, nodes: &mut Vec<Node<R>>, who: NodeId) -> Came
+fn compact<R: Record>(
+    sizes: Sizes,
+    nodes: &mut Vec<Node<R>>,
+    who: NodeId,
+    came: &mut Came,
+)
     requires count { length nodes.old.items ≡ node_count sizes }
     ensures { (network : NetworkParts) → Occurs (Compact who) (cluster_of sizes nodes.old.items network)
-        (cluster_of sizes nodes.new.items network) (step_by (Compact who) result) }
+        (cluster_of sizes nodes.new.items network) (step_by (Compact who) came.new) }
 {
     let Some(at) = place_of(sizes, who) else {
-        return Came::answers(alloc, Answer::Refused(Refusal::NoSuch));
+        came.answers(Answer::Refused(Refusal::NoSuch));
+        return;
     };
     let node = &mut nodes[at];
     let compacted = node.compact();
-    Came::answers(alloc, answer_of(compacted))
+    came.answers(answer_of(compacted));
 }
 
 /// What comes of an event.
 pub(crate) fn happen<R: Tear>(
-    alloc: Global,
     sizes: Sizes,
     nodes: &mut Vec<Node<R>>,
     network: &mut Network,
     event: &Event,
     out: &mut Output,
-) -> Came
+    came: &mut Came,
+)
     requires { IsSound (cluster_of sizes nodes.old.items network.old) }
     ensures occurs { Occurs event.now (cluster_of sizes nodes.old.items network.old)
-        (cluster_of sizes nodes.new.items network.new) (step_by event.now result) }
+        (cluster_of sizes nodes.new.items network.new) (step_by event.now came.new) }
     ensures sound { IsSound (cluster_of sizes nodes.new.items network.new) }
 {
     match event {
-        Event::Ask { node, request } => ask(alloc, sizes, nodes, network, *node, request, out),
-        Event::Deliver { number } => deliver(alloc, sizes, nodes, network, *number, out),
-        Event::Lose { number } => lose(alloc, network, *number),
-        Event::Cut { number, bytes } => cut(alloc, sizes, nodes, network, *number, *bytes, out),
-        Event::Noise { node, bytes } => noise(alloc, sizes, nodes, *node, bytes.as_slice(), out),
-        Event::Tear { node, bytes } => tear(alloc, sizes, nodes, *node, *bytes),
-        Event::Restart { node } => restart(alloc, sizes, nodes, *node),
-        Event::Compact { node } => compact(alloc, sizes, nodes, *node),
+        Event::Ask { node, request } => ask(sizes, nodes, network, *node, request, out, came),
+        Event::Deliver { number } => deliver(sizes, nodes, network, *number, out, came),
+        Event::Lose { number } => lose(network, *number, came),
+        Event::Cut { number, bytes } => cut(sizes, nodes, network, *number, *bytes, out, came),
+        Event::Noise { node, bytes } => noise(sizes, nodes, *node, bytes.as_slice(), out, came),
+        Event::Tear { node, bytes } => tear(sizes, nodes, *node, *bytes, came),
+        Event::Restart { node } => restart(sizes, nodes, *node, came),
+        Event::Compact { node } => compact(sizes, nodes, *node, came),
     }
 }

@@ -10,7 +10,7 @@ mod receivers;
 mod room;
 mod sending;
 
-pub use cluster::Cluster;
+pub use cluster::{Cluster, no_step};
 
 #[cfg(test)]
 mod tests;

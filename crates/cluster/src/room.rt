@@ -1,6 +1,6 @@
 //! Room for what an event may send: made before its node is reached.
 
-ghost use Rattle.std.specs.Prelude.{◌≡◌, ◌≤◌, ℕ, List, [], length, IfOk, IfErr};
+ghost use Rattle.std.specs.Prelude.{◌≡◌, ◌≤◌, ℕ, List, [], length, IfErr, OnOk};
 ghost use Rattle.std.specs.List.{flat_map};
 ghost use Rattle.std.specs.Vec.{vec_len, vec_capacity};
 ghost use Rattle.xid.specs.declared.refusals.Refusal.TheVariants.{NoMemory};
@@ -15,7 +15,6 @@ ghost use Rattle.cluster.specs.Sending.{HasRoom};
 use network::Network;
 use node_core::Sizes;
 use protocol::{NodeId, Request, Sent};
-use std::alloc::Global;
 use wire::MAX_MESSAGE_BYTES;
 use xid::{MAX_BRANCHES, Refusal};
 
@@ -31,10 +30,10 @@ pub(crate) fn most_asked(sizes: Sizes, who: NodeId, request: &Request) -> usize
         Request::Recover => 0,
         Request::View { .. } => 0,
         Request::Status { .. } => 0,
-        Request::Commit { tx } => tx.count(),
+        Request::Commit { tx } => tx.get().count(),
         Request::Timeout { tx } => match who {
             NodeId::A(_) => 0,
-            NodeId::L(_) => tx.count() * (acceptors + 1),
+            NodeId::L(_) => tx.get().count() * (acceptors + 1),
             NodeId::R(_) => acceptors + usize::from(sizes.leaders),
         },
     }
@@ -54,25 +53,26 @@ pub(crate) fn most_heard(sizes: Sizes, who: NodeId) -> usize
     }
 }
 
-/// Makes room for so many datagrams more, and gives the empty list in which they are to stand. Refused: `NoMemory` alone. The datagrams
+/// Makes room for so many datagrams more, and empties the list in which they are to stand. Refused: `NoMemory` alone. The datagrams
 /// before stay as they are.
 pub(crate) fn make_room(
-    alloc: Global,
     network: &mut Network,
+    listed: &mut Vec<Sent>,
     count: usize,
-) -> Result<Vec<Sent>, Refusal>
+) -> Result<(), Refusal>
     requires { count ≤ 5000 }
     ensures same { (net : List Datagram) → StandsFor network.old net → StandsFor network.new net }
-    ensures empty { IfOk result (λ sent. sent.items ≡ []) }
-    ensures room { IfOk result (λ sent. HasRoom count network.new (vec_len sent) (vec_capacity sent)) }
+    ensures empty { OnOk result (listed.new.items ≡ []) }
+    ensures room { OnOk result (HasRoom count network.new (vec_len listed.new) (vec_capacity listed.new)) }
     ensures err { IfErr result (λ e. e ≡ NoMemory) }
 {
+    listed.clear();
     match network.reserve(count, count * MAX_MESSAGE_BYTES) {
         Ok(()) => {}
         Err(refusal) => return Err(refusal),
     }
-    match Vec::with_capacity(alloc, count) {
-        Ok(sent) => Ok(sent),
+    match listed.reserve(count) {
+        Ok(()) => Ok(()),
         Err(_) => Err(Refusal::NoMemory),
     }
 }

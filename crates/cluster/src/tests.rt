@@ -1,6 +1,6 @@
 use crate::Cluster;
 use node_core::{Config, Input, Node};
-use protocol::{Action, Answer, Event, NodeId, Request, Row, Standing, View};
+use protocol::{Action, Answer, Boxed, Event, NodeId, Request, Row, Standing, View};
 use stable_record::MemRecord;
 use std::alloc::Global;
 use std::process::Abort;
@@ -14,6 +14,11 @@ type MemNode = Node<MemRecord>;
 /// Branch 61 at r0 and branch 62 at r1.
 fn t() -> Result<Tx, Refusal> {
     Tx::new(1, b"t", &[(0, b"a".as_slice()), (1, b"b".as_slice())])
+}
+
+/// The same, in a block of its own.
+fn boxed_t(alloc: Global) -> Result<Boxed<Tx>, Refusal> {
+    Boxed::new(alloc, t()?)
 }
 
 /// The first rows: 6b=30 at r0, and nothing at r1.
@@ -88,10 +93,12 @@ fn works(rt: &impl Abort, alloc: Global, cluster: &mut MemCluster) -> Result<(),
 }
 
 /// l0 is asked to commit and hears nothing more; l1 takes over and finds both prepared.
-fn takes_over(rt: &impl Abort, cluster: &mut MemCluster) -> Result<(), Refusal> {
-    asks(rt, cluster, NodeId::L(0), Request::Commit { tx: t()? });
+fn takes_over(rt: &impl Abort, alloc: Global, cluster: &mut MemCluster) -> Result<(), Refusal> {
+    let tx = boxed_t(alloc)?;
+    asks(rt, cluster, NodeId::L(0), Request::Commit { tx });
     delivers(rt, cluster, &[1, 2, 3, 4, 5, 6, 7, 8]);
-    asks(rt, cluster, NodeId::L(1), Request::Timeout { tx: t()? });
+    let tx = boxed_t(alloc)?;
+    asks(rt, cluster, NodeId::L(1), Request::Timeout { tx });
     delivers(rt, cluster, &[21, 22, 24, 25, 27, 28, 29, 30, 31, 32]);
     delivers(rt, cluster, &[34, 35, 38, 40, 42, 44, 45, 46]);
     Ok(())
@@ -107,8 +114,14 @@ fn is_committed(rt: &impl Abort, cluster: &mut MemCluster) -> Result<(), Refusal
     Ok(())
 }
 
-fn knows(rt: &impl Abort, leader: &mut MemNode, want: Standing) -> Result<(), Refusal> {
-    let output = leader.step(Input::Asked(&Request::Status { tx: t()? }));
+fn knows(
+    rt: &impl Abort,
+    alloc: Global,
+    leader: &mut MemNode,
+    want: Standing,
+) -> Result<(), Refusal> {
+    let tx = boxed_t(alloc)?;
+    let output = leader.step(Input::Asked(&Request::Status { tx }));
     match output.reply {
         Answer::Stands(standing) => assert!(rt; standing == want),
         _ => assert!(rt; false),
@@ -117,11 +130,15 @@ fn knows(rt: &impl Abort, leader: &mut MemNode, want: Standing) -> Result<(), Re
 }
 
 /// l0 knows no decision, and l1 knows that it is committed.
-fn leaders_know(rt: &impl Abort, nodes: &mut Vec<MemNode>) -> Result<(), Refusal> {
+fn leaders_know(
+    rt: &impl Abort,
+    alloc: Global,
+    nodes: &mut Vec<MemNode>,
+) -> Result<(), Refusal> {
     match nodes.as_mut_slice() {
         [_, _, _, first, second, _, _] => {
-            knows(rt, first, Standing::Undecided)?;
-            knows(rt, second, Standing::Committed)
+            knows(rt, alloc, first, Standing::Undecided)?;
+            knows(rt, alloc, second, Standing::Committed)
         }
         _ => {
             assert!(rt; false);
@@ -132,7 +149,7 @@ fn leaders_know(rt: &impl Abort, nodes: &mut Vec<MemNode>) -> Result<(), Refusal
 
 fn run_takes_over(rt: &impl Abort, alloc: Global, cluster: &mut MemCluster) -> Result<(), Refusal> {
     works(rt, alloc, cluster)?;
-    takes_over(rt, cluster)?;
+    takes_over(rt, alloc, cluster)?;
     is_committed(rt, cluster)?;
     assert!(rt; cluster.least_unmarked() == Some(9));
     Ok(())
@@ -144,5 +161,5 @@ fn takeover_finds_prepared(rt: HostRuntime) -> Result<(), Fail> {
     let mut cluster = made(alloc)?;
     run_takes_over(&rt, alloc, &mut cluster)?;
     let mut nodes = cluster.into_nodes();
-    Ok(leaders_know(&rt, &mut nodes)?)
+    Ok(leaders_know(&rt, alloc, &mut nodes)?)
 }

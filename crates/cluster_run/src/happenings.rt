@@ -6,17 +6,19 @@ ghost use Rattle.net_script.specs.declared.values.Command.TheVariants.{Do};
 ghost use Rattle.cluster_run.specs.Happenings.{IsFlow, IsDoneBy, AreDoneBy};
 ghost use Rattle.cluster_run.specs.Running.{GoesOn};
 
-use cluster::Cluster;
+use cluster::{Cluster, no_step};
 use net_script::{Command, write_step};
-use protocol::Event;
+use protocol::{Event, Step};
 use stable_record::MemRecord;
 use std::alloc::Global;
 use xid::Refusal;
 
-/// An event happens, and its lines join the output. Refused: `NoMemory` alone, where there is none for the lines.
+/// An event happens, in the place of a step before, and its lines join the output. Refused: `NoMemory` alone, where there is none for the
+/// lines.
 fn happen(
     alloc: Global,
     cluster: &mut Cluster<MemRecord>,
+    step: &mut Step,
     out: &mut Vec<u8>,
     event: Event,
 ) -> Result<(), Refusal>
@@ -24,8 +26,8 @@ fn happen(
         out.new.items) }
     ensures err { IfErr result (λ e. e ≡ NoMemory) }
 {
-    let step = cluster.step(event);
-    write_step(alloc, out, &step)
+    cluster.step_into(event, step);
+    write_step(alloc, out, step)
 }
 
 /// So many deliveries at most, each of the datagram of least number that isn't marked then, until there is none. Refused: `NoMemory`
@@ -33,6 +35,7 @@ fn happen(
 fn flow(
     alloc: Global,
     cluster: &mut Cluster<MemRecord>,
+    step: &mut Step,
     out: &mut Vec<u8>,
     count: u32,
 ) -> Result<(), Refusal>
@@ -43,7 +46,7 @@ fn flow(
         let Some(number) = cluster.least_unmarked() else {
             return Ok(());
         };
-        happen(alloc, cluster, out, Event::Deliver { number })?;
+        happen(alloc, cluster, step, out, Event::Deliver { number })?;
     }
     Ok(())
 }
@@ -52,6 +55,7 @@ fn flow(
 fn carry_out(
     alloc: Global,
     cluster: &mut Cluster<MemRecord>,
+    step: &mut Step,
     out: &mut Vec<u8>,
     command: Command,
 ) -> Result<(), Refusal>
@@ -59,8 +63,8 @@ fn carry_out(
     ensures err { IfErr result (λ e. e ≡ NoMemory) }
 {
     match command {
-        Command::Do(event) => happen(alloc, cluster, out, event),
-        Command::Flow(count) => flow(alloc, cluster, out, count),
+        Command::Do(event) => happen(alloc, cluster, step, out, event),
+        Command::Flow(count) => flow(alloc, cluster, step, out, count),
     }
 }
 
@@ -75,8 +79,9 @@ pub fn carry_out_all(
         out.new.items) }
     ensures err { IfErr result (λ e. e ≡ NoMemory) }
 {
+    let mut step = no_step(alloc);
     for command in commands {
-        carry_out(alloc, cluster, out, command)?;
+        carry_out(alloc, cluster, &mut step, out, command)?;
     }
     Ok(())
 }

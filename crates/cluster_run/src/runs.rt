@@ -40,7 +40,10 @@ fn run_script(alloc: Global, script: Script) -> Result<Vec<u8>, Refusal>
     let mut out = Vec::new(alloc);
     write_head(alloc, &mut out, sizes, first)?;
     carry_out_all(alloc, &mut cluster, &mut out, commands.into_vec())?;
-    let finals = final_rows(alloc, &mut cluster, config.sizes().managers)?;
+    let finals = match final_rows(alloc, &mut cluster, config.sizes().managers) {
+        Ok(finals) => finals,
+        Err(refusal) => return Err(refusal),
+    };
     write_finals(alloc, &mut out, &finals)?;
     Ok(out)
 }

@@ -1,7 +1,7 @@
 -- Lines of words with one space between them, and texts of such lines.
 use Rattle.std.proofs.Common.{◌≡◌, ℕ, Bool, true, false, not, ◌&&◌, cond, ◌⊎◌, inl, inr, eqb, List, [], ◌∷◌, ◌++◌, drop}
 use Rattle.std.proofs.Common.{refl, sym, ap, ◌∙◌, codes, eqb-true}
-use Rattle.std.specs.List.{AllByRecursion, list_all, flat_map, filter, onto_first}
+use Rattle.std.specs.List.{AllByRecursion, list_all, filter, onto_first}
 use Rattle.std.proofs.lemmas.Bool.{not-true}
 use Rattle.std.proofs.lemmas.List.{append-nil, append_assoc}
 use Rattle.std.proofs.lemmas.List.Concat.{flat_map-append}

@@ -7,13 +7,10 @@ use Rattle.std.proofs.lemmas.Slice.Eq.{bytes_eq-Decides}
 use Rattle.std.proofs.lemmas.Fmt.{decimal_injective}
 use Rattle.net_script.specs.Basics.{TxParts, number_of, Refusal, View, NodeId, R, Row}
 use Rattle.net_script.specs.Basics.{Answer, Done, Code, Value, NoValue, Xids, Stands, Refused, Change, Sent, Event, Kind}
-use Rattle.net_script.specs.declared.values.Sizes.{Sizes}
-use Rattle.net_script.specs.declared.values.Table.{Table}
 use Rattle.net_script.specs.declared.trace_lines.TraceLine.{TraceLine}
 use Rattle.net_script.specs.declared.trace_lines.TraceLine.TheVariants.{Cluster, Contents, Happened, Served, Changed, Datagram, Final}
 use Rattle.net_script.specs.Lines.{words, node_text}
 use Rattle.net_script.specs.Events.{IsNode, IsEvent, keyword_text, keyword_of, event_words}
-use Rattle.net_script.specs.Items.{IsSizes, IsContents, sizes_words, contents_words}
 use Rattle.net_script.specs.Answers.{IsTold, IsAnswer, view_text, answer_word_text, answer_word, answer_args, answer_words}
 use Rattle.net_script.specs.Traces.{joined_words, serve_words, change_words, sent_words}
 use Rattle.net_script.specs.TraceLines.{IsChange, IsSent, AreFinalRows, IsTraceLine, final_words, trace_line_words, trace_line_text}

@@ -8,7 +8,7 @@ ghost use Rattle.net_script.specs.Lines.{Reads, words, bytes_text, node_text};
 use crate::words::{
     bytes_word, is_over, leader_word, lettered_number, manager_word, next_word, node_word,
 };
-use protocol::NodeId;
+use protocol::{Boxed, NodeId};
 use std::alloc::Global;
 use xid::{Bytes, Refusal, Tx, Xid, text};
 
@@ -139,21 +139,19 @@ pub(crate) fn last_node(args: &[u8]) -> Option<NodeId>
 }
 
 /// The transaction that is the only word.
-pub(crate) fn last_tx(args: &[u8]) -> Option<Tx>
-    ensures { MatchOption result
-        ((tx : TxParts) → IsTx tx → words args.now ≢ tx_text tx ∷ [])
-        (λ tx. IsTx tx × (words args.now ≡ tx_text tx ∷ [])) }
+pub(crate) fn last_tx(alloc: Global, args: &[u8]) -> Result<Option<Boxed<Tx>>, Refusal>
+    ensures { Reads IsTx (λ tx. tx_text tx ∷ []) (words args.now) result }
 {
     let Some((word, rest)) = next_word(args) else {
-        return None;
+        return Ok(None);
     };
     if !is_over(rest) {
-        return None;
+        return Ok(None);
     }
     let Ok(tx) = Tx::read(word) else {
-        return None;
+        return Ok(None);
     };
-    Some(tx)
+    Ok(Some(Boxed::new(alloc, tx)?))
 }
 
 /// The transaction of the first word, and the rest.

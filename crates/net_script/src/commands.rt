@@ -35,78 +35,70 @@ fn read_recover(args: &[u8]) -> Option<Event>
 }
 
 /// Where a resource manager stands in a transaction.
-fn read_view(args: &[u8]) -> Option<Event>
-    ensures { MatchOption result
-        ((e : Event) → IsEventBy Keyword.View e → words args.now ≢ event_args e)
-        (λ e. IsEventBy Keyword.View e × (words args.now ≡ event_args e)) }
+fn read_view(alloc: Global, args: &[u8]) -> Result<Option<Event>, Refusal>
+    ensures { Reads (IsEventBy Keyword.View) event_args (words args.now) result }
 {
     let Some((rm, rest)) = manager(args) else {
-        return None;
+        return Ok(None);
     };
-    let Some(tx) = last_tx(rest) else {
-        return None;
+    let Some(tx) = last_tx(alloc, rest)? else {
+        return Ok(None);
     };
-    Some(Event::Ask {
+    Ok(Some(Event::Ask {
         node: NodeId::R(rm),
         request: Request::View { tx },
-    })
+    }))
 }
 
 /// That a leader is to commit a transaction.
-fn read_commit(args: &[u8]) -> Option<Event>
-    ensures { MatchOption result
-        ((e : Event) → IsEventBy Keyword.Commit e → words args.now ≢ event_args e)
-        (λ e. IsEventBy Keyword.Commit e × (words args.now ≡ event_args e)) }
+fn read_commit(alloc: Global, args: &[u8]) -> Result<Option<Event>, Refusal>
+    ensures { Reads (IsEventBy Keyword.Commit) event_args (words args.now) result }
 {
     let Some((number, rest)) = leader(args) else {
-        return None;
+        return Ok(None);
     };
-    let Some(tx) = last_tx(rest) else {
-        return None;
+    let Some(tx) = last_tx(alloc, rest)? else {
+        return Ok(None);
     };
-    Some(Event::Ask {
+    Ok(Some(Event::Ask {
         node: NodeId::L(number),
         request: Request::Commit { tx },
-    })
+    }))
 }
 
 /// What a leader knows of a transaction.
-fn read_status(args: &[u8]) -> Option<Event>
-    ensures { MatchOption result
-        ((e : Event) → IsEventBy Keyword.Status e → words args.now ≢ event_args e)
-        (λ e. IsEventBy Keyword.Status e × (words args.now ≡ event_args e)) }
+fn read_status(alloc: Global, args: &[u8]) -> Result<Option<Event>, Refusal>
+    ensures { Reads (IsEventBy Keyword.Status) event_args (words args.now) result }
 {
     let Some((number, rest)) = leader(args) else {
-        return None;
+        return Ok(None);
     };
-    let Some(tx) = last_tx(rest) else {
-        return None;
+    let Some(tx) = last_tx(alloc, rest)? else {
+        return Ok(None);
     };
-    Some(Event::Ask {
+    Ok(Some(Event::Ask {
         node: NodeId::L(number),
         request: Request::Status { tx },
-    })
+    }))
 }
 
 /// That a leader or a resource manager waited too long.
-fn read_timeout(args: &[u8]) -> Option<Event>
-    ensures { MatchOption result
-        ((e : Event) → IsEventBy Keyword.Timeout e → words args.now ≢ event_args e)
-        (λ e. IsEventBy Keyword.Timeout e × (words args.now ≡ event_args e)) }
+fn read_timeout(alloc: Global, args: &[u8]) -> Result<Option<Event>, Refusal>
+    ensures { Reads (IsEventBy Keyword.Timeout) event_args (words args.now) result }
 {
     let Some((node, rest)) = node(args) else {
-        return None;
+        return Ok(None);
     };
     if let NodeId::A(_) = node {
-        return None;
+        return Ok(None);
     }
-    let Some(tx) = last_tx(rest) else {
-        return None;
+    let Some(tx) = last_tx(alloc, rest)? else {
+        return Ok(None);
     };
-    Some(Event::Ask {
+    Ok(Some(Event::Ask {
         node,
         request: Request::Timeout { tx },
-    })
+    }))
 }
 
 /// A datagram, and how many of its bytes.
@@ -207,10 +199,10 @@ fn read_by(alloc: Global, keyword: Keyword, args: &[u8]) -> Result<Option<Event>
     match keyword {
         Keyword::Call(verb) => read_call(alloc, verb, args),
         Keyword::Recover => Ok(read_recover(args)),
-        Keyword::View => Ok(read_view(args)),
-        Keyword::Commit => Ok(read_commit(args)),
-        Keyword::Status => Ok(read_status(args)),
-        Keyword::Timeout => Ok(read_timeout(args)),
+        Keyword::View => read_view(alloc, args),
+        Keyword::Commit => read_commit(alloc, args),
+        Keyword::Status => read_status(alloc, args),
+        Keyword::Timeout => read_timeout(alloc, args),
         Keyword::Deliver => Ok(read_deliver(args)),
         Keyword::Lose => Ok(read_lose(args)),
         Keyword::Cut => Ok(read_cut(args)),

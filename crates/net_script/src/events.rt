@@ -70,7 +70,7 @@ fn put_request(alloc: Global, out: &mut Vec<u8>, request: &Request) -> Result<()
         Request::View { tx }
         | Request::Commit { tx }
         | Request::Status { tx }
-        | Request::Timeout { tx } => put_tx(alloc, out, tx)?,
+        | Request::Timeout { tx } => put_tx(alloc, out, tx.get())?,
     }
     Ok(())
 }

@@ -1,6 +1,8 @@
 use crate::messages::put_message;
 use crate::{Command, Entry, Script, Sizes, Table, Trace, read_script, write_trace};
-use protocol::{Action, Answer, Change, Event, NodeId, Request, Row, Sent, Standing, Step, View};
+use protocol::{
+    Action, Answer, Boxed, Change, Event, NodeId, Request, Row, Sent, Standing, Step, View,
+};
 use std::alloc::Global;
 use std::test::*;
 use wire::{InstanceAccept, InstanceReport, Items, Kind, Message, is_message};
@@ -141,7 +143,9 @@ fn worked_steps(alloc: Global) -> Result<Sequence<Step>, Refusal> {
     steps.push(Step {
         event: Event::Ask {
             node: NodeId::L(0),
-            request: Request::Commit { tx },
+            request: Request::Commit {
+                tx: Boxed::new(alloc, tx)?,
+            },
         },
         answer: Answer::Stands(Standing::Undecided),
         now: None,
@@ -233,12 +237,42 @@ fn other_steps(alloc: Global) -> Result<Sequence<Step>, Refusal> {
     let tx = worked_tx()?;
     let leader = NodeId::L(1);
     let standings = [
-        (Request::View { tx }, Standing::Working),
-        (Request::View { tx }, Standing::Prepared),
-        (Request::Commit { tx }, Standing::Undecided),
-        (Request::Commit { tx }, Standing::Committed),
-        (Request::Status { tx }, Standing::Unknown),
-        (Request::Status { tx }, Standing::Aborted),
+        (
+            Request::View {
+                tx: Boxed::new(alloc, tx)?,
+            },
+            Standing::Working,
+        ),
+        (
+            Request::View {
+                tx: Boxed::new(alloc, tx)?,
+            },
+            Standing::Prepared,
+        ),
+        (
+            Request::Commit {
+                tx: Boxed::new(alloc, tx)?,
+            },
+            Standing::Undecided,
+        ),
+        (
+            Request::Commit {
+                tx: Boxed::new(alloc, tx)?,
+            },
+            Standing::Committed,
+        ),
+        (
+            Request::Status {
+                tx: Boxed::new(alloc, tx)?,
+            },
+            Standing::Unknown,
+        ),
+        (
+            Request::Status {
+                tx: Boxed::new(alloc, tx)?,
+            },
+            Standing::Aborted,
+        ),
     ];
     let mut steps = Vec::new(alloc);
     for (request, standing) in standings {
@@ -251,7 +285,9 @@ fn other_steps(alloc: Global) -> Result<Sequence<Step>, Refusal> {
     let events = [
         Event::Ask {
             node: NodeId::R(7),
-            request: Request::Timeout { tx },
+            request: Request::Timeout {
+                tx: Boxed::new(alloc, tx)?,
+            },
         },
         Event::Lose { number: 4294967295 },
         Event::Cut {

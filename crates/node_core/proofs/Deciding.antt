@@ -7,6 +7,7 @@ use Rattle.protocol.specs.declared.decisions.Outgoing.{Outgoing}
 use Rattle.protocol.specs.declared.answers.Answer.TheVariants.{Refused}
 use Rattle.node_core.specs.Roles.{memory_after}
 use Rattle.std.proofs.Common.{◌≡◌, ◌∙◌, ℕ, true, false, not, ◌||◌, List, [], ◌∷◌, ◌++◌, Option, Some, None, refl, sym, ap, subst}
+use Rattle.std.proofs.Common.{append-nil}
 use Rattle.std.specs.Prelude.{IfSome, IfNone, IfOk, IfErr, Result, Ok, Err, nat_lt, ◌^◌}
 use Rattle.xid.specs.Names.{XidParts}
 use Rattle.xid.specs.Transactions.{TxParts, xid_at}
@@ -351,6 +352,24 @@ pub told_so : (old inner new : Role) (d e : Decision) (rule : Rule) → old ≡ 
 told_so old inner new d e rule is is_d h =
     let P : Role → Decision → Type 0 = λ x y. Decides x new y rule in
     subst (λ x. P x d) (sym is) (subst (λ y. P inner y) (sym is_d) h)
+
+-- what an acceptor or a resource manager decided, once its parts stand apart, beside no other message
+pub apart_so : (P : Decision → Type 0) (d : Decision) (answer : Answer) (fact : Option Fact) (question by_leader : List Outgoing)
+    → answer ≡ d.answer → fact ≡ d.fact → question ≡ [] → by_leader ≡ [] → P d
+    → P (record { answer = answer; fact = fact; sends = d.sends ++ question ++ by_leader })
+apart_so P d answer fact question by_leader answer_is fact_is question_is leader_is h =
+    let all = (λ i. d.sends ++ question_is i ++ leader_is i) ∙ append-nil (d.sends ++ []) ∙ append-nil d.sends in
+    subst P (λ i. record { answer = sym answer_is i; fact = sym fact_is i; sends = sym all i }) h
+
+-- a resource manager that left what it decided in a place, or refused
+pub managed_so : (old : Role) (p : ManagerParts) (message : Kind) → old ≡ Role.Manager p → (result : Result (Option Fact) Refusal)
+    (out : Output) → IfOk result (λ fact. manager_specs.Decides p (decided fact out)
+    (λ config number stored branches. on_manager_message number stored branches (xid_at (message_tx message) number) message))
+    → IfOk result (λ fact. Decides old (Role.Manager p) (decided fact out)
+    (λ config who facts memory. on_message config who facts memory message))
+managed_so old p message is (Ok fact) out h =
+    told_so old (Role.Manager p) (Role.Manager p) _ _ _ is refl (manager_decides p (decided fact out) message h)
+managed_so old p message is (Err refusal) out h = tt
 
 -- what a leader decided, once its parts stand apart, beside no other message
 pub led_follows : (config : Config) (number : ℕ) (old new : LeaderParts) (rule : leader_specs.Rule) (d : LeaderDecision) (answer : Answer)

@@ -84,7 +84,7 @@ fn hear<R: Record>(
         return true;
     }
     match role.on_message(&message, out) {
-        Ok(fact) => carry_out(alloc, device, who, role, fact, out),
+        Ok(fact) => carry_out(alloc, device, who, role, &fact, out),
         Err(refusal) => {
             out.refuse(refusal);
             false
@@ -106,7 +106,7 @@ fn serve<R: Record>(
         (R.held device.old) (R.held device.new) role.new (carried result out.new) }
 {
     match role.on_request(request, out) {
-        Ok(fact) => carry_out(alloc, device, who, role, fact, out),
+        Ok(fact) => carry_out(alloc, device, who, role, &fact, out),
         Err(refusal) => {
             out.refuse(refusal);
             false

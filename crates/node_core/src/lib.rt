@@ -27,4 +27,6 @@ pub use role::Role;
 pub use sends::NodeSends;
 
 #[cfg(test)]
+mod failing_tests;
+#[cfg(test)]
 mod tests;

@@ -6,7 +6,7 @@ ghost use Rattle.node_core.specs.Storing.{output_of, stopped_output, change_made
 use crate::sends::NodeSends;
 use crate::storing::Stopped;
 use leader::LeaderSends;
-use protocol::{Answer, Change, NodeId, Request, Sends, View};
+use protocol::{Answer, Change, NodeId, Request, View};
 use resource_manager::Reminder;
 use stable_record::{Fact, FactKind};
 use xid::{Refusal, Tx};
@@ -70,26 +70,46 @@ impl Output {
     }
 
     /// The refusal of an append that was stopped, with the change that the fact makes where its whole frame was kept.
-    pub(crate) fn stop(&mut self, stopped: Stopped, now: Option<Change>)
-        ensures { self.new ≡ stopped_output stopped now }
+    pub(crate) fn stop(&mut self, stopped: Stopped, who: NodeId, fact: &Fact)
+        ensures { self.new ≡ stopped_output stopped (change_made who fact.now) }
     {
         match stopped {
             Stopped::Memory => self.refuse(Refusal::NoMemory),
             Stopped::Fault { whole } => {
                 self.refuse(Refusal::RecordFault);
                 if whole {
-                    self.now = now;
+                    self.put_change_by(who, fact);
                 }
             }
         }
     }
 
-    /// What an acceptor or a resource manager answers and sends.
-    pub(crate) fn put(&mut self, reply: Answer, sends: Sends)
-        ensures { self.new ≡ record { reply = reply; now = self.old.now; sends = sends } }
+    /// The change of a view that a fact makes, once it is stored.
+    pub(crate) fn put_change_by(&mut self, who: NodeId, fact: &Fact)
+        ensures { self.new ≡ record { reply = self.old.reply; now = change_made who fact.now; sends = self.old.sends } }
     {
-        self.reply = reply;
-        self.sends.put(sends);
+        let NodeId::R(rm) = who else {
+            self.keep_view();
+            return;
+        };
+        match fact.kind() {
+            FactKind::VotePrepared { tx, .. } => self.put_change(rm, tx, View::Prepared),
+            FactKind::VoteAborted(tx) => self.put_change(rm, tx, View::Aborted),
+            FactKind::Committed(tx) => self.put_change(rm, tx, View::Committed),
+            FactKind::Aborted(tx) => self.put_change(rm, tx, View::Aborted),
+            FactKind::Promise { .. } => self.keep_view(),
+            FactKind::PromiseAll { .. } => self.keep_view(),
+            FactKind::Accept { .. } => self.keep_view(),
+            FactKind::Ballot { .. } => self.keep_view(),
+        }
+    }
+
+    /// A view that is changed.
+    fn put_change(&mut self, rm: u8, tx: &Tx, view: View)
+        ensures { self.new ≡ record { reply = self.old.reply; now = Some (record { rm = rm; tx = tx.now; view = view });
+            sends = self.old.sends } }
+    {
+        self.now = Some(Change { rm, tx: *tx, view });
     }
 
     /// What a leader answers and sends.
@@ -117,30 +137,4 @@ impl Output {
         self.sends.clear();
         None
     }
-}
-
-/// The change of a view that a fact makes, once it is stored.
-pub(crate) fn change_by(who: NodeId, fact: &Fact) -> Option<Change>
-    ensures { result ≡ change_made who fact.now }
-{
-    let NodeId::R(rm) = who else {
-        return None;
-    };
-    match fact.kind() {
-        FactKind::VotePrepared { tx, .. } => changes(rm, tx, View::Prepared),
-        FactKind::VoteAborted(tx) => changes(rm, tx, View::Aborted),
-        FactKind::Committed(tx) => changes(rm, tx, View::Committed),
-        FactKind::Aborted(tx) => changes(rm, tx, View::Aborted),
-        FactKind::Promise { .. } => None,
-        FactKind::PromiseAll { .. } => None,
-        FactKind::Accept { .. } => None,
-        FactKind::Ballot { .. } => None,
-    }
-}
-
-/// A view that is changed.
-fn changes(rm: u8, tx: &Tx, view: View) -> Option<Change>
-    ensures { result ≡ Some (record { rm = rm; tx = tx.now; view = view }) }
-{
-    Some(Change { rm, tx: *tx, view })
 }

@@ -3,6 +3,7 @@
 ghost use Rattle.std.specs.Prelude.{◌≡◌, ℕ, IfOk, IfErr};
 ghost use Rattle.xid.specs.declared.refusals.Refusal.TheVariants.{NoMemory, NoSuch};
 ghost use Rattle.protocol.specs.declared.answers.Answer.TheVariants.{Refused};
+ghost use Rattle.protocol.specs.declared.requests.Request.TheVariants as requests;
 ghost use Rattle.protocol.specs.Effects.{Config, view_standing};
 ghost use Rattle.protocol.specs.Nodes.{on_request, accepts_request as is_accepted};
 ghost use Rattle.resource_manager.specs.Managers.{IsCall};
@@ -15,7 +16,7 @@ use leader::Leader;
 use protocol::{Action, Answer, NodeId, Request, Standing, View};
 use resource_manager::ResourceManager;
 use stable_record::Fact;
-use xid::{Refusal, Xid};
+use xid::{Refusal, Tx, Xid};
 
 /// Whether a kind of node takes a request: an acceptor none, a leader those on transactions, a resource manager the client calls too.
 pub(crate) fn accepts_request(who: NodeId, request: &Request) -> bool
@@ -48,27 +49,51 @@ pub(crate) fn at_leader(
     ensures err { IfErr result (λ e. e ≡ NoMemory) }
 {
     match request {
-        Request::Commit { tx } => match leader.commit(tx) {
-            Ok(decision) => {
-                out.put_led(decision.answer, decision.sends);
-                Ok(decision.fact)
-            }
-            Err(refusal) => Err(refusal),
-        },
-        Request::Status { tx } => {
-            let decision = leader.status(tx);
-            out.put_led(decision.answer, decision.sends);
-            Ok(decision.fact)
-        }
-        Request::Timeout { tx } => {
-            let decision = leader.timeout(tx);
-            out.put_led(decision.answer, decision.sends);
-            Ok(decision.fact)
-        }
+        Request::Commit { tx } => commit(leader, tx.get(), out),
+        Request::Status { tx } => Ok(tell_status(leader, tx.get(), out)),
+        Request::Timeout { tx } => Ok(time_out(leader, tx.get(), out)),
         Request::Call { .. } => Ok(not_taken(out)),
         Request::Recover => Ok(not_taken(out)),
         Request::View { .. } => Ok(not_taken(out)),
     }
+}
+
+/// What a leader does on a commit.
+#[inline(never)]
+fn commit(leader: &mut Leader, tx: &Tx, out: &mut Output) -> Result<Option<Fact>, Refusal>
+    ensures ok { IfOk result (λ fact. Decides (roles.Leader leader.old) (roles.Leader leader.new) (decided fact out.new)
+        (λ config who facts memory. on_request config who facts memory (requests.Commit tx.now))) }
+    ensures err { IfErr result (λ e. e ≡ NoMemory) }
+{
+    match leader.commit(tx) {
+        Ok(decision) => {
+            out.put_led(decision.answer, decision.sends);
+            Ok(decision.fact)
+        }
+        Err(refusal) => Err(refusal),
+    }
+}
+
+/// What a leader does where its status is asked for.
+#[inline(never)]
+fn tell_status(leader: &Leader, tx: &Tx, out: &mut Output) -> Option<Fact>
+    ensures { Decides (roles.Leader leader.now) (roles.Leader leader.now) (decided result out.new)
+        (λ config who facts memory. on_request config who facts memory (requests.Status tx.now)) }
+{
+    let decision = leader.status(tx);
+    out.put_led(decision.answer, decision.sends);
+    decision.fact
+}
+
+/// What a leader does at a timeout.
+#[inline(never)]
+fn time_out(leader: &mut Leader, tx: &Tx, out: &mut Output) -> Option<Fact>
+    ensures { Decides (roles.Leader leader.old) (roles.Leader leader.new) (decided result out.new)
+        (λ config who facts memory. on_request config who facts memory (requests.Timeout tx.now)) }
+{
+    let decision = leader.timeout(tx);
+    out.put_led(decision.answer, decision.sends);
+    decision.fact
 }
 
 /// What a resource manager does on a request.
@@ -90,14 +115,32 @@ pub(crate) fn at_manager(
             Ok(answer) => Ok(out.take_answer(answer)),
             Err(refusal) => Err(refusal),
         },
-        Request::View { tx } => match manager.view(tx) {
-            Ok(view) => Ok(out.take_answer(Answer::Stands(standing_of(view)))),
-            Err(refusal) => Ok(out.take_answer(Answer::Refused(refusal))),
-        },
-        Request::Timeout { tx } => Ok(out.take_reminder(manager.timeout(tx))),
+        Request::View { tx } => Ok(show(manager, tx.get(), out)),
+        Request::Timeout { tx } => Ok(remind(manager, tx.get(), out)),
         Request::Commit { .. } => Ok(not_taken(out)),
         Request::Status { .. } => Ok(not_taken(out)),
     }
+}
+
+/// What a resource manager does where its view is asked for.
+#[inline(never)]
+fn show(manager: &ResourceManager, tx: &Tx, out: &mut Output) -> Option<Fact>
+    ensures { Decides (roles.Manager manager.now) (roles.Manager manager.now) (decided result out.new)
+        (λ config who facts memory. on_request config who facts memory (requests.View tx.now)) }
+{
+    match manager.view(tx) {
+        Ok(view) => out.take_answer(Answer::Stands(standing_of(view))),
+        Err(refusal) => out.take_answer(Answer::Refused(refusal)),
+    }
+}
+
+/// What a resource manager does at a timeout.
+#[inline(never)]
+fn remind(manager: &ResourceManager, tx: &Tx, out: &mut Output) -> Option<Fact>
+    ensures { Decides (roles.Manager manager.now) (roles.Manager manager.now) (decided result out.new)
+        (λ config who facts memory. on_request config who facts memory (requests.Timeout tx.now)) }
+{
+    out.take_reminder(manager.timeout(tx))
 }
 
 /// A client call.

@@ -40,19 +40,9 @@ impl Role {
         ensures err { IfErr result (λ e. e ≡ NoMemory) }
     {
         match self {
-            Role::Acceptor(acceptor) => {
-                let decision = acceptor.on_message(message);
-                out.put(decision.answer, decision.sends);
-                Ok(decision.fact)
-            }
+            Role::Acceptor(acceptor) => Ok(out.sends.accept(acceptor, message, &mut out.reply)),
             Role::Leader(leader) => out.sends.lead(leader, message, &mut out.reply),
-            Role::Manager(manager) => match manager.on_message(message) {
-                Ok(decision) => {
-                    out.put(decision.answer, decision.sends);
-                    Ok(decision.fact)
-                }
-                Err(refusal) => Err(refusal),
-            },
+            Role::Manager(manager) => out.sends.manage(manager, message, &mut out.reply),
         }
     }
 
@@ -87,13 +77,13 @@ impl Role {
 
     /// Plays a fact that it decided and for which it is ready, once it is stored; a leader begins its ballot. It takes no memory, and is
     /// refused for no such fact.
-    pub fn take(&mut self, fact: Fact) -> Result<(), Refusal>
-        ensures { Takes self.old self.new fact result }
+    pub fn take(&mut self, fact: &Fact) -> Result<(), Refusal>
+        ensures { Takes self.old self.new fact.now result }
     {
         match self {
-            Role::Acceptor(acceptor) => acceptor.play(fact),
+            Role::Acceptor(acceptor) => acceptor.play_by(fact),
             Role::Leader(leader) => begin_stored(leader, fact),
-            Role::Manager(manager) => manager.play(fact),
+            Role::Manager(manager) => manager.play_by(fact),
         }
     }
 
@@ -111,17 +101,15 @@ impl Role {
 }
 
 /// Plays a ballot that is stored, and makes it current.
-fn begin_stored(leader: &mut Leader, fact: Fact) -> Result<(), Refusal>
-    ensures { Takes (roles.Leader leader.old) (roles.Leader leader.new) fact result }
+fn begin_stored(leader: &mut Leader, fact: &Fact) -> Result<(), Refusal>
+    ensures { Takes (roles.Leader leader.old) (roles.Leader leader.new) fact.now result }
 {
     let FactKind::Ballot { tx, ballot } = fact.kind() else {
         return Err(Refusal::Damaged);
     };
-    let tx = *tx;
-    let ballot = *ballot;
-    match leader.play(fact) {
+    match leader.play_by(fact) {
         Ok(()) => {
-            leader.begin(&tx, ballot);
+            leader.begin(tx, *ballot);
             Ok(())
         }
         Err(refusal) => Err(refusal),

@@ -1,11 +1,20 @@
-ghost use Rattle.std.specs.Prelude.{◌≡◌, ℕ, ◌<◌, [], ◌++◌, length, slice_index_or};
+ghost use Rattle.std.specs.Prelude.{◌≡◌, ℕ, ◌<◌, [], ◌++◌, length, slice_index_or, IfOk, IfErr};
+ghost use Rattle.xid.specs.Transactions.{xid_at};
+ghost use Rattle.xid.specs.declared.refusals.Refusal.TheVariants.{NoMemory};
+ghost use Rattle.wire.specs.Messages.{message_tx};
+ghost use Rattle.protocol.specs.Acceptors.{on_acceptor_message};
 ghost use Rattle.protocol.specs.Effects.{Config};
 ghost use Rattle.protocol.specs.Leaders.{on_leader_message};
+ghost use Rattle.protocol.specs.Managers.{on_manager_message};
+ghost use Rattle.acceptor.specs.Acceptors.{Decides as AcceptorDecides};
 ghost use Rattle.leader.specs.Leaders.{FollowsOrRefuses};
+ghost use Rattle.resource_manager.specs.Managers.{Decides as ManagerDecides};
 ghost use Rattle.node_core.specs.Sends.{led};
 
+use acceptor::Acceptor;
 use leader::{Leader, LeaderDecision, LeaderSends};
-use protocol::{Answer, Outgoing, Sends};
+use protocol::{Answer, Decision, Outgoing, Sends};
+use resource_manager::ResourceManager;
 use stable_record::Fact;
 use std::marker::Model;
 use std::mem;
@@ -16,12 +25,12 @@ use xid::Refusal;
 /// for those of each kind of node, so that what is sent at one input can take the place of what was sent at another.
 #[derive(Debug, Drop)]
 pub struct NodeSends {
-    // the message of an acceptor or a resource manager, if there is one
-    first: Sends,
+    // what an acceptor or a resource manager decided, of which the message alone is sent
+    decided: Decision,
     // what a resource manager asks when nothing was heard for too long
     question: Sends,
     // what a leader decided, of which the messages alone are sent
-    decided: LeaderDecision,
+    led: LeaderDecision,
 }
 
 impl Model for NodeSends {
@@ -30,19 +39,9 @@ impl Model for NodeSends {
 
     ghost Value = { List Outgoing };
 
-    ghost view = { λ s. s.first ++ s.question ++ s.decided.sends };
+    ghost view = { λ s. s.decided.sends ++ s.question ++ s.led.sends };
 
-    ghost invariant = { λ s. 0 < length s.decided.sends → length s.first + length s.question ≡ 0 };
-}
-
-/// No message any more.
-fn forget(sends: &mut Sends)
-    ensures { sends.new ≡ [] }
-{
-    let [_, ..] = sends.as_slice() else {
-        return;
-    };
-    *sends = Sends::none();
+    ghost invariant = { λ s. 0 < length s.led.sends → length s.decided.sends + length s.question ≡ 0 };
 }
 
 /// No message of a leader any more.
@@ -72,9 +71,9 @@ impl NodeSends {
         ensures { result ≡ [] }
     {
         NodeSends {
-            first: Sends::none(),
+            decided: Decision::nothing(),
             question: Sends::none(),
-            decided: LeaderDecision::nothing(),
+            led: LeaderDecision::nothing(),
         }
     }
 
@@ -82,9 +81,51 @@ impl NodeSends {
     pub(crate) fn clear(&mut self)
         ensures { self.new ≡ [] }
     {
-        forget(&mut self.first);
-        forget(&mut self.question);
-        forget_led(&mut self.decided.sends);
+        self.decided.sends.clear();
+        self.question.clear();
+        forget_led(&mut self.led.sends);
+    }
+
+    /// What an acceptor sends on a message, in place of what was sent before; beside it the answer is left, and the fact given that is to
+    /// be stored.
+    pub(crate) fn accept(
+        &mut self,
+        acceptor: &Acceptor,
+        message: &Message,
+        reply: &mut Answer,
+    ) -> Option<Fact>
+        ensures { AcceptorDecides acceptor.now (record { answer = reply.new; fact = result; sends = self.new })
+            (λ config a slots. on_acceptor_message config a slots message.now) }
+    {
+        self.question.clear();
+        forget_led(&mut self.led.sends);
+        acceptor.decide(message, &mut self.decided);
+        *reply = mem::replace(&mut self.decided.answer, Answer::Done);
+        take(&mut self.decided.fact)
+    }
+
+    /// What a resource manager sends on a message, in place of what was sent before; beside it the answer is left, and the fact given that
+    /// is to be stored. Refused: `NoMemory`.
+    pub(crate) fn manage(
+        &mut self,
+        manager: &ResourceManager,
+        message: &Message,
+        reply: &mut Answer,
+    ) -> Result<Option<Fact>, Refusal>
+        ensures ok { IfOk result (λ fact. ManagerDecides manager.now (record { answer = reply.new; fact = fact; sends = self.new })
+            (λ config number stored branches. on_manager_message number stored branches
+            (xid_at (message_tx message.now) number) message.now)) }
+        ensures err { IfErr result (λ e. e ≡ NoMemory) }
+    {
+        self.question.clear();
+        forget_led(&mut self.led.sends);
+        match manager.decide(message, &mut self.decided) {
+            Ok(()) => {
+                *reply = mem::replace(&mut self.decided.answer, Answer::Done);
+                Ok(take(&mut self.decided.fact))
+            }
+            Err(refusal) => Err(refusal),
+        }
     }
 
     /// What a leader sends on a message, in place of what was sent before; beside it the answer is left, and the fact given that is to be
@@ -98,53 +139,44 @@ impl NodeSends {
         ensures { (config : Config) (number : ℕ) → FollowsOrRefuses config number leader.old leader.new (led reply.new self.new result)
             (λ stored memory. on_leader_message config stored memory message.now) }
     {
-        forget(&mut self.first);
-        forget(&mut self.question);
-        match leader.decide(message, &mut self.decided) {
+        self.decided.sends.clear();
+        self.question.clear();
+        match leader.decide(message, &mut self.led) {
             Ok(()) => {
-                *reply = mem::replace(&mut self.decided.answer, Answer::Done);
-                Ok(take(&mut self.decided.fact))
+                *reply = mem::replace(&mut self.led.answer, Answer::Done);
+                Ok(take(&mut self.led.fact))
             }
             Err(refusal) => Err(refusal),
         }
-    }
-
-    /// What an acceptor or a resource manager sends, in place of what was sent before.
-    pub(crate) fn put(&mut self, sends: Sends)
-        ensures { self.new ≡ sends }
-    {
-        self.first = sends;
-        forget(&mut self.question);
-        forget_led(&mut self.decided.sends);
     }
 
     /// What a resource manager sends when nothing was heard for too long, in place of what was sent before.
     pub(crate) fn remind(&mut self, vote: Sends, question: Sends)
         ensures { self.new ≡ vote ++ question }
     {
-        self.first = vote;
+        self.decided.sends = vote;
         self.question = question;
-        forget_led(&mut self.decided.sends);
+        forget_led(&mut self.led.sends);
     }
 
     /// What a leader sends, in place of what was sent before.
     pub(crate) fn put_led(&mut self, sends: LeaderSends)
         ensures { self.new ≡ sends }
     {
-        forget(&mut self.first);
-        forget(&mut self.question);
-        self.decided.sends = sends;
+        self.decided.sends.clear();
+        self.question.clear();
+        self.led.sends = sends;
     }
 
     /// How many there are.
     pub fn count(&self) -> usize
         ensures { result ≡ length self.now }
     {
-        let led = self.decided.sends.count();
+        let led = self.led.sends.count();
         if led > 0 {
             return led;
         }
-        self.first.as_slice().len() + self.question.as_slice().len()
+        self.decided.sends.as_slice().len() + self.question.as_slice().len()
     }
 
     /// The message of a place.
@@ -152,7 +184,7 @@ impl NodeSends {
         requires { i < length self.now }
         ensures { result ≡ slice_index_or self.now i result }
     {
-        let first = self.first.as_slice();
+        let first = self.decided.sends.as_slice();
         if i < first.len() {
             return first[i];
         }
@@ -160,6 +192,6 @@ impl NodeSends {
         if i - first.len() < question.len() {
             return question[i - first.len()];
         }
-        self.decided.sends.at(i - first.len() - question.len())
+        self.led.sends.at(i - first.len() - question.len())
     }
 }

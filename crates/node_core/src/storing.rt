@@ -8,7 +8,7 @@ ghost use Rattle.protocol.specs.Nodes.{Memory};
 ghost use Rattle.node_core.specs.Roles.{IsDecided, decided};
 ghost use Rattle.node_core.specs.Storing.{HasStored, Carries, carried};
 
-use crate::output::{Output, change_by};
+use crate::output::Output;
 use crate::role::Role;
 use protocol::NodeId;
 use stable_record::{Fact, Record, RecordError};
@@ -54,35 +54,34 @@ pub(crate) fn carry_out<R: Record>(
     device: &mut R,
     who: NodeId,
     role: &mut Role,
-    fact: Option<Fact>,
+    fact: &Option<Fact>,
     out: &mut Output,
 ) -> bool
     ensures { (config : Config) (facts : List FactKind) (memory : Memory) (e : Effect Memory)
-        → IsDecided config who facts memory role.old (decided fact out.old) e
+        → IsDecided config who facts memory role.old (decided fact.now out.old) e
         → Carries config who facts memory e (R.held device.old) (R.held device.new) role.new (carried result out.new) }
 {
     let Some(fact) = fact else {
         out.keep_view();
         return true;
     };
-    match role.ready(&fact) {
+    match role.ready(fact) {
         Ok(()) => {}
         Err(refusal) => {
             out.refuse(refusal);
             return false;
         }
     }
-    let now = change_by(who, &fact);
-    match store(alloc, device, &fact) {
+    match store(alloc, device, fact) {
         Ok(()) => {}
         Err(stopped) => {
-            out.stop(stopped, now);
+            out.stop(stopped, who, fact);
             return false;
         }
     }
     match role.take(fact) {
         Ok(()) => {
-            out.now = now;
+            out.put_change_by(who, fact);
             true
         }
         Err(refusal) => {

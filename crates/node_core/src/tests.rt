@@ -1,5 +1,5 @@
 use crate::{Config, Input, Node};
-use protocol::{Action, Answer, NodeId, Request, Row, View};
+use protocol::{Action, Answer, Boxed, NodeId, Request, Row, View};
 use stable_record::MemRecord;
 use std::alloc::Global;
 use std::process::Abort;
@@ -165,7 +165,7 @@ fn tears(rt: &impl Abort, alloc: Global, node: &mut MemNode, kept: usize) -> Res
 #[test]
 fn torn_vote(rt: HostRuntime) -> Result<(), Fail> {
     let alloc = rt.alloc();
-    for kept in [0, 4, 23, 24, 25] {
+    for kept in 0..=VOTE.len() + 1 {
         let mut node = opened(alloc, MANAGER, &[])?;
         tears(&rt, alloc, &mut node, kept)?;
     }
@@ -190,8 +190,9 @@ fn dropped_writes(rt: HostRuntime) -> Result<(), Fail> {
 }
 
 /// The ballot that a leader begins when nothing was heard for too long.
-fn begins(rt: &impl Abort, node: &mut MemNode) -> Result<u32, Refusal> {
-    let output = node.step(Input::Asked(&Request::Timeout { tx: u()? }));
+fn begins(rt: &impl Abort, alloc: Global, node: &mut MemNode) -> Result<u32, Refusal> {
+    let tx = Boxed::new(alloc, u()?)?;
+    let output = node.step(Input::Asked(&Request::Timeout { tx }));
     assert!(rt; output.sends.count() > 0);
     if output.sends.count() == 0 {
         return Ok(0);
@@ -202,20 +203,21 @@ fn begins(rt: &impl Abort, node: &mut MemNode) -> Result<u32, Refusal> {
     }
 }
 
-fn begins_again(rt: &impl Abort, node: &mut MemNode) -> Result<(), Refusal> {
-    assert!(rt; begins(rt, node)? == 2);
+fn begins_again(rt: &impl Abort, alloc: Global, node: &mut MemNode) -> Result<(), Refusal> {
+    assert!(rt; begins(rt, alloc, node)? == 2);
     node.restart()?;
-    assert!(rt; begins(rt, node)? == 4);
+    assert!(rt; begins(rt, alloc, node)? == 4);
     node.compact()?;
     node.restart()?;
-    assert!(rt; begins(rt, node)? == 6);
+    assert!(rt; begins(rt, alloc, node)? == 6);
     Ok(())
 }
 
 #[test]
 fn ballots_after_restart(rt: HostRuntime) -> Result<(), Fail> {
-    let mut node = opened(rt.alloc(), NodeId::L(1), &[])?;
-    Ok(begins_again(&rt, &mut node)?)
+    let alloc = rt.alloc();
+    let mut node = opened(alloc, NodeId::L(1), &[])?;
+    Ok(begins_again(&rt, alloc, &mut node)?)
 }
 
 /// After each event the record is made shorter, and all else is as it would be.

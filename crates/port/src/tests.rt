@@ -1,6 +1,6 @@
 use super::*;
 use node_core::{Config, Input, Node};
-use protocol::{Answer, NodeId, Request};
+use protocol::{Answer, Boxed, NodeId, Request};
 use stable_record::MemRecord;
 use std::alloc::Global;
 use std::process::Abort;
@@ -50,10 +50,16 @@ fn has_sent(rt: &impl Abort, port: &FakePort, bytes: &[u8], receivers: &[NodeId]
     }
 }
 
+/// The leader's clock: nothing was heard of the transaction for too long.
+fn timeout(alloc: Global) -> Result<Request, Refusal> {
+    Ok(Request::Timeout {
+        tx: Boxed::new(alloc, tx()?)?,
+    })
+}
+
 /// A timeout at the leader is answered ok, whatever becomes of its sends.
-fn times_out<R: Abort>(rt: &R, node: &mut Node<MemRecord>, port: &mut FakePort, tx: Tx) {
-    let request = Request::Timeout { tx };
-    let served = call(node, port, Input::Asked(&request));
+fn times_out<R: Abort>(rt: &R, node: &mut Node<MemRecord>, port: &mut FakePort, request: &Request) {
+    let served = call(node, port, Input::Asked(request));
     assert!(rt; matches!(&served.reply, Answer::Done));
     assert!(rt; served.now.is_none());
 }
@@ -61,10 +67,10 @@ fn times_out<R: Abort>(rt: &R, node: &mut Node<MemRecord>, port: &mut FakePort, 
 #[test]
 fn each_receiver_once_and_in_order(rt: HostRuntime) -> Result<(), Fail> {
     let alloc = rt.alloc();
-    let tx = tx()?;
+    let request = timeout(alloc)?;
     let mut port = FakePort::new(alloc, 0);
     let mut node = opened(alloc, NodeId::L(0))?;
-    times_out(&rt, &mut node, &mut port, tx);
+    times_out(&rt, &mut node, &mut port, &request);
     has_sent(
         &rt,
         &port,
@@ -78,10 +84,10 @@ fn each_receiver_once_and_in_order(rt: HostRuntime) -> Result<(), Fail> {
 #[test]
 fn after_a_send_that_fails_the_next_is_tried(rt: HostRuntime) -> Result<(), Fail> {
     let alloc = rt.alloc();
-    let tx = tx()?;
+    let request = timeout(alloc)?;
     let mut port = FakePort::new(alloc, 2);
     let mut node = opened(alloc, NodeId::L(0))?;
-    times_out(&rt, &mut node, &mut port, tx);
+    times_out(&rt, &mut node, &mut port, &request);
     has_sent(&rt, &port, &P1A, &[NodeId::A(0), NodeId::A(2)]);
     assert_eq!(&rt; port.faults(), 1);
     Ok(())

@@ -65,6 +65,16 @@ impl Sends {
         }
     }
 
+    /// No message any more.
+    pub fn clear(&mut self)
+        ensures { self.new ≡ [] }
+    {
+        let Some(_) = &self.only else {
+            return;
+        };
+        self.only = None;
+    }
+
     /// The messages.
     pub fn as_slice(&self) -> &[Outgoing]
         ensures { result.now ≡ self.now }
@@ -97,5 +107,17 @@ impl Decision {
             fact: None,
             sends: Sends::none(),
         }
+    }
+
+    /// Ok, nothing to store, and nothing to send, in place of what was decided before.
+    pub fn clear(&mut self)
+        ensures { self.new ≡ record { answer = Done; fact = None; sends = [] } }
+    {
+        self.answer = Answer::Done;
+        self.sends.clear();
+        let Some(_) = &self.fact else {
+            return;
+        };
+        self.fact = None;
     }
 }

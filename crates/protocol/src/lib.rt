@@ -4,6 +4,7 @@
 #![tactic(auto)]
 
 mod answers;
+mod boxed;
 mod decisions;
 mod events;
 mod nodes;
@@ -12,6 +13,7 @@ mod rows;
 mod states;
 
 pub use answers::Answer;
+pub use boxed::Boxed;
 pub use decisions::{Address, Decision, Outgoing, Sends};
 pub use events::{Change, Event, Sent, Step};
 pub use nodes::NodeId;

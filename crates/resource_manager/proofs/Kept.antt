@@ -4,7 +4,7 @@ use Rattle.std.proofs.Common.{subst, inl, inr, is_none, append-nil, append_assoc
 use Rattle.std.specs.Prelude.{filter, filter_map, fold}
 use Rattle.std.specs.List.{cons_option, list_any}
 use Rattle.std.specs.Option.{option_map_or}
-use Rattle.std.proofs.lemmas.Bool.{and_from, and_parts, both_ways, false_from_ne_true, not-true, not_from_false, or_left, or_parts}
+use Rattle.std.proofs.lemmas.Bool.{and_parts, both_ways, false_from_ne_true, not-true, or_left}
 use Rattle.std.proofs.lemmas.List.Elements.{filter-append, filter_map-append}
 use Rattle.std.proofs.lemmas.List.Folds.{list_any-append}
 use Rattle.xid.specs.Names.{XidParts, xid_eq}
@@ -24,7 +24,7 @@ use Rattle.protocol.specs.Facts.{Bound, HasVote, bound_branches, branch_bound_by
 use Rattle.protocol.specs.Managers.{stored_votes, plays_at_manager, is_new, is_name_spent, is_some_held, view_by}
 use Rattle.protocol.specs.Nodes.{all_play, plays}
 use Rattle.protocol.specs.Tables.{commit_of, keys_voted, put_row, table, with_writes}
-use Rattle.protocol.proofs.Lists.{any_found, found_any, none_found, IsIn-before, IsIn-after, IsIn-last, IsIn-push, filter_kept, filter_keeps}
+use Rattle.protocol.proofs.Lists.{any_found, found_any, IsIn-before, IsIn-after, IsIn-last, IsIn-push, filter_kept, filter_keeps}
 use Rattle.protocol.proofs.Lists.{filter_map_given, filter_map_gives}
 use Rattle.protocol.proofs.Manager.Apart.{bound_is, bound_stored, stored_bound}
 use Rattle.protocol.proofs.Manager.Keys.{names_name}

@@ -1,5 +1,5 @@
 -- Facts that lead to the same say the same, whatever is played after them.
-use Rattle.std.proofs.Common.{◌≡◌, ◌∙◌, ℕ, Bool, true, false, not, ◌||◌, ◌&&◌, List, [], ◌∷◌, ◌++◌, Option, Some, None, refl, sym, ap, subst}
+use Rattle.std.proofs.Common.{◌≡◌, ◌∙◌, ℕ, Bool, true, false, not, ◌&&◌, List, [], ◌∷◌, ◌++◌, refl, sym, ap, subst}
 use Rattle.std.proofs.Common.{is_none, append-nil, append_assoc, cond, inl, inr}
 use Rattle.std.specs.Prelude.{filter, filter_map, fold}
 use Rattle.std.specs.List.{list_any}
@@ -11,23 +11,21 @@ use Rattle.xid.specs.Transactions.{TxParts, is_participant, xid_at}
 use Rattle.xid.specs.declared.transaction.Vote.{Vote}
 use Rattle.ballot.specs.Greatest.{IsIn}
 use Rattle.stable_record.specs.declared.fact.FactKind.{FactKind as Fact}
-use Rattle.stable_record.specs.declared.fact.Touched.{Touched}
 use Rattle.protocol.specs.declared.nodes.NodeId.TheVariants.{R}
 use Rattle.protocol.specs.declared.rows.Row.{Row}
 use Rattle.protocol.specs.Effects.{Config}
-use Rattle.protocol.specs.Facts.{Bound, HasVote, bound_branches, branch_bound_by, is_open_view, is_prepared_view, is_spent, view}
+use Rattle.protocol.specs.Facts.{Bound, bound_branches, branch_bound_by, is_open_view, is_prepared_view, is_spent, view}
 use Rattle.protocol.specs.Holds.{AreApart}
 use Rattle.protocol.specs.Managers.{Branch, all_branches, stored_votes, plays_at_manager, is_some_held}
 use Rattle.protocol.specs.Nodes.{all_play, first_rows, plays}
 use Rattle.protocol.specs.Tables.{commit_of, keys_voted, table, with_writes}
-use Rattle.protocol.proofs.Lists.{filter_kept, filter_map_given}
+use Rattle.protocol.proofs.Lists.{filter_map_given}
 use Rattle.protocol.proofs.Manager.Apart.{bound_is, bound_stored, stored_bound}
 use Rattle.protocol.proofs.Manager.Keys.{names_name}
 use Rattle.protocol.proofs.Manager.Played.{all_play_then, voted_named}
 use Rattle.protocol.proofs.Manager.Views.{prepared_shows}
 use Rattle.branch_table.specs.Tables.{branch_named}
 use Rattle.resource_manager.specs.Courses.{Stored, stored_in, view_among, vote_among, is_ended_among, begun_in}
-use Rattle.resource_manager.specs.Managers.{ManagerParts, StandsFor}
 use Rattle.resource_manager.specs.Compacted.{SaysSame, beginning_with}
 use Rattle.resource_manager.proofs.Begun.{begun_append, seen_after}
 use Rattle.resource_manager.proofs.Kept.{commits_voted, name_spent_same, prepared_earlier, same_filter, spent_begun}

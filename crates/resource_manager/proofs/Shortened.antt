@@ -1,7 +1,7 @@
 -- What a resource manager writes in place of its record says what the record says.
-use Rattle.std.proofs.Common.{◌≡◌, ◌∙◌, ℕ, suc, zero, Bool, true, ◌&&◌, List, [], ◌∷◌, ◌++◌, Option, Some, None, refl, sym, ap, subst, map}
-use Rattle.std.specs.Prelude.{filter_map, fold, replicate, slice_get, unwrap_or, Result, Ok, Err, IfOk}
-use Rattle.std.specs.List.{cons_option, flat_map, list_all}
+use Rattle.std.proofs.Common.{◌≡◌, ◌∙◌, ℕ, suc, zero, true, ◌&&◌, List, [], ◌∷◌, ◌++◌, Option, Some, None, refl, sym, ap, subst, map}
+use Rattle.std.specs.Prelude.{filter_map, replicate, slice_get, unwrap_or, Result, Ok, Err, IfOk}
+use Rattle.std.specs.List.{cons_option, list_all}
 use Rattle.std.specs.Option.{option_map_or}
 use Rattle.xid.specs.Names.{XidParts}
 use Rattle.xid.specs.Transactions.{TxParts, xid_at}
@@ -17,18 +17,17 @@ use Rattle.protocol.specs.Facts.{Bound, is_prepared_view}
 use Rattle.protocol.specs.Managers.{Branch, plays_at_manager, stored_votes}
 use Rattle.ballot.specs.Greatest.{IsIn}
 use Rattle.protocol.specs.Nodes.{all_play, first_rows}
-use Rattle.protocol.specs.Tables.{keys_voted, put_row, table}
+use Rattle.protocol.specs.Tables.{keys_voted, table}
 use Rattle.protocol.proofs.Manager.Apart.{stored_bound}
 use Rattle.protocol.proofs.Manager.Keys.{names_name}
 use Rattle.protocol.proofs.Manager.Played.{voted_named}
 use Rattle.protocol.proofs.Manager.Prepared.{names_held_once}
 use Rattle.branch_table.specs.Outcomes.{keys_named, prepared_branch}
-use Rattle.branch_table.specs.Tables.{branch_named}
 use Rattle.resource_manager.specs.declared.course.Course.{Course}
-use Rattle.resource_manager.specs.Courses.{stored_in, stored_by, view_among, course_in, begun_in}
+use Rattle.resource_manager.specs.Courses.{stored_in, stored_by, course_in, begun_in}
 use Rattle.resource_manager.specs.Managers.{ManagerParts, StandsFor, branches_in}
-use Rattle.resource_manager.specs.Compacted.{IsShortened, beginning_with, entries_at, entry_at, entry_of, facts_of, is_about_tx}
-use Rattle.resource_manager.specs.Compacted.{keys_here, row_entry, shorter_entries}
+use Rattle.resource_manager.specs.Compacted.{IsShortened, beginning_with, entries_at, entry_at, entry_of, is_about_tx}
+use Rattle.resource_manager.specs.Compacted.{keys_here, row_entry}
 use Rattle.resource_manager.proofs.Ascending.{ascending, put_again, table_ascends}
 use Rattle.resource_manager.proofs.Kept.{all_kept, kept, kept_branches, kept_order, kept_stored}
 use Rattle.resource_manager.proofs.Named.{named_at}

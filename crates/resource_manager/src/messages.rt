@@ -1,10 +1,12 @@
 //! What a resource manager decides on each message of a transaction, and at a timeout.
 
-ghost use Rattle.std.specs.Prelude.{◌≡◌, ℕ, IsTrue, IfOk, IfErr, List, [], ◌++◌, Some, None, false};
+ghost use Rattle.std.specs.Prelude.{◌≡◌, ℕ, IsTrue, IfOk, IfErr, OnOk, List, [], ◌++◌, Some, None, false};
 ghost use Rattle.xid.specs.Transactions.{IsTx, is_participant, participants, xid_at};
 ghost use Rattle.xid.specs.declared.refusals.Refusal.TheVariants.{NoMemory};
+ghost use Rattle.xid.specs.declared.transaction.Vote.TheVariants.{Aborted, Prepared};
 ghost use Rattle.stable_record.specs.declared.fact.Touched.{Touched};
 ghost use Rattle.stable_record.specs.declared.fact.FactKind.{FactKind as Fact};
+ghost use Rattle.stable_record.specs.declared.fact.FactKind.TheVariants.{VoteAborted, VotePrepared};
 ghost use Rattle.stable_record.specs.Facts.{AreKeys};
 ghost use Rattle.wire.specs.Messages.{message_tx};
 ghost use Rattle.wire.specs.declared.message.Kind.TheVariants as kinds;
@@ -20,9 +22,9 @@ ghost use Rattle.resource_manager.specs.Messages.{are_below, asked_by, IsReminde
 use crate::course::Course;
 use crate::manager::ResourceManager;
 use protocol::{Address, Answer, Decision, Outgoing, Sends};
-use stable_record::{Fact, FactKind};
+use stable_record::{Fact, FactKind, Touched};
 use wire::{Kind, Message};
-use xid::{ManagerNumber, Refusal, Tx, Vote, Xid};
+use xid::{ManagerNumber, Refusal, Sequence, Tx, Vote, Xid};
 
 /// What a resource manager sends when nothing was heard of a transaction for too long.
 #[derive(Debug, Drop)]
@@ -57,16 +59,10 @@ impl ResourceManager {
             (λ config number stored branches. on_manager_message number stored branches (xid_at tx.now number) (kinds.Prepare tx.now))) }
         ensures err { IfErr result (λ e. e ≡ NoMemory) }
     {
-        let Some(xid) = self.name_here(tx) else {
-            return Ok(Decision::nothing());
-        };
-        let course = self.courses.of(tx);
-        if course.is_working() {
-            return self.first_vote(tx, &xid);
-        }
-        match course.vote() {
-            Some(vote) => Ok(tells(self.number(), tx, vote)),
-            None => Ok(Decision::nothing()),
+        let mut decision = Decision::nothing();
+        match self.decide_prepare(tx, &mut decision) {
+            Ok(()) => Ok(decision),
+            Err(refusal) => Err(refusal),
         }
     }
 
@@ -75,13 +71,9 @@ impl ResourceManager {
         ensures { Decides self.now result
             (λ config number stored branches. on_manager_message number stored branches (xid_at tx.now number) (kinds.Commit tx.now)) }
     {
-        let Some(_xid) = self.name_here(tx) else {
-            return Decision::nothing();
-        };
-        if !self.courses.of(tx).is_prepared() {
-            return Decision::nothing();
-        }
-        stores(Fact::new(FactKind::Committed(*tx)))
+        let mut decision = Decision::nothing();
+        self.decide_commit(tx, &mut decision);
+        decision
     }
 
     /// Abort: where the resource manager is working or prepared, it is to be stored. Else nothing. It takes no memory.
@@ -89,13 +81,9 @@ impl ResourceManager {
         ensures { Decides self.now result
             (λ config number stored branches. on_manager_message number stored branches (xid_at tx.now number) (kinds.Abort tx.now)) }
     {
-        let Some(_xid) = self.name_here(tx) else {
-            return Decision::nothing();
-        };
-        if !self.courses.of(tx).is_open() {
-            return Decision::nothing();
-        }
-        stores(Fact::new(FactKind::Aborted(*tx)))
+        let mut decision = Decision::nothing();
+        self.decide_abort(tx, &mut decision);
+        decision
     }
 
     /// What it does on a message: what `on_prepare`, `on_commit` and `on_abort` say, and on every other nothing. That the message names
@@ -106,12 +94,89 @@ impl ResourceManager {
             (xid_at (message_tx message.now) number) message.now)) }
         ensures err { IfErr result (λ e. e ≡ NoMemory) }
     {
-        match message.kind() {
-            Kind::Prepare(tx) => self.on_prepare(tx),
-            Kind::Commit(tx) => Ok(self.on_commit(tx)),
-            Kind::Abort(tx) => Ok(self.on_abort(tx)),
-            _ => Ok(Decision::nothing()),
+        let mut decision = Decision::nothing();
+        match self.decide(message, &mut decision) {
+            Ok(()) => Ok(decision),
+            Err(refusal) => Err(refusal),
         }
+    }
+
+    /// Decides as `on_message` does, in the place of what was decided before, so that no fact or message is copied to hand it over.
+    /// Refused: `NoMemory`, at a Prepare alone; what was decided before is lost then too.
+    pub fn decide(&self, message: &Message, decision: &mut Decision) -> Result<(), Refusal>
+        ensures ok { OnOk result (Decides self.now decision.new
+            (λ config number stored branches. on_manager_message number stored branches
+            (xid_at (message_tx message.now) number) message.now)) }
+        ensures err { IfErr result (λ e. e ≡ NoMemory) }
+    {
+        match message.kind() {
+            Kind::Prepare(tx) => self.decide_prepare(tx, decision),
+            Kind::Commit(tx) => {
+                self.decide_commit(tx, decision);
+                Ok(())
+            }
+            Kind::Abort(tx) => {
+                self.decide_abort(tx, decision);
+                Ok(())
+            }
+            _ => {
+                decision.clear();
+                Ok(())
+            }
+        }
+    }
+
+    /// Decides as `on_prepare` does.
+    #[inline(never)]
+    fn decide_prepare(&self, tx: &Tx, decision: &mut Decision) -> Result<(), Refusal>
+        ensures ok { OnOk result (Decides self.now decision.new
+            (λ config number stored branches. on_manager_message number stored branches (xid_at tx.now number) (kinds.Prepare tx.now))) }
+        ensures err { IfErr result (λ e. e ≡ NoMemory) }
+    {
+        decision.clear();
+        let Some(xid) = self.name_here(tx) else {
+            return Ok(());
+        };
+        let course = self.courses.of(tx);
+        if course.is_working() {
+            return self.vote_first(tx, &xid, decision);
+        }
+        if let Some(vote) = course.vote() {
+            tell(self.number(), tx, vote, decision);
+        }
+        Ok(())
+    }
+
+    /// Decides as `on_commit` does.
+    #[inline(never)]
+    fn decide_commit(&self, tx: &Tx, decision: &mut Decision)
+        ensures { Decides self.now decision.new
+            (λ config number stored branches. on_manager_message number stored branches (xid_at tx.now number) (kinds.Commit tx.now)) }
+    {
+        decision.clear();
+        let Some(_xid) = self.name_here(tx) else {
+            return;
+        };
+        if !self.courses.of(tx).is_prepared() {
+            return;
+        }
+        decision.fact = Some(Fact::new(FactKind::Committed(*tx)));
+    }
+
+    /// Decides as `on_abort` does.
+    #[inline(never)]
+    fn decide_abort(&self, tx: &Tx, decision: &mut Decision)
+        ensures { Decides self.now decision.new
+            (λ config number stored branches. on_manager_message number stored branches (xid_at tx.now number) (kinds.Abort tx.now)) }
+    {
+        decision.clear();
+        let Some(_xid) = self.name_here(tx) else {
+            return;
+        };
+        if !self.courses.of(tx).is_open() {
+            return;
+        }
+        decision.fact = Some(Fact::new(FactKind::Aborted(*tx)));
     }
 
     /// A timeout: a stored vote is sent again to all acceptors, and where the resource manager is prepared, all leaders are asked. The
@@ -151,35 +216,29 @@ impl ResourceManager {
         tx.branch(self.number())
     }
 
-    /// The first vote on a transaction that has this name here.
-    fn first_vote(&self, tx: &Tx, xid: &Xid) -> Result<Decision, Refusal>
+    /// Decides on the first vote on a transaction that has this name here.
+    #[inline(never)]
+    fn vote_first(&self, tx: &Tx, xid: &Xid, decision: &mut Decision) -> Result<(), Refusal>
         requires { IsTrue (is_participant tx.now self.now.number) }
-        ensures ok { IfOk result (λ decision. (branches : List Branch) → decision
+        ensures ok { OnOk result ((branches : List Branch) → decision.new
             ≡ decision_of (first_vote_of self.now.number branches tx.now xid.now (is_spent_in self.now.spent xid.now)
             (idle_keys self.now.table.branches xid.now))) }
         ensures err { IfErr result (λ e. e ≡ NoMemory) }
         ensures table { is_spent_in self.now.spent xid.now ≡ false → AreTableBranches self.now.table.branches }
     {
-        let _ = tx.count();
         if self.spent.contains(xid) {
-            return Ok(votes(
-                self.number(),
-                tx,
-                Fact::new(FactKind::VoteAborted(*tx)),
-                Vote::Aborted,
-            ));
+            vote_aborted(self.number(), tx, decision);
+            return Ok(());
         }
         match self.table.prepare(xid) {
             Ok(Some(keys)) => {
-                let fact = Fact::new(FactKind::VotePrepared { tx: *tx, keys });
-                Ok(votes(self.number(), tx, fact, Vote::Prepared))
+                vote_prepared(self.number(), tx, keys, decision);
+                Ok(())
             }
-            Ok(None) => Ok(votes(
-                self.number(),
-                tx,
-                Fact::new(FactKind::VoteAborted(*tx)),
-                Vote::Aborted,
-            )),
+            Ok(None) => {
+                vote_aborted(self.number(), tx, decision);
+                Ok(())
+            }
             Err(refusal) => Err(refusal),
         }
     }
@@ -195,17 +254,6 @@ pub(crate) fn is_inside(managers: u8, tx: &Tx) -> bool
         }
     }
     true
-}
-
-/// A fact to store, and nothing to send.
-fn stores(fact: Fact) -> Decision
-    ensures { result ≡ record { answer = Done; fact = Some fact; sends = [] } }
-{
-    Decision {
-        answer: Answer::Done,
-        fact: Some(fact),
-        sends: Sends::none(),
-    }
 }
 
 /// A vote in ballot 0 for all acceptors.
@@ -225,28 +273,47 @@ fn vote_message(number: ManagerNumber, tx: &Tx, vote: Vote) -> Sends
     })
 }
 
-/// A stored vote, sent again.
-fn tells(number: ManagerNumber, tx: &Tx, vote: Vote) -> Decision
+/// Decides to send a stored vote again.
+#[inline(never)]
+fn tell(number: ManagerNumber, tx: &Tx, vote: Vote, decision: &mut Decision)
     requires { IsTrue (is_participant tx.now number) }
-    ensures { result ≡ record { answer = Done; fact = None; sends = vote_sent number tx.now (Some vote) } }
+    ensures { decision.new ≡ record { answer = Done; fact = None; sends = vote_sent number tx.now (Some vote) } }
 {
-    Decision {
-        answer: Answer::Done,
-        fact: None,
-        sends: vote_message(number, tx, vote),
-    }
+    decision.clear();
+    decision.sends = vote_message(number, tx, vote);
 }
 
-/// A first vote, to be stored and sent.
-fn votes(number: ManagerNumber, tx: &Tx, fact: Fact, vote: Vote) -> Decision
+/// Decides to store a first vote that is aborted, and to send it.
+#[inline(never)]
+fn vote_aborted(number: ManagerNumber, tx: &Tx, decision: &mut Decision)
     requires { IsTrue (is_participant tx.now number) }
-    ensures { result ≡ record { answer = Done; fact = Some fact; sends = vote_sent number tx.now (Some vote) } }
+    ensures { decision.new ≡ record {
+      answer = Done;
+      fact = Some (VoteAborted tx.now);
+      sends = vote_sent number tx.now (Some Aborted);
+    } }
 {
-    Decision {
-        answer: Answer::Done,
-        fact: Some(fact),
-        sends: vote_message(number, tx, vote),
-    }
+    let _ = tx.count();
+    decision.answer = Answer::Done;
+    decision.fact = Some(Fact::new(FactKind::VoteAborted(*tx)));
+    decision.sends = vote_message(number, tx, Vote::Aborted);
+}
+
+/// Decides to store a first vote that is prepared, with the keys that its branch has touched, and to send it.
+#[inline(never)]
+fn vote_prepared(number: ManagerNumber, tx: &Tx, keys: Sequence<Touched>, decision: &mut Decision)
+    requires participant { IsTrue (is_participant tx.now number) }
+    requires keys { AreKeys keys }
+    ensures { decision.new ≡ record {
+      answer = Done;
+      fact = Some (VotePrepared tx.now keys);
+      sends = vote_sent number tx.now (Some Prepared);
+    } }
+{
+    let _ = tx.count();
+    decision.answer = Answer::Done;
+    decision.fact = Some(Fact::new(FactKind::VotePrepared { tx: *tx, keys }));
+    decision.sends = vote_message(number, tx, Vote::Prepared);
 }
 
 /// A vote, if there is one, in ballot 0 for all acceptors.

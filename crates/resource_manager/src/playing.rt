@@ -47,8 +47,17 @@ impl ResourceManager {
         self.play_by(&fact)
     }
 
-    /// Plays a fact, as `play` says.
-    fn play_by(&mut self, fact: &Fact) -> Result<(), Refusal>
+    /// Plays a fact as `play` does, which the caller keeps.
+    pub fn play_by(&mut self, fact: &Fact) -> Result<(), Refusal>
+        ensures plays { (config : Config) (number : ℕ) (branches : List Branch) → IsPlayable number branches fact.now
+            → IsPlayed (manager_part config number branches) self.old self.new fact.now result }
+        ensures refused { OnErr result (StandsForSame self.old self.new) }
+    {
+        self.play_kind(fact)
+    }
+
+    /// Plays a fact by its kind.
+    fn play_kind(&mut self, fact: &Fact) -> Result<(), Refusal>
         ensures { Plays self.old self.new fact.now result }
     {
         match fact.kind() {
@@ -63,8 +72,8 @@ impl ResourceManager {
         }
     }
 
-    /// Makes a place for a transaction, room for it in the order of first facts, and room for a name to spend. It answers the transaction's number. At `NoMemory`, the only
-    /// refusal, and else too, all means what it meant.
+    /// Makes a place for a transaction, room for it in the order of first facts, and room for a name to spend. It answers the
+    /// transaction's number. At `NoMemory`, the only refusal, and else too, all means what it meant.
     fn make_places(&mut self, tx: &Tx) -> Result<usize, Refusal>
         ensures ok { IfOk result (λ number. (number ≡ place_in self.new.courses.transactions tx.now) × HasPlaces self.new tx.now) }
         ensures same { MeansSame self.old self.new }

@@ -8,7 +8,7 @@ use Rattle.cluster.proofs.handing.put_out.Goals as goal
 
 pub returns-clause-sent : goal.returns-clause-sent
 returns-clause-sent c =
-    sent_into c.args.network.now c.send_all.new.network c.args.listed.items c.send_all.new.listed.items c.of.result.sent.items
+    sent_into c.args.network.now c.send_all.new.network c.args.came.now.sent.items c.send_all.new.listed.items c.take.new.self.sent.items
     (flat_map (datagrams_of (sized c.args.sizes) c.args.who) (sent_by c.args.out.now.sends)) c.requires.empty
-    (c.of.ensures.sent ∙ c.fitted.ensures)
+    c.take.ensures.sent
     c.send_all.ensures

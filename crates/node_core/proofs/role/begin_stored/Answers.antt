@@ -4,8 +4,8 @@ use Rattle.node_core.proofs.role.begin_stored.Goals as goal
 
 pub returns-in-Ok : goal.returns-in-Ok
 returns-in-Ok c =
-    leader_takes c.args.leader.now c.play.new.self c.begin.new.self c.in-Ballot.tx c.in-Ballot.ballot c.args.fact
-    (sym c.kind.ensures.value ∙ c.in-Ballot.is) c.play.result c.in-Ok.is c.play.ensures c.begin.ensures
+    leader_takes c.args.leader.now c.play_by.new.self c.begin.new.self c.in-Ballot.tx c.in-Ballot.ballot c.args.fact.now
+    (sym c.kind.ensures.value ∙ c.in-Ballot.is) c.play_by.result c.in-Ok.is c.play_by.ensures c.begin.ensures
 
 pub returns-in-Err : goal.returns-in-Err
-returns-in-Err c = leader_refused c.args.leader.now c.play.new.self c.args.fact c.play.result c.in-Err.refusal c.in-Err.is c.play.ensures
+returns-in-Err c = leader_refused c.args.leader.now c.play_by.new.self c.args.fact.now c.play_by.result c.in-Err.refusal c.in-Err.is c.play_by.ensures

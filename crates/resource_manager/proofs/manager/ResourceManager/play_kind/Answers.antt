@@ -3,7 +3,7 @@ use Rattle.stable_record.specs.declared.fact.FactKind.TheVariants as facts
 use Rattle.xid.specs.declared.refusals.Refusal.TheVariants.{Damaged}
 use Rattle.resource_manager.specs.Playing.{Plays}
 use Rattle.resource_manager.proofs.Played.{stranger}
-use Rattle.resource_manager.proofs.manager.ResourceManager.play_by.Goals as goal
+use Rattle.resource_manager.proofs.manager.ResourceManager.play_kind.Goals as goal
 
 pub returns-in-VotePrepared : goal.returns-in-VotePrepared
 returns-in-VotePrepared c =

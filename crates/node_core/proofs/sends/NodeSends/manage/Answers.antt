@@ -1,0 +1,14 @@
+use Rattle.xid.specs.Transactions.{xid_at}
+use Rattle.wire.specs.Messages.{message_tx}
+use Rattle.protocol.specs.Managers.{on_manager_message}
+use Rattle.resource_manager.specs.Managers.{Decides}
+use Rattle.node_core.proofs.Deciding.{apart_so}
+use Rattle.node_core.proofs.sends.NodeSends.manage.Goals as goal
+
+pub returns-in-Ok-clause-ok : goal.returns-in-Ok-clause-ok
+returns-in-Ok-clause-ok c =
+    let message = c.args.message.now in
+    apart_so (λ d. Decides c.args.manager.now d
+    (λ config number stored branches. on_manager_message number stored branches (xid_at (message_tx message) number) message))
+    c.decide.new.decision c.replace.result c.take.result c.clear.new.self c.forget_led.new.sends
+    c.replace.ensures.value c.take.ensures c.clear.ensures c.forget_led.ensures c.in-Ok.ensures.ok
