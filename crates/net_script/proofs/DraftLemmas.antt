@@ -1,6 +1,6 @@
 -- A trace line by line: its lines give it back, and nothing else follows them.
 use Rattle.std.proofs.Common.{zero, suc, ◌≡◌, ℕ, ◌+◌, ◌-◌, ◌<◌, ◌≤◌, ◌^◌, Bool, true, false, not, ◌&&◌, cond, eqb, ltb, List, [], ◌∷◌, ◌++◌, length}
-use Rattle.std.proofs.Common.{get_or, drop, map, Option, None, Some, refl, sym, ap, subst, ◌∙◌, arith, eqb-true, eq-eqb}
+use Rattle.std.proofs.Common.{get_or, set, drop, map, Option, None, Some, refl, sym, ap, subst, ◌∙◌, arith, eqb-true, eq-eqb}
 use Rattle.std.specs.List.{All, AllPairs, list_all, flat_map}
 use Rattle.std.specs.Option.{ForSome, option_map}
 use Rattle.std.proofs.lemmas.Bool.{lt-ltb}
@@ -602,15 +602,28 @@ pub so_far_valid : (o : Option Trace) → ForSome o IsBegun → All IsTraceLine 
 so_far_valid None is = All-nil IsTraceLine
 so_far_valid (Some t) is = lines_valid t (is t refl)
 
--- ---- for the code: what stands at the end of a vector
+-- ---- for the code: the entry at the end of a vector, changed in place
 
-pub last_none : (f : Entry → Option Entry) (all front : List Entry) (x : Entry) → all ≡ front ++ x ∷ [] → f x ≡ None → None ≡ at_last f all
-last_none f all front x e none =
-    sym (ap (at_last f) e ∙ at_last_push f front x ∙ ap (option_map (λ (y : Entry). front ++ y ∷ [])) none)
+-- its place
+pub last_place : (n l : ℕ) → n ≡ l → 0 < n → suc (n - 1) ≡ l
+last_place n l e some = omega arith
 
-pub last_some : (f : Entry → Option Entry) (all front new : List Entry) (x y : Entry) → all ≡ front ++ x ∷ [] → f x ≡ Some y
-    → new ≡ front ++ y ∷ []
-    → Some new ≡ at_last f all
-last_some f all front new x y e some is =
-    ap (λ (l : List Entry). Some l) is
-    ∙ sym (ap (at_last f) e ∙ at_last_push f front x ∙ ap (option_map (λ (z : Entry). front ++ z ∷ [])) some)
+-- where it can't be
+pub last_left : (f : Entry → Option Entry) (all : List Entry) (n : ℕ) (d x : Entry) → suc n ≡ length all → x ≡ get_or all n d → f x ≡ None
+    → None ≡ at_last f all
+last_left f [] n d x len is none = absurd (omega (arith, len))
+last_left f (a ∷ []) zero d x len is none = sym (ap (option_map (λ (y : Entry). y ∷ [])) (ap f (sym is) ∙ none))
+last_left f (a ∷ []) (suc n) d x len is none = absurd (omega (arith, len))
+last_left f (a ∷ (b ∷ rest)) zero d x len is none = absurd (omega (arith, len))
+last_left f (a ∷ (b ∷ rest)) (suc n) d x len is none =
+    ap (option_map (λ (others : List Entry). a ∷ others)) (last_left f (b ∷ rest) n d x (omega (arith, len)) is none)
+
+-- where it can
+pub last_set : (f : Entry → Option Entry) (all : List Entry) (n : ℕ) (d x y : Entry) → suc n ≡ length all → x ≡ get_or all n d → f x ≡ Some y
+    → Some (set all n y) ≡ at_last f all
+last_set f [] n d x y len is some = absurd (omega (arith, len))
+last_set f (a ∷ []) zero d x y len is some = sym (ap (option_map (λ (z : Entry). z ∷ [])) (ap f (sym is) ∙ some))
+last_set f (a ∷ []) (suc n) d x y len is some = absurd (omega (arith, len))
+last_set f (a ∷ (b ∷ rest)) zero d x y len is some = absurd (omega (arith, len))
+last_set f (a ∷ (b ∷ rest)) (suc n) d x y len is some =
+    ap (option_map (λ (others : List Entry). a ∷ others)) (last_set f (b ∷ rest) n d x y (omega (arith, len)) is some)

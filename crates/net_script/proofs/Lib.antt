@@ -14,5 +14,6 @@ pub mod TidyText
 pub mod TraceLineLemmas
 pub mod OutcomeLemmas
 pub mod DraftLemmas
+pub mod MoreLines
 pub mod EndedText
 pub mod TraceLoop

@@ -2,14 +2,15 @@
 use Rattle.std.proofs.Common.{◌≡◌, ℕ, ◌<◌, ◌^◌, Bool, true, false, cond, eqb, List, [], ◌∷◌, ◌++◌, length, drop, refl, sym, ap, subst}
 use Rattle.std.proofs.Common.{◌∙◌, arith, codes}
 use Rattle.std.specs.List.{AllByRecursion}
-use Rattle.std.specs.Str.{bytes_eq}
-use Rattle.std.proofs.lemmas.Slice.Eq.{bytes_eq-Decides}
 use Rattle.std.proofs.lemmas.Fmt.{decimal_injective}
 use Rattle.net_script.specs.Basics.{TxParts, number_of, Refusal, View, NodeId, R, Row}
 use Rattle.net_script.specs.Basics.{Answer, Done, Code, Value, NoValue, Xids, Stands, Refused, Change, Sent, Event, Kind}
 use Rattle.net_script.specs.declared.trace_lines.TraceLine.{TraceLine}
 use Rattle.net_script.specs.declared.trace_lines.TraceLine.TheVariants.{Cluster, Contents, Happened, Served, Changed, Datagram, Final}
+use Rattle.net_script.specs.declared.values.Sizes.{Sizes}
+use Rattle.net_script.specs.declared.values.Table.{Table}
 use Rattle.net_script.specs.Lines.{words, node_text}
+use Rattle.net_script.specs.Items.{IsSizes, IsContents, sizes_words, contents_words}
 use Rattle.net_script.specs.Events.{IsNode, IsEvent, keyword_text, keyword_of, event_words}
 use Rattle.net_script.specs.Answers.{IsTold, IsAnswer, view_text, answer_word_text, answer_word, answer_args, answer_words}
 use Rattle.net_script.specs.Traces.{joined_words, serve_words, change_words, sent_words}
@@ -190,7 +191,7 @@ line_injective a b p q e = absurd (differ _ _ (ap first_of e) refl)
 
 -- ---- the text of a line
 
-some_words : (said : TraceLine) → 0 < length (trace_line_words said)
+pub some_words : (said : TraceLine) → 0 < length (trace_line_words said)
 some_words (Cluster s) = omega arith
 some_words (Contents t) = omega arith
 some_words (Happened e a) = omega arith
@@ -237,19 +238,35 @@ lines_have_one_text = record { same = whole_injective }
 
 -- ---- by the first word
 
+pub only_sent : (said : TraceLine) (rest : List (List ℕ)) → IsTraceLine said → codes "sent" ∷ rest ≡ trace_line_words said
+    → (s : Sent) × IsSent s × (rest ≡ sent_words s)
+only_sent (Datagram s) rest is e = (s, is, cc)
+only_sent (Happened d a) rest is e = absurd (event_apart (codes "sent") d refl (cc))
+only_sent said rest is e = absurd (differ _ _ (ap first_of e) refl)
+
+pub only_change : (said : TraceLine) (rest : List (List ℕ)) → IsTraceLine said → codes "now" ∷ rest ≡ trace_line_words said
+    → (c : Change) × IsChange c × (rest ≡ change_words c)
+only_change (Changed c) rest is e = (c, is, cc)
+only_change (Happened d a) rest is e = absurd (event_apart (codes "now") d refl (cc))
+only_change said rest is e = absurd (differ _ _ (ap first_of e) refl)
+
+pub only_table : (said : TraceLine) (rest : List (List ℕ)) → IsTraceLine said → codes "table" ∷ rest ≡ trace_line_words said
+    → (t : Table) × IsContents t × (rest ≡ contents_words t)
+only_table (Contents t) rest is e = (t, is, cc)
+only_table (Happened d a) rest is e = absurd (event_apart (codes "table") d refl (cc))
+only_table said rest is e = absurd (differ _ _ (ap first_of e) refl)
+
+pub only_cluster : (said : TraceLine) (rest : List (List ℕ)) → IsTraceLine said → codes "cluster" ∷ rest ≡ trace_line_words said
+    → (s : Sizes) × (said ≡ Cluster s) × IsSizes s × (rest ≡ sizes_words s)
+only_cluster (Cluster s) rest is e = (s, refl, is, cc)
+only_cluster (Happened d a) rest is e = absurd (event_apart (codes "cluster") d refl (cc))
+only_cluster said rest is e = absurd (differ _ _ (ap first_of e) refl)
+
 pub only_final : (said : TraceLine) (rest : List (List ℕ)) → IsTraceLine said → codes "final" ∷ rest ≡ trace_line_words said
     → (rm : ℕ) × (rows : List Row) × (rm < 2 ^ 32) × AreFinalRows rows × (rest ≡ final_words rm rows)
 only_final (Final rm rows) rest is e = (rm, rows, is.0, is.1, cc)
 only_final (Happened d a) rest is e = absurd (event_apart (codes "final") d refl (cc))
 only_final said rest is e = absurd (differ _ _ (ap first_of e) refl)
-
--- the words of a line that begins with this one
-pub begins_so : (given rest : List (List ℕ)) (word slice literal : List ℕ) (r : Bool) (said : TraceLine) → given ≡ word ∷ rest
-    → slice ≡ literal → r ≡ bytes_eq word slice → r ≡ true → given ≡ trace_line_words said
-    → literal ∷ rest ≡ trace_line_words said
-begins_so given rest word slice literal r said cut is same yes' e =
-    let alike : word ≡ slice = (bytes_eq-Decides word slice).0 (sym same ∙ yes') in
-    ap (λ (w : List ℕ). w ∷ rest) (sym (alike ∙ is)) ∙ sym cut ∙ e
 
 pub words_after : {given rest others : List (List ℕ)} {a b : List ℕ} → given ≡ a ∷ rest → given ≡ b ∷ others → rest ≡ others
 words_after p q = cc

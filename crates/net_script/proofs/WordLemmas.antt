@@ -1,13 +1,19 @@
 -- Pieces, lines and words of a text, and the texts of nodes and bytes.
 use Rattle.std.proofs.Common.{eq-eqb, ◌≡◌, ℕ, ◌*◌, ◌<◌, ◌^◌, Bool, true, false, cond, not, ◌⊎◌, inl, inr, eqb, List, [], ◌∷◌}
-use Rattle.std.proofs.Common.{◌++◌, length, Ok, Err, Option, None, Some, refl, sym, ap, subst, ◌∙◌, arith, decimal}
+use Rattle.std.proofs.Common.{◌+◌, ◌-◌, ◌≤◌, take, get_or, ◌++◌, length, Ok, Err, Option, None, Some, refl, sym, ap, subst, ◌∙◌, arith, decimal}
 use Rattle.std.proofs.lemmas.List.{length-append}
 use Rattle.std.specs.List.{onto_first}
 use Rattle.std.proofs.lemmas.Bool.{not-true, not-false}
 use Rattle.std.specs.Str.{bytes_eq}
 use Rattle.std.proofs.lemmas.Slice.Eq.{bytes_eq-Decides}
 use Rattle.std.proofs.lemmas.Bool.Decides.{nat_tests}
-use Rattle.std.proofs.lemmas.Fmt.{decimal_injective}
+use Rattle.std.proofs.lemmas.Fmt.{decimal_injective, decimal-digits_value}
+use Rattle.std.proofs.lemmas.Int.Digits.{digits_value_more, digits_more}
+use Rattle.std.proofs.lemmas.Str.{digit_value_digit}
+use Rattle.std.proofs.lemmas.Str.Parse.{numerals_by_value, tells_digits}
+use Rattle.std.specs.Char.{digit_value}
+use Rattle.std.specs.Int.{IsInRange}
+use Rattle.std.specs.Str.Parse.{AllDigits, digits_value}
 use Rattle.hex.proofs.HexLemmas.{decode_of-encode_lower}
 use Rattle.hex.specs.Hex.{decode_of}
 use Rattle.hex.specs.declared.error.FromHexError.{FromHexError}
@@ -122,3 +128,33 @@ bytes_injective (x ∷ a) (y ∷ b) p q e = hex_injective (x ∷ a) (y ∷ b) p 
 
 pub hex_long : (text bytes : List ℕ) (r : Bool) → r ≡ eqb (length text) 0 → r ≡ false → length text ≡ 2 * length bytes → 0 < length bytes
 hex_long text bytes r is no' len = grind (arith, nat_tests)
+
+-- ---- numbers
+
+-- digits, and the number that they write
+pub record AreDigits (text : List ℕ) (n : ℕ) : Type 0 where
+  pub digits : AllDigits 10 text
+  pub value : n ≡ digits_value 10 text
+
+pub no_digits : AreDigits [] 0
+no_digits = record { digits = tt; value = refl }
+
+pub one_digit_more : (text : List ℕ) (i n b : ℕ) → i < length text → b ≡ get_or text i 0 → 48 ≤ b → b ≤ 57 → AreDigits (take i text) n
+    → AreDigits (take (i + 1) text) (n * 10 + (b - 48))
+one_digit_more text i n b at is low high are =
+    let range : IsInRange 48 57 b = (low, high) in
+    let value : digit_value b + 48 ≡ b = digit_value_digit b range in
+    let small : digit_value b < 10 = omega arith in
+    let more = digits_value_more 10 text i at in
+    let same : digit_value (get_or text i 0) ≡ digit_value b = ap digit_value (sym is) in
+    record {
+      digits = digits_more 10 text i at are.digits (subst (λ (x : ℕ). digit_value x < 10) is small);
+      value = omega (arith, are.value, more, value, same);
+    }
+
+-- digits with no zero in front are the one text of their number
+pub digits_are_text : (text : List ℕ) (n : ℕ) → AreDigits text n → 0 < length text → (get_or text 0 0 ≡ 48 → length text ≡ 1) → n < 2 ^ 32
+    → text ≡ decimal n
+digits_are_text text n are some lead small =
+    let spelled = decimal-digits_value (numerals_by_value _ tells_digits) text are.digits some lead (omega (arith, are.value)) in
+    sym (ap decimal are.value ∙ spelled)

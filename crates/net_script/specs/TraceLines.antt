@@ -8,6 +8,7 @@ use Rattle.net_script.specs.Basics.{IsTx, IsMessage, R, Row, Change, Sent}
 use Rattle.net_script.specs.declared.values.Entry.{Entry}
 use Rattle.net_script.specs.declared.values.Trace.{Trace}
 use Rattle.net_script.specs.declared.trace_lines.TraceLine.{TraceLine}
+use Rattle.net_script.specs.declared.trace_lines.LineName.{LineName}
 use Rattle.net_script.specs.declared.trace_lines.TraceLine.TheVariants.{Cluster, Contents, Happened, Served, Changed, Datagram, Final}
 use Rattle.net_script.specs.Lines.{node_text}
 use Rattle.net_script.specs.Events.{IsNode, IsEvent, event_words}
@@ -115,3 +116,11 @@ abbrev pub IsOutcome : TraceLine → Type 0
 IsOutcome (Happened event answer) = IsEvent event × IsAnswer answer
 IsOutcome (Served node answer) = IsNode node × IsAnswer answer
 IsOutcome said = ⊥
+
+-- the first word of a line
+abbrev pub line_name_text : LineName → List ℕ
+line_name_text LineName.Cluster = codes "cluster"
+line_name_text LineName.Table = codes "table"
+line_name_text LineName.Now = codes "now"
+line_name_text LineName.Sent = codes "sent"
+line_name_text LineName.Final = codes "final"

@@ -15,7 +15,7 @@ use Rattle.net_script.specs.Items.{IsSizes, IsContents, is_in_limits}
 use Rattle.net_script.specs.Answers.{IsAnswer}
 use Rattle.net_script.specs.Scripts.{FailsAt}
 use Rattle.net_script.specs.Traces.{trace_text}
-use Rattle.net_script.specs.TraceLines.{IsChange, IsSent, AreFinalRows, IsTraceLine, trace_line_text, lines_of}
+use Rattle.net_script.specs.TraceLines.{IsChange, IsSent, AreFinalRows, IsTraceLine, trace_line_words, trace_line_text, lines_of}
 
 -- ---- traces
 
@@ -149,6 +149,13 @@ abbrev pub begun_with : Option Trace → TraceLine → Option Trace
 begun_with None (Cluster sizes) = Some (opened sizes)
 begun_with None said = None
 begun_with (Some t) said = with_line t said
+
+-- what the words of one more line make of what was read so far: they say one thing of these, with which it goes on; nothing, where it
+-- goes on with none
+abbrev pub ReadsMore : (TraceLine → Type 0) → Option Trace → List (List ℕ) → Result (Option Trace) Refusal → Type 0
+ReadsMore IsIn before ws (Ok (Some t)) = (said : TraceLine) × IsIn said × (ws ≡ trace_line_words said) × (Some t ≡ begun_with before said)
+ReadsMore IsIn before ws (Ok None) = (said : TraceLine) → IsIn said → ws ≡ trace_line_words said → None ≡ begun_with before said
+ReadsMore IsIn before ws (Err e) = e ≡ NoMemory
 
 -- the lines so far
 abbrev pub lines_so_far : Option Trace → List TraceLine

@@ -227,6 +227,7 @@ fn read_by(alloc: Global, word: AnswerWord, args: &[u8]) -> Result<Option<Answer
 }
 
 /// The answer of these words.
+#[inline(never)]
 pub(crate) fn read_answer(alloc: Global, args: &[u8]) -> Result<Option<Answer>, Refusal>
     ensures { Reads IsAnswer answer_words (words args.now) result }
 {

@@ -5,12 +5,13 @@ ghost use Rattle.net_script.specs.Basics.{XidParts, IsXid, TxParts, IsTx, IsByte
 ghost use Rattle.net_script.specs.Events.{IsNode};
 ghost use Rattle.net_script.specs.Lines.{Reads, words, bytes_text, node_text};
 
+use crate::numbers;
 use crate::words::{
     bytes_word, is_over, leader_word, lettered_number, manager_word, next_word, node_word,
 };
 use protocol::{Boxed, NodeId};
 use std::alloc::Global;
-use xid::{Bytes, Refusal, Tx, Xid, text};
+use xid::{Bytes, Refusal, Tx, Xid};
 
 /// The number that is the first word, and the rest.
 pub(crate) fn number(args: &[u8]) -> Option<(u32, &[u8])>
@@ -21,7 +22,7 @@ pub(crate) fn number(args: &[u8]) -> Option<(u32, &[u8])>
     let Some((digits, rest)) = next_word(args) else {
         return None;
     };
-    let Some(number) = text::number(digits) else {
+    let Some(number) = numbers::number(digits) else {
         return None;
     };
     Some((number, rest))
@@ -57,7 +58,7 @@ pub(crate) fn field<'a>(args: &'a [u8], name: &[u8]) -> Option<(u32, &'a [u8])>
     let Some((digits, after)) = next_word(rest) else {
         return None;
     };
-    let Some(number) = text::number(digits) else {
+    let Some(number) = numbers::number(digits) else {
         return None;
     };
     Some((number, after))
@@ -152,21 +153,6 @@ pub(crate) fn last_tx(alloc: Global, args: &[u8]) -> Result<Option<Boxed<Tx>>, R
         return Ok(None);
     };
     Ok(Some(Boxed::new(alloc, tx)?))
-}
-
-/// The transaction of the first word, and the rest.
-pub(crate) fn transaction(args: &[u8]) -> Option<(Tx, &[u8])>
-    ensures { MatchOption result
-        ((tx : TxParts) (ws : List (List ℕ)) → IsTx tx → words args.now ≢ tx_text tx ∷ ws)
-        (λ found. IsTx found.0 × (words args.now ≡ tx_text found.0 ∷ words found.1.now)) }
-{
-    let Some((word, rest)) = next_word(args) else {
-        return None;
-    };
-    let Ok(tx) = Tx::read(word) else {
-        return None;
-    };
-    Some((tx, rest))
 }
 
 /// The branch of the first word, and the rest.

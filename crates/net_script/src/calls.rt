@@ -46,6 +46,7 @@ fn read_end(args: &[u8]) -> Option<Action>
 }
 
 /// What a call asks, by its first word and those after its XID.
+#[inline(never)]
 fn read_action(alloc: Global, verb: Verb, args: &[u8]) -> Result<Option<Action>, Refusal>
     ensures { Reads (IsCall verb) action_words (words args.now) result }
 {
@@ -80,6 +81,7 @@ fn read_action(alloc: Global, verb: Verb, args: &[u8]) -> Result<Option<Action>,
 }
 
 /// A call of this first word.
+#[inline(never)]
 pub(crate) fn read_call(alloc: Global, verb: Verb, args: &[u8]) -> Result<Option<Event>, Refusal>
     ensures { Reads (IsEventBy (Keyword.Call verb)) event_args (words args.now) result }
 {

@@ -17,6 +17,7 @@ use std::alloc::Global;
 use xid::Refusal;
 
 /// Which branches of the only node are prepared.
+#[inline(never)]
 fn read_recover(args: &[u8]) -> Option<Event>
     ensures { MatchOption result
         ((e : Event) → IsEventBy Keyword.Recover e → words args.now ≢ event_args e)
@@ -35,6 +36,7 @@ fn read_recover(args: &[u8]) -> Option<Event>
 }
 
 /// Where a resource manager stands in a transaction.
+#[inline(never)]
 fn read_view(alloc: Global, args: &[u8]) -> Result<Option<Event>, Refusal>
     ensures { Reads (IsEventBy Keyword.View) event_args (words args.now) result }
 {
@@ -51,6 +53,7 @@ fn read_view(alloc: Global, args: &[u8]) -> Result<Option<Event>, Refusal>
 }
 
 /// That a leader is to commit a transaction.
+#[inline(never)]
 fn read_commit(alloc: Global, args: &[u8]) -> Result<Option<Event>, Refusal>
     ensures { Reads (IsEventBy Keyword.Commit) event_args (words args.now) result }
 {
@@ -67,6 +70,7 @@ fn read_commit(alloc: Global, args: &[u8]) -> Result<Option<Event>, Refusal>
 }
 
 /// What a leader knows of a transaction.
+#[inline(never)]
 fn read_status(alloc: Global, args: &[u8]) -> Result<Option<Event>, Refusal>
     ensures { Reads (IsEventBy Keyword.Status) event_args (words args.now) result }
 {
@@ -83,6 +87,7 @@ fn read_status(alloc: Global, args: &[u8]) -> Result<Option<Event>, Refusal>
 }
 
 /// That a leader or a resource manager waited too long.
+#[inline(never)]
 fn read_timeout(alloc: Global, args: &[u8]) -> Result<Option<Event>, Refusal>
     ensures { Reads (IsEventBy Keyword.Timeout) event_args (words args.now) result }
 {
@@ -102,6 +107,7 @@ fn read_timeout(alloc: Global, args: &[u8]) -> Result<Option<Event>, Refusal>
 }
 
 /// A datagram, and how many of its bytes.
+#[inline(never)]
 fn read_cut(args: &[u8]) -> Option<Event>
     ensures { MatchOption result
         ((e : Event) → IsEventBy Keyword.Cut e → words args.now ≢ event_args e)
@@ -117,6 +123,7 @@ fn read_cut(args: &[u8]) -> Option<Event>
 }
 
 /// A node, and bytes that come to it.
+#[inline(never)]
 fn read_noise(alloc: Global, args: &[u8]) -> Result<Option<Event>, Refusal>
     ensures { Reads (IsEventBy Keyword.Noise) event_args (words args.now) result }
 {
@@ -130,6 +137,7 @@ fn read_noise(alloc: Global, args: &[u8]) -> Result<Option<Event>, Refusal>
 }
 
 /// A node, and how many bytes of its next frame are kept.
+#[inline(never)]
 fn read_tear(args: &[u8]) -> Option<Event>
     ensures { MatchOption result
         ((e : Event) → IsEventBy Keyword.Tear e → words args.now ≢ event_args e)
@@ -145,6 +153,7 @@ fn read_tear(args: &[u8]) -> Option<Event>
 }
 
 /// A datagram to deliver.
+#[inline(never)]
 fn read_deliver(args: &[u8]) -> Option<Event>
     ensures { MatchOption result
         ((e : Event) → IsEventBy Keyword.Deliver e → words args.now ≢ event_args e)
@@ -157,6 +166,7 @@ fn read_deliver(args: &[u8]) -> Option<Event>
 }
 
 /// A datagram to lose.
+#[inline(never)]
 fn read_lose(args: &[u8]) -> Option<Event>
     ensures { MatchOption result
         ((e : Event) → IsEventBy Keyword.Lose e → words args.now ≢ event_args e)
@@ -169,6 +179,7 @@ fn read_lose(args: &[u8]) -> Option<Event>
 }
 
 /// A node to restart.
+#[inline(never)]
 fn read_restart(args: &[u8]) -> Option<Event>
     ensures { MatchOption result
         ((e : Event) → IsEventBy Keyword.Restart e → words args.now ≢ event_args e)
@@ -181,6 +192,7 @@ fn read_restart(args: &[u8]) -> Option<Event>
 }
 
 /// A node to compact.
+#[inline(never)]
 fn read_compact(args: &[u8]) -> Option<Event>
     ensures { MatchOption result
         ((e : Event) → IsEventBy Keyword.Compact e → words args.now ≢ event_args e)
@@ -214,6 +226,7 @@ fn read_by(alloc: Global, keyword: Keyword, args: &[u8]) -> Result<Option<Event>
 }
 
 /// The event of these words.
+#[inline(never)]
 pub(crate) fn read_event(alloc: Global, text: &[u8]) -> Result<Option<Event>, Refusal>
     ensures { Reads IsEvent event_words (words text.now) result }
 {

@@ -40,6 +40,7 @@ fn read_bundled(args: &[u8]) -> Option<bool>
 }
 
 /// The cluster of these words.
+#[inline(never)]
 pub(crate) fn read_sizes(args: &[u8]) -> Option<Sizes>
     ensures { MatchOption result
         ((s : Sizes) → IsSizes s → words args.now ≢ sizes_words s)

@@ -8,7 +8,10 @@ ghost use Rattle.net_script.specs.Messages.{message_name_text, message_args, mes
 ghost use Rattle.net_script.specs.Messages.{FitsReport, FitsReportItem, FitsAcceptItem, AreReportItems, AreAcceptItems, IsKindBy};
 
 use crate::args::{last_number, manager, number};
+use crate::known::{KnownTx, read_tx};
+use crate::numbers;
 use crate::words::{acceptor_word, is_over, manager_word, next_word};
+use std::alloc::Global;
 use wire::{InstanceAccept, InstanceReport, Items, Kind, Message, is_message};
 use xid::{Ballot, MAX_BRANCHES, ManagerNumber, Tx, Vote, text};
 
@@ -185,7 +188,7 @@ fn accepted_of(text: &[u8]) -> Option<(Ballot, Vote)>
     let Some((digits, word)) = text::split_once(text, b':') else {
         return None;
     };
-    let Some(ballot) = text::number(digits) else {
+    let Some(ballot) = numbers::number(digits) else {
         return None;
     };
     let Some(vote) = vote_named(word) else {
@@ -253,6 +256,7 @@ fn accept_item(word: &[u8]) -> Option<InstanceAccept>
 }
 
 /// The items of phase 1b of the words.
+#[inline(never)]
 fn report_items(args: &[u8]) -> Option<Items<InstanceReport>>
     ensures { MatchOption result
         ((is : List InstanceReport) → AreReportItems is → words args.now ≢ map report_item_text is)
@@ -280,6 +284,7 @@ fn report_items(args: &[u8]) -> Option<Items<InstanceReport>>
 }
 
 /// The items of phase 2b of the words.
+#[inline(never)]
 fn accept_items(args: &[u8]) -> Option<Items<InstanceAccept>>
     ensures { MatchOption result
         ((is : List InstanceAccept) → AreAcceptItems is → words args.now ≢ map accept_item_text is)
@@ -307,10 +312,11 @@ fn accept_items(args: &[u8]) -> Option<Items<InstanceAccept>>
 }
 
 /// Phase 1a, by the words after its transaction.
-fn read_p1a(tx: Tx, args: &[u8]) -> Option<Kind>
+#[inline(never)]
+fn read_p1a(tx: &Tx, args: &[u8]) -> Option<Kind>
     ensures { MatchOption result
-        ((k : Kind) → IsKindBy MessageName.P1a tx k → words args.now ≢ message_args k)
-        (λ k. IsKindBy MessageName.P1a tx k × (words args.now ≡ message_args k)) }
+        ((k : Kind) → IsKindBy MessageName.P1a tx.now k → words args.now ≢ message_args k)
+        (λ k. IsKindBy MessageName.P1a tx.now k × (words args.now ≡ message_args k)) }
 {
     let Some((rm, ballot, rest)) = instance(args) else {
         return None;
@@ -319,17 +325,18 @@ fn read_p1a(tx: Tx, args: &[u8]) -> Option<Kind>
         return None;
     }
     Some(Kind::P1a {
-        tx,
+        tx: *tx,
         instance: ManagerNumber::from(rm),
         ballot,
     })
 }
 
 /// Phase 1b, by the words after its transaction.
-fn read_p1b(tx: Tx, args: &[u8]) -> Option<Kind>
+#[inline(never)]
+fn read_p1b(tx: &Tx, args: &[u8]) -> Option<Kind>
     ensures { MatchOption result
-        ((k : Kind) → IsKindBy MessageName.P1b tx k → words args.now ≢ message_args k)
-        (λ k. IsKindBy MessageName.P1b tx k × (words args.now ≡ message_args k)) }
+        ((k : Kind) → IsKindBy MessageName.P1b tx.now k → words args.now ≢ message_args k)
+        (λ k. IsKindBy MessageName.P1b tx.now k × (words args.now ≡ message_args k)) }
 {
     let Some((rm, ballot, rest)) = instance(args) else {
         return None;
@@ -341,7 +348,7 @@ fn read_p1b(tx: Tx, args: &[u8]) -> Option<Kind>
         return None;
     };
     Some(Kind::P1b {
-        tx,
+        tx: *tx,
         instance: ManagerNumber::from(rm),
         ballot,
         report,
@@ -350,10 +357,11 @@ fn read_p1b(tx: Tx, args: &[u8]) -> Option<Kind>
 }
 
 /// Phase 2a, by the words after its transaction.
-fn read_p2a(tx: Tx, args: &[u8]) -> Option<Kind>
+#[inline(never)]
+fn read_p2a(tx: &Tx, args: &[u8]) -> Option<Kind>
     ensures { MatchOption result
-        ((k : Kind) → IsKindBy MessageName.P2a tx k → words args.now ≢ message_args k)
-        (λ k. IsKindBy MessageName.P2a tx k × (words args.now ≡ message_args k)) }
+        ((k : Kind) → IsKindBy MessageName.P2a tx.now k → words args.now ≢ message_args k)
+        (λ k. IsKindBy MessageName.P2a tx.now k × (words args.now ≡ message_args k)) }
 {
     let Some((rm, ballot, rest)) = instance(args) else {
         return None;
@@ -365,7 +373,7 @@ fn read_p2a(tx: Tx, args: &[u8]) -> Option<Kind>
         return None;
     }
     Some(Kind::P2a {
-        tx,
+        tx: *tx,
         instance: ManagerNumber::from(rm),
         ballot,
         vote,
@@ -373,10 +381,11 @@ fn read_p2a(tx: Tx, args: &[u8]) -> Option<Kind>
 }
 
 /// Phase 2b, by the words after its transaction.
-fn read_p2b(tx: Tx, args: &[u8]) -> Option<Kind>
+#[inline(never)]
+fn read_p2b(tx: &Tx, args: &[u8]) -> Option<Kind>
     ensures { MatchOption result
-        ((k : Kind) → IsKindBy MessageName.P2b tx k → words args.now ≢ message_args k)
-        (λ k. IsKindBy MessageName.P2b tx k × (words args.now ≡ message_args k)) }
+        ((k : Kind) → IsKindBy MessageName.P2b tx.now k → words args.now ≢ message_args k)
+        (λ k. IsKindBy MessageName.P2b tx.now k × (words args.now ≡ message_args k)) }
 {
     let Some((rm, ballot, rest)) = instance(args) else {
         return None;
@@ -388,7 +397,7 @@ fn read_p2b(tx: Tx, args: &[u8]) -> Option<Kind>
         return None;
     };
     Some(Kind::P2b {
-        tx,
+        tx: *tx,
         instance: ManagerNumber::from(rm),
         ballot,
         vote,
@@ -397,10 +406,11 @@ fn read_p2b(tx: Tx, args: &[u8]) -> Option<Kind>
 }
 
 /// An ask, by the words after its transaction.
-fn read_ask(tx: Tx, args: &[u8]) -> Option<Kind>
+#[inline(never)]
+fn read_ask(tx: &Tx, args: &[u8]) -> Option<Kind>
     ensures { MatchOption result
-        ((k : Kind) → IsKindBy MessageName.Ask tx k → words args.now ≢ message_args k)
-        (λ k. IsKindBy MessageName.Ask tx k × (words args.now ≡ message_args k)) }
+        ((k : Kind) → IsKindBy MessageName.Ask tx.now k → words args.now ≢ message_args k)
+        (λ k. IsKindBy MessageName.Ask tx.now k × (words args.now ≡ message_args k)) }
 {
     let Some((rm, rest)) = manager(args) else {
         return None;
@@ -409,28 +419,30 @@ fn read_ask(tx: Tx, args: &[u8]) -> Option<Kind>
         return None;
     }
     Some(Kind::Ask {
-        tx,
+        tx: *tx,
         rm: ManagerNumber::from(rm),
     })
 }
 
 /// A bundle of phase 1a, by the words after its transaction.
-fn read_b1a(tx: Tx, args: &[u8]) -> Option<Kind>
+#[inline(never)]
+fn read_b1a(tx: &Tx, args: &[u8]) -> Option<Kind>
     ensures { MatchOption result
-        ((k : Kind) → IsKindBy MessageName.B1a tx k → words args.now ≢ message_args k)
-        (λ k. IsKindBy MessageName.B1a tx k × (words args.now ≡ message_args k)) }
+        ((k : Kind) → IsKindBy MessageName.B1a tx.now k → words args.now ≢ message_args k)
+        (λ k. IsKindBy MessageName.B1a tx.now k × (words args.now ≡ message_args k)) }
 {
     let Some(ballot) = last_number(args) else {
         return None;
     };
-    Some(Kind::B1a { tx, ballot })
+    Some(Kind::B1a { tx: *tx, ballot })
 }
 
 /// A bundle of phase 1b, by the words after its transaction.
-fn read_b1b(tx: Tx, args: &[u8]) -> Option<Kind>
+#[inline(never)]
+fn read_b1b(tx: &Tx, args: &[u8]) -> Option<Kind>
     ensures { MatchOption result
-        ((k : Kind) → IsKindBy MessageName.B1b tx k → words args.now ≢ message_args k)
-        (λ k. IsKindBy MessageName.B1b tx k × (words args.now ≡ message_args k)) }
+        ((k : Kind) → IsKindBy MessageName.B1b tx.now k → words args.now ≢ message_args k)
+        (λ k. IsKindBy MessageName.B1b tx.now k × (words args.now ≡ message_args k)) }
 {
     let Some((ballot, rest)) = number(args) else {
         return None;
@@ -442,7 +454,7 @@ fn read_b1b(tx: Tx, args: &[u8]) -> Option<Kind>
         return None;
     };
     Some(Kind::B1b {
-        tx,
+        tx: *tx,
         ballot,
         acceptor,
         reports,
@@ -450,10 +462,11 @@ fn read_b1b(tx: Tx, args: &[u8]) -> Option<Kind>
 }
 
 /// A bundle of phase 2b, by the words after its transaction.
-fn read_b2b(tx: Tx, args: &[u8]) -> Option<Kind>
+#[inline(never)]
+fn read_b2b(tx: &Tx, args: &[u8]) -> Option<Kind>
     ensures { MatchOption result
-        ((k : Kind) → IsKindBy MessageName.B2b tx k → words args.now ≢ message_args k)
-        (λ k. IsKindBy MessageName.B2b tx k × (words args.now ≡ message_args k)) }
+        ((k : Kind) → IsKindBy MessageName.B2b tx.now k → words args.now ≢ message_args k)
+        (λ k. IsKindBy MessageName.B2b tx.now k × (words args.now ≡ message_args k)) }
 {
     let Some((acceptor, rest)) = acceptor(args) else {
         return None;
@@ -462,36 +475,65 @@ fn read_b2b(tx: Tx, args: &[u8]) -> Option<Kind>
         return None;
     };
     Some(Kind::B2b {
-        tx,
+        tx: *tx,
         acceptor,
         accepts,
     })
 }
 
-/// What follows a transaction, where nothing does.
-fn read_bare(kind: Kind, args: &[u8]) -> Option<Kind>
-    ensures { MatchOption result (words args.now ≢ []) (λ k. (k ≡ kind) × (words args.now ≡ [])) }
+/// A prepare, which no word follows after its transaction.
+#[inline(never)]
+fn read_prepare(tx: &Tx, args: &[u8]) -> Option<Kind>
+    ensures { MatchOption result
+        ((k : Kind) → IsKindBy MessageName.Prepare tx.now k → words args.now ≢ message_args k)
+        (λ k. IsKindBy MessageName.Prepare tx.now k × (words args.now ≡ message_args k)) }
 {
-    if is_over(args) {
-        return Some(kind);
+    if !is_over(args) {
+        return None;
     }
-    None
+    Some(Kind::Prepare(*tx))
+}
+
+/// A commit, which no word follows after its transaction.
+#[inline(never)]
+fn read_commit(tx: &Tx, args: &[u8]) -> Option<Kind>
+    ensures { MatchOption result
+        ((k : Kind) → IsKindBy MessageName.Commit tx.now k → words args.now ≢ message_args k)
+        (λ k. IsKindBy MessageName.Commit tx.now k × (words args.now ≡ message_args k)) }
+{
+    if !is_over(args) {
+        return None;
+    }
+    Some(Kind::Commit(*tx))
+}
+
+/// An abort, which no word follows after its transaction.
+#[inline(never)]
+fn read_abort(tx: &Tx, args: &[u8]) -> Option<Kind>
+    ensures { MatchOption result
+        ((k : Kind) → IsKindBy MessageName.Abort tx.now k → words args.now ≢ message_args k)
+        (λ k. IsKindBy MessageName.Abort tx.now k × (words args.now ≡ message_args k)) }
+{
+    if !is_over(args) {
+        return None;
+    }
+    Some(Kind::Abort(*tx))
 }
 
 /// A kind of this name, by its transaction and the words after it.
-fn read_kind(name: MessageName, tx: Tx, args: &[u8]) -> Option<Kind>
+fn read_kind(name: MessageName, tx: &Tx, args: &[u8]) -> Option<Kind>
     ensures { MatchOption result
-        ((k : Kind) → IsKindBy name tx k → words args.now ≢ message_args k)
-        (λ k. IsKindBy name tx k × (words args.now ≡ message_args k)) }
+        ((k : Kind) → IsKindBy name tx.now k → words args.now ≢ message_args k)
+        (λ k. IsKindBy name tx.now k × (words args.now ≡ message_args k)) }
 {
     match name {
-        MessageName::Prepare => read_bare(Kind::Prepare(tx), args),
+        MessageName::Prepare => read_prepare(tx, args),
         MessageName::P1a => read_p1a(tx, args),
         MessageName::P1b => read_p1b(tx, args),
         MessageName::P2a => read_p2a(tx, args),
         MessageName::P2b => read_p2b(tx, args),
-        MessageName::Commit => read_bare(Kind::Commit(tx), args),
-        MessageName::Abort => read_bare(Kind::Abort(tx), args),
+        MessageName::Commit => read_commit(tx, args),
+        MessageName::Abort => read_abort(tx, args),
         MessageName::Ask => read_ask(tx, args),
         MessageName::B1a => read_b1a(tx, args),
         MessageName::B1b => read_b1b(tx, args),
@@ -500,7 +542,11 @@ fn read_kind(name: MessageName, tx: Tx, args: &[u8]) -> Option<Kind>
 }
 
 /// The message of these words.
-pub(crate) fn read_message(args: &[u8]) -> Option<Message>
+pub(crate) fn read_message(
+    alloc: Global,
+    known: &mut Option<KnownTx>,
+    args: &[u8],
+) -> Option<Message>
     ensures { MatchOption result
         ((m : Kind) → IsMessage m → words args.now ≢ message_words m)
         (λ m. IsMessage m × (words args.now ≡ message_words m)) }
@@ -511,13 +557,13 @@ pub(crate) fn read_message(args: &[u8]) -> Option<Message>
     let Some(name) = message_named(word) else {
         return None;
     };
-    let Some((tx, args)) = next_word(rest) else {
+    let Some((text, args)) = next_word(rest) else {
         return None;
     };
-    let Ok(tx) = Tx::read(tx) else {
+    let Some(tx) = read_tx(alloc, known, text) else {
         return None;
     };
-    let Some(kind) = read_kind(name, tx, args) else {
+    let Some(kind) = read_kind(name, &tx, args) else {
         return None;
     };
     if !is_message(&kind) {

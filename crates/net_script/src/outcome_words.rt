@@ -8,7 +8,8 @@ ghost use Rattle.net_script.specs.Traces.{change_words, sent_words};
 ghost use Rattle.net_script.specs.TraceLines.{IsChange, IsSent, AreFinalRows, are_ascending};
 
 use crate::answer_words::view_named;
-use crate::args::{manager, node, number, transaction};
+use crate::args::{manager, node, number};
+use crate::known::{KnownTx, read_tx};
 use crate::message_words::read_message;
 use crate::tables::read_plain_rows;
 use crate::words::{is_over, next_word};
@@ -18,7 +19,7 @@ use std::cmp::Ordering;
 use xid::{Refusal, Sequence};
 
 /// The changed view of these words.
-pub(crate) fn read_change(args: &[u8]) -> Option<Change>
+pub(crate) fn read_change(alloc: Global, known: &mut Option<KnownTx>, args: &[u8]) -> Option<Change>
     ensures { MatchOption result
         ((c : Change) → IsChange c → words args.now ≢ change_words c)
         (λ c. IsChange c × (words args.now ≡ change_words c)) }
@@ -26,7 +27,10 @@ pub(crate) fn read_change(args: &[u8]) -> Option<Change>
     let Some((rm, rest)) = manager(args) else {
         return None;
     };
-    let Some((tx, rest)) = transaction(rest) else {
+    let Some((text, rest)) = next_word(rest) else {
+        return None;
+    };
+    let Some(tx) = read_tx(alloc, known, text) else {
         return None;
     };
     let Some((word, rest)) = next_word(rest) else {
@@ -42,7 +46,7 @@ pub(crate) fn read_change(args: &[u8]) -> Option<Change>
 }
 
 /// The datagram of these words.
-pub(crate) fn read_sent(args: &[u8]) -> Option<Sent>
+pub(crate) fn read_sent(alloc: Global, known: &mut Option<KnownTx>, args: &[u8]) -> Option<Sent>
     ensures { MatchOption result
         ((s : Sent) → IsSent s → words args.now ≢ sent_words s)
         (λ s. IsSent s × (words args.now ≡ sent_words s)) }
@@ -56,7 +60,7 @@ pub(crate) fn read_sent(args: &[u8]) -> Option<Sent>
     let Some((receiver, rest)) = node(rest) else {
         return None;
     };
-    let Some(message) = read_message(rest) else {
+    let Some(message) = read_message(alloc, known, rest) else {
         return None;
     };
     Some(Sent {
@@ -84,6 +88,7 @@ fn are_ascending(rows: &[Row]) -> bool
 }
 
 /// The last rows of the words.
+#[inline(never)]
 pub(crate) fn read_final_rows(alloc: Global, args: &[u8]) -> Result<Option<Sequence<Row>>, Refusal>
     ensures { Reads AreFinalRows rows_words (words args.now) result }
 {

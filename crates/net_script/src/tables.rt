@@ -35,6 +35,7 @@ fn read_row(alloc: Global, word: &[u8]) -> Result<Option<Row>, Refusal>
 }
 
 /// The rows of the words, in any order.
+#[inline(never)]
 pub(crate) fn read_plain_rows(alloc: Global, args: &[u8]) -> Result<Option<Sequence<Row>>, Refusal>
     ensures { Reads (All IsRow) rows_words (words args.now) result }
 {
@@ -82,6 +83,7 @@ fn read_rows(alloc: Global, args: &[u8]) -> Result<Option<Sequence<Row>>, Refusa
 }
 
 /// The first table of these words.
+#[inline(never)]
 pub(crate) fn read_table(alloc: Global, args: &[u8]) -> Result<Option<Table>, Refusal>
     ensures { Reads IsContents contents_words (words args.now) result }
 {

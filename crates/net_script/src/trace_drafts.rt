@@ -1,17 +1,15 @@
-//! Traces as far as they were read, line by line.
+//! Traces as far as they were read, and what may follow.
 
-ghost use Rattle.std.specs.Prelude.{◌≡◌, [], ◌∷◌, ◌++◌, not, ◌==◌, MatchResult};
+ghost use Rattle.std.specs.Prelude.{◌≡◌, [], ◌∷◌, ◌++◌, not, ◌==◌, if◌then◌else◌, Some, None, IfErr, OnOk, MatchResult};
 ghost use Rattle.std.specs.List.{list_all};
-ghost use Rattle.std.specs.Option.{ForSome};
 ghost use Rattle.net_script.specs.Basics.{NoMemory};
-ghost use Rattle.net_script.specs.declared.trace_lines.TraceLine.TheVariants.{Contents, Changed, Datagram, Final};
-ghost use Rattle.net_script.specs.TraceReading.{IsBegun, is_bare, with_now, with_sent, at_last, with_entries, takes_table, takes_rows};
-ghost use Rattle.net_script.specs.TraceReading.{with_line, begun_with, lines_so_far, ReadsTraceLine};
+ghost use Rattle.net_script.specs.declared.trace_lines.TraceLine.TheVariants.{Contents, Happened, Served, Changed, Datagram, Final};
+ghost use Rattle.net_script.specs.TraceReading.{is_bare, with_now, with_sent, at_last, takes_table, takes_rows, with_line};
 
-use crate::trace_lines::{TraceLine, read_trace_line};
 use crate::values::{Entry, Table, Trace};
-use protocol::{Change, Row, Sent, Step};
+use protocol::{Answer, Change, Event, NodeId, Row, Sent, Step};
 use std::alloc::Global;
+use std::mem;
 use xid::{Refusal, Sequence};
 
 /// Whether neither a changed view nor a datagram was told of.
@@ -21,73 +19,48 @@ fn is_bare(now: &Option<Change>, sent: &Sequence<Sent>) -> bool
     now.is_none() && sent.as_slice().is_empty()
 }
 
-/// An entry with the view that it changed, if it may stand there.
-fn with_now(entry: Entry, change: Change) -> Option<Entry>
-    ensures { result ≡ with_now change entry }
+/// Says of an entry that it changed this view, and answers whether that may stand there.
+fn take_change(entry: &mut Entry, change: Change) -> bool
+    ensures { with_now change entry.old ≡ (if result then Some entry.new else None) }
 {
     match entry {
         Entry::Step(step) => {
             if !is_bare(&step.now, &step.sent) {
-                return None;
+                return false;
             }
-            Some(Entry::Step(Step {
-                event: step.event,
-                answer: step.answer,
-                now: Some(change),
-                sent: step.sent,
-            }))
+            step.now = Some(change);
         }
-        Entry::Serve {
-            node,
-            answer,
-            now,
-            sent,
-        } => {
-            if !is_bare(&now, &sent) {
-                return None;
+        Entry::Serve { now, sent, .. } => {
+            if !is_bare(now, sent) {
+                return false;
             }
-            Some(Entry::Serve {
-                node,
-                answer,
-                now: Some(change),
-                sent,
-            })
+            *now = Some(change);
         }
     }
+    true
 }
 
-/// Datagrams with one more.
-fn with_datagram(sent: Sequence<Sent>, datagram: Sent) -> Result<Sequence<Sent>, Refusal>
-    ensures { MatchResult result (λ all. all ≡ sent ++ datagram ∷ []) (λ e. e ≡ NoMemory) }
+/// Puts one more datagram at the end.
+fn push_sent(alloc: Global, sent: &mut Sequence<Sent>, datagram: Sent) -> Result<(), Refusal>
+    ensures ok { OnOk result (sent.new ≡ sent.old ++ datagram ∷ []) }
+    ensures err { IfErr result (λ e. e ≡ NoMemory) }
 {
-    let mut all = sent.into_vec();
+    let mut all = mem::replace(sent, Sequence::new(Vec::new(alloc))).into_vec();
     all.push(datagram)?;
-    Ok(Sequence::new(all))
+    *sent = Sequence::new(all);
+    Ok(())
 }
 
-/// An entry with one more datagram.
-fn with_sent(entry: Entry, datagram: Sent) -> Result<Entry, Refusal>
-    ensures { MatchResult result (λ e. e ≡ with_sent datagram entry) (λ e. e ≡ NoMemory) }
+/// Says of an entry that it sent one more datagram.
+fn take_sent(alloc: Global, entry: &mut Entry, datagram: Sent) -> Result<(), Refusal>
+    ensures ok { OnOk result (entry.new ≡ with_sent datagram entry.old) }
+    ensures err { IfErr result (λ e. e ≡ NoMemory) }
 {
     match entry {
-        Entry::Step(step) => Ok(Entry::Step(Step {
-            event: step.event,
-            answer: step.answer,
-            now: step.now,
-            sent: with_datagram(step.sent, datagram)?,
-        })),
-        Entry::Serve {
-            node,
-            answer,
-            now,
-            sent,
-        } => Ok(Entry::Serve {
-            node,
-            answer,
-            now,
-            sent: with_datagram(sent, datagram)?,
-        }),
+        Entry::Step(step) => push_sent(alloc, &mut step.sent, datagram)?,
+        Entry::Serve { sent, .. } => push_sent(alloc, sent, datagram)?,
     }
+    Ok(())
 }
 
 /// Whether no table is this resource manager's.
@@ -108,7 +81,8 @@ fn takes_table(trace: &Trace, table: &Table) -> bool
 }
 
 /// The trace so far with the first rows of a resource manager, if they may follow.
-fn with_table(trace: Trace, table: Table) -> Result<Option<Trace>, Refusal>
+#[inline(never)]
+pub(crate) fn with_table(trace: Trace, table: Table) -> Result<Option<Trace>, Refusal>
     ensures { MatchResult result (λ r. r ≡ with_line trace (Contents table)) (λ e. e ≡ NoMemory) }
 {
     if !takes_table(&trace, &table) {
@@ -124,11 +98,15 @@ fn with_table(trace: Trace, table: Table) -> Result<Option<Trace>, Refusal>
     }))
 }
 
-/// The trace so far with an entry of which only the first line was read, if it may follow.
-fn with_entry(trace: Trace, entry: Entry) -> Result<Option<Trace>, Refusal>
-    ensures { MatchResult result
-        (λ r. r ≡ with_entries trace (Some (trace.entries ++ entry ∷ [])))
-        (λ e. e ≡ NoMemory) }
+/// The trace so far with an event and its answer, if it may follow.
+#[inline(never)]
+pub(crate) fn with_step(
+    alloc: Global,
+    trace: Trace,
+    event: Event,
+    answer: Answer,
+) -> Result<Option<Trace>, Refusal>
+    ensures { MatchResult result (λ r. r ≡ with_line trace (Happened event answer)) (λ e. e ≡ NoMemory) }
 {
     let Trace {
         sizes,
@@ -140,7 +118,12 @@ fn with_entry(trace: Trace, entry: Entry) -> Result<Option<Trace>, Refusal>
         return Ok(None);
     }
     let mut entries = entries.into_vec();
-    entries.push(entry)?;
+    entries.push(Entry::Step(Step {
+        event,
+        answer,
+        now: None,
+        sent: Sequence::new(Vec::new(alloc)),
+    }))?;
     Ok(Some(Trace {
         sizes,
         tables,
@@ -149,43 +132,15 @@ fn with_entry(trace: Trace, entry: Entry) -> Result<Option<Trace>, Refusal>
     }))
 }
 
-/// Entries of which the last changed a view, if it may have.
-fn changed_last(
-    entries: Sequence<Entry>,
-    change: Change,
-) -> Result<Option<Sequence<Entry>>, Refusal>
-    ensures { MatchResult result (λ r. r ≡ at_last (with_now change) entries) (λ e. e ≡ NoMemory) }
-{
-    let mut all = entries.into_vec();
-    let Some(last) = all.pop() else {
-        return Ok(None);
-    };
-    let Some(last) = with_now(last, change) else {
-        return Ok(None);
-    };
-    all.push(last)?;
-    Ok(Some(Sequence::new(all)))
-}
-
-/// Entries of which the last sent one more datagram, if there is one.
-fn sent_by_last(
-    entries: Sequence<Entry>,
-    datagram: Sent,
-) -> Result<Option<Sequence<Entry>>, Refusal>
-    ensures { MatchResult result (λ r. r ≡ at_last (λ entry. Some (with_sent datagram entry)) entries) (λ e. e ≡ NoMemory) }
-{
-    let mut all = entries.into_vec();
-    let Some(last) = all.pop() else {
-        return Ok(None);
-    };
-    let last = with_sent(last, datagram)?;
-    all.push(last)?;
-    Ok(Some(Sequence::new(all)))
-}
-
-/// The trace so far with a changed view, if it may follow.
-fn with_change(trace: Trace, change: Change) -> Result<Option<Trace>, Refusal>
-    ensures { MatchResult result (λ r. r ≡ with_line trace (Changed change)) (λ e. e ≡ NoMemory) }
+/// The trace so far with a serve and its answer, if it may follow.
+#[inline(never)]
+pub(crate) fn with_serve(
+    alloc: Global,
+    trace: Trace,
+    node: NodeId,
+    answer: Answer,
+) -> Result<Option<Trace>, Refusal>
+    ensures { MatchResult result (λ r. r ≡ with_line trace (Served node answer)) (λ e. e ≡ NoMemory) }
 {
     let Trace {
         sizes,
@@ -196,19 +151,81 @@ fn with_change(trace: Trace, change: Change) -> Result<Option<Trace>, Refusal>
     if !finals.as_slice().is_empty() {
         return Ok(None);
     }
-    let Some(entries) = changed_last(entries, change)? else {
-        return Ok(None);
-    };
+    let mut entries = entries.into_vec();
+    entries.push(Entry::Serve {
+        node,
+        answer,
+        now: None,
+        sent: Sequence::new(Vec::new(alloc)),
+    })?;
     Ok(Some(Trace {
         sizes,
         tables,
-        entries,
+        entries: Sequence::new(entries),
         finals,
     }))
 }
 
+/// Entries of which the last changed a view, if it may have.
+fn changed_last(entries: Sequence<Entry>, change: Change) -> Option<Sequence<Entry>>
+    ensures { result ≡ at_last (with_now change) entries }
+{
+    let mut all = entries.into_vec();
+    let Some(last) = all.last_mut() else {
+        return None;
+    };
+    if !take_change(last, change) {
+        return None;
+    }
+    Some(Sequence::new(all))
+}
+
+/// Entries of which the last sent one more datagram, if there is one.
+fn sent_by_last(
+    alloc: Global,
+    entries: Sequence<Entry>,
+    datagram: Sent,
+) -> Result<Option<Sequence<Entry>>, Refusal>
+    ensures { MatchResult result (λ r. r ≡ at_last (λ entry. Some (with_sent datagram entry)) entries) (λ e. e ≡ NoMemory) }
+{
+    let mut all = entries.into_vec();
+    let Some(last) = all.last_mut() else {
+        return Ok(None);
+    };
+    take_sent(alloc, last, datagram)?;
+    Ok(Some(Sequence::new(all)))
+}
+
+/// The trace so far with a changed view, if it may follow.
+pub(crate) fn with_change(trace: Trace, change: Change) -> Option<Trace>
+    ensures { result ≡ with_line trace (Changed change) }
+{
+    let Trace {
+        sizes,
+        tables,
+        entries,
+        finals,
+    } = trace;
+    if !finals.as_slice().is_empty() {
+        return None;
+    }
+    let Some(entries) = changed_last(entries, change) else {
+        return None;
+    };
+    Some(Trace {
+        sizes,
+        tables,
+        entries,
+        finals,
+    })
+}
+
 /// The trace so far with a datagram, if it may follow.
-fn with_one_sent(trace: Trace, datagram: Sent) -> Result<Option<Trace>, Refusal>
+pub(crate) fn with_one_sent(
+    alloc: Global,
+    trace: Trace,
+    datagram: Sent,
+) -> Result<Option<Trace>, Refusal>
     ensures { MatchResult result (λ r. r ≡ with_line trace (Datagram datagram)) (λ e. e ≡ NoMemory) }
 {
     let Trace {
@@ -220,7 +237,7 @@ fn with_one_sent(trace: Trace, datagram: Sent) -> Result<Option<Trace>, Refusal>
     if !finals.as_slice().is_empty() {
         return Ok(None);
     }
-    let Some(entries) = sent_by_last(entries, datagram)? else {
+    let Some(entries) = sent_by_last(alloc, entries, datagram)? else {
         return Ok(None);
     };
     Ok(Some(Trace {
@@ -240,7 +257,12 @@ fn takes_rows(trace: &Trace, rm: u32) -> bool
 }
 
 /// The trace so far with the last rows of a resource manager, if they may follow.
-fn with_rows(trace: Trace, rm: u32, rows: Sequence<Row>) -> Result<Option<Trace>, Refusal>
+#[inline(never)]
+pub(crate) fn with_rows(
+    trace: Trace,
+    rm: u32,
+    rows: Sequence<Row>,
+) -> Result<Option<Trace>, Refusal>
     ensures { MatchResult result (λ r. r ≡ with_line trace (Final rm rows)) (λ e. e ≡ NoMemory) }
 {
     if !takes_rows(&trace, rm) {
@@ -254,75 +276,4 @@ fn with_rows(trace: Trace, rm: u32, rows: Sequence<Row>) -> Result<Option<Trace>
         entries: trace.entries,
         finals: Sequence::new(finals),
     }))
-}
-
-/// The trace so far with one more line, if it may follow.
-fn with_line(alloc: Global, trace: Trace, said: TraceLine) -> Result<Option<Trace>, Refusal>
-    ensures { MatchResult result (λ r. r ≡ with_line trace said) (λ e. e ≡ NoMemory) }
-{
-    match said {
-        TraceLine::Cluster(_) => Ok(None),
-        TraceLine::Contents(table) => with_table(trace, table),
-        TraceLine::Happened(event, answer) => {
-            let step = Step {
-                event,
-                answer,
-                now: None,
-                sent: Sequence::new(Vec::new(alloc)),
-            };
-            with_entry(trace, Entry::Step(step))
-        }
-        TraceLine::Served(node, answer) => {
-            let serve = Entry::Serve {
-                node,
-                answer,
-                now: None,
-                sent: Sequence::new(Vec::new(alloc)),
-            };
-            with_entry(trace, serve)
-        }
-        TraceLine::Changed(change) => with_change(trace, change),
-        TraceLine::Datagram(sent) => with_one_sent(trace, sent),
-        TraceLine::Final(rm, rows) => with_rows(trace, rm, rows),
-    }
-}
-
-/// What was read so far, if anything was, with one more line, if it may follow.
-fn begun_with(
-    alloc: Global,
-    trace: Option<Trace>,
-    said: TraceLine,
-) -> Result<Option<Trace>, Refusal>
-    ensures { MatchResult result (λ r. r ≡ begun_with trace said) (λ e. e ≡ NoMemory) }
-{
-    let Some(trace) = trace else {
-        let TraceLine::Cluster(sizes) = said else {
-            return Ok(None);
-        };
-        return Ok(Some(Trace {
-            sizes,
-            tables: Sequence::new(Vec::new(alloc)),
-            entries: Sequence::new(Vec::new(alloc)),
-            finals: Sequence::new(Vec::new(alloc)),
-        }));
-    };
-    with_line(alloc, trace, said)
-}
-
-/// What was read so far with what one more line says.
-pub(crate) fn read_more(
-    alloc: Global,
-    trace: Option<Trace>,
-    line: &[u8],
-) -> Result<Option<Trace>, Refusal>
-    requires valid { ForSome trace IsBegun }
-    ensures { ReadsTraceLine (lines_so_far trace) line.now result }
-{
-    let Some(said) = read_trace_line(alloc, line)? else {
-        return Ok(None);
-    };
-    let Some(trace) = begun_with(alloc, trace, said)? else {
-        return Ok(None);
-    };
-    Ok(Some(trace))
 }

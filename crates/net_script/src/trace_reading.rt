@@ -6,7 +6,7 @@ ghost use Rattle.net_script.specs.Items.{is_in_limits};
 ghost use Rattle.net_script.specs.Traces.{trace_text};
 ghost use Rattle.net_script.specs.TraceReading.{IsTrace, IsTraceFault, SpellsTrace, RefusesTrace};
 
-use crate::trace_drafts::read_more;
+use crate::trace_more::read_more;
 use crate::values::{Sizes, Trace};
 use std::alloc::Global;
 use xid::{MAX_LEADERS, MAX_MANAGERS, Refusal, text};
@@ -28,6 +28,7 @@ pub fn read_trace(alloc: Global, bytes: &[u8]) -> Result<Trace, Refusal>
     ensures ok { IfOk result (λ t. SpellsTrace bytes.now t) }
     ensures err { IfErr result (λ e. RefusesTrace bytes.now e) }
 {
+    let mut known = None;
     let mut trace = None;
     let mut number = 0;
     let mut rest = bytes;
@@ -36,7 +37,7 @@ pub fn read_trace(alloc: Global, bytes: &[u8]) -> Result<Trace, Refusal>
         let Some((line, after)) = text::split_once(rest, b'\n') else {
             return Err(Refusal::BadScript { line: number });
         };
-        let Some(longer) = read_more(alloc, trace, line)? else {
+        let Some(longer) = read_more(alloc, &mut known, trace, line)? else {
             return Err(Refusal::BadScript { line: number });
         };
         trace = Some(longer);

@@ -232,62 +232,41 @@ fn writes_a_commit(rt: HostRuntime) -> Result<(), Fail> {
     Ok(())
 }
 
-/// Each event that is no client call, and some with their answers.
-fn other_steps(alloc: Global) -> Result<Sequence<Step>, Refusal> {
+/// A request to a leader, and its answer.
+fn asked(alloc: Global, request: Request, standing: Standing) -> Step {
+    let event = Event::Ask {
+        node: NodeId::L(1),
+        request,
+    };
+    quiet(alloc, event, Answer::Stands(standing))
+}
+
+/// The requests that name a transaction, with their answers.
+fn standing_steps(alloc: Global) -> Result<Vec<Step>, Refusal> {
     let tx = worked_tx()?;
-    let leader = NodeId::L(1);
-    let standings = [
-        (
-            Request::View {
-                tx: Boxed::new(alloc, tx)?,
-            },
-            Standing::Working,
-        ),
-        (
-            Request::View {
-                tx: Boxed::new(alloc, tx)?,
-            },
-            Standing::Prepared,
-        ),
-        (
-            Request::Commit {
-                tx: Boxed::new(alloc, tx)?,
-            },
-            Standing::Undecided,
-        ),
-        (
-            Request::Commit {
-                tx: Boxed::new(alloc, tx)?,
-            },
-            Standing::Committed,
-        ),
-        (
-            Request::Status {
-                tx: Boxed::new(alloc, tx)?,
-            },
-            Standing::Unknown,
-        ),
-        (
-            Request::Status {
-                tx: Boxed::new(alloc, tx)?,
-            },
-            Standing::Aborted,
-        ),
-    ];
     let mut steps = Vec::new(alloc);
-    for (request, standing) in standings {
-        let event = Event::Ask {
-            node: leader,
-            request,
-        };
-        steps.push(quiet(alloc, event, Answer::Stands(standing)))?;
+    for standing in [Standing::Working, Standing::Prepared] {
+        let tx = Boxed::new(alloc, tx)?;
+        steps.push(asked(alloc, Request::View { tx }, standing))?;
     }
+    for standing in [Standing::Undecided, Standing::Committed] {
+        let tx = Boxed::new(alloc, tx)?;
+        steps.push(asked(alloc, Request::Commit { tx }, standing))?;
+    }
+    for standing in [Standing::Unknown, Standing::Aborted] {
+        let tx = Boxed::new(alloc, tx)?;
+        steps.push(asked(alloc, Request::Status { tx }, standing))?;
+    }
+    Ok(steps)
+}
+
+/// The events that are no client calls.
+fn push_other_events(alloc: Global, steps: &mut Vec<Step>) -> Result<(), Refusal> {
+    let tx = Boxed::new(alloc, worked_tx()?)?;
     let events = [
         Event::Ask {
             node: NodeId::R(7),
-            request: Request::Timeout {
-                tx: Boxed::new(alloc, tx)?,
-            },
+            request: Request::Timeout { tx },
         },
         Event::Lose { number: 4294967295 },
         Event::Cut {
@@ -299,7 +278,7 @@ fn other_steps(alloc: Global) -> Result<Sequence<Step>, Refusal> {
             bytes: Bytes::copy_of(alloc, b"\xff")?,
         },
         Event::Noise {
-            node: leader,
+            node: NodeId::L(1),
             bytes: Bytes::copy_of(alloc, b"")?,
         },
         Event::Tear {
@@ -307,7 +286,7 @@ fn other_steps(alloc: Global) -> Result<Sequence<Step>, Refusal> {
             bytes: 4,
         },
         Event::Restart { node: NodeId::A(0) },
-        Event::Compact { node: leader },
+        Event::Compact { node: NodeId::L(1) },
         Event::Ask {
             node: NodeId::A(2),
             request: Request::Recover,
@@ -316,6 +295,13 @@ fn other_steps(alloc: Global) -> Result<Sequence<Step>, Refusal> {
     for event in events {
         steps.push(quiet(alloc, event, Answer::Refused(Refusal::NoSuch)))?;
     }
+    Ok(())
+}
+
+/// Each event that is no client call, and some with their answers.
+fn other_steps(alloc: Global) -> Result<Sequence<Step>, Refusal> {
+    let mut steps = standing_steps(alloc)?;
+    push_other_events(alloc, &mut steps)?;
     let mut xids = Vec::new(alloc);
     xids.push(Xid::read(b"1:74:61")?)?;
     xids.push(Xid::read(b"2:75:6262")?)?;

@@ -5,6 +5,7 @@ ghost use Rattle.net_script.specs.Basics.{IsBytes, NodeId, A, L, R, hex_text};
 ghost use Rattle.net_script.specs.Events.{IsNode};
 ghost use Rattle.net_script.specs.Lines.{IsFirstPiece, IsFirstWord, IsSome, Reads, words, bytes_text, node_text};
 
+use crate::numbers;
 use hex::FromHexError;
 use protocol::NodeId;
 use std::alloc::Global;
@@ -57,7 +58,7 @@ pub(crate) fn lettered_number(word: &[u8], letter: u8) -> Option<u32>
     if *first != letter {
         return None;
     }
-    text::number(digits)
+    numbers::number(digits)
 }
 
 /// The number below 256 behind this letter.

@@ -8,7 +8,7 @@ use Rattle.protocol.specs.declared.answers.Answer.TheVariants.{Refused}
 use Rattle.node_core.specs.Roles.{memory_after}
 use Rattle.std.proofs.Common.{◌≡◌, ◌∙◌, ℕ, true, false, not, ◌||◌, List, [], ◌∷◌, ◌++◌, Option, Some, None, refl, sym, ap, subst}
 use Rattle.std.proofs.Common.{append-nil}
-use Rattle.std.specs.Prelude.{IfSome, IfNone, IfOk, IfErr, Result, Ok, Err, nat_lt, ◌^◌}
+use Rattle.std.specs.Prelude.{IfSome, IfNone, IfErr, OnOk, Result, Ok, Err, nat_lt, ◌^◌}
 use Rattle.xid.specs.Names.{XidParts}
 use Rattle.xid.specs.Transactions.{TxParts, xid_at}
 use Rattle.xid.specs.declared.refusals.Refusal.{Refusal}
@@ -362,14 +362,14 @@ apart_so P d answer fact question by_leader answer_is fact_is question_is leader
     subst P (λ i. record { answer = sym answer_is i; fact = sym fact_is i; sends = sym all i }) h
 
 -- a resource manager that left what it decided in a place, or refused
-pub managed_so : (old : Role) (p : ManagerParts) (message : Kind) → old ≡ Role.Manager p → (result : Result (Option Fact) Refusal)
-    (out : Output) → IfOk result (λ fact. manager_specs.Decides p (decided fact out)
+pub managed_so : (old : Role) (p : ManagerParts) (message : Kind) → old ≡ Role.Manager p → (result : Result (Unit {0}) Refusal)
+    (fact : Option Fact) (out : Output) → OnOk result (manager_specs.Decides p (decided fact out)
     (λ config number stored branches. on_manager_message number stored branches (xid_at (message_tx message) number) message))
-    → IfOk result (λ fact. Decides old (Role.Manager p) (decided fact out)
+    → OnOk result (Decides old (Role.Manager p) (decided fact out)
     (λ config who facts memory. on_message config who facts memory message))
-managed_so old p message is (Ok fact) out h =
+managed_so old p message is (Ok done) fact out h =
     told_so old (Role.Manager p) (Role.Manager p) _ _ _ is refl (manager_decides p (decided fact out) message h)
-managed_so old p message is (Err refusal) out h = tt
+managed_so old p message is (Err refusal) fact out h = tt
 
 -- what a leader decided, once its parts stand apart, beside no other message
 pub led_follows : (config : Config) (number : ℕ) (old new : LeaderParts) (rule : leader_specs.Rule) (d : LeaderDecision) (answer : Answer)
@@ -381,19 +381,20 @@ led_follows config number old new rule d answer fact first question answer_is fa
     (λ i. record { answer = sym answer_is i; fact = sym fact_is i; sends = sym first_is i ++ sym question_is i ++ d.sends }) h
 
 -- a leader that left what it decided in a place, or refused
-pub led_so : (old : Role) (inner new : LeaderParts) (message : Kind) → old ≡ Role.Leader inner → (result : Result (Option Fact) Refusal)
-    (out : Output) → ((config : Config) (number : ℕ) → FollowsOrRefuses config number inner new (led out.reply out.sends result)
+pub led_so : (old : Role) (inner new : LeaderParts) (message : Kind) → old ≡ Role.Leader inner → (result : Result (Unit {0}) Refusal)
+    (fact : Option Fact) (out : Output)
+    → ((config : Config) (number : ℕ) → FollowsOrRefuses config number inner new (led out.reply fact out.sends result)
     (λ stored memory. rules.on_leader_message config stored memory message))
-    → IfOk result (λ fact. Decides old (Role.Leader new) (decided fact out)
+    → OnOk result (Decides old (Role.Leader new) (decided fact out)
     (λ config who facts memory. on_message config who facts memory message))
-led_so old inner new message is (Ok fact) out h =
+led_so old inner new message is (Ok done) fact out h =
     told_so old (Role.Leader inner) (Role.Leader new) _ _ _ is refl
     (leader_decides inner new (record { answer = out.reply; fact = fact; sends = out.sends }) message h)
-led_so old inner new message is (Err refusal) out h = tt
+led_so old inner new message is (Err refusal) fact out h = tt
 
-pub led_refused : (old new : LeaderParts) (message : Kind) (result : Result (Option Fact) Refusal) (out : Output)
-    → ((config : Config) (number : ℕ) → FollowsOrRefuses config number old new (led out.reply out.sends result)
+pub led_refused : (old new : LeaderParts) (message : Kind) (result : Result (Unit {0}) Refusal) (fact : Option Fact) (out : Output)
+    → ((config : Config) (number : ℕ) → FollowsOrRefuses config number old new (led out.reply fact out.sends result)
     (λ stored memory. rules.on_leader_message config stored memory message)) → IfErr result (λ e. e ≡ NoMemory)
-led_refused old new message (Ok fact) out h = tt
-led_refused old new message (Err refusal) out h =
+led_refused old new message (Ok done) fact out h = tt
+led_refused old new message (Err refusal) fact out h =
     refused_memory no_config 0 old new (λ stored memory. rules.on_leader_message no_config stored memory message) refusal (h no_config 0)

@@ -11,6 +11,6 @@ abbrev pub sent : List Outgoing → List Outgoing
 sent all = all
 
 -- what a leader decided, whose parts stand apart; or a refusal
-abbrev pub led : Answer → List Outgoing → Result (Option Fact) Refusal → Result LeaderDecision Refusal
-led answer sends (Ok fact) = Ok (record { answer = answer; fact = fact; sends = sends })
-led answer sends (Err refusal) = Err refusal
+abbrev pub led : Answer → Option Fact → List Outgoing → Result (Unit {0}) Refusal → Result LeaderDecision Refusal
+led answer fact sends (Ok done) = Ok (record { answer = answer; fact = fact; sends = sends })
+led answer fact sends (Err refusal) = Err refusal

@@ -1,6 +1,7 @@
 //! What a node does on an input: by its role, if it is up.
 
-ghost use Rattle.std.specs.Prelude.{◌≡◌, List, Option, Some, None};
+ghost use Rattle.std.specs.Prelude.{◌≡◌, ℕ, List, Option, Some, None};
+ghost use Rattle.wire.specs.Grammar.{Spells};
 ghost use Rattle.stable_record.specs.declared.fact.FactKind.{FactKind};
 ghost use Rattle.xid.specs.Transactions.{participants};
 ghost use Rattle.resource_manager.specs.Messages.{are_below};
@@ -57,6 +58,35 @@ fn is_of_cluster(sizes: Sizes, message: &Message) -> bool
     }
 }
 
+/// What a node that is up does on a message, whatever bytes spelled it. False where it goes down.
+fn hear_message<R: Record>(
+    alloc: Global,
+    device: &mut R,
+    who: NodeId,
+    sizes: Sizes,
+    role: &mut Role,
+    message: &Message,
+    out: &mut Output,
+) -> bool
+    ensures { (config : Config) (facts : List FactKind) (memory : Memory) (bytes : List ℕ) → AreSizes config sizes
+        → Spells message.now bytes → RoleStands config who role.old facts memory
+        → Carries config who facts memory (effect_of config who facts memory (datagram_input bytes))
+        (R.held device.old) (R.held device.new) role.new (carried result out.new) }
+{
+    if !is_of_cluster(sizes, message) {
+        out.answer(Answer::Done);
+        return true;
+    }
+    let mut fact = None;
+    match role.on_message(message, out, &mut fact) {
+        Ok(()) => carry_out(alloc, device, who, role, &fact, out),
+        Err(refusal) => {
+            out.refuse(refusal);
+            false
+        }
+    }
+}
+
 /// What a node that is up does on the bytes of a datagram. False where it goes down.
 fn hear<R: Record>(
     alloc: Global,
@@ -72,22 +102,11 @@ fn hear<R: Record>(
         → Carries config who facts memory (effect_of config who facts memory (datagram_input bytes.now))
         (R.held device.old) (R.held device.new) role.new (carried result out.new) }
 {
-    let message = match decode(bytes) {
-        Ok(message) => message,
+    match &decode(bytes) {
+        Ok(message) => hear_message(alloc, device, who, sizes, role, message, out),
         Err(_) => {
             out.refuse(Refusal::BadMessage);
-            return true;
-        }
-    };
-    if !is_of_cluster(sizes, &message) {
-        out.answer(Answer::Done);
-        return true;
-    }
-    match role.on_message(&message, out) {
-        Ok(fact) => carry_out(alloc, device, who, role, &fact, out),
-        Err(refusal) => {
-            out.refuse(refusal);
-            false
+            true
         }
     }
 }

@@ -27,22 +27,26 @@ pub enum Role {
 }
 
 impl Role {
-    /// What it does on a message of the cluster: the answer and what to send are put out, and the fact is given that is to be stored
-    /// before, if there is one. Its caller makes ready for it, stores it and then has it taken. Refused: `NoMemory` alone, and then the
+    /// What it does on a message of the cluster: the answer and what to send are put out, and in the place of `fact` stands the one that
+    /// is to be stored before, if there is one. Its caller makes ready for it, stores it and then has it taken. Refused: `NoMemory` alone, and then the
     /// role is of no use any more.
     pub fn on_message(
         &mut self,
         message: &Message,
         out: &mut Output,
-    ) -> Result<Option<Fact>, Refusal>
-        ensures ok { IfOk result (λ fact. Decides self.old self.new (decided fact out.new)
+        fact: &mut Option<Fact>,
+    ) -> Result<(), Refusal>
+        ensures ok { OnOk result (Decides self.old self.new (decided fact.new out.new)
             (λ config who facts memory. on_message_of config who facts memory message.now)) }
         ensures err { IfErr result (λ e. e ≡ NoMemory) }
     {
         match self {
-            Role::Acceptor(acceptor) => Ok(out.sends.accept(acceptor, message, &mut out.reply)),
-            Role::Leader(leader) => out.sends.lead(leader, message, &mut out.reply),
-            Role::Manager(manager) => out.sends.manage(manager, message, &mut out.reply),
+            Role::Acceptor(acceptor) => {
+                out.sends.accept(acceptor, message, &mut out.reply, fact);
+                Ok(())
+            }
+            Role::Leader(leader) => out.sends.lead(leader, message, &mut out.reply, fact),
+            Role::Manager(manager) => out.sends.manage(manager, message, &mut out.reply, fact),
         }
     }
 

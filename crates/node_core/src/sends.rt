@@ -1,4 +1,4 @@
-ghost use Rattle.std.specs.Prelude.{◌≡◌, ℕ, ◌<◌, [], ◌++◌, length, slice_index_or, IfOk, IfErr};
+ghost use Rattle.std.specs.Prelude.{◌≡◌, ℕ, ◌<◌, [], ◌++◌, length, slice_index_or, IfErr, OnOk, None};
 ghost use Rattle.xid.specs.Transactions.{xid_at};
 ghost use Rattle.xid.specs.declared.refusals.Refusal.TheVariants.{NoMemory};
 ghost use Rattle.wire.specs.Messages.{message_tx};
@@ -55,14 +55,24 @@ fn forget_led(sends: &mut LeaderSends)
     *sends = LeaderDecision::nothing().sends;
 }
 
-/// The fact, which is left nowhere else.
-fn take(fact: &mut Option<Fact>) -> Option<Fact>
-    ensures { result ≡ fact.old }
+/// Puts a fact in the place of another, and leaves it nowhere else.
+fn hand_over(from: &mut Option<Fact>, to: &mut Option<Fact>)
+    ensures { to.new ≡ from.old }
+{
+    match from {
+        Some(_) => mem::swap(from, to),
+        None => forget_fact(to),
+    }
+}
+
+/// No fact any more.
+fn forget_fact(fact: &mut Option<Fact>)
+    ensures { fact.new ≡ None }
 {
     let Some(_) = &*fact else {
-        return None;
+        return;
     };
-    mem::replace(fact, None)
+    *fact = None;
 }
 
 impl NodeSends {
@@ -86,33 +96,35 @@ impl NodeSends {
         forget_led(&mut self.led.sends);
     }
 
-    /// What an acceptor sends on a message, in place of what was sent before; beside it the answer is left, and the fact given that is to
-    /// be stored.
+    /// What an acceptor sends on a message, in place of what was sent before; beside it the answer and the fact are left that is to be
+    /// stored.
     pub(crate) fn accept(
         &mut self,
         acceptor: &Acceptor,
         message: &Message,
         reply: &mut Answer,
-    ) -> Option<Fact>
-        ensures { AcceptorDecides acceptor.now (record { answer = reply.new; fact = result; sends = self.new })
+        fact: &mut Option<Fact>,
+    )
+        ensures { AcceptorDecides acceptor.now (record { answer = reply.new; fact = fact.new; sends = self.new })
             (λ config a slots. on_acceptor_message config a slots message.now) }
     {
         self.question.clear();
         forget_led(&mut self.led.sends);
         acceptor.decide(message, &mut self.decided);
         *reply = mem::replace(&mut self.decided.answer, Answer::Done);
-        take(&mut self.decided.fact)
+        hand_over(&mut self.decided.fact, fact);
     }
 
-    /// What a resource manager sends on a message, in place of what was sent before; beside it the answer is left, and the fact given that
-    /// is to be stored. Refused: `NoMemory`.
+    /// What a resource manager sends on a message, in place of what was sent before; beside it the answer and the fact are left that is
+    /// to be stored. Refused: `NoMemory`.
     pub(crate) fn manage(
         &mut self,
         manager: &ResourceManager,
         message: &Message,
         reply: &mut Answer,
-    ) -> Result<Option<Fact>, Refusal>
-        ensures ok { IfOk result (λ fact. ManagerDecides manager.now (record { answer = reply.new; fact = fact; sends = self.new })
+        fact: &mut Option<Fact>,
+    ) -> Result<(), Refusal>
+        ensures ok { OnOk result (ManagerDecides manager.now (record { answer = reply.new; fact = fact.new; sends = self.new })
             (λ config number stored branches. on_manager_message number stored branches
             (xid_at (message_tx message.now) number) message.now)) }
         ensures err { IfErr result (λ e. e ≡ NoMemory) }
@@ -122,21 +134,24 @@ impl NodeSends {
         match manager.decide(message, &mut self.decided) {
             Ok(()) => {
                 *reply = mem::replace(&mut self.decided.answer, Answer::Done);
-                Ok(take(&mut self.decided.fact))
+                hand_over(&mut self.decided.fact, fact);
+                Ok(())
             }
             Err(refusal) => Err(refusal),
         }
     }
 
-    /// What a leader sends on a message, in place of what was sent before; beside it the answer is left, and the fact given that is to be
+    /// What a leader sends on a message, in place of what was sent before; beside it the answer and the fact are left that is to be
     /// stored. Refused as the leader refuses.
     pub(crate) fn lead(
         &mut self,
         leader: &mut Leader,
         message: &Message,
         reply: &mut Answer,
-    ) -> Result<Option<Fact>, Refusal>
-        ensures { (config : Config) (number : ℕ) → FollowsOrRefuses config number leader.old leader.new (led reply.new self.new result)
+        fact: &mut Option<Fact>,
+    ) -> Result<(), Refusal>
+        ensures { (config : Config) (number : ℕ) → FollowsOrRefuses config number leader.old leader.new
+            (led reply.new fact.new self.new result)
             (λ stored memory. on_leader_message config stored memory message.now) }
     {
         self.decided.sends.clear();
@@ -144,7 +159,8 @@ impl NodeSends {
         match leader.decide(message, &mut self.led) {
             Ok(()) => {
                 *reply = mem::replace(&mut self.led.answer, Answer::Done);
-                Ok(take(&mut self.led.fact))
+                hand_over(&mut self.led.fact, fact);
+                Ok(())
             }
             Err(refusal) => Err(refusal),
         }

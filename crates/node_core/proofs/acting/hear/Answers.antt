@@ -1,20 +1,21 @@
-use Rattle.protocol.specs.Nodes.{on_message}
-use Rattle.node_core.proofs.Hearing.{noise_done, outside_done, inside_carries}
-use Rattle.node_core.specs.Storing.{carried}
+use Rattle.std.proofs.Common.{◌≡◌, subst}
+use Rattle.std.specs.Prelude.{IfOk, IfErr}
+use Rattle.xid.specs.declared.refusals.Refusal.{Refusal}
+use Rattle.xid.specs.declared.refusals.Refusal.TheVariants.{BadMessage}
+use Rattle.wire.specs.declared.message.Kind.{Kind}
+use Rattle.wire.specs.Messages.{IsMessage}
+use Rattle.wire.specs.Grammar.{Spells, spelling}
+use Rattle.std.specs.Prelude.{◌≢◌}
+use Rattle.node_core.proofs.Hearing.{noise_done}
 use Rattle.node_core.proofs.acting.hear.Goals as goal
 
 pub returns-in-Err : goal.returns-in-Err
 returns-in-Err g c = λ config facts memory sizes s.
-    noise_done config c.args.who facts memory _ c.args.role.now c.args.bytes.now c.refuse.new.self c.in-Err.ensures.err.1 c.refuse.ensures s
+    let refused = subst (λ r. IfErr r (λ e. (e ≡ BadMessage) × ((k : Kind) → IsMessage k → c.args.bytes.now ≢ spelling k))) c.in-Err.is
+        c.decode.ensures.err in
+    noise_done config c.args.who facts memory _ c.args.role.now c.args.bytes.now c.refuse.new.self refused.1 c.refuse.ensures s
 
-pub returns-then-not-is_of_cluster : goal.returns-then-not-is_of_cluster
-returns-then-not-is_of_cluster g c = λ config facts memory sizes s.
-    outside_done config c.args.who facts memory _ c.args.role.now c.args.bytes.now c.in-Ok.message c.answer.new.self c.in-Ok.ensures.ok
-    (c.if-not-is_of_cluster.ensures config sizes) c.answer.ensures s
-
-pub returns-in-Ok-on_message : goal.returns-in-Ok-on_message
-returns-in-Ok-on_message g c = λ config facts memory sizes s.
-    inside_carries config c.args.who facts memory _ c.args.role.now c.args.bytes.now c.in-Ok.message _ c.carry_out.new.role
-    (carried c.carry_out.result c.carry_out.new.out) c.in-Ok.ensures.ok (c.if-not-is_of_cluster.ensures config sizes)
-    (c.carry_out.ensures config facts memory (on_message config c.args.who facts memory c.in-Ok.message)
-    (c.in-Ok-on_message.ensures.ok config c.args.who facts memory s))
+pub returns-in-Ok : goal.returns-in-Ok
+returns-in-Ok g c = λ config facts memory sizes s.
+    c.hear_message.ensures config facts memory c.args.bytes.now sizes
+    (subst (λ r. IfOk r (λ m. Spells m c.args.bytes.now)) c.in-Ok.is c.decode.ensures.ok) s

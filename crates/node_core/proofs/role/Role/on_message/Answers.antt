@@ -7,16 +7,19 @@ pub returns-in-Acceptor-clause-ok : goal.returns-in-Acceptor-clause-ok
 returns-in-Acceptor-clause-ok c =
     let out = record c.args.out.now { reply = c.accept.new.reply; sends = c.accept.new.self } in
     told_so _ _ _ _ _ _ c.in-Acceptor.is refl
-    (acceptor_decides c.in-Acceptor.acceptor (decided c.accept.result out) c.args.message.now c.accept.ensures)
+    (acceptor_decides c.in-Acceptor.acceptor (decided c.accept.new.fact out) c.args.message.now c.accept.ensures)
 
 pub returns-in-Leader-clause-ok : goal.returns-in-Leader-clause-ok
 returns-in-Leader-clause-ok c =
-    led_so c.args.self.now c.in-Leader.leader c.lead.new.leader c.args.message.now c.in-Leader.is c.lead.result (record c.args.out.now { reply = c.lead.new.reply; sends = c.lead.new.self }) c.lead.ensures
+    led_so c.args.self.now c.in-Leader.leader c.lead.new.leader c.args.message.now c.in-Leader.is c.lead.result c.lead.new.fact
+    (record c.args.out.now { reply = c.lead.new.reply; sends = c.lead.new.self }) c.lead.ensures
 
 pub returns-in-Leader-clause-err : goal.returns-in-Leader-clause-err
 returns-in-Leader-clause-err c =
-    led_refused c.in-Leader.leader c.lead.new.leader c.args.message.now c.lead.result (record c.args.out.now { reply = c.lead.new.reply; sends = c.lead.new.self }) c.lead.ensures
+    led_refused c.in-Leader.leader c.lead.new.leader c.args.message.now c.lead.result c.lead.new.fact
+    (record c.args.out.now { reply = c.lead.new.reply; sends = c.lead.new.self }) c.lead.ensures
 
 pub returns-in-Manager-clause-ok : goal.returns-in-Manager-clause-ok
 returns-in-Manager-clause-ok c =
-    managed_so c.args.self.now c.in-Manager.manager c.args.message.now c.in-Manager.is c.manage.result (record c.args.out.now { reply = c.manage.new.reply; sends = c.manage.new.self }) c.manage.ensures.ok
+    managed_so c.args.self.now c.in-Manager.manager c.args.message.now c.in-Manager.is c.manage.result c.manage.new.fact
+    (record c.args.out.now { reply = c.manage.new.reply; sends = c.manage.new.self }) c.manage.ensures.ok

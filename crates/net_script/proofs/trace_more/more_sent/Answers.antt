@@ -1,0 +1,15 @@
+use Rattle.std.proofs.Common.{Some}
+use Rattle.net_script.specs.declared.trace_lines.TraceLine.TheVariants.{Datagram}
+use Rattle.net_script.specs.Lines.{words}
+use Rattle.net_script.proofs.TraceLineLemmas.{only_sent}
+use Rattle.net_script.proofs.MoreLines.{told, same_line}
+use Rattle.net_script.proofs.trace_more.more_sent.Goals as goal
+
+pub returns-in_default : goal.returns-in_default
+returns-in_default c = λ said is e.
+    let only = only_sent said (words c.args.args.now) is e in absurd (c.in_default.ensures only.0 only.1 only.2)
+
+pub returns : goal.returns
+returns c =
+    told (Some c.args.trace) (Datagram c.in-Some.sent) _ c.with_one_sent.result same_line c.in-Some.ensures.0 (cc (c.in-Some.ensures.1))
+    c.with_one_sent.ensures
