@@ -261,13 +261,7 @@ fn noise<R: Record>(
 }
 
 /// Arms a tear on a node's record.
-fn tear<R: Tear>(
-    sizes: Sizes,
-    nodes: &mut Vec<Node<R>>,
-    who: NodeId,
-    bytes: u32,
-    came: &mut Came,
-)
+fn tear<R: Tear>(sizes: Sizes, nodes: &mut Vec<Node<R>>, who: NodeId, bytes: u32, came: &mut Came)
     requires count { length nodes.old.items ≡ node_count sizes }
     ensures { (network : NetworkParts) → Occurs (Tears who bytes) (cluster_of sizes nodes.old.items network)
         (cluster_of sizes nodes.new.items network) (step_by (Tears who bytes) came.new) }
@@ -292,12 +286,7 @@ fn answer_of(restarted: Result<(), Refusal>) -> Answer
 }
 
 /// Restarts a node.
-fn restart<R: Record>(
-    sizes: Sizes,
-    nodes: &mut Vec<Node<R>>,
-    who: NodeId,
-    came: &mut Came,
-)
+fn restart<R: Record>(sizes: Sizes, nodes: &mut Vec<Node<R>>, who: NodeId, came: &mut Came)
     requires count { length nodes.old.items ≡ node_count sizes }
     ensures { (network : NetworkParts) → Occurs (Restart who) (cluster_of sizes nodes.old.items network)
         (cluster_of sizes nodes.new.items network) (step_by (Restart who) came.new) }
@@ -312,12 +301,7 @@ fn restart<R: Record>(
 }
 
 /// Compacts a node.
-fn compact<R: Record>(
-    sizes: Sizes,
-    nodes: &mut Vec<Node<R>>,
-    who: NodeId,
-    came: &mut Came,
-)
+fn compact<R: Record>(sizes: Sizes, nodes: &mut Vec<Node<R>>, who: NodeId, came: &mut Came)
     requires count { length nodes.old.items ≡ node_count sizes }
     ensures { (network : NetworkParts) → Occurs (Compact who) (cluster_of sizes nodes.old.items network)
         (cluster_of sizes nodes.new.items network) (step_by (Compact who) came.new) }

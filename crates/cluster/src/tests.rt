@@ -130,11 +130,7 @@ fn knows(
 }
 
 /// l0 knows no decision, and l1 knows that it is committed.
-fn leaders_know(
-    rt: &impl Abort,
-    alloc: Global,
-    nodes: &mut Vec<MemNode>,
-) -> Result<(), Refusal> {
+fn leaders_know(rt: &impl Abort, alloc: Global, nodes: &mut Vec<MemNode>) -> Result<(), Refusal> {
     match nodes.as_mut_slice() {
         [_, _, _, first, second, _, _] => {
             knows(rt, alloc, first, Standing::Undecided)?;

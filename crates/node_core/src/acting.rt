@@ -16,10 +16,9 @@ use crate::config::Sizes;
 use crate::output::Output;
 use crate::requests::accepts_request;
 use crate::role::Role;
-use crate::storing::carry_out;
+use crate::storing::{Workspace, carry_out};
 use protocol::{Answer, NodeId, Request};
 use stable_record::Record;
-use std::alloc::Global;
 use wire::{Kind, Message, decode};
 use xid::{Refusal, Tx, XaCode};
 
@@ -60,7 +59,7 @@ fn is_of_cluster(sizes: Sizes, message: &Message) -> bool
 
 /// What a node that is up does on a message, whatever bytes spelled it. False where it goes down.
 fn hear_message<R: Record>(
-    alloc: Global,
+    work: &mut Workspace,
     device: &mut R,
     who: NodeId,
     sizes: Sizes,
@@ -77,9 +76,8 @@ fn hear_message<R: Record>(
         out.answer(Answer::Done);
         return true;
     }
-    let mut fact = None;
-    match role.on_message(message, out, &mut fact) {
-        Ok(()) => carry_out(alloc, device, who, role, &fact, out),
+    match role.on_message(message, out, &mut work.fact) {
+        Ok(()) => carry_out(work, device, who, role, out),
         Err(refusal) => {
             out.refuse(refusal);
             false
@@ -89,7 +87,7 @@ fn hear_message<R: Record>(
 
 /// What a node that is up does on the bytes of a datagram. False where it goes down.
 fn hear<R: Record>(
-    alloc: Global,
+    work: &mut Workspace,
     device: &mut R,
     who: NodeId,
     sizes: Sizes,
@@ -103,7 +101,7 @@ fn hear<R: Record>(
         (R.held device.old) (R.held device.new) role.new (carried result out.new) }
 {
     match &decode(bytes) {
-        Ok(message) => hear_message(alloc, device, who, sizes, role, message, out),
+        Ok(message) => hear_message(work, device, who, sizes, role, message, out),
         Err(_) => {
             out.refuse(Refusal::BadMessage);
             true
@@ -113,7 +111,7 @@ fn hear<R: Record>(
 
 /// What a node that is up does on a request. False where it goes down.
 fn serve<R: Record>(
-    alloc: Global,
+    work: &mut Workspace,
     device: &mut R,
     who: NodeId,
     role: &mut Role,
@@ -124,8 +122,8 @@ fn serve<R: Record>(
         → Carries config who facts memory (effect_of config who facts memory (Asked request.now))
         (R.held device.old) (R.held device.new) role.new (carried result out.new) }
 {
-    match role.on_request(request, out) {
-        Ok(fact) => carry_out(alloc, device, who, role, &fact, out),
+    match role.on_request(request, out, &mut work.fact) {
+        Ok(()) => carry_out(work, device, who, role, out),
         Err(refusal) => {
             out.refuse(refusal);
             false
@@ -158,7 +156,7 @@ fn down_answer(request: &Request) -> Answer
 
 /// What a node does on the bytes of a datagram.
 pub(crate) fn receive<R: Record>(
-    alloc: Global,
+    work: &mut Workspace,
     device: &mut R,
     who: NodeId,
     sizes: Sizes,
@@ -171,7 +169,7 @@ pub(crate) fn receive<R: Record>(
         → Steps config who own m (datagram_input bytes.now) (R.held device.old) (R.held device.new) role.new out.new }
 {
     let stays = match role {
-        Some(up) => hear(alloc, device, who, sizes, up, bytes, out),
+        Some(up) => hear(work, device, who, sizes, up, bytes, out),
         None => {
             out.refuse(Refusal::Down);
             return;
@@ -182,7 +180,7 @@ pub(crate) fn receive<R: Record>(
 
 /// What a node does on a request.
 pub(crate) fn ask<R: Record>(
-    alloc: Global,
+    work: &mut Workspace,
     device: &mut R,
     who: NodeId,
     role: &mut Option<Role>,
@@ -197,7 +195,7 @@ pub(crate) fn ask<R: Record>(
         return;
     }
     let stays = match role {
-        Some(up) => serve(alloc, device, who, up, request, out),
+        Some(up) => serve(work, device, who, up, request, out),
         None => {
             out.answer(down_answer(request));
             return;

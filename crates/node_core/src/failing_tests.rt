@@ -37,12 +37,7 @@ fn small(alloc: Global) -> Result<Config, Refusal> {
 }
 
 /// The resource manager over the old vote. Where the record fails it comes back, and the node opens over it then.
-fn opened(
-    rt: &impl Abort,
-    alloc: Global,
-    call: u64,
-    leaves: Leaves,
-) -> Result<FailNode, Refusal> {
+fn opened(rt: &impl Abort, alloc: Global, call: u64, leaves: Leaves) -> Result<FailNode, Refusal> {
     let config = small(alloc)?;
     let bytes = MemRecord::new(alloc, Vec::from_slice(alloc, &OLD_VOTE)?);
     match Node::open(

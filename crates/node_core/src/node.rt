@@ -12,6 +12,7 @@ use crate::config::{Config, Sizes};
 use crate::opening::{copy_rows, load, reload};
 use crate::output::{Input, Output};
 use crate::role::Role;
+use crate::storing::Workspace;
 use crate::viewing::{table, view};
 use protocol::{NodeId, Row, View};
 use stable_record::{Record, Tear};
@@ -29,6 +30,8 @@ pub struct Node<R: Record> {
     rows: Vec<Row>,
     device: R,
     role: Option<Role>,
+    // where it decides, from input to input
+    work: Workspace,
 }
 
 impl<R: Record> Model for Node<R> {
@@ -79,6 +82,7 @@ impl<R: Record> Node<R> {
                 rows,
                 device,
                 role: Some(role),
+                work: Workspace::new(alloc),
             }),
             Err(refusal) => Err((device, refusal)),
         }
@@ -192,7 +196,7 @@ impl<R: Record> Node<R> {
     {
         match input {
             Input::Asked(request) => ask(
-                self.alloc,
+                &mut self.work,
                 &mut self.device,
                 self.who,
                 &mut self.role,
@@ -200,7 +204,7 @@ impl<R: Record> Node<R> {
                 out,
             ),
             Input::Received(bytes) => receive(
-                self.alloc,
+                &mut self.work,
                 &mut self.device,
                 self.who,
                 self.sizes,

@@ -3,7 +3,7 @@ ghost use Rattle.protocol.specs.declared.answers.Answer.TheVariants.{Done, Refus
 ghost use Rattle.node_core.specs.Roles.{decided, from_reminder, answering};
 ghost use Rattle.node_core.specs.Storing.{output_of, stopped_output, change_made};
 
-use crate::sends::NodeSends;
+use crate::sends::{NodeSends, forget_fact};
 use crate::storing::Stopped;
 use leader::LeaderSends;
 use protocol::{Answer, Change, NodeId, Request, View};
@@ -106,8 +106,11 @@ impl Output {
 
     /// A view that is changed.
     fn put_change(&mut self, rm: u8, tx: &Tx, view: View)
-        ensures { self.new ≡ record { reply = self.old.reply; now = Some (record { rm = rm; tx = tx.now; view = view });
-            sends = self.old.sends } }
+        ensures { self.new ≡ record {
+          reply = self.old.reply;
+          now = Some (record { rm = rm; tx = tx.now; view = view });
+          sends = self.old.sends;
+        } }
     {
         self.now = Some(Change { rm, tx: *tx, view });
     }
@@ -121,20 +124,20 @@ impl Output {
     }
 
     /// What a resource manager is reminded of at a timeout. There is no fact to store.
-    pub(crate) fn take_reminder(&mut self, reminder: Reminder) -> Option<Fact>
-        ensures { decided result self.new ≡ from_reminder reminder }
+    pub(crate) fn take_reminder(&mut self, reminder: Reminder, fact: &mut Option<Fact>)
+        ensures { decided fact.new self.new ≡ from_reminder reminder }
     {
+        forget_fact(fact);
         self.reply = reminder.answer;
         self.sends.remind(reminder.vote, reminder.question);
-        None
     }
 
     /// What is answered where there is nothing to store or to send.
-    pub(crate) fn take_answer(&mut self, reply: Answer) -> Option<Fact>
-        ensures { decided result self.new ≡ answering reply }
+    pub(crate) fn take_answer(&mut self, reply: Answer, fact: &mut Option<Fact>)
+        ensures { decided fact.new self.new ≡ answering reply }
     {
+        forget_fact(fact);
         self.reply = reply;
         self.sends.clear();
-        None
     }
 }

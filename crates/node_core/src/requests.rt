@@ -1,6 +1,6 @@
 //! What a leader and a resource manager are asked.
 
-ghost use Rattle.std.specs.Prelude.{◌≡◌, ℕ, IfOk, IfErr};
+ghost use Rattle.std.specs.Prelude.{◌≡◌, ℕ, IfOk, IfErr, OnOk};
 ghost use Rattle.xid.specs.declared.refusals.Refusal.TheVariants.{NoMemory, NoSuch};
 ghost use Rattle.protocol.specs.declared.answers.Answer.TheVariants.{Refused};
 ghost use Rattle.protocol.specs.declared.requests.Request.TheVariants as requests;
@@ -43,32 +43,54 @@ pub(crate) fn at_leader(
     leader: &mut Leader,
     request: &Request,
     out: &mut Output,
-) -> Result<Option<Fact>, Refusal>
-    ensures ok { IfOk result (λ fact. Decides (roles.Leader leader.old) (roles.Leader leader.new) (decided fact out.new)
+    fact: &mut Option<Fact>,
+) -> Result<(), Refusal>
+    ensures ok { OnOk result (Decides (roles.Leader leader.old) (roles.Leader leader.new) (decided fact.new out.new)
         (λ config who facts memory. on_request config who facts memory request.now)) }
     ensures err { IfErr result (λ e. e ≡ NoMemory) }
 {
     match request {
-        Request::Commit { tx } => commit(leader, tx.get(), out),
-        Request::Status { tx } => Ok(tell_status(leader, tx.get(), out)),
-        Request::Timeout { tx } => Ok(time_out(leader, tx.get(), out)),
-        Request::Call { .. } => Ok(not_taken(out)),
-        Request::Recover => Ok(not_taken(out)),
-        Request::View { .. } => Ok(not_taken(out)),
+        Request::Commit { tx } => commit(leader, tx.get(), out, fact),
+        Request::Status { tx } => {
+            tell_status(leader, tx.get(), out, fact);
+            Ok(())
+        }
+        Request::Timeout { tx } => {
+            time_out(leader, tx.get(), out, fact);
+            Ok(())
+        }
+        Request::Call { .. } => {
+            not_taken(out, fact);
+            Ok(())
+        }
+        Request::Recover => {
+            not_taken(out, fact);
+            Ok(())
+        }
+        Request::View { .. } => {
+            not_taken(out, fact);
+            Ok(())
+        }
     }
 }
 
 /// What a leader does on a commit.
 #[inline(never)]
-fn commit(leader: &mut Leader, tx: &Tx, out: &mut Output) -> Result<Option<Fact>, Refusal>
-    ensures ok { IfOk result (λ fact. Decides (roles.Leader leader.old) (roles.Leader leader.new) (decided fact out.new)
+fn commit(
+    leader: &mut Leader,
+    tx: &Tx,
+    out: &mut Output,
+    fact: &mut Option<Fact>,
+) -> Result<(), Refusal>
+    ensures ok { OnOk result (Decides (roles.Leader leader.old) (roles.Leader leader.new) (decided fact.new out.new)
         (λ config who facts memory. on_request config who facts memory (requests.Commit tx.now))) }
     ensures err { IfErr result (λ e. e ≡ NoMemory) }
 {
     match leader.commit(tx) {
         Ok(decision) => {
             out.put_led(decision.answer, decision.sends);
-            Ok(decision.fact)
+            *fact = decision.fact;
+            Ok(())
         }
         Err(refusal) => Err(refusal),
     }
@@ -76,24 +98,24 @@ fn commit(leader: &mut Leader, tx: &Tx, out: &mut Output) -> Result<Option<Fact>
 
 /// What a leader does where its status is asked for.
 #[inline(never)]
-fn tell_status(leader: &Leader, tx: &Tx, out: &mut Output) -> Option<Fact>
-    ensures { Decides (roles.Leader leader.now) (roles.Leader leader.now) (decided result out.new)
+fn tell_status(leader: &Leader, tx: &Tx, out: &mut Output, fact: &mut Option<Fact>)
+    ensures { Decides (roles.Leader leader.now) (roles.Leader leader.now) (decided fact.new out.new)
         (λ config who facts memory. on_request config who facts memory (requests.Status tx.now)) }
 {
     let decision = leader.status(tx);
     out.put_led(decision.answer, decision.sends);
-    decision.fact
+    *fact = decision.fact;
 }
 
 /// What a leader does at a timeout.
 #[inline(never)]
-fn time_out(leader: &mut Leader, tx: &Tx, out: &mut Output) -> Option<Fact>
-    ensures { Decides (roles.Leader leader.old) (roles.Leader leader.new) (decided result out.new)
+fn time_out(leader: &mut Leader, tx: &Tx, out: &mut Output, fact: &mut Option<Fact>)
+    ensures { Decides (roles.Leader leader.old) (roles.Leader leader.new) (decided fact.new out.new)
         (λ config who facts memory. on_request config who facts memory (requests.Timeout tx.now)) }
 {
     let decision = leader.timeout(tx);
     out.put_led(decision.answer, decision.sends);
-    decision.fact
+    *fact = decision.fact;
 }
 
 /// What a resource manager does on a request.
@@ -101,46 +123,65 @@ pub(crate) fn at_manager(
     manager: &mut ResourceManager,
     request: &Request,
     out: &mut Output,
-) -> Result<Option<Fact>, Refusal>
-    ensures ok { IfOk result (λ fact. Decides (roles.Manager manager.old) (roles.Manager manager.new) (decided fact out.new)
+    fact: &mut Option<Fact>,
+) -> Result<(), Refusal>
+    ensures ok { OnOk result (Decides (roles.Manager manager.old) (roles.Manager manager.new) (decided fact.new out.new)
         (λ config who facts memory. on_request config who facts memory request.now)) }
     ensures err { IfErr result (λ e. e ≡ NoMemory) }
 {
     match request {
         Request::Call { xid, action } => match call(manager, xid, action) {
-            Ok(answer) => Ok(out.take_answer(answer)),
+            Ok(answer) => {
+                out.take_answer(answer, fact);
+                Ok(())
+            }
             Err(refusal) => Err(refusal),
         },
         Request::Recover => match manager.recover() {
-            Ok(answer) => Ok(out.take_answer(answer)),
+            Ok(answer) => {
+                out.take_answer(answer, fact);
+                Ok(())
+            }
             Err(refusal) => Err(refusal),
         },
-        Request::View { tx } => Ok(show(manager, tx.get(), out)),
-        Request::Timeout { tx } => Ok(remind(manager, tx.get(), out)),
-        Request::Commit { .. } => Ok(not_taken(out)),
-        Request::Status { .. } => Ok(not_taken(out)),
+        Request::View { tx } => {
+            show(manager, tx.get(), out, fact);
+            Ok(())
+        }
+        Request::Timeout { tx } => {
+            remind(manager, tx.get(), out, fact);
+            Ok(())
+        }
+        Request::Commit { .. } => {
+            not_taken(out, fact);
+            Ok(())
+        }
+        Request::Status { .. } => {
+            not_taken(out, fact);
+            Ok(())
+        }
     }
 }
 
 /// What a resource manager does where its view is asked for.
 #[inline(never)]
-fn show(manager: &ResourceManager, tx: &Tx, out: &mut Output) -> Option<Fact>
-    ensures { Decides (roles.Manager manager.now) (roles.Manager manager.now) (decided result out.new)
+fn show(manager: &ResourceManager, tx: &Tx, out: &mut Output, fact: &mut Option<Fact>)
+    ensures { Decides (roles.Manager manager.now) (roles.Manager manager.now) (decided fact.new out.new)
         (λ config who facts memory. on_request config who facts memory (requests.View tx.now)) }
 {
     match manager.view(tx) {
-        Ok(view) => out.take_answer(Answer::Stands(standing_of(view))),
-        Err(refusal) => out.take_answer(Answer::Refused(refusal)),
+        Ok(view) => out.take_answer(Answer::Stands(standing_of(view)), fact),
+        Err(refusal) => out.take_answer(Answer::Refused(refusal), fact),
     }
 }
 
 /// What a resource manager does at a timeout.
 #[inline(never)]
-fn remind(manager: &ResourceManager, tx: &Tx, out: &mut Output) -> Option<Fact>
-    ensures { Decides (roles.Manager manager.now) (roles.Manager manager.now) (decided result out.new)
+fn remind(manager: &ResourceManager, tx: &Tx, out: &mut Output, fact: &mut Option<Fact>)
+    ensures { Decides (roles.Manager manager.now) (roles.Manager manager.now) (decided fact.new out.new)
         (λ config who facts memory. on_request config who facts memory (requests.Timeout tx.now)) }
 {
-    out.take_reminder(manager.timeout(tx))
+    out.take_reminder(manager.timeout(tx), fact);
 }
 
 /// A client call.
@@ -173,8 +214,8 @@ fn standing_of(view: View) -> Standing
 }
 
 /// What is decided on a request that a kind of node doesn't take.
-pub(crate) fn not_taken(out: &mut Output) -> Option<Fact>
-    ensures { decided result out.new ≡ answering (Refused NoSuch) }
+pub(crate) fn not_taken(out: &mut Output, fact: &mut Option<Fact>)
+    ensures { decided fact.new out.new ≡ answering (Refused NoSuch) }
 {
-    out.take_answer(Answer::Refused(Refusal::NoSuch))
+    out.take_answer(Answer::Refused(Refusal::NoSuch), fact);
 }

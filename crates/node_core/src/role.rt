@@ -1,4 +1,4 @@
-ghost use Rattle.std.specs.Prelude.{◌≡◌, ℕ, [], IfOk, IfErr, OnOk};
+ghost use Rattle.std.specs.Prelude.{◌≡◌, ℕ, [], IfErr, OnOk};
 ghost use Rattle.xid.specs.declared.refusals.Refusal.TheVariants.{NoMemory};
 ghost use Rattle.protocol.specs.Effects.{Config};
 ghost use Rattle.protocol.specs.Nodes.{on_message as on_message_of, on_request as on_request_of, empty_memory};
@@ -55,15 +55,19 @@ impl Role {
         &mut self,
         request: &Request,
         out: &mut Output,
-    ) -> Result<Option<Fact>, Refusal>
-        ensures ok { IfOk result (λ fact. Decides self.old self.new (decided fact out.new)
+        fact: &mut Option<Fact>,
+    ) -> Result<(), Refusal>
+        ensures ok { OnOk result (Decides self.old self.new (decided fact.new out.new)
             (λ config who facts memory. on_request_of config who facts memory request.now)) }
         ensures err { IfErr result (λ e. e ≡ NoMemory) }
     {
         match self {
-            Role::Acceptor(_) => Ok(not_taken(out)),
-            Role::Leader(leader) => at_leader(leader, request, out),
-            Role::Manager(manager) => at_manager(manager, request, out),
+            Role::Acceptor(_) => {
+                not_taken(out, fact);
+                Ok(())
+            }
+            Role::Leader(leader) => at_leader(leader, request, out, fact),
+            Role::Manager(manager) => at_manager(manager, request, out, fact),
         }
     }
 

@@ -66,7 +66,7 @@ fn hand_over(from: &mut Option<Fact>, to: &mut Option<Fact>)
 }
 
 /// No fact any more.
-fn forget_fact(fact: &mut Option<Fact>)
+pub(crate) fn forget_fact(fact: &mut Option<Fact>)
     ensures { fact.new ≡ None }
 {
     let Some(_) = &*fact else {

@@ -27,17 +27,44 @@ pub(crate) enum Stopped {
     Memory,
 }
 
-/// Appends the frame of a fact.
-pub(crate) fn store<R: Record>(alloc: Global, device: &mut R, fact: &Fact) -> Result<(), Stopped>
+/// Where a node has the fact that it is to store, and its frame: places that are kept from input to input, so that neither is made anew.
+#[derive(Drop)]
+pub(crate) struct Workspace {
+    /// Where memory comes from.
+    pub(crate) alloc: Global,
+    /// The fact, if there is one.
+    pub(crate) fact: Option<Fact>,
+    /// The frame of the last one that was stored.
+    pub(crate) frame: Vec<u8>,
+}
+
+impl Workspace {
+    /// Empty places, which take no memory.
+    pub(crate) fn new(alloc: Global) -> Workspace {
+        Workspace {
+            alloc,
+            fact: None,
+            frame: Vec::new(alloc),
+        }
+    }
+}
+
+/// Appends the frame of a fact, which is made in the place of another.
+pub(crate) fn store<R: Record>(
+    alloc: Global,
+    frame: &mut Vec<u8>,
+    device: &mut R,
+    fact: &Fact,
+) -> Result<(), Stopped>
     ensures stored { HasStored fact.now (R.held device.old) (R.held device.new) result }
     ensures valid { IsFact fact.now }
 {
-    let mut frame = Vec::new(alloc);
-    match fact.write(alloc, &mut frame) {
+    frame.clear();
+    match fact.write(alloc, frame) {
         Ok(()) => {}
         Err(_) => return Err(Stopped::Memory),
     }
-    match device.append(&frame) {
+    match device.append(frame) {
         Ok(()) => Ok(()),
         Err(RecordError::Fault) => {
             let whole = device.kept() == frame.len();
@@ -50,18 +77,17 @@ pub(crate) fn store<R: Record>(alloc: Global, device: &mut R, fact: &Fact) -> Re
 /// Carries out what a role decided: with nothing to store, it is answered and sent; else the role makes itself ready for the fact, which
 /// is appended and then played. False where the node goes down: the record failed, or memory ran out. Then nothing is sent.
 pub(crate) fn carry_out<R: Record>(
-    alloc: Global,
+    work: &mut Workspace,
     device: &mut R,
     who: NodeId,
     role: &mut Role,
-    fact: &Option<Fact>,
     out: &mut Output,
 ) -> bool
     ensures { (config : Config) (facts : List FactKind) (memory : Memory) (e : Effect Memory)
-        → IsDecided config who facts memory role.old (decided fact.now out.old) e
+        → IsDecided config who facts memory role.old (decided work.old.fact out.old) e
         → Carries config who facts memory e (R.held device.old) (R.held device.new) role.new (carried result out.new) }
 {
-    let Some(fact) = fact else {
+    let Some(fact) = &work.fact else {
         out.keep_view();
         return true;
     };
@@ -72,7 +98,7 @@ pub(crate) fn carry_out<R: Record>(
             return false;
         }
     }
-    match store(alloc, device, fact) {
+    match store(work.alloc, &mut work.frame, device, fact) {
         Ok(()) => {}
         Err(stopped) => {
             out.stop(stopped, who, fact);

@@ -1,7 +1,8 @@
 -- What a receive gives, and what the ports of this crate make of receives and sends.
-use Rattle.std.specs.Prelude.{◌≡◌, ℕ, List, [], ◌∷◌, ◌++◌, take, Option, Some, None, Result, Ok, Err}
+use Rattle.std.specs.Prelude.{◌≡◌, ◌==◌, ℕ, ◌+◌, ◌-◌, min, List, [], ◌∷◌, ◌++◌, take, Option, Some, None, Result, Ok, Err, is_err}
 use Rattle.xid.specs.declared.refusals.Refusal.{Refusal}
 use Rattle.xid.specs.declared.refusals.Refusal.TheVariants.{PortFault}
+use Rattle.stable_record.specs.Held.{most_faults}
 use Rattle.protocol.specs.declared.nodes.NodeId.{NodeId}
 use Rattle.port.specs.declared.port.TheConstants.{MAX_TAKEN}
 use Rattle.port.specs.declared.fake.FakePort.{FakePort}
@@ -15,6 +16,11 @@ taken_from buffer (Ok None) = Ok None
 taken_from buffer (Ok (Some len)) = Ok (Some (take len buffer))
 taken_from buffer (Err refusal) = Err refusal
 
+-- a count of faults after a call: one more if it failed, up to the greatest
+abbrev pub faults_after : {T : Type 0} → ℕ → Result T Refusal → ℕ
+faults_after faults (Ok value) = faults
+faults_after faults (Err refusal) = min (faults + 1) most_faults
+
 -- ---- a port in memory
 
 -- its count
@@ -27,20 +33,27 @@ FakeTakes old new (Ok None) = (old ≡ []) × (new ≡ [])
 FakeTakes old new (Ok (Some bytes)) = (first : List ℕ) × (old ≡ first ∷ new) × (bytes ≡ take MAX_TAKEN first)
 FakeTakes old new (Err refusal) = new ≡ old
 
--- a receive takes of what was waiting, and leaves what has gone
+-- a receive takes of what was waiting, and leaves what has gone. It is counted as a call, and fails where it is the one that shall
 pub record FakeReceived (old new : FakePort) (taken : Result (Option (List ℕ)) Refusal) : Type 0 where
   pub takes : FakeTakes old.waiting.items new.waiting.items taken
   pub gone : new.gone.items ≡ old.gone.items
+  pub left : new.left ≡ old.left - 1
+  pub due : is_err taken ≡ (old.left == 1)
+  pub faults : new.faults ≡ faults_after old.faults taken
 
 -- what has gone after a send: the letter last, unless it failed
 abbrev pub gone_after : List Letter → Letter → Result (Unit {0}) Refusal → List Letter
 gone_after gone letter (Ok done) = gone ++ letter ∷ []
 gone_after gone letter (Err refusal) = gone
 
--- a send puts a letter after those that have gone, unless it failed, and leaves what is waiting
+-- a send puts a letter after those that have gone, unless it failed, and leaves what is waiting. It is counted as a call, and fails where
+-- it is the one that shall; it may fail elsewhere, for want of memory
 pub record FakeSent (old new : FakePort) (receiver : NodeId) (bytes : List ℕ) (result : Result (Unit {0}) Refusal) : Type 0 where
   pub gone : new.gone.items ≡ gone_after old.gone.items (record { receiver = receiver; bytes = bytes }) result
   pub waiting : new.waiting.items ≡ old.waiting.items
+  pub left : new.left ≡ old.left - 1
+  pub due : old.left ≡ 1 → result ≡ Err PortFault
+  pub faults : new.faults ≡ faults_after old.faults result
 
 -- ---- a socket
 
@@ -55,10 +68,12 @@ pub record IsSamePort (old new : UdpPort) : Type 0 where
   pub addresses : new.addresses ≡ old.addresses
 
 -- a receive leaves the socket
-abbrev pub UdpReceived : (old new : UdpPort) → Result (Option (List ℕ)) Refusal → Type 0
-UdpReceived old new taken = IsSamePort old new
+pub record UdpReceived (old new : UdpPort) (taken : Result (Option (List ℕ)) Refusal) : Type 0 where
+  pub same : IsSamePort old new
+  pub faults : new.faults ≡ faults_after old.faults taken
 
 -- a send leaves the socket, and fails where its node isn't found
 pub record UdpSent (old new : UdpPort) (receiver : NodeId) (bytes : List ℕ) (result : Result (Unit {0}) Refusal) : Type 0 where
   pub same : IsSamePort old new
+  pub faults : new.faults ≡ faults_after old.faults result
   pub lost : address_of old.addresses receiver ≡ None → result ≡ Err PortFault

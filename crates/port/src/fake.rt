@@ -1,6 +1,6 @@
-ghost use Rattle.std.specs.Prelude.{◌≡◌, ◌-◌, ◌≤◌, ◌==◌, [], ◌++◌, ◌∷◌, take, IfErr, OnOk};
+ghost use Rattle.std.specs.Prelude.{◌≡◌, ◌+◌, ◌-◌, ◌≤◌, ◌==◌, min, [], ◌++◌, ◌∷◌, take, IfErr, OnOk};
 ghost use Rattle.xid.specs.declared.refusals.Refusal.TheVariants.{PortFault, NoMemory};
-ghost use Rattle.stable_record.specs.Held.{IsCounted};
+ghost use Rattle.stable_record.specs.Held.{IsCounted, most_faults};
 ghost use Rattle.port.specs.Ports.{gone_after};
 
 use crate::port::{MAX_TAKEN, Port};
@@ -50,6 +50,8 @@ impl FakePort {
         ensures ok { OnOk result (self.new.waiting.items ≡ self.old.waiting.items ++ bytes.now ∷ []) }
         ensures err { IfErr result (λ e. (e ≡ NoMemory) × (self.new.waiting.items ≡ self.old.waiting.items)) }
         ensures gone { self.new.gone.items ≡ self.old.gone.items }
+        ensures left { self.new.left ≡ self.old.left }
+        ensures faults { self.new.faults ≡ self.old.faults }
     {
         let bytes = Bytes::copy_of(self.alloc, bytes)?;
         self.waiting.push(bytes)?;
@@ -77,8 +79,7 @@ impl FakePort {
     fn count(&mut self) -> Refusal
         ensures fault { result ≡ PortFault }
         ensures counted { IsCounted self.old.faults self.new.faults }
-        ensures waiting { self.new.waiting.items ≡ self.old.waiting.items }
-        ensures gone { self.new.gone.items ≡ self.old.gone.items }
+        ensures same { self.new ≡ record self.old { faults = min (self.old.faults + 1) most_faults } }
     {
         self.faults = self.faults.saturating_add(1);
         Refusal::PortFault
@@ -88,6 +89,7 @@ impl FakePort {
     fn keep(&mut self, receiver: NodeId, bytes: &[u8]) -> Result<(), Refusal>
         ensures gone { self.new.gone.items ≡ gone_after self.old.gone.items (record { receiver = receiver; bytes = bytes.now }) result }
         ensures waiting { self.new.waiting.items ≡ self.old.waiting.items }
+        ensures left { self.new.left ≡ self.old.left }
         ensures faults { self.new.faults ≡ self.old.faults }
     {
         let bytes = Bytes::copy_of(self.alloc, bytes)?;

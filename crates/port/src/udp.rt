@@ -1,7 +1,8 @@
-ghost use Rattle.std.specs.Prelude.{◌≡◌, ◌≤◌, length, IfOk, IfErr, IfSome};
+ghost use Rattle.std.specs.Prelude.{◌≡◌, ◌≤◌, ◌+◌, min, length, IfOk, IfErr, IfSome};
 ghost use Rattle.xid.specs.declared.refusals.Refusal.TheVariants.{PortFault};
-ghost use Rattle.stable_record.specs.Held.{IsCounted};
-ghost use Rattle.port.specs.Ports.{udp_count, IsSamePort};
+ghost use Rattle.stable_record.specs.Held.{IsCounted, most_faults};
+ghost use Rattle.port.specs.Addresses.{no_addresses};
+ghost use Rattle.port.specs.Ports.{udp_count};
 
 use crate::addresses::Addresses;
 use crate::port::{MAX_TAKEN, Port};
@@ -23,6 +24,7 @@ impl UdpPort {
     /// A socket with a number that the system picks, which finds no node yet. Refused: it can't be made (`PortFault`).
     pub fn bind<R: Net>(rt: &R) -> Result<UdpPort, Refusal>
         ensures ok { IfOk result (λ port. udp_count port ≡ 0) }
+        ensures nowhere { IfOk result (λ port. port.addresses ≡ no_addresses) }
         ensures err { IfErr result (λ e. e ≡ PortFault) }
     {
         match bound(rt) {
@@ -54,7 +56,7 @@ impl UdpPort {
     fn count(&mut self) -> Refusal
         ensures fault { result ≡ PortFault }
         ensures counted { IsCounted (udp_count self.old) (udp_count self.new) }
-        ensures same { IsSamePort self.old self.new }
+        ensures same { self.new ≡ record self.old { faults = min (self.old.faults + 1) most_faults } }
     {
         self.faults = self.faults.saturating_add(1);
         Refusal::PortFault

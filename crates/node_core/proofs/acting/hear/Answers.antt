@@ -12,7 +12,7 @@ use Rattle.node_core.proofs.acting.hear.Goals as goal
 pub returns-in-Err : goal.returns-in-Err
 returns-in-Err g c = λ config facts memory sizes s.
     let refused = subst (λ r. IfErr r (λ e. (e ≡ BadMessage) × ((k : Kind) → IsMessage k → c.args.bytes.now ≢ spelling k))) c.in-Err.is
-        c.decode.ensures.err in
+    c.decode.ensures.err in
     noise_done config c.args.who facts memory _ c.args.role.now c.args.bytes.now c.refuse.new.self refused.1 c.refuse.ensures s
 
 pub returns-in-Ok : goal.returns-in-Ok
