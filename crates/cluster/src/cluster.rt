@@ -42,7 +42,7 @@ impl<R: Record> Model for Cluster<R> {
     ghost invariant = { λ c. IsSound (cluster_of c.sizes c.nodes.items c.network) };
 }
 
-/// A step in whose place `Cluster::step_into` may put others: it sent nothing, and its event is none of any cluster. It takes no memory.
+/// A step in whose place `Cluster::step_into` may put others. What it says means nothing, and no contract speaks of it.
 pub fn no_step(alloc: Global) -> Step {
     Step {
         event: Event::Lose { number: 0 },
