@@ -1,35 +1,22 @@
 #!/bin/sh
-# Prints how many messages or events a crate takes in a second: `bench/measure.sh messages|acceptor|leader`.
-# The gate runs each program of the repository, so that this one is proved and built in a folder of its own, beside copies of the
-# libraries. Those are proved in their places, where they aren't yet.
+# Prints how many messages or events a crate takes in a second: `bench/measure.sh messages|acceptor|leader [PROGRAM]`. The program is that
+# of the same name in this folder, as bench/build.sh leaves it, and is built where it isn't given.
+here=$(cd "$(dirname "$0")" && pwd)
 case $1 in
-messages) crate=wire below="xid" first="encode prepare 1" ;;
-acceptor) crate=acceptor below="xid wire stable_record transactions ballot protocol" first="plain 1 1 1" ;;
-leader) crate=leader below="xid wire stable_record transactions ballot protocol" first="plain commit 2 1 1" ;;
-*) echo "usage: bench/measure.sh messages|acceptor|leader" >&2; exit 2 ;;
+messages) crate=wire first="encode prepare 1" ;;
+acceptor) crate=acceptor first="plain 1 1 1" ;;
+leader) crate=leader first="plain commit 2 1 1" ;;
+*) echo "usage: bench/measure.sh messages|acceptor|leader [PROGRAM]" >&2; exit 2 ;;
 esac
-repository=$(cd "$(dirname "$0")/.." && pwd)
-name=bench_$1
 scratch=$(mktemp -d)
 trap 'rm -rf "$scratch"' EXIT
 trap 'exit 1' INT TERM
-
-build() {
-    cd "$repository/crates/$crate" && rt lib || exit 1
-    mkdir -p "$scratch/crates/$name/src"
-    for library in $below $crate; do
-        tar -C "$repository/crates" --exclude=incremental -cf - "$library" | tar -C "$scratch/crates" -xf - || exit 1
-        grep "^$library:" "$repository/crates.txt" >>"$scratch/crates.txt" || exit 1
-    done
-    echo "$name: $below $crate anyhow" >>"$scratch/crates.txt"
-    cp "$repository/bench/$1.rs" "$scratch/crates/$name/src/main.rt"
-    for module in $(sed -n 's/^mod \(.*\);$/\1/p' "$repository/bench/$1.rs"); do
-        cp "$repository/bench/$module.rs" "$scratch/crates/$name/src/$module.rt"
-    done
+measured=$2
+if [ -z "$measured" ]; then
+    measured=$scratch/measured
     # shellcheck disable=SC2086 # words
-    cd "$scratch/crates/$name" && rt run -- $first
-}
-(build "$1") >"$scratch/log" 2>&1 || { cat "$scratch/log" >&2; exit 1; }
+    "$here/build.sh" "$crate" "$here/$1.rs" "$measured" $first || exit 1
+fi
 
 # Runs the program three times, and takes the shortest. It prints how many it took and, of messages, how many bytes
 # each has.
@@ -37,7 +24,7 @@ timed() {
     shortest=
     for _ in 1 2 3; do
         begin=$(date +%s%N)
-        "$scratch/crates/$name/out/$name" "$@" >"$scratch/counts" || exit 1
+        "$measured" "$@" >"$scratch/counts" || exit 1
         nanoseconds=$(($(date +%s%N) - begin))
         if [ "$nanoseconds" -lt "${shortest:-$((nanoseconds + 1))}" ]; then shortest=$nanoseconds; fi
     done
@@ -59,7 +46,7 @@ beside() {
     shift 2
     words= repetitions=
     for word; do words="$words $repetitions" repetitions=$word; done
-    programs=$scratch/crates/$name/out/$name
+    programs=$measured
     if [ -x "$scratch/plain" ]; then programs="$programs $scratch/plain"; fi
     : >"$scratch/times"
     for _ in 1 2 3 4 5; do
@@ -72,7 +59,7 @@ beside() {
             done
         done
     done
-    awk -v events=$((events * repetitions)) -v named="$label" -v proved="$name" '
+    awk -v events=$((events * repetitions)) -v named="$label" -v proved="${measured##*/}" '
         !(($1, $2) in shortest) || $3 < shortest[$1, $2] { shortest[$1, $2] = $3 }
         { if ($2 > 0) full[$1] = $2 }
         END {
@@ -94,7 +81,7 @@ events() {
 event_instructions() {
     command -v valgrind >/dev/null || return 0
     for repetitions in 0 "$3"; do
-        valgrind --tool=callgrind --callgrind-out-file="$scratch/callgrind.$repetitions" "$scratch/crates/$name/out/$name" \
+        valgrind --tool=callgrind --callgrind-out-file="$scratch/callgrind.$repetitions" "$measured" \
             "$1" "$2" 2 "$repetitions" >/dev/null 2>&1 || return 0
     done
     counted() { sed -n 's/^summary: //p' "$scratch/callgrind.$1"; }
@@ -127,7 +114,7 @@ instructions() {
     command -v valgrind >/dev/null || return 0
     label=$1
     shift
-    counted_in "$scratch/crates/$name/out/$name" "$@" || return 0
+    counted_in "$measured" "$@" || return 0
     line="$label: $each instructions per event"
     if [ -x "$scratch/plain" ] && counted_in "$scratch/plain" "$@"; then line="$line; plain Rust $each"; fi
     echo "$line"
@@ -136,7 +123,7 @@ instructions() {
 # how many bytes a transaction takes: the peak of memory with an acceptor and without
 memory() {
     [ -x /usr/bin/time ] || return 0
-    peak() { /usr/bin/time -f %M "$scratch/crates/$name/out/$name" plain 100000 1 "$1" 2>&1 >/dev/null; }
+    peak() { /usr/bin/time -f %M "$measured" plain 100000 1 "$1" 2>&1 >/dev/null; }
     echo "$((($(peak 1) - $(peak 0)) * 1024 / 100000)) bytes per transaction of two branches"
 }
 
@@ -155,7 +142,7 @@ if [ "$1" = messages ]; then
     exit
 fi
 if command -v rustc >/dev/null; then
-    rustc -O --edition 2021 -o "$scratch/plain" "$repository/bench/plain/$1.rs" 2>/dev/null
+    rustc -O --edition 2021 -o "$scratch/plain" "$here/plain/$1.rs" 2>/dev/null
 fi
 if [ "$1" = acceptor ]; then
     for kind in plain bundled; do

@@ -28,21 +28,26 @@ END
         printf "replay of %d frames: %d frames and %.1f MB per second, %.0f ns a frame\n", f, f * 1e9 / n, b * 1e3 / n, n / f }'
 }
 
-# a folder, how many appends in a turn: the shortest turn of 20 of each, in alternation
+# a folder, how many appends in a turn: 41 turns of each, in alternation, and the median of how many times as long a turn takes as the
+# plain one after it
 append() {
-    proved=
-    plain=
-    for _ in 1 2 3 4 5 6 7 8 9 10 11 12 13 14 15 16 17 18 19 20; do
+    : >"$scratch/turns"
+    for _ in $(seq 41); do
         rm -f "$1/bench.rec" "$1/bench.plain"
-        turn=$("$program" append "$1/bench.rec" "$2") || exit 1
-        if [ "$turn" -lt "${proved:-$((turn + 1))}" ]; then proved=$turn; fi
-        turn=$("$scratch/plain" "$1/bench.plain" "$2") || exit 1
-        if [ "$turn" -lt "${plain:-$((turn + 1))}" ]; then plain=$turn; fi
+        proved=$("$program" append "$1/bench.rec" "$2") || exit 1
+        plain=$("$scratch/plain" "$1/bench.plain" "$2") || exit 1
+        echo "$proved $plain" >>"$scratch/turns"
     done
     rm -f "$1/bench.rec" "$1/bench.plain"
-    awk -v folder="$1" -v count="$2" -v proved="$proved" -v plain="$plain" 'BEGIN {
-        printf "appends in %s: %d per second, plain C %d, %.2f times its time\n",
-            folder, count * 1e9 / proved, count * 1e9 / plain, proved / plain }'
+    awk '{ print $1 / $2, $1, $2 }' "$scratch/turns" | sort -n | awk -v folder="$1" -v count="$2" '
+        { line[NR] = $0 }
+        END {
+            split(line[(NR + 1) / 2], median, " ")
+            split(line[1], least, " ")
+            split(line[NR], most, " ")
+            printf "appends in %s: %d per second, plain C %d, %.2f times its time (%.2f to %.2f)\n",
+                folder, count * 1e9 / median[2], count * 1e9 / median[3], median[1], least[1], most[1]
+        }'
 }
 
 replay 1000 2000

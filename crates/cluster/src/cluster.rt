@@ -1,4 +1,6 @@
-ghost use Rattle.std.specs.Prelude.{◌≡◌, map, IfOk, IfErr};
+ghost use Rattle.std.specs.Prelude.{◌≡◌, [], None, map, IfOk, IfErr};
+ghost use Rattle.protocol.specs.declared.answers.Answer.TheVariants.{Done};
+ghost use Rattle.protocol.specs.declared.events.Event.TheVariants.{Lose};
 ghost use Rattle.protocol.specs.Effects.{Config as Settings};
 ghost use Rattle.protocol.specs.Worlds.{World};
 ghost use Rattle.network.specs.Networks.{least_unmarked};
@@ -42,8 +44,10 @@ impl<R: Record> Model for Cluster<R> {
     ghost invariant = { λ c. IsSound (cluster_of c.sizes c.nodes.items c.network) };
 }
 
-/// A step in whose place `Cluster::step_into` may put others. What it says means nothing, and no contract speaks of it.
-pub fn no_step(alloc: Global) -> Step {
+/// A step in whose place `Cluster::step_into` may put others: nothing came of a datagram's loss.
+pub fn no_step(alloc: Global) -> Step
+    ensures { result ≡ record { event = Lose 0; answer = Done; now = None; sent = [] } }
+{
     Step {
         event: Event::Lose { number: 0 },
         answer: Answer::Done,
