@@ -38,38 +38,12 @@ messages() {
     echo "$1, ${2%%-*} of $length bytes: $rate messages per second, $((rate * length / 1000000)) MB per second"
 }
 
-# how many events there are, what is measured, and the words of a run but its repetitions, and these: the nanoseconds of an event, and
-# beside them those of a plain Rust program that does the same, built where there is a rustc, turn and turn about. The time in which no
-# repetition is made, that of making the messages, is taken off. A function's variables are the script's: none has the name of a loop's
+# how many events there are, what is measured, and the words of a run with its repetitions: how long an event takes, and beside it in a
+# plain Rust program that does the same, built where there is a rustc
 beside() {
     events=$1 label=$2
     shift 2
-    words= repetitions=
-    for word; do words="$words $repetitions" repetitions=$word; done
-    programs=$measured
-    if [ -x "$scratch/plain" ]; then programs="$programs $scratch/plain"; fi
-    : >"$scratch/times"
-    for _ in 1 2 3 4 5; do
-        for program in $programs; do
-            for times in 0 "$repetitions"; do
-                begin=$(date +%s%N)
-                # shellcheck disable=SC2086 # words
-                "$program" $words "$times" >/dev/null || exit 1
-                echo "${program##*/} $times $(($(date +%s%N) - begin))" >>"$scratch/times"
-            done
-        done
-    done
-    awk -v events=$((events * repetitions)) -v named="$label" -v proved="${measured##*/}" '
-        !(($1, $2) in shortest) || $3 < shortest[$1, $2] { shortest[$1, $2] = $3 }
-        { if ($2 > 0) full[$1] = $2 }
-        END {
-            for (program in full)
-                nanoseconds[program] = (shortest[program, full[program]] - shortest[program, 0]) / events
-            printf "%s: %d events per second, %d nanoseconds each", named, 1e9 / nanoseconds[proved], nanoseconds[proved]
-            if ("plain" in full)
-                printf "; plain Rust %d, ratio %.2f", 1e9 / nanoseconds["plain"], nanoseconds["plain"] / nanoseconds[proved]
-            print ""
-        }' "$scratch/times"
+    echo "$label: $("$here/turns.py" "$measured" "$scratch/plain" "$events" "$@")"
 }
 
 # plain or bundled, transactions, repetitions: two messages for each transaction in ballot 0, and then another two in ballot 1

@@ -153,6 +153,18 @@ fn step_all(node: &mut Node<MemRecord>, datagrams: &[Vec<u8>], out: &mut Output)
     sent
 }
 
+/// The steps of a node that is ready for them. Answers how many messages were sent, and the nanoseconds of the steps.
+fn timed(
+    rt: &HostRuntime,
+    node: &mut Node<MemRecord>,
+    datagrams: &[Vec<u8>],
+    out: &mut Output,
+) -> anyhow::Result<(u64, u128)> {
+    let begin = Instant::now(rt)?;
+    let sent = step_all(node, datagrams, out);
+    Ok((sent, begin.elapsed(rt)?.as_nanos()))
+}
+
 /// One repetition, with some of the datagrams. Answers how many messages were sent, and the nanoseconds of the steps.
 fn repeat(
     rt: &HostRuntime,
@@ -162,9 +174,7 @@ fn repeat(
 ) -> anyhow::Result<(u64, u128)> {
     let mut node = begun(rt.alloc(), who, transactions)?;
     let mut out = Output::nothing();
-    let begin = Instant::now(rt)?;
-    let sent = step_all(&mut node, datagrams, &mut out);
-    Ok((sent, begin.elapsed(rt)?.as_nanos()))
+    timed(rt, &mut node, datagrams, &mut out)
 }
 
 /// All repetitions. Answers how many steps were made, their nanoseconds, and how many messages were sent.
