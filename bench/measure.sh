@@ -43,7 +43,8 @@ messages() {
 beside() {
     events=$1 label=$2
     shift 2
-    echo "$label: $("$here/turns.py" "$measured" "$scratch/plain" "$events" "$@")"
+    turns=$("$here/turns.py" "$measured" "$scratch/plain" "$events" "$@") || exit 1
+    echo "$label: $turns"
 }
 
 # plain or bundled, transactions, repetitions: two messages for each transaction in ballot 0, and then another two in ballot 1

@@ -87,7 +87,7 @@ fn hears(rt: &impl Abort, node: &mut FailNode) -> Result<(), Refusal> {
     }
 }
 
-/// U is committed, whatever fails: what wasn't stored is done when the Commit comes again.
+/// The transaction is committed, whatever fails: what wasn't stored is done when the Commit comes again.
 fn commits(rt: &impl Abort, node: &mut FailNode) -> Result<(), Refusal> {
     let done = hears(rt, node);
     if goes_on(rt, node, done)? {
