@@ -22,7 +22,6 @@ use xid::{Refusal, Sequence, Tx};
 
 /// One node over a record: an acceptor, a leader or a resource manager, which stores what it decides before it sends anything. It is
 /// up, or it is down and does nothing until a restart.
-#[derive(Drop)]
 pub struct Node<R: Record> {
     alloc: Global,
     who: NodeId,
@@ -32,6 +31,21 @@ pub struct Node<R: Record> {
     role: Option<Role>,
     // where it decides, from input to input
     work: Workspace,
+}
+
+// written once: a derived one would stand in each function that lets a node go
+impl<R: Record + Drop> Drop for Node<R> {
+    fn drop(self) {
+        let Node {
+            alloc: _,
+            who: _,
+            sizes: _,
+            rows: _,
+            device: _,
+            role: _,
+            work: _,
+        } = self;
+    }
 }
 
 impl<R: Record> Model for Node<R> {
@@ -150,7 +164,16 @@ impl<R: Record> Node<R> {
     pub fn into_record(self) -> R
         ensures { R.held result ≡ self.held }
     {
-        self.device
+        let Node {
+            alloc: _,
+            who: _,
+            sizes: _,
+            rows: _,
+            device,
+            role: _,
+            work: _,
+        } = self;
+        device
     }
 
     /// Which node it is.

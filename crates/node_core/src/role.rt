@@ -16,7 +16,7 @@ use wire::Message;
 use xid::Refusal;
 
 /// What a node is: one part of the protocol. None of their rules stands here.
-#[derive(Debug, Drop)]
+#[derive(Debug)]
 pub enum Role {
     /// An acceptor.
     Acceptor(Acceptor),
@@ -25,6 +25,23 @@ pub enum Role {
     /// A resource manager.
     Manager(ResourceManager),
 }
+
+// in parts, and written once: a derived one would stand in each function that lets a role go
+impl Drop for Role {
+    fn drop(self) {
+        match self {
+            Role::Acceptor(acceptor) => let_acceptor_go(acceptor),
+            Role::Leader(leader) => let_leader_go(leader),
+            Role::Manager(manager) => let_manager_go(manager),
+        }
+    }
+}
+
+fn let_acceptor_go(_: Acceptor) {}
+
+fn let_leader_go(_: Leader) {}
+
+fn let_manager_go(_: ResourceManager) {}
 
 impl Role {
     /// What it does on a message of the cluster: the answer and what to send are put out, and in the place of `fact` stands the one that

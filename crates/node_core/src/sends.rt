@@ -23,7 +23,7 @@ use xid::Refusal;
 
 /// The messages that a node sends, in order, which a contract sees as the list of them. To make them takes no memory. There is a place
 /// for those of each kind of node, so that what is sent at one input can take the place of what was sent at another.
-#[derive(Debug, Drop)]
+#[derive(Debug)]
 pub struct NodeSends {
     // what an acceptor or a resource manager decided, of which the message alone is sent
     decided: Decision,
@@ -31,6 +31,17 @@ pub struct NodeSends {
     question: Sends,
     // what a leader decided, of which the messages alone are sent
     led: LeaderDecision,
+}
+
+// written once: a derived one would stand in each function that lets messages go
+impl Drop for NodeSends {
+    fn drop(self) {
+        let NodeSends {
+            decided: _,
+            question: _,
+            led: _,
+        } = self;
+    }
 }
 
 impl Model for NodeSends {
