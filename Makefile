@@ -28,7 +28,8 @@ test: test-tools
 	@mkdir -p bin
 	@cp crates/pcommit/out/pcommit bin/pcommit
 	$(MAKE) scripts
-	tests/refused.sh acceptor branch_table leader resource_manager
+	tests/refused.sh crates/cases/out/cases crates/cases/stdin
+	tests/many.py bin/pcommit crates/cases/out/cases
 
 golden: test-tools build scripts
 

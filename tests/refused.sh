@@ -1,49 +1,64 @@
 #!/bin/sh
-# Refuses each allocation of the built tests of some crates in turn: tests/refused.sh CRATE... Each run passes all the same, since
-# what wanted memory stood as before and was done again, or ends saying that it wanted memory. A test of over a thousand allocations
-# is left out. The last line is 'N passed, M ended, K failed'.
-tests=$(dirname "$0")
-scratch=$(mktemp -d)
-trap 'rm -rf "$scratch"' EXIT
-cc -shared -fPIC -o "$scratch/refuse.so" "$tests/refuse_memory.c" -ldl || exit 1
-passed=0
-ended=0
-failed=0
+# Refuses each allocation of the cases of single parts in turn, each case by itself: tests/refused.sh PROGRAM CASES, the built program
+# `cases` and its standard input. A part that is refused memory says so and is called again: it stood as before, so what is printed but
+# for that is what is printed with ample memory. A node that is refused memory is down from then on: what stands before is the same. Or
+# the program itself wants memory and ends with 3, and what stands before is the same. The last line is 'N passed, M ended, K failed'.
+if [ "$1" != one ]; then
+    program=$(realpath "$1")
+    scratch=$(mktemp -d)
+    trap 'rm -rf "$scratch"' EXIT
+    cc -shared -fPIC -o "$scratch/refuse.so" "$(dirname "$0")/refuse_memory.c" -ldl || exit 1
+    mkdir "$scratch/cases" "$scratch/told"
+    grep -v '^#' "$2" | awk -v to="$scratch/cases/" 'NF==0 {open=0; next} !open {open=1; count++} {print > (to sprintf("%03d", count))}'
+    ls "$scratch/cases" | xargs -P "$(nproc)" -n 1 sh "$0" one "$program" "$scratch"
+    cat "$scratch"/told/*.why
+    cat "$scratch"/told/*.count | awk '{p+=$1; e+=$2; f+=$3; if ($1+$2 < 3) few++} END {
+        print p+0 " passed, " e+0 " ended, " f+few " failed"; exit f+few > 0 || NR < 100}'
+    exit
+fi
 
-run() { # PROGRAM TEST NUMBER
-    REFUSE=$3 LD_PRELOAD="$scratch/refuse.so" timeout 60 "$1" "$2" >"$scratch/out" 2>&1 9>"$scratch/marks"
+program=$2
+case=$3/cases/$4
+told=$3/told/$4
+refuse=$3/refuse.so
+room=$(mktemp -d)
+trap 'rm -rf "$room"' EXIT
+cd "$room" || exit 1
+
+run() { # NUMBER
+    rm -f ./*.rec
+    REFUSE=$1 LD_PRELOAD="$refuse" timeout 60 "$program" <"$case" >out 2>err 9>marks
 }
 
-sweep() { # PROGRAM TEST
-    if ! run "$1" "$2" 0; then
+# what was printed, but for refusals of memory, is the beginning of what is printed with ample memory, but for so many last lines
+begins_right() { # LAST
+    lines=$(($(wc -l <told) - $1))
+    [ "$lines" -gt 0 ] || return 0
+    head -n "$lines" told >begun
+    head -n "$lines" ample | cmp -s begun -
+}
+
+passed=0 ended=0 failed=0 is_node=false
+grep -qE '^(node|port) ' "$case" && is_node=true
+: >"$told.why"
+run 0
+[ $? = 0 ] || failed=1
+grep -q ' refused 11$' out && failed=1
+cp out ample
+for n in $(seq "$(wc -c <marks)"); do
+    run "$n"
+    status=$?
+    if $is_node; then sed '/ refused 11$/,$d' out >told; else grep -v ' refused 11$' out >told; fi
+    if [ $status = 0 ] && cmp -s told ample; then
+        passed=$((passed + 1))
+    elif [ $status = 0 ] && $is_node && grep -q ' refused 11$' out && begins_right 0; then
+        passed=$((passed + 1))
+    elif [ $status = 3 ] && begins_right 2; then
+        ended=$((ended + 1))
+    else
         failed=$((failed + 1))
-        echo "FAILED: $2 with ample memory"
-        return
+        echo "FAILED: $(head -n 1 "$case"), at allocation $n: status $status" >>"$told.why"
+        diff told ample | head -3 >>"$told.why"
     fi
-    total=$(wc -c <"$scratch/marks")
-    [ "$total" -le 1000 ] || return
-    for n in $(seq "$total"); do
-        run "$1" "$2" "$n"
-        status=$?
-        if [ "$status" = 0 ]; then
-            passed=$((passed + 1))
-        elif [ "$status" = 101 ] && grep -qE '^error: (NoMemory|AllocFailed)' "$scratch/out"; then
-            ended=$((ended + 1))
-        else
-            failed=$((failed + 1))
-            echo "FAILED: $2 at allocation $n: status $status"
-            head -3 "$scratch/out"
-        fi
-    done
-}
-
-for crate in "$@"; do
-    program=$tests/../crates/$crate/out/${crate}_tests
-    names=$("$program" --list | sed -n 's/: test$//p')
-    [ -n "$names" ] || failed=$((failed + 1))
-    for name in $names; do
-        sweep "$program" "$name"
-    done
 done
-echo "$passed passed, $ended ended, $failed failed"
-[ "$failed" = 0 ]
+echo "$passed $ended $failed" >"$told.count"

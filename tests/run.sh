@@ -96,6 +96,10 @@ each "$tests/audit" trace run_audit
 echo 'pcommit: usage: pcommit run FILE | udp FILE DIR | audit FILE' >"$scratch/usage"
 check no_words /dev/null "$scratch/usage" 2
 check help /dev/null "$scratch/usage" 2 --help
+check help_of_a_word /dev/null "$scratch/usage" 2 help run
+check a_version /dev/null "$scratch/usage" 2 --version x
+check run_without_file /dev/null "$scratch/usage" 2 run
+check audit_without_file /dev/null "$scratch/usage" 2 audit
 check no_text /dev/null "$scratch/usage" 2 run "$(printf '\377')"
 check help_of_run /dev/null "$scratch/usage" 2 run --help
 check two_files /dev/null "$scratch/usage" 2 run a b

@@ -2,7 +2,7 @@
 """Runs the built program on scripts made of those in tests/golden: a vote torn after each number of bytes; each append of whole runs torn
 after each number of bytes; records made shorter after each event; and, before and after each event, lines that are refused: its call with
 wrong lengths, of a branch that isn't there or once more, and every event at a node that isn't there. Then over record files: frames of both
-versions in every mixture, with a tail, cut at each byte, and what is no record. `tests/sweeps.py [PROGRAM]`. The last line is 'N passed, M
+versions in every mixture, with a tail, cut at each byte, and what is no record; and a trace that is cut at each byte. `tests/sweeps.py [PROGRAM]`. The last line is 'N passed, M
 failed'."""
 import itertools
 import os
@@ -448,6 +448,20 @@ def records():
     print(f"{runs} records in files")
 
 
+def cut_traces():
+    """Each beginning of a trace is refused at its last line, or at the one that is missing."""
+    whole = golden("dropped_writes.out")
+    path = os.path.join(scratch.name, "text")
+    for length in range(len(whole)):
+        with open(path, "w") as file:
+            file.write(whole[:length])
+        done = subprocess.run([program, "audit", path], capture_output=True, text=True)
+        line = whole[:length].count("\n") + 1
+        is_refused_so = (done.returncode, done.stdout, done.stderr) == (3, "", f"pcommit: refused 7 line {line}\n")
+        check(f"a trace cut at {length}", is_refused_so, "it isn't refused so")
+    print(f"{len(whole)} traces cut")
+
+
 torn_votes()
 for row, tears in TORN_ROWS.items():
     torn_appends(row, tears)
@@ -455,5 +469,6 @@ for row in SHORTER_ROWS:
     shorter(row)
 refuses()
 records()
+cut_traces()
 print(f"{passed} passed, {failed} failed")
 sys.exit(1 if failed else 0)

@@ -10,6 +10,3 @@ mod slots;
 mod table;
 
 pub use acceptor::Acceptor;
-
-#[cfg(test)]
-mod tests;

@@ -13,6 +13,3 @@ mod tables;
 mod views;
 
 pub use auditing::audit;
-
-#[cfg(test)]
-mod tests;

@@ -12,6 +12,3 @@ pub use ballots::{next_owned, owner};
 pub use choice::choose;
 pub use quorum::{MAX_ACCEPTORS, Quorum};
 pub use slot::{Report, Slot};
-
-#[cfg(test)]
-mod tests;

@@ -11,6 +11,3 @@ mod rows;
 mod table;
 
 pub use table::{BranchTable, Ending};
-
-#[cfg(test)]
-mod tests;

@@ -11,6 +11,3 @@ mod room;
 mod sending;
 
 pub use cluster::{Cluster, no_step};
-
-#[cfg(test)]
-mod tests;

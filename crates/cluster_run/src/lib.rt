@@ -8,6 +8,3 @@ mod runs;
 
 pub use clusters::config_of;
 pub use runs::run;
-
-#[cfg(test)]
-mod tests;

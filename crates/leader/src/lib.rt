@@ -14,10 +14,3 @@ mod proposals;
 pub use decision::LeaderDecision;
 pub use leader::Leader;
 pub use orders::LeaderSends;
-
-#[cfg(test)]
-mod many_tests;
-#[cfg(test)]
-mod shorter_tests;
-#[cfg(test)]
-mod tests;

@@ -30,14 +30,3 @@ pub use scripts::{line_of, one_reading, read_script};
 pub use trace_reading::{one_trace, read_trace};
 pub use traces::{write_finals, write_head, write_step, write_trace};
 pub use values::{Command, Entry, Script, Sizes, Table, Trace};
-
-#[cfg(test)]
-mod read_trace_tests;
-#[cfg(test)]
-mod row_tests;
-#[cfg(test)]
-mod script_tests;
-#[cfg(test)]
-mod trace_tests;
-#[cfg(test)]
-mod trace_texts;

@@ -6,6 +6,3 @@ mod network;
 
 pub use entry::KeptDatagram;
 pub use network::Network;
-
-#[cfg(test)]
-mod tests;

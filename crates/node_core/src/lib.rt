@@ -25,8 +25,3 @@ pub use output::{Input, Output};
 pub use receivers::{place_of, receiver_at, receiver_count};
 pub use role::Role;
 pub use sends::NodeSends;
-
-#[cfg(test)]
-mod failing_tests;
-#[cfg(test)]
-mod tests;

@@ -15,6 +15,4 @@ pub use port::{MAX_TAKEN, Port};
 pub use udp::UdpPort;
 
 #[cfg(test)]
-mod tests;
-#[cfg(test)]
 mod udp_tests;

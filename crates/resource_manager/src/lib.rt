@@ -12,10 +12,3 @@ mod spent;
 
 pub use manager::ResourceManager;
 pub use messages::Reminder;
-
-#[cfg(test)]
-mod shorter_tests;
-#[cfg(test)]
-mod tests;
-#[cfg(test)]
-mod unplayed_tests;

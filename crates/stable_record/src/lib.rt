@@ -22,5 +22,3 @@ pub use record::{Record, RecordError, Tear};
 
 #[cfg(test)]
 mod file_tests;
-#[cfg(test)]
-mod tests;

@@ -7,6 +7,3 @@ mod order;
 
 pub use numbers::Transactions;
 pub use order::Order;
-
-#[cfg(test)]
-mod tests;

@@ -16,6 +16,3 @@ pub use laws::{message_at_is_exact, spelling_laws};
 pub use message::{Kind, Message, is_message};
 pub use reading::{take_byte, take_component, take_number, take_rm, take_tx, take_vote};
 pub use writing::{encode, put_tx};
-
-#[cfg(test)]
-mod tests;

@@ -23,6 +23,3 @@ pub use limits::{
 pub use refusals::Refusal;
 pub use sequence::{Bytes, Sequence};
 pub use transaction::{Tx, Vote};
-
-#[cfg(test)]
-mod transaction_tests;

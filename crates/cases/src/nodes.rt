@@ -1,0 +1,267 @@
+//! A node over a record of each kind.
+
+use crate::calls::{Part, run_calls};
+use crate::page::Page;
+use crate::stop::Stop;
+use crate::{codec, managers, records, words};
+use net_script::{Command, read_script};
+use node_core::{Config, Input, Node, Output};
+use protocol::{Event, NodeId, Request};
+use stable_record::{Record, Tear};
+use std::alloc::Global;
+use wire::{MAX_DATAGRAM, encode};
+use xid::{Refusal, Sequence};
+
+/// The cluster whose sizes stand in a line: acceptors, leaders and managers, whose tables are empty; and what follows them.
+pub fn cluster(alloc: Global, rest: &[u8]) -> Result<(Config, &[u8]), Stop> {
+    let (acceptors, rest) = words::cut(rest);
+    let (leaders, rest) = words::cut(rest);
+    let (managers, rest) = words::cut(rest);
+    let managers = words::small(managers)?;
+    let mut tables = Vec::new(alloc);
+    for _table in 0..managers {
+        tables.push(Sequence::new(Vec::new(alloc)))?;
+    }
+    let config = Config::new(
+        words::small(acceptors)?,
+        words::small(leaders)?,
+        managers,
+        Sequence::new(tables),
+    )?;
+    match rest.strip_prefix(b"bundled ") {
+        Some(rest) => Ok((config.bundled(), rest)),
+        None => Ok((config, rest)),
+    }
+}
+
+/// The request that an event is.
+fn request_of(event: Event) -> Result<Request, Stop> {
+    match event {
+        Event::Ask { node: _, request } => Ok(request),
+        _ => Err(Stop::Unread),
+    }
+}
+
+/// The request that the words of an event are, as in a script.
+pub fn request(alloc: Global, words: &[u8]) -> Result<Request, Stop> {
+    let mut text = Vec::new(alloc);
+    text.extend_from_slice(b"cluster acceptors 1 leaders 1 rms 1\n")?;
+    text.extend_from_slice(words)?;
+    let script = match read_script(alloc, &text) {
+        Ok(script) => script,
+        Err(Refusal::NoMemory) => return Err(Stop::Ended),
+        Err(_) => return Err(Stop::Unread),
+    };
+    for command in script.commands.into_vec() {
+        return match command {
+            Command::Do(event) => request_of(event),
+            Command::Flow(_) => Err(Stop::Unread),
+        };
+    }
+    Err(Stop::Unread)
+}
+
+/// Runs the calls of a case: `NODE ACCEPTORS LEADERS MANAGERS`, `bundled` in a bundled cluster, and the record, as `memory HEX`,
+/// `failing CALL old HEX` or `file NAME`. Opens the node first, and tells last what its record holds and how often that has failed.
+pub fn run(rt: HostRuntime, rest: &[u8], calls: &[String], page: &mut Page) -> Result<(), Stop> {
+    let alloc = rt.alloc();
+    let (name, rest) = words::cut(rest);
+    let who = words::node(name)?;
+    let (config, rest) = cluster(alloc, rest)?;
+    let (kind, rest) = words::cut(rest);
+    let place = Place::new(config, who);
+    match kind {
+        b"memory" => live_torn(&place, records::in_memory(alloc, rest)?, alloc, calls, page),
+        b"failing" => live_torn(&place, records::failing(alloc, rest)?, alloc, calls, page),
+        b"file" => live(&place, records::in_file(rt, rest)?, alloc, calls, page),
+        _ => Err(Stop::Unread),
+    }
+}
+
+/// A node's place in its cluster.
+#[derive(Drop)]
+pub struct Place {
+    config: Config,
+    who: NodeId,
+}
+
+impl Place {
+    /// The place of this node in this cluster.
+    pub fn new(config: Config, who: NodeId) -> Place {
+        Place { config, who }
+    }
+}
+
+/// Says what opening was refused with.
+fn say_refused(refusal: Refusal, page: &mut Page) -> Result<(), Stop> {
+    page.bytes(b"open ->")?;
+    page.refusal(refusal)?;
+    page.end_line()
+}
+
+/// Opens a node. A record that has failed, or that wanted memory, comes back, and the node is opened over it again.
+pub fn open<R: Record + Drop>(
+    place: &Place,
+    record: R,
+    alloc: Global,
+    page: &mut Page,
+) -> Result<Node<R>, Stop> {
+    let (record, refusal) = match Node::open(alloc, &place.config, place.who, record) {
+        Ok(node) => return Ok(node),
+        Err(back) => back,
+    };
+    say_refused(refusal, page)?;
+    match Node::open(alloc, &place.config, place.who, record) {
+        Ok(node) => Ok(node),
+        Err((record, _refusal)) => {
+            say_record(record, alloc, page)?;
+            Err(Stop::Refused)
+        }
+    }
+}
+
+/// What a record holds at last, and how often it has failed.
+pub fn say_record<R: Record + Drop>(
+    mut record: R,
+    alloc: Global,
+    page: &mut Page,
+) -> Result<(), Stop> {
+    page.bytes(b"record ->")?;
+    match record.read(alloc) {
+        Ok(bytes) => page.hex(&bytes)?,
+        Err(error) => page.refusal(error.into())?,
+    }
+    page.number(record.faults())?;
+    page.end_line()
+}
+
+/// A case over a record in which no tear can be armed.
+fn live<R: Record + Drop>(
+    place: &Place,
+    record: R,
+    alloc: Global,
+    calls: &[String],
+    page: &mut Page,
+) -> Result<(), Stop> {
+    let mut part = match open(place, record, alloc, page) {
+        Ok(node) => Plain { node },
+        Err(Stop::Refused) => return Ok(()),
+        Err(stop) => return Err(stop),
+    };
+    run_calls(&mut part, alloc, calls, page)?;
+    say_record(part.node.into_record(), alloc, page)
+}
+
+/// A case over a record in which a tear can be armed.
+fn live_torn<R: Tear + Drop>(
+    place: &Place,
+    record: R,
+    alloc: Global,
+    calls: &[String],
+    page: &mut Page,
+) -> Result<(), Stop> {
+    let mut part = match open(place, record, alloc, page) {
+        Ok(node) => Torn { node },
+        Err(Stop::Refused) => return Ok(()),
+        Err(stop) => return Err(stop),
+    };
+    run_calls(&mut part, alloc, calls, page)?;
+    say_record(part.node.into_record(), alloc, page)
+}
+
+/// A node over a record in which no tear can be armed.
+#[derive(Drop)]
+struct Plain<R: Record> {
+    node: Node<R>,
+}
+
+/// A node over a record in which a tear can be armed.
+#[derive(Drop)]
+struct Torn<R: Tear> {
+    node: Node<R>,
+}
+
+/// What came of an input.
+fn say(output: Output, page: &mut Page) -> Result<(), Stop> {
+    let Output { reply, now, sends } = output;
+    page.answer(reply)?;
+    page.end_line()?;
+    if let Some(change) = now {
+        page.change(change)?;
+    }
+    for i in 0..sends.count() {
+        page.sent(&sends.at(i))?;
+    }
+    Ok(())
+}
+
+/// Where the node stands in a transaction.
+fn say_view<R: Record + Drop>(node: &mut Node<R>, tx: &[u8], page: &mut Page) -> Result<(), Stop> {
+    match node.view(&words::tx(tx)?) {
+        Ok(view) => page.word(managers::view_word(view))?,
+        Err(refusal) => page.refusal(refusal)?,
+    }
+    page.end_line()
+}
+
+/// The rows of its table.
+fn say_table<R: Record + Drop>(node: &mut Node<R>, page: &mut Page) -> Result<(), Stop> {
+    match node.table() {
+        Ok(rows) => page.rows(rows.as_slice())?,
+        Err(refusal) => page.refusal(refusal)?,
+    }
+    page.end_line()
+}
+
+/// A call of a node.
+fn call_node<R: Record + Drop>(
+    node: &mut Node<R>,
+    alloc: Global,
+    line: &[u8],
+    page: &mut Page,
+) -> Result<(), Stop> {
+    let (verb, rest) = words::cut(line);
+    match verb {
+        b"ask" => {
+            let request = request(alloc, rest)?;
+            say(node.step(Input::Asked(&request)), page)
+        }
+        b"hear" => {
+            let mut bytes = [0; MAX_DATAGRAM];
+            let len = encode(&codec::message(alloc, rest)?, &mut bytes);
+            say(node.step(Input::Received(&bytes[..len])), page)
+        }
+        b"take" => {
+            let bytes = words::bytes(alloc, rest)?;
+            say(node.step(Input::Received(&bytes)), page)
+        }
+        b"restart" => page.finished(node.restart()),
+        b"compact" => page.finished(node.compact()),
+        b"view" => say_view(node, rest, page),
+        b"table" => say_table(node, page),
+        b"down" => {
+            page.truth(node.is_down())?;
+            page.end_line()
+        }
+        _ => Err(Stop::Unread),
+    }
+}
+
+impl<R: Record + Drop> Part for Plain<R> {
+    fn call(&mut self, alloc: Global, line: &[u8], page: &mut Page) -> Result<(), Stop> {
+        call_node(&mut self.node, alloc, line, page)
+    }
+}
+
+impl<R: Tear + Drop> Part for Torn<R> {
+    fn call(&mut self, alloc: Global, line: &[u8], page: &mut Page) -> Result<(), Stop> {
+        match line.strip_prefix(b"tear ") {
+            Some(bytes) => {
+                self.node.arm(words::number(bytes)? as usize);
+                page.word(b"ok")?;
+                page.end_line()
+            }
+            None => call_node(&mut self.node, alloc, line, page),
+        }
+    }
+}

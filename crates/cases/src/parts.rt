@@ -1,0 +1,31 @@
+//! The parts that cases are of.
+
+use crate::page::Page;
+use crate::stop::Stop;
+use crate::{
+    acceptors, ballots, codec, leaders, managers, nodes, numbers, ports, records, tables, texts,
+    values, words,
+};
+
+/// Runs the calls of a case of the part that its head names.
+pub fn run(rt: HostRuntime, head: &[u8], calls: &[String], page: &mut Page) -> Result<(), Stop> {
+    let alloc = rt.alloc();
+    let (part, rest) = words::cut(head);
+    match part {
+        b"values" => values::run(alloc, calls, page),
+        b"codec" => codec::run(alloc, calls, page),
+        b"ballots" => ballots::run(alloc, calls, page),
+        b"transactions" => numbers::run(alloc, calls, page),
+        b"scripts" => texts::run_scripts(alloc, rest, calls, page),
+        b"trace" => texts::run_trace(alloc, calls, page),
+        b"frames" => records::run_frames(alloc, calls, page),
+        b"record" => records::run(rt, rest, calls, page),
+        b"acceptor" => acceptors::run(alloc, rest, calls, page),
+        b"leader" => leaders::run(alloc, rest, calls, page),
+        b"branches" => tables::run(alloc, rest, calls, page),
+        b"manager" => managers::run(alloc, rest, calls, page),
+        b"node" => nodes::run(rt, rest, calls, page),
+        b"port" => ports::run(alloc, rest, calls, page),
+        _ => Err(Stop::Unread),
+    }
+}

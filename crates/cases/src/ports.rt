@@ -1,0 +1,92 @@
+//! A node at a port in memory.
+
+use crate::calls::{Part, run_calls};
+use crate::nodes::{self, Place};
+use crate::page::Page;
+use crate::stop::{Stop, wanted};
+use crate::{records, words};
+use node_core::{Input, Node};
+use port::{FakePort, Port, Served, call, serve_once};
+use stable_record::MemRecord;
+use std::alloc::Global;
+
+/// A node and its port.
+#[derive(Drop)]
+struct Station {
+    node: Node<MemRecord>,
+    port: FakePort,
+}
+
+/// Runs the calls of a case: the call of the port that fails (0: none), and then as of a node over an empty record in memory.
+pub fn run(alloc: Global, rest: &[u8], calls: &[String], page: &mut Page) -> Result<(), Stop> {
+    let (call, rest) = words::cut(rest);
+    let (name, rest) = words::cut(rest);
+    let port = FakePort::new(alloc, u64::from(words::number(call)?));
+    let (config, _rest) = nodes::cluster(alloc, rest)?;
+    let place = Place::new(config, words::node(name)?);
+    let record = records::in_memory(alloc, b"-")?;
+    let mut station = match nodes::open(&place, record, alloc, page) {
+        Ok(node) => Station { node, port },
+        Err(stop) => return Err(stop),
+    };
+    run_calls(&mut station, alloc, calls, page)?;
+    nodes::say_record(station.node.into_record(), alloc, page)
+}
+
+/// What was answered, and the view that changed.
+fn say(served: Served, page: &mut Page) -> Result<(), Stop> {
+    page.answer(served.reply)?;
+    page.end_line()?;
+    match served.now {
+        Some(change) => page.change(change),
+        None => Ok(()),
+    }
+}
+
+/// A node takes a datagram.
+fn serve(station: &mut Station, page: &mut Page) -> Result<(), Stop> {
+    match serve_once(&mut station.node, &mut station.port) {
+        Ok(Some(served)) => say(served, page),
+        Ok(None) => page.nothing(),
+        Err(refusal) => page.finished(Err(refusal)),
+    }
+}
+
+/// What has gone out: how many, and a line for each.
+fn say_gone(port: &FakePort, page: &mut Page) -> Result<(), Stop> {
+    page.number(port.gone().len() as u64)?;
+    page.end_line()?;
+    for letter in port.gone() {
+        page.bytes(b"gone to")?;
+        page.node(letter.receiver)?;
+        page.hex(letter.bytes.as_slice())?;
+        page.end_line()?;
+    }
+    Ok(())
+}
+
+impl Part for Station {
+    fn call(&mut self, alloc: Global, line: &[u8], page: &mut Page) -> Result<(), Stop> {
+        let (verb, rest) = words::cut(line);
+        match verb {
+            b"put" => {
+                wanted(self.port.put(&words::bytes(alloc, rest)?))?;
+                page.finished(Ok(()))
+            }
+            b"serve" => serve(self, page),
+            b"ask" => {
+                let request = nodes::request(alloc, rest)?;
+                say(
+                    call(&mut self.node, &mut self.port, Input::Asked(&request)),
+                    page,
+                )
+            }
+            b"gone" => say_gone(&self.port, page),
+            b"faults" => {
+                page.number(self.port.faults())?;
+                page.end_line()
+            }
+            _ => Err(Stop::Unread),
+        }
+    }
+}
