@@ -8,11 +8,12 @@ PREFIX ?= /usr/local
 run: build
 	@bin/pcommit run $(SCRIPT)
 
-# proves and builds the program, and leaves it at bin/pcommit; says how far it is
+# proves and builds the program, and leaves it at bin/pcommit; says how far it is. The first time it shows a run with no proofs before
 build: bin/pcommit
 
-bin/pcommit: crates.txt $(shell find crates -name out -prune -o -type f -print) | proof-tools
-	@tools/progress.py pcommit bin/build.log rt run -- run data/first-branch.script
+bin/pcommit: crates.txt $(shell find crates -name out -prune -o -name must-fail -prune -o -type f -print) | proof-tools
+	@[ -e bin/build.log ] || $(MAKE) --no-print-directory try
+	@tools/progress.py pcommit bin/build.log run data/first-branch.script
 	@cp crates/pcommit/out/pcommit bin/pcommit
 
 # interprets a script, with no proof, for a first look
@@ -20,8 +21,9 @@ try: proof-tools
 	@echo "Interpreting $(SCRIPT), with no proofs: about half a minute." >&2
 	@cd crates/pcommit && rt try --data script=$(abspath $(SCRIPT)) -- run script
 
-# everything: the page of definitions, each proof from nothing, the must-fail edits, the tests, the program as two compilers build it,
-# then, of the program that was built so, the golden scripts and runs with each block of memory refused in turn, and tests with that refused
+# everything: the page of definitions, each proof from nothing, the must-fail edits, the tests, the programs as two compilers build them, the
+# cases of single parts among them; then, of what was built so, the golden scripts, runs and cases with each block of memory refused in turn,
+# and runs of many transactions
 test: test-tools
 	tools/definitions.py --check
 	rt ci

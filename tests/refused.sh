@@ -2,7 +2,8 @@
 # Refuses each allocation of the cases of single parts in turn, each case by itself: tests/refused.sh PROGRAM CASES, the built program
 # `cases` and its standard input. A part that is refused memory says so and is called again: it stood as before, so what is printed but
 # for that is what is printed with ample memory. A node that is refused memory is down from then on: what stands before is the same. Or
-# the program itself wants memory and ends with 3, and what stands before is the same. The last line is 'N passed, M ended, K failed'.
+# the program itself wants memory and ends with 3, and what stands before is the same. Ports and records that fail on purpose are left out:
+# a call that is refused memory counts there, so that another one fails. The last line is 'N passed, M ended, K failed'.
 if [ "$1" != one ]; then
     program=$(realpath "$1")
     scratch=$(mktemp -d)
@@ -10,6 +11,7 @@ if [ "$1" != one ]; then
     cc -shared -fPIC -o "$scratch/refuse.so" "$(dirname "$0")/refuse_memory.c" -ldl || exit 1
     mkdir "$scratch/cases" "$scratch/told"
     grep -v '^#' "$2" | awk -v to="$scratch/cases/" 'NF==0 {open=0; next} !open {open=1; count++} {print > (to sprintf("%03d", count))}'
+    grep -lE '^(port|record failing|node .* failing) ' "$scratch"/cases/* | xargs rm
     ls "$scratch/cases" | xargs -P "$(nproc)" -n 1 sh "$0" one "$program" "$scratch"
     cat "$scratch"/told/*.why
     cat "$scratch"/told/*.count | awk '{p+=$1; e+=$2; f+=$3; if ($1+$2 < 3) few++} END {
@@ -38,20 +40,22 @@ begins_right() { # LAST
     head -n "$lines" ample | cmp -s begun -
 }
 
-passed=0 ended=0 failed=0 is_node=false
-grep -qE '^(node|port) ' "$case" && is_node=true
+# the end of a line that says so, of a node's record too; what stands after it at a node, or is a whole trace, isn't the same
+refused='-> refused 11\( [0-9]*\)\?$'
+passed=0 ended=0 failed=0 is_last=false
+grep -qE '^(node |trace$)' "$case" && is_last=true
 : >"$told.why"
 run 0
 [ $? = 0 ] || failed=1
-grep -q ' refused 11$' out && failed=1
+grep -q -e "$refused" out && failed=1
 cp out ample
 for n in $(seq "$(wc -c <marks)"); do
     run "$n"
     status=$?
-    if $is_node; then sed '/ refused 11$/,$d' out >told; else grep -v ' refused 11$' out >told; fi
+    if $is_last; then sed "/$refused/,\$d" out >told; else grep -v -e "$refused" out >told; fi
     if [ $status = 0 ] && cmp -s told ample; then
         passed=$((passed + 1))
-    elif [ $status = 0 ] && $is_node && grep -q ' refused 11$' out && begins_right 0; then
+    elif [ $status = 0 ] && $is_last && grep -q -e "$refused" out && begins_right 0; then
         passed=$((passed + 1))
     elif [ $status = 3 ] && begins_right 2; then
         ended=$((ended + 1))

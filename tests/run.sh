@@ -75,7 +75,7 @@ run_udp() { # NAME EXPECTED_OUT EXPECTED_ERR EXPECTED_STATUS SCRIPT
     records=$tests/udp/${1%.*}.py
     is_new=false
     if [ "${1##*.}" = 1 ]; then
-        mkdir "$folder"
+        mkdir "$folder" || fail "$1" 'its folder was there'
         if [ -e "$records" ]; then python3 "$records" "$folder"; else is_new=true; fi
     fi
     check "udp $1" "$2" "$3" "$4" udp "$5" "$folder"
@@ -119,7 +119,7 @@ check a_file_as_folder /dev/null "$scratch/refused" 3 udp "$tests/udp/noise.1.sc
 
 # faults come in the order: the script, the sizes, the events that aren't for sockets, the records; nothing is made before
 refused() { # NAME REFUSAL SCRIPT
-    mkdir "$scratch/$1.folder"
+    mkdir "$scratch/$1.folder" || fail "$1" 'its folder was there'
     echo "pcommit: refused $2" >"$scratch/$1.err"
     printf "$3" >"$scratch/$1.script"
     check "$1" /dev/null "$scratch/$1.err" 3 udp "$scratch/$1.script" "$scratch/$1.folder"
@@ -133,7 +133,7 @@ refused udp_event_not_for_sockets '7 line 2' 'cluster acceptors 1 leaders 1 rms 
 one='cluster acceptors 1 leaders 1 rms 1'
 frame='\000\000\000\023\001\004\000\000\000\001\001\164\001\000\001\141\001\001\153\001\000\001\061'
 over() { # NAME FILE BYTES STATUS ERR OUT
-    mkdir "$scratch/$1.folder"
+    mkdir "$scratch/$1.folder" || fail "$1" 'its folder was there'
     printf "$3" >"$scratch/$1.folder/$2"
     echo old >"$scratch/$1.folder/$2.new"
     printf '%s\nrecover r0\n' "$one" >"$scratch/$1.script"
@@ -141,7 +141,7 @@ over() { # NAME FILE BYTES STATUS ERR OUT
     printf "$6" >"$scratch/$1.out"
     check "$1" "$scratch/$1.out" "$scratch/$1.err" "$4" udp "$scratch/$1.script" "$scratch/$1.folder"
 }
-over version_1 r0.rec "$frame" 0 '' "$one\nrecover r0 -> xids 1:74:61\nfinal r0\n"
+over a_vote_of_version_1 r0.rec "$frame" 0 '' "$one\nrecover r0 -> xids 1:74:61\nfinal r0\n"
 over a_tail r0.rec "$frame\000\000\000" 0 '' "$one\nrecover r0 -> xids 1:74:61\nfinal r0\n"
 over only_a_tail r0.rec '\000\000\000' 0 '' "$one\nrecover r0 -> xids\nfinal r0\n"
 [ -s "$scratch/only_a_tail.folder/r0.rec" ] && fail only_a_tail 'the tail stands'

@@ -1,9 +1,10 @@
 #!/usr/bin/env python3
-"""Runs a command of `rt` that proves crates, and prints a line for each crate as it is proved.
+"""Proves the crates of this repository side by side, prints a line for each as it ends, and then builds a program.
 
-tools/progress.py CRATE LOG COMMAND.. runs the command in the folder of that crate. All that it prints goes to the file LOG; its status
-is the status here, and where it fails, its errors and the place of the log are printed.
+tools/progress.py CRATE LOG WORDS.. builds the program of that crate and runs it with these words, in the crate's folder. All that `rt`
+prints goes to the file LOG; where a step fails, its errors and the place of the log are printed, and the status is 1.
 """
+import os
 import re
 import subprocess
 import sys
@@ -11,58 +12,71 @@ import time
 from pathlib import Path
 
 ROOT = Path(__file__).resolve().parent.parent
+# what a check takes at the most, in bytes
+MEMORY_OF_A_CHECK = 4_000_000_000
 
 
-def below(crate):
-    """The crates of this repository that a crate stands on, and itself, in the order of crates.txt, lowest first."""
-    lines = [line.split(":") for line in (ROOT / "crates.txt").read_text(encoding="utf-8").splitlines() if line.strip() and line[0] != "#"]
-    uses = {line[0].split()[0]: line[1].split() for line in lines}
-    found, left = set(), [crate]
-    while left:
-        name = left.pop()
-        if name in uses and name not in found:
-            found.add(name)
-            left += uses[name]
-    return [name for name in uses if name in found]
+def crates():
+    """The crates of this repository, in the order of crates.txt."""
+    lines = (ROOT / "crates.txt").read_text(encoding="utf-8").splitlines()
+    return [line.split(":")[0].split()[0] for line in lines if line.strip() and line[0] != "#"]
+
+
+def jobs():
+    """How many crates are proved at a time: one a processor, as far as memory goes."""
+    free = re.search(r"MemAvailable:\s+(\d+) kB", Path("/proc/meminfo").read_text(encoding="utf-8"))
+    return max(1, min(len(os.sched_getaffinity(0)), 1024 * int(free.group(1)) // MEMORY_OF_A_CHECK))
 
 
 def say(text):
     print(text, flush=True)
 
 
-def follow(lines, log, crates):
-    """Copies the lines to the log, and says how far the proofs are. A crate's verdict stands after the line with its name."""
-    start = begun = time.monotonic()
-    name = None
-    for line in lines:
+def run(command, folder, log, seen):
+    """Runs a command, copies what it prints to the log, and hands each line to `seen`. Its status."""
+    process = subprocess.Popen(command, cwd=folder, stdout=subprocess.PIPE, stderr=subprocess.STDOUT, text=True, encoding="utf-8",
+                               errors="replace")
+    for line in process.stdout:
         log.write(line)
         log.flush()
-        if named := re.match(r"crate (\w+): modules", line):
-            name = named.group(1)
-        elif (verdict := re.match(r"logic=proved functions=(\d+)", line)) and name in crates:
-            now = time.monotonic()
-            say(f"{crates.index(name) + 1:3} of {len(crates)}  {name}: {verdict.group(1)} functions proved in {now - begun:.0f} s")
-            begun = now
-    return time.monotonic() - start
+        seen(line)
+    return process.wait()
+
+
+class Progress:
+    """Counts crates in the order in which they end. A crate's lines begin with its name."""
+
+    def __init__(self, names):
+        self.left = set(names)
+        self.count = len(names)
+        self.begun = time.monotonic()
+
+    def see(self, line):
+        named = re.match(r"== (\w+)", line)
+        if named and named.group(1) in self.left:
+            self.left.remove(named.group(1))
+            say(f"{self.count - len(self.left):3} of {self.count}  {named.group(1)}, after {time.monotonic() - self.begun:.0f} s")
 
 
 def faults(lines):
     """The lines of a log that say why its command failed: errors, and what isn't proved; or else the last ones."""
-    found = [line for line in lines if re.search(r"\berror(\[|:)|it is not proved|: no proof:", line)]
+    found = [line for line in lines if re.search(r"\berror(\[|:)|it is not proved|: no proof:|NOT PROVED|: FAILED", line)]
     return list(dict.fromkeys(found)) or lines[-10:]
 
 
 def main():
-    crate, log_path, command = sys.argv[1], Path(sys.argv[2]), sys.argv[3:]
-    crates = below(crate)
+    crate, log_path, words = sys.argv[1], Path(sys.argv[2]), sys.argv[3:]
+    names, lanes = crates(), jobs()
     log_path.parent.mkdir(parents=True, exist_ok=True)
-    say(f"Proving {crate} and the {len(crates) - 1} crates that it stands on: about ten minutes the first time; what is proved is kept.")
-    say(f"`make try` shows a run in half a minute, with no proofs. The whole log goes to {log_path}.")
+    say(f"Proving {len(names)} crates, {lanes} at a time, low ones first; what is proved is kept. README.md says how long it takes the first time.")
+    say(f"The whole log goes to {log_path}.")
+    progress = Progress(names)
     with open(log_path, "w", encoding="utf-8") as log:
-        process = subprocess.Popen(command, cwd=ROOT / "crates" / crate, stdout=subprocess.PIPE, stderr=subprocess.STDOUT,
-                                   text=True, encoding="utf-8", errors="replace")
-        seconds = follow(process.stdout, log, crates)
-        status = process.wait()
+        status = run(["rt", "all", "check", "--jobs", str(lanes)], ROOT, log, progress.see)
+        if not status:
+            say(f"Building {crate}.")
+            status = run(["rt", "run", "--", *words], ROOT / "crates" / crate, log, lambda line: None)
+    seconds = time.monotonic() - progress.begun
     if status:
         for line in faults(log_path.read_text(encoding="utf-8").splitlines())[:20]:
             say(line)
