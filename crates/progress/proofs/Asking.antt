@@ -39,7 +39,8 @@ pub record IsAsking (config : Config) (tx : TxParts) (l : ℕ) (q : ℕ → Bool
       → IsIn (mail world.net) (record { receiver = A a; message = ask_of config tx b i })
   pub each : (a : ℕ) → a < config.acceptors → q a ≡ true → IsAsked config tx l b world a
 
-pub ask_inside : (config : Config) (tx : TxParts) (b i : ℕ) → is_inside config tx ≡ true → is_message_inside config (ask_of config tx b i) ≡ true
+pub ask_inside : (config : Config) (tx : TxParts) (b i : ℕ) → is_inside config tx ≡ true
+    → is_message_inside config (ask_of config tx b i) ≡ true
 ask_inside config tx b i inside = by_form config.bundled refl
   where
     by_form : (bundled : Bool) → config.bundled ≡ bundled

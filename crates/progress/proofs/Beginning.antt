@@ -89,7 +89,8 @@ module _ (config : Config) (tx : TxParts) (b : ℕ) where
       (IsIn-map {Y = NodeId} A (range_with_len 0 config.acceptors) a (number_among 0 config.acceptors a (omega arith) (omega arith)))
 
   asked_by : (bundled : Bool) (a i : ℕ) → a < config.acceptors → IsIn (participants tx) i
-      → IsIn (letters config (if bundled then to Acceptors (kinds.B1a tx b) ∷ [] else map (λ i. to Acceptors (kinds.P1a tx i b)) (participants tx)))
+      → IsIn (letters config (if bundled then to Acceptors (kinds.B1a tx b) ∷ []
+      else map (λ i. to Acceptors (kinds.P1a tx i b)) (participants tx)))
       (record { receiver = A a; message = if bundled then kinds.B1a tx b else kinds.P1a tx i b })
   asked_by true a i lt named = to_each (to Acceptors (kinds.B1a tx b) ∷ []) (kinds.B1a tx b) (inl refl) a lt
   asked_by false a i lt named =

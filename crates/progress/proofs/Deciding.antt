@@ -42,7 +42,8 @@ final_answer statuses.Aborted h = inr refl
 final_answer statuses.Unknown h = absurd (cc (h))
 final_answer statuses.Undecided h = absurd (cc (h))
 
-module _ (config : Config) (l : ℕ) (tx : TxParts) (inside : is_inside config tx ≡ true) (world : World) (final : IsFinal config l tx world) where
+module _ (config : Config) (l : ℕ) (tx : TxParts) (inside : is_inside config tx ≡ true) (world : World)
+    (final : IsFinal config l tx world) where
   abbrev status : Status
   status = status_of config.acceptors (last_ballot final.node.facts) final.node.memory.leader tx
 
@@ -134,12 +135,14 @@ module _ (config : Config) (tx : TxParts) (l : ℕ) (q : ℕ → Bool) (few : l 
         comes_on config part tx Goal (IsQuietLeader config tx l m world) Goal world
         (quiet_leader config tx l q few inside m (omega (arith, ballots.left)) world reach ballots.stored)
         (λ middle quiet. comes_on config part tx Goal (IsRaised config tx l q few inside m (m + 2 * config.leaders) middle) Goal middle
-        (raise config tx l q few inside m (m + 2 * config.leaders) (omega arith) (omega (arith, ballots.left)) m quiet.s middle quiet.leading
+        (raise config tx l q few inside m (m + 2 * config.leaders) (omega arith) (omega (arith, ballots.left)) m quiet.s middle
+        quiet.leading
         (omega arith) (omega (arith, quiet.near)))
         (λ after raised. quiet_on m raised.b raised.above (omega (arith, raised.near, ballots.left)) first named after
         (calling_from middle quiet after raised)))
 
-    none_final : (n : ℕ) (ballots : StoredBallots) (memory : LeaderMemory) → participants tx ≡ [] → is_final (status_of n ballots memory tx) ≡ true
+    none_final : (n : ℕ) (ballots : StoredBallots) (memory : LeaderMemory) → participants tx ≡ []
+        → is_final (status_of n ballots memory tx) ≡ true
     none_final n ballots memory none = all_decided n ballots memory tx (λ i. votes.Prepared)
         (λ i h. absurd (subst (λ (is : List ℕ). IsIn is i) none h))
 

@@ -11,7 +11,8 @@ use Rattle.xid.specs.declared.refusals.Refusal.TheVariants.{NoSuch, Forged, Down
 use Rattle.safety.specs.Words.{NodeId, A, L, R, Done, Refused, Event, Deliver, Lose, Cut, Noise, Tear, Restart, Compact, Ask}
 use Rattle.safety.specs.Runs.{IsReachable, Opening, After}
 use Rattle.protocol.specs.Effects.{Config}
-use Rattle.protocol.specs.Nodes.{NodeState, new_node, Input, Asked, Received, ReceivedNoise, Fault, NoMemoryBefore, node_step, restart_outcome, compact_outcome}
+use Rattle.protocol.specs.Nodes.{NodeState, new_node, Input, Asked, Received, ReceivedNoise, Fault}
+use Rattle.protocol.specs.Nodes.{NoMemoryBefore, node_step, restart_outcome, compact_outcome}
 use Rattle.protocol.specs.Worlds.{World, StepResult, place, node_at, set_node, answer_result, outcome_result, if_found, at_node}
 use Rattle.protocol.specs.Worlds.{datagram_at, with_mark, dispatch, world_step}
 

@@ -1,5 +1,5 @@
 -- Runs put one after the other, until a goal is reached or for each thing of a list.
-use Rattle.std.proofs.Common.{◌≡◌, ◌⊎◌, inl, inr, ◌∙◌, Bool, true, false, List, [], ◌∷◌, Option, refl, ap, subst}
+use Rattle.std.proofs.Common.{◌≡◌, ◌⊎◌, inl, inr, ◌∙◌, Bool, true, false, List, [], ◌∷◌, Option, Some, None, refl, ap, subst}
 use Rattle.std.specs.Option.{option_map_or}
 use Rattle.std.proofs.lemmas.Bool.{and_from, and_parts}
 use Rattle.xid.specs.Transactions.{TxParts}
@@ -10,6 +10,8 @@ use Rattle.protocol.specs.Nodes.{NodeState, NoFault}
 use Rattle.protocol.specs.Worlds.{World, world_step, world_after}
 use Rattle.progress.specs.Runs.{happens_at, are_at, without_fault, Leads}
 use Rattle.progress.proofs.Steps.{IsMoved, HasStep}
+use Rattle.safety.specs.Runs.{IsReachable}
+use Rattle.safety.proofs.World.Events.{reachable_after}
 
 module _ (config : Config) (part : NodeId → Bool) (tx : TxParts) where
   pub leads_now : (P : World → Type 0) (world : World) → P world → Leads config part tx P world
@@ -105,3 +107,31 @@ module _ (config : Config) (part : NodeId → Bool) (tx : TxParts) where
           comes_on (AreDone I Done xs world) (λ after. I after × ((x : X) → IsIn xs x → Done x after)) world
           (each_on xs step world h)
           (λ after all. comes_now (λ later. I later × ((x : X) → IsIn xs x → Done x later)) after (all.0, all.1))
+
+-- ---- more nodes take part
+
+module _ (config : Config) (part wider : NodeId → Bool) (tx : TxParts) (more : (who : NodeId) → part who ≡ true → wider who ≡ true) where
+  one_at : (o : Option NodeId) → option_map_or part o false ≡ true → option_map_or wider o false ≡ true
+  one_at None h = h
+  one_at (Some who) h = more who h
+
+  all_at : (world : World) (events : List Event) → are_at config part tx world events ≡ true → are_at config wider tx world events ≡ true
+  all_at world [] h = refl
+  all_at world (event ∷ events) h =
+      let after : World = (world_step config world event NoFault).world in
+      let parts = and_parts (option_map_or part (happens_at world tx event) false) (are_at config part tx after events) h in
+      and_from (option_map_or wider (happens_at world tx event) false) (are_at config wider tx after events)
+      (one_at (happens_at world tx event) parts.0) (all_at after events parts.1)
+
+  pub leads_wider : (P : World → Type 0) (world : World) → Leads config part tx P world → Leads config wider tx P world
+  leads_wider P world run = record { events = run.events; at = all_at world run.events run.at; holds = run.holds }
+
+-- a run leads to a world that events come to
+pub leads_reachable : (config : Config) (part : NodeId → Bool) (tx : TxParts) (P : World → Type 0) (world : World)
+    → IsReachable config world
+    → Leads config part tx P world → Leads config part tx (λ after. IsReachable config after × P after) world
+leads_reachable config part tx P world reach run = record {
+  events = run.events;
+  at = run.at;
+  holds = (reachable_after config world reach (without_fault run.events), run.holds);
+}

@@ -19,3 +19,6 @@ pub mod Raising
 pub mod QuietLeader
 pub mod Quieting
 pub mod Deciding
+pub mod Ending
+pub mod Announcing
+pub mod Ended

@@ -96,7 +96,8 @@ module _ (config : Config) (tx : TxParts) (l : ℕ) (q : ℕ → Bool) (inside :
 
     torn_low : (facts : List Fact) → ((i : ℕ) → (slot facts tx i).mbal ≤ m) → (whole : Bool) → (i : ℕ)
         → (slot (torn_facts facts (promise_of config tx b first) whole) tx i).mbal ≤ b
-    torn_low facts low true i = mbal_below facts (promise_of config tx b first) tx i b (promise_of_low config tx b first i) (omega (arith, low i))
+    torn_low facts low true i = mbal_below facts (promise_of config tx b first) tx i b (promise_of_low config tx b first i)
+        (omega (arith, low i))
     torn_low facts low false i = omega (arith, low i)
 
     module _ (facts : List Fact) (low : (i : ℕ) → (slot facts tx i).mbal ≤ m) (after : World)

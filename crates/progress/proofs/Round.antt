@@ -77,7 +77,8 @@ module _ (config : Config) (tx : TxParts) (l : ℕ) (q : ℕ → Bool) (leader :
         → ((i : ℕ) → IsIn (participants tx) i → IsSentToAll config tx b (mail world.net) i)
         → (value : ℕ → Vote) × IsOffered config tx l q b value world
     offered_from world state sent =
-        let chosen = choice (λ i v. (a : ℕ) → a < config.acceptors → IsIn (mail world.net) (record { receiver = A a; message = P2a tx i b v }))
+        let chosen = choice (λ i v. (a : ℕ) → a < config.acceptors
+        → IsIn (mail world.net) (record { receiver = A a; message = P2a tx i b v }))
         (participants tx) sent in (
           chosen.0,
           record {

@@ -12,7 +12,8 @@ use Rattle.safety.specs.Words.{Fact, NodeId, Outgoing, Event, Ask, Deliver, Rest
 use Rattle.xid.specs.declared.refusals.Refusal.TheVariants.{NoSuch, Damaged}
 use Rattle.protocol.specs.Effects.{Config, Effect, no_effect}
 use Rattle.protocol.specs.Facts.{with_fact}
-use Rattle.protocol.specs.Nodes.{NodeState, Memory, empty_memory, Input, Asked, Received, NoFault, Outcome, node_step, effect_of, accepts_input}
+use Rattle.protocol.specs.Nodes.{NodeState, Memory, empty_memory, Input, Asked, Received, NoFault, Outcome}
+use Rattle.protocol.specs.Nodes.{node_step, effect_of, accepts_input}
 use Rattle.protocol.specs.Nodes.{answer_outcome, down_node, effect_outcome, stopped_append, finished_append, restart_outcome, all_play}
 use Rattle.protocol.specs.Nodes.{is_message_inside, on_message}
 use Rattle.protocol.proofs.Lists.{IsIn-before}
@@ -87,7 +88,8 @@ module _ (config : Config) (world : World) (who : NodeId) (node : NodeState) (is
       let marked : World = record world { net = net } in
       moved_by net same (node_step config who node input NoFault) after
       (e ∙ ap (λ (o : Option NodeState).
-      (if_found marked (λ found. outcome_result config marked who found.facts (node_step config who found input NoFault)) o).world) is) reach
+      (if_found marked (λ found. outcome_result config marked who found.facts (node_step config who found input NoFault)) o).world) is)
+      reach
 
   module _ (tx : TxParts) where
     -- a timeout of the transaction

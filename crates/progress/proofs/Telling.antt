@@ -2,7 +2,8 @@
 use Rattle.std.proofs.Common.{◌≡◌, inl, inr, ◌∙◌, ℕ, zero, suc, ◌+◌, ◌*◌, ◌<◌, ◌≤◌, Bool, true, false, ◌==◌, ◌&&◌}
 use Rattle.std.proofs.Common.{if◌then◌else◌, List, ◌∷◌, Some, None, filter_map, refl, sym, ap, subst, arith}
 use Rattle.std.specs.List.{list_any, list_all}
-use Rattle.std.proofs.lemmas.Bool.{cond_both, cond-true, cond-false, both_ways, and_from, and_parts, eqb-true, eq-eqb, cases_Bool, ltb-true, lt-ltb}
+use Rattle.std.proofs.lemmas.Bool.{cond_both, cond-true, cond-false, both_ways, and_from, and_parts}
+use Rattle.std.proofs.lemmas.Bool.{eqb-true, eq-eqb, cases_Bool, ltb-true, lt-ltb}
 use Rattle.xid.specs.Transactions.{TxParts, participants, tx_eq}
 use Rattle.xid.specs.declared.transaction.Vote.{Vote}
 use Rattle.xid.specs.declared.transaction.Vote.TheVariants as votes
@@ -15,7 +16,8 @@ use Rattle.protocol.specs.declared.states.Status.TheVariants as statuses
 use Rattle.safety.specs.Words.{Managers}
 use Rattle.protocol.specs.Effects.{Config, Effect, no_effect, sends_only}
 use Rattle.protocol.specs.Facts.{instance_eq, vote_eq}
-use Rattle.protocol.specs.LeaderMemory.{LeaderMemory, StoredBallots, is_accept_of, ballot_told, is_decided, is_known, with_met, with_all_heard}
+use Rattle.protocol.specs.LeaderMemory.{LeaderMemory, StoredBallots, is_accept_of, ballot_told, is_decided}
+use Rattle.protocol.specs.LeaderMemory.{is_known, with_met, with_all_heard}
 use Rattle.protocol.specs.LeaderMemory.{status_of}
 use Rattle.protocol.specs.Leaders.{is_final, outcome_messages, on_2b}
 use Rattle.protocol.specs.StandsFor.{accept_messages_of}
@@ -92,7 +94,8 @@ met_heard : (tx : TxParts) (memory : LeaderMemory) → (with_met tx memory).hear
 met_heard tx memory = cond_both (list_any (tx_eq tx) memory.met) memory (record memory { met = tx ∷ memory.met })
     (λ (x : LeaderMemory). x.heard ≡ memory.heard) (λ e. refl) (λ e. refl)
 
-pub heard_accept : (config : Config) (stored : StoredBallots) (memory : LeaderMemory) (tx : TxParts) (b a : ℕ) (accepts : List InstanceAccept)
+pub heard_accept : (config : Config) (stored : StoredBallots) (memory : LeaderMemory) (tx : TxParts) (b a : ℕ)
+    (accepts : List InstanceAccept)
     → is_final (status_of config.acceptors stored memory tx) ≡ false → (i : ℕ) (v : Vote)
     → IsIn accepts (record { instance = i; ballot = b; vote = v })
     → IsTold tx b a i v memory (on_2b config stored memory tx a accepts)

@@ -1,13 +1,14 @@
 -- What a run comes to: the outcome known to a leader.
 use Rattle.std.specs.Prelude.{◌≡◌, ◌⊎◌, ℕ, ◌+◌, ◌*◌, ◌^◌, ◌<◌, ◌≤◌, Bool, IsTrue}
-use Rattle.xid.specs.Transactions.{TxParts}
-use Rattle.safety.specs.Words.{A, L, Answer, Stands, Ask}
+use Rattle.xid.specs.Transactions.{TxParts, is_participant}
+use Rattle.safety.specs.Words.{A, L, Answer, Stands, Ask, View}
 use Rattle.protocol.specs.declared.requests.Request.TheVariants as requests
 use Rattle.protocol.specs.declared.states.Standing.TheVariants as standings
 use Rattle.protocol.specs.Effects.{Config}
 use Rattle.protocol.specs.Facts.{slot, last_ballot}
 use Rattle.protocol.specs.Nodes.{NoFault}
 use Rattle.protocol.specs.Worlds.{World, world_step}
+use Rattle.safety.specs.Runs.{views_in}
 use Rattle.safety.specs.Standing.{facts_at}
 
 -- what a leader answers a client that asks where a transaction stands
@@ -18,6 +19,10 @@ status_answer config world l tx = (world_step config world (Ask (L l) (requests.
 abbrev pub HasOutcome : Config → ℕ → TxParts → World → Type 0
 HasOutcome config l tx world =
     (status_answer config world l tx ≡ Stands standings.Committed) ⊎ (status_answer config world l tx ≡ Stands standings.Aborted)
+
+-- every participant's view of a transaction is this one
+abbrev pub HaveEnded : Config → TxParts → View → World → Type 0
+HaveEnded config tx outcome world = (r : ℕ) → IsTrue (is_participant tx r) → views_in config world tx r ≡ outcome
 
 -- a leader has ballots left: some number is no less than each ballot that it stored and that the acceptors of the quorum have promised
 -- of the transaction, and three of the leader's turns after it there are still ballots

@@ -1,7 +1,7 @@
 -- Runs in which some nodes take part and no others, and which no fault meets.
 use Rattle.std.specs.Prelude.{◌≡◌, ℕ, Bool, true, false, ◌&&◌, ◌==◌, if◌then◌else◌, List, [], ◌∷◌, map, Option, Some, None}
 use Rattle.std.specs.Option.{option_map, option_map_or}
-use Rattle.xid.specs.Transactions.{TxParts, tx_eq}
+use Rattle.xid.specs.Transactions.{TxParts, tx_eq, is_participant}
 use Rattle.safety.specs.Words.{NodeId, A, L, R, Event, Ask, Deliver, Restart, Timeout}
 use Rattle.protocol.specs.Effects.{Config}
 use Rattle.protocol.specs.Nodes.{NoFault}
@@ -12,6 +12,17 @@ abbrev pub leader_and_quorum : (leader : ℕ) (quorum : ℕ → Bool) → NodeId
 leader_and_quorum l quorum (A a) = quorum a
 leader_and_quorum l quorum (L other) = l == other
 leader_and_quorum l quorum (R rm) = false
+
+-- one leader and the participants of a transaction take part
+abbrev pub leader_and_participants : (leader : ℕ) → TxParts → NodeId → Bool
+leader_and_participants l tx (A a) = false
+leader_and_participants l tx (L other) = l == other
+leader_and_participants l tx (R rm) = is_participant tx rm
+
+-- one leader, the acceptors of a quorum and the participants of a transaction take part
+abbrev pub leader_quorum_and_participants : (leader : ℕ) (quorum : ℕ → Bool) → TxParts → NodeId → Bool
+leader_quorum_and_participants l quorum tx (R rm) = is_participant tx rm
+leader_quorum_and_participants l quorum tx other = leader_and_quorum l quorum other
 
 -- where a restart, a timeout of the transaction or a delivery happens; no other event is used
 abbrev pub happens_at : World → TxParts → Event → Option NodeId
