@@ -21,8 +21,8 @@ pub fn decides()
         → Leads config (leader_and_quorum l quorum) tx (HasOutcome config l tx) world }
 {}
 
-/// Where a leader answers committed or aborted, it and the participants alone go on to a world in which every participant has ended so:
-/// a timeout of the leader, restarts of the participants and deliveries to them, none of which meets a fault.
+/// Where a leader answers committed or aborted, it and the participants can go on to a world in which every participant has ended so:
+/// there are restarts, timeouts and deliveries, each at one of them, and none meets a fault.
 pub fn participants_follow()
     ensures committed { (config : Config) (world : World) → IsReachable config world → (tx : TxParts) → IsTrue (is_inside config tx)
         → (l : ℕ) → status_answer config world l tx ≡ Stands standings.Committed
