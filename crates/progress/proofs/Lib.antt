@@ -22,3 +22,5 @@ pub mod Deciding
 pub mod Ending
 pub mod Announcing
 pub mod Ended
+pub mod Keeping
+pub mod Lasting
