@@ -9,6 +9,7 @@ use Rattle.ballot.specs.Greatest.{IsIn}
 use Rattle.ballot.specs.Majority.{is_majority}
 use Rattle.safety.specs.Words.{NodeId, L, Answer, Stands, Refused, Status}
 use Rattle.safety.specs.Runs.{IsReachable}
+use Rattle.safety.proofs.Facts.{participates}
 use Rattle.safety.specs.Standing.{facts_of}
 use Rattle.protocol.specs.declared.requests.Request.TheVariants as requests
 use Rattle.protocol.specs.declared.states.Standing.TheVariants as standings
@@ -126,8 +127,8 @@ module _ (config : Config) (tx : TxParts) (l : ℕ) (q : ℕ → Bool) (few : l 
       };
       reach = raised.begun.reach quiet.reach;
       asked = raised.begun.asked;
-      each = λ a lt is. inl (λ i. subst (λ (o : Option NodeState). (slot (facts_of o) tx i).mbal ≤ m)
-          (sym (raised.begun.others a ∙ quiet.others a)) (ballots.promised a i is));
+      each = λ a lt is. inl (λ i h. subst (λ (o : Option NodeState). (slot (facts_of o) tx i).mbal ≤ m)
+          (sym (raised.begun.others a ∙ quiet.others a)) (ballots.promised a i is (participates tx i h)));
     }
 
     with_first : (first : ℕ) → IsIn (participants tx) first → Comes config part tx Goal Goal world

@@ -25,7 +25,7 @@ use Rattle.progress.proofs.Members.{members, member_in, member_of, IsFinal, IsBe
 
 -- an acceptor that has promised nothing above m
 abbrev pub IsUntouched : Config → TxParts → (m : ℕ) → World → (a : ℕ) → Type 0
-IsUntouched config tx m world a = (i : ℕ) → (slot (facts_at config world (A a)) tx i).mbal ≤ m
+IsUntouched config tx m world a = (i : ℕ) → IsIn (participants tx) i → (slot (facts_at config world (A a)) tx i).mbal ≤ m
 
 -- the leader has begun ballot b, above m; each acceptor has promised nothing above m, or is quiet
 pub record IsCalling (config : Config) (tx : TxParts) (l : ℕ) (q : ℕ → Bool) (m b : ℕ) (world : World) : Type 0 where
@@ -73,8 +73,8 @@ module _ (config : Config) (tx : TxParts) (l : ℕ) (q : ℕ → Bool) (inside :
         each = λ c less member. elim (cases_eq c a) [
           | inl same ↦ inr (subst (IsBelow config tx b after) (sym same) quiet)
           | inr apart ↦ elim (state.each c less member) [
-            | inl untouched ↦ inl (λ i. subst (λ (o : Option NodeState). (slot (facts_of o) tx i).mbal ≤ m)
-                (sym (since.others (A c) (acceptor_apart c a apart))) (untouched i))
+            | inl untouched ↦ inl (λ i h. subst (λ (o : Option NodeState). (slot (facts_of o) tx i).mbal ≤ m)
+                (sym (since.others (A c) (acceptor_apart c a apart))) (untouched i h))
             | inr below ↦ inr (still_quiet c apart below)
           ]
         ];
@@ -94,13 +94,14 @@ module _ (config : Config) (tx : TxParts) (l : ℕ) (q : ℕ → Bool) (inside :
           below = below.below;
         }
 
-    torn_low : (facts : List Fact) → ((i : ℕ) → (slot facts tx i).mbal ≤ m) → (whole : Bool) → (i : ℕ)
+    torn_low : (facts : List Fact) → ((i : ℕ) → IsIn (participants tx) i → (slot facts tx i).mbal ≤ m) → (whole : Bool) → (i : ℕ)
+        → IsIn (participants tx) i
         → (slot (torn_facts facts (promise_of config tx b first) whole) tx i).mbal ≤ b
-    torn_low facts low true i = mbal_below facts (promise_of config tx b first) tx i b (promise_of_low config tx b first i)
-        (omega (arith, low i))
-    torn_low facts low false i = omega (arith, low i)
+    torn_low facts low true i h = mbal_below facts (promise_of config tx b first) tx i b (promise_of_low config tx b first i)
+        (omega (arith, low i h))
+    torn_low facts low false i h = omega (arith, low i h)
 
-    module _ (facts : List Fact) (low : (i : ℕ) → (slot facts tx i).mbal ≤ m) (after : World)
+    module _ (facts : List Fact) (low : (i : ℕ) → IsIn (participants tx) i → (slot facts tx i).mbal ≤ m) (after : World)
         (moved : IsMoved config before after (A a) (record { facts = facts; up = true; tear = None; memory = empty_memory }) []
         ⊎ ((n : ℕ) × IsMoved config before after (A a) (armed_node facts empty_memory n) [])) where
       quiet_by : Comes config part tx Goal Next after
@@ -111,7 +112,7 @@ module _ (config : Config) (tx : TxParts) (l : ℕ) (q : ℕ → Bool) (inside :
               kept = mail_stays config before after (A a) (quiet_node facts empty_memory) [] quiet;
               reach = quiet.reach state.reach;
             })
-            (record { facts = facts; memory = empty_memory; at = quiet.here; below = λ i h. omega (arith, low i) }))
+            (record { facts = facts; memory = empty_memory; at = quiet.here; below = λ i h. omega (arith, low i h) }))
         | inr armed ↦ armed_on armed.0 armed.1
       ]
         where
@@ -126,7 +127,7 @@ module _ (config : Config) (tx : TxParts) (l : ℕ) (q : ℕ → Bool) (inside :
               (torn_delivery config after tx (A a) facts empty_memory n fact armed.here (ask_of config tx b first)
               (kept (record { receiver = A a; message = ask_of config tx b first }) (state.asked a first lt named))
               (ask_inside config tx b first inside)
-              (stores_promise config tx b first a facts named (omega (arith, low first))))
+              (stores_promise config tx b first a facts named (omega (arith, low first named))))
               (λ middle torn. comes_step config part tx Goal Next middle (A a) fresh [] is
               (restarted config middle (A a) left torn.here tx (torn.reach (armed.reach state.reach)))
               (λ last again. comes_now config part tx Goal Next last (next_by last
@@ -140,10 +141,10 @@ module _ (config : Config) (tx : TxParts) (l : ℕ) (q : ℕ → Bool) (inside :
                 facts = torn_facts facts fact whole;
                 memory = empty_memory;
                 at = again.here;
-                below = λ i h. torn_low facts low whole i;
+                below = λ i h. torn_low facts low whole i h;
               }))))
 
-    by_tear : (facts : List Fact) → ((i : ℕ) → (slot facts tx i).mbal ≤ m) → (after : World) → (tear : Option ℕ)
+    by_tear : (facts : List Fact) → ((i : ℕ) → IsIn (participants tx) i → (slot facts tx i).mbal ≤ m) → (after : World) → (tear : Option ℕ)
         → IsMoved config before after (A a) (record { facts = facts; up = true; tear = tear; memory = empty_memory }) []
         → Comes config part tx Goal Next after
     by_tear facts low after None moved = quiet_by facts low after (inl moved)
@@ -158,7 +159,7 @@ module _ (config : Config) (tx : TxParts) (l : ℕ) (q : ℕ → Bool) (inside :
         (record { facts = node.facts; up = true; tear = node.tear; memory = empty_memory }) [] is
         (restarted config before (A a) node there.1 tx state.reach)
         (λ after moved. by_tear node.facts
-        (λ i. subst (λ (o : Option NodeState). (slot (facts_of o) tx i).mbal ≤ m) there.1 (untouched i)) after node.tear moved)
+        (λ i h. subst (λ (o : Option NodeState). (slot (facts_of o) tx i).mbal ≤ m) there.1 (untouched i h)) after node.tear moved)
 
   -- all of them are quiet
   abbrev pub AllQuiet : World → Type 0

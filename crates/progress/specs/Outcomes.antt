@@ -38,5 +38,5 @@ pub record IsAccepted (config : Config) (world : World) (tx : TxParts) (i : ℕ)
 pub record HasBallots (config : Config) (world : World) (l : ℕ) (quorum : ℕ → Bool) (tx : TxParts) : Type 0 where
   pub most : ℕ
   pub stored : last_ballot (facts_at config world (L l)) tx ≤ most
-  pub promised : (a i : ℕ) → IsTrue (quorum a) → (slot (facts_at config world (A a)) tx i).mbal ≤ most
+  pub promised : (a i : ℕ) → IsTrue (quorum a) → IsTrue (is_participant tx i) → (slot (facts_at config world (A a)) tx i).mbal ≤ most
   pub left : most + 3 * config.leaders < 2 ^ 32
