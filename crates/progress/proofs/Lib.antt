@@ -1,0 +1,26 @@
+-- One event after another; what each role makes of its messages; the phases of a round; then nodes made quiet, and all together.
+pub mod Mail
+pub mod Steps
+pub mod Leading
+pub mod Slots
+pub mod Promising
+pub mod Accepting
+pub mod Hearing
+pub mod Telling
+pub mod Members
+pub mod Beginning
+pub mod Asking
+pub mod Proposing
+pub mod Voting
+pub mod Concluding
+pub mod Round
+pub mod Existing
+pub mod Raising
+pub mod QuietLeader
+pub mod Quieting
+pub mod Deciding
+pub mod Ending
+pub mod Announcing
+pub mod Ended
+pub mod Keeping
+pub mod Lasting
