@@ -6,19 +6,13 @@ ghost use Rattle.std.specs.Cmp.Lexicographic.{slice_cmp};
 ghost use Rattle.std.specs.Ordering.{nat_cmp, is_le};
 ghost use Rattle.std.specs.Str.{bytes_eq};
 ghost use Rattle.xid.specs.declared.refusals.Refusal.TheVariants.{NoMemory};
+ghost use Rattle.stable_record.specs.Facts.{AreAscending};
 ghost use Rattle.stable_record.specs.declared.fact.Act.TheVariants as acts;
 ghost use Rattle.protocol.specs.Managers.{act_on as act_on_lem, has_key as has_key_lem, last_act, with_touched};
 
 use stable_record::{Act, Touched};
 use std::alloc::Global;
 use xid::{Bytes, Refusal};
-
-/// Whether a key was touched.
-pub fn has_key(keys: &[Touched], key: &[u8]) -> bool
-    ensures { result ≡ has_key_lem key.now keys.now }
-{
-    keys.iter().any(|touched| is_of_key(touched, key))
-}
 
 fn is_of_key(touched: &Touched, key: &[u8]) -> bool
     ensures { result ≡ bytes_eq touched.now.key key.now }
@@ -33,24 +27,43 @@ fn is_up_to(key: &[u8], touched: &Touched) -> bool
     key.cmp(touched.key.as_slice()).is_le()
 }
 
-/// The first place of which the key isn't before this one.
+/// The first place of which the key isn't before this one, found by halving.
 fn place_of(keys: &[Touched], key: &[u8]) -> Option<usize>
+    requires { AreAscending keys.now }
     ensures { result ≡ position (λ touched. is_le (slice_cmp nat_cmp key.now touched.key)) keys.now }
 {
-    keys.iter().position(|touched| is_up_to(key, touched))
+    let at = keys.partition_point(|touched| !is_up_to(key, touched));
+    if at == keys.len() {
+        return None;
+    }
+    Some(at)
+}
+
+/// Whether a key was touched.
+pub fn has_key(keys: &[Touched], key: &[u8]) -> bool
+    requires { AreAscending keys.now }
+    ensures { result ≡ has_key_lem key.now keys.now }
+{
+    match place_of(keys, key) {
+        Some(at) => is_of_key(&keys[at], key),
+        None => false,
+    }
 }
 
 /// The last act on a key, if it was touched.
 pub fn act_on<'a>(keys: &'a [Touched], key: &[u8]) -> Option<&'a Act>
+    requires { AreAscending keys.now }
     ensures some { IfSome result (λ act. act.now ≡ act_on_lem keys.now key.now) }
     ensures none { IfNone result (act_on_lem keys.now key.now ≡ acts.Read) }
 {
-    for touched in keys {
-        if is_of_key(touched, key) {
-            return Some(&touched.act);
-        }
+    let Some(at) = place_of(keys, key) else {
+        return None;
+    };
+    let touched = &keys[at];
+    if !is_of_key(touched, key) {
+        return None;
     }
-    None
+    Some(&touched.act)
 }
 
 /// Notes a later act.
@@ -86,6 +99,7 @@ pub fn touch_key(
     key: &[u8],
     act: Act,
 ) -> Result<(), Refusal>
+    requires { AreAscending keys.old.items }
     ensures ok { OnOk result (keys.new.items ≡ with_touched keys.old.items key.now act) }
     ensures err { IfErr result (λ e. (e ≡ NoMemory) × (keys.new.items ≡ keys.old.items)) }
 {
