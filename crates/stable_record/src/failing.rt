@@ -1,7 +1,7 @@
-ghost use Rattle.std.specs.Prelude.{◌≡◌, ◌≤◌, ◌<◌, ◌⊎◌, ℕ, ◌+◌, ◌-◌, ◌==◌, Bool, List, length, is_some, Some, None, true, Result};
-ghost use Rattle.stable_record.specs.Held.{Held, IsCounted};
+ghost use Rattle.std.specs.Prelude.{◌≡◌, ◌≤◌, ℕ, ◌+◌, ◌-◌, ◌==◌, min, false, length, take, is_some, Some, IfOk};
+ghost use Rattle.stable_record.specs.Held.{Held, HasAdded, HasPut, HasRead, IsCounted, armed_with, most_faults};
 ghost use Rattle.stable_record.specs.declared.record.RecordError.TheVariants.{Fault};
-ghost use Rattle.stable_record.specs.Records.{fail_held};
+ghost use Rattle.stable_record.specs.Records.{FailsInTurn, fail_held, is_made};
 
 use crate::record::{Record, RecordError, Tear};
 use std::alloc::Global;
@@ -73,7 +73,7 @@ impl<R: Record> FailRecord<R> {
           left = self.old.left;
           leaves = self.old.leaves;
           kept = self.old.kept;
-          faults = self.new.faults;
+          faults = min (self.old.faults + 1) most_faults;
         } }
     {
         self.faults = self.faults.saturating_add(1);
@@ -84,7 +84,11 @@ impl<R: Record> FailRecord<R> {
 impl<R: Record> Record for FailRecord<R> {
     ghost held = { fail_held R.held };
 
-    fn read(&mut self, alloc: Global) -> Result<Vec<u8>, RecordError> {
+    fn read(&mut self, alloc: Global) -> Result<Vec<u8>, RecordError>
+        ensures bytes { IfOk result (λ read. read.items ≡ (fail_held R.held self.old).bytes) }
+        ensures step { HasRead (fail_held R.held self.old) (fail_held R.held self.new) result }
+        ensures turn { FailsInTurn (λ old new answer. HasRead (R.held old) (R.held new) answer) false self.old self.new result }
+    {
         if self.is_due() {
             return Err(self.count());
         }
@@ -95,7 +99,11 @@ impl<R: Record> Record for FailRecord<R> {
         }
     }
 
-    fn append(&mut self, bytes: &[u8]) -> Result<(), RecordError> {
+    fn append(&mut self, bytes: &[u8]) -> Result<(), RecordError>
+        ensures step { HasAdded bytes.now (fail_held R.held self.old) (fail_held R.held self.new) result }
+        ensures turn { FailsInTurn (λ old new answer. HasAdded bytes.now (R.held old) (R.held new) answer)
+            (is_some (R.held self.old.inner).armed) self.old self.new result }
+    {
         if self.is_due() && !self.inner.is_armed() {
             self.kept = 0;
             return Err(self.count());
@@ -113,7 +121,12 @@ impl<R: Record> Record for FailRecord<R> {
         }
     }
 
-    fn cut(&mut self, len: usize) -> Result<(), RecordError> {
+    fn cut(&mut self, len: usize) -> Result<(), RecordError>
+        requires within { len ≤ length (fail_held R.held self.old).bytes }
+        ensures step { HasPut (take len (fail_held R.held self.old).bytes) (fail_held R.held self.old) (fail_held R.held self.new) result }
+        ensures turn { FailsInTurn (λ old new answer. HasPut (take len (R.held old).bytes) (R.held old) (R.held new) answer)
+            (is_made self.old.leaves) self.old self.new result }
+    {
         let due = self.is_due();
         if due && self.leaves == Leaves::Old {
             return Err(self.count());
@@ -130,7 +143,11 @@ impl<R: Record> Record for FailRecord<R> {
         }
     }
 
-    fn replace(&mut self, bytes: &[u8]) -> Result<(), RecordError> {
+    fn replace(&mut self, bytes: &[u8]) -> Result<(), RecordError>
+        ensures step { HasPut bytes.now (fail_held R.held self.old) (fail_held R.held self.new) result }
+        ensures turn { FailsInTurn (λ old new answer. HasPut bytes.now (R.held old) (R.held new) answer) (is_made self.old.leaves)
+            self.old self.new result }
+    {
         let due = self.is_due();
         if due && self.leaves == Leaves::Old {
             return Err(self.count());
@@ -161,7 +178,11 @@ impl<R: Record> Record for FailRecord<R> {
 }
 
 impl<R: Tear> Tear for FailRecord<R> {
-    fn arm(&mut self, n: usize) {
+    fn arm(&mut self, n: usize)
+        ensures armed { fail_held R.Record.held self.new ≡ armed_with (Some n) (fail_held R.Record.held self.old) }
+        ensures left { self.new.left ≡ self.old.left }
+        ensures leaves { self.new.leaves ≡ self.old.leaves }
+    {
         self.inner.arm(n);
     }
 }
