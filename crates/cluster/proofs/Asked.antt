@@ -19,7 +19,8 @@ use Rattle.node_core.specs.Viewing.{SaysView, SaysTable, IsUnread, ViewsAs, Tabl
 use Rattle.network.specs.Networks.{NetworkParts}
 use Rattle.cluster.specs.Clusters.{ClusterParts, sized, cluster_of, ClusterStands, IsSound}
 use Rattle.cluster.specs.Asking.{IsSaid, ViewsIn, TablesIn}
-use Rattle.cluster.proofs.Standing.{there, found, named, none_there, node_kept, at_place, same_but, stands_still, unchanged}
+use Rattle.cluster.proofs.Standing.{there, placed, found, named, none_there, node_kept, at_place, same_but, others_stay, stands_still}
+use Rattle.cluster.proofs.Standing.{unchanged}
 
 -- a node whose parts are all as they were
 node_same : (old new : NodeParts) → IsSameNode old new → new.held ≡ old.held → new.role ≡ old.role → new ≡ old
@@ -138,9 +139,17 @@ module _ (config : Config) (world : World) (sizes : Sizes) (nodes : List NodePar
           subst (λ (x : NodeState). Says (R rm) x) m_is (subst (λ (n : NodeId). Says n m) who_is kept.1),
         )
     said Says result (inr unread) (Some x) e =
-        inr (at_place config world sizes nodes network s (R rm) at (sym is)
-        (λ (old late : NodeParts). IsUnread old.held late.held old.role result) node new
-        (subst (λ (x : NodeParts). IsUnread x.held new.held x.role result) read unread))
+        inr (record {
+          others = others_stay (place config (R rm)) at nodes new (placed config world sizes nodes network s (R rm) at (sym is));
+          network_is = refl;
+          role_is =
+              at_place config world sizes nodes network s (R rm) at (sym is) (λ (old late : NodeParts). late.role ≡ old.role) node new
+              (role_is ∙ ap (λ (x : NodeParts). x.role) read);
+          unread =
+              at_place config world sizes nodes network s (R rm) at (sym is)
+              (λ (old late : NodeParts). IsUnread old.held late.held old.role result) node new
+              (subst (λ (x : NodeParts). IsUnread x.held new.held x.role result) read unread);
+        })
 
   pub view_said : (tx : TxParts) (result : Result View Refusal)
       → ((config : Config) (m : NodeState) → NodeStands config node m → ViewsAs config m node new tx result)

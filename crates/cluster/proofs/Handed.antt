@@ -242,7 +242,14 @@ as_before : (config : Config) (world : World) (who : NodeId) (input : Input) (si
     (new : ClusterParts) (came : Came) → ReachesAs config world who input (cluster_of sizes nodes a) new came
     → ReachesAs config world who input (cluster_of sizes nodes b) new came
 as_before config world who input sizes nodes a b new came r =
-    record { fault = r.fault; reached = r.reached; same = same_as sizes nodes a b new r.same; befalls = r.befalls; comes = r.comes }
+    record {
+      fault = r.fault;
+      reached = r.reached;
+      same = same_as sizes nodes a b new r.same;
+      others = r.others;
+      befalls = r.befalls;
+      comes = r.comes;
+    }
 
 -- ---- a request
 

@@ -8,5 +8,6 @@ pub mod Renewed
 pub mod Asked
 pub mod Opened
 pub mod Grown
+pub mod KeptWrites
 pub mod Safe
 pub mod Following

@@ -23,7 +23,7 @@ use Rattle.protocol.specs.declared.nodes.NodeId.{NodeId}
 use Rattle.protocol.specs.declared.requests.Request.{Request}
 use Rattle.protocol.specs.Effects.{Config}
 use Rattle.protocol.specs.Nodes.{NodeState, Input, Asked, Received, ReceivedNoise, Fault, NoFault, NoMemoryBefore, NoMemoryAt, RecordFails}
-use Rattle.protocol.specs.Worlds.{World, Datagram, StepResult, node_at, at_node, answer_result, datagram_at, mark_at, with_mark}
+use Rattle.protocol.specs.Worlds.{World, Datagram, StepResult, place, node_at, at_node, answer_result, datagram_at, mark_at, with_mark}
 use Rattle.protocol.specs.Worlds.{dispatch, world_step, step_of, if_found}
 use Rattle.safety.specs.Runs.{After}
 use Rattle.node_core.specs.declared.config.Sizes.{Sizes}
@@ -32,7 +32,8 @@ use Rattle.network.specs.Networks.{NetworkParts, StandsFor}
 use Rattle.cluster.specs.declared.handing.Came.{Came}
 use Rattle.cluster.specs.Clusters.{ClusterParts, cluster_of, ClusterStands, IsSound, IsSameCluster, ReachesAs, ComesTo, BefallsAt}
 use Rattle.cluster.specs.Clusters.{BefallsReached, BefallsRestarted, BefallsCompacted, BefallsEvent, BefallsIn, OccursAs, Occurs, step_by, handed, handed_cut}
-use Rattle.cluster.proofs.Standing.{unchanged}
+use Rattle.cluster.specs.Clusters.{place_reached, StayBut}
+use Rattle.cluster.proofs.Standing.{unchanged, all_stay}
 
 -- ---- bytes
 
@@ -100,13 +101,14 @@ module _ (config : Config) (world : World) (event : Event) (old new : ClusterPar
       ∙ ap (λ (c : Option Change). step_made event result.answer c came.sent.items) comes.now_is
       ∙ ap (λ (s : List Sent). step_made event result.answer result.now s) comes.sent_is
 
-  pub occurs : IsSameCluster old new → (fault : Fault) → (fault ≡ NoMemoryBefore → ⊥)
+  pub occurs : IsSameCluster old new → StayBut (place_reached config world event) old.nodes new.nodes → (fault : Fault) → (fault ≡ NoMemoryBefore → ⊥)
       → BefallsEvent config world event old.nodes new.nodes fault → (result : StepResult) → dispatch config world event fault ≡ result
       → ComesTo config (length world.net) new came result → OccursAs config world event old new (step_by event came)
-  occurs same fault apart befalls result is comes =
+  occurs same others fault apart befalls result is comes =
       let made : result ≡ world_step config world event fault = sym is ∙ sym (dispatched fault apart) in
       record {
         same = same;
+        others = others;
         fault = fault;
         befalls = befallen fault apart befalls;
         step_is = step_same result comes ∙ ap (step_of world event) made;
@@ -118,6 +120,7 @@ module _ (config : Config) (world : World) (event : Event) (old new : ClusterPar
       → ClusterStands config new world → OccursAs config world event old new (step_by event came)
   refused_before sizes_are nodes_are answer_is now_is sent_is stands = record {
     same = unchanged old new sizes_are nodes_are;
+    others = all_stay (place_reached config world event) old.nodes new.nodes nodes_are;
     fault = NoMemoryBefore;
     befalls = nodes_are;
     step_is =
@@ -142,7 +145,7 @@ module _ (config : Config) (world : World) (old new : ClusterParts) (came : Came
   pub occurs_asked : (who : NodeId) (request : Request) → ReachesAs config world who (Asked request) old new came
       → OccursAs config world (Ask who request) old new (step_by (Ask who request) came)
   occurs_asked who request r =
-      occurs config world (Ask who request) old new came r.same r.fault r.reached r.befalls
+      occurs config world (Ask who request) old new came r.same r.others r.fault r.reached r.befalls
       (at_node config world who (Asked request) r.fault) refl r.comes
 
   -- a node that isn't there is not reached
@@ -153,11 +156,20 @@ module _ (config : Config) (world : World) (old new : ClusterParts) (came : Came
     fault = NoFault;
     reached = no_fault;
     same = unchanged old new sizes_are nodes_are;
+    others = all_stay (place config who) old.nodes new.nodes nodes_are;
     befalls = subst (λ (o : Option NodeState). BefallsAt config old.nodes new.nodes (who, input) o NoFault) (sym none) refl;
     comes =
         subst (ComesTo config (length world.net) new came) (sym (ap (if_found world _) none))
         (comes_quiet config world world (length world.net) new came (Refused refusals.NoSuch) answer_is now_is sent_is stands);
   }
+
+  -- what reached a node that was handed something
+  handed_to : (h : Option (NodeId × Input)) (who : NodeId) (input : Input) → h ≡ Some (who, input)
+      → StayBut (place config who) old.nodes new.nodes
+      → StayBut (option_and_then (place config) (option_map (λ (on : NodeId × Input). on.0) h)) old.nodes new.nodes
+  handed_to h who input is others =
+      subst (λ (o : Option (NodeId × Input)). StayBut (option_and_then (place config) (option_map (λ (on : NodeId × Input). on.0) o))
+      old.nodes new.nodes) (sym is) others
 
   -- no node is handed anything
   none_handed : (h : Option (NodeId × Input)) → h ≡ None → BefallsReached config world old.nodes new.nodes h NoFault
@@ -171,7 +183,8 @@ module _ (config : Config) (world : World) (old new : ClusterParts) (came : Came
       → came.answer ≡ Refused refusals.NoSuch → came.now ≡ None → came.sent.items ≡ [] → ClusterStands config new world
       → OccursAs config world event old new (step_by event came)
   not_there sizes_are nodes_are event befalls is answer_is now_is sent_is stands =
-      occurs config world event old new came (unchanged old new sizes_are nodes_are) NoFault no_fault befalls
+      occurs config world event old new came (unchanged old new sizes_are nodes_are)
+      (all_stay (place_reached config world event) old.nodes new.nodes nodes_are) NoFault no_fault befalls
       (answer_result world (Refused refusals.NoSuch)) is
       (comes_quiet config world world (length world.net) new came (Refused refusals.NoSuch) answer_is now_is sent_is stands)
 
@@ -217,9 +230,11 @@ module _ (config : Config) (world : World) (old new : ClusterParts) (came : Came
     pub occurs_delivered : ReachesAs config (with_mark world n) d.receiver (Received d.message) old new came
         → OccursAs config world (Deliver n) old new (step_by (Deliver n) came)
     occurs_delivered r =
-        occurs config world (Deliver n) old new came r.same r.fault r.reached
-        (subst (λ (h : Option (NodeId × Input)). BefallsReached config world old.nodes new.nodes h r.fault)
-        (sym (ap (option_map (λ (e : Datagram). (e.receiver, Received e.message))) is)) r.befalls)
+        let to : handed world (Deliver n) ≡ Some (d.receiver, Received d.message) =
+        ap (option_map (λ (e : Datagram). (e.receiver, Received e.message))) is in
+        occurs config world (Deliver n) old new came r.same
+        (handed_to (handed world (Deliver n)) d.receiver (Received d.message) to r.others) r.fault r.reached
+        (subst (λ (h : Option (NodeId × Input)). BefallsReached config world old.nodes new.nodes h r.fault) (sym to) r.befalls)
         (at_node config (with_mark world n) d.receiver (Received d.message) r.fault) (ap (if_found world _) is)
         (subst (λ (k : ℕ). ComesTo config k new came (at_node config (with_mark world n) d.receiver (Received d.message) r.fault))
         (marked_count world.net n) r.comes)
@@ -227,18 +242,20 @@ module _ (config : Config) (world : World) (old new : ClusterParts) (came : Came
     pub occurs_lost : new.sizes ≡ old.sizes → new.nodes ≡ old.nodes → came.answer ≡ Done → came.now ≡ None → came.sent.items ≡ [] → ClusterStands config new (with_mark world n)
         → OccursAs config world (Lose n) old new (step_by (Lose n) came)
     occurs_lost sizes_are nodes_are answer_is now_is sent_is stands =
-        occurs config world (Lose n) old new came (unchanged old new sizes_are nodes_are) NoFault no_fault refl (answer_result (with_mark world n) Done) (ap
-        (if_found world _) is)
+        occurs config world (Lose n) old new came (unchanged old new sizes_are nodes_are)
+        (all_stay (place_reached config world (Lose n)) old.nodes new.nodes nodes_are) NoFault no_fault refl
+        (answer_result (with_mark world n) Done) (ap (if_found world _) is)
         (comes_quiet config world (with_mark world n) (length world.net) new came Done answer_is now_is sent_is stands)
 
     pub occurs_cut : (k : ℕ) → k < length (spelling d.message) → ReachesAs config world d.receiver ReceivedNoise old new came
         → OccursAs config world (Cut n k) old new (step_by (Cut n k) came)
     occurs_cut k lt r =
         let fewer : nat_lt k (length (spelling d.message)) ≡ true = lt-ltb k (length (spelling d.message)) lt in
-        occurs config world (Cut n k) old new came r.same r.fault r.reached
-        (subst (λ (h : Option (NodeId × Input)). BefallsReached config world old.nodes new.nodes h r.fault)
-        (sym (ap (option_and_then (handed_cut k)) is ∙ ap (λ (b : Bool). if b then Some
-        (d.receiver, ReceivedNoise) else None) fewer)) r.befalls)
+        let to : handed world (Cut n k) ≡ Some (d.receiver, ReceivedNoise) =
+        ap (option_and_then (handed_cut k)) is ∙ ap (λ (b : Bool). if b then Some (d.receiver, ReceivedNoise) else None) fewer in
+        occurs config world (Cut n k) old new came r.same (handed_to (handed world (Cut n k)) d.receiver ReceivedNoise to r.others) r.fault
+        r.reached
+        (subst (λ (h : Option (NodeId × Input)). BefallsReached config world old.nodes new.nodes h r.fault) (sym to) r.befalls)
         (at_node config world d.receiver ReceivedNoise r.fault)
         (ap (if_found world _) is
         ∙ ap (λ (b : Bool). if b then at_node config world d.receiver ReceivedNoise r.fault else answer_result world
@@ -261,9 +278,11 @@ module _ (config : Config) (world : World) (old new : ClusterParts) (came : Came
         → OccursAs config world (Noise who bytes) old new (step_by (Noise who bytes) came)
     occurs_noise none r =
         let no : spells_message bytes ≡ false = ap is_some none in
-        occurs config world (Noise who bytes) old new came r.same r.fault r.reached
-        (subst (λ (h : Option (NodeId × Input)). BefallsReached config world old.nodes new.nodes h r.fault)
-        (sym (ap (λ (b : Bool). if b then None else Some (who, ReceivedNoise)) no)) r.befalls)
+        let to : handed world (Noise who bytes) ≡ Some (who, ReceivedNoise) =
+        ap (λ (b : Bool). if b then None else Some (who, ReceivedNoise)) no in
+        occurs config world (Noise who bytes) old new came r.same (handed_to (handed world (Noise who bytes)) who ReceivedNoise to r.others)
+        r.fault r.reached
+        (subst (λ (h : Option (NodeId × Input)). BefallsReached config world old.nodes new.nodes h r.fault) (sym to) r.befalls)
         (at_node config world who ReceivedNoise r.fault)
         (ap (λ (b : Bool). if b then if_found world (λ (node : NodeState). answer_result world (Refused refusals.Forged))
         (node_at config world who)
@@ -277,7 +296,8 @@ module _ (config : Config) (world : World) (old new : ClusterParts) (came : Came
         → OccursAs config world (Noise who bytes) old new (step_by (Noise who bytes) came)
     occurs_forged sizes_are nodes_are k spells answer is answer_is now_is sent_is stands =
         let spelled : spells_message bytes ≡ true = ap is_some (message_found k bytes spells) in
-        occurs config world (Noise who bytes) old new came (unchanged old new sizes_are nodes_are) NoFault no_fault
+        occurs config world (Noise who bytes) old new came (unchanged old new sizes_are nodes_are)
+        (all_stay (place_reached config world (Noise who bytes)) old.nodes new.nodes nodes_are) NoFault no_fault
         (subst (λ (h : Option (NodeId × Input)). BefallsReached config world old.nodes new.nodes h NoFault)
         (sym (ap (λ (b : Bool). if b then None else Some (who, ReceivedNoise)) spelled)) refl)
         (answer_result world answer)

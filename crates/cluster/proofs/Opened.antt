@@ -5,7 +5,7 @@ use Rattle.std.specs.Prelude.{◌==◌, slice_get, replicate, IsTrue, Err}
 use Rattle.std.specs.List.{AllZip, slice_set}
 use Rattle.std.specs.Option.{option_and_then, option_map_or}
 use Rattle.std.proofs.lemmas.Bool.{lt-ltb, le-ltb, ltb-true, ltb-false, eqb-true}
-use Rattle.std.proofs.lemmas.List.{append-nil, map_push, length-map, get_or-map, get_or_append_left}
+use Rattle.std.proofs.lemmas.List.{append-nil, map_push, length-map, get_or-map, get_or_append_left, get_or_default}
 use Rattle.std.proofs.Math.Seq.{get_or-append_seam}
 use Rattle.std.proofs.lemmas.List.Elements.{All-push, All-head, All-tail}
 use Rattle.std.proofs.lemmas.Simd.{splat_is_map}
@@ -25,8 +25,9 @@ use Rattle.safety.specs.Runs.{IsReachable, Opening, After}
 use Rattle.node_core.specs.declared.config.Sizes.{Sizes}
 use Rattle.node_core.specs.Configs.{is_among}
 use Rattle.node_core.specs.Nodes.{NodeParts, NodeStands, AreSizes, MeansFrom, Holds}
+use Rattle.node_core.proofs.Loading.{read_faulted}
 use Rattle.node_core.proofs.Restarting.{opened_empty}
-use Rattle.node_core.specs.Opening.{IsOpened, IsUnopened}
+use Rattle.node_core.specs.Opening.{HasFaulted, IsOpened, IsUnopened}
 use Rattle.network.specs.Networks.{NetworkParts, StandsFor}
 use Rattle.cluster.specs.Clusters.{sized, node_count, cluster_of, ClusterStands, IsSound}
 use Rattle.cluster.specs.Opening.{torn_node, opening_with, tears_of, NoneArmed, IsOver, IsMade, IsUnmade, name_of}
@@ -194,8 +195,8 @@ unbegun config who held now after Refusal.NoSuch same empty among un = absurd (c
 unbegun config who held now after Refusal.Damaged same empty among un =
     absurd (un.1 (record { rows = None; facts = [] }) []
     (nothing_held config who now.bytes (ap (λ (h : Held). h.bytes) same ∙ empty)))
-unbegun config who held now after Refusal.RecordFault same empty among un = λ firm.
-    may_not now.may_fail un.may (ap (λ (h : Held). h.may_fail) same ∙ firm)
+unbegun config who held now after Refusal.RecordFault same empty among un =
+    (after, subst (λ (h : Held). HasFaulted h after) same un)
 unbegun config who held now after Refusal.NoMemory same empty among un = tt
 unbegun config who held now after other same empty among un = absurd un
 
@@ -203,7 +204,7 @@ unbegun config who held now after other same empty among un = absurd un
 pub unread : (held after : Held) (error : RecordError) (refusal : Refusal) → refusal ≡ refusal_of error
     → HasRead {T = List ℕ} held after (Err error) → IsUnbegun held refusal
 unread held after errors.Fault refusal is read =
-    subst (λ (r : Refusal). IsUnbegun held r) (sym is) (λ firm. may_not held.may_fail read.may firm)
+    subst (λ (r : Refusal). IsUnbegun held r) (sym is) (after, read_faulted (List ℕ) held after read)
 unread held after errors.Memory refusal is read = subst (λ (r : Refusal). IsUnbegun held r) (sym is) tt
 
 -- ---- one node after another
@@ -268,8 +269,12 @@ pub unmade_at : (config : Config) (records : List Held) (k : ℕ) (held : Held) 
     → held ≡ get_or records k held → IsUnbegun held refusal → IsUnmade config records refusal
 unmade_at config records k held Refusal.BadConfig lt read un = λ new.
     un (subst (λ (h : Held). h.bytes ≡ []) (sym read) (new.empty k held lt))
-unmade_at config records k held Refusal.RecordFault lt read un = λ none.
-    un (subst (λ (h : Held). h.may_fail ≡ false) (sym read) (none k held lt))
+unmade_at config records k held Refusal.RecordFault lt read un = record {
+  at = k;
+  within = lt;
+  left = un.0;
+  faulted = λ d. subst (λ (h : Held). HasFaulted h un.0) (read ∙ get_or_default records k held d lt) un.1;
+}
 unmade_at config records k held Refusal.NoMemory lt read un = tt
 unmade_at config records k held other lt read un = absurd un
 
@@ -425,6 +430,7 @@ module _ (config : Config) (sizes : Sizes) (are : AreSizes config sizes) (record
   made = record {
     new = record { count = all; empty = begun.empty };
     over = begun.over;
+    reached = opening_reached config (tears_of records) tears_count;
     stands = stands;
     unarmed = λ none.
         subst (λ (world : World). ClusterStands config (cluster_of sizes nodes network) world)

@@ -20,7 +20,7 @@ use Rattle.network.specs.Networks.{NetworkParts, StandsFor}
 use Rattle.cluster.specs.declared.handing.Came.{Came}
 use Rattle.cluster.specs.Clusters.{sized, cluster_of, ClusterStands, ReachesAs, ComesTo, BefallsAt}
 use Rattle.cluster.specs.Sending.{HaveSent, HasRoom}
-use Rattle.cluster.proofs.Standing.{there, found, named, node_put, at_place, same_but, stands_still, datagrams_as}
+use Rattle.cluster.proofs.Standing.{there, placed, found, named, node_put, at_place, same_but, others_stay, stands_still, datagrams_as}
 use Rattle.cluster.proofs.Bounds.{count}
 
 -- ---- how much a step sends
@@ -151,6 +151,7 @@ module _ (config : Config) (world : World) (sizes : Sizes) (nodes : List NodePar
         fault = by_name.fault;
         reached = λ e. subst (λ (f : Fault). Befalls (fact_to_store config who state input) old.held new.held f) e by_name.befalls;
         same = same_but sizes nodes network after at d new same;
+        others = others_stay (place config who) at nodes new (placed config world sizes nodes network s who at is);
         befalls = befallen (node_at config world who) node_is;
         comes =
             subst (ComesTo config (length world.net) (cluster_of sizes (set nodes at new) after) came)

@@ -25,8 +25,8 @@ use Rattle.node_core.specs.Opening.{BefallsRestart, Restarts, RestartsAs, restar
 use Rattle.network.specs.Networks.{NetworkParts, StandsFor}
 use Rattle.cluster.specs.declared.handing.Came.{Came}
 use Rattle.cluster.specs.Clusters.{ClusterParts, sized, cluster_of, ClusterStands, ComesTo, BefallsRestarted, BefallsCompacted, IsMetIf}
-use Rattle.cluster.specs.Clusters.{OccursAs, step_by}
-use Rattle.cluster.proofs.Standing.{there, found, named, node_put, node_kept, at_place, same_but, stands_still}
+use Rattle.cluster.specs.Clusters.{StayBut, OccursAs, step_by}
+use Rattle.cluster.proofs.Standing.{there, placed, found, named, node_put, node_kept, at_place, same_but, others_stay, stands_still}
 use Rattle.cluster.proofs.Occurring.{occurs, no_fault, comes_quiet}
 
 -- ---- what a restart leaves in the machine
@@ -77,6 +77,9 @@ module _ (config : Config) (world : World) (sizes : Sizes) (nodes : List NodePar
   who_is : node.who ≡ who
   who_is = ap (λ (x : NodeParts). x.who) read ∙ named config world sizes nodes network s who at (sym is) node
 
+  others : StayBut (place config who) nodes (set nodes at new)
+  others = others_stay (place config who) at nodes new (placed config world sizes nodes network s who at (sym is))
+
   here : IsSameNode node new → IsSameNode (get_or nodes at node) new
   here same = subst (λ (x : NodeParts). IsSameNode x new) read same
 
@@ -94,7 +97,7 @@ module _ (config : Config) (world : World) (sizes : Sizes) (nodes : List NodePar
         node_put config world sizes nodes network s who at (sym is) node new (record m { tear = Some n }) (here same)
         (arms config m stands) network world.net s.net_is in
         occurs config world (Tear who n) (cluster_of sizes nodes network) (cluster_of sizes (set nodes at new) network) came
-        (same_but sizes nodes network network at node new (here same)) NoFault no_fault refl (answer_result torn Done)
+        (same_but sizes nodes network network at node new (here same)) others NoFault no_fault refl (answer_result torn Done)
         (ap (if_found world _) node_is)
         (comes_quiet config world torn (length world.net) (cluster_of sizes (set nodes at new) network) came Done answer_is now_is sent_is
         next)
@@ -149,7 +152,7 @@ module _ (config : Config) (world : World) (sizes : Sizes) (nodes : List NodePar
               (sym (ap (λ (ds : List Datagram). world.net ++ ds) none_sent ∙ append-nil world.net)) s.net_is);
         } in
         occurs config world (Restart who) (cluster_of sizes nodes network) (cluster_of sizes (set nodes at new) network) came
-        (same_but sizes nodes network network at node new (here same)) fault
+        (same_but sizes nodes network network at node new (here same)) others fault
         (λ e. subst (λ (f : Fault). BefallsRestart node.held new.held f) e by_name.befalls)
         (befallen (node_at config world who) node_is) made (ap (if_found world _) node_is) comes
 
@@ -175,7 +178,7 @@ module _ (config : Config) (world : World) (sizes : Sizes) (nodes : List NodePar
         node_kept config world sizes nodes network s who at (sym is) node new m own.1 (here same_node)
         (stands_still config node new m m same_node stands down.stands) in
         occurs config world (Compact who) (cluster_of sizes nodes network) after_it came
-        (same_but sizes nodes network network at node new (here same_node)) NoFault no_fault
+        (same_but sizes nodes network network at node new (here same_node)) others NoFault no_fault
         (befallen_down (node_at config world who) node_is) (answer_result world (Refused Refusal.Down))
         (ap (if_found world (tried NoFault)) node_is
         ∙ ap (λ (b : Bool). if b then outcome_result config world who m.facts (compact_outcome m NoFault)
@@ -213,7 +216,7 @@ module _ (config : Config) (world : World) (sizes : Sizes) (nodes : List NodePar
               (sym (ap (λ (ds : List Datagram). world.net ++ ds) none ∙ append-nil world.net)) s.net_is);
         } in
         occurs config world (Compact who) (cluster_of sizes nodes network) after_it came
-        (same_but sizes nodes network network at node new (here same_node)) up.fault
+        (same_but sizes nodes network network at node new (here same_node)) others up.fault
         (λ e. subst (λ (f : Fault). BefallsCompact node.held new.held f) e up.befalls)
         (befallen_up (node_at config world who) node_is) made
         (ap (if_found world (tried up.fault)) node_is

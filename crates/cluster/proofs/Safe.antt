@@ -1,5 +1,5 @@
 -- An event of a cluster is safe, as it is in the machine.
-use Rattle.std.proofs.Common.{◌≡◌, ◌⊎◌, ℕ, true, List, [], ◌∷◌, Option, Some, None, refl, ◌∙◌, sym, arith}
+use Rattle.std.proofs.Common.{◌≡◌, ◌⊎◌, ℕ, true, List, [], ◌∷◌, Option, Some, None, refl, ◌∙◌, sym, subst, arith}
 use Rattle.std.specs.Prelude.{is_some}
 use Rattle.std.specs.List.{All, AllZip}
 use Rattle.std.proofs.lemmas.List.Elements.{All-cons}
@@ -14,10 +14,11 @@ use Rattle.safety.specs.Runs.{IsReachable, After, views_in}
 use Rattle.safety.proofs.World.Reachable.{consistent, steps, moves_find_ready, play, restart_undamaged}
 use Rattle.node_core.specs.declared.role.Role.{Role}
 use Rattle.node_core.specs.Nodes.{NodeParts, NodeStands, RoleIs}
-use Rattle.cluster.specs.Clusters.{ClusterParts, ClusterStands, OccursAs, Occurs, sized}
-use Rattle.cluster.specs.Headlines.{IsKept, IsWritten, IsInOrder, IsSafelyMoved}
+use Rattle.cluster.specs.Clusters.{ClusterParts, ClusterStands, IsSound, OccursAs, Occurs, sized}
+use Rattle.cluster.specs.Headlines.{IsKept, IsWritten, IsInOrder, branch_kept, LeavesKept, IsSafeMove, MovesSafely}
 use Rattle.cluster.proofs.Standing.{is_there, none_there, place_as}
 use Rattle.cluster.proofs.Grown.{step_grows, none_moved, table_moves}
+use Rattle.cluster.proofs.KeptWrites.{writes_kept}
 
 -- ---- records
 
@@ -43,11 +44,8 @@ all_in_order config (node ∷ nodes) (m ∷ states) all =
 
 -- ---- an event
 
-module _ (event : Event) (old new : ClusterParts) (step : Step) (happens : Occurs event old new step) (config : Config) (world : World)
-    (reachable : IsReachable config world) (stands : ClusterStands config old world) where
-  o : OccursAs config world event old new step
-  o = happens config world stands
-
+module _ (event : Event) (old new : ClusterParts) (step : Step) (config : Config) (world : World) (reachable : IsReachable config world)
+    (stands : ClusterStands config old world) (o : OccursAs config world event old new step) where
   abbrev next : World
   next = (world_step config world event o.fault).world
 
@@ -64,9 +62,8 @@ module _ (event : Event) (old new : ClusterParts) (step : Step) (happens : Occur
       let now = is_there config next new.sizes new.nodes new.network o.stands (R rm) at f in
       table_moves config world next rm (step_grows config world event o.fault) (play config next after (R rm)) node.0 now.0 node.1 now.1
 
-  pub safely_moved : IsSafelyMoved config world new
-  safely_moved = record {
-    next = next;
+  pub safe_move : IsSafeMove config world step next new
+  safe_move = record {
     reached = after;
     stands = o.stands;
     moved = steps config world reachable event o.fault;
@@ -77,6 +74,33 @@ module _ (event : Event) (old new : ClusterParts) (step : Step) (happens : Occur
     tables = λ rm.
         table_moved rm (place (sized old.sizes) (R rm)) refl
         (place_as config new.sizes o.stands.sizes_are (R rm) ∙ sym (place_as config old.sizes stands.sizes_are (R rm)));
+    kept = λ rm x key.
+        subst (λ (s : Step). LeavesKept s rm x key (branch_kept config world rm x) (branch_kept config next rm x)) (sym o.step_is)
+        (writes_kept config world reachable event o.fault rm x key);
     records = all_in_order config new.nodes next.nodes o.stands.nodes_are.stand;
     restarts = λ who fault. restart_undamaged config next who fault (play config next after who);
   }
+
+-- an event of a cluster that stands for a world to which events lead
+pub moves_safely : (event : Event) (old new : ClusterParts) (step : Step) → IsSound old → Occurs event old new step
+    → MovesSafely event old new step
+moves_safely event old new step sound happens =
+    let o : OccursAs sound.config sound.world event old new step = happens sound.config sound.world sound.is in record {
+      config = sound.config;
+      world = sound.world;
+      reached = sound.reached;
+      stood = sound.is;
+      occurs = o;
+      safe = safe_move event old new step sound.config sound.world sound.reached sound.is o;
+    }
+
+-- the same of a cluster and a step in other words
+pub moved_as : (event : Event) (old was new : ClusterParts) (made step : Step) → old ≡ was → step ≡ made → IsSound old
+    → Occurs event old new made → MovesSafely event was new step
+moved_as event old was new made step is same sound happens =
+    subst (λ (p : ClusterParts). MovesSafely event p new step) is
+    (subst (λ (s : Step). MovesSafely event old new s) (sym same) (moves_safely event old new made sound happens))
+
+pub step_as : (event : Event) (old new : ClusterParts) (made step : Step) → step ≡ made → MovesSafely event old new made
+    → MovesSafely event old new step
+step_as event old new made step same moves = subst (λ (s : Step). MovesSafely event old new s) (sym same) moves

@@ -22,7 +22,7 @@ use Rattle.protocol.specs.Worlds.{World, Datagram, place, node_at, set_node, dat
 use Rattle.node_core.specs.declared.config.Sizes.{Sizes}
 use Rattle.node_core.specs.Nodes.{NodeParts, NodeStands, AreSizes, Stands, IsSameNode}
 use Rattle.network.specs.Networks.{NetworkParts, StandsFor, datagram_to}
-use Rattle.cluster.specs.Clusters.{ClusterParts, sized, node_count, cluster_of, AreNodes, ClusterStands, IsSameCluster}
+use Rattle.cluster.specs.Clusters.{ClusterParts, sized, node_count, cluster_of, AreNodes, ClusterStands, IsSameCluster, StayBut}
 
 -- ---- lists, place by place
 
@@ -61,6 +61,17 @@ same_set : (nodes : List NodeParts) (i : ℕ) (d new : NodeParts) → IsSameNode
 same_set [] i d new same = tt
 same_set (node ∷ nodes) zero d new same = (same, same_all nodes)
 same_set (node ∷ nodes) (suc i) d new same = (same_self node, same_set nodes i d new same)
+
+-- nodes that are all as they were, and those with another in one place
+pub all_stay : (at : Option ℕ) (old new : List NodeParts) → new ≡ old → StayBut at old new
+all_stay None old new same = same
+all_stay (Some at) old new same = λ other d apart. ap (λ (nodes : List NodeParts). get_or nodes other d) same
+
+pub others_stay : (reached : Option ℕ) (at : ℕ) (nodes : List NodeParts) (new : NodeParts) → reached ≡ Some at
+    → StayBut reached nodes (set nodes at new)
+others_stay reached at nodes new is =
+    subst (λ (o : Option ℕ). StayBut o nodes (set nodes at new)) (sym is)
+    (λ other d apart. get_or-set_other nodes at other new d apart)
 
 -- a cluster with a node that is still the one it was
 pub same_but : (sizes : Sizes) (nodes : List NodeParts) (before after : NetworkParts) (i : ℕ) (d new : NodeParts)

@@ -11,13 +11,17 @@ use Rattle.protocol.specs.Nodes.{NodeState}
 use Rattle.protocol.specs.Worlds.{World, place, node_at}
 use Rattle.node_core.specs.Nodes.{NodeParts}
 use Rattle.node_core.specs.Viewing.{SaysView, SaysTable, IsUnread}
-use Rattle.cluster.specs.Clusters.{ClusterParts, ClusterStands, IsSameCluster}
+use Rattle.cluster.specs.Clusters.{ClusterParts, ClusterStands, IsSameCluster, StayBut}
 
--- the record of a node that is down couldn't be read: it failed, or memory ran out
-abbrev pub IsUnreadAt : {X : Type 0} → Config → NodeId → (old new : ClusterParts) → Result X Refusal → Type 0
-IsUnreadAt config who old new result =
-    (at : ℕ) (d : NodeParts) → place config who ≡ Some at
-    → IsUnread (slice_index_or old.nodes at d).held (slice_index_or new.nodes at d).held (slice_index_or old.nodes at d).role result
+-- the record of a node that is down couldn't be read: it failed, or memory ran out. The node stays what it is, all others stay as they
+-- were, and so do the datagrams
+pub record IsUnreadAt {X : Type 0} (config : Config) (who : NodeId) (old new : ClusterParts) (result : Result X Refusal) : Type 0 where
+  pub others : StayBut (place config who) old.nodes new.nodes
+  pub network_is : new.network ≡ old.network
+  pub role_is : (at : ℕ) (d : NodeParts) → place config who ≡ Some at
+      → (slice_index_or new.nodes at d).role ≡ (slice_index_or old.nodes at d).role
+  pub unread : (at : ℕ) (d : NodeParts) → place config who ≡ Some at
+      → IsUnread (slice_index_or old.nodes at d).held (slice_index_or new.nodes at d).held (slice_index_or old.nodes at d).role result
 
 -- an answer is what a node says, and nothing has changed, or its record couldn't be read; where there is no node, there is none
 abbrev pub IsSaid : {X : Type 0} → Config → NodeId → (old new : ClusterParts) → (NodeState → Type 0) → Option NodeState

@@ -1,11 +1,11 @@
 -- A cluster: which world of the machine it stands for, and what an event makes of both.
-use Rattle.std.specs.Prelude.{◌≡◌, ℕ, suc, ◌+◌, Bool, true, false, nat_lt, if◌then◌else◌, List, [], length, slice_index_or, Option, Some, None}
+use Rattle.std.specs.Prelude.{◌≡◌, ◌≢◌, ℕ, suc, ◌+◌, Bool, true, false, nat_lt, if◌then◌else◌, List, [], length, slice_index_or, Option, Some, None}
 use Rattle.std.specs.List.{AllZip}
 use Rattle.std.specs.Option.{option_map, option_and_then}
 use Rattle.wire.specs.Grammar.{spelling}
 use Rattle.wire.specs.Decoding.{spells_message}
 use Rattle.protocol.specs.declared.events.Event.{Event}
-use Rattle.protocol.specs.declared.events.Event.TheVariants.{Ask, Deliver, Cut, Noise, Restart, Compact}
+use Rattle.protocol.specs.declared.events.Event.TheVariants.{Ask, Deliver, Cut, Noise, Tear, Restart, Compact}
 use Rattle.protocol.specs.declared.events.Step.{Step}
 use Rattle.protocol.specs.declared.nodes.NodeId.{NodeId}
 use Rattle.protocol.specs.Effects.{Config}
@@ -79,6 +79,22 @@ handed world (Cut n k) = option_and_then (handed_cut k) (datagram_at world.net n
 handed world (Noise who bytes) = if spells_message bytes then None else Some (who, ReceivedNoise)
 handed world event = None
 
+-- the name that an event reaches: to hand something on, to arm a tear, to restart or to compact
+abbrev pub name_reached : World → Event → Option NodeId
+name_reached world (Tear who n) = Some who
+name_reached world (Restart who) = Some who
+name_reached world (Compact who) = Some who
+name_reached world event = option_map (λ (on : NodeId × Input). on.0) (handed world event)
+
+-- the place of the node that an event reaches, if there is one
+abbrev pub place_reached : Config → World → Event → Option ℕ
+place_reached config world event = option_and_then (place config) (name_reached world event)
+
+-- the nodes in all places but one are as they were, their records and counts too; where there is no such place, all are
+abbrev pub StayBut : Option ℕ → (old new : List NodeParts) → Type 0
+StayBut None old new = new ≡ old
+StayBut (Some at) old new = (other : ℕ) (d : NodeParts) → other ≢ at → slice_index_or new other d ≡ slice_index_or old other d
+
 -- a fault is true to what befell the node that was reached; where none was, there was no fault
 abbrev pub BefallsAt : Config → (old new : List NodeParts) → NodeId × Input → Option NodeState → Fault → Type 0
 BefallsAt config old new reached None fault = fault ≡ NoFault
@@ -133,12 +149,13 @@ pub record ComesTo (config : Config) (count : ℕ) (new : ClusterParts) (came : 
   pub sent_is : came.sent.items ≡ numbered (suc count) result.sent
   pub stands : ClusterStands config new result.world
 
--- a node was handed an input, as the machine hands it to its own, under a fault that is true
+-- a node was handed an input, as the machine hands it to its own, under a fault that is true; all others stay
 pub record ReachesAs (config : Config) (world : World) (who : NodeId) (input : Input) (old new : ClusterParts) (came : Came)
     : Type 0 where
   pub fault : Fault
   pub reached : fault ≡ NoMemoryBefore → ⊥
   pub same : IsSameCluster old new
+  pub others : StayBut (place config who) old.nodes new.nodes
   pub befalls : BefallsAt config old.nodes new.nodes (who, input) (node_at config world who) fault
   pub comes : ComesTo config (length world.net) new came (at_node config world who input fault)
 
@@ -147,9 +164,10 @@ abbrev pub Reaches : NodeId → Input → (old new : ClusterParts) → Came → 
 Reaches who input old new came =
     (config : Config) (world : World) → ClusterStands config old world → ReachesAs config world who input old new came
 
--- an event was handled as the machine handles it under a fault that is true
+-- an event was handled as the machine handles it under a fault that is true, and all nodes but the one that it reached stay
 pub record OccursAs (config : Config) (world : World) (event : Event) (old new : ClusterParts) (step : Step) : Type 0 where
   pub same : IsSameCluster old new
+  pub others : StayBut (place_reached config world event) old.nodes new.nodes
   pub fault : Fault
   pub befalls : BefallsIn config world event old.nodes new.nodes fault
   pub step_is : step ≡ step_of world event (world_step config world event fault)

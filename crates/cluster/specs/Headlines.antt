@@ -1,23 +1,34 @@
 -- What an event leaves of a cluster: how far its transactions moved, and what stands among them.
-use Rattle.std.specs.Prelude.{◌≡◌, ◌≢◌, ◌⊎◌, ℕ, true, List, [], IsTrue, is_some}
+use Rattle.std.specs.Prelude.{◌≡◌, ◌≢◌, ◌⊎◌, ℕ, true, if◌then◌else◌, List, [], IsTrue, Option, Some, None, is_some}
 use Rattle.std.specs.List.{All}
+use Rattle.xid.specs.Names.{XidParts}
 use Rattle.xid.specs.Transactions.{TxParts, is_participant}
+use Rattle.xid.specs.declared.codes.XaCode.{XaCode}
 use Rattle.xid.specs.declared.refusals.Refusal.{Refusal}
-use Rattle.protocol.specs.declared.answers.Answer.TheVariants.{Refused}
-use Rattle.protocol.specs.declared.events.Event.TheVariants.{Restart}
+use Rattle.stable_record.specs.declared.fact.Act.{Act}
+use Rattle.protocol.specs.declared.answers.Answer.TheVariants.{Code, Refused}
+use Rattle.protocol.specs.declared.events.Event.{Event}
+use Rattle.protocol.specs.declared.events.Event.TheVariants.{Ask, Restart}
+use Rattle.protocol.specs.declared.events.Step.{Step}
 use Rattle.protocol.specs.declared.nodes.NodeId.{NodeId}
 use Rattle.protocol.specs.declared.nodes.NodeId.TheVariants.{R}
+use Rattle.protocol.specs.declared.requests.Action.{Action}
+use Rattle.protocol.specs.declared.requests.Request.TheVariants.{Call}
 use Rattle.protocol.specs.declared.states.View.TheVariants as views
+use Rattle.protocol.specs.Branches.{BranchView, no_branch}
 use Rattle.protocol.specs.Effects.{Config}
-use Rattle.protocol.specs.Nodes.{Fault}
+use Rattle.protocol.specs.Facts.{bound_branches}
+use Rattle.protocol.specs.Managers.{Branch, all_branches, view_named}
+use Rattle.protocol.specs.Nodes.{NodeState, Fault}
 use Rattle.protocol.specs.Tables.{with_writes, keys_voted}
 use Rattle.protocol.specs.TCommit.{IsReady, IsCommitStep}
-use Rattle.protocol.specs.Worlds.{World, world_step, table_at}
+use Rattle.protocol.specs.Worlds.{World, node_at, world_step, table_at}
 use Rattle.safety.specs.CommitSteps.{IsConsistent}
 use Rattle.safety.specs.Runs.{IsReachable, views_in}
 use Rattle.safety.specs.Standing.{facts_at}
+use Rattle.history.specs.LookingBack.{write_by}
 use Rattle.node_core.specs.Nodes.{NodeParts, Kept, Holds}
-use Rattle.cluster.specs.Clusters.{ClusterParts, ClusterStands}
+use Rattle.cluster.specs.Clusters.{ClusterParts, ClusterStands, OccursAs}
 
 -- no transaction became committed at a resource manager, and its table is as it was
 pub record IsKept (config : Config) (world next : World) (rm : ℕ) : Type 0 where
@@ -41,11 +52,34 @@ pub record IsInOrder (config : Config) (node : NodeParts) : Type 0 where
   pub holds : Holds config node.who node.held.bytes kept tail
   pub up : is_some node.role ≡ true → tail ≡ []
 
--- a cluster that stood for a world stands for one that can come to be, in which each transaction has moved by at most one step of the
--- specification; no participant is committed while another is aborted; one that became committed found each prepared; each table has
--- changed only where a view became committed, and by that branch's writes; each record is in order; and no restart is refused as damaged
-pub record IsSafelyMoved (config : Config) (world : World) (new : ClusterParts) : Type 0 where
-  pub next : World
+-- the branches of a resource manager, each with its last act on every key that it touched: those that are prepared, as their votes were
+-- stored, and while it is up those in its memory
+abbrev pub branches_kept : ℕ → Option NodeState → List Branch
+branches_kept rm None = []
+branches_kept rm (Some node) = all_branches rm (bound_branches node.facts) (if node.up then node.memory.branches else [])
+
+-- how the branch of a name at a resource manager shows: its act on a key is what it keeps to be written there, if that isn't to read it
+abbrev pub branch_kept : Config → World → ℕ → XidParts → BranchView
+branch_kept config world rm x = view_named (branches_kept rm (node_at config world (R rm))) x
+
+-- a step is a put or a delete of a key in a branch, which was answered ok
+pub record IsAcceptedWrite (step : Step) (rm : ℕ) (x : XidParts) (key : List ℕ) (act : Act) : Type 0 where
+  pub action : Action
+  pub event_is : step.event ≡ Ask (R rm) (Call x action)
+  pub writes : write_by action ≡ Some (record { key = key; act = act })
+  pub answer_is : step.answer ≡ Code XaCode.Ok
+
+-- what a step leaves kept for a branch on a key: what was kept, or what the step wrote, if it is a put or a delete that was answered ok;
+-- unless there is no such branch any more
+abbrev pub LeavesKept : Step → ℕ → XidParts → List ℕ → (before after : BranchView) → Type 0
+LeavesKept step rm x key before after =
+    (after.act key ≡ before.act key) ⊎ ((after ≡ no_branch) ⊎ IsAcceptedWrite step rm x key (after.act key))
+
+-- from a world a step led to another, which a cluster stands for and which can come to be. Each transaction has moved by at most one step
+-- of the specification; no participant is committed while another is aborted; one that became committed found each prepared; each table
+-- has changed only where a view became committed, and by that branch's writes; nothing came to be kept for a branch but what a put or a
+-- delete wrote that was answered ok; each record is in order; and no restart is refused as damaged
+pub record IsSafeMove (config : Config) (world : World) (step : Step) (next : World) (new : ClusterParts) : Type 0 where
   pub reached : IsReachable config next
   pub stands : ClusterStands config new next
   pub moved : (tx : TxParts) → IsCommitStep (is_participant tx) (views_in config world tx) (views_in config next tx)
@@ -53,5 +87,17 @@ pub record IsSafelyMoved (config : Config) (world : World) (new : ClusterParts) 
   pub found_prepared : (tx : TxParts) (r q : ℕ) → IsTrue (is_participant tx r) → IsTrue (is_participant tx q)
       → views_in config world tx r ≢ views.Committed → views_in config next tx r ≡ views.Committed → IsReady (views_in config world tx q)
   pub tables : (rm : ℕ) → IsKept config world next rm ⊎ IsWritten config world next rm
+  pub kept : (rm : ℕ) (x : XidParts) (key : List ℕ)
+      → LeavesKept step rm x key (branch_kept config world rm x) (branch_kept config next rm x)
   pub records : All (IsInOrder config) new.nodes
   pub restarts : (who : NodeId) (fault : Fault) → (world_step config next (Restart who) fault).answer ≢ Refused Refusal.Damaged
+
+-- a cluster stood for a world that can come to be; an event was handled as the machine handles it there; and the one world to which that
+-- led it is a safe move away
+pub record MovesSafely (event : Event) (old new : ClusterParts) (step : Step) : Type 0 where
+  pub config : Config
+  pub world : World
+  pub reached : IsReachable config world
+  pub stood : ClusterStands config old world
+  pub occurs : OccursAs config world event old new step
+  pub safe : IsSafeMove config world step (world_step config world event occurs.fault).world new

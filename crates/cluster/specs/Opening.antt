@@ -8,7 +8,9 @@ use Rattle.protocol.specs.declared.nodes.NodeId.TheVariants.{A, L, R}
 use Rattle.protocol.specs.Effects.{Config}
 use Rattle.protocol.specs.Nodes.{NodeState, new_node}
 use Rattle.protocol.specs.Worlds.{World, opening}
+use Rattle.safety.specs.Runs.{IsReachable}
 use Rattle.node_core.specs.Nodes.{NodeParts, NodeStands}
+use Rattle.node_core.specs.Opening.{HasFaulted}
 use Rattle.cluster.specs.Clusters.{ClusterParts, ClusterStands}
 
 -- a node that has done nothing, over a record on which a tear may be armed
@@ -40,17 +42,25 @@ NoneFails records = All (λ held. held.may_fail ≡ false) records
 abbrev pub IsOver : Held → NodeParts → Type 0
 IsOver held node = node.held.may_fail ≡ held.may_fail
 
--- a cluster was made over empty records: it stands for the opening world, in which the tears are armed that were
+-- a cluster was made over empty records: it stands for the opening world, in which the tears are armed that were; events lead to it
 pub record IsMade (config : Config) (records : List Held) (cluster : ClusterParts) : Type 0 where
   pub new : AreNew config records
   pub over : AllZip IsOver records cluster.nodes
+  pub reached : IsReachable config (opening_with (tears_of records))
   pub stands : ClusterStands config cluster (opening_with (tears_of records))
   pub unarmed : NoneArmed records → ClusterStands config cluster (opening config)
+
+-- one of these records failed, which it may, and counted it, before it was let go
+pub record HasOneFaulted (records : List Held) : Type 0 where
+  pub at : ℕ
+  pub within : at < length records
+  pub left : Held
+  pub faulted : (d : Held) → HasFaulted (slice_index_or records at d) left
 
 -- why a cluster wasn't made: the records aren't one empty one for each node, one of them failed, or memory ran out
 abbrev pub IsUnmade : Config → List Held → Refusal → Type 0
 IsUnmade config records Refusal.BadConfig = AreNew config records → ⊥
-IsUnmade config records Refusal.RecordFault = NoneFails records → ⊥
+IsUnmade config records Refusal.RecordFault = HasOneFaulted records
 IsUnmade config records Refusal.NoMemory = Unit {0}
 IsUnmade config records other = ⊥
 
@@ -70,10 +80,10 @@ pub record IsBegun (config : Config) (who : NodeId) (held : Held) (node : NodePa
   pub over : IsOver held node
   pub stands : NodeStands config node (torn_node held.armed)
 
--- why a node wasn't opened over a record as an empty one: it isn't empty, it failed, which it may, or memory ran out
+-- why a node wasn't opened over a record as an empty one: it isn't empty, it failed, which it may, and counted it, or memory ran out
 abbrev pub IsUnbegun : Held → Refusal → Type 0
 IsUnbegun held Refusal.BadConfig = held.bytes ≡ [] → ⊥
-IsUnbegun held Refusal.RecordFault = held.may_fail ≡ false → ⊥
+IsUnbegun held Refusal.RecordFault = (left : Held) × HasFaulted held left
 IsUnbegun held Refusal.NoMemory = Unit {0}
 IsUnbegun held other = ⊥
 

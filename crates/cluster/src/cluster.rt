@@ -6,6 +6,7 @@ ghost use Rattle.protocol.specs.Worlds.{World};
 ghost use Rattle.network.specs.Networks.{least_unmarked};
 ghost use Rattle.cluster.specs.Asking.{ViewsIn, TablesIn};
 ghost use Rattle.cluster.specs.Clusters.{ClusterStands, Occurs, step_by};
+ghost use Rattle.cluster.specs.Headlines.{MovesSafely};
 ghost use Rattle.cluster.specs.Opening.{IsMade, IsUnmade};
 
 use crate::asking::{table, view};
@@ -80,8 +81,9 @@ fn fitted(alloc: Global, listed: Vec<Sent>) -> Vec<Sent>
 
 impl<R: Record + Drop> Cluster<R> {
     /// The cluster of a configuration over records, one empty one for each node: the acceptors', then the leaders', then the resource
-    /// managers'. All nodes are up and nothing was sent; tears that are armed on records stay. Refused, and the records are let go:
-    /// another number of records, or one that isn't empty (`BadConfig`); one failed (`RecordFault`); `NoMemory`.
+    /// managers'. All nodes are up and nothing was sent; tears that are armed on records stay; the world that it stands for is one that
+    /// events lead to, so what `step` says holds from here on. Refused, and the records are let go: another number of records, or one
+    /// that isn't empty (`BadConfig`); one of them failed, which it may, and counted it (`RecordFault`); `NoMemory`.
     pub fn new(alloc: Global, config: &Config, records: Vec<R>) -> Result<Cluster<R>, Refusal>
         ensures ok { IfOk result (λ cluster. IsMade config.now (map R.Record.held records.items) cluster) }
         ensures err { IfErr result (λ e. IsUnmade config.now (map R.Record.held records.items) e) }
@@ -105,8 +107,16 @@ impl<R: Record + Drop> Cluster<R> {
 impl<R: Tear> Cluster<R> {
     /// One event, and what came of it: what `Event` says of each. Where there is no room for the datagrams that the event's node may
     /// send, it is refused (`NoMemory`) before the node is reached, and nothing has changed.
+    ///
+    /// Whoever has no more than the cluster learns this. It stood for a world of the machine that events lead to; the step is the
+    /// machine's there, under a fault that is true to what befell the record of the node that the event reached; and it stands now for
+    /// the world to which the machine came. In that one, each transaction has moved by at most one step of the specification, so nobody
+    /// is committed beside one that is aborted; a commit found each participant prepared; a table has changed only where a view became
+    /// committed, by what its branch had kept; nothing came to be kept but what this event wrote, if it is a put or a delete that was
+    /// answered ok; and no restart would be refused as damaged. All nodes but the one that the event reached are as they were.
     pub fn step(&mut self, event: Event) -> Step
-        ensures { Occurs event self.old self.new result }
+        ensures occurs { Occurs event self.old self.new result }
+        ensures safe { MovesSafely event self.old self.new result }
     {
         let mut step = no_step(self.alloc);
         self.step_into(event, &mut step);
@@ -116,9 +126,10 @@ impl<R: Tear> Cluster<R> {
     }
 
     /// One event as by `step`, and what came of it in the place of another step, in the room of that one and of those before it: so that
-    /// many events take no more memory for their steps than the one that may send most.
+    /// many events take no more memory for their steps than the one that may send most. What is learned of it is what `step` says.
     pub fn step_into(&mut self, event: Event, step: &mut Step)
-        ensures { Occurs event self.old self.new step.new }
+        ensures occurs { Occurs event self.old self.new step.new }
+        ensures safe { MovesSafely event self.old self.new step.new }
     {
         happen(
             self.sizes,
@@ -135,7 +146,8 @@ impl<R: Tear> Cluster<R> {
 impl<R: Record> Cluster<R> {
     /// Where a resource manager stands in a transaction, by the whole frames of its record, whether it is up or down. Refused: no such
     /// resource manager (`NoSuch`); the transaction names a resource manager outside the cluster, or doesn't name this one (`BadTx`);
-    /// where it is down, its record fails (`RecordFault`), or `NoMemory`. The cluster stays as it is.
+    /// where it is down, its record fails (`RecordFault`), or `NoMemory`. The cluster stays as it is; where that record failed, but for
+    /// what it counts: every other node, its record and its counts, the datagrams, and the world that it stands for stay.
     pub fn view(&mut self, rm: u8, tx: &Tx) -> Result<View, Refusal>
         ensures { (config : Settings) (world : World) → ClusterStands config self.old world
             → ViewsIn config world self.old self.new rm tx.now result }
@@ -145,7 +157,7 @@ impl<R: Record> Cluster<R> {
 
     /// The rows of a resource manager's table, their keys ascending, by the whole frames of its record, whether it is up or down.
     /// Refused: no such resource manager (`NoSuch`); `NoMemory`; where it is down, its record fails (`RecordFault`). The cluster stays as
-    /// it is.
+    /// it is; where that record failed, but for what it counts, as by `view`.
     pub fn table(&mut self, rm: u8) -> Result<Sequence<Row>, Refusal>
         ensures { (config : Settings) (world : World) → ClusterStands config self.old world
             → TablesIn config world self.old self.new rm result }

@@ -6,21 +6,23 @@ ghost use Rattle.protocol.specs.declared.events.Event.{Event as Happening};
 ghost use Rattle.protocol.specs.declared.events.Step.{Step as Made};
 ghost use Rattle.protocol.specs.Effects.{Config};
 ghost use Rattle.protocol.specs.Nodes.{RecordFails};
-ghost use Rattle.protocol.specs.Worlds.{World};
+ghost use Rattle.protocol.specs.Worlds.{World, world_step};
 ghost use Rattle.safety.specs.Runs.{IsReachable};
 ghost use Rattle.cluster.specs.Clusters.{ClusterParts, ClusterStands, IsSameCluster, IsSound, Occurs, BefallsIn};
-ghost use Rattle.cluster.specs.Headlines.{IsSafelyMoved};
+ghost use Rattle.cluster.specs.Headlines.{IsSafeMove};
 ghost use Rattle.cluster.specs.Opening.{IsMade, NoneFails};
 ghost use Rattle.cluster.specs.Runs.{HaveOccurred, FollowMachine, IsFirm};
 
 /// An event that is handled as the machine handles it moves each transaction by at most one step of the specification (Gray and
 /// Lamport, "Consensus on Transaction Commit"), leaves no participant committed beside one that is aborted, and commits where all are
-/// prepared. A table changes only where a view becomes committed, and then by what that branch wrote. Each record is whole frames of
-/// facts that play, with a tail only while its node is down, and no restart is refused as damaged. It leaves a cluster that stands for
-/// a world that events lead to, so this holds of each event of a run.
+/// prepared. A table changes only where a view becomes committed, and then by what that branch wrote; nothing comes to be kept for a
+/// branch but what a put or a delete writes that is answered ok. Each record is whole frames of facts that play, with a tail only while
+/// its node is down, and no restart is refused as damaged. All this is of the one world to which the event leads in the machine, whose
+/// answer, datagrams and nodes are those that the event has. Events lead to that world, so it holds of each event of a run.
 pub fn events_are_safe()
-    ensures moves { (event : Happening) (old new : ClusterParts) (step : Made) → Occurs event old new step
-        → (config : Config) (world : World) → IsReachable config world → ClusterStands config old world → IsSafelyMoved config world new }
+    ensures moves { (event : Happening) (old new : ClusterParts) (step : Made) → (happens : Occurs event old new step)
+        → (config : Config) (world : World) → IsReachable config world → (stands : ClusterStands config old world)
+        → IsSafeMove config world step (world_step config world event (happens config world stands).fault).world new }
     ensures stays { (event : Happening) (old new : ClusterParts) (step : Made) → Occurs event old new step → IsSound old → IsSound new }
 {}
 

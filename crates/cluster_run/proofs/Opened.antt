@@ -48,7 +48,9 @@ module _ (config : Config) (records : List Held) (count : ℕ) (are : records �
   pub unopened_for : (e : Refusal) → IsUnmade config records e → e ≡ Refusal.NoMemory
   unopened_for Refusal.NoMemory unmade = refl
   unopened_for Refusal.BadConfig unmade = absurd (unmade are_new)
-  unopened_for Refusal.RecordFault unmade = absurd (unmade (each_fresh (λ held. held.may_fail ≡ false) refl))
+  unopened_for Refusal.RecordFault unmade =
+      absurd (both_ways (get_or records unmade.at (fresh [])).may_fail
+      (each_fresh (λ held. held.may_fail ≡ false) refl unmade.at (fresh []) unmade.within) (unmade.faulted (fresh [])).may)
   unopened_for e unmade = absurd unmade
 
 -- ---- at the end
@@ -112,7 +114,7 @@ module _ (config : Config) (world : World) (old new : ClusterParts) (rm : ℕ) (
           ∙ sym (ap (λ (o : Option NodeState). option_map_or (λ node. table (first_rows config rm) node.facts) o []) e)
       by (Some m) e (inr unread) =
           let there = placed config world (R rm) m e in
-          let none = (unread there.0 no_node there.1).1 in
+          let none = (unread.unread there.0 no_node there.1).1 in
           elim none [
             | inl failed ↦ let bad = sym ok ∙ failed.0 in absurd (cc (bad))
             | inr wanted ↦ let bad = sym ok ∙ wanted.0 in absurd (cc (bad))
@@ -127,7 +129,7 @@ module _ (config : Config) (world : World) (old new : ClusterParts) (rm : ℕ) (
       by (Some m) e (inl said) = subst (λ (r : Result (List Row) Refusal). SaysTable config (R rm) m.facts r) err said.1
       by (Some m) e (inr unread) =
           let there = placed config world (R rm) m e in
-          let none = (unread there.0 no_node there.1).1 in
+          let none = (unread.unread there.0 no_node there.1).1 in
           elim none [
             | inl failed ↦
                 let within : there.0 < length old.nodes =

@@ -6,4 +6,4 @@ pub returns-clause-ok : goal.returns-clause-ok
 returns-clause-ok c =
     on_ok_weaker c.write_step.result (λ text config world running.
     happened_one config world c.args.cluster.now c.step_into.new.self c.args.event c.step_into.new.step c.args.out.now.items
-    c.write_step.new.out.items running c.step_into.ensures text) c.write_step.ensures.ok
+    c.write_step.new.out.items running c.step_into.ensures.occurs text) c.write_step.ensures.ok
