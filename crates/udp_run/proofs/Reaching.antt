@@ -34,7 +34,7 @@ first_below number bound at true e h =
     omega (arith, lt, same)
 first_below number bound at false e h = absurd (cc (h))
 
-place_within : (sizes : Sizes) (who : NodeId) (at : ℕ) → place_in sizes who ≡ Some at → at < node_count sizes
+pub place_within : (sizes : Sizes) (who : NodeId) (at : ℕ) → place_in sizes who ≡ Some at → at < node_count sizes
 place_within sizes (A a) at h =
     let lt : at < sizes.acceptors = first_below a sizes.acceptors at (nat_lt a sizes.acceptors) refl h in omega (arith, lt)
 place_within sizes (L l) at h =

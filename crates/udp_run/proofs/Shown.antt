@@ -1,6 +1,6 @@
 -- Tables of nodes, one after another.
 use Rattle.std.proofs.Common.{◌≡◌, ◌∙◌, ◌⊎◌, inl, inr, ℕ, ◌+◌, ◌<◌, ◌≤◌, Bool, true, false, List, [], ◌∷◌, ◌++◌, length, get_or, set, take, drop, refl, sym}
-use Rattle.std.proofs.Common.{ap, subst, Option, Result, Err, arith}
+use Rattle.std.proofs.Common.{ap, subst, Result, Err, arith}
 use Rattle.std.specs.Prelude.{cond}
 use Rattle.std.specs.List.{AllZip, filter}
 use Rattle.std.proofs.lemmas.List.{append-nil, take_more, take_all, drop_more, get_or-drop, drop-set-lt, length-set}
@@ -14,10 +14,9 @@ use Rattle.protocol.specs.declared.rows.Row.{Row}
 use Rattle.protocol.specs.Effects.{Config}
 use Rattle.protocol.specs.Nodes.{NodeState}
 use Rattle.stable_record.specs.declared.fact.FactKind.{FactKind as Fact}
-use Rattle.node_core.specs.declared.role.Role.{Role}
 use Rattle.node_core.specs.Nodes.{NodeParts, NodeStands, IsSound}
 use Rattle.node_core.specs.Viewing.{TablesAs, SaysTable, IsUnread}
-use Rattle.udp_run.specs.Tables.{is_manager, IsTableOf, ShowsTable, AreTablesOf}
+use Rattle.udp_run.specs.Tables.{is_manager, IsTableOf, ShowsTable, AreTablesOf, IsUnshown, StopsAtTable}
 
 -- ---- one node
 
@@ -25,28 +24,40 @@ use Rattle.udp_run.specs.Tables.{is_manager, IsTableOf, ShowsTable, AreTablesOf}
 abbrev pub Tabled : (old new : NodeParts) → Result (List Row) Refusal → Type 0
 Tabled old new result = (config : Config) (m : NodeState) → NodeStands config old m → TablesAs config m old new result
 
--- the refusals of a table
-abbrev pub IsUntold : Refusal → Type 0
-IsUntold e = (e ≡ refusals.NoMemory) ⊎ (e ≡ refusals.RecordFault)
+-- why a node's table isn't told
+abbrev pub IsUntold : NodeParts → Refusal → Type 0
+IsUntold node e = (e ≡ refusals.NoMemory) ⊎ ((e ≡ refusals.RecordFault) × IsUnshown node)
 
-unread_refusal : (old new : Held) (role : Option Role) (e : Refusal) → IsUnread {X = List Row} old new role (Err e) → IsUntold e
-unread_refusal old new role e (down, inl (is, fault)) = inr (cc (is))
-unread_refusal old new role e (down, inr (is, same)) = inl (cc (is))
+unread_refusal : (node : NodeParts) (new : Held) (e : Refusal) → is_manager node.who ≡ true
+    → IsUnread {X = List Row} node.held new node.role (Err e) → IsUntold node e
+unread_refusal node new e manages (down, inl (is, fault)) =
+    let same : e ≡ refusals.RecordFault = cc (is) in
+    inr (
+      same,
+      record {
+        manages = manages;
+        left = new;
+        unread = subst (λ (x : Refusal). IsUnread {X = List Row} node.held new node.role (Err x)) same (down, inl (is, fault));
+      },
+    )
+unread_refusal node new e manages (down, inr (is, same)) = inl (cc (is))
 
 -- what a call of a node's table can say
-abbrev Said : (config : Config) → NodeId → List Fact → (old new : Held) → Option Role → Result (List Row) Refusal → Type 0
-Said config who facts old new role result = ((new ≡ old) × SaysTable config who facts result) ⊎ IsUnread old new role result
+abbrev Said : (config : Config) → NodeId → List Fact → (old : NodeParts) → (new : Held) → Result (List Row) Refusal → Type 0
+Said config who facts old new result =
+    ((new ≡ old.held) × SaysTable config who facts result) ⊎ IsUnread old.held new old.role result
 
-told : (config : Config) (rm : ℕ) (facts : List Fact) (old new : Held) (role : Option Role) (e : Refusal)
-    → Said config (nodes.R rm) facts old new role (Err e) → IsUntold e
-told config rm facts old new role e (inl (same, says)) = inl says
-told config rm facts old new role e (inr unread) = unread_refusal old new role e unread
+told : (config : Config) (rm : ℕ) (facts : List Fact) (old : NodeParts) (new : Held) (e : Refusal) → is_manager old.who ≡ true
+    → Said config (nodes.R rm) facts old new (Err e) → IsUntold old e
+told config rm facts old new e manages (inl (same, says)) = inl says
+told config rm facts old new e manages (inr unread) = unread_refusal old new e manages unread
 
 -- a resource manager's table is refused for want of memory or a record that fails
-pub table_untold : (rm : ℕ) (old new : NodeParts) (e : Refusal) → old.who ≡ nodes.R rm → IsSound old → Tabled old new (Err e) → IsUntold e
+pub table_untold : (rm : ℕ) (old new : NodeParts) (e : Refusal) → old.who ≡ nodes.R rm → IsSound old → Tabled old new (Err e)
+    → IsUntold old e
 table_untold rm old new e is sound tabled =
-    told sound.config rm sound.state.facts old.held new.held old.role e
-    (subst (λ (who : NodeId). Said sound.config who sound.state.facts old.held new.held old.role (Err e)) is
+    told sound.config rm sound.state.facts old new.held e (ap is_manager is)
+    (subst (λ (who : NodeId). Said sound.config who sound.state.facts old new.held (Err e)) is
     (tabled sound.config sound.state sound.is).tables.says)
 
 -- ---- one after another
@@ -127,6 +138,22 @@ module _ (at : ℕ) (start now : List NodeParts) (tables : List (List Row)) (was
   shown_next more (inr puts) =
       subst (λ (ts : List (List Row)). AreShown (at + 1) start (set now at new) ts) (sym puts.put)
       (shown_with puts.rows puts.manages puts.is)
+
+  -- neither
+  pub shown_no_more : (e : Refusal) → IsUntold was e → (e ≡ refusals.NoMemory) ⊎ ((e ≡ refusals.RecordFault) × StopsAtTable start)
+  shown_no_more e (inl memory) = inl memory
+  shown_no_more e (inr (fault, unshown)) = inr (
+    fault,
+    record {
+      at = at;
+      node = was;
+      within = within;
+      node_is = here;
+      shown = tables;
+      before = so.shown;
+      unshown = unshown;
+    },
+  )
 
 -- all were shown
 pub all_shown : (at : ℕ) (start now : List NodeParts) (tables : List (List Row)) → length now ≤ at → AreShown at start now tables

@@ -1,17 +1,22 @@
--- The nodes of places, opened one after another.
-use Rattle.std.proofs.Common.{◌≡◌, ◌∙◌, inl, inr, ℕ, ◌+◌, ◌<◌, Bool, true, false, List, [], ◌∷◌, ◌++◌, length, get_or, Some, None, refl, sym, ap, subst}
+-- The nodes of places, opened one after another, and those that aren't.
+use Rattle.std.proofs.Common.{◌≡◌, ◌∙◌, ◌⊎◌, inl, inr, ℕ, ◌+◌, ◌<◌, Bool, true, false, List, [], ◌∷◌, ◌++◌, length, get_or, Some, None, refl, sym, ap, subst}
 use Rattle.std.proofs.Common.{nat_lt, arith}
 use Rattle.std.specs.Prelude.{if◌then◌else◌}
 use Rattle.std.proofs.lemmas.Bool.{cases_lt}
 use Rattle.std.proofs.lemmas.List.{get_or_append_left, get_or_push, length_push}
+use Rattle.xid.specs.declared.refusals.Refusal.{Refusal}
+use Rattle.xid.specs.declared.refusals.Refusal.TheVariants.{Damaged, FileFault, NoMemory, NoSuch, PortFault, RecordFault}
+use Rattle.stable_record.specs.Held.{Held}
+use Rattle.stable_record.specs.Records.{just_opened}
 use Rattle.protocol.specs.declared.nodes.NodeId.{NodeId}
 use Rattle.protocol.specs.declared.nodes.NodeId.TheVariants.{A, L, R}
 use Rattle.protocol.specs.Effects.{Config}
 use Rattle.node_core.specs.declared.config.Sizes.{Sizes}
 use Rattle.node_core.specs.Configs.{is_among}
 use Rattle.node_core.specs.Nodes.{NodeParts, AreSizes}
-use Rattle.udp_run.specs.Sites.{place_in}
-use Rattle.udp_run.specs.Runs.{IsOpenedOver, IsOpenedAt, AreOpened}
+use Rattle.node_core.specs.Opening.{IsOpened, IsUnopened, HasFaulted}
+use Rattle.udp_run.specs.Sites.{node_count, place_in}
+use Rattle.udp_run.specs.Runs.{IsOpenedOver, IsOpenedAt, AreOpened, IsRefusedOver, RefusesNode, RefusesNext, RefusesSite}
 
 -- ---- names
 
@@ -50,3 +55,49 @@ one_opened config sizes made old new node who so pushed place_is over = record {
             (record { who = who; place_is = place_is ∙ ap Some same; over = over })
       ]);
 }
+
+-- ---- refused
+
+module _ (config : Config) (who : NodeId) (held : Held) (opened : held ≡ just_opened held.bytes) where
+  pub taken_over : (node : NodeParts) → IsOpened config who held node → IsOpenedOver config who node
+  taken_over node is = record { bytes = held.bytes; opened = subst (λ (h : Held). IsOpened config who h node) opened is }
+
+  why_unopened : is_among config who ≡ true → (left : Held) (e : Refusal) → IsUnopened config who held left e
+      → (e ≡ NoMemory) ⊎ RefusesNode config who e
+  why_unopened among left NoSuch why = let both : true ≡ false = sym among ∙ why.1 in absurd (cc (both))
+  why_unopened among left Damaged why = inr (record { bytes = held.bytes; bad = why.1 })
+  why_unopened among left RecordFault why =
+      inr (record { bytes = held.bytes; left = left; faulted = subst (λ (h : Held). HasFaulted h left) opened why })
+  why_unopened among left NoMemory why = inl refl
+  why_unopened among left other why = absurd why
+
+  pub not_taken_over : is_among config who ≡ true → (e : Refusal) → IsRefusedOver config who held e
+      → (e ≡ NoMemory) ⊎ RefusesNode config who e
+  not_taken_over among e why = why_unopened among why.0 e why.1
+
+-- its file isn't opened
+pub file_refused : (config : Config) (who : NodeId) (e : Refusal) → (e ≡ NoMemory) ⊎ (e ≡ FileFault)
+    → (e ≡ NoMemory) ⊎ RefusesNode config who e
+file_refused config who e (inl memory) = inl memory
+file_refused config who e (inr fault) = inr (subst (RefusesNode config who) (sym fault) tt)
+
+module _ (config : Config) (sizes : Sizes) (nodes : List NodeParts) where
+  -- the node of the next place
+  pub next_refused : (at : ℕ) (who : NodeId) → AreOpened config sizes at nodes → place_in sizes who ≡ Some at → (e : Refusal)
+      → (e ≡ NoMemory) ⊎ RefusesNode config who e → (e ≡ NoMemory) ⊎ RefusesNext config sizes e
+  next_refused at who so placed e (inl memory) = inl memory
+  next_refused at who so placed e (inr refuses) =
+      inr (record { at = at; before = nodes; opened = so; who = who; place_is = placed; refuses = refuses })
+
+  -- a port
+  pub ports_refused : AreSizes config sizes → AreOpened config sizes (node_count sizes) nodes → (e : Refusal)
+      → (e ≡ NoMemory) ⊎ (e ≡ PortFault) → (e ≡ NoMemory) ⊎ RefusesSite config e
+  ports_refused are so e (inl memory) = inl memory
+  ports_refused are so e (inr fault) =
+      inr (record { sizes = sizes; are = are; refuses = inr (record { nodes = nodes; opened = so; refusal_is = fault }) })
+
+-- a node
+pub nodes_refused : (config : Config) (sizes : Sizes) → AreSizes config sizes → (e : Refusal)
+    → (e ≡ NoMemory) ⊎ RefusesNext config sizes e → (e ≡ NoMemory) ⊎ RefusesSite config e
+nodes_refused config sizes are e (inl memory) = inl memory
+nodes_refused config sizes are e (inr refuses) = inr (record { sizes = sizes; are = are; refuses = inl refuses })

@@ -1,13 +1,16 @@
 -- What the tables of resource managers hold.
-use Rattle.std.specs.Prelude.{◌≡◌, ◌⊎◌, Bool, true, false, List, [], ◌∷◌, ◌++◌, Option, Some, None, Ok}
+use Rattle.std.specs.Prelude.{◌≡◌, ◌⊎◌, ℕ, ◌<◌, Bool, true, false, List, [], ◌∷◌, ◌++◌, length, take, slice_index_or, Option, Some, None}
+use Rattle.std.specs.Prelude.{Ok, Err}
 use Rattle.std.specs.List.{AllZip, filter}
+use Rattle.xid.specs.declared.refusals.Refusal.TheVariants.{RecordFault}
+use Rattle.stable_record.specs.Held.{Held}
 use Rattle.protocol.specs.declared.nodes.NodeId.{NodeId}
 use Rattle.protocol.specs.declared.nodes.NodeId.TheVariants.{R}
 use Rattle.protocol.specs.declared.rows.Row.{Row}
 use Rattle.protocol.specs.Effects.{Config}
 use Rattle.protocol.specs.Nodes.{NodeState}
 use Rattle.node_core.specs.Nodes.{NodeParts, NodeStands}
-use Rattle.node_core.specs.Viewing.{SaysTable}
+use Rattle.node_core.specs.Viewing.{SaysTable, IsUnread}
 
 -- whether a node is a resource manager
 abbrev pub is_manager : NodeId → Bool
@@ -37,3 +40,19 @@ ShowsTable node old new = ((is_manager node.who ≡ false) × (new ≡ old)) ⊎
 -- the tables of the resource managers among nodes, in order
 abbrev pub AreTablesOf : List NodeParts → List (List Row) → Type 0
 AreTablesOf nodes tables = AllZip IsTableOf (filter (λ node. is_manager node.who) nodes) tables
+
+-- a resource manager that is down wasn't read for its table: its record failed
+pub record IsUnshown (node : NodeParts) : Type 0 where
+  pub manages : is_manager node.who ≡ true
+  pub left : Held
+  pub unread : IsUnread {X = List Row} node.held left node.role (Err RecordFault)
+
+-- among nodes, that of one place wasn't; those before it were
+pub record StopsAtTable (nodes : List NodeParts) : Type 0 where
+  pub at : ℕ
+  pub node : NodeParts
+  pub within : at < length nodes
+  pub node_is : node ≡ slice_index_or nodes at node
+  pub shown : List (List Row)
+  pub before : AreTablesOf (take at nodes) shown
+  pub unshown : IsUnshown node

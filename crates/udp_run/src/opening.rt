@@ -1,11 +1,14 @@
 //! The nodes of a cluster, taken up from their records in a folder, and their sockets.
 
-ghost use Rattle.std.specs.Prelude.{◌≡◌, ◌⊎◌, ◌<◌, true, length, Some, IfOk, IfErr};
-ghost use Rattle.xid.specs.declared.refusals.Refusal.TheVariants.{NoMemory, PortFault};
-ghost use Rattle.node_core.specs.Configs.{is_among};
+ghost use Rattle.std.specs.Prelude.{◌≡◌, ◌⊎◌, ◌<◌, true, map, Some, IfOk, IfErr};
+ghost use Rattle.xid.specs.declared.refusals.Refusal.TheVariants.{FileFault, NoMemory, PortFault};
+ghost use Rattle.stable_record.specs.Records.{file_held, just_opened};
+ghost use Rattle.node_core.specs.Configs.{are_sizes, is_among};
 ghost use Rattle.node_core.specs.Nodes.{AreSizes};
+ghost use Rattle.node_core.specs.Opening.{IsOpened};
 ghost use Rattle.udp_run.specs.Sites.{node_count, place_in};
-ghost use Rattle.udp_run.specs.Runs.{AreOpened, IsOpenedOver, IsOpenedSite, IsDeviceRefusal};
+ghost use Rattle.udp_run.specs.Runs.{AreOpened, ArePorts, AreStanding, IsOpenedOver, IsOpenedSite, finding};
+ghost use Rattle.udp_run.specs.Runs.{IsRefusedOver, RefusesNext, RefusesNode, RefusesSite};
 
 use crate::site::Site;
 use node_core::{Config, Node, Sizes};
@@ -43,8 +46,45 @@ fn path_of(alloc: Global, folder: &str, who: NodeId) -> Result<String, Refusal>
     Ok(path)
 }
 
+/// How many nodes there are.
+fn count_of(sizes: Sizes) -> usize
+    ensures { result ≡ node_count sizes }
+{
+    usize::from(sizes.acceptors) + usize::from(sizes.leaders) + usize::from(sizes.managers)
+}
+
+/// A node's record in the folder, which is made where there is none. Refused: its file can't be opened and read (`FileFault`), or
+/// `NoMemory`.
+fn open_record(rt: HostRuntime, folder: &str, who: NodeId) -> Result<FileRecord, Refusal>
+    ensures ok { IfOk result (λ opened. file_held opened ≡ just_opened (file_held opened).bytes) }
+    ensures err { IfErr result (λ e. (e ≡ NoMemory) ⊎ (e ≡ FileFault)) }
+{
+    let path = path_of(rt.alloc(), folder, who)?;
+    match FileRecord::open(rt, path.as_str()) {
+        Ok(device) => Ok(device),
+        Err(RecordError::Fault) => Err(Refusal::FileFault),
+        Err(RecordError::Memory) => Err(Refusal::NoMemory),
+    }
+}
+
+/// The node over its record. Refused as `Node::open` refuses it; the record is closed.
+fn take_up(
+    alloc: Global,
+    config: &Config,
+    who: NodeId,
+    device: FileRecord,
+) -> Result<Node<FileRecord>, Refusal>
+    ensures ok { IfOk result (IsOpened config.now who (file_held device)) }
+    ensures err { IfErr result (IsRefusedOver config.now who (file_held device)) }
+{
+    match Node::open(alloc, config, who, device) {
+        Ok(node) => Ok(node),
+        Err((_, refusal)) => Err(refusal),
+    }
+}
+
 /// A node over its record in the folder, which is made where there is none. Refused: the file can't be opened and read (`FileFault`);
-/// what `Node::open` refuses of its bytes; `NoMemory`.
+/// its bytes hold nothing that plays (`Damaged`), or the record fails (`RecordFault`); `NoMemory`.
 fn open_node(
     rt: HostRuntime,
     folder: &str,
@@ -53,21 +93,13 @@ fn open_node(
 ) -> Result<Node<FileRecord>, Refusal>
     requires { is_among config.now who ≡ true }
     ensures ok { IfOk result (IsOpenedOver config.now who) }
-    ensures err { IfErr result (λ e. (e ≡ NoMemory) ⊎ IsDeviceRefusal e) }
+    ensures err { IfErr result (λ e. (e ≡ NoMemory) ⊎ RefusesNode config.now who e) }
 {
-    let path = path_of(rt.alloc(), folder, who)?;
-    let record = match FileRecord::open(rt, path.as_str()) {
-        Ok(record) => record,
-        Err(RecordError::Fault) => return Err(Refusal::FileFault),
-        Err(RecordError::Memory) => return Err(Refusal::NoMemory),
-    };
-    match Node::open(rt.alloc(), config, who, record) {
-        Ok(node) => Ok(node),
-        Err((_, refusal)) => Err(refusal),
-    }
+    let device = open_record(rt, folder, who)?;
+    take_up(rt.alloc(), config, who, device)
 }
 
-/// The nodes of a cluster, in order. Refused as the first of them is.
+/// The nodes of a cluster, in order. Refused as the first of them is that is.
 fn open_nodes(
     rt: HostRuntime,
     folder: &str,
@@ -76,13 +108,10 @@ fn open_nodes(
 ) -> Result<Vec<Node<FileRecord>>, Refusal>
     requires { AreSizes config.now sizes }
     ensures ok { IfOk result (λ nodes. AreOpened config.now sizes (node_count sizes) nodes.items) }
-    ensures err { IfErr result (λ e. (e ≡ NoMemory) ⊎ IsDeviceRefusal e) }
+    ensures err { IfErr result (λ e. (e ≡ NoMemory) ⊎ RefusesNext config.now sizes e) }
 {
-    let count = usize::from(sizes.acceptors)
-        + usize::from(sizes.leaders)
-        + usize::from(sizes.managers);
     let mut nodes = Vec::new(rt.alloc());
-    for at in 0..count {
+    for at in 0..count_of(sizes) {
         let who = name_at(sizes, at);
         nodes.push(open_node(rt, folder, config, who)?)?;
     }
@@ -90,18 +119,17 @@ fn open_nodes(
 }
 
 /// A socket for each node, and where the nodes are found by that. Refused: `PortFault`, `NoMemory`.
-fn bind_ports(
-    rt: HostRuntime,
-    nodes: &[Node<FileRecord>],
-) -> Result<(Vec<UdpPort>, Addresses), Refusal>
-    ensures ok { IfOk result (λ bound. length bound.0.items ≡ length nodes.now) }
+fn bind_ports(rt: HostRuntime, sizes: Sizes) -> Result<(Vec<UdpPort>, Addresses), Refusal>
+    requires { are_sizes sizes.acceptors sizes.leaders sizes.managers ≡ true }
+    ensures ok { IfOk result (λ bound. AreStanding sizes (node_count sizes) bound.0.items bound.1) }
     ensures err { IfErr result (λ e. (e ≡ NoMemory) ⊎ (e ≡ PortFault)) }
 {
+    let count = count_of(sizes);
     let mut addresses = Addresses::none();
     let mut ports = Vec::new(rt.alloc());
-    for node in nodes {
+    for at in 0..count {
         let port = UdpPort::bind(&rt)?;
-        addresses.set(node.id(), port.number());
+        addresses.set(name_at(sizes, at), port.number());
         ports.push(port)?;
     }
     Ok((ports, addresses))
@@ -109,7 +137,7 @@ fn bind_ports(
 
 /// Each port finds the nodes there.
 fn tell(ports: &mut Vec<UdpPort>, addresses: Addresses)
-    ensures { length ports.new.items ≡ length ports.old.items }
+    ensures { ports.new.items ≡ map (finding addresses) ports.old.items }
 {
     for at in 0..ports.len() {
         let port = &mut ports[at];
@@ -117,21 +145,31 @@ fn tell(ports: &mut Vec<UdpPort>, addresses: Addresses)
     }
 }
 
+/// A socket for each node, and one for noise. Each of them finds each node. Refused: one can't be made (`PortFault`), or `NoMemory`.
+fn bind_all(rt: HostRuntime, sizes: Sizes) -> Result<(Vec<UdpPort>, UdpPort), Refusal>
+    requires { are_sizes sizes.acceptors sizes.leaders sizes.managers ≡ true }
+    ensures ok { IfOk result (λ bound. ArePorts sizes bound.0.items bound.1) }
+    ensures err { IfErr result (λ e. (e ≡ NoMemory) ⊎ (e ≡ PortFault)) }
+{
+    let (mut ports, addresses) = bind_ports(rt, sizes)?;
+    tell(&mut ports, addresses);
+    let mut noise = UdpPort::bind(&rt)?;
+    noise.find_at(addresses);
+    Ok((ports, noise))
+}
+
 /// A cluster's nodes over the records of a folder, each at a socket; and a socket for noise. Refused: the first node that is refused,
-/// its file (`FileFault`) or its bytes; else a socket that can't be made (`PortFault`); `NoMemory`.
+/// its file (`FileFault`) or its record (`Damaged`, `RecordFault`); else a socket that can't be made (`PortFault`); `NoMemory`.
 pub(crate) fn open(
     rt: HostRuntime,
     folder: &str,
     config: &Config,
 ) -> Result<Site<FileRecord, UdpPort>, Refusal>
     ensures ok { IfOk result (IsOpenedSite config.now) }
-    ensures err { IfErr result (λ e. (e ≡ NoMemory) ⊎ IsDeviceRefusal e) }
+    ensures err { IfErr result (λ e. (e ≡ NoMemory) ⊎ RefusesSite config.now e) }
 {
     let sizes = config.sizes();
     let nodes = open_nodes(rt, folder, config, sizes)?;
-    let (mut ports, addresses) = bind_ports(rt, &nodes)?;
-    tell(&mut ports, addresses);
-    let mut noise = UdpPort::bind(&rt)?;
-    noise.find_at(addresses);
+    let (ports, noise) = bind_all(rt, sizes)?;
     Ok(Site::new(rt.alloc(), sizes, nodes, ports, noise))
 }

@@ -4,7 +4,7 @@ ghost use Rattle.std.specs.Prelude.{◌≡◌, ◌⊎◌, true, IfOk, IfErr, Mat
 ghost use Rattle.std.specs.List.{list_all};
 ghost use Rattle.xid.specs.declared.refusals.Refusal.TheVariants.{NoMemory};
 ghost use Rattle.udp_run.specs.Commands.{is_served as is_served_lem};
-ghost use Rattle.udp_run.specs.Runs.{IsDeviceRefusal, IsFirstRefused, IsServed, IsUdpRun, RefusesUdp};
+ghost use Rattle.udp_run.specs.Runs.{IsFirstRefused, IsServed, IsUdpRun, RefusesDevices, RefusesUdp};
 
 use crate::opening::open;
 use cluster_run::config_of;
@@ -16,9 +16,10 @@ use xid::{Refusal, Sequence};
 /// Runs a script over sockets and gives the text of its trace: its nodes are taken up from the records in a folder, each takes datagrams
 /// at a socket of its own on 127.0.0.1, and `flow` is so many rounds in which each takes one. Refused: `BadScript` with the first line
 /// at fault; `BadConfig` for sizes outside the limits; `BadScript` with the first event that can't happen over sockets (a datagram's
-/// number or a tear); and then, after the records that were opened before, node by node: a file that can't be opened and read
-/// (`FileFault`), a record that can't be taken up (`Damaged`, `RecordFault`), and a socket that can't be made (`PortFault`); at the end
-/// the record of a node that is down (`RecordFault`); and `NoMemory` anywhere. What was stored stays stored.
+/// number or a tear); then, node by node, a file that can't be opened and read (`FileFault`), bytes that hold nothing that plays
+/// (`Damaged`) or a record that fails (`RecordFault`); then a socket that can't be made (`PortFault`); at the end the record of a
+/// resource manager that is down and whose table can't be read, as the record fails (`RecordFault`); and `NoMemory` anywhere. What was
+/// stored stays stored.
 pub fn udp(rt: HostRuntime, script: &[u8], folder: &str) -> Result<Vec<u8>, Refusal>
     ensures ok { IfOk result (λ output. IsUdpRun script.now output.items) }
     ensures err { IfErr result (RefusesUdp script.now) }
@@ -40,7 +41,7 @@ pub fn udp(rt: HostRuntime, script: &[u8], folder: &str) -> Result<Vec<u8>, Refu
 fn serve(rt: HostRuntime, script: Script, folder: &str, config: &Config) -> Result<Vec<u8>, Refusal>
     requires { list_all is_served_lem script.commands ≡ true }
     ensures ok { IfOk result (λ output. IsServed config.now script output.items) }
-    ensures err { IfErr result (λ e. (e ≡ NoMemory) ⊎ IsDeviceRefusal e) }
+    ensures err { IfErr result (λ e. (e ≡ NoMemory) ⊎ RefusesDevices config.now script.commands e) }
 {
     let Script {
         sizes,

@@ -3,7 +3,7 @@ ghost use Rattle.std.specs.List.{list_all};
 ghost use Rattle.xid.specs.declared.refusals.Refusal.TheVariants.{NoMemory, RecordFault};
 ghost use Rattle.udp_run.specs.Sites.{Comes, Happens, IsSite, site_of};
 ghost use Rattle.udp_run.specs.Commands.{CarriesAll, CarriesOut, Flows, Joins, ServesFirst, is_served_event, is_served};
-ghost use Rattle.udp_run.specs.Tables.{AreTablesOf};
+ghost use Rattle.udp_run.specs.Tables.{AreTablesOf, StopsAtTable};
 
 use crate::happenings::{ask, compact, noise, restart};
 use crate::rounds::serve_each;
@@ -143,7 +143,7 @@ impl<R: Record + Drop, P: Port + Drop> Site<R, P> {
     /// The rows of each resource manager's table, in order. Refused: `NoMemory`; the record of one that is down fails (`RecordFault`).
     pub(crate) fn tables(mut self) -> Result<Vec<Sequence<Row>>, Refusal>
         ensures ok { IfOk result (λ tables. AreTablesOf self.nodes tables.items) }
-        ensures err { IfErr result (λ e. (e ≡ NoMemory) ⊎ (e ≡ RecordFault)) }
+        ensures err { IfErr result (λ e. (e ≡ NoMemory) ⊎ ((e ≡ RecordFault) × StopsAtTable self.nodes)) }
     {
         tables_of(self.alloc, &mut self.nodes)
     }

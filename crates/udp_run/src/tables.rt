@@ -2,7 +2,7 @@
 
 ghost use Rattle.std.specs.Prelude.{◌≡◌, ◌⊎◌, IfOk, IfErr, OnOk};
 ghost use Rattle.xid.specs.declared.refusals.Refusal.TheVariants.{NoMemory, RecordFault};
-ghost use Rattle.udp_run.specs.Tables.{AreTablesOf, HasTable, ShowsTable};
+ghost use Rattle.udp_run.specs.Tables.{AreTablesOf, HasTable, IsUnshown, ShowsTable, StopsAtTable};
 
 use node_core::Node;
 use protocol::{NodeId, Row};
@@ -13,7 +13,7 @@ use xid::{Refusal, Sequence};
 /// The rows of a node's table, if it is a resource manager. Refused: `NoMemory`; it is down, and its record fails (`RecordFault`).
 fn table_of<R: Record>(node: &mut Node<R>) -> Result<Option<Sequence<Row>>, Refusal>
     ensures ok { IfOk result (HasTable node.old) }
-    ensures err { IfErr result (λ e. (e ≡ NoMemory) ⊎ (e ≡ RecordFault)) }
+    ensures err { IfErr result (λ e. (e ≡ NoMemory) ⊎ ((e ≡ RecordFault) × IsUnshown node.old)) }
 {
     let NodeId::R(_) = node.id() else {
         return Ok(None);
@@ -29,7 +29,7 @@ fn table_of<R: Record>(node: &mut Node<R>) -> Result<Option<Sequence<Row>>, Refu
 /// Puts the rows of a node's table after others, if it is a resource manager. Refused as `table_of` is.
 fn show<R: Record>(node: &mut Node<R>, tables: &mut Vec<Sequence<Row>>) -> Result<(), Refusal>
     ensures ok { OnOk result (ShowsTable node.old tables.old.items tables.new.items) }
-    ensures err { IfErr result (λ e. (e ≡ NoMemory) ⊎ (e ≡ RecordFault)) }
+    ensures err { IfErr result (λ e. (e ≡ NoMemory) ⊎ ((e ≡ RecordFault) × IsUnshown node.old)) }
 {
     let rows = match table_of(node) {
         Ok(Some(rows)) => rows,
@@ -46,7 +46,7 @@ pub(crate) fn tables_of<R: Record>(
     nodes: &mut Vec<Node<R>>,
 ) -> Result<Vec<Sequence<Row>>, Refusal>
     ensures ok { IfOk result (λ tables. AreTablesOf nodes.old.items tables.items) }
-    ensures err { IfErr result (λ e. (e ≡ NoMemory) ⊎ (e ≡ RecordFault)) }
+    ensures err { IfErr result (λ e. (e ≡ NoMemory) ⊎ ((e ≡ RecordFault) × StopsAtTable nodes.old.items)) }
 {
     let mut tables = Vec::new(alloc);
     for at in 0..nodes.len() {

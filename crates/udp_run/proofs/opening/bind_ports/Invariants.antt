@@ -1,5 +1,6 @@
-use Rattle.std.proofs.Common.{◌≡◌, length}
+use Rattle.udp_run.proofs.Finding.{AreBound}
 use Rattle.udp_run.proofs.opening.bind_ports.Given as goal
 
-abbrev pub invariant-loop-node : goal.invariant-loop-node
-invariant-loop-node l = length l.ports.items ≡ l.node-index
+-- the ports of the first so many places
+abbrev pub invariant-loop-at : goal.invariant-loop-at
+invariant-loop-at l = AreBound l.sizes l.at l.ports.items l.addresses

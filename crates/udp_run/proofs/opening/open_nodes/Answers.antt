@@ -1,9 +1,20 @@
-use Rattle.udp_run.proofs.Taken.{one_opened, place_among}
+use Rattle.std.proofs.Common.{◌≡◌, ◌⊎◌, rules}
+use Rattle.xid.specs.declared.refusals.Refusal.TheVariants.{NoMemory}
+use Rattle.cluster_run.proofs.Configs.{handed_on}
+use Rattle.udp_run.specs.Runs.{RefusesNext}
+use Rattle.udp_run.proofs.Taken.{next_refused, one_opened, place_among}
 use Rattle.udp_run.proofs.opening.open_nodes.Goals as goal
 
 pub open_node-requires : goal.open_node-requires
 open_node-requires c =
     place_among c.args.config.now c.args.sizes c.requires c.name_at-who.result c.loop-at.at c.name_at-who.ensures
+
+pub returns-in_err-open_node-clause-err : goal.returns-in_err-open_node-clause-err
+returns-in_err-open_node-clause-err c =
+    handed_on (λ e. (e ≡ NoMemory) ⊎ RefusesNext c.args.config.now c.args.sizes e) c.from_residual.result c.in_err-open_node.field-0.0
+    (search rules)
+    (next_refused c.args.config.now c.args.sizes c.loop-at.nodes.items c.loop-at.at c.name_at-who.result c.loop-at.invariant
+    c.name_at-who.ensures c.in_err-open_node.field-0.0 c.in_err-open_node.ensures.err)
 
 pub loop-at-preserved : goal.loop-at-preserved
 loop-at-preserved c =

@@ -1,12 +1,15 @@
-use Rattle.std.proofs.Common.{◌≤◌, ◌∙◌, ◌+◌, length, List, ap, sym, subst}
+use Rattle.std.proofs.Common.{◌≡◌, ◌⊎◌, ◌≤◌, ◌∙◌, ◌+◌, length, List, ap, sym, subst}
 use Rattle.std.specs.List.{list_all}
 use Rattle.std.proofs.lemmas.Result.{IfErr-weaker}
+use Rattle.xid.specs.declared.refusals.Refusal.TheVariants.{NoMemory}
+use Rattle.protocol.specs.Effects.{Config}
+use Rattle.cluster_run.specs.Traces.{config_for}
 use Rattle.net_script.specs.Lines.{lines}
 use Rattle.net_script.specs.Scripts.{lines_kept}
 use Rattle.net_script.specs.declared.values.Command.{Command}
 use Rattle.net_script.specs.declared.values.Table.{Table}
 use Rattle.udp_run.specs.Commands.{is_served}
-use Rattle.udp_run.specs.Runs.{IsFirstRefused}
+use Rattle.udp_run.specs.Runs.{IsFirstRefused, RefusesDevices}
 use Rattle.udp_run.proofs.Ran.{has_line, refused_late}
 use Rattle.udp_run.proofs.runs.udp.Goals as goal
 
@@ -23,5 +26,7 @@ pub returns-clause-err : goal.returns-clause-err
 returns-clause-err c =
     IfErr-weaker c.serve.result _ _
     (λ e late. refused_late c.args.script.now c.in_ok-script.script e c.in_ok-script.ensures.ok c.in_ok-config.ensures.ok.1
-    (ap (list_all is_served) (sym c.as_slice-2.ensures) ∙ c.in_default.ensures) late)
+    (ap (list_all is_served) (sym c.as_slice-2.ensures) ∙ c.in_default.ensures)
+    (subst (λ (config : Config). (e ≡ NoMemory) ⊎ RefusesDevices config c.in_ok-script.script.commands e)
+    (c.in_ok-config.ensures.ok.0 ∙ ap (config_for c.in_ok-script.script.sizes) c.as_slice.ensures) late))
     c.serve.ensures.err
