@@ -38,7 +38,7 @@ golden: test-tools build scripts
 scripts:
 	tests/run.sh bin/pcommit
 	tests/sweeps.py bin/pcommit
-	tests/memory.sh bin/pcommit
+	tests/memory.py bin/pcommit
 
 # tries each wrong rule of the protocol on a copy of the definitions, outside the gate: about ten minutes
 wrong-rules: proof-tools
