@@ -1,6 +1,6 @@
 #!/usr/bin/env python3
-"""devices.py PROGRAM: files and sockets that fail under `pcommit udp`. Faults are found node by node, the file (16) before its bytes (4), and
-the sockets (12) after all records; what comes after the first fault isn't touched. The last line is 'N passed, M failed'."""
+"""devices.py PROGRAM: files and sockets that fail under `pcommit udp`. Faults are found node by node, the file (16) before its bytes (4),
+and the sockets (12) after all records; what comes after the first fault isn't touched. The last line is 'N passed, M failed'."""
 import fcntl
 import itertools
 import os

@@ -1,9 +1,9 @@
 #!/usr/bin/env python3
-"""Refuses each block of memory that runs and an audit ask for, one after the other: `tests/memory.py [PROGRAM]`. The program answers 11 as a
-whole and prints nothing else, or prints a trace in which one event is answered 11. All other lines are then those of a run with ample memory
-without that event, or with its node taken down before it (by a torn append of another transaction, which stores nothing). Such a trace is
-consistent; and once all nodes are restarted, they serve calls, and each transaction is ended. Or, where a map asked again for less room,
-the trace is that of the run with ample memory. The last line is 'N passed, M failed'."""
+"""Refuses each block of memory that runs and an audit ask for, one after the other: `tests/memory.py [PROGRAM]`. The program answers 11 as
+a whole and prints nothing else, or prints a trace in which one event is answered 11. All other lines are then those of a run with ample
+memory without that event, or with its node taken down before it (by a torn append of another transaction, which stores nothing). Such a
+trace is consistent; and once all nodes are restarted, they serve calls, and each transaction is ended. Or, where a map asked again for less
+room, the trace is that of the run with ample memory. The last line is 'N passed, M failed'."""
 import concurrent.futures
 import os
 import re
@@ -251,8 +251,8 @@ totals = dict.fromkeys(KINDS, 0)
 for name, trace in [(name, golden(name + ".out")) for name in ROWS] + list(torn_votes()):
     for verdict, count in refuses(name, trace).items():
         totals[verdict] = totals.get(verdict, 0) + count
-print(f"refused as a whole {totals['whole']}, an event with its node up {totals['nothing']}, and down {totals['down']}, an event at the end "
-      f"{totals['late']}, asked again {totals['again']}")
+print(f"refused as a whole {totals['whole']}, an event that then didn't happen {totals['nothing']}, or took its node down {totals['down']}, "
+      f"an event after the row {totals['late']}, asked again {totals['again']}")
 check("each kind is seen", min(totals[verdict] for verdict in ("whole", "nothing", "down")) > 0)
 audits("takeover_finds_prepared")
 print(f"{passed} passed, {failed} failed")

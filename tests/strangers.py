@@ -1,7 +1,7 @@
 #!/usr/bin/env python3
-"""strangers.py PROGRAM: datagrams that come to nodes from a socket that is no node's, while `pcommit udp` runs. Bytes that happen to spell a
-message are taken as if a node had sent them, and answered ok; all others are refused (3), and change nothing. The program is held (SIGSTOP)
-while they are sent, so that all of them wait when it goes on. The last line is 'N passed, M failed'."""
+"""strangers.py PROGRAM: datagrams that come to nodes from a socket that is no node's, while `pcommit udp` runs. Bytes that happen to spell
+a message are taken as if a node had sent them, and answered ok; all others are refused (3), and change nothing. The program is held
+(SIGSTOP) while they are sent, so that all of them wait when it goes on. The last line is 'N passed, M failed'."""
 import os
 import re
 import signal
