@@ -21,7 +21,7 @@ try: proof-tools
 	@echo "Interpreting $(SCRIPT), with no proofs: about a minute." >&2
 	@cd crates/pcommit && rt try --data script=$(abspath $(SCRIPT)) -- run script
 
-# everything: the page of definitions, the figures on the pages, each proof from nothing, the must-fail edits, the tests, the programs as two
+# everything: the page of definitions, figures on the pages, each proof from nothing, the must-fail edits, the tests, the programs as two
 # compilers build them, the cases of single parts among them; then, of what was built so, the golden scripts, runs and cases with each block
 # of memory refused in turn, and runs of many transactions
 test: test-tools

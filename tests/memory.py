@@ -251,8 +251,8 @@ totals = dict.fromkeys(KINDS, 0)
 for name, trace in [(name, golden(name + ".out")) for name in ROWS] + list(torn_votes()):
     for verdict, count in refuses(name, trace).items():
         totals[verdict] = totals.get(verdict, 0) + count
-print(f"refused as a whole {totals['whole']}, an event that then didn't happen {totals['nothing']}, or took its node down {totals['down']}, "
-      f"an event after the row {totals['late']}, asked again {totals['again']}")
+print(f"refused as a whole {totals['whole']}, an event that then didn't happen {totals['nothing']}, or took its node down "
+      f"{totals['down']}, an event after the row {totals['late']}, asked again {totals['again']}")
 check("each kind is seen", min(totals[verdict] for verdict in ("whole", "nothing", "down")) > 0)
 audits("takeover_finds_prepared")
 print(f"{passed} passed, {failed} failed")
