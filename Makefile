@@ -18,14 +18,15 @@ bin/pcommit: crates.txt $(shell find crates -name out -prune -o -name must-fail 
 
 # interprets a script, with no proof, for a first look
 try: proof-tools
-	@echo "Interpreting $(SCRIPT), with no proofs: about half a minute." >&2
+	@echo "Interpreting $(SCRIPT), with no proofs: about a minute." >&2
 	@cd crates/pcommit && rt try --data script=$(abspath $(SCRIPT)) -- run script
 
-# everything: the page of definitions, each proof from nothing, the must-fail edits, the tests, the programs as two compilers build them, the
-# cases of single parts among them; then, of what was built so, the golden scripts, runs and cases with each block of memory refused in turn,
-# and runs of many transactions
+# everything: the page of definitions, figures on the pages, each proof from nothing, the must-fail edits, the tests, the programs as two
+# compilers build them, the cases of single parts among them; then, of what was built so, the golden scripts, runs and cases with each block
+# of memory refused in turn, and runs of many transactions
 test: test-tools
 	tools/definitions.py --check
+	tools/figures.py --check
 	rt ci
 	@mkdir -p bin
 	@cp crates/pcommit/out/pcommit bin/pcommit
@@ -38,7 +39,7 @@ golden: test-tools build scripts
 scripts:
 	tests/run.sh bin/pcommit
 	tests/sweeps.py bin/pcommit
-	tests/memory.sh bin/pcommit
+	tests/memory.py bin/pcommit
 
 # tries each wrong rule of the protocol on a copy of the definitions, outside the gate: about ten minutes
 wrong-rules: proof-tools

@@ -9,7 +9,7 @@ if [ "$1" != one ]; then
     scratch=$(mktemp -d)
     trap 'rm -rf "$scratch"' EXIT
     cc -shared -fPIC -o "$scratch/refuse.so" "$(dirname "$0")/refuse_memory.c" -ldl || exit 1
-    mkdir "$scratch/cases" "$scratch/told"
+    mkdir "$scratch/cases" "$scratch/told" || exit 1
     grep -v '^#' "$2" | awk -v to="$scratch/cases/" 'NF==0 {open=0; next} !open {open=1; count++} {print > (to sprintf("%03d", count))}'
     grep -lE '^(port|record failing|node .* failing) ' "$scratch"/cases/* | xargs rm
     ls "$scratch/cases" | xargs -P "$(nproc)" -n 1 sh "$0" one "$program" "$scratch"

@@ -153,8 +153,14 @@ over no_frame l0.rec '\000\000\000\000' 3 'pcommit: refused 4\n' ''
 python3 - "$scratch" <<END && passed=$((passed + 1)) || fail records 'they are not as they should be'
 import glob, sys
 folder = sys.argv[1]
-compacted = '000000020209' '00000007020a016b000131' '0000000d020b0000000101740100000161'
-assert open(folder + '/compacted.folder/r0.rec', 'rb').read().hex() == compacted
+tx = '0000000101740100000161'
+left = lambda name: open(folder + '/' + name, 'rb').read().hex()
+assert left('compacted.folder/r0.rec') == '000000020209' '00000007020a016b000131' '0000000d020b' + tx
+assert left('old_first_run.folder/a0.rec') == '000000140202' + tx + '00000000000001'
+assert left('old_first_run.folder/l0.rec') == ''
+vote = '000000140204' + tx + '01016b01000131'
+assert left('old_first_run.folder/r0.rec') == vote + '0000000d0206' + tx
+assert left('a_vote_of_version_1.folder/r0.rec') == left('a_tail.folder/r0.rec') == vote
 files = glob.glob(folder + '/version_1.folder/*.rec')
 assert len(files) == 4
 for name in files:
@@ -165,8 +171,17 @@ for name in files:
         data = data[4 + size:]
 END
 
-# hostile datagrams
-if python3 "$tests/hostile.py" "$program" "$scratch" >"$scratch/said"; then passed=$((passed + 2)); else fail hostile "$(cat "$scratch/said")"; fi
+# hostile datagrams, from the program itself and from strangers; and files and sockets that fail
+whole() { # SCRIPT WORDS..
+    script=$1
+    shift
+    python3 "$tests/$script" "$program" "$@" >"$scratch/said" 2>&1 || fail "$script" "$(cat "$scratch/said")"
+    count=$(tail -n 1 "$scratch/said" | sed -n 's/ passed, 0 failed$//p')
+    passed=$((passed + ${count:-0}))
+}
+whole hostile.py "$scratch"
+whole strangers.py
+whole devices.py
 
 # a trace cut at every byte: each beginning of it is refused with a line
 trace=$tests/audit/in_order.trace
@@ -287,11 +302,11 @@ compare full_output_of_audit /dev/null refused 3
 "$program" audit "$trace" >&- 2>err
 got=$?
 compare closed_output_of_audit /dev/null refused 3
-mkdir closed
+mkdir closed || fail closed 'its folder was there'
 "$program" udp "$tests/udp/two_runs.1.script" closed >&- 2>err
 got=$?
 compare closed_output_of_udp /dev/null refused 3
-mkdir folder
+mkdir folder || fail folder 'its folder was there'
 "$program" udp "$tests/udp/two_runs.1.script" folder >/dev/full 2>err
 got=$?
 compare full_output_of_udp /dev/null refused 3

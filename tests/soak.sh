@@ -10,7 +10,7 @@ kills=${2:-200}
 scratch=$(mktemp -d ${3:+-p "$3"})
 trap 'rm -rf "$scratch"' EXIT
 trap 'exit 1' INT TERM
-mkdir "$scratch/records"
+mkdir "$scratch/records" || exit 1
 sizes='cluster acceptors 3 leaders 2 rms 3
 table r0 00=30
 table r1 00=31
@@ -57,7 +57,7 @@ part() { # NUMBER
 }
 
 # how long a part takes that isn't killed
-mkdir "$scratch/free"
+mkdir "$scratch/free" || exit 1
 part 0 >"$scratch/script"
 begun=$(date +%s%N)
 "$program" udp "$scratch/script" "$scratch/free" >/dev/null || echo 'a part that was not killed failed'
