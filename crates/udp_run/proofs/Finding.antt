@@ -265,8 +265,8 @@ all_told addresses at start now end so =
 
 -- ---- all of them
 
-module _ (sizes : Sizes) (addresses : Addresses) (bound ports : List UdpPort) (standing : AreStanding sizes (node_count sizes) bound addresses)
-    (told : ports ≡ map (finding addresses) bound) where
+module _ (sizes : Sizes) (addresses : Addresses) (bound ports : List UdpPort)
+    (standing : AreStanding sizes (node_count sizes) bound addresses) (told : ports ≡ map (finding addresses) bound) where
   long : length ports ≡ node_count sizes
   long = ap length told ∙ length-map bound (finding addresses) ∙ standing.number
 
