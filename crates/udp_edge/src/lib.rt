@@ -1,10 +1,11 @@
-//! The edge of the system: its command line, the files that it reads and what it prints.
+//! The edge of the system: its command line, the files that it reads and what it prints; and a node at a port, passed on.
 #![tactic(auto)]
 
 mod command;
 mod printing;
 
 pub use command::{Rejected, Subcommand, action};
+pub use port::{Port, Served, UdpPort, call, serve_once};
 pub use printing::{DONE, INCONSISTENT, MISUSED, REFUSED, answer, program, reject};
 
 #[cfg(test)]
