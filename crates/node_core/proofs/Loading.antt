@@ -3,7 +3,7 @@ use Rattle.std.proofs.Common.{◌≡◌, ◌∙◌, ℕ, ◌-◌, ◌≤◌, Lis
 use Rattle.std.proofs.Common.{inl, inr, arith}
 use Rattle.std.specs.Prelude.{◌⊎◌, IsTrue, true, map, Option, Some, None, Result, Ok, Err}
 use Rattle.std.specs.List.{list_all, flat_map}
-use Rattle.std.proofs.lemmas.List.{length-drop}
+use Rattle.std.proofs.lemmas.List.{length-drop, take-append-drop}
 use Rattle.xid.specs.declared.refusals.Refusal.{Refusal}
 use Rattle.wire.specs.Versions.{version_2}
 use Rattle.wire.specs.declared.grammar.VersionNumber.TheVariants.{Second}
@@ -24,6 +24,7 @@ use Rattle.resource_manager.specs.Compacted.{IsCompacted, row_entry, is_about_tx
 use Rattle.node_core.specs.declared.role.Role.{Role}
 use Rattle.node_core.specs.Nodes.{Kept, MeansFrom, Holds}
 use Rattle.node_core.specs.Opening.{IsBad, IsReadAs, Reads, HasStayed, HasFaulted, Loads, frames_of, IsReplaced, Rewrites}
+use Rattle.node_core.specs.Opening.{IsUntailed, IsTrimmed, IsLeftOver}
 use Rattle.node_core.proofs.Rows.{same_row}
 use Rattle.node_core.proofs.Starting.{of_facts}
 
@@ -106,7 +107,7 @@ frames_stored (entry ∷ all) bytes tail stored =
     stored_joined (entry ∷ []) all (frame version_2 entry) (frames_of all) []
     (one_stored Second entry (entry_in_version_2 entry stored.1.valid.valid)) (frames_stored all stored.0 tail stored.2)
 
-either_same : (xs ys : List ℕ) → (xs ≡ ys) ⊎ (xs ≡ ys) → xs ≡ ys
+pub either_same : (xs ys : List ℕ) → (xs ≡ ys) ⊎ (xs ≡ ys) → xs ≡ ys
 either_same xs ys (inl e) = e
 either_same xs ys (inr e) = e
 
@@ -130,16 +131,20 @@ read_faulted T old new h = record {
 }
 
 module _ (config : Config) (who : NodeId) (own : List Row) (old : Held) where
+  -- a record that is as it was
+  pub stayed_whole : (new : Held) → new ≡ old → HasStayed old new × IsTrimmed config who old.bytes new.bytes
+  stayed_whole new is = (stayed_same old new is, inl (ap (λ (r : Held). r.bytes) is))
+
   pub read_refused : (T : Type 0) (new : Held) (e : RecordError) → HasRead {T = T} old new (Err e)
       → Loads config who own old new (Err (refusal_of e))
-  read_refused T new Fault h = read_faulted T old new h
-  read_refused T new Memory h = stayed_same old new h
+  read_refused T new Fault h = (read_faulted T old new h, inl (inl (either_same new.bytes old.bytes h.bytes)))
+  read_refused T new Memory h = stayed_whole new h
 
   -- a record that holds nothing that plays
   pub replay_refused : (new : Held) (bytes : List ℕ) (e : Refusal) → bytes ≡ old.bytes → new ≡ old → Reads config who own bytes (Err e)
       → Loads config who own old new (Err e)
   replay_refused new bytes Refusal.Damaged is same h = (same, subst (IsBad config who) is h)
-  replay_refused new bytes Refusal.NoMemory is same h = stayed_same old new same
+  replay_refused new bytes Refusal.NoMemory is same h = stayed_whole new same
   replay_refused new bytes other is same h = absurd h
 
   -- the tail is cut, or the record fails
@@ -173,15 +178,31 @@ module _ (config : Config) (who : NodeId) (own : List Row) (old : Held) where
     cut_either new c w kept tail (inl e) k = (tail, subst (λ bytes. Holds c w bytes kept tail) (sym e) k)
     cut_either new c w kept tail (inr e) k = ([], subst (λ bytes. Holds c w bytes kept []) (sym e) (cut_holds c w kept tail k))
 
-    pub cut_refused : (new : Held) (e : RecordError) → HasPut cut old new (Err e) → Loads config who own old new (Err (refusal_of e))
-    cut_refused new Fault put = record {
-      may = put.may;
-      counted = put.counted;
-      armed = put.armed;
-      may_fail = put.may_fail;
-      holds = λ c w kept tail k. cut_either new c w kept tail put.bytes k;
+    -- they are those before without their tail
+    untailed : (bytes : List ℕ) → bytes ≡ cut → IsUntailed config who old.bytes bytes
+    untailed bytes is = record {
+      kept = h.kept;
+      tail = drop len old.bytes;
+      held = h.holds;
+      bytes_are = sym (take-append-drop len old.bytes) ∙ ap (λ (xs : List ℕ). xs ++ drop len old.bytes) (sym is);
     }
-    cut_refused new Memory put = stayed_same old new put
+
+    cut_left : (bytes : List ℕ) → (bytes ≡ old.bytes) ⊎ (bytes ≡ cut) → IsTrimmed config who old.bytes bytes
+    cut_left bytes (inl e) = inl e
+    cut_left bytes (inr e) = inr (untailed bytes e)
+
+    pub cut_refused : (new : Held) (e : RecordError) → HasPut cut old new (Err e) → Loads config who own old new (Err (refusal_of e))
+    cut_refused new Fault put = (
+      record {
+        may = put.may;
+        counted = put.counted;
+        armed = put.armed;
+        may_fail = put.may_fail;
+        holds = λ c w kept tail k. cut_either new c w kept tail put.bytes k;
+      },
+      inl (cut_left new.bytes put.bytes),
+    )
+    cut_refused new Memory put = stayed_whole new put
 
     -- then the frames are written anew, or the record fails
     module _ (mid new : Held) (cut_is : mid ≡ with_bytes cut old) where
@@ -191,6 +212,13 @@ module _ (config : Config) (who : NodeId) (own : List Row) (old : Held) where
           ([], subst (λ bytes. Holds c w bytes kept []) (sym (e ∙ ap (λ (r : Held). r.bytes) cut_is)) (cut_holds c w kept tail k))
       frames_either c w kept tail (inr e) k = ([], subst (λ bytes. Holds c w bytes kept []) (sym e) (frames_hold c w kept tail k))
 
+      mid_bytes : mid.bytes ≡ cut
+      mid_bytes = ap (λ (r : Held). r.bytes) cut_is
+
+      frames_left : (bytes : List ℕ) → (bytes ≡ mid.bytes) ⊎ (bytes ≡ frames) → IsLeftOver config who old.bytes bytes
+      frames_left bytes (inl e) = inl (inr (untailed bytes (e ∙ mid_bytes)))
+      frames_left bytes (inr e) = inr (record { kept = h.kept; tail = drop len old.bytes; held = h.holds; bytes_are = e })
+
       mid_stored : IsStored mid.bytes h.holds.all []
       mid_stored =
           subst (λ (r : Held). IsStored r.bytes h.holds.all []) (sym cut_is) (cut_stored h.holds.all (drop len old.bytes) h.holds.stored)
@@ -199,19 +227,25 @@ module _ (config : Config) (who : NodeId) (own : List Row) (old : Held) where
       migrate_refused e rewrites = by e (rewrites h.holds.all mid_stored)
         where
           by : (e : Refusal) → IsReplaced frames mid new (Err e) → Loads config who own old new (Err e)
-          by Refusal.RecordFault put = record {
-            may = subst (λ (r : Held). IsTrue r.may_fail) cut_is put.may;
-            counted = subst (λ (r : Held). IsCounted r.faults new.faults) cut_is put.counted;
-            armed = put.armed ∙ ap (λ (r : Held). r.armed) cut_is;
-            may_fail = put.may_fail ∙ ap (λ (r : Held). r.may_fail) cut_is;
-            holds = λ c w kept tail k. frames_either c w kept tail put.bytes k;
-          }
-          by Refusal.NoMemory put = record {
-            armed = ap (λ (r : Held). r.armed) put ∙ ap (λ (r : Held). r.armed) cut_is;
-            faults = ap (λ (r : Held). r.faults) put ∙ ap (λ (r : Held). r.faults) cut_is;
-            may_fail = ap (λ (r : Held). r.may_fail) put ∙ ap (λ (r : Held). r.may_fail) cut_is;
-            holds = λ c w kept tail k. frames_either c w kept tail (inl (ap (λ (r : Held). r.bytes) put)) k;
-          }
+          by Refusal.RecordFault put = (
+            record {
+              may = subst (λ (r : Held). IsTrue r.may_fail) cut_is put.may;
+              counted = subst (λ (r : Held). IsCounted r.faults new.faults) cut_is put.counted;
+              armed = put.armed ∙ ap (λ (r : Held). r.armed) cut_is;
+              may_fail = put.may_fail ∙ ap (λ (r : Held). r.may_fail) cut_is;
+              holds = λ c w kept tail k. frames_either c w kept tail put.bytes k;
+            },
+            frames_left new.bytes put.bytes,
+          )
+          by Refusal.NoMemory put = (
+            record {
+              armed = ap (λ (r : Held). r.armed) put ∙ ap (λ (r : Held). r.armed) cut_is;
+              faults = ap (λ (r : Held). r.faults) put ∙ ap (λ (r : Held). r.faults) cut_is;
+              may_fail = ap (λ (r : Held). r.may_fail) put ∙ ap (λ (r : Held). r.may_fail) cut_is;
+              holds = λ c w kept tail k. frames_either c w kept tail (inl (ap (λ (r : Held). r.bytes) put)) k;
+            },
+            inr (untailed new.bytes (ap (λ (r : Held). r.bytes) put ∙ mid_bytes)),
+          )
           by other put = absurd put
 
       pub migrated : Rewrites mid new (Ok tt) → Loads config who own old new (Ok role)

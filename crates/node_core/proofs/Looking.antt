@@ -23,11 +23,11 @@ use Rattle.resource_manager.specs.Managers.{ManagerParts, view_answer}
 use Rattle.node_core.specs.declared.config.Sizes.{Sizes}
 use Rattle.node_core.specs.declared.role.Role.{Role}
 use Rattle.node_core.specs.Roles.{RoleStands}
-use Rattle.node_core.specs.Nodes.{AreSizes, Stands, NodeParts, NodeStands, IsSameNode, IsSound}
+use Rattle.node_core.specs.Nodes.{AreSizes, Keeps, Stands, NodeParts, NodeStands, IsSameNode, IsSound}
 use Rattle.node_core.specs.Opening.{IsBad, IsReadAs, Reads}
 use Rattle.node_core.specs.Viewing.{Peeks, SaysView, SaysTable, IsUnread, Views, Tables, ViewsAs, TablesAs}
-use Rattle.node_core.proofs.Loading.{read_faulted}
-use Rattle.node_core.proofs.Restarting.{same_role, keeps_as}
+use Rattle.node_core.proofs.Loading.{either_same}
+use Rattle.node_core.proofs.Restarting.{same_role}
 
 -- ---- what a role says
 
@@ -104,7 +104,7 @@ unpeeked config who own old new bytes other is same h = absurd h
 
 pub peek_failed : (config : Config) (who : NodeId) (own : List Row) (T : Type 0) (old new : Held) (e : RecordError)
     → HasRead {T = T} old new (Err e) → Peeks config who own old new (Err (refusal_of e))
-peek_failed config who own T old new Fault h = read_faulted T old new h
+peek_failed config who own T old new Fault h = h
 peek_failed config who own T old new RecordErrors.Memory h = h
 
 module _ (config : Config) (who : NodeId) (own : List Row) (m : NodeState) (old new : Held) (role : Option Role)
@@ -140,12 +140,12 @@ module _ (config : Config) (who : NodeId) (own : List Row) (m : NodeState) (old 
   pub unread : (X : Type 0) → role ≡ None → (e : Refusal) → Peeks config who own old new (Err e) → Unread X e
   unread X none Refusal.Damaged p = absurd (p.1 s.keeps.kept s.tail s.keeps.holds)
   unread X none Refusal.RecordFault p =
-      let h = p.holds config who s.keeps.kept s.tail s.keeps.holds in
       let t : Stands config who own old None m = subst (λ r. Stands config who own old r m) none s in
+      let same : old.bytes ≡ new.bytes = sym (either_same new.bytes old.bytes p.bytes) in
       record {
         stands = subst (λ r. Stands config who own new r m) (sym none) (record {
-          tail = h.0;
-          keeps = keeps_as config who own m old role s new.bytes h.0 h.1;
+          tail = s.tail;
+          keeps = subst (λ (bytes : List ℕ). Keeps config who own bytes m.facts s.tail) same s.keeps;
           played = s.played;
           role_is = t.role_is;
           tear_is = s.tear_is ∙ sym p.armed;

@@ -26,7 +26,8 @@ use Rattle.node_core.specs.Roles.{RoleStands}
 use Rattle.node_core.specs.Nodes.{Kept, MeansFrom, Holds, begun, AreSizes, HasRows, Keeps, SameState, Stands, NodeParts, NodeStands, IsSound}
 use Rattle.node_core.specs.Nodes.{IsSized, IsAmong}
 use Rattle.node_core.specs.Opening.{IsLoaded, Loads, cluster_of, IsOpened, IsUnopened, BefallsRestart, Restarts, RestartsAs, frames_of}
-use Rattle.node_core.proofs.Loading.{both_parts, same_holds, holds_again, frames_stored}
+use Rattle.node_core.specs.Configs.{is_among}
+use Rattle.node_core.proofs.Loading.{both_parts, same_holds, holds_again, frames_stored, stayed_whole}
 use Rattle.node_core.proofs.Starting.{begun_rows, manager_plays}
 
 module _ (config : Config) (who : NodeId) (own : List Row) (m : NodeState) (old : Held) (was : Option Role)
@@ -87,24 +88,24 @@ module _ (config : Config) (who : NodeId) (own : List Row) (m : NodeState) (old 
 
   pub unrestarted : (new : Held) (e : Refusal) → Loads config who own old new (Err e) → Restarts config who own m old new None (Err e)
   unrestarted new Refusal.Damaged l = absurd (l.1 s.keeps.kept s.tail s.keeps.holds)
-  unrestarted new Refusal.RecordFault l =
+  unrestarted new Refusal.RecordFault (l, left) =
       let h = l.holds config who s.keeps.kept s.tail s.keeps.holds in
       record {
         fault = RecordFails false;
         befalls = l;
         answer_is = refl;
         holds = l.holds config who;
-        written = tt;
+        written = left;
         stands = down_stands new h.0 h.1 l.armed;
       }
-  unrestarted new Refusal.NoMemory l =
+  unrestarted new Refusal.NoMemory (l, left) =
       let h = l.holds config who s.keeps.kept s.tail s.keeps.holds in
       record {
         fault = NoMemoryAt;
         befalls = l;
         answer_is = refl;
         holds = l.holds config who;
-        written = tt;
+        written = left;
         stands = down_stands new h.0 h.1 l.armed;
       }
   unrestarted new other l = absurd l
@@ -309,9 +310,16 @@ opened_empty config who old node empty is =
     subst (λ (k : Kept). NodeStands (cluster_of config who k.rows) node
     (record { facts = k.facts; up = true; tear = old.armed; memory = empty_memory })) none is.stands
 
-pub is_unopened : (config : Config) (who : NodeId) (own : List Row) (old new : Held) (e : Refusal) → Loads config who own old new (Err e)
-    → IsUnopened config who old new e
-is_unopened config who own old new Refusal.Damaged l = l
-is_unopened config who own old new Refusal.RecordFault l = l
-is_unopened config who own old new Refusal.NoMemory l = l
-is_unopened config who own old new other l = absurd l
+pub is_unopened : (config : Config) (who : NodeId) (own : List Row) (old new : Held) (e : Refusal) → is_among config who ≡ true
+    → Loads config who own old new (Err e) → IsUnopened config who old new e
+is_unopened config who own old new Refusal.Damaged among l = (among, l.0, l.1)
+is_unopened config who own old new Refusal.RecordFault among l = (among, l.0, l.1)
+is_unopened config who own old new Refusal.NoMemory among l = (among, l.0, l.1)
+is_unopened config who own old new other among l = absurd l
+
+-- where memory ran out before its record was read
+pub unopened_early : (config : Config) (who : NodeId) (held : Held) (e : Refusal) → is_among config who ≡ true → e ≡ Refusal.NoMemory
+    → IsUnopened config who held held e
+unopened_early config who held e among is =
+    let stayed = stayed_whole config who [] held held refl in
+    subst (IsUnopened config who held held) (sym is) (among, stayed.0, stayed.1)

@@ -49,6 +49,7 @@ module _ (bytes : List ℕ) (kept : List Fact) (frames : AreFrames bytes (of_fac
         all = of_facts kept;
         bytes_are = frames.bytes_are;
         stored = frames.stored;
+        shortened = (p.table.transactions, ap of_facts c.list);
         kept = record { rows = None; facts = kept };
         means = refl;
         fits = c.same.play;
@@ -74,6 +75,7 @@ module _ (bytes : List ℕ) (kept : List Fact) (frames : AreFrames bytes (of_fac
         all = of_facts kept;
         bytes_are = frames.bytes_are;
         stored = frames.stored;
+        shortened = (p.courses.begun, ap of_facts c.list);
         kept = record { rows = None; facts = kept };
         means = refl;
         fits = c.same.play;
@@ -104,6 +106,7 @@ module _ (bytes : List ℕ) (all : List Entry) (frames : AreFrames bytes all) wh
         all = all;
         bytes_are = frames.bytes_are;
         stored = frames.stored;
+        shortened = c.all_is;
         kept = record { rows = Some c.rows; facts = c.kept };
         means = c.compacted;
         fits = c.fits;
@@ -193,6 +196,7 @@ module _ (config : Config) (who : NodeId) (own : List Row) (m : NodeState) (old 
       may_fail = ap (λ (r : Held). r.may_fail) is;
     };
     answer_is = refl;
+    content = (next, h, is);
     stands = record {
       tail = [];
       keeps = subst (λ (r : Held). Keeps config who own r.bytes m.facts []) (sym is) (shorter_keeps next h);
@@ -208,6 +212,7 @@ module _ (config : Config) (who : NodeId) (own : List Row) (m : NodeState) (old 
     fault = RecordFails false;
     befalls = record { may = put.may; counted = put.counted; armed = put.armed; may_fail = put.may_fail };
     answer_is = refl;
+    content = (next, h, put);
     stands = down_either next h put.bytes put.armed;
   }
   uncompacted Refusal.NoMemory is = record {
@@ -215,6 +220,7 @@ module _ (config : Config) (who : NodeId) (own : List Row) (m : NodeState) (old 
     fault = NoMemoryAt;
     befalls = is;
     answer_is = refl;
+    content = is;
     stands = down_with old.bytes kept_before (ap (λ (r : Held). r.bytes) is) (ap (λ (r : Held). r.armed) is);
   }
   uncompacted other is = absurd is

@@ -1,24 +1,41 @@
 -- How a node's record is made shorter.
 use Rattle.std.specs.Prelude.{◌≡◌, ◌⊎◌, ℕ, IsTrue, true, false, List, [], map, Option, None, Result, Ok, Err}
 use Rattle.xid.specs.declared.refusals.Refusal.{Refusal}
+use Rattle.xid.specs.Transactions.{TxParts}
 use Rattle.stable_record.specs.declared.entry.EntryKind.{EntryKind as Entry}
+use Rattle.stable_record.specs.declared.entry.EntryKind.TheVariants as entries
 use Rattle.stable_record.specs.declared.fact.FactKind.{FactKind as Fact}
 use Rattle.stable_record.specs.Grammar.{IsStored}
 use Rattle.stable_record.specs.Held.{Held, IsCounted, HasFailed, with_bytes}
 use Rattle.protocol.specs.declared.nodes.NodeId.{NodeId}
+use Rattle.protocol.specs.declared.nodes.NodeId.TheVariants.{A, L, R}
 use Rattle.protocol.specs.declared.rows.Row.{Row}
 use Rattle.protocol.specs.Effects.{Config}
+use Rattle.protocol.specs.Facts.{slot, last_ballot}
 use Rattle.protocol.specs.Nodes.{NodeState, Memory, Fault, NoFault, NoMemoryBefore, NoMemoryAt, RecordFails, all_play, compact_outcome}
+use Rattle.protocol.specs.Nodes.{first_rows}
+use Rattle.protocol.specs.Tables.{table}
+use Rattle.acceptor.specs.Compaction as of_acceptor
+use Rattle.leader.specs.Compaction as of_leader
+use Rattle.resource_manager.specs.Compacted.{shorter_entries}
 use Rattle.node_core.specs.declared.role.Role.{Role}
 use Rattle.node_core.specs.Roles.{RoleStands}
 use Rattle.node_core.specs.Nodes.{Kept, MeansFrom, begun, SameState, NodeParts, Stands, IsSameNode}
 use Rattle.node_core.specs.Opening.{frames_of, restart_answer}
 
--- bytes are frames of entries of today, which play and say the same as facts
+-- entries are the shorter record of a node's facts: an acceptor's slots, a leader's greatest ballots, or the table and outcomes of a
+-- resource manager
+abbrev pub AreShortened : Config → NodeId → List Fact → List Entry → Type 0
+AreShortened config (A a) facts all = (txs : List TxParts) × (all ≡ map entries.Fact (of_acceptor.compacted txs (slot facts)))
+AreShortened config (L l) facts all = (txs : List TxParts) × (all ≡ map entries.Fact (of_leader.compacted txs (last_ballot facts)))
+AreShortened config (R rm) facts all = all ≡ shorter_entries (table (first_rows config rm) facts) facts
+
+-- bytes are frames of entries of today, which are the shorter record of facts, play, and say the same
 pub record IsShorter (config : Config) (who : NodeId) (facts : List Fact) (bytes : List ℕ) : Type 0 where
   pub all : List Entry
   pub bytes_are : bytes ≡ frames_of all
   pub stored : IsStored bytes all []
+  pub shortened : AreShortened config who facts all
   pub kept : Kept
   pub means : MeansFrom who all kept.rows kept.facts
   pub fits : all_play config who [] kept.facts ≡ true
@@ -70,13 +87,15 @@ BefallsCompact old new NoMemoryBefore = ⊥
 BefallsCompact old new NoMemoryAt = new ≡ old
 BefallsCompact old new (RecordFails whole) = HasCounted old new
 
--- a node that was up was compacted as the machine's is, under a fault that is true
+-- a node that was up was compacted as the machine's is, under a fault that is true; its record became the shorter one of its facts, or
+-- stayed
 pub record IsCompactedUp (config : Config) (who : NodeId) (own : List Row) (m : NodeState) (old new : Held) (role : Option Role)
     (result : Result (Unit {0}) Refusal) : Type 0 where
   pub up : m.up ≡ true
   pub fault : Fault
   pub befalls : BefallsCompact old new fault
   pub answer_is : restart_answer result ≡ (compact_outcome m fault).answer
+  pub content : IsRecompacted config who m.facts old new result
   pub stands : Stands config who own new role (compact_outcome m fault).node
 
 -- a node that was down isn't compacted, and stays as it was

@@ -226,6 +226,28 @@ Reads config who own bytes (Err Refusal.Damaged) = IsBad config who bytes
 Reads config who own bytes (Err Refusal.NoMemory) = Unit {0}
 Reads config who own bytes (Err other) = ⊥
 
+-- bytes are others, which hold entries that play, without the tail behind these
+pub record IsUntailed (config : Config) (who : NodeId) (old new : List ℕ) : Type 0 where
+  pub kept : Kept
+  pub tail : List ℕ
+  pub held : Holds config who old kept tail
+  pub bytes_are : old ≡ new ++ tail
+
+-- bytes are the frames, as they are written today, of the entries that others hold, which play
+pub record IsRenewed (config : Config) (who : NodeId) (old new : List ℕ) : Type 0 where
+  pub kept : Kept
+  pub tail : List ℕ
+  pub held : Holds config who old kept tail
+  pub bytes_are : new ≡ frames_of held.all
+
+-- bytes are as they were, or have lost their tail
+abbrev pub IsTrimmed : Config → NodeId → (old new : List ℕ) → Type 0
+IsTrimmed config who old new = (new ≡ old) ⊎ IsUntailed config who old new
+
+-- what is left of a record's content where it failed while it was read: what it was, that without its tail, or the frames of today
+abbrev pub IsLeftOver : Config → NodeId → (old new : List ℕ) → Type 0
+IsLeftOver config who old new = IsTrimmed config who old new ⊎ IsRenewed config who old new
+
 -- no call of a record failed: it holds what it held, and its tail or none
 pub record HasStayed (old new : Held) : Type 0 where
   pub armed : new.armed ≡ old.armed
@@ -256,8 +278,8 @@ pub record HasFaulted (old new : Held) : Type 0 where
 abbrev pub Loads : Config → NodeId → (own : List Row) → (old new : Held) → Result Role Refusal → Type 0
 Loads config who own old new (Ok role) = IsLoaded config who own old new role
 Loads config who own old new (Err Refusal.Damaged) = (new ≡ old) × IsBad config who old.bytes
-Loads config who own old new (Err Refusal.RecordFault) = HasFaulted old new
-Loads config who own old new (Err Refusal.NoMemory) = HasStayed old new
+Loads config who own old new (Err Refusal.RecordFault) = HasFaulted old new × IsLeftOver config who old.bytes new.bytes
+Loads config who own old new (Err Refusal.NoMemory) = HasStayed old new × IsTrimmed config who old.bytes new.bytes
 Loads config who own old new (Err other) = ⊥
 
 -- ---- opened and restarted
@@ -280,12 +302,13 @@ pub record IsOpened (config : Config) (who : NodeId) (old : Held) (node : NodePa
   pub stands : NodeStands (cluster_of config who kept.rows) node
       (record { facts = kept.facts; up = true; tear = old.armed; memory = empty_memory })
 
--- why a node wasn't opened, and what is left of its record
+-- why a node wasn't opened, and what is left of its record; it is one of the cluster but where there is no such node
 abbrev pub IsUnopened : Config → NodeId → (old new : Held) → Refusal → Type 0
 IsUnopened config who old new Refusal.NoSuch = (new ≡ old) × (is_among config who ≡ false)
-IsUnopened config who old new Refusal.Damaged = (new ≡ old) × IsBad config who old.bytes
-IsUnopened config who old new Refusal.RecordFault = HasFaulted old new
-IsUnopened config who old new Refusal.NoMemory = HasStayed old new
+IsUnopened config who old new Refusal.Damaged = (is_among config who ≡ true) × (new ≡ old) × IsBad config who old.bytes
+IsUnopened config who old new Refusal.RecordFault =
+    (is_among config who ≡ true) × HasFaulted old new × IsLeftOver config who old.bytes new.bytes
+IsUnopened config who old new Refusal.NoMemory = (is_among config who ≡ true) × HasStayed old new × IsTrimmed config who old.bytes new.bytes
 IsUnopened config who old new other = ⊥
 
 -- a fault of a restart is true to what befell the record
@@ -300,11 +323,13 @@ abbrev pub restart_answer : Result (Unit {0}) Refusal → Answer
 restart_answer (Ok done) = Done
 restart_answer (Err refusal) = Refused refusal
 
--- where a restart is answered with no refusal, a record is the frames of what it held, of version 2
+-- where a restart is answered with no refusal, a record is the frames of what it held, of version 2; else what an opening leaves then
 abbrev pub IsWritten : Config → NodeId → (old new : Held) → Result (Unit {0}) Refusal → Type 0
 IsWritten config who old new (Ok done) =
     (kept : Kept) (tail : List ℕ) → (held : Holds config who old.bytes kept tail) → new.bytes ≡ frames_of held.all
-IsWritten config who old new (Err refusal) = Unit {0}
+IsWritten config who old new (Err Refusal.RecordFault) = IsLeftOver config who old.bytes new.bytes
+IsWritten config who old new (Err Refusal.NoMemory) = IsTrimmed config who old.bytes new.bytes
+IsWritten config who old new (Err other) = ⊥
 
 -- a node restarted as the machine's does, under a fault that is true; its record holds what it held
 pub record Restarts (config : Config) (who : NodeId) (own : List Row) (m : NodeState) (old new : Held) (role : Option Role)

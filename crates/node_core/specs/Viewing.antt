@@ -3,7 +3,7 @@ use Rattle.std.specs.Prelude.{◌≡◌, ◌⊎◌, ℕ, List, [], Option, None,
 use Rattle.xid.specs.Transactions.{TxParts}
 use Rattle.xid.specs.declared.refusals.Refusal.{Refusal}
 use Rattle.stable_record.specs.declared.fact.FactKind.{FactKind as Fact}
-use Rattle.stable_record.specs.Held.{Held}
+use Rattle.stable_record.specs.Held.{Held, HasFailed}
 use Rattle.protocol.specs.declared.nodes.NodeId.{NodeId}
 use Rattle.protocol.specs.declared.nodes.NodeId.TheVariants.{R}
 use Rattle.protocol.specs.declared.rows.Row.{Row}
@@ -16,7 +16,7 @@ use Rattle.resource_manager.specs.Managers.{view_answer}
 use Rattle.node_core.specs.declared.role.Role.{Role}
 use Rattle.node_core.specs.Roles.{RoleStands}
 use Rattle.node_core.specs.Nodes.{Kept, Holds, begun, NodeParts, IsSameNode, Stands}
-use Rattle.node_core.specs.Opening.{HasFaulted, IsBad}
+use Rattle.node_core.specs.Opening.{IsBad}
 
 -- a record was read and played, and is as it was
 pub record IsPeeked (config : Config) (who : NodeId) (own : List Row) (old new : Held) (role : Role) : Type 0 where
@@ -26,11 +26,11 @@ pub record IsPeeked (config : Config) (who : NodeId) (own : List Row) (old new :
   pub same : new ≡ old
   pub stands : RoleStands (begun config who own kept.rows) who role kept.facts empty_memory
 
--- what reading a record leaves that is to stay as it is
+-- what reading a record leaves that is to stay as it is: where it fails, its content stays too
 abbrev pub Peeks : Config → NodeId → (own : List Row) → (old new : Held) → Result Role Refusal → Type 0
 Peeks config who own old new (Ok role) = IsPeeked config who own old new role
 Peeks config who own old new (Err Refusal.Damaged) = (new ≡ old) × IsBad config who old.bytes
-Peeks config who own old new (Err Refusal.RecordFault) = HasFaulted old new
+Peeks config who own old new (Err Refusal.RecordFault) = HasFailed old.bytes old new
 Peeks config who own old new (Err Refusal.NoMemory) = new ≡ old
 Peeks config who own old new (Err other) = ⊥
 
@@ -49,10 +49,11 @@ abbrev pub SaysTable : Config → NodeId → List Fact → Result (List Row) Ref
 SaysTable config (R rm) facts result = SaysRows config rm facts result
 SaysTable config who facts result = result ≡ Err Refusal.NoSuch
 
--- the record of a node that is down couldn't be read: it failed, or memory ran out
+-- the record of a node that is down couldn't be read: it failed, which it counted, or memory ran out; its content stays
 abbrev pub IsUnread : {X : Type 0} → (old new : Held) → Option Role → Result X Refusal → Type 0
 IsUnread old new role result =
-    (role ≡ None) × (((result ≡ Err Refusal.RecordFault) × HasFaulted old new) ⊎ ((result ≡ Err Refusal.NoMemory) × (new ≡ old)))
+    (role ≡ None) × (((result ≡ Err Refusal.RecordFault) × HasFailed old.bytes old new)
+    ⊎ ((result ≡ Err Refusal.NoMemory) × (new ≡ old)))
 
 -- a node was asked where it stands in a transaction: it stays what it is
 pub record Views (config : Config) (who : NodeId) (own : List Row) (m : NodeState) (old new : Held) (role : Option Role) (tx : TxParts)

@@ -67,9 +67,9 @@ impl<R: Record> Model for Node<R> {
 impl<R: Record> Node<R> {
     /// The node over a record, with what stands there: its whole frames, one after the other; what follows them is cut, and where a frame
     /// of version 1 stands, all are written anew, in version 2. It is up, and its record is these frames. Where the record begins with
-    /// a snapshot, the table begins with its rows. Refused, with the record: no such node in the cluster (`NoSuch`); bytes that are no
-    /// frames of entries that play, and a tail (`Damaged`): the record is as it was; it failed (`RecordFault`), or `NoMemory`: it says
-    /// what it said, and may have lost its tail.
+    /// a snapshot, the table begins with its rows. Refused, with the record: no such node in the cluster (`NoSuch`), or bytes that are
+    /// no frames of entries that play, and a tail (`Damaged`): the record is as it was; `NoMemory`: its bytes are what they were, or
+    /// have lost their tail; it failed (`RecordFault`), which it counted: its bytes are one of these two, or its frames in version 2.
     pub fn open(
         alloc: Global,
         config: &Config,
@@ -104,7 +104,7 @@ impl<R: Record> Node<R> {
 
     /// Reads the record again, whether the node is up or down, and goes on from there: what was in memory is lost, a tail is cut, and
     /// frames of version 1 are written anew, as by `open`. Refused: the record failed (`RecordFault`), or `NoMemory`; then the node is
-    /// down.
+    /// down, and its record's bytes are what `open` leaves where it is refused so.
     pub fn restart(&mut self) -> Result<(), Refusal>
         ensures { (config : ConfigParts) (m : NodeState) → NodeStands config self.old m → RestartsAs config m self.old self.new result }
     {
@@ -118,9 +118,10 @@ impl<R: Record> Node<R> {
         )
     }
 
-    /// Makes its record shorter: by one replacement it becomes frames that play to the same. An armed tear stays armed. Refused: the node
-    /// is down (`Down`), and nothing changes; the record failed (`RecordFault`), and is the one or the other, or `NoMemory`: then the
-    /// node is down.
+    /// Makes its record shorter: by one replacement its bytes become frames that play to the same: of an acceptor's slots, of a leader's
+    /// greatest ballots, or of a resource manager's table, and each transaction's vote or outcome. An armed tear stays armed. Refused:
+    /// the node is down (`Down`), and nothing changes; the record failed (`RecordFault`), and its bytes are the one or the other; or
+    /// `NoMemory`, and it is as it was; after the latter two the node is down.
     pub fn compact(&mut self) -> Result<(), Refusal>
         ensures { (config : ConfigParts) (m : NodeState) → NodeStands config self.old m → CompactsAs config m self.old self.new result }
     {
@@ -129,7 +130,8 @@ impl<R: Record> Node<R> {
 
     /// Where the resource manager stands in a transaction, by the whole frames of its record, whether it is up or down. Refused: it is
     /// no resource manager (`NoSuch`); the transaction names a resource manager outside the cluster, or doesn't name this one
-    /// (`BadTx`); where it is down, its record fails (`RecordFault`), or `NoMemory`. The node stays as it is.
+    /// (`BadTx`); where it is down, its record fails (`RecordFault`), which it counts, or `NoMemory`. The node stays as it is, and so do
+    /// its record's bytes.
     pub fn view(&mut self, tx: &Tx) -> Result<View, Refusal>
         ensures { (config : ConfigParts) (m : NodeState) → NodeStands config self.old m → ViewsAs config m self.old self.new tx.now result }
     {
@@ -145,8 +147,8 @@ impl<R: Record> Node<R> {
     }
 
     /// The rows of the resource manager's table, their keys ascending, by the whole frames of its record, whether it is up or down.
-    /// Refused: it is no resource manager (`NoSuch`); `NoMemory`; where it is down, its record fails (`RecordFault`). The node stays as
-    /// it is.
+    /// Refused: it is no resource manager (`NoSuch`); `NoMemory`; where it is down, its record fails (`RecordFault`), which it counts.
+    /// The node stays as it is, and so do its record's bytes.
     pub fn table(&mut self) -> Result<Sequence<Row>, Refusal>
         ensures { (config : ConfigParts) (m : NodeState) → NodeStands config self.old m → TablesAs config m self.old self.new result }
     {

@@ -19,7 +19,7 @@ use std::alloc::Global;
 use xid::{Refusal, Sequence, Tx};
 
 /// Reads a record and plays its entries, and leaves it as it is. Refused: its bytes are no frames of entries that play, and a tail
-/// (`Damaged`); it failed (`RecordFault`); `NoMemory`.
+/// (`Damaged`); it failed (`RecordFault`), and then its bytes are what they were; `NoMemory`.
 fn peek<R: Record>(
     alloc: Global,
     device: &mut R,

@@ -3,7 +3,7 @@ use Rattle.std.specs.Prelude.{Ok}
 use Rattle.branch_table.specs.Tables.{are_rows}
 use Rattle.node_core.specs.Nodes.{HasRows}
 use Rattle.node_core.proofs.Sizing.{sized_of, among_of}
-use Rattle.node_core.proofs.Restarting.{sound_opened, is_opened, is_unopened, loads_over}
+use Rattle.node_core.proofs.Restarting.{sound_opened, is_opened, is_unopened, unopened_early, loads_over}
 use Rattle.node_core.proofs.node.Node.open.Goals as goal
 
 pub invariant_of-result : goal.invariant_of-result
@@ -32,4 +32,9 @@ returns-in-Ok-load-clause-ok g c =
 pub returns-in-Err-load-clause-err : goal.returns-in-Err-load-clause-err
 returns-in-Err-load-clause-err g c =
     is_unopened c.args.config.now c.args.who c.deref.result.now (g.R.Record.held c.args.device) (g.R.Record.held c.load.new.device)
-    c.in-Err-load.refusal (c.in-Err-load.ensures c.args.config.now c.sizes-sizes.ensures.sizes)
+    c.in-Err-load.refusal (sym c.if-not-has.ensures) (c.in-Err-load.ensures c.args.config.now c.sizes-sizes.ensures.sizes)
+
+pub returns-in-Err-clause-err : goal.returns-in-Err-clause-err
+returns-in-Err-clause-err g c =
+    unopened_early c.args.config.now c.args.who (g.R.Record.held c.args.device) c.in-Err.refusal (sym c.if-not-has.ensures)
+    c.in-Err.ensures.err
