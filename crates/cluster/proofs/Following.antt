@@ -15,10 +15,9 @@ use Rattle.protocol.specs.Effects.{Config}
 use Rattle.protocol.specs.Nodes.{NodeState, Input, RecordFails}
 use Rattle.protocol.specs.Worlds.{World, place, node_at, world_step}
 use Rattle.node_core.specs.Nodes.{NodeParts, IsSameNode, Befalls, fact_to_store}
-use Rattle.node_core.specs.Compacting.{BefallsCompact}
 use Rattle.node_core.specs.Storing.{fact_frame}
 use Rattle.cluster.specs.Clusters.{ClusterParts, ClusterStands, IsSameCluster, OccursAs, BefallsAt, BefallsReached, BefallsRestarted}
-use Rattle.cluster.specs.Clusters.{BefallsCompacted, BefallsIn, IsMetIf, handed}
+use Rattle.cluster.specs.Clusters.{BefallsCompacted, BefallsIn, BefallsShorter, IsMetIf, handed}
 use Rattle.cluster.specs.Opening.{NoneFails, IsOver, IsMade}
 use Rattle.cluster.specs.Runs.{HaveOccurred, FollowMachine, IsFirm}
 use Rattle.cluster.proofs.Standing.{place_within}
@@ -111,14 +110,14 @@ module _ (config : Config) (world : World) (old new : ClusterParts) (stands : Cl
     where
       if_up : (up : Bool)
           → IsMetIf up ((at : ℕ) (d : NodeParts) → place config who ≡ Some at
-          → BefallsCompact (get_or old.nodes at d).held (get_or new.nodes at d).held (RecordFails whole)) (RecordFails whole)
+          → BefallsShorter config who m.facts (get_or old.nodes at d).held (get_or new.nodes at d).held (RecordFails whole)) (RecordFails whole)
           → ⊥
       if_up false b = absurd (cc (b))
       if_up true b =
           let p = found_place world.nodes (place config who) m e in
           let lt : p.0 < length old.nodes = within who p.0 p.1 in
           let d : NodeParts = some_node p.0 old.nodes lt in
-          may_not (get_or old.nodes p.0 d).held.may_fail (b p.0 d p.1).may (firm p.0 d lt)
+          may_not (get_or old.nodes p.0 d).held.may_fail (b p.0 d p.1).0.may (firm p.0 d lt)
 
   handed_firm : (h : Option (NodeId × Input)) → BefallsReached config world old.nodes new.nodes h (RecordFails whole) → ⊥
   handed_firm None b = absurd (cc (b))

@@ -1,7 +1,7 @@
 -- A node is torn, restarted or compacted: what comes of it is what comes of it in the machine.
 use Rattle.std.proofs.Common.{◌≡◌, ◌∙◌, inl, inr, ℕ, suc, Bool, true, false, if◌then◌else◌, List, [], ◌++◌, length, get_or, set}
 use Rattle.std.proofs.Common.{Option, Some, None, refl, sym, ap, subst, arith}
-use Rattle.std.specs.Prelude.{slice_get, Result}
+use Rattle.std.specs.Prelude.{slice_get, Result, Ok, Err}
 use Rattle.std.specs.List.{flat_map}
 use Rattle.std.specs.Option.{option_and_then}
 use Rattle.std.proofs.lemmas.Bool.{cond_both}
@@ -9,23 +9,24 @@ use Rattle.std.proofs.lemmas.List.{append-nil}
 use Rattle.std.proofs.lemmas.Option.{slice_get_past}
 use Rattle.xid.specs.declared.refusals.Refusal.{Refusal}
 use Rattle.stable_record.specs.declared.fact.FactKind.{FactKind as Fact}
+use Rattle.stable_record.specs.Held.{Held}
 use Rattle.protocol.specs.declared.answers.Answer.TheVariants.{Done, Refused}
 use Rattle.protocol.specs.declared.events.Event.TheVariants.{Tear, Restart, Compact}
 use Rattle.protocol.specs.declared.nodes.NodeId.{NodeId}
 use Rattle.protocol.specs.declared.nodes.NodeId.TheVariants.{A, L, R}
 use Rattle.protocol.specs.Effects.{Config}
-use Rattle.protocol.specs.Nodes.{NodeState, Fault, Outcome, NoFault, NoMemoryAt, RecordFails, all_play, restart_outcome}
+use Rattle.protocol.specs.Nodes.{NodeState, Fault, Outcome, NoFault, NoMemoryBefore, NoMemoryAt, RecordFails, all_play, restart_outcome}
 use Rattle.protocol.specs.Nodes.{compact_outcome}
 use Rattle.protocol.specs.Worlds.{World, Datagram, StepResult, place, node_at, set_node, datagrams_of, numbered, change_of, if_found}
 use Rattle.protocol.specs.Worlds.{answer_result, outcome_result}
 use Rattle.node_core.specs.declared.config.Sizes.{Sizes}
 use Rattle.node_core.specs.Nodes.{NodeParts, NodeStands, Stands, IsSameNode}
-use Rattle.node_core.specs.Compacting.{BefallsCompact, IsCompactedUp, IsCompactedDown, CompactsAs}
+use Rattle.node_core.specs.Compacting.{BefallsCompact, IsRecompacted, IsCompactedUp, IsCompactedDown, CompactsAs}
 use Rattle.node_core.specs.Opening.{BefallsRestart, Restarts, RestartsAs, restart_answer}
 use Rattle.network.specs.Networks.{NetworkParts, StandsFor}
 use Rattle.cluster.specs.declared.handing.Came.{Came}
 use Rattle.cluster.specs.Clusters.{ClusterParts, sized, cluster_of, ClusterStands, ComesTo, BefallsRestarted, BefallsCompacted, IsMetIf}
-use Rattle.cluster.specs.Clusters.{StayBut, OccursAs, step_by}
+use Rattle.cluster.specs.Clusters.{StayBut, OccursAs, step_by, LeavesShorter, BefallsShorter}
 use Rattle.cluster.proofs.Standing.{there, placed, found, named, node_put, node_kept, at_place, same_but, others_stay, stands_still}
 use Rattle.cluster.proofs.Occurring.{occurs, no_fault, comes_quiet}
 
@@ -52,6 +53,22 @@ compact_silent : (m : NodeState) (fault : Fault) → (compact_outcome m fault).s
 compact_silent m NoMemoryAt = refl
 compact_silent m (RecordFails whole) = refl
 compact_silent m fault = refl
+
+-- what a compaction leaves of a record, by its fault
+leaves_shorter : (config : Config) (who : NodeId) (m : NodeState) (old new : Held) (fault : Fault) (result : Result (Unit {0}) Refusal)
+    → BefallsCompact old new fault → restart_answer result ≡ (compact_outcome m fault).answer → IsRecompacted config who m.facts old new result
+    → LeavesShorter config who m.facts old new fault
+leaves_shorter config who m old new NoFault (Ok done) befalls answer content = content
+leaves_shorter config who m old new NoFault (Err e) befalls answer content = absurd (cc (answer))
+leaves_shorter config who m old new NoMemoryBefore result befalls answer content = absurd befalls
+leaves_shorter config who m old new NoMemoryAt (Ok done) befalls answer content = absurd (cc (answer))
+leaves_shorter config who m old new NoMemoryAt (Err e) befalls answer content =
+    let wanted : e ≡ Refusal.NoMemory = cc (answer) in
+    subst (λ (r : Refusal). IsRecompacted config who m.facts old new (Err r)) wanted content
+leaves_shorter config who m old new (RecordFails whole) (Ok done) befalls answer content = absurd (cc (answer))
+leaves_shorter config who m old new (RecordFails whole) (Err e) befalls answer content =
+    let failed : e ≡ Refusal.RecordFault = cc (answer) in
+    subst (λ (r : Refusal). IsRecompacted config who m.facts old new (Err r)) failed content
 
 -- the same facts change no view
 no_change : (who : NodeId) (facts : List Fact) → change_of who facts facts ≡ None
@@ -192,7 +209,7 @@ module _ (config : Config) (world : World) (sizes : Sizes) (nodes : List NodePar
             let m_is : m ≡ x = cc (e) in
             let off : x.up ≡ false = ap (λ (n : NodeState). n.up) (sym m_is) ∙ down.down in
             subst (λ (b : Bool). IsMetIf b ((p : ℕ) (d : NodeParts) → place config who ≡ Some p
-            → BefallsCompact (get_or nodes p d).held (get_or (set nodes at new) p d).held NoFault) NoFault) (sym off) refl
+            → BefallsShorter config who x.facts (get_or nodes p d).held (get_or (set nodes at new) p d).held NoFault) NoFault) (sym off) refl
 
     -- of a node that is up
     up_made : IsCompactedUp config node.who node.rows m node.held new.held new.role result → (came : Came)
@@ -228,12 +245,15 @@ module _ (config : Config) (world : World) (sizes : Sizes) (nodes : List NodePar
         befallen_up None e = absurd (cc (e))
         befallen_up (Some x) e =
             let m_is : m ≡ x = cc (e) in
-            let on : x.up ≡ true = ap (λ (n : NodeState). n.up) (sym m_is) ∙ up.up in
-            subst (λ (b : Bool). IsMetIf b ((p : ℕ) (d : NodeParts) → place config who ≡ Some p
-            → BefallsCompact (get_or nodes p d).held (get_or (set nodes at new) p d).held up.fault) up.fault) (sym on)
+            let befallen : BefallsShorter config who m.facts node.held new.held up.fault =
+            (up.befalls, leaves_shorter config who m node.held new.held up.fault result up.befalls up.answer_is up.content) in
+            subst (λ (n : NodeState). IsMetIf n.up ((p : ℕ) (d : NodeParts) → place config who ≡ Some p
+            → BefallsShorter config who n.facts (get_or nodes p d).held (get_or (set nodes at new) p d).held up.fault) up.fault) m_is
+            (subst (λ (b : Bool). IsMetIf b ((p : ℕ) (d : NodeParts) → place config who ≡ Some p
+            → BefallsShorter config who m.facts (get_or nodes p d).held (get_or (set nodes at new) p d).held up.fault) up.fault) (sym up.up)
             (at_place config world sizes nodes network s who at (sym is)
-            (λ (before after : NodeParts). BefallsCompact before.held after.held up.fault) node new
-            (subst (λ (n : NodeParts). BefallsCompact n.held new.held up.fault) read up.befalls))
+            (λ (before after : NodeParts). BefallsShorter config who m.facts before.held after.held up.fault) node new
+            (subst (λ (n : NodeParts). BefallsShorter config who m.facts n.held new.held up.fault) read befallen)))
 
     pub compacted_made : (came : Came) → came.answer ≡ restart_answer result → came.now ≡ None → came.sent.items ≡ []
         → OccursAs config world (Compact who) (cluster_of sizes nodes network) after_it (step_by (Compact who) came)

@@ -1,7 +1,11 @@
 -- A cluster: which world of the machine it stands for, and what an event makes of both.
 use Rattle.std.specs.Prelude.{◌≡◌, ◌≢◌, ℕ, suc, ◌+◌, Bool, true, false, nat_lt, if◌then◌else◌, List, [], length, slice_index_or, Option, Some, None}
+use Rattle.std.specs.Prelude.{Ok, Err}
 use Rattle.std.specs.List.{AllZip}
 use Rattle.std.specs.Option.{option_map, option_and_then}
+use Rattle.xid.specs.declared.refusals.Refusal.{Refusal}
+use Rattle.stable_record.specs.declared.fact.FactKind.{FactKind as Fact}
+use Rattle.stable_record.specs.Held.{Held}
 use Rattle.wire.specs.Grammar.{spelling}
 use Rattle.wire.specs.Decoding.{spells_message}
 use Rattle.protocol.specs.declared.events.Event.{Event}
@@ -9,13 +13,13 @@ use Rattle.protocol.specs.declared.events.Event.TheVariants.{Ask, Deliver, Cut, 
 use Rattle.protocol.specs.declared.events.Step.{Step}
 use Rattle.protocol.specs.declared.nodes.NodeId.{NodeId}
 use Rattle.protocol.specs.Effects.{Config}
-use Rattle.protocol.specs.Nodes.{NodeState, Input, Asked, Received, ReceivedNoise, Fault, NoFault, NoMemoryBefore}
+use Rattle.protocol.specs.Nodes.{NodeState, Input, Asked, Received, ReceivedNoise, Fault, NoFault, NoMemoryBefore, NoMemoryAt, RecordFails}
 use Rattle.protocol.specs.Worlds.{World, Datagram, StepResult, place, node_at, at_node, datagram_at, numbered, step_of}
 use Rattle.protocol.specs.Worlds.{world_step}
 use Rattle.safety.specs.Runs.{IsReachable}
 use Rattle.node_core.specs.declared.config.Sizes.{Sizes}
 use Rattle.node_core.specs.Nodes.{NodeParts, NodeStands, AreSizes, IsSameNode, Befalls, fact_to_store}
-use Rattle.node_core.specs.Compacting.{BefallsCompact}
+use Rattle.node_core.specs.Compacting.{BefallsCompact, IsRecompacted}
 use Rattle.node_core.specs.Opening.{BefallsRestart}
 use Rattle.network.specs.Networks.{NetworkParts, StandsFor}
 use Rattle.cluster.specs.declared.handing.Came.{Came}
@@ -119,12 +123,24 @@ abbrev pub IsMetIf : (up : Bool) → Type 0 → Fault → Type 0
 IsMetIf true Befallen fault = Befallen
 IsMetIf false Befallen fault = fault ≡ NoFault
 
+-- what a compaction leaves of the record of a node with these facts: the frames of the shorter one; where the record failed, those or what
+-- stood there
+abbrev pub LeavesShorter : Config → NodeId → List Fact → (old new : Held) → Fault → Type 0
+LeavesShorter config who facts old new NoFault = IsRecompacted config who facts old new (Ok tt)
+LeavesShorter config who facts old new NoMemoryBefore = ⊥
+LeavesShorter config who facts old new NoMemoryAt = IsRecompacted config who facts old new (Err Refusal.NoMemory)
+LeavesShorter config who facts old new (RecordFails whole) = IsRecompacted config who facts old new (Err Refusal.RecordFault)
+
+-- a fault is true to what befell the record of a node with these facts that was compacted
+abbrev pub BefallsShorter : Config → NodeId → List Fact → (old new : Held) → Fault → Type 0
+BefallsShorter config who facts old new fault = BefallsCompact old new fault × LeavesShorter config who facts old new fault
+
 -- a fault is true to what befell the record of a node that was compacted; where it is down, or isn't there, there was no fault
 abbrev pub BefallsCompacted : Config → (old new : List NodeParts) → NodeId → Option NodeState → Fault → Type 0
 BefallsCompacted config old new who None fault = fault ≡ NoFault
 BefallsCompacted config old new who (Some m) fault =
     IsMetIf m.up ((at : ℕ) (d : NodeParts) → place config who ≡ Some at
-    → BefallsCompact (slice_index_or old at d).held (slice_index_or new at d).held fault) fault
+    → BefallsShorter config who m.facts (slice_index_or old at d).held (slice_index_or new at d).held fault) fault
 
 -- a fault is true to what befell the node that an event reached
 abbrev pub BefallsEvent : Config → World → Event → (old new : List NodeParts) → Fault → Type 0
