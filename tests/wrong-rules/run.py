@@ -1,7 +1,7 @@
 """Tries each wrong rule NAME.rule on a copy of crates/protocol/specs.
 
 A rule has a line 'wrong:', what is wrong in a sentence; and edits: 'file:' a file of crates/protocol, then pairs of 'old:', a text that
-stands once in it, and 'new:', in whose place several 'new:' lines are several lines. Beside it NAME.run is a run that goes wrong:
+stands once in it, and 'new:'; several 'old:' or 'new:' lines are a text of several lines. Beside it NAME.run is a run that goes wrong:
 `goes_wrong`, which the prover computes, ends in what must never be. A rule that has none has a line 'note:', why. NAME.law is a run that
 breaks a law of one serial order: its `goes_wrong` proves that under the rule the clause of crates/history/src/serial.rt is false.
 
@@ -11,6 +11,11 @@ crates/protocol or of crates/safety must be refused. The last line is 'N passed,
 
 A rule with a line 'crate: history' is an edit of crates/history, which looks back wrongly: its run must be proved beside the proofs of that
 crate, and of these a lemma must be refused that is no worked run.
+
+A rule with a line 'judge: progress' is safe, but a transaction may wait for ever: crates/safety must be proved under it, and
+crates/progress must be refused. Where the words of a proof of safety don't fit the rule, 'proof:' is a file below crates, and the pairs
+after it are words that do. Its NAME.law stands beside the proofs of crates/progress, and proves that a clause of
+crates/progress/src/headline.rt is false.
 """
 import os
 import re
@@ -25,7 +30,7 @@ from queue import Queue
 
 HERE = os.path.dirname(os.path.realpath(__file__))
 ROOT = os.path.dirname(os.path.dirname(HERE))
-WORDS = ("RunWords", "BackWords", "LawWords")
+WORDS = ("RunWords", "BackWords", "LawWords", "StuckWords", "VainWords", "SilentWords")
 DEFINITIONS = re.compile(r"Rattle\.(history|branch_table)\.specs\.(\w+)")
 RT = os.environ.get("RT", "rt").split()
 JOBS = int(os.environ.get("JOBS", "2"))
@@ -73,9 +78,9 @@ def run_of(name, kind="run"):
     return read(f"{HERE}/{name}.{kind}")
 
 
-def runs_of(name):
+def runs_of(name, kinds=("run", "law")):
     """The runs of a rule, texts by module."""
-    return {module_of(name) + kind.capitalize(): run_of(name, kind) for kind in ("run", "law") if os.path.exists(f"{HERE}/{name}.{kind}")}
+    return {module_of(name) + kind.capitalize(): run_of(name, kind) for kind in kinds if os.path.exists(f"{HERE}/{name}.{kind}")}
 
 
 def law_of(name):
@@ -85,13 +90,17 @@ def law_of(name):
     return re.search(r"^pub goes_wrong : (\w+) → ⊥$", run_of(name, "law"), re.MULTILINE)[1]
 
 
-def law_modules():
-    """The definitions of looking back and the laws of one serial order, which stand on them, as modules of protocol's proofs."""
-    laws = read(f"{ROOT}/crates/history/src/serial.rt")
+def stated_laws(file):
+    """The laws of a file of empty functions that have one clause each, as a module that defines them."""
+    laws = read(f"{ROOT}/crates/{file}")
     uses = re.findall(r"^ghost (use .*);$", laws, re.MULTILINE)
     clauses = re.findall(r"^pub fn (\w+)\(\)\s+ensures \{ (.*?) \}\n\{\}", laws, re.MULTILINE | re.DOTALL)
-    stated = [f"abbrev pub {law} : Type 0\n{law} = {clause}" for law, clause in clauses]
-    modules, wanted = {"HistoryLaws": "\n".join(uses + stated) + "\n"}, {"HistoryLaws"}
+    return "\n".join(uses + [f"abbrev pub {law} : Type 0\n{law} = {clause}" for law, clause in clauses]) + "\n"
+
+
+def law_modules():
+    """The definitions of looking back and the laws of one serial order, which stand on them, as modules of protocol's proofs."""
+    modules, wanted = {"HistoryLaws": stated_laws("history/src/serial.rt")}, {"HistoryLaws"}
     while wanted:
         name = wanted.pop()
         for crate, file in DEFINITIONS.findall(modules[name]):
@@ -107,21 +116,29 @@ def crate_of(name):
     return "history" if "crate: history" in read(f"{HERE}/{name}.rule").splitlines() else "protocol"
 
 
+def judge_of(name):
+    """The crate whose laws are to refuse a rule: safety for those of the protocol that name none."""
+    lines = read(f"{HERE}/{name}.rule").splitlines()
+    return "history" if "crate: history" in lines else "progress" if "judge: progress" in lines else "safety"
+
+
 def parse_rule(name):
-    """The files of a rule, and of each the pairs of texts."""
+    """The files of a rule, below crates, and of each the pairs of texts."""
     edits, file, words = {}, None, set()
     for line in read(f"{HERE}/{name}.rule").splitlines():
         word, _, text = line.partition(":")
         text = text[1:]
         words.add(word)
-        if word == "file":
-            file = edits.setdefault(text, [])
+        if word in ("file", "proof"):
+            file = edits.setdefault(f"{crate_of(name)}/{text}" if word == "file" else text, [])
+        elif word == "old" and file and file[-1][1] is None:
+            file[-1][0] += "\n" + text
         elif word == "old":
             file.append([text, None])
         elif word == "new":
             last = file[-1]
             last[1] = text if last[1] is None else last[1] + "\n" + text
-        elif word not in ("wrong", "note", "crate"):
+        elif word not in ("wrong", "note", "crate", "judge"):
             raise BadRule(f"no such line: {line}")
     if "wrong" not in words or not edits or not (runs_of(name) or "note" in words):
         raise BadRule("it wants a line 'wrong:', an edit, and a run or a note why there is none")
@@ -149,7 +166,7 @@ class Copy:
         before = {}
         try:
             for file, pairs in parse_rule(name).items():
-                path = f"{self.folder}/crates/{crate_of(name)}/{file}"
+                path = f"{self.folder}/crates/{file}"
                 before[path] = text = read(path)
                 for old, new in pairs:
                     if text.count(old) != 1:
@@ -203,8 +220,10 @@ class BackScratch(Copy):
 class Scratch(Copy):
     """A copy of the crates for rules of the protocol."""
 
+    top = "safety"
+
     def __init__(self, folder, source):
-        super().__init__(folder, source, "safety")
+        super().__init__(folder, source, self.top)
         self.protocol = f"{folder}/crates/protocol"
         self.safety = f"{folder}/crates/safety"
         proofs = f"{ROOT}/crates/protocol/proofs"
@@ -213,9 +232,9 @@ class Scratch(Copy):
         self.lemmas = self.cited_lemmas()
 
     def cited_lemmas(self):
-        """The modules of protocol's proofs that safety builds on: the others are worked runs."""
-        text = "".join(read(f"{at}/{name}") for at, _, names in os.walk(self.safety) if "/out" not in at for name in names
-                       if name.endswith((".antt", ".rt")))
+        """The modules of protocol's proofs that the crates above it build on: the others are worked runs."""
+        text = "".join(read(f"{at}/{name}") for crate in {"safety", self.top} for at, _, names in os.walk(f"{self.folder}/crates/{crate}")
+                       if "/out" not in at for name in names if name.endswith((".antt", ".rt")))
         cited = set()
         while True:
             more = set(re.findall(r"Rattle\.protocol\.proofs\.(\w+)", text)) - cited
@@ -279,13 +298,73 @@ class Scratch(Copy):
         return unrefused(self.check_runs({module: text for of_one in runs for module, text in of_one.items()}), names)
 
 
+class StuckScratch(Scratch):
+    """A copy of the crates for rules of the protocol that are safe."""
+    top = "progress"
+
+    def __init__(self, folder, source):
+        super().__init__(folder, source)
+        self.progress = f"{folder}/crates/progress"
+        self.proofs = read(f"{self.progress}/proofs/Lib.antt")
+
+    def words_of(self, text):
+        """The words that a text of progress uses, texts by module, and the laws of progress where it uses any."""
+        named = [name for name in WORDS if f"progress.proofs.{name}." in text]
+        below = {module: words for name in named for module, words in self.words_of(run_of(name)).items()}
+        laws = {"ProgressLaws": stated_laws("progress/src/headline.rt")} if "progress.proofs.ProgressLaws." in text else {}
+        return below | laws | {name: run_of(name) for name in named}
+
+    def check_progress(self, laws):
+        """Checks progress with these laws, texts by module, beside its proofs."""
+        self.set_proofs({**self.lemmas, "RowWords": self.modules["RowWords"]} if laws else self.lemmas)
+        written, proofs = {**self.words_of("".join(laws.values())), **laws}, f"{self.progress}/proofs"
+        for name, text in written.items():
+            write(f"{proofs}/{name}.antt", text)
+        write(f"{proofs}/Lib.antt", self.proofs + "".join(f"pub mod {name}\n" for name in written))
+        checked = Check(self.progress)
+        for name in written:
+            os.remove(f"{proofs}/{name}.antt")
+        return checked
+
+    def try_rule(self, name):
+        """Which proof of progress refuses a rule, and what refuses it beside."""
+        laws = runs_of(name, ("law",))
+        with self.edited(name):
+            alone = self.check_runs(runs_of(name, ("run",)))
+            if not alone.proved:
+                raise BadRule(f"with the run alone: {alone.errors[:1] or alone.lines[-3:]}")
+            worked, safety = self.check_worked_runs(), self.check_safety()
+            if not safety.proved:
+                raise BadRule(f"safety isn't proved: {safety.errors[:2] or safety.lines[-3:]}")
+            progress = self.check_progress(laws)
+        if progress.proved or not progress.is_refusal or not (worked.proved or worked.is_refusal):
+            raise BadRule(progress.refused_by if not progress.proved else "nothing refuses it")
+        added = {f"proofs/{module}.antt" for module in ("ProgressLaws", *WORDS, *laws)}
+        if wrong := [error for error in progress.errors if error[0] in added]:
+            raise BadRule(f"its law: {wrong[0]}")
+        runs = [] if worked.proved else [f"protocol {worked.refused_by}"]
+        return ", ".join([*runs, f"progress {progress.refused_by}", *([law_of(name)] if laws else [])]) + "; safety is proved"
+
+    def try_right_rules(self, names):
+        """Proves the right definitions, and says of which rules the run or the law is not refused under them."""
+        for check in (self.check_worked_runs(), self.check_safety(), self.check_progress({})):
+            if not check.proved:
+                sys.exit(f"the right definitions aren't proved: {check.crate}: {(check.errors or check.lines)[:3]}")
+        laws = {name: runs_of(name, ("law",)) for name in names}
+        refused = {file for file, _, _ in self.check_progress({k: v for of_one in laws.values() for k, v in of_one.items()}).errors}
+        runs = {module: text for name in names for module, text in runs_of(name, ("run",)).items()}
+        standing = {name: "with the right rule its law is proved" for name in names
+                    if not {f"proofs/{module}.antt" for module in laws[name]} <= refused}
+        return standing | unrefused(self.check_runs(runs), names, ("run",))
+
+
 def module_of(name):
     return "".join(word.capitalize() for word in name.split("_"))
 
 
-def unrefused(check, names):
+def unrefused(check, names, kinds=("run", "law")):
     """Of which rules the run is not refused, in a check of all their runs under the right definitions."""
-    wanted = {name: {f"proofs/{module}.antt" for module in runs_of(name)} for name in names}
+    wanted = {name: {f"proofs/{module}.antt" for module in runs_of(name, kinds)} for name in names}
     files = {file for of_one in wanted.values() for file in of_one}
     strange = [error for error in check.errors if error[0] not in files or not error[2].startswith("`goes_wrong`: ")]
     refused = {file for file, _, _ in check.errors}
@@ -326,12 +405,12 @@ def main():
         sys.exit(f"runs without a rule: {', '.join(sorted(strays))}")
     names = sys.argv[1:] or sorted(rules)
     passed = []
-    for kind, crate in ((Scratch, "protocol"), (BackScratch, "history")):
-        if of_crate := [name for name in names if crate_of(name) == crate]:
+    for kind, judge in ((Scratch, "safety"), (StuckScratch, "progress"), (BackScratch, "history")):
+        if judged := [name for name in names if judge_of(name) == judge]:
             with tempfile.TemporaryDirectory() as folder:
                 first = kind(f"{folder}/0", ROOT)
-                scratches = [first, *(kind(f"{folder}/{n}", first.folder) for n in range(1, min(JOBS, len(of_crate))))]
-                passed += try_rules(scratches, of_crate)
+                scratches = [first, *(kind(f"{folder}/{n}", first.folder) for n in range(1, min(JOBS, len(judged))))]
+                passed += try_rules(scratches, judged)
     print(f"{passed.count(True)} passed, {passed.count(False)} failed")
     sys.exit(not all(passed))
 

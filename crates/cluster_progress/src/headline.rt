@@ -1,0 +1,44 @@
+//! The events that decide and end a transaction in the machine do so in a cluster that is handed them.
+ghost use Rattle.std.specs.Prelude.{◌≡◌, ◌⊎◌, ℕ, ◌<◌, Bool, IsTrue, true, List, map};
+ghost use Rattle.xid.specs.Transactions.{TxParts};
+ghost use Rattle.ballot.specs.Majority.{is_majority};
+ghost use Rattle.protocol.specs.declared.events.Step.{Step as Made};
+ghost use Rattle.protocol.specs.declared.nodes.NodeId.{NodeId};
+ghost use Rattle.protocol.specs.declared.states.View.TheVariants as views;
+ghost use Rattle.protocol.specs.Effects.{Config, is_inside};
+ghost use Rattle.protocol.specs.Worlds.{World};
+ghost use Rattle.safety.specs.Runs.{IsReachable};
+ghost use Rattle.cluster.specs.Clusters.{ClusterParts, ClusterStands};
+ghost use Rattle.cluster.specs.Runs.{HaveOccurred, IsFirm};
+ghost use Rattle.progress.specs.Runs.{leader_and_quorum, leader_quorum_and_participants, are_at};
+ghost use Rattle.progress.specs.Outcomes.{HasOutcome, HasBallots, HaveEnded};
+ghost use Rattle.cluster_progress.specs.Handing.{NoneWantsMemory, GoWell, LeadsOn};
+
+/// Let a cluster stand for whatever world the events before have come to; tears may be armed on its records. There are restarts, timeouts
+/// and deliveries, each at a leader that has ballots left or at one of a majority of the acceptors: wherever the cluster is handed these
+/// one after another, no memory is refused and no record fails of itself, it comes to stand for a world in which the leader answers
+/// committed or aborted. Every other node may be down for good.
+pub fn can_decide()
+    ensures { (config : Config) (world : World) → IsReachable config world → (tx : TxParts) → IsTrue (is_inside config tx)
+        → (l : ℕ) → l < config.leaders → (quorum : ℕ → Bool) → IsTrue (is_majority config.acceptors quorum)
+        → HasBallots config world l quorum tx → (cluster : ClusterParts) → ClusterStands config cluster world
+        → LeadsOn config (leader_and_quorum l quorum) tx (HasOutcome config l tx) world cluster }
+{}
+
+/// And with the participants it ends there: there are such events at the leader, the majority and the participants alone, after which every
+/// participant is committed, or every one is aborted.
+pub fn can_end()
+    ensures { (config : Config) (world : World) → IsReachable config world → (tx : TxParts) → IsTrue (is_inside config tx)
+        → (l : ℕ) → l < config.leaders → (quorum : ℕ → Bool) → IsTrue (is_majority config.acceptors quorum)
+        → HasBallots config world l quorum tx → (cluster : ClusterParts) → ClusterStands config cluster world
+        → LeadsOn config (leader_quorum_and_participants l quorum tx) tx
+        (λ after. HaveEnded config tx views.Committed after ⊎ HaveEnded config tx views.Aborted after) world cluster }
+{}
+
+/// Over records that never fail of themselves, as records in memory, such events go well wherever no memory is refused.
+pub fn firm_clusters_go_well()
+    ensures { (config : Config) (world : World) (takes_part : NodeId → Bool) (tx : TxParts) (first last : ClusterParts) (steps : List Made)
+        → ClusterStands config first world → IsFirm first
+        → are_at config takes_part tx world (map (λ step. step.event) steps) ≡ true → HaveOccurred first steps last
+        → NoneWantsMemory steps → GoWell config world first steps last }
+{}
