@@ -193,10 +193,10 @@ pub unbegun : (config : Config) (who : NodeId) (held now after : Held) (refusal 
     → is_among config who ≡ true → IsUnopened config who now after refusal → IsUnbegun held refusal
 unbegun config who held now after Refusal.NoSuch same empty among un = absurd (cc (among, un.1))
 unbegun config who held now after Refusal.Damaged same empty among un =
-    absurd (un.1.1 (record { rows = None; facts = [] }) []
+    absurd (un.2 (record { rows = None; facts = [] }) []
     (nothing_held config who now.bytes (ap (λ (h : Held). h.bytes) same ∙ empty)))
 unbegun config who held now after Refusal.RecordFault same empty among un =
-    (after, subst (λ (h : Held). HasFaulted h after) same un.1.0)
+    (after, subst (λ (h : Held). HasFaulted h after) same un.1)
 unbegun config who held now after Refusal.NoMemory same empty among un = tt
 unbegun config who held now after other same empty among un = absurd un
 

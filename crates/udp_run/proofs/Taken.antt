@@ -65,9 +65,9 @@ module _ (config : Config) (who : NodeId) (held : Held) (opened : held ≡ just_
   why_unopened : is_among config who ≡ true → (left : Held) (e : Refusal) → IsUnopened config who held left e
       → (e ≡ NoMemory) ⊎ RefusesNode config who e
   why_unopened among left NoSuch why = let both : true ≡ false = sym among ∙ why.1 in absurd (cc (both))
-  why_unopened among left Damaged why = inr (record { bytes = held.bytes; bad = why.1.1 })
+  why_unopened among left Damaged why = inr (record { bytes = held.bytes; bad = why.2 })
   why_unopened among left RecordFault why =
-      inr (record { bytes = held.bytes; left = left; faulted = subst (λ (h : Held). HasFaulted h left) opened why.1.0 })
+      inr (record { bytes = held.bytes; left = left; faulted = subst (λ (h : Held). HasFaulted h left) opened why.1 })
   why_unopened among left NoMemory why = inl refl
   why_unopened among left other why = absurd why
 
