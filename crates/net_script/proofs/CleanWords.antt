@@ -121,9 +121,6 @@ node_common (A n) lt = record { some = refl; bytes = number_bytes n (omega arith
 node_common (L n) lt = record { some = refl; bytes = number_bytes n (omega arith) }
 node_common (R n) lt = record { some = refl; bytes = number_bytes n (omega arith) }
 
-manager_common : (n : ℕ) → n < 2 ^ 32 → IsCommon (node_text (R n))
-manager_common n lt = record { some = refl; bytes = number_bytes n lt }
-
 xid_common : (x : XidParts) → IsXid x → IsCommon (xid_text x)
 xid_common x is =
     joined (decimal x.format) (58 ∷ (hex_text x.gtrid ++ 58 ∷ hex_text x.bqual)) (number_common x.format (omega (arith, is.format)))
@@ -366,5 +363,5 @@ line_clean (Changed c) is = (record { some = refl; bytes = refl }, all_clean (ch
 line_clean (Datagram s) is = (record { some = refl; bytes = refl }, all_clean (sent_words s) (sent_common s is))
 line_clean (Final rm rows) is = (
   record { some = refl; bytes = refl },
-  all_clean (final_words rm rows) (manager_common rm is.0, mapped row_common rows is.1.each),
+  all_clean (final_words rm rows) (node_common (R rm) is.0, mapped row_common rows is.1.each),
 )

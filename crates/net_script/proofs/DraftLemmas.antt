@@ -1,5 +1,5 @@
 -- A trace line by line: its lines give it back, and nothing else follows them.
-use Rattle.std.proofs.Common.{zero, suc, ◌≡◌, ℕ, ◌+◌, ◌-◌, ◌<◌, ◌≤◌, ◌^◌, Bool, true, false, not, ◌&&◌, cond, eqb, ltb, List, [], ◌∷◌, ◌++◌, length}
+use Rattle.std.proofs.Common.{zero, suc, ◌≡◌, ℕ, ◌+◌, ◌-◌, ◌<◌, ◌≤◌, Bool, true, false, not, ◌&&◌, cond, eqb, ltb, List, [], ◌∷◌, ◌++◌, length}
 use Rattle.std.proofs.Common.{get_or, set, drop, map, Option, None, Some, refl, sym, ap, subst, ◌∙◌, arith, eqb-true, eq-eqb}
 use Rattle.std.specs.List.{All, AllPairs, list_all, flat_map}
 use Rattle.std.specs.Option.{ForSome, option_map}
@@ -20,7 +20,7 @@ use Rattle.net_script.specs.declared.trace_lines.TraceLine.TheVariants.{Cluster,
 use Rattle.net_script.specs.Items.{IsSizes, IsContents}
 use Rattle.net_script.specs.Answers.{IsAnswer}
 use Rattle.net_script.specs.TraceLines.{IsChange, IsSent, AreFinalRows, IsTraceLine, changed_lines, entry_lines, rows_lines, later_lines, lines_of}
-use Rattle.net_script.specs.TraceReading.{IsResult, IsEntry, IsBegun, IsTrace, is_empty, is_bare, with_now, with_sent, at_last, with_entries}
+use Rattle.net_script.specs.TraceReading.{IsResult, IsEntry, IsBegun, is_empty, is_bare, with_now, with_sent, at_last, with_entries}
 use Rattle.net_script.specs.TraceReading.{bare_step, takes_table, takes_rows, with_line, opened, begun_with, lines_so_far}
 
 -- a trace of these parts
@@ -258,6 +258,7 @@ grown_table t x is range takes =
         entries = is.entries;
         finals = is.finals;
         few = is.few;
+        named = is.named;
       };
       lines =
           table_lines t.sizes t.tables x (flat_map entry_lines t.entries ++ rows_lines 0 t.finals)
@@ -289,6 +290,7 @@ grown_entries t said new is none each e = record {
     entries = each;
     finals = is.finals;
     few = is.few;
+    named = is.named;
   };
   lines = entries_lines t.sizes t.tables t.entries new t.finals said none e;
 }
@@ -436,7 +438,7 @@ more_rows t ys =
     (rows_append 0 t.finals ys ∙ ap (λ (k : ℕ). rows_lines 0 t.finals ++ rows_lines k ys) same)
     ∙ rows_after t.sizes (map Contents t.tables) (flat_map entry_lines t.entries) (rows_lines 0 t.finals) (rows_lines (length t.finals) ys)
 
-grown_rows : (t : Trace) (rm : ℕ) (rows : List Row) → IsBegun t → AreFinalRows rows → takes_rows t rm ≡ true
+grown_rows : (t : Trace) (rm : ℕ) (rows : List Row) → IsBegun t → (rm < 256) × AreFinalRows rows → takes_rows t rm ≡ true
     → Grown t (Final rm rows) (record t { finals = t.finals ++ rows ∷ [] })
 grown_rows t rm rows is range takes =
     let same : rm ≡ length t.finals = eqb-true rm (length t.finals) (first_true (eqb rm (length t.finals)) (ltb (length t.finals) t.sizes.rms) takes) in
@@ -449,8 +451,9 @@ grown_rows t rm rows is range takes =
         managers = is.managers;
         once = is.once;
         entries = is.entries;
-        finals = All-push AreFinalRows t.finals rows is.finals range;
+        finals = All-push AreFinalRows t.finals rows is.finals range.1;
         few = omega (arith, length_push t.finals rows);
+        named = omega (arith, length_push t.finals rows, same, range.0);
       };
       lines = more_rows t (rows ∷ []) ∙ ap (λ (k : ℕ). lines_of t ++ Final k rows ∷ []) (sym same);
     }
@@ -480,7 +483,7 @@ grown t r (Datagram d) is range e =
     )) e
 grown t r (Final rm rows) is range e =
     let got = cond_some (takes_rows t rm) (trace t.sizes t.tables t.entries (t.finals ++ rows ∷ [])) r e in
-    subst (Grown t (Final rm rows)) got.1 (grown_rows t rm rows is range.1 got.0)
+    subst (Grown t (Final rm rows)) got.1 (grown_rows t rm rows is range got.0)
 
 -- ---- from the first line on
 
@@ -493,6 +496,7 @@ opened_valid s is = record {
   entries = All-nil IsEntry;
   finals = All-nil AreFinalRows;
   few = omega arith;
+  named = omega arith;
 }
 
 pub begins : (o : Option Trace) (said : TraceLine) (r : Trace) → ForSome o IsBegun → IsTraceLine said → begun_with o said ≡ Some r
@@ -508,55 +512,6 @@ pub none_begins : (o : Option Trace) (said : TraceLine) (u : Trace) (more : List
 none_begins None (Cluster s) u more is valid none e = absurd (cc)
 none_begins None said u more is valid none e = absurd (cc)
 none_begins (Some t) said u more is valid none e = nothing_follows t u said more (is t refl) valid none e
-
--- ---- each trace that has begun can be gone on with
-
-blanks : ℕ → List (List Row)
-blanks zero = []
-blanks (suc n) = [] ∷ blanks n
-
-length-blanks : (n : ℕ) → length (blanks n) ≡ n
-unfolding blanks
-length-blanks zero = refl
-length-blanks (suc n) = ap suc (length-blanks n)
-
-no_rows : AreFinalRows []
-no_rows = record { each = λ k d lt. absurd (omega arith); ascending = refl }
-
-blanks_valid : (n : ℕ) → All AreFinalRows (blanks n)
-unfolding blanks
-blanks_valid zero = All-nil AreFinalRows
-blanks_valid (suc n) = All-cons AreFinalRows [] (blanks n) no_rows (blanks_valid n)
-
--- a trace that goes on with these lines
-pub record GoesOnTo (t : Trace) : Type 0 where
-  pub whole : Trace
-  pub valid : IsTrace whole
-  pub more : List TraceLine
-  pub lines : lines_of whole ≡ lines_of t ++ more
-
-pub goes_on : (t : Trace) → IsBegun t → GoesOnTo t
-goes_on t is =
-    let left : ℕ = t.sizes.rms - length t.finals in
-    let few = is.few in
-    let len : length (t.finals ++ blanks left) ≡ t.sizes.rms = omega (arith, length-append t.finals (blanks left), length-blanks left) in
-    record {
-      whole = record t { finals = t.finals ++ blanks left };
-      valid = record {
-        begun = record {
-          sizes = is.sizes;
-          tables = is.tables;
-          managers = is.managers;
-          once = is.once;
-          entries = is.entries;
-          finals = All-append AreFinalRows t.finals (blanks left) is.finals (blanks_valid left);
-          few = omega arith;
-        };
-        whole = len;
-      };
-      more = rows_lines (length t.finals) (blanks left);
-      lines = more_rows t (blanks left);
-    }
 
 -- ---- lines in range
 
@@ -582,7 +537,7 @@ entries_valid (e ∷ es) all =
     All-append IsTraceLine (entry_lines e) (flat_map entry_lines es) (entry_valid e (All-head IsEntry e es all))
     (entries_valid es (All-tail IsEntry e es all))
 
-rows_valid : (n : ℕ) (fs : List (List Row)) → n + length fs ≤ 2 ^ 32 → All AreFinalRows fs → All IsTraceLine (rows_lines n fs)
+rows_valid : (n : ℕ) (fs : List (List Row)) → n + length fs ≤ 256 → All AreFinalRows fs → All IsTraceLine (rows_lines n fs)
 rows_valid n [] few all = All-nil IsTraceLine
 rows_valid n (f ∷ fs) few all =
     All-cons IsTraceLine (Final n f) (rows_lines (suc n) fs) (omega arith, All-head AreFinalRows f fs all)
@@ -590,8 +545,7 @@ rows_valid n (f ∷ fs) few all =
 
 pub lines_valid : (t : Trace) → IsBegun t → All IsTraceLine (lines_of t)
 lines_valid t is =
-    let few = is.few in
-    let small = is.sizes.rms in
+    let named = is.named in
     All-cons IsTraceLine (Cluster t.sizes) (later_lines t) is.sizes
     (All-append IsTraceLine (map Contents t.tables) (flat_map entry_lines t.entries ++ rows_lines 0 t.finals)
     (All-map IsTraceLine Contents t.tables is.tables)

@@ -87,7 +87,7 @@ words_read o line (Ok (Some t)) valid tidy h =
     let grown = begins o h.0 t valid h.1 (sym h.3) in
     (grown.0, h.0, h.1, line_text_of h.0 line tidy h.2, grown.1)
 words_read o line (Ok None) valid tidy h = λ said is e u whole more parts.
-    none_begins o said u more valid whole.begun (sym (h said is (line_text_words said line is e))) parts
+    none_begins o said u more valid whole (sym (h said is (line_text_words said line is e))) parts
 words_read o line (Err x) valid tidy h = h
 
 pub reads_line : (o p : Option Trace) (line : List ℕ) (r : Result (Option Trace) Refusal) → o ≡ p → ForSome o IsBegun → is_tidy line ≡ true

@@ -1,5 +1,5 @@
 -- Each line of a trace says one thing.
-use Rattle.std.proofs.Common.{◌≡◌, ℕ, ◌<◌, ◌^◌, Bool, true, false, cond, eqb, List, [], ◌∷◌, ◌++◌, length, drop, refl, sym, ap, subst}
+use Rattle.std.proofs.Common.{◌≡◌, ℕ, ◌<◌, Bool, true, false, cond, eqb, List, [], ◌∷◌, ◌++◌, length, refl, sym, ap, subst}
 use Rattle.std.proofs.Common.{◌∙◌, arith, codes}
 use Rattle.std.specs.List.{AllByRecursion}
 use Rattle.std.proofs.lemmas.Fmt.{decimal_injective}
@@ -148,11 +148,11 @@ served_injective m n a b p q x =
     let answer : a ≡ b = answer_injective a b p.1 q.1 (cc) in
     cc
 
-final_injective : (m n : ℕ) (xs ys : List Row) → (m < 2 ^ 32) × AreFinalRows xs → (n < 2 ^ 32) × AreFinalRows ys
+final_injective : (m n : ℕ) (xs ys : List Row) → (m < 256) × AreFinalRows xs → (n < 256) × AreFinalRows ys
     → final_words m xs ≡ final_words n ys → Final m xs ≡ Final n ys
 final_injective m n xs ys p q e =
     let first : node_text (R m) ≡ node_text (R n) = cc in
-    let rm : m ≡ n = decimal_injective m n (omega (arith, p.0)) (omega (arith, q.0)) (ap (drop 1) first) in
+    let rm : m ≡ n = manager_injective m n p.0 q.0 first in
     let rows : xs ≡ ys = texts_injective rows_have_one_text xs ys p.1.each q.1.each (cc) in
     cc
 
@@ -263,7 +263,7 @@ only_cluster (Happened d a) rest is e = absurd (event_apart (codes "cluster") d 
 only_cluster said rest is e = absurd (differ _ _ (ap first_of e) refl)
 
 pub only_final : (said : TraceLine) (rest : List (List ℕ)) → IsTraceLine said → codes "final" ∷ rest ≡ trace_line_words said
-    → (rm : ℕ) × (rows : List Row) × (rm < 2 ^ 32) × AreFinalRows rows × (rest ≡ final_words rm rows)
+    → (rm : ℕ) × (rows : List Row) × (rm < 256) × AreFinalRows rows × (rest ≡ final_words rm rows)
 only_final (Final rm rows) rest is e = (rm, rows, is.0, is.1, cc)
 only_final (Happened d a) rest is e = absurd (event_apart (codes "final") d refl (cc))
 only_final said rest is e = absurd (differ _ _ (ap first_of e) refl)

@@ -3,7 +3,7 @@ use Rattle.std.proofs.Common.{◌≡◌, ℕ, ◌+◌, ◌<◌, ◌≤◌, true,
 use Rattle.std.proofs.Common.{refl, sym, ap, subst, ◌∙◌, arith}
 use Rattle.std.specs.List.{flat_map}
 use Rattle.std.specs.Option.{ForSome}
-use Rattle.std.proofs.lemmas.List.{append-nil, append_assoc, length-append, length-map, length_push, take_at, take-append-drop, map-append}
+use Rattle.std.proofs.lemmas.List.{append-nil, append_assoc, length-append, length-map, length_push, take_at, take-append-drop}
 use Rattle.xid.specs.Text.{lacks}
 use Rattle.net_script.specs.declared.values.Sizes.{Sizes}
 use Rattle.net_script.specs.declared.values.Trace.{Trace}
@@ -15,7 +15,7 @@ use Rattle.net_script.specs.TraceReading.{IsBegun, IsTrace, ended_lines, CanBegi
 use Rattle.net_script.proofs.OneText.{texts_injective, texts_go_on}
 use Rattle.net_script.proofs.LawLemmas.{one_line}
 use Rattle.net_script.proofs.TraceLineLemmas.{lines_have_one_text, push_injective}
-use Rattle.net_script.proofs.DraftLemmas.{lines_same, opened_valid, goes_on, lines_valid, so_far_valid}
+use Rattle.net_script.proofs.DraftLemmas.{lines_same, opened_valid, lines_valid, so_far_valid}
 use Rattle.net_script.proofs.EndedText.{ended_cut, ended_last, ended_more, ended_all, unended, text_is_lines}
 
 -- so many lines are read, which say this, and these bytes are left
@@ -45,11 +45,11 @@ begins_take n ls can = record {
       ∙ append_assoc (take n ls) (drop n ls) can.more;
 }
 
-own_begins : (t : Trace) → IsTrace t → CanBeginTrace (ended_lines (trace_text t))
+own_begins : (t : Trace) → IsBegun t → CanBeginTrace (ended_lines (trace_text t))
 own_begins t is = record { trace = t; valid = is; more = []; begins = sym (append-nil (ended_lines (trace_text t))) }
 
 pub text_has_no_fault : (t : Trace) (n : ℕ) → IsTrace t → IsTraceFault (trace_text t) n → ⊥
-text_has_no_fault t n is (inl fault) = fault.fails (begins_take n (ended_lines (trace_text t)) (own_begins t is))
+text_has_no_fault t n is (inl fault) = fault.fails (begins_take n (ended_lines (trace_text t)) (own_begins t is.begun))
 text_has_no_fault t n is (inr lacks) = lacks.0.short t is refl
 
 pub one_trace_fault : (bytes : List ℕ) (m n : ℕ) → IsTraceFault bytes m → IsTraceFault bytes n → m ≡ n
@@ -70,17 +70,13 @@ begins_so_far : (trace : Option Trace) → ForSome trace IsBegun → CanBeginTra
 begins_so_far None is =
     let sizes : Sizes = record { acceptors = 0; leaders = 0; rms = 0; bundled = false } in
     let small : IsSizes sizes = record { acceptors = omega arith; leaders = omega arith; rms = omega arith } in
-    let go = goes_on (opened sizes) (opened_valid sizes small) in
-    record { trace = go.whole; valid = go.valid; more = ended_lines (trace_text go.whole); begins = refl }
-begins_so_far (Some t) is =
-    let go = goes_on t (is t refl) in
-    record {
-      trace = go.whole;
-      valid = go.valid;
-      more = map whole_line go.more;
-      begins =
-          ended_text go.whole go.valid.begun ∙ ap (map whole_line) go.lines ∙ map-append whole_line (lines_of t) go.more;
-    }
+    record { trace = opened sizes; valid = opened_valid sizes small; more = ended_lines (trace_text (opened sizes)); begins = refl }
+begins_so_far (Some t) is = record {
+  trace = t;
+  valid = is t refl;
+  more = [];
+  begins = ended_text t (is t refl) ∙ sym (append-nil (map whole_line (lines_of t)));
+}
 
 -- the lines up to the next one, whatever it is
 up_to_next : {bytes rest : List ℕ} {number : ℕ} {trace : Option Trace} (line : List ℕ) (later : List (List ℕ))
@@ -101,7 +97,7 @@ up_to_next {number = number} {trace = trace} line later so next =
 -- a line that no trace has there
 fails_at : {bytes rest : List ℕ} {number : ℕ} {trace : Option Trace} (line : List ℕ) (later : List (List ℕ))
     → Told bytes rest number trace → ended_lines rest ≡ line ∷ later
-    → ((said : TraceLine) → IsTraceLine said → line ≡ whole_line said → (u : Trace) → IsTrace u → (more : List TraceLine)
+    → ((said : TraceLine) → IsTraceLine said → line ≡ whole_line said → (u : Trace) → IsBegun u → (more : List TraceLine)
     → lines_of u ≡ lines_so_far trace ++ said ∷ more → ⊥)
     → IsTraceFault bytes (number + 1)
 fails_at {number = number} {trace = trace} line later so next none =
@@ -115,16 +111,16 @@ fails_at {number = number} {trace = trace} line later so next none =
     })
   where
     no_line : (trace : Option Trace) (line : List ℕ) → ForSome trace IsBegun
-        → ((said : TraceLine) → IsTraceLine said → line ≡ whole_line said → (u : Trace) → IsTrace u → (more : List TraceLine)
+        → ((said : TraceLine) → IsTraceLine said → line ≡ whole_line said → (u : Trace) → IsBegun u → (more : List TraceLine)
         → lines_of u ≡ lines_so_far trace ++ said ∷ more → ⊥)
         → CanBeginTrace (map whole_line (lines_so_far trace) ++ line ∷ [])
         → ⊥
     no_line trace line valid none can =
         let seen : List TraceLine = lines_so_far trace in
         let says : map whole_line seen ++ line ∷ can.more ≡ map whole_line (lines_of can.trace) =
-        sym (append_assoc (map whole_line seen) (line ∷ []) can.more) ∙ sym can.begins ∙ ended_text can.trace can.valid.begun in
+        sym (append_assoc (map whole_line seen) (line ∷ []) can.more) ∙ sym can.begins ∙ ended_text can.trace can.valid in
         let on = texts_go_on lines_have_one_text seen (lines_of can.trace) line can.more
-        (so_far_valid trace valid, lines_valid can.trace can.valid.begun) says in
+        (so_far_valid trace valid, lines_valid can.trace can.valid) says in
         none on.next on.valid on.says can.trace can.valid on.later on.parts
 
 -- the last line lacks its end

@@ -49,7 +49,7 @@ IsTraceLine (Happened event answer) = IsEvent event × IsAnswer answer
 IsTraceLine (Served node answer) = IsNode node × IsAnswer answer
 IsTraceLine (Changed change) = IsChange change
 IsTraceLine (Datagram sent) = IsSent sent
-IsTraceLine (Final rm rows) = (rm < 2 ^ 32) × AreFinalRows rows
+IsTraceLine (Final rm rows) = (rm < 256) × AreFinalRows rows
 
 -- ---- the words
 

@@ -30,7 +30,8 @@ abbrev pub IsEntry : Entry → Type 0
 IsEntry (Entry.Step step) = IsEvent step.event × IsResult step.answer step.now step.sent
 IsEntry (Entry.Serve node answer now sent) = IsNode node × IsResult answer now sent
 
--- a trace, or the beginning of one: tables are of the cluster's resource managers, at most one for each
+-- a trace, or the beginning of one: tables are of the cluster's resource managers, at most one for each, and so are the last rows, in
+-- their order; a resource manager's number is at most 255
 pub record IsBegun (t : Trace) : Type 0 where
   pub sizes : IsSizes t.sizes
   pub tables : All IsContents t.tables
@@ -39,6 +40,7 @@ pub record IsBegun (t : Trace) : Type 0 where
   pub entries : All IsEntry t.entries
   pub finals : All AreFinalRows t.finals
   pub few : length t.finals ≤ t.sizes.rms
+  pub named : length t.finals ≤ 256
 
 -- a trace: it has the last rows of each resource manager
 pub record IsTrace (t : Trace) : Type 0 where
@@ -52,10 +54,10 @@ abbrev pub ended_lines : List ℕ → List (List ℕ)
 ended_lines [] = []
 ended_lines (byte ∷ rest) = if byte == 10 then (10 ∷ []) ∷ ended_lines rest else onto_first byte (ended_lines rest)
 
--- lines with which the text of some trace begins
+-- lines with which the text of some trace begins, or of one that may lack last rows
 pub record CanBeginTrace (ls : List (List ℕ)) : Type 0 where
   pub trace : Trace
-  pub valid : IsTrace trace
+  pub valid : IsBegun trace
   pub more : List (List ℕ)
   pub begins : ended_lines (trace_text trace) ≡ ls ++ more
 
@@ -162,11 +164,11 @@ abbrev pub lines_so_far : Option Trace → List TraceLine
 lines_so_far None = []
 lines_so_far (Some t) = lines_of t
 
--- what one more line makes of those before it; nothing, where no trace goes on with it
+-- what one more line makes of those before it; nothing, where no trace goes on with it, whole or not
 abbrev pub ReadsTraceLine : List TraceLine → List ℕ → Result (Option Trace) Refusal → Type 0
 ReadsTraceLine before line (Ok (Some t)) =
     IsBegun t × (said : TraceLine) × IsTraceLine said × (line ≡ trace_line_text said) × (lines_of t ≡ before ++ said ∷ [])
 ReadsTraceLine before line (Ok None) =
-    (said : TraceLine) → IsTraceLine said → line ≡ trace_line_text said → (t : Trace) → IsTrace t → (more : List TraceLine)
+    (said : TraceLine) → IsTraceLine said → line ≡ trace_line_text said → (t : Trace) → IsBegun t → (more : List TraceLine)
     → lines_of t ≢ before ++ said ∷ more
 ReadsTraceLine before line (Err e) = e ≡ NoMemory

@@ -6,9 +6,7 @@ ghost use Rattle.net_script.specs.Events.{IsNode};
 ghost use Rattle.net_script.specs.Lines.{Reads, words, bytes_text, node_text};
 
 use crate::numbers;
-use crate::words::{
-    bytes_word, is_over, leader_word, lettered_number, manager_word, next_word, node_word,
-};
+use crate::words::{bytes_word, is_over, leader_word, manager_word, next_word, node_word};
 use protocol::{Boxed, NodeId};
 use std::alloc::Global;
 use xid::{Bytes, Refusal, Tx, Xid};
@@ -74,21 +72,6 @@ pub(crate) fn manager(args: &[u8]) -> Option<(u8, &[u8])>
         return None;
     };
     let Some(rm) = manager_word(word) else {
-        return None;
-    };
-    Some((rm, rest))
-}
-
-/// The resource manager of the first word, whatever its number, and the rest.
-pub(crate) fn manager_number(args: &[u8]) -> Option<(u32, &[u8])>
-    ensures { MatchOption result
-        ((n : ℕ) (ws : List (List ℕ)) → n < 2 ^ 32 → words args.now ≢ node_text (R n) ∷ ws)
-        (λ found. words args.now ≡ node_text (R found.0) ∷ words found.1.now) }
-{
-    let Some((word, rest)) = next_word(args) else {
-        return None;
-    };
-    let Some(rm) = lettered_number(word, b'r') else {
         return None;
     };
     Some((rm, rest))

@@ -249,20 +249,16 @@ pub(crate) fn with_one_sent(
 }
 
 /// Whether the last rows of this resource manager may follow.
-fn takes_rows(trace: &Trace, rm: u32) -> bool
+fn takes_rows(trace: &Trace, rm: u8) -> bool
     ensures { result ≡ takes_rows trace.now rm }
 {
     let given = trace.finals.as_slice().len();
-    rm as usize == given && given < trace.sizes.rms as usize
+    usize::from(rm) == given && given < trace.sizes.rms as usize
 }
 
 /// The trace so far with the last rows of a resource manager, if they may follow.
 #[inline(never)]
-pub(crate) fn with_rows(
-    trace: Trace,
-    rm: u32,
-    rows: Sequence<Row>,
-) -> Result<Option<Trace>, Refusal>
+pub(crate) fn with_rows(trace: Trace, rm: u8, rows: Sequence<Row>) -> Result<Option<Trace>, Refusal>
     ensures { MatchResult result (λ r. r ≡ with_line trace (Final rm rows)) (λ e. e ≡ NoMemory) }
 {
     if !takes_rows(&trace, rm) {

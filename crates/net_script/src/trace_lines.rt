@@ -31,7 +31,7 @@ pub enum TraceLine {
     /// A datagram that it sent.
     Datagram(Sent),
     /// Last rows of a resource manager.
-    Final(u32, Sequence<Row>),
+    Final(u8, Sequence<Row>),
 }
 
 /// The first word of a line that tells of no event and no serve.

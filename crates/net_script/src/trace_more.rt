@@ -8,7 +8,7 @@ ghost use Rattle.net_script.specs.TraceLines.{IsTraceLine, IsOutcome, is_tidy, l
 ghost use Rattle.net_script.specs.TraceReading.{IsBegun, lines_so_far, ReadsMore, ReadsTraceLine};
 
 use crate::answer_words::read_answer;
-use crate::args::manager_number;
+use crate::args::manager;
 use crate::commands::read_event;
 use crate::items::read_sizes;
 use crate::known::KnownTx;
@@ -60,7 +60,7 @@ fn more_changed(
 fn more_rows(alloc: Global, trace: Trace, args: &[u8]) -> Result<Option<Trace>, Refusal>
     ensures { ReadsMore IsTraceLine (Some trace) (line_name_text LineName.Final ∷ words args.now) result }
 {
-    let Some((rm, rest)) = manager_number(args) else {
+    let Some((rm, rest)) = manager(args) else {
         return Ok(None);
     };
     let Some(rows) = read_final_rows(alloc, rest)? else {

@@ -21,7 +21,8 @@ fn is_in_limits(sizes: Sizes) -> bool
 }
 
 /// The trace of which this is the text, as `write_trace` writes it. Refused: `BadScript` with the first line at fault, counted from 1
-/// (a last line without its end is at fault; where all lines are right, but some are missing, it is the one after the last);
+/// (a last line without its end is at fault; where all lines are right, but some are missing, it is the one after the last; last rows of
+/// a resource manager whose number is above 255 are at fault, since no word names it);
 /// `BadConfig` for the text of a trace with sizes outside the limits (1, 3, 5 or 7 acceptors, 1 to 4 leaders, 1 to 64 resource
 /// managers); and `NoMemory`.
 pub fn read_trace(alloc: Global, bytes: &[u8]) -> Result<Trace, Refusal>

@@ -49,7 +49,7 @@ pub(crate) fn is_over(line: &[u8]) -> bool
 }
 
 /// The number behind this letter.
-pub(crate) fn lettered_number(word: &[u8], letter: u8) -> Option<u32>
+fn lettered_number(word: &[u8], letter: u8) -> Option<u32>
     ensures { MatchOption result ((n : ℕ) → n < 2 ^ 32 → word.now ≢ letter ∷ decimal n) (λ n. word.now ≡ letter ∷ decimal n) }
 {
     let [first, digits @ ..] = word else {

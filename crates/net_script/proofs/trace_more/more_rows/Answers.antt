@@ -1,4 +1,4 @@
-use Rattle.std.proofs.Common.{rules, ◌≡◌, ◌<◌, ◌^◌, ◌∷◌, List, ℕ, Some, codes}
+use Rattle.std.proofs.Common.{rules, ◌≡◌, ◌<◌, ◌∷◌, List, ℕ, Some, codes}
 use Rattle.net_script.specs.declared.trace_lines.TraceLine.TheVariants.{Final}
 use Rattle.net_script.specs.Lines.{words}
 use Rattle.net_script.specs.Items.{rows_words}
@@ -27,6 +27,6 @@ returns-in_default-2 c = λ said is e.
 pub returns : goal.returns
 returns c =
     let rows = reads_some _ _ _ _ c.in-Some-2.rows c.in-Some-2.is c.in_ok-rows.ensures in
-    let small : c.in-Some.rm < 2 ^ 32 = search rules in
+    let small : c.in-Some.rm < 256 = search rules in
     told (Some c.args.trace) (Final c.in-Some.rm c.in-Some-2.rows) _ c.with_rows.result same_line (small, rows.0)
     (rows_told c.in-Some.ensures rows.1) c.with_rows.ensures
