@@ -17,19 +17,22 @@ use Rattle.ballot.specs.declared.slot.Slot.{Slot}
 use Rattle.ballot.specs.Choice.{Report}
 use Rattle.ballot.specs.Slots.{empty_slot}
 use Rattle.stable_record.specs.declared.fact.FactKind.{FactKind as Fact}
+use Rattle.stable_record.specs.Facts.{fact_tx}
 use Rattle.transactions.specs.Seen.{place_in}
+use Rattle.transactions.proofs.First.{first_both, first_once}
 use Rattle.transactions.proofs.Keys.{present_from_place}
 use Rattle.protocol.specs.declared.nodes.NodeId.TheVariants.{A}
 use Rattle.protocol.specs.Acceptors.{Slots, plays_at_acceptor, is_accepted}
 use Rattle.protocol.specs.Effects.{Config}
 use Rattle.protocol.specs.Facts.{instance_eq, slot}
-use Rattle.protocol.specs.Nodes.{all_play}
+use Rattle.protocol.specs.Nodes.{plays, all_play}
 use Rattle.protocol.proofs.Manager.Played.{all_play_then}
 use Rattle.acceptor.specs.Slots.{place_of, slot_of, after_fact, raised, latest}
 use Rattle.acceptor.specs.Tables.{TableParts, IsSeen, IsTable, slots_in, slot_in}
-use Rattle.acceptor.specs.Acceptors.{AcceptorParts, StandsFor}
+use Rattle.acceptor.specs.Acceptors.{AcceptorParts, StandsFor, begun_in}
 use Rattle.acceptor.specs.Compaction.{accepted_ballot, accept_facts, slot_facts, transaction_facts, compacted}
-use Rattle.acceptor.specs.Compaction.{IsCompacted}
+use Rattle.acceptor.specs.Compaction.{IsCompacted, shorter_facts}
+use Rattle.acceptor.proofs.Begun.{begun_taken, unbegun_empty, compacted_begun}
 use Rattle.acceptor.proofs.Instances.{each_named}
 use Rattle.acceptor.proofs.Played.{slot_more}
 
@@ -372,16 +375,15 @@ module _ (config : Config) (number : ℕ) where
 
 -- ---- those of an acceptor
 
--- what isn't an instance of a transaction seen has a slot at first
-outside_table : (table : TableParts) → IsTable table → (low : (tx : TxParts) (i : ℕ) → IsLow (slot_in table tx i)) (config : Config)
-    (number : ℕ) (tx : TxParts) (i : ℕ) → is_among config number (slot_in table) low table.transactions tx i ≡ false
-    → slot_in table tx i ≡ empty_slot
-outside_table table is low config number tx i out = by (ltb (place_in table.transactions tx) (length table.transactions)) refl
+-- what isn't an instance of a transaction that has begun has a slot at first
+outside_begun : (table : TableParts) → IsTable table → (low : (tx : TxParts) (i : ℕ) → IsLow (slot_in table tx i)) (config : Config)
+    (number : ℕ) (txs : List TxParts) (tx : TxParts) (i : ℕ) → list_any (tx_eq tx) txs ≡ true
+    → is_among config number (slot_in table) low txs tx i ≡ false → slot_in table tx i ≡ empty_slot
+outside_begun table is low config number txs tx i there out = by (ltb (place_in table.transactions tx) (length table.transactions)) refl
   where
     by_place : IsSeen table tx → (t : Bool) → ltb (place_of tx i) (length tx.branches) ≡ t → slot_in table tx i ≡ empty_slot
     by_place seen true e =
-        absurd (true≢false (sym (among config number (slot_in table) low table.transactions tx i
-        (present_from_place (tx_eq tx) table.transactions seen)
+        absurd (true≢false (sym (among config number (slot_in table) low txs tx i there
         (present_from_place (is_at i) tx.branches (ltb-true _ _ e))) ∙ out))
     by_place seen false e =
         get_or_past (slots_in table tx) (place_of tx i) empty_slot (omega (arith, ltb-false _ _ e, is.branches tx seen))
@@ -392,12 +394,45 @@ outside_table table is low config number tx i out = by (ltb (place_in table.tran
         ap (λ slots. slot_of tx slots i)
         (get_or_past table.slots (place_in table.transactions tx) [] (omega (arith, ltb-false _ _ e, is.rows)))
 
+-- some facts, and then more
+all_play_both : (config : Config) (number : ℕ) (before xs ys : List Fact) → all_play config (A number) before (xs ++ ys)
+    ≡ (all_play config (A number) before xs && all_play config (A number) (before ++ xs) ys)
+all_play_both config number before [] ys = ap (λ (fs : List Fact). all_play config (A number) fs ys) (sym (append-nil before))
+all_play_both config number before (x ∷ xs) ys =
+    let p = plays config (A number) before x in
+    let this = all_play config (A number) (before ++ x ∷ []) xs in
+    let later = all_play config (A number) ((before ++ x ∷ []) ++ xs) ys in
+    ap (λ b. p && b) (all_play_both config number (before ++ x ∷ []) xs ys) ∙ and_three p this later
+    ∙ ap (λ (fs : List Fact). (p && this) && all_play config (A number) fs ys) (append_assoc before (x ∷ []) xs)
+  where
+    and_three : (a b c : Bool) → (a && (b && c)) ≡ ((a && b) && c)
+    and_three true b c = refl
+    and_three false b c = refl
+
+-- facts that play, with others in the place of those before them that say the same
+play_after : (config : Config) (number : ℕ) (a b more : List Fact) → ((tx : TxParts) (i : ℕ) → slot a tx i ≡ slot b tx i)
+    → all_play config (A number) a more ≡ all_play config (A number) b more
+play_after config number a b [] same = refl
+play_after config number a b (fact ∷ more) same = λ k.
+    plays_at_acceptor (λ tx i. same tx i k) fact
+    && play_after config number (a ++ fact ∷ []) (b ++ fact ∷ []) more (λ tx i. same_after a b (fact ∷ []) same tx i) k
+
+all_after : (config : Config) (number : ℕ) (a b more : List Fact) → ((tx : TxParts) (i : ℕ) → slot a tx i ≡ slot b tx i)
+    → all_play config (A number) [] b ≡ true → all_play config (A number) [] (a ++ more) ≡ true
+    → all_play config (A number) [] (b ++ more) ≡ true
+all_after config number a b more same play all =
+    let both = sym (all_play_both config number [] a more) ∙ all in
+    all_play_both config number [] b more
+    ∙ and_from (all_play config (A number) [] b) (all_play config (A number) b more) play
+    (sym (play_after config number a b more same)
+    ∙ second_so (all_play config (A number) [] a) (all_play config (A number) a more) both)
+
 -- what is compacted says the same as whatever an acceptor stands for
-pub is_compacted : (a : AcceptorParts) (kept : List Fact) → IsTable a.table → AllByRecursion IsTx a.table.transactions
-    → IsDistinct tx_eq a.table.transactions → kept ≡ compacted a.table.transactions (slot_in a.table)
-    → (config : Config) (number : ℕ) (facts : List Fact) → StandsFor config number a facts → IsCompacted a kept config number facts
-is_compacted a kept is valid once e config number facts stands = record {
-  list = e ∙ (λ k. compacted a.table.transactions (λ tx i. stands.slots_are tx i k));
+pub is_compacted : (a : AcceptorParts) (kept : List Fact) → IsTable a.table → AllByRecursion IsTx a.begun
+    → kept ≡ compacted a.begun (slot_in a.table)
+    → (config : Config) (number : ℕ) (facts : List Fact) → StandsFor config number a facts → IsCompacted kept config number facts
+is_compacted a kept is valid e config number facts stands = record {
+  list = list;
   same = record {
     play = ap (λ (fs : List Fact). all_play config (A number) [] fs) e ∙ leads.play;
     stands = λ more other h. record {
@@ -405,16 +440,37 @@ is_compacted a kept is valid once e config number facts stands = record {
       leaders_are = h.leaders_are;
       bundled_is = h.bundled_is;
       slots_are = λ tx i. h.slots_are tx i ∙ same_after kept facts more alike tx i;
+      played = all_after config number kept facts more alike stands.played h.played;
+      begun_are = h.begun_are ∙ first_both fact_tx kept facts more order;
     };
     fits = λ more fact. λ k. plays_at_acceptor (λ tx i. same_after kept facts more alike tx i k) fact;
   };
 }
   where
+    list : kept ≡ shorter_facts facts
+    list = e ∙ (λ k. compacted (stands.begun_are k) (λ tx i. stands.slots_are tx i k))
+
     low : (tx : TxParts) (i : ℕ) → IsLow (slot_in a.table tx i)
     low tx i = subst IsLow (sym (stands.slots_are tx i)) (is_low facts tx i)
 
-    leads : Leads config number (compacted a.table.transactions (slot_in a.table)) (slot_in a.table)
-    leads = compacted_leads config number (slot_in a.table) low a.table.transactions valid once (outside_table a.table is low config number)
+    outside : (tx : TxParts) (i : ℕ) → is_among config number (slot_in a.table) low a.begun tx i ≡ false → slot_in a.table tx i ≡ empty_slot
+    outside tx i out = by (list_any (tx_eq tx) a.begun) refl
+      where
+        by : (t : Bool) → list_any (tx_eq tx) a.begun ≡ t → slot_in a.table tx i ≡ empty_slot
+        by true there = outside_begun a.table is low config number a.begun tx i there out
+        by false none =
+            stands.slots_are tx i
+            ∙ unbegun_empty facts tx i (ap (λ (txs : List TxParts). list_any (tx_eq tx) txs) (sym stands.begun_are) ∙ none)
+
+    leads : Leads config number (compacted a.begun (slot_in a.table)) (slot_in a.table)
+    leads = compacted_leads config number (slot_in a.table) low a.begun valid
+        (subst (IsDistinct tx_eq) (sym stands.begun_are) (first_once fact_tx facts)) outside
 
     alike : (tx : TxParts) (i : ℕ) → slot kept tx i ≡ slot facts tx i
     alike tx i = ap (λ (fs : List Fact). slot fs tx i) e ∙ leads.slots_are tx i ∙ stands.slots_are tx i
+
+    order : begun_in kept ≡ begun_in facts
+    order =
+        ap begun_in list
+        ∙ compacted_begun (slot facts) (begun_in facts) (first_once fact_tx facts)
+        (λ tx there. begun_taken config number facts stands.played tx there)

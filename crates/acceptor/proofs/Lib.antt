@@ -4,5 +4,6 @@ pub mod Reports
 pub mod Played
 pub mod Rows
 pub mod Standing
+pub mod Begun
 pub mod Compacting
 pub mod Writing

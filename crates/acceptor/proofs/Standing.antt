@@ -1,8 +1,9 @@
 -- What an acceptor decides and plays, for whatever it stands for.
 use Rattle.std.proofs.Common.{◌≡◌, ◌∙◌, ℕ, Bool, true, false, not, ◌&&◌, cond, ltb, leb, List, Ok, Err, refl, sym, ap, subst}
-use Rattle.std.specs.Prelude.{IfSome}
+use Rattle.std.specs.Prelude.{◌<◌, IfSome, IfErr, OnOk, Result, []}
 use Rattle.std.proofs.lemmas.Bool.{and_from}
 use Rattle.xid.specs.Transactions.{TxParts, is_participant}
+use Rattle.xid.specs.declared.refusals.Refusal.{Refusal}
 use Rattle.xid.specs.declared.refusals.Refusal.TheVariants.{Damaged, NoMemory}
 use Rattle.xid.specs.declared.transaction.Vote.{Vote}
 use Rattle.wire.specs.declared.message.Kind.TheVariants.{P1a, P2a}
@@ -14,7 +15,11 @@ use Rattle.protocol.specs.declared.decisions.Outgoing.{Outgoing}
 use Rattle.protocol.specs.Facts.{slot}
 use Rattle.protocol.specs.Acceptors.{Slots, plays_at_acceptor, is_accepted, is_some_below, on_1a, on_b1a, on_2a}
 use Rattle.protocol.specs.Effects.{Config, Effect, decision_of, no_effect, stores, sends_only}
-use Rattle.stable_record.specs.Parts.{Plays, IsPlayed}
+use Rattle.stable_record.specs.Parts.{Plays, IsPlayed, IsMadeReady}
+use Rattle.protocol.specs.declared.nodes.NodeId.TheVariants.{A}
+use Rattle.protocol.proofs.Manager.Played.{all_play_then}
+use Rattle.transactions.specs.Seen.{seen_with}
+use Rattle.transactions.proofs.First.{first_more}
 use Rattle.acceptor.specs.Slots.{slots_of, after_fact}
 use Rattle.acceptor.specs.Tables.{TableParts, IsSeen, slots_in, slot_in}
 use Rattle.acceptor.specs.Acceptors.{AcceptorParts, StandsFor, Decides, acceptor_part}
@@ -94,28 +99,46 @@ pub plays_same : (old new : TableParts) (fact : Fact) → ((tx : TxParts) (i : �
     → plays_at_acceptor (slot_in old) fact ≡ true → plays_at_acceptor (slot_in new) fact ≡ true
 plays_same old new fact same e = (λ k. plays_at_acceptor (λ tx i. same tx i k) fact) ∙ e
 
-abbrev with_table : AcceptorParts → TableParts → AcceptorParts
-with_table a table = record { number = a.number; leaders = a.leaders; bundled = a.bundled; table = table }
+-- an acceptor with another table, and another order
+abbrev pub with_parts : AcceptorParts → TableParts → List TxParts → ℕ → AcceptorParts
+with_parts a table begun room =
+    record { number = a.number; leaders = a.leaders; bundled = a.bundled; table = table; begun = begun; room = room }
+
+-- with the same slots in the same order it stands for the same
+pub stands_still : (a : AcceptorParts) (table : TableParts) (begun : List TxParts) (room : ℕ)
+    → ((tx : TxParts) (i : ℕ) → slot_in table tx i ≡ slot_in a.table tx i) → begun ≡ a.begun
+    → (config : Config) (number : ℕ) (facts : List Fact) → StandsFor config number a facts
+    → StandsFor config number (with_parts a table begun room) facts
+stands_still a table begun room same order config number facts stands = record {
+  number_is = stands.number_is;
+  leaders_are = stands.leaders_are;
+  bundled_is = stands.bundled_is;
+  slots_are = λ tx i. same tx i ∙ stands.slots_are tx i;
+  played = stands.played;
+  begun_are = order ∙ stands.begun_are;
+}
 
 module _ (a : AcceptorParts) (fact : Fact) where
   pub is_damaged : plays_at_acceptor (slot_in a.table) fact ≡ false → (config : Config) (number : ℕ)
       → IsPlayed (acceptor_part config number) a a fact (Err Damaged)
   is_damaged e config number = (plays_for config number a fact false e, λ facts stands. stands)
 
-  pub lacks_memory : (table : TableParts) → plays_at_acceptor (slot_in a.table) fact ≡ true → ¬ IsSeen a.table (fact_tx fact) → table
-      ≡ a.table
-      → (config : Config) (number : ℕ) → IsPlayed (acceptor_part config number) a (with_table a table) fact (Err NoMemory)
-  lacks_memory table e unseen same config number = (
+  pub lacks_memory : (table : TableParts) (begun : List TxParts) (room : ℕ) → plays_at_acceptor (slot_in a.table) fact ≡ true
+      → (IsSeen a.table (fact_tx fact) × (0 < a.room) → ⊥) → ((tx : TxParts) (i : ℕ) → slot_in table tx i ≡ slot_in a.table tx i)
+      → begun ≡ a.begun
+      → (config : Config) (number : ℕ) → IsPlayed (acceptor_part config number) a (with_parts a table begun room) fact (Err NoMemory)
+  lacks_memory table begun room e unready same order config number = (
     plays_for config number a fact true e,
-    unseen,
-    λ facts stands. subst (λ t. StandsFor config number (with_table a t) facts) (sym same) stands,
+    unready,
+    λ facts stands. stands_still a table begun room same order config number facts stands,
   )
 
-  pub is_played : (ready table : TableParts) → plays_at_acceptor (slot_in a.table) fact ≡ true
+  pub is_played : (ready table : TableParts) (begun : List TxParts) (room : ℕ) → plays_at_acceptor (slot_in a.table) fact ≡ true
       → ((tx : TxParts) (i : ℕ) → slot_in ready tx i ≡ slot_in a.table tx i)
       → ((tx : TxParts) (i : ℕ) → slot_in table tx i ≡ after_fact tx i (slot_in ready tx i) fact)
-      → (config : Config) (number : ℕ) → IsPlayed (acceptor_part config number) a (with_table a table) fact (Ok tt)
-  is_played ready table e same step config number = (
+      → begun ≡ seen_with a.begun (fact_tx fact)
+      → (config : Config) (number : ℕ) → IsPlayed (acceptor_part config number) a (with_parts a table begun room) fact (Ok tt)
+  is_played ready table begun room e same step order config number = (
     plays_for config number a fact true e,
     λ facts stands. record {
       number_is = stands.number_is;
@@ -123,5 +146,18 @@ module _ (a : AcceptorParts) (fact : Fact) where
       bundled_is = stands.bundled_is;
       slots_are = λ tx i.
           step tx i ∙ ap (λ s. after_fact tx i s fact) (same tx i ∙ stands.slots_are tx i) ∙ sym (slot_more facts fact tx i);
+      played = all_play_then config (A number) [] facts fact stands.played (plays_for config number a fact true e facts stands);
+      begun_are = order ∙ ap (λ seen. seen_with seen (fact_tx fact)) stands.begun_are ∙ sym (first_more fact_tx facts fact);
     },
   )
+
+  -- made ready: its transaction is seen, and there is room for it, or not for want of memory
+  pub is_ready : (table : TableParts) (begun : List TxParts) (room : ℕ) (r : Result (Unit {0}) Refusal)
+      → ((tx : TxParts) (i : ℕ) → slot_in table tx i ≡ slot_in a.table tx i) → begun ≡ a.begun → IsSeen table (fact_tx fact)
+      → OnOk r (0 < room) → (P : Type 0) → IfErr r (λ refusal. (refusal ≡ NoMemory) × P)
+      → (config : Config) (number : ℕ) → IsMadeReady (acceptor_part config number) a (with_parts a table begun room) fact r
+  is_ready table begun room (Ok done) same order seen some P err config number =
+      (λ facts stands. stands_still a table begun room same order config number facts stands, (seen, some))
+  is_ready table begun room (Err refusal) same order seen some P err config number =
+      subst (λ e. IsMadeReady (acceptor_part config number) a (with_parts a table begun room) fact (Err e)) (sym err.0)
+      (λ facts stands. stands_still a table begun room same order config number facts stands)

@@ -10,7 +10,7 @@ use Rattle.protocol.specs.Acceptors.{Slots}
 use Rattle.protocol.specs.Effects.{Config}
 use Rattle.protocol.specs.Facts.{slot}
 use Rattle.protocol.specs.Nodes.{plays, all_play}
-use Rattle.acceptor.specs.Acceptors.{AcceptorParts, StandsFor}
+use Rattle.acceptor.specs.Acceptors.{AcceptorParts, StandsFor, begun_in}
 
 -- the ballot of what was accepted last, 0 where nothing was
 abbrev pub accepted_ballot : Report → ℕ
@@ -46,13 +46,17 @@ pub record SaysTheSame (config : Config) (number : ℕ) (kept facts : List Fact)
       → StandsFor config number acceptor (facts ++ more)
   pub fits : (more : List Fact) (fact : Fact) → plays config (A number) (kept ++ more) fact ≡ plays config (A number) (facts ++ more) fact
 
--- facts are those of an acceptor's slots, of each transaction in the order of first sight, and say the same as whatever it stands for
-pub record IsCompacted (acceptor : AcceptorParts) (kept : List Fact) (config : Config) (number : ℕ) (facts : List Fact) : Type 0 where
-  pub list : kept ≡ compacted acceptor.table.transactions (slot facts)
+-- the facts of a shorter record: those of the slots that facts lead to, of each transaction in the order of their first facts
+abbrev pub shorter_facts : List Fact → List Fact
+shorter_facts facts = compacted (begun_in facts) (slot facts)
+
+-- facts are the shorter record of others, and say the same
+pub record IsCompacted (kept : List Fact) (config : Config) (number : ℕ) (facts : List Fact) : Type 0 where
+  pub list : kept ≡ shorter_facts facts
   pub same : SaysTheSame config number kept facts
 
 -- facts to keep in place of whatever an acceptor stands for
 abbrev pub Compacts : AcceptorParts → (kept : List Fact) → Type 0
 Compacts acceptor kept =
     (config : Config) (number : ℕ) (facts : List Fact) → StandsFor config number acceptor facts
-    → IsCompacted acceptor kept config number facts
+    → IsCompacted kept config number facts

@@ -13,25 +13,28 @@ ghost use Rattle.acceptor.specs.Compaction.{Compacts};
 use crate::bundles::Accepted;
 use crate::rules::{Seat, on_1a, on_2a, on_b1a};
 use crate::slots::plays;
-use crate::table::Table;
+use crate::table::{Table, begin};
 use protocol::Decision;
 use stable_record::Fact;
 use std::alloc::Global;
 use std::marker::Model;
+use transactions::Order;
 use wire::{Kind, Message};
 use xid::{Ballot, ManagerNumber, Refusal, Tx, Vote};
 
-/// An acceptor: its number, how many leaders there are, whether the cluster is bundled, and a slot for each instance of each
-/// transaction that it has seen.
+/// An acceptor: its number, how many leaders there are, whether the cluster is bundled, a slot for each instance of each transaction that
+/// it has seen, and those of which a fact was played, in the order of their first facts.
 #[derive(Debug, Drop)]
 pub struct Acceptor {
     seat: Seat,
     table: Table,
+    begun: Order,
 }
 
 impl Model for Acceptor {
-    ghost use Rattle.std.specs.Prelude.{◌<◌};
+    ghost use Rattle.std.specs.Prelude.{◌<◌, length};
     ghost use Rattle.xid.specs.Limits.{most_acceptors};
+    ghost use Rattle.transactions.specs.Seen.{AreInside, at_places};
     ghost use Rattle.acceptor.specs.Acceptors.{AcceptorParts};
 
     ghost Value = { AcceptorParts };
@@ -41,9 +44,12 @@ impl Model for Acceptor {
       leaders = a.seat.leaders;
       bundled = a.seat.bundled;
       table = a.table;
+      begun = at_places a.table.transactions a.begun.numbers;
+      room = a.begun.room;
     } };
 
-    ghost invariant = { λ a. (a.seat.number < most_acceptors) × (0 < a.seat.leaders) };
+    ghost invariant = { λ a. (a.seat.number < most_acceptors) × (0 < a.seat.leaders)
+        × AreInside (length a.table.transactions) a.begun.numbers };
 }
 
 impl Acceptor {
@@ -60,6 +66,7 @@ impl Acceptor {
                 bundled,
             },
             table: Table::new(alloc),
+            begun: Order::new(alloc),
         }
     }
 
@@ -171,19 +178,19 @@ impl Acceptor {
         on_2a(self.seat, tx, self.table.slots_of(tx), accepted, decision);
     }
 
-    /// Makes itself ready for a fact: its transaction is seen, so that `play` of it takes no memory. At `NoMemory`, the only refusal,
-    /// and else too, each slot is as it was.
+    /// Makes itself ready for a fact: its transaction is seen, and there is room for it to begin, so that `play` of it takes no memory. At
+    /// `NoMemory`, the only refusal, and else too, it stands for what it stood for.
     pub fn ready(&mut self, fact: &Fact) -> Result<(), Refusal>
         ensures { (config : Config) (number : ℕ) → IsMadeReady (acceptor_part config number) self.old self.new fact.now result }
     {
         match self.table.see(fact.kind().tx()) {
-            Ok(_) => Ok(()),
+            Ok(_) => self.begun.reserve(),
             Err(_) => Err(Refusal::NoMemory),
         }
     }
 
     /// Plays a fact that is stored. Refused (`Damaged`) where its condition on the slots doesn't hold, and (`NoMemory`) where it wasn't
-    /// made ready for it; then each slot is as it was.
+    /// made ready for it; then it stands for what it stood for.
     pub fn play(&mut self, fact: Fact) -> Result<(), Refusal>
         ensures { (config : Config) (number : ℕ) → IsPlayed (acceptor_part config number) self.old self.new fact result }
     {
@@ -201,6 +208,9 @@ impl Acceptor {
         if !plays(self.table.slots(number), fact) {
             return Err(Refusal::Damaged);
         }
+        let Ok(()) = begin(&mut self.begun, &self.table, number, tx) else {
+            return Err(Refusal::NoMemory);
+        };
         self.table.change(number, fact);
         Ok(())
     }
@@ -216,16 +226,19 @@ impl Acceptor {
         let Ok(number) = self.table.see(tx) else {
             return Err(Refusal::NoMemory);
         };
+        let Ok(()) = begin(&mut self.begun, &self.table, number, tx) else {
+            return Err(Refusal::NoMemory);
+        };
         self.table.change(number, fact);
         Ok(())
     }
 
-    /// The facts of a shorter record that says the same: for each transaction in the order of first sight, and each instance ascending,
+    /// The facts of a shorter record that says the same: for each transaction in the order of its first fact, and each instance ascending,
     /// what was accepted last, and then a promise, where the instance took part in a greater ballot. `NoMemory` is the only refusal.
     pub fn shorter(&self) -> Result<Vec<Fact>, Refusal>
         ensures ok { IfOk result (λ kept. Compacts self.now kept.items) }
         ensures err { IfErr result (λ e. e ≡ NoMemory) }
     {
-        self.table.compacted()
+        self.table.compacted(&self.begun)
     }
 }

@@ -1,15 +1,17 @@
-ghost use Rattle.std.specs.Prelude.{◌≡◌, ◌^◌, ◌++◌, length, map, OnOk, IfOk, IfErr};
+ghost use Rattle.std.specs.Prelude.{◌≡◌, ◌^◌, ◌++◌, length, OnOk, IfOk, IfErr};
 ghost use Rattle.xid.specs.declared.refusals.Refusal.TheVariants.{NoMemory};
 ghost use Rattle.wire.specs.Messages.{IsReportBelow};
 ghost use Rattle.acceptor.specs.Slots.{IsKept, slots_of};
-ghost use Rattle.acceptor.specs.Tables.{IsTable, slot_in};
+ghost use Rattle.transactions.specs.Seen.{AreInside, at_places};
+ghost use Rattle.acceptor.specs.Tables.{slot_in};
 ghost use Rattle.acceptor.specs.Compaction.{accept_facts, promise_facts, slot_facts, transaction_facts, compacted};
 
 use crate::slots::{KeptSlot, slot_at};
+use crate::table::Table;
 use ballot::{Report, Slot};
 use stable_record::{Fact, FactKind};
 use std::alloc::Global;
-use transactions::Transactions;
+use transactions::Order;
 use xid::{ManagerNumber, Refusal, Tx};
 
 /// Puts what was accepted last of an instance, if anything was, after other facts.
@@ -87,23 +89,19 @@ fn put_transaction(facts: &mut Vec<Fact>, tx: &Tx, slots: &[KeptSlot]) -> Result
     Ok(())
 }
 
-/// The facts that lead each transaction to its slots: each instance to what it accepted last, and then to a promise above it.
-pub fn facts_of(
-    alloc: Global,
-    transactions: &Transactions,
-    rows: &[Vec<KeptSlot>],
-) -> Result<Vec<Fact>, Refusal>
-    requires { IsTable (record { transactions = transactions.now; slots = map (λ slots. slots.items) rows.now }) }
-    ensures ok { IfOk result (λ facts. facts.items ≡ compacted transactions.now
-        (slot_in (record { transactions = transactions.now; slots = map (λ slots. slots.items) rows.now }))) }
+/// The facts that lead each transaction that has begun to its slots: each instance to what it accepted last, and then to a promise above
+/// it.
+pub fn facts_of(alloc: Global, table: &Table, begun: &Order) -> Result<Vec<Fact>, Refusal>
+    requires { AreInside (length table.now.transactions) begun.now.numbers }
+    ensures ok { IfOk result (λ facts. facts.items ≡ compacted (at_places table.now.transactions begun.now.numbers) (slot_in table.now)) }
     ensures err { IfErr result (λ e. e ≡ NoMemory) }
 {
     let mut facts = Vec::new(alloc);
-    for number in 0..transactions.len() {
-        let Some(tx) = transactions.get(number) else {
+    for i in 0..table.begun_count(begun) {
+        let Some(tx) = table.begun_at(begun, i) else {
             unreachable!();
         };
-        put_transaction(&mut facts, &tx, &rows[number])?;
+        put_transaction(&mut facts, &tx, table.slots_of(&tx))?;
     }
     Ok(facts)
 }

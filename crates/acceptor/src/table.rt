@@ -1,10 +1,10 @@
-ghost use Rattle.std.specs.Prelude.{◌≡◌, ℕ, ◌<◌, true, [], IfSome, IfOk, IfErr, length, replicate};
+ghost use Rattle.std.specs.Prelude.{◌≡◌, ℕ, ◌<◌, true, [], IfSome, IfOk, IfErr, OnOk, length, replicate, slice_get};
 ghost use Rattle.std.specs.List.{slice_index_or, All, IsDistinct};
 ghost use Rattle.xid.specs.Transactions.{TxParts, IsTx, tx_eq};
 ghost use Rattle.xid.specs.declared.refusals.Refusal.TheVariants.{NoMemory};
 ghost use Rattle.ballot.specs.Slots.{empty_slot};
 ghost use Rattle.stable_record.specs.Facts.{fact_tx};
-ghost use Rattle.transactions.specs.Seen.{place_in};
+ghost use Rattle.transactions.specs.Seen.{AreInside, at_places, place_in, seen_with};
 ghost use Rattle.protocol.specs.Acceptors.{plays_at_acceptor};
 ghost use Rattle.acceptor.specs.Slots.{after_fact};
 ghost use Rattle.acceptor.specs.Tables.{IsSeen, IsTable, slots_in, slot_in};
@@ -15,7 +15,7 @@ use crate::slots::{KeptSlot, change};
 use stable_record::Fact;
 use std::alloc::{AllocError, Global};
 use std::marker::Model;
-use transactions::Transactions;
+use transactions::{Order, Transactions};
 use xid::{Refusal, Tx};
 
 /// The slots of all transactions that an acceptor has seen: for each one for each of its branches.
@@ -83,6 +83,7 @@ impl Table {
     pub fn see(&mut self, tx: &Tx) -> Result<usize, Refusal>
         ensures number { IfOk result (λ number. number ≡ place_in self.new.transactions tx.now) }
         ensures seen { IfOk result (λ _. IsSeen self.new tx.now) }
+        ensures transactions { OnOk result (self.new.transactions ≡ seen_with self.old.transactions tx.now) }
         ensures same { (other : TxParts) (i : ℕ) → slot_in self.new other i ≡ slot_in self.old other i }
         ensures err { IfErr result (λ e. (e ≡ NoMemory) × (¬ IsSeen self.old tx.now) × (self.new ≡ self.old)) }
     {
@@ -107,23 +108,67 @@ impl Table {
         requires number { number ≡ place_in self.old.transactions (fact_tx fact.now) }
         requires seen { IsSeen self.old (fact_tx fact.now) }
         requires plays { plays_at_acceptor (slot_in self.old) fact.now ≡ true }
-        ensures { (other : TxParts) (i : ℕ) → slot_in self.new other i ≡ after_fact other i (slot_in self.old other i) fact.now }
+        ensures transactions { self.new.transactions ≡ self.old.transactions }
+        ensures slots { (other : TxParts) (i : ℕ) → slot_in self.new other i ≡ after_fact other i (slot_in self.old other i) fact.now }
     {
         change(&mut self.slots[number], fact);
     }
 
-    /// The facts that lead to its slots: for each transaction in the order of first sight, and each instance ascending, what was accepted
-    /// last, and then a promise above it. `NoMemory` is the only refusal.
-    pub fn compacted(&self) -> Result<Vec<Fact>, Refusal>
-        ensures ok { IfOk result (λ facts. facts.items ≡ compacted self.now.transactions (slot_in self.now)) }
+    /// How many transactions are seen. No two are the same.
+    pub fn len(&self) -> usize
+        ensures value { result ≡ length self.now.transactions }
+        ensures distinct { IsDistinct tx_eq self.now.transactions }
+    {
+        self.transactions.len()
+    }
+
+    /// How many transactions an order has.
+    pub fn begun_count(&self, begun: &Order) -> usize
+        ensures { result ≡ length (at_places self.now.transactions begun.now.numbers) }
+    {
+        begun.len()
+    }
+
+    /// The transaction at a place of an order, where there is one.
+    pub fn begun_at(&self, begun: &Order, i: usize) -> Option<Tx>
+        requires { AreInside (length self.now.transactions) begun.now.numbers }
+        ensures { result ≡ slice_get (at_places self.now.transactions begun.now.numbers) i }
+    {
+        match begun.get(i) {
+            Some(number) => self.transactions.get(number),
+            None => None,
+        }
+    }
+
+    /// The facts that lead to its slots: for each transaction that has begun, in this order, and each instance ascending, what was
+    /// accepted last, and then a promise above it. `NoMemory` is the only refusal.
+    pub fn compacted(&self, begun: &Order) -> Result<Vec<Fact>, Refusal>
+        requires { AreInside (length self.now.transactions) begun.now.numbers }
+        ensures ok { IfOk result (λ facts. facts.items
+            ≡ compacted (at_places self.now.transactions begun.now.numbers) (slot_in self.now)) }
         ensures err { IfErr result (λ e. e ≡ NoMemory) }
         ensures table { IsTable self.now }
         ensures valid { All IsTx self.now.transactions }
-        ensures distinct { IsDistinct tx_eq self.now.transactions }
     {
         let _ = self.transactions.len();
-        facts_of(self.alloc, &self.transactions, &self.slots)
+        facts_of(self.alloc, self, begun)
     }
+}
+
+/// Puts a transaction that was seen, by its number, after those that have begun, unless it is there. At `NoMemory`, the only refusal, there
+/// was no room for it, and all is as before.
+pub fn begin(begun: &mut Order, table: &Table, number: usize, tx: &Tx) -> Result<(), Refusal>
+    requires number { number ≡ place_in table.now.transactions tx.now }
+    requires seen { IsSeen table.now tx.now }
+    requires inside { AreInside (length table.now.transactions) begun.old.numbers }
+    ensures inside { AreInside (length table.now.transactions) begun.new.numbers }
+    ensures ok { OnOk result (at_places table.now.transactions begun.new.numbers
+        ≡ seen_with (at_places table.now.transactions begun.old.numbers) tx.now) }
+    ensures err { IfErr result (λ e. (e ≡ NoMemory) × (¬ (0 < begun.old.room)) × (begun.new.numbers ≡ begun.old.numbers)) }
+{
+    let _ = table.len();
+    let _ = tx.count();
+    begun.add(number)
 }
 
 /// The slots of a transaction at first.

@@ -1,7 +1,7 @@
 -- The ballots of a compacted record play, and each transaction's is its greatest.
-use Rattle.std.proofs.Common.{◌≡◌, ◌∙◌, ◌==◌, ℕ, ◌<◌, max, Bool, true, false, ◌||◌, ltb, List, [], ◌∷◌, ◌++◌}
+use Rattle.std.proofs.Common.{◌≡◌, ◌∙◌, ◌==◌, ℕ, ◌<◌, ◌≤◌, max, Bool, true, false, ◌||◌, ltb, List, [], ◌∷◌, ◌++◌}
 use Rattle.std.proofs.Common.{refl, sym, ap, subst, append_assoc, arith}
-use Rattle.std.specs.Prelude.{if◌then◌else◌}
+use Rattle.std.specs.Prelude.{if◌then◌else◌, Option, Some, None, fold}
 use Rattle.std.specs.List.{AllByRecursion, IsDistinct, list_any, cons_option}
 use Rattle.std.specs.Cmp.{first_so, second_so}
 use Rattle.std.proofs.lemmas.Bool.{ltb-true, ltb-false, lt-ltb, and_from, true≢false}
@@ -11,6 +11,9 @@ use Rattle.xid.specs.Transactions.{TxParts, tx_eq}
 use Rattle.ballot.specs.Ballots.{owner_of}
 use Rattle.ballot.specs.Greatest.{greatest}
 use Rattle.stable_record.specs.declared.fact.FactKind.{FactKind as Fact}
+use Rattle.stable_record.specs.Facts.{fact_tx}
+use Rattle.transactions.specs.Seen.{seen_with}
+use Rattle.transactions.proofs.First.{seen_after, seen_all, first_any, first_both, first_once}
 use Rattle.protocol.specs.declared.nodes.NodeId.TheVariants.{L}
 use Rattle.protocol.specs.Effects.{Config}
 use Rattle.protocol.specs.Facts.{last_ballot, ballot_begun}
@@ -18,9 +21,9 @@ use Rattle.protocol.specs.LeaderMemory.{LeaderMemory, StoredBallots}
 use Rattle.protocol.specs.Leaders.{plays_at_leader}
 use Rattle.protocol.specs.Nodes.{plays, all_play}
 use Rattle.protocol.proofs.Manager.Played.{all_play_then}
-use Rattle.leader.specs.Leaders.{LeaderParts, StandsForBallots, course_of}
-use Rattle.leader.specs.Compaction.{ballot_facts, compacted, IsCompacted}
-use Rattle.leader.proofs.Basics.{same_tx, other_turned}
+use Rattle.leader.specs.Leaders.{LeaderParts, StandsForBallots, StandsFor, course_of, begun_in}
+use Rattle.leader.specs.Compaction.{ballot_facts, compacted, shorter_facts, IsCompacted}
+use Rattle.leader.proofs.Basics.{same_tx, tx_self, other_turned}
 use Rattle.leader.proofs.Leading.{greatest_with, stored_ballot}
 
 -- ---- greatest ballots, with more facts after them
@@ -169,30 +172,151 @@ module _ (config : Config) (number : ℕ) where
             none true some = absurd (true≢false (sym (there tx (ltb-true 0 (stored tx) some)) ∙ e))
             none false e = omega (arith, ltb-false 0 (stored tx) e)
 
+-- ---- their order
+
+-- with more facts the greatest ballot is no less
+no_less : (before more : List Fact) (tx : TxParts) → last_ballot before tx ≤ last_ballot (before ++ more) tx
+no_less before [] tx = subst (λ (fs : List Fact). last_ballot before tx ≤ last_ballot fs tx) (sym (append-nil before)) (omega arith)
+no_less before (fact ∷ more) tx =
+    let later = no_less (before ++ fact ∷ []) more tx in
+    let one = greatest_with before tx fact in
+    subst (λ (fs : List Fact). last_ballot before tx ≤ last_ballot fs tx) (append_assoc before (fact ∷ []) more)
+    (omega (arith, later, one))
+
+-- a ballot of a transaction that has begun is above 0
+some_ballot : (config : Config) (number : ℕ) (before more : List Fact) (tx : TxParts) → all_play config (L number) before more ≡ true
+    → list_any (λ fact. tx_eq tx (fact_tx fact)) more ≡ true → 0 < last_ballot (before ++ more) tx
+some_ballot config number before [] tx play there = absurd (true≢false (sym there))
+some_ballot config number before (fact ∷ more) tx play there =
+    by (tx_eq tx (fact_tx fact)) refl
+    (λ rest. some_ballot config number (before ++ fact ∷ []) more tx
+    (second_so (plays config (L number) before fact) (all_play config (L number) (before ++ fact ∷ []) more) play) rest)
+  where
+    fits : plays config (L number) before fact ≡ true
+    fits = first_so (plays config (L number) before fact) (all_play config (L number) (before ++ fact ∷ []) more) play
+
+    ballot_here : (fact : Fact) → plays config (L number) before fact ≡ true → 0 < last_ballot (before ++ fact ∷ []) (fact_tx fact)
+    ballot_here (Fact.Ballot other b) fits =
+        let above = ltb-true _ _ (first_so (ltb (last_ballot before other) b) (owner_of config.leaders b == number) fits) in
+        let is = stored_ballot before other other b above ∙ ap (λ t. if t then b else last_ballot before other) (tx_self other) in
+        omega (arith, above, is)
+    ballot_here (Fact.Promise other i b) fits = absurd (true≢false (sym fits))
+    ballot_here (Fact.Accept other i b v) fits = absurd (true≢false (sym fits))
+    ballot_here (Fact.PromiseAll other b) fits = absurd (true≢false (sym fits))
+    ballot_here (Fact.VotePrepared other keys) fits = absurd (true≢false (sym fits))
+    ballot_here (Fact.VoteAborted other) fits = absurd (true≢false (sym fits))
+    ballot_here (Fact.Committed other) fits = absurd (true≢false (sym fits))
+    ballot_here (Fact.Aborted other) fits = absurd (true≢false (sym fits))
+
+    goes_on : 0 < last_ballot ((before ++ fact ∷ []) ++ more) tx → 0 < last_ballot (before ++ fact ∷ more) tx
+    goes_on h = subst (λ (fs : List Fact). 0 < last_ballot fs tx) (append_assoc before (fact ∷ []) more) h
+
+    by : (t : Bool) → tx_eq tx (fact_tx fact) ≡ t
+        → (list_any (λ f. tx_eq tx (fact_tx f)) more ≡ true → 0 < last_ballot ((before ++ fact ∷ []) ++ more) tx)
+        → 0 < last_ballot (before ++ fact ∷ more) tx
+    by true e later =
+        let here = subst (λ (x : TxParts). 0 < last_ballot (before ++ fact ∷ []) x) (sym (same_tx tx (fact_tx fact) e))
+        (ballot_here fact fits) in
+        goes_on (omega (arith, here, no_less (before ++ fact ∷ []) more tx))
+    by false e later = goes_on (later (sym (ap (λ t. t || list_any (λ f. tx_eq tx (fact_tx f)) more) e) ∙ there))
+
+-- of a transaction that hasn't begun there is none
+no_ballot : (before more : List Fact) (tx : TxParts) → list_any (λ fact. tx_eq tx (fact_tx fact)) more ≡ false
+    → last_ballot (before ++ more) tx ≡ last_ballot before tx
+no_ballot before [] tx none = λ k. last_ballot (append-nil before k) tx
+no_ballot before (fact ∷ more) tx none =
+    let parts = not_first (tx_eq tx (fact_tx fact)) (list_any (λ f. tx_eq tx (fact_tx f)) more) none in
+    (λ k. last_ballot (sym (append_assoc before (fact ∷ []) more) k) tx)
+    ∙ no_ballot (before ++ fact ∷ []) more tx parts.1 ∙ same fact parts.0
+  where
+    not_first : (a b : Bool) → (a || b) ≡ false → (a ≡ false) × (b ≡ false)
+    not_first false b e = (refl, e)
+    not_first true b e = absurd (true≢false e)
+
+    nothing_more : (fact : Fact) → ballot_begun tx fact ≡ None → last_ballot (before ++ fact ∷ []) tx ≡ last_ballot before tx
+    nothing_more fact none =
+        greatest_with before tx fact
+        ∙ ap (λ (o : Option ℕ). max (last_ballot before tx) (greatest (cons_option o []))) none
+        ∙ omega arith
+
+    same : (fact : Fact) → tx_eq tx (fact_tx fact) ≡ false → last_ballot (before ++ fact ∷ []) tx ≡ last_ballot before tx
+    same (Fact.Ballot other b) e =
+        nothing_more (Fact.Ballot other b) (ap (λ t. if t then Some b else None) e)
+    same (Fact.Promise other i b) e = nothing_more (Fact.Promise other i b) refl
+    same (Fact.Accept other i b v) e = nothing_more (Fact.Accept other i b v) refl
+    same (Fact.PromiseAll other b) e = nothing_more (Fact.PromiseAll other b) refl
+    same (Fact.VotePrepared other keys) e = nothing_more (Fact.VotePrepared other keys) refl
+    same (Fact.VoteAborted other) e = nothing_more (Fact.VoteAborted other) refl
+    same (Fact.Committed other) e = nothing_more (Fact.Committed other) refl
+    same (Fact.Aborted other) e = nothing_more (Fact.Aborted other) refl
+
+-- ballots of some transactions begin in their order
+ballots_seen : (stored : StoredBallots) (txs seen : List TxParts) → AllByRecursion (λ tx. 0 < stored tx) txs
+    → fold (seen_after fact_tx) seen (compacted txs stored) ≡ fold seen_with seen txs
+ballots_seen stored [] seen each = refl
+ballots_seen stored (tx ∷ txs) seen each =
+    ap (λ t. fold (seen_after fact_tx) seen ((if t then Fact.Ballot tx (stored tx) ∷ [] else []) ++ compacted txs stored))
+    (lt-ltb 0 (stored tx) each.0)
+    ∙ ballots_seen stored txs (seen_with seen tx) each.1
+
+compacted_begun : (stored : StoredBallots) (txs : List TxParts) → IsDistinct tx_eq txs
+    → ((tx : TxParts) → list_any (tx_eq tx) txs ≡ true → 0 < stored tx) → begun_in (compacted txs stored) ≡ txs
+compacted_begun stored txs once some = ballots_seen stored txs [] (each txs some) ∙ seen_all [] txs once
+  where
+    or_yes : (a : Bool) → (a || true) ≡ true
+    or_yes true = refl
+    or_yes false = refl
+
+    each : (ys : List TxParts) → ((tx : TxParts) → list_any (tx_eq tx) ys ≡ true → 0 < stored tx)
+        → AllByRecursion (λ tx. 0 < stored tx) ys
+    each [] there = tt
+    each (y ∷ ys) there = (
+      there y (ap (λ t. t || list_any (tx_eq y) ys) (tx_self y)),
+      each ys (λ tx e. there tx (ap (λ t. tx_eq tx y || t) e ∙ or_yes (tx_eq tx y))),
+    )
+
 -- ---- those of a leader
 
 -- what is compacted says the same as whatever plays and a leader stands for
-pub is_compacted : (l : LeaderParts) (kept : List Fact) → IsDistinct tx_eq l.courses.begun
-    → kept ≡ compacted l.courses.begun (λ tx. (course_of l tx).greatest) → (config : Config) (number : ℕ) (facts : List Fact) (memory : LeaderMemory)
-    → StandsForBallots config number l (last_ballot facts) memory → all_play config (L number) [] facts ≡ true
-    → IsCompacted l kept config number facts
-is_compacted l kept once e config number facts memory stands play = record {
+pub is_compacted : (l : LeaderParts) (kept : List Fact) → kept ≡ compacted l.courses.begun (λ tx. (course_of l tx).greatest)
+    → (config : Config) (number : ℕ) (facts : List Fact) (memory : LeaderMemory) → StandsFor config number l facts memory
+    → all_play config (L number) [] facts ≡ true → IsCompacted kept config number facts
+is_compacted l kept e config number facts memory stands play = record {
   list = is;
   same = record {
     play = ap (λ (fs : List Fact). all_play config (L number) [] fs) is ∙ leads.play;
-    stands = λ more other heard h.
-        subst (λ (s : StoredBallots). StandsForBallots config number other s heard) (λ k tx. same_after kept facts more alike tx k) h;
+    stands = λ more other heard h. record {
+      ballots = subst (λ (s : StoredBallots). StandsForBallots config number other s heard)
+          (λ k tx. same_after kept facts more alike tx k) h.ballots;
+      begun_are = h.begun_are ∙ first_both fact_tx kept facts more order;
+    };
     fits = λ more fact. λ k. plays_at_leader config.leaders number (λ tx. same_after kept facts more alike tx k) fact;
   };
 }
   where
-    is : kept ≡ compacted l.courses.begun (last_ballot facts)
-    is = e ∙ (λ k. compacted l.courses.begun (λ tx. (stands.courses_are tx).greatest_is k))
+    once : IsDistinct tx_eq (begun_in facts)
+    once = first_once fact_tx facts
 
-    leads : Leads config number (compacted l.courses.begun (last_ballot facts)) (last_ballot facts)
+    is : kept ≡ shorter_facts facts
+    is = e ∙ (λ k. compacted (stands.begun_are k) (λ tx. (stands.ballots.courses_are tx).greatest_is k))
+
+    there : (tx : TxParts) → 0 < last_ballot facts tx → list_any (tx_eq tx) (begun_in facts) ≡ true
+    there tx some = by (list_any (tx_eq tx) (begun_in facts)) refl
+      where
+        by : (t : Bool) → list_any (tx_eq tx) (begun_in facts) ≡ t → t ≡ true
+        by true e = refl
+        by false e = absurd (omega (arith, some, no_ballot [] facts tx (sym (first_any fact_tx tx facts) ∙ e)))
+
+    leads : Leads config number (shorter_facts facts) (last_ballot facts)
     leads =
         compacted_leads config number (last_ballot facts)
-        (owned_after config number [] facts play (λ tx some. absurd (omega (arith, some)))) l.courses.begun once stands.begun_are
+        (owned_after config number [] facts play (λ tx some. absurd (omega (arith, some)))) (begun_in facts) once there
 
     alike : (tx : TxParts) → last_ballot kept tx ≡ last_ballot facts tx
     alike tx = ap (λ (fs : List Fact). last_ballot fs tx) is ∙ leads.ballots_are tx
+
+    order : begun_in kept ≡ begun_in facts
+    order =
+        ap begun_in is
+        ∙ compacted_begun (last_ballot facts) (begun_in facts) once
+        (λ tx e. some_ballot config number [] facts tx play (sym (first_any fact_tx tx facts) ∙ e))

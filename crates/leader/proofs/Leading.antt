@@ -63,13 +63,17 @@ follows config number inner old courses tx c decided decision rule is shows chan
       let inside : StandsForBallots config number inner stored memory = moved config number inner old stored memory is stands in
       agreed_stands config number inner courses tx c decided stored memory (rule stored memory) inside changed
       (agrees stored memory inside);
+  begun_is = changed.begun_is ∙ ap (λ (l : LeaderParts). l.courses.begun) is;
 }
 
 pub kept_same : (config : Config) (number : ℕ) (inner old : LeaderParts) (courses : CoursesParts) → inner ≡ old
     → IsKept inner.courses courses
     → IsSame config number old (with_courses inner courses)
-kept_same config number inner old courses is kept = λ stored memory stands.
-    kept_stands config number inner courses stored memory kept (moved config number inner old stored memory is stands)
+kept_same config number inner old courses is kept = record {
+  stands = λ stored memory stands.
+      kept_stands config number inner courses stored memory kept (moved config number inner old stored memory is stands);
+  begun_is = kept.begun_is ∙ ap (λ (l : LeaderParts). l.courses.begun) is;
+}
 
 pub ok_follows : (config : Config) (number : ℕ) (old new : LeaderParts) (r : Result LeaderDecision Refusal) (decision : LeaderDecision)
     (rule : Rule)
@@ -252,20 +256,25 @@ pub begin_stands : (config : Config) (number : ℕ) (inner old : LeaderParts) (c
     → (0 < (course_of inner tx).greatest → IsChanged inner.courses courses tx (after_beginning b (course_of inner tx)))
     → StandsForBallots config number old stored memory → 0 < stored tx
     → StandsForBallots config number (with_courses inner courses) stored (with_begun tx b (with_met tx memory))
+    × (courses.begun ≡ old.courses.begun)
 begin_stands config number inner old courses tx b stored memory is changed stands some =
     let inside : StandsForBallots config number inner stored memory = moved config number inner old stored memory is stands in
     let c : CourseParts = course_of inner tx in
     let known : c.known ≡ true = (inside.courses_are tx).known_is ∙ known_before stored memory tx some in
     let P : CourseParts → Type 0 = λ d. CourseStands config.acceptors stored (with_begun tx b (with_met tx memory)) tx
     (after_beginning b d) in
-    changed_stands config number inner courses tx (after_beginning b c) stored stored memory (with_begun tx b (with_met tx memory)) inside
-    (changed (omega (arith, some, (inside.courses_are tx).greatest_is)))
-    (subst P (λ k. record c { known = sym known k }) (begin_step config.acceptors stored tx b (with_met tx memory) (after_meeting c)
-    (meet_step config.acceptors stored tx memory c (inside.courses_are tx))))
-    (λ other differs. course_same config.acceptors stored other (course_of inner other) memory (with_begun tx b (with_met tx memory))
-    (same_then other memory (with_met tx memory) (with_begun tx b (with_met tx memory)) (met_elsewhere other tx memory differs)
-    (begun_elsewhere other tx b (with_met tx memory) differs)))
-    inside.begun_are
+    let now : IsChanged inner.courses courses tx (after_beginning b c) =
+    changed (omega (arith, some, (inside.courses_are tx).greatest_is)) in (
+      changed_stands config number inner courses tx (after_beginning b c) stored stored memory (with_begun tx b (with_met tx memory)) inside
+          now
+          (subst P (λ k. record c { known = sym known k }) (begin_step config.acceptors stored tx b (with_met tx memory) (after_meeting c)
+          (meet_step config.acceptors stored tx memory c (inside.courses_are tx))))
+          (λ other differs. course_same config.acceptors stored other (course_of inner other) memory (with_begun tx b (with_met tx memory))
+          (same_then other memory (with_met tx memory) (with_begun tx b (with_met tx memory)) (met_elsewhere other tx memory differs)
+          (begun_elsewhere other tx b (with_met tx memory) differs)))
+          inside.begun_are,
+      now.begun_is ∙ ap (λ (l : LeaderParts). l.courses.begun) is,
+    )
 
 -- ---- a ballot stored
 
@@ -365,6 +374,7 @@ status_follows config number inner old tx decision is below shows = record {
         sends = [];
       });
   stands = λ stored memory stands. stands;
+  begun_is = refl;
 }
 
 -- ---- a timeout that takes over

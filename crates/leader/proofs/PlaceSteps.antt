@@ -1,44 +1,30 @@
 -- The course of a transaction is found again.
-use Rattle.std.proofs.Common.{◌≡◌, ◌∙◌, ℕ, ◌+◌, ◌<◌, ◌≤◌, true, false, List, [], ◌∷◌, ◌++◌, length, get_or, set, Some, None}
+use Rattle.std.proofs.Common.{◌≡◌, ◌∙◌, ℕ, ◌+◌, ◌<◌, true, false, List, [], ◌∷◌, ◌++◌, length, get_or, set, Some, None}
 use Rattle.std.proofs.Common.{sym, ap, refl, subst, arith}
 use Rattle.std.specs.Prelude.{if◌then◌else◌, map}
-use Rattle.std.specs.List.{list_any, AllByRecursion}
+use Rattle.std.specs.List.{list_any}
 use Rattle.std.proofs.lemmas.Bool.{lt-ltb}
 use Rattle.std.proofs.lemmas.List.{get_or_default, get_or_past, length-append}
 use Rattle.xid.specs.Transactions.{TxParts, BranchParts, tx_eq}
-use Rattle.transactions.specs.Seen.{place_in, seen_with}
+use Rattle.transactions.specs.Seen.{place_in, seen_with, OrderParts, at_places, AreInside}
+use Rattle.transactions.proofs.Places.{still_inside, at_places_grown}
 use Rattle.transactions.proofs.Keys.{absent_from_place}
-use Rattle.transactions.proofs.Rows.{front, row_added, row_changed, number_same, is_seen}
+use Rattle.transactions.proofs.Rows.{row_added, row_changed, number_same, is_seen}
 use Rattle.protocol.specs.declared.states.Status.{Status}
 use Rattle.leader.specs.Courses.{CourseParts, fresh, fresh_instance, status_by}
-use Rattle.leader.specs.Places.{CoursesParts, course_in, is_placed_in, no_transaction, at_places, IsPlaceOf, IsChanged, IsKept}
+use Rattle.leader.specs.Places.{CoursesParts, course_in, is_placed_in, IsPlaceOf, IsChanged, IsKept}
 use Rattle.leader.proofs.Basics.{same_tx}
 
--- ---- those that begin, by their places
-
-abbrev pub AreInside : ℕ → List ℕ → Type 0
-AreInside n places = AllByRecursion (λ place. place < n) places
-
 -- each transaction has a row, and each of those that begin a place
-abbrev pub IsCourses : List TxParts → List CourseParts → List ℕ → Type 0
-IsCourses ts rows places = (length rows ≡ length ts) × AreInside (length ts) places
-
-still_inside : (places : List ℕ) (n m : ℕ) → n ≤ m → AreInside n places → AreInside m places
-still_inside [] n m more each = tt
-still_inside (place ∷ places) n m more each = (omega (arith, more, each.0), still_inside places n m more each.1)
-
-at_places_grown : (ts : List TxParts) (tx : TxParts) (places : List ℕ) → AreInside (length ts) places
-    → at_places (ts ++ tx ∷ []) places ≡ at_places ts places
-at_places_grown ts tx [] each = refl
-at_places_grown ts tx (place ∷ places) each =
-    λ k. front ts tx no_transaction place each.0 k ∷ at_places_grown ts tx places each.1 k
+abbrev pub IsCourses : List TxParts → List CourseParts → OrderParts → Type 0
+IsCourses ts rows order = (length rows ≡ length ts) × AreInside (length ts) order.numbers
 
 -- ---- a look-up, by the fields that some courses are kept in
 
-abbrev pub courses_at : List TxParts → List CourseParts → List ℕ → CoursesParts
-courses_at ts rows places = record { transactions = ts; rows = rows; begun = at_places ts places }
+abbrev pub courses_at : List TxParts → List CourseParts → OrderParts → CoursesParts
+courses_at ts rows order = record { transactions = ts; rows = rows; begun = at_places ts order.numbers; room = order.room }
 
-module _ (ts : List TxParts) (rows : List CourseParts) (places : List ℕ) (inside : IsCourses ts rows places) (tx : TxParts) where
+module _ (ts : List TxParts) (rows : List CourseParts) (places : OrderParts) (inside : IsCourses ts rows places) (tx : TxParts) where
   each : length rows ≡ length ts
   each = inside.0
 
@@ -97,12 +83,12 @@ module _ (ts : List TxParts) (rows : List CourseParts) (places : List ℕ) (insi
       added_inside = (
         ap length pushed ∙ length-append rows (fresh tx ∷ []) ∙ ap (λ n. n + 1) each ∙ sym (length-append ts (tx ∷ []))
             ∙ ap length (sym last),
-        still_inside places (length ts) (length us) (omega (arith, ap length last, length-append ts (tx ∷ []))) inside.1,
+        still_inside places.numbers (length ts) (length us) (omega (arith, ap length last, length-append ts (tx ∷ []))) inside.1,
       )
 
       pub added_kept : IsKept courses there
       added_kept = record {
-        begun_is = (λ k. at_places (last k) places) ∙ at_places_grown ts tx places inside.1 ∙ ap (λ k. k.begun) is;
+        begun_is = (λ k. at_places (last k) places.numbers) ∙ at_places_grown ts tx places.numbers inside.1 ∙ ap (λ k. k.begun) is;
         courses_are = λ other.
             (λ k. get_or (pushed k) (place_in (last k) other) (fresh other)) ∙ row_added fresh ts rows each tx none_here other
             ∙ ap (λ k. course_in k other) is;

@@ -1,8 +1,9 @@
 -- A ballot that is made ready for, and one that is stored.
 use Rattle.std.proofs.Common.{◌≡◌, ◌∙◌, ℕ, ◌<◌, Bool, true, false, ◌&&◌, ◌||◌, List, [], ◌∷◌, ◌++◌, sym, ap, refl, subst}
-use Rattle.std.specs.Prelude.{if◌then◌else◌, Some, Result, Ok, Err, OnOk, OnErr, IfErr}
+use Rattle.std.specs.Cmp.{second_so}
+use Rattle.std.specs.Prelude.{if◌then◌else◌, nat_lt, Some, Result, Ok, Err, OnOk, OnErr, IfErr}
 use Rattle.std.specs.List.{list_any}
-use Rattle.std.proofs.lemmas.Bool.{false≢true, lt-ltb, eq-eqb, and_from}
+use Rattle.std.proofs.lemmas.Bool.{false≢true, false_from_ne_true, ltb-true, lt-ltb, eq-eqb, and_from}
 use Rattle.std.proofs.lemmas.List.Folds.{list_any-append}
 use Rattle.xid.specs.Transactions.{TxParts, tx_eq}
 use Rattle.xid.specs.declared.refusals.Refusal.{Refusal}
@@ -10,14 +11,16 @@ use Rattle.xid.specs.declared.refusals.Refusal.TheVariants.{NoMemory}
 use Rattle.ballot.specs.Ballots.{owner_of}
 use Rattle.stable_record.specs.declared.fact.FactKind.{FactKind as Fact}
 use Rattle.stable_record.specs.Parts.{IsPlayed, IsMadeReady}
+use Rattle.stable_record.specs.Facts.{fact_tx}
 use Rattle.transactions.specs.Seen.{seen_with}
+use Rattle.transactions.proofs.First.{first_more}
 use Rattle.protocol.specs.Effects.{Config}
 use Rattle.protocol.specs.Facts.{last_ballot}
-use Rattle.protocol.specs.LeaderMemory.{LeaderMemory}
+use Rattle.protocol.specs.LeaderMemory.{LeaderMemory, StoredBallots}
 use Rattle.protocol.specs.Leaders as rules
-use Rattle.leader.specs.Courses.{CourseParts, CourseStands, after_ballot}
-use Rattle.leader.specs.Places.{CoursesParts, course_in, is_placed_in, is_ready_in, with_beginning, IsPlaceOf, IsChanged, IsKept, IsGrown}
-use Rattle.leader.specs.Leaders.{LeaderParts, StandsForBallots, course_of, leader_part, IsSame}
+use Rattle.leader.specs.Courses.{CourseParts, after_ballot}
+use Rattle.leader.specs.Places.{CoursesParts, course_in, is_placed_in, is_ready_in, with_beginning, with_room, IsPlaceOf, IsChanged, IsKept}
+use Rattle.leader.specs.Leaders.{LeaderParts, StandsForBallots, StandsFor, course_of, leader_part, IsSame}
 use Rattle.leader.proofs.PlaceSteps.{is_placed_at}
 use Rattle.leader.proofs.Basics.{tx_self}
 use Rattle.leader.proofs.Leading.{moved, with_courses, kept_same, store_stands, plays_here}
@@ -48,24 +51,27 @@ seen_now seen tx = by (list_any (tx_eq tx) seen) refl
 
 -- ---- by a leader
 
--- a leader with other courses that have grown stands for what it stood for
-pub grown_same : (config : Config) (number : ℕ) (l : LeaderParts) (courses : CoursesParts) → IsGrown l.courses courses
-    → IsSame config number l (with_courses l courses)
-grown_same config number l courses grown stored memory stands = record {
+-- a leader with one more among those that begin stands for the ballots that it stood for
+pub listed_same : (config : Config) (number : ℕ) (l : LeaderParts) (tx : TxParts) (stored : StoredBallots) (memory : LeaderMemory)
+    → StandsForBallots config number l stored memory
+    → StandsForBallots config number (with_courses l (with_beginning l.courses tx)) stored memory
+listed_same config number l tx stored memory stands = record {
   number_is = stands.number_is;
   acceptors_are = stands.acceptors_are;
   leaders_are = stands.leaders_are;
   managers_are = stands.managers_are;
   bundled_is = stands.bundled_is;
-  courses_are = λ tx.
-      let P : CourseParts → Type 0 = CourseStands config.acceptors stored memory tx in
-      subst P (sym (grown.courses_are tx)) (stands.courses_are tx);
-  begun_are = λ tx some. grown.begun_are tx (stands.begun_are tx some);
+  courses_are = stands.courses_are;
+  begun_are = λ x some. still_seen l.courses.begun tx x (stands.begun_are x some);
 }
 
--- a transaction more begins
-pub begins : (courses : CoursesParts) (tx : TxParts) → IsGrown courses (with_beginning courses tx)
-begins courses tx = record { begun_are = λ x e. still_seen courses.begun tx x e; courses_are = λ x. refl }
+-- it stands for the same facts
+pub stands_still : (config : Config) (number : ℕ) (old new : LeaderParts) → IsSame config number old new → (facts : List Fact)
+    (memory : LeaderMemory) → StandsFor config number old facts memory → StandsFor config number new facts memory
+stands_still config number old new same facts memory stands = record {
+  ballots = same.stands (last_ballot facts) memory stands.ballots;
+  begun_are = same.begun_is ∙ stands.begun_are;
+}
 
 -- a ballot played, or not for want of memory
 pub played : (config : Config) (number : ℕ) (memory : LeaderMemory) (inner old : LeaderParts) (courses : CoursesParts) (tx : TxParts)
@@ -79,10 +85,10 @@ played config number memory inner old courses tx b fact r is names more owned ch
     let P : Fact → Type 0 = λ f. IsPlayed (leader_part config number memory) old (with_courses inner courses) f r in
     subst P (sym names) (by_result r changed err kept absent)
   where
-    plays : (facts : List Fact) → StandsForBallots config number old (last_ballot facts) memory
+    plays : (facts : List Fact) → StandsFor config number old facts memory
         → rules.plays_at_leader config.leaders number (last_ballot facts) (Fact.Ballot tx b) ≡ true
     plays facts stands = plays_here config number inner tx b (last_ballot facts) memory (moved config number inner old
-        (last_ballot facts) memory is stands)
+        (last_ballot facts) memory is stands.ballots)
         ∙ (λ k. lt-ltb (course_of inner tx).greatest b more k && eq-eqb (owner_of inner.leaders b) inner.number owned k)
 
     begun : LeaderParts
@@ -94,10 +100,15 @@ played config number memory inner old courses tx b fact r is names more owned ch
         → IsPlayed (leader_part config number memory) old (with_courses inner courses) (Fact.Ballot tx b) x
     by_result (Ok done) changed err kept absent = (
       plays,
-      λ facts stands.
-          store_stands config number begun begun courses tx b facts memory refl changed more (seen_now inner.courses.begun tx)
-          (grown_same config number inner (with_beginning inner.courses tx) (begins inner.courses tx) (last_ballot facts) memory
-          (moved config number inner old (last_ballot facts) memory is stands)),
+      λ facts stands. record {
+        ballots =
+            store_stands config number begun begun courses tx b facts memory refl changed more (seen_now inner.courses.begun tx)
+            (listed_same config number inner tx (last_ballot facts) memory
+            (moved config number inner old (last_ballot facts) memory is stands.ballots));
+        begun_are = changed.begun_is
+            ∙ ap (λ (txs : List TxParts). seen_with txs tx) (ap (λ (l : LeaderParts). l.courses.begun) is ∙ stands.begun_are)
+            ∙ sym (first_more fact_tx facts (Fact.Ballot tx b));
+      },
     )
     by_result (Err e) changed err kept absent =
         let Q : Refusal → Type 0 = λ x. IsPlayed (leader_part config number memory) old (with_courses inner courses) (Fact.Ballot tx b)
@@ -105,23 +116,24 @@ played config number memory inner old courses tx b fact r is names more owned ch
         subst Q (sym err) (
           plays,
           λ ready. false≢true (sym (ap (λ l. is_ready_in l.courses tx) (sym is) ∙ absent) ∙ ready),
-          λ facts stands. kept_same config number inner old courses is kept (last_ballot facts) memory stands,
+          λ facts stands.
+              stands_still config number old (with_courses inner courses) (kept_same config number inner old courses is kept) facts memory
+              stands,
         )
 
 -- a place made for a fact, or not for want of memory
 pub made_ready : (config : Config) (number : ℕ) (memory : LeaderMemory) (inner old : LeaderParts) (courses : CoursesParts)
     (tx : TxParts) (b : ℕ) (fact : Fact) (r : Result (Unit {0}) Refusal) → inner ≡ old
-    → fact ≡ Fact.Ballot tx b → IsGrown inner.courses courses → IfErr r (λ e. e ≡ NoMemory) → OnOk r (is_ready_in courses tx ≡ true)
+    → fact ≡ Fact.Ballot tx b → IsKept inner.courses courses → IfErr r (λ e. e ≡ NoMemory) → OnOk r (is_ready_in courses tx ≡ true)
     → IsMadeReady (leader_part config number memory) old (with_courses inner courses) fact r
-made_ready config number memory inner old courses tx b fact r is names grown err ready =
+made_ready config number memory inner old courses tx b fact r is names kept err ready =
     let P : Fact → Type 0 = λ f. IsMadeReady (leader_part config number memory) old (with_courses inner courses) f r in
     subst P (sym names) (by_result r err ready)
   where
-    same : (facts : List Fact) → StandsForBallots config number old (last_ballot facts) memory
-        → StandsForBallots config number (with_courses inner courses) (last_ballot facts) memory
+    same : (facts : List Fact) → StandsFor config number old facts memory
+        → StandsFor config number (with_courses inner courses) facts memory
     same facts stands =
-        grown_same config number inner courses grown (last_ballot facts) memory
-        (moved config number inner old (last_ballot facts) memory is stands)
+        stands_still config number old (with_courses inner courses) (kept_same config number inner old courses is kept) facts memory stands
 
     by_result : (x : Result (Unit {0}) Refusal) → IfErr x (λ e. e ≡ NoMemory) → OnOk x (is_ready_in courses tx ≡ true)
         → IsMadeReady (leader_part config number memory) old (with_courses inner courses) (Fact.Ballot tx b) x
@@ -133,50 +145,29 @@ made_ready config number memory inner old courses tx b fact r is names grown err
 
 -- ---- by its courses
 
--- a place made, and perhaps listed among those that begin
-pub listed_grown : (old made new : CoursesParts) (tx : TxParts) (r : Result (Unit {0}) Refusal) → IsKept old made
-    → OnOk r (new ≡ with_beginning made tx) → OnErr r (new ≡ made) → IsGrown old new
-listed_grown old made new tx (Ok done) kept is same = record {
-  begun_are = λ x e.
-      ap (λ (k : CoursesParts). list_any (tx_eq x) k.begun) is
-      ∙ still_seen made.begun tx x (ap (λ (txs : List TxParts). list_any (tx_eq x) txs) kept.begun_is ∙ e);
+-- a place made, and room
+pub roomed_kept : (old made new : CoursesParts) → IsKept old made → new ≡ with_room made new.room → IsKept old new
+roomed_kept old made new kept is = record {
+  begun_is = ap (λ (k : CoursesParts). k.begun) is ∙ kept.begun_is;
   courses_are = λ x. ap (λ (k : CoursesParts). course_in k x) is ∙ kept.courses_are x;
 }
-listed_grown old made new tx (Err e) kept is same = record {
-  begun_are = λ x e.
-      ap (λ (k : CoursesParts). list_any (tx_eq x) k.begun) same
-      ∙ ap (λ (txs : List TxParts). list_any (tx_eq x) txs) kept.begun_is ∙ e;
-  courses_are = λ x. ap (λ (k : CoursesParts). course_in k x) same ∙ kept.courses_are x;
-}
 
-pub kept_grown : (old new : CoursesParts) → IsKept old new → IsGrown old new
-kept_grown old new kept = record {
-  begun_are = λ x e. ap (λ (txs : List TxParts). list_any (tx_eq x) txs) kept.begun_is ∙ e;
-  courses_are = kept.courses_are;
-}
+pub roomed_ready : (made new : CoursesParts) (tx : TxParts) (place : ℕ) (r : Result (Unit {0}) Refusal) → IsPlaceOf made tx (Some place)
+    → new ≡ with_room made new.room → OnOk r (0 < new.room) → OnOk r (is_ready_in new tx ≡ true)
+roomed_ready made new tx place (Ok done) there is some =
+    and_from (is_placed_in new tx) (nat_lt 0 new.room)
+    (ap (λ (k : CoursesParts). is_placed_in k tx) is ∙ is_placed_at made tx place there) (lt-ltb 0 new.room some)
+roomed_ready made new tx place (Err e) there is some = tt
 
-pub listed_ready : (made new : CoursesParts) (tx : TxParts) (place : ℕ) (r : Result (Unit {0}) Refusal) → IsPlaceOf made tx (Some place)
-    → OnOk r (new ≡ with_beginning made tx) → OnOk r (is_ready_in new tx ≡ true)
-listed_ready made new tx place (Ok done) there is =
-    ap (λ (k : CoursesParts). is_ready_in k tx) is
-    ∙ and_from (is_placed_in made tx) (list_any (tx_eq tx) (seen_with made.begun tx)) (is_placed_at made tx place there)
-    (seen_now made.begun tx)
-listed_ready made new tx place (Err e) there is = tt
-
--- what wasn't listed wasn't ready
-pub not_listed : (old made : CoursesParts) (tx : TxParts) → IsKept old made → list_any (tx_eq tx) made.begun ≡ false
-    → is_ready_in old tx ≡ false
-not_listed old made tx kept absent =
-    ap (λ t. is_placed_in old tx && t) (ap (λ (txs : List TxParts). list_any (tx_eq tx) txs) (sym kept.begun_is) ∙ absent)
-    ∙ and_no (is_placed_in old tx)
-  where
-    and_no : (t : Bool) → (t && false) ≡ false
-    and_no true = refl
-    and_no false = refl
+-- without room it wasn't ready
+pub not_roomy : (old made : CoursesParts) (tx : TxParts) → made.room ≡ old.room → (0 < made.room → ⊥) → is_ready_in old tx ≡ false
+not_roomy old made tx room none =
+    false_from_ne_true (is_ready_in old tx) (λ ready.
+    none (subst (λ n. 0 < n) (sym room) (ltb-true 0 old.room (second_so (is_placed_in old tx) (nat_lt 0 old.room) ready))))
 
 -- a ballot stored, once it has a place and is listed
 pub stored_at : (old made listed new : CoursesParts) (tx : TxParts) (f : CourseParts → CourseParts) → IsKept old made
-    → listed ≡ with_beginning made tx → IsChanged listed new tx (f (course_in listed tx))
+    → listed ≡ with_room (with_beginning made tx) listed.room → IsChanged listed new tx (f (course_in listed tx))
     → IsChanged (with_beginning old tx) new tx (f (course_in old tx))
 stored_at old made listed new tx f kept is changed = record {
   begun_is = changed.begun_is ∙ ap (λ (k : CoursesParts). k.begun) is ∙ ap (λ (txs : List TxParts). seen_with txs tx) kept.begun_is;

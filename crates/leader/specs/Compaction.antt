@@ -8,7 +8,7 @@ use Rattle.protocol.specs.Effects.{Config}
 use Rattle.protocol.specs.Facts.{last_ballot}
 use Rattle.protocol.specs.LeaderMemory.{LeaderMemory, StoredBallots}
 use Rattle.protocol.specs.Nodes.{plays, all_play}
-use Rattle.leader.specs.Leaders.{LeaderParts, StandsFor}
+use Rattle.leader.specs.Leaders.{LeaderParts, StandsFor, begun_in}
 
 -- the greatest ballot of a transaction, if it has one
 abbrev pub ballot_facts : TxParts → (ballot : ℕ) → List Fact
@@ -26,13 +26,17 @@ pub record SaysTheSame (config : Config) (number : ℕ) (kept facts : List Fact)
       → StandsFor config number leader (facts ++ more) memory
   pub fits : (more : List Fact) (fact : Fact) → plays config (L number) (kept ++ more) fact ≡ plays config (L number) (facts ++ more) fact
 
--- facts are a leader's greatest ballots, of each transaction in the order in which it began them, and say the same as others
-pub record IsCompacted (leader : LeaderParts) (kept : List Fact) (config : Config) (number : ℕ) (facts : List Fact) : Type 0 where
-  pub list : kept ≡ compacted leader.courses.begun (last_ballot facts)
+-- the facts of a shorter record: the greatest ballot of each transaction, in the order of their first facts
+abbrev pub shorter_facts : List Fact → List Fact
+shorter_facts facts = compacted (begun_in facts) (last_ballot facts)
+
+-- facts are the shorter record of others, and say the same
+pub record IsCompacted (kept : List Fact) (config : Config) (number : ℕ) (facts : List Fact) : Type 0 where
+  pub list : kept ≡ shorter_facts facts
   pub same : SaysTheSame config number kept facts
 
 -- facts to keep in place of whatever plays and a leader stands for
 abbrev pub Compacts : LeaderParts → (kept : List Fact) → Type 0
 Compacts leader kept =
     (config : Config) (number : ℕ) (facts : List Fact) (memory : LeaderMemory) → StandsFor config number leader facts memory
-    → all_play config (L number) [] facts ≡ true → IsCompacted leader kept config number facts
+    → all_play config (L number) [] facts ≡ true → IsCompacted kept config number facts

@@ -4,7 +4,9 @@ use Rattle.std.specs.List.{list_all, list_any}
 use Rattle.xid.specs.Transactions.{TxParts, tx_eq}
 use Rattle.xid.specs.declared.refusals.Refusal.{Refusal}
 use Rattle.stable_record.specs.declared.fact.FactKind.{FactKind as Fact}
+use Rattle.stable_record.specs.Facts.{fact_tx}
 use Rattle.ballot.specs.Ballots.{next_of}
+use Rattle.transactions.specs.Seen.{first_seen}
 use Rattle.protocol.specs.declared.answers.Answer.TheVariants.{Done, Refused}
 use Rattle.protocol.specs.declared.decisions.Decision.{Decision}
 use Rattle.protocol.specs.declared.states.Status.{Status}
@@ -46,25 +48,32 @@ pub record StandsForBallots (config : Config) (number : ℕ) (leader : LeaderPar
   pub courses_are : (tx : TxParts) → CourseStands config.acceptors stored memory tx (course_of leader tx)
   pub begun_are : (tx : TxParts) → 0 < stored tx → list_any (tx_eq tx) leader.courses.begun ≡ true
 
--- the same by the facts of its record
-abbrev pub StandsFor : (config : Config) (number : ℕ) (leader : LeaderParts) (facts : List Fact) (memory : LeaderMemory) → Type 0
-StandsFor config number leader facts memory = StandsForBallots config number leader (last_ballot facts) memory
+-- the transactions of facts, in the order of their first facts
+abbrev pub begun_in : List Fact → List TxParts
+begun_in facts = first_seen fact_tx facts
+
+-- the same by the facts of its record: those that begin are their transactions, in the order of their first facts
+pub record StandsFor (config : Config) (number : ℕ) (leader : LeaderParts) (facts : List Fact) (memory : LeaderMemory) : Type 0 where
+  pub ballots : StandsForBallots config number leader (last_ballot facts) memory
+  pub begun_are : leader.courses.begun ≡ begun_in facts
 
 -- a rule of leaders, at some input
 abbrev pub Rule : Type 0
 Rule = StoredBallots → LeaderMemory → Effect LeaderMemory
 
--- a decision is the rule's, and afterwards the leader stands for what the rule leaves in memory
+-- a decision is the rule's, and afterwards the leader stands for what the rule leaves in memory; those that begin stay
 pub record Follows (config : Config) (number : ℕ) (old new : LeaderParts) (decision : LeaderDecision) (rule : Rule) : Type 0 where
   pub decides : (stored : StoredBallots) (memory : LeaderMemory) → StandsForBallots config number old stored memory
       → shown decision ≡ decision_of (rule stored memory)
   pub stands : (stored : StoredBallots) (memory : LeaderMemory) → StandsForBallots config number old stored memory
       → StandsForBallots config number new stored (rule stored memory).memory
+  pub begun_is : new.courses.begun ≡ old.courses.begun
 
 -- it stands for whatever it stood for
-abbrev pub IsSame : Config → ℕ → (old new : LeaderParts) → Type 0
-IsSame config number old new = (stored : StoredBallots) (memory : LeaderMemory) → StandsForBallots config number old stored memory
-    → StandsForBallots config number new stored memory
+pub record IsSame (config : Config) (number : ℕ) (old new : LeaderParts) : Type 0 where
+  pub stands : (stored : StoredBallots) (memory : LeaderMemory) → StandsForBallots config number old stored memory
+      → StandsForBallots config number new stored memory
+  pub begun_is : new.courses.begun ≡ old.courses.begun
 
 -- a call that gives no fact: it follows the rule, or memory is refused and nothing changes
 abbrev pub FollowsOrRefuses : Config → ℕ → (old new : LeaderParts) → Result LeaderDecision Refusal → Rule → Type 0

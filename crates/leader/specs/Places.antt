@@ -1,24 +1,17 @@
 -- The courses of several transactions, each at the number of its transaction.
-use Rattle.std.specs.Prelude.{◌≡◌, ℕ, ◌<◌, ◌&&◌, Bool, true, nat_lt, if◌then◌else◌, List, [], length, map, Option, Some, None}
-use Rattle.std.specs.List.{slice_index_or, list_any}
+use Rattle.std.specs.Prelude.{◌≡◌, ℕ, ◌<◌, ◌&&◌, Bool, nat_lt, if◌then◌else◌, List, length, Option, Some, None}
+use Rattle.std.specs.List.{slice_index_or}
 use Rattle.xid.specs.Transactions.{TxParts, tx_eq}
 use Rattle.transactions.specs.Seen.{place_in, seen_with}
 use Rattle.leader.specs.Courses.{CourseParts, fresh}
 
--- parts that no transaction has
-abbrev pub no_transaction : TxParts
-no_transaction = record { format = 0; gtrid = []; branches = [] }
-
--- the transactions of some places
-abbrev pub at_places : List TxParts → List ℕ → List TxParts
-at_places txs places = map (λ place. slice_index_or txs place no_transaction) places
-
--- the transactions that have a place, in the order of first sight, the course of each, and those for which a ballot was to be stored, in
--- the order of the first
+-- the transactions that have a place, in the order of first sight, the course of each, and those of which a ballot is stored, in the
+-- order of the first; and for how many more of these there is room without memory
 pub record CoursesParts : Type 0 where
   pub transactions : List TxParts
   pub rows : List CourseParts
   pub begun : List TxParts
+  pub room : ℕ
 
 -- the course of a transaction among some; that of one unknown where there is none
 abbrev pub course_in : CoursesParts → TxParts → CourseParts
@@ -28,13 +21,17 @@ course_in courses tx = slice_index_or courses.rows (place_in courses.transaction
 abbrev pub is_placed_in : CoursesParts → TxParts → Bool
 is_placed_in courses tx = nat_lt (place_in courses.transactions tx) (length courses.transactions)
 
--- whether a ballot of a transaction can be stored with no memory more: it has a place, and stands among those that begin
+-- whether a ballot of a transaction can be stored with no memory more: it has a place, and there is room for one more that begins
 abbrev pub is_ready_in : CoursesParts → TxParts → Bool
-is_ready_in courses tx = is_placed_in courses tx && list_any (tx_eq tx) courses.begun
+is_ready_in courses tx = is_placed_in courses tx && nat_lt 0 courses.room
 
 -- courses with a transaction more among those that begin
 abbrev pub with_beginning : CoursesParts → TxParts → CoursesParts
 with_beginning courses tx = record courses { begun = seen_with courses.begun tx }
+
+-- courses with room for so many that begin
+abbrev pub with_room : CoursesParts → ℕ → CoursesParts
+with_room courses room = record courses { room = room }
 
 -- what is found of a transaction: its place, or that it has none
 abbrev pub IsPlaceOf : CoursesParts → TxParts → Option ℕ → Type 0
@@ -49,9 +46,4 @@ pub record IsChanged (old new : CoursesParts) (tx : TxParts) (c : CourseParts) :
 -- the course of each transaction stays, and those that begin
 pub record IsKept (old new : CoursesParts) : Type 0 where
   pub begun_is : new.begun ≡ old.begun
-  pub courses_are : (other : TxParts) → course_in new other ≡ course_in old other
-
--- the course of each transaction stays, and those that begin are among them
-pub record IsGrown (old new : CoursesParts) : Type 0 where
-  pub begun_are : (other : TxParts) → list_any (tx_eq other) old.begun ≡ true → list_any (tx_eq other) new.begun ≡ true
   pub courses_are : (other : TxParts) → course_in new other ≡ course_in old other

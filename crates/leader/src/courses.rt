@@ -1,5 +1,5 @@
 ghost use Rattle.std.specs.Prelude.{◌≡◌, ◌<◌, ◌≤◌, true, false, [], length, slice_get, Some, IfOk, OnOk, IfErr, OnErr};
-ghost use Rattle.std.specs.List.{IsDistinct, list_any};
+ghost use Rattle.std.specs.List.{IsDistinct};
 ghost use Rattle.xid.specs.Limits.{most_acceptors, most_branches};
 ghost use Rattle.xid.specs.declared.refusals.Refusal.TheVariants.{NoMemory};
 ghost use Rattle.xid.specs.Transactions.{tx_eq};
@@ -7,7 +7,7 @@ ghost use Rattle.transactions.specs.Seen.{place_in};
 ghost use Rattle.protocol.specs.Leaders.{is_final};
 ghost use Rattle.leader.specs.Courses.{after_meeting, after_ballot, after_beginning, after_1b, proposals_after_1b, after_2b};
 ghost use Rattle.leader.specs.Courses.{status_after_2b, status_in};
-ghost use Rattle.leader.specs.Places.{course_in, is_placed_in, is_ready_in, with_beginning, IsPlaceOf, IsChanged, IsKept, IsGrown};
+ghost use Rattle.leader.specs.Places.{course_in, is_placed_in, is_ready_in, with_beginning, with_room, IsPlaceOf, IsChanged, IsKept};
 ghost use Rattle.leader.specs.Compaction.{compacted};
 
 use crate::compaction::facts_of;
@@ -28,33 +28,34 @@ pub struct Courses {
     alloc: Global,
     transactions: Transactions,
     rows: Vec<Course>,
-    /// The places of those for which a ballot was to be stored, in the order of the first.
+    /// The places of those of which a ballot is stored, in the order of the first.
     begun: Order,
     /// The place that was found last: most often that of the next event, or the one before it.
     near: usize,
 }
 
 impl Model for Courses {
-    ghost use Rattle.std.specs.Prelude.{◌≡◌, ◌<◌, length};
-    ghost use Rattle.std.specs.List.{AllByRecursion};
-    ghost use Rattle.leader.specs.Places.{CoursesParts, at_places};
+    ghost use Rattle.std.specs.Prelude.{◌≡◌, length};
+    ghost use Rattle.transactions.specs.Seen.{AreInside, at_places};
+    ghost use Rattle.leader.specs.Places.{CoursesParts};
 
     ghost Value = { CoursesParts };
 
     ghost view = { λ c. record {
       transactions = c.transactions;
       rows = c.rows.items;
-      begun = at_places c.transactions c.begun;
+      begun = at_places c.transactions c.begun.numbers;
+      room = c.begun.room;
     } };
 
     ghost invariant = { λ c. (length c.rows.items ≡ length c.transactions)
-        × AllByRecursion (λ place. place < length c.transactions) c.begun };
+        × AreInside (length c.transactions) c.begun.numbers };
 }
 
 impl Courses {
     /// No transaction. It takes no memory.
     pub fn new(alloc: Global) -> Courses
-        ensures { result ≡ record { transactions = []; rows = []; begun = [] } }
+        ensures { result ≡ record { transactions = []; rows = []; begun = []; room = result.room } }
     {
         Courses {
             alloc,
@@ -77,6 +78,7 @@ impl Courses {
         requires { place_in self.old.transactions tx.now ≡ length self.old.transactions }
         ensures there { IfOk result (λ place. IsPlaceOf self.new tx.now (Some place)) }
         ensures kept { IsKept self.old self.new }
+        ensures room { self.new.room ≡ self.old.room }
         ensures err { IfErr result (λ e. e ≡ NoMemory) }
     {
         let Ok(course) = Course::new(self.alloc, tx) else {
@@ -97,6 +99,7 @@ impl Courses {
     pub fn make_place(&mut self, tx: &Tx) -> Result<usize, Refusal>
         ensures there { IfOk result (λ place. IsPlaceOf self.new tx.now (Some place)) }
         ensures kept { IsKept self.old self.new }
+        ensures room { self.new.room ≡ self.old.room }
         ensures err { IfErr result (λ e. e ≡ NoMemory) }
         ensures absent { OnErr result (is_placed_in self.old tx.now ≡ false) }
     {
@@ -109,6 +112,7 @@ impl Courses {
         requires { IsPlaceOf self.old tx.now place }
         ensures there { IfOk result (λ place. IsPlaceOf self.new tx.now (Some place)) }
         ensures kept { IsKept self.old self.new }
+        ensures room { self.new.room ≡ self.old.room }
         ensures err { IfErr result (λ e. e ≡ NoMemory) }
         ensures absent { OnErr result (is_placed_in self.old tx.now ≡ false) }
     {
@@ -172,29 +176,38 @@ impl Courses {
         }
     }
 
-    /// Puts a transaction among those that begin, unless it is there. At `NoMemory`, the only refusal, it isn't there, and nothing changes.
+    /// Puts a transaction among those that begin, unless it is there. At `NoMemory`, the only refusal, there was no room for it, and
+    /// nothing else changes.
     fn list(&mut self, tx: &Tx, place: usize) -> Result<(), Refusal>
         requires { IsPlaceOf self.old tx.now (Some place) }
-        ensures ok { OnOk result (self.new ≡ with_beginning self.old tx.now) }
-        ensures err { IfErr result (λ e. e ≡ NoMemory) }
-        ensures absent { OnErr result (list_any (tx_eq tx.now) self.old.begun ≡ false) }
-        ensures kept { OnErr result (self.new ≡ self.old) }
+        ensures ok { OnOk result (self.new ≡ with_room (with_beginning self.old tx.now) self.new.room) }
+        ensures err { IfErr result (λ e. (e ≡ NoMemory) × (¬ (0 < self.old.room))) }
+        ensures kept { OnErr result (self.new ≡ with_room self.old self.new.room) }
     {
         let _ = self.transactions.len();
         self.begun.add(place)
     }
 
-    /// A place for a transaction, also among those that begin. At `NoMemory`, the only refusal, it may have a place of the first kind.
-    pub fn make_ready(&mut self, tx: &Tx) -> Result<(), Refusal>
-        ensures ready { OnOk result (is_ready_in self.new tx.now ≡ true) }
-        ensures grown { IsGrown self.old self.new }
+    /// Makes room for one transaction more among those that begin. At `NoMemory`, the only refusal, and else too, nothing else changes.
+    fn reserve(&mut self) -> Result<(), Refusal>
+        ensures room { OnOk result (0 < self.new.room) }
+        ensures same { self.new ≡ with_room self.old self.new.room }
         ensures err { IfErr result (λ e. e ≡ NoMemory) }
     {
-        let place = match self.make_place(tx) {
-            Ok(place) => place,
-            Err(refusal) => return Err(refusal),
-        };
-        self.list(tx, place)
+        self.begun.reserve()
+    }
+
+    /// A place for a transaction, and room for it among those that begin. At `NoMemory`, the only refusal, it may have a place. Each course
+    /// stays, and those that begin.
+    pub fn make_ready(&mut self, tx: &Tx) -> Result<(), Refusal>
+        ensures ready { OnOk result (is_ready_in self.new tx.now ≡ true) }
+        ensures kept { IsKept self.old self.new }
+        ensures err { IfErr result (λ e. e ≡ NoMemory) }
+    {
+        match self.make_place(tx) {
+            Ok(_) => self.reserve(),
+            Err(refusal) => Err(refusal),
+        }
     }
 
     /// A greater ballot of a transaction was stored, whose place was looked up. At `NoMemory`, the only refusal, it wasn't ready, and

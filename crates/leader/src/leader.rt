@@ -114,6 +114,7 @@ impl Leader {
             → StandsForBallots config number self.old stored memory
             → IfSome result.fact (λ fact. rules.plays_at_leader config.leaders number stored fact ≡ true) }
         ensures waits { IfSome result.fact (λ fact. self.new ≡ self.old) }
+        ensures begun { self.new.courses.begun ≡ self.old.courses.begun }
         ensures stands { IfNone result.fact ((config : Config) (number : ℕ) (stored : StoredBallots) (memory : LeaderMemory)
             → StandsForBallots config number self.old stored memory
             → StandsForBallots config number self.new stored (rules.on_leader_timeout config number stored memory tx.now).memory) }
@@ -132,6 +133,7 @@ impl Leader {
             → StandsForBallots config number self.old stored memory
             → IfSome decision.new.fact (λ fact. rules.plays_at_leader config.leaders number stored fact ≡ true) }
         ensures waits { IfSome decision.new.fact (λ fact. self.new ≡ self.old) }
+        ensures begun { self.new.courses.begun ≡ self.old.courses.begun }
         ensures stands { IfNone decision.new.fact ((config : Config) (number : ℕ) (stored : StoredBallots) (memory : LeaderMemory)
             → StandsForBallots config number self.old stored memory
             → StandsForBallots config number self.new stored (rules.on_leader_timeout config number stored memory tx.now).memory) }
@@ -155,7 +157,8 @@ impl Leader {
     pub fn begin(&mut self, tx: &Tx, ballot: Ballot)
         ensures { (config : Config) (number : ℕ) (stored : StoredBallots) (memory : LeaderMemory)
             → StandsForBallots config number self.old stored memory → 0 < stored tx.now
-            → StandsForBallots config number self.new stored (with_begun tx.now ballot (with_met tx.now memory)) }
+            → StandsForBallots config number self.new stored (with_begun tx.now ballot (with_met tx.now memory))
+            × (self.new.courses.begun ≡ self.old.courses.begun) }
     {
         self.courses.begin(tx, ballot);
     }
@@ -363,8 +366,8 @@ impl Leader {
         }
     }
 
-    /// Makes a place for the transaction of a ballot, so that `play` of it right afterwards takes no memory. At `NoMemory`, the only
-    /// refusal, and else too, it stands for what it stood for.
+    /// Makes a place for the transaction of a ballot, and room for it to begin, so that `play` of it right afterwards takes no memory. At
+    /// `NoMemory`, the only refusal, and else too, it stands for what it stood for.
     pub fn ready(&mut self, fact: &Fact) -> Result<(), Refusal>
         ensures { (config : Config) (number : ℕ) (memory : LeaderMemory)
             → IsMadeReady (leader_part config number memory) self.old self.new fact.now result }
@@ -409,7 +412,6 @@ impl Leader {
         ensures ok { IfOk result (λ kept. Compacts self.now kept.items) }
         ensures err { IfErr result (λ e. e ≡ NoMemory) }
     {
-        let _ = self.courses.begun_count();
         self.courses.compacted()
     }
 }

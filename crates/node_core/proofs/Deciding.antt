@@ -142,11 +142,12 @@ module _ (old new : LeaderParts) (d : LeaderDecision) (rule : leader_specs.Rule)
       → leader_specs.StandsFor config l old facts memory.leader
       → IsDecided config (L l) facts memory (Role.Leader new) (leader_decisions.shown d) (of_leader memory (rule (last_ballot facts) memory.leader))
   leader_follows config l facts memory none h s =
-      let is = h.decides (last_ballot facts) memory.leader s in
+      let is = h.decides (last_ballot facts) memory.leader s.ballots in
       record {
         effect_is = is;
         leaves = nothing_left config l facts memory (rule (last_ballot facts) memory.leader) none
-            (h.stands (last_ballot facts) memory.leader s) d.fact (ap (λ (x : Decision). x.fact) is);
+            (record { ballots = h.stands (last_ballot facts) memory.leader s.ballots; begun_are = h.begun_is ∙ s.begun_are }) d.fact
+            (ap (λ (x : Decision). x.fact) is);
       }
 
 -- a call that may refuse, refuses for memory
@@ -234,21 +235,24 @@ module _ (old new : LeaderParts) (d : LeaderDecision) (tx : TxParts) where
       → ((config : Config) (number : ℕ) (stored : StoredBallots) (memory : LeaderMemory)
       → StandsForBallots config number old stored memory
       → IfSome d.fact (λ fact. rules.plays_at_leader config.leaders number stored fact ≡ true))
-      → IfSome d.fact (λ fact. new ≡ old)
+      → IfSome d.fact (λ fact. new ≡ old) → new.courses.begun ≡ old.courses.begun
       → IfNone d.fact ((config : Config) (number : ℕ) (stored : StoredBallots) (memory : LeaderMemory)
       → StandsForBallots config number old stored memory
       → StandsForBallots config number new stored (rules.on_leader_timeout config number stored memory tx).memory)
       → Decides (Role.Leader old) (Role.Leader new) (leader_decisions.shown d)
       (λ config who facts memory. on_request config who facts memory (requests.Timeout tx))
-  timeout_decides decides plays waits stands config (A a) facts memory s = absurd s
-  timeout_decides decides plays waits stands config (R rm) facts memory s = absurd s
-  timeout_decides decides plays waits stands config (L l) facts memory s =
-      let is = decides config l (last_ballot facts) memory.leader s in
+  timeout_decides decides plays waits begun stands config (A a) facts memory s = absurd s
+  timeout_decides decides plays waits begun stands config (R rm) facts memory s = absurd s
+  timeout_decides decides plays waits begun stands config (L l) facts memory s =
+      let is = decides config l (last_ballot facts) memory.leader s.ballots in
       record {
         effect_is = is;
         leaves = timeout_left config l facts memory s d.fact (ap (λ (x : Decision). x.fact) is)
-            (plays config l (last_ballot facts) memory.leader s) waits
-            (if_none d.fact (λ h. h config l (last_ballot facts) memory.leader s) stands);
+            (plays config l (last_ballot facts) memory.leader s.ballots) waits
+            (if_none d.fact (λ h. record {
+              ballots = h config l (last_ballot facts) memory.leader s.ballots;
+              begun_are = begun ∙ s.begun_are;
+            }) stands);
       }
     where
       if_none : {P Q : Type 0} (o : Option Fact) → (P → Q) → IfNone o P → IfNone o Q

@@ -141,7 +141,7 @@ module _ (old played new : LeaderParts) (tx : TxParts) (b : ℕ) (fact : Fact) (
       → ((config : Config) (number : ℕ) (memory : LeaderMemory) → IsPlayed (leader_part config number memory) old played fact r)
       → ((config : Config) (number : ℕ) (stored : StoredBallots) (memory : LeaderMemory)
       → StandsForBallots config number played stored memory → 0 < stored tx
-      → StandsForBallots config number new stored (with_begun tx b (with_met tx memory)))
+      → StandsForBallots config number new stored (with_begun tx b (with_met tx memory)) × (new.courses.begun ≡ played.courses.begun))
       → Takes (Role.Leader old) (Role.Leader new) fact (Ok tt)
   leader_takes r done h begins config (A a) facts memory s fits playable ready = absurd s
   leader_takes r done h begins config (R rm) facts memory s fits playable ready = absurd s
@@ -154,11 +154,12 @@ module _ (old played new : LeaderParts) (tx : TxParts) (b : ℕ) (fact : Fact) (
       stored_ballot facts tx tx b more ∙ ap (λ (t : Bool). if t then b else last_ballot facts tx) (tx_self tx) in
       let some : 0 < last_ballot (facts ++ Fact.Ballot tx b ∷ []) tx = omega (arith, now, more) in
       let stands = subst (λ (f : Fact). leader_specs.StandsFor config l played (facts ++ f ∷ []) memory.leader) is t.stands in
+      let begun = begins config l (last_ballot (facts ++ Fact.Ballot tx b ∷ [])) memory.leader stands.ballots some in
       record {
         done = refl;
         stands = subst
             (λ (f : Fact). RoleStands config (L l) (Role.Leader new) (facts ++ f ∷ []) (memory_after (L l) facts memory f)) (sym is)
-            (begins config l (last_ballot (facts ++ Fact.Ballot tx b ∷ [])) memory.leader stands some);
+            (record { ballots = begun.0; begun_are = begun.1 ∙ stands.begun_are });
       }
 
 -- a fact that doesn't play, or for which it isn't ready, isn't taken

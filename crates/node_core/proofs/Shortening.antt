@@ -49,7 +49,7 @@ module _ (bytes : List ℕ) (kept : List Fact) (frames : AreFrames bytes (of_fac
         all = of_facts kept;
         bytes_are = frames.bytes_are;
         stored = frames.stored;
-        shortened = (p.table.transactions, ap of_facts c.list);
+        shortened = ap of_facts c.list;
         kept = record { rows = None; facts = kept };
         means = refl;
         fits = c.same.play;
@@ -75,7 +75,7 @@ module _ (bytes : List ℕ) (kept : List Fact) (frames : AreFrames bytes (of_fac
         all = of_facts kept;
         bytes_are = frames.bytes_are;
         stored = frames.stored;
-        shortened = (p.courses.begun, ap of_facts c.list);
+        shortened = ap of_facts c.list;
         kept = record { rows = None; facts = kept };
         means = refl;
         fits = c.same.play;

@@ -1,7 +1,6 @@
 -- How a node's record is made shorter.
 use Rattle.std.specs.Prelude.{◌≡◌, ◌⊎◌, ℕ, IsTrue, true, false, List, [], map, Option, None, Result, Ok, Err}
 use Rattle.xid.specs.declared.refusals.Refusal.{Refusal}
-use Rattle.xid.specs.Transactions.{TxParts}
 use Rattle.stable_record.specs.declared.entry.EntryKind.{EntryKind as Entry}
 use Rattle.stable_record.specs.declared.entry.EntryKind.TheVariants as entries
 use Rattle.stable_record.specs.declared.fact.FactKind.{FactKind as Fact}
@@ -11,7 +10,6 @@ use Rattle.protocol.specs.declared.nodes.NodeId.{NodeId}
 use Rattle.protocol.specs.declared.nodes.NodeId.TheVariants.{A, L, R}
 use Rattle.protocol.specs.declared.rows.Row.{Row}
 use Rattle.protocol.specs.Effects.{Config}
-use Rattle.protocol.specs.Facts.{slot, last_ballot}
 use Rattle.protocol.specs.Nodes.{NodeState, Memory, Fault, NoFault, NoMemoryBefore, NoMemoryAt, RecordFails, all_play, compact_outcome}
 use Rattle.protocol.specs.Nodes.{first_rows}
 use Rattle.protocol.specs.Tables.{table}
@@ -23,11 +21,11 @@ use Rattle.node_core.specs.Roles.{RoleStands}
 use Rattle.node_core.specs.Nodes.{Kept, MeansFrom, begun, SameState, NodeParts, Stands, IsSameNode}
 use Rattle.node_core.specs.Opening.{frames_of, restart_answer}
 
--- entries are the shorter record of a node's facts: an acceptor's slots, a leader's greatest ballots, or the table and outcomes of a
--- resource manager
+-- entries are the shorter record of a node's facts: an acceptor's slots or a leader's greatest ballots, by transaction in the order of the
+-- first facts, or the table and outcomes of a resource manager
 abbrev pub AreShortened : Config → NodeId → List Fact → List Entry → Type 0
-AreShortened config (A a) facts all = (txs : List TxParts) × (all ≡ map entries.Fact (of_acceptor.compacted txs (slot facts)))
-AreShortened config (L l) facts all = (txs : List TxParts) × (all ≡ map entries.Fact (of_leader.compacted txs (last_ballot facts)))
+AreShortened config (A a) facts all = all ≡ map entries.Fact (of_acceptor.shorter_facts facts)
+AreShortened config (L l) facts all = all ≡ map entries.Fact (of_leader.shorter_facts facts)
 AreShortened config (R rm) facts all = all ≡ shorter_entries (table (first_rows config rm) facts) facts
 
 -- bytes are frames of entries of today, which are the shorter record of facts, play, and say the same

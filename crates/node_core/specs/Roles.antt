@@ -2,7 +2,6 @@
 use Rattle.std.specs.Prelude.{◌≡◌, ℕ, true, false, List, [], ◌∷◌, ◌++◌, Option, Some, None, Result, Ok, Err}
 use Rattle.xid.specs.declared.refusals.Refusal.{Refusal}
 use Rattle.stable_record.specs.declared.fact.FactKind.{FactKind as Fact}
-use Rattle.stable_record.specs.Facts.{fact_tx}
 use Rattle.protocol.specs.declared.nodes.NodeId.{NodeId}
 use Rattle.protocol.specs.declared.nodes.NodeId.TheVariants.{A, L, R}
 use Rattle.protocol.specs.declared.decisions.Decision.{Decision}
@@ -10,7 +9,6 @@ use Rattle.protocol.specs.Effects.{Config, Effect, decision_of}
 use Rattle.protocol.specs.LeaderMemory.{LeaderMemory, with_begun, with_met}
 use Rattle.protocol.specs.Nodes.{Memory, empty_memory, plays}
 use Rattle.acceptor.specs.Acceptors as of_acceptor
-use Rattle.acceptor.specs.Tables.{IsSeen}
 use Rattle.leader.specs.Leaders as of_leader
 use Rattle.resource_manager.specs.Managers as of_manager
 use Rattle.node_core.specs.declared.role.Role.{Role}
@@ -27,7 +25,7 @@ RoleStands config who role facts memory = ⊥
 
 -- to play a fact takes no memory
 abbrev pub IsReadyFor : Role → Fact → Type 0
-IsReadyFor (Role.Acceptor p) fact = IsSeen p.table (fact_tx fact)
+IsReadyFor (Role.Acceptor p) fact = of_acceptor.IsReadyFor p fact
 IsReadyFor (Role.Leader p) fact =
     (config : Config) (number : ℕ) (memory : LeaderMemory) → (of_leader.leader_part config number memory).IsReadyFor p fact
 IsReadyFor (Role.Manager p) fact = of_manager.IsReadyFor p fact

@@ -119,9 +119,9 @@ impl<R: Record> Node<R> {
     }
 
     /// Makes its record shorter: by one replacement its bytes become frames that play to the same: of an acceptor's slots, of a leader's
-    /// greatest ballots, or of a resource manager's table, and each transaction's vote or outcome. An armed tear stays armed. Refused:
-    /// the node is down (`Down`), and nothing changes; the record failed (`RecordFault`), and its bytes are the one or the other; or
-    /// `NoMemory`, and it is as it was; after the latter two the node is down.
+    /// greatest ballots, or of a resource manager's table, and each transaction's vote or outcome, by transaction in the order of the first
+    /// facts. An armed tear stays armed. Refused: the node is down (`Down`), and nothing changes; the record failed (`RecordFault`), and
+    /// its bytes are the one or the other; or `NoMemory`, and it is as it was; after the latter two the node is down.
     pub fn compact(&mut self) -> Result<(), Refusal>
         ensures { (config : ConfigParts) (m : NodeState) → NodeStands config self.old m → CompactsAs config m self.old self.new result }
     {

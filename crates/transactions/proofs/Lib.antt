@@ -1,3 +1,5 @@
 pub mod Keys
 pub mod Rows
 pub mod Pieces
+pub mod Places
+pub mod First

@@ -1,16 +1,18 @@
-use Rattle.std.proofs.Common.{◌≡◌, ◌∙◌, [], length, map, sym, ap, arith}
-use Rattle.std.proofs.lemmas.List.{get_or-map, length-map}
-use Rattle.acceptor.proofs.Writing.{transaction_put}
+use Rattle.std.proofs.Common.{◌∙◌, ◌++◌, sym, ap, arith}
+use Rattle.std.proofs.lemmas.Option.{get_or_from_slice_get}
+use Rattle.transactions.specs.Seen.{at_places}
+use Rattle.transactions.proofs.Pieces.{next_put}
+use Rattle.acceptor.specs.Slots.{slots_of}
+use Rattle.acceptor.specs.Tables.{slot_in}
+use Rattle.acceptor.specs.Compaction.{transaction_facts}
 use Rattle.acceptor.proofs.compaction.facts_of.Goals as goal
 
-pub loop-number-preserved : goal.loop-number-preserved
-loop-number-preserved c =
-    let len : length (map (λ slots. slots.items) c.args.rows.now) ≡ length c.args.rows.now =
-    length-map c.args.rows.now (λ slots. slots.items) in
-    transaction_put c.args.transactions.now (map (λ slots. slots.items) c.args.rows.now) c.loop-number.number c.in-Some.tx c.deref.result.now
-    c.loop-number.facts.items c.put_transaction.new.facts.items _ c.len-number-end.ensures.distinct
-    (omega (arith, c.loop-number-test.true, c.len-number-end.ensures.value)) c.in-Some.ensures
-    (c.deref.ensures.value ∙ ap (λ slots. slots.items) c.index-rows-number.is
-    ∙ sym (get_or-map (λ slots. slots.items) c.args.rows.now c.loop-number.number c.index-rows-number.result []
-    (omega (arith, c.loop-number-test.true, c.len-number-end.ensures.value, len, c.requires.rows))))
-    c.in_ok-put_transaction.ensures.ok c.loop-number.invariant
+pub loop-i-preserved : goal.loop-i-preserved
+loop-i-preserved c =
+    let txs = at_places c.args.table.now.transactions c.args.begun.now.numbers in
+    next_put (transaction_facts (slot_in c.args.table.now)) txs c.loop-i.i c.in-Some.tx c.loop-i.facts.items
+    c.put_transaction.new.facts.items _ (omega (arith, c.loop-i-test.true, c.begun_count-i-end.ensures))
+    (get_or_from_slice_get txs c.loop-i.i c.in-Some.tx c.in-Some.tx (sym c.in-Some.ensures))
+    (c.in_ok-put_transaction.ensures.ok
+    ∙ ap (λ row. c.loop-i.facts.items ++ transaction_facts (slots_of c.in-Some.tx row) c.in-Some.tx) c.slots_of.ensures)
+    c.loop-i.invariant

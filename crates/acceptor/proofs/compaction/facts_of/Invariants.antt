@@ -1,10 +1,10 @@
-use Rattle.std.proofs.Common.{◌≡◌, ◌++◌, drop, map}
+use Rattle.std.proofs.Common.{◌≡◌, ◌++◌, drop}
+use Rattle.transactions.specs.Seen.{at_places}
 use Rattle.acceptor.specs.Tables.{slot_in}
 use Rattle.acceptor.specs.Compaction.{compacted}
 use Rattle.acceptor.proofs.compaction.facts_of.Given as goal
 
-abbrev pub invariant-loop-number : goal.invariant-loop-number
-invariant-loop-number l =
-    l.facts.items
-    ++ compacted (drop l.number l.transactions) (slot_in (record { transactions = l.transactions; slots = map (λ slots. slots.items) l.rows }))
-    ≡ compacted l.transactions (slot_in (record { transactions = l.transactions; slots = map (λ slots. slots.items) l.rows }))
+abbrev pub invariant-loop-i : goal.invariant-loop-i
+invariant-loop-i l =
+    l.facts.items ++ compacted (drop l.i (at_places l.table.transactions l.begun.numbers)) (slot_in l.table)
+    ≡ compacted (at_places l.table.transactions l.begun.numbers) (slot_in l.table)

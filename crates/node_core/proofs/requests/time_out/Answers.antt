@@ -8,4 +8,4 @@ returns c =
     asked_so _ _ _ _ _ _ (ap (decided c.timeout-decision.result.fact) c.put_led.ensures) refl
     (timeout_decides c.args.leader.now c.timeout-decision.new.self c.timeout-decision.result c.args.tx.now
     c.timeout-decision.ensures.decides c.timeout-decision.ensures.plays c.timeout-decision.ensures.waits
-    c.timeout-decision.ensures.stands)
+    c.timeout-decision.ensures.begun c.timeout-decision.ensures.stands)

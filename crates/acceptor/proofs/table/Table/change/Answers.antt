@@ -26,8 +26,8 @@ invariant_of-self c =
     (ap length c.change.ensures ∙ whole_after (fact_tx c.args.fact.now) c.deref_mut.result.now c.args.fact.now ∙ c.deref_mut.ensures.len)
     ∙ c.change.ensures ∙ ap (λ slots. slots_after (fact_tx c.args.fact.now) slots c.args.fact.now) c.deref_mut.ensures.value)
 
-pub returns : goal.returns
-returns c =
+pub returns-clause-slots : goal.returns-clause-slots
+returns-clause-slots c =
     let number = c.requires.number ∙ ap (λ t. place_in t.transactions (fact_tx c.args.fact.now)) (sym c.self.view_is) in
     let seen = subst (λ t. IsSeen t (fact_tx c.args.fact.now)) (sym c.self.view_is) c.requires.seen in
     let plays = subst (λ t. plays_at_acceptor (slot_in t) c.args.fact.now ≡ true) (sym c.self.view_is) c.requires.plays in

@@ -1,4 +1,6 @@
-use Rattle.std.proofs.Common.{◌∙◌, ◌++◌, ◌∷◌, [], ap}
+use Rattle.std.proofs.Common.{◌≡◌, ◌∙◌, ◌++◌, ◌∷◌, [], ap, subst}
+use Rattle.transactions.specs.Seen.{seen_with}
+use Rattle.transactions.proofs.Keys.{seen_before}
 use Rattle.acceptor.proofs.Rows.{saw_number, saw_seen, saw_table}
 use Rattle.acceptor.proofs.table.Table.see.Goals as goal
 
@@ -26,3 +28,11 @@ returns-clause-seen c =
     c.in_default.ensures.place c.in-Ok.ensures c.in-Ok-add.ensures.ok.1 (c.push_reserved.ensures.items
     ∙ ap (λ vs. vs ++ c.in-Ok.slots ∷ []) c.reserve.ensures.items)
     c.self.invariant
+
+pub returns-in-Some-clause-transactions : goal.returns-in-Some-clause-transactions
+returns-in-Some-clause-transactions c =
+    subst (λ t. t.transactions ≡ seen_with t.transactions c.args.tx.now) c.self.view_is
+    (seen_before c.self.inside.transactions c.args.tx.now c.in-Some.number c.in-Some.ensures.value).1
+
+pub returns-clause-transactions : goal.returns-clause-transactions
+returns-clause-transactions c = c.in-Ok-add.ensures.ok.1 ∙ ap (λ t. seen_with t.transactions c.args.tx.now) c.self.view_is

@@ -1,15 +1,10 @@
-use Rattle.leader.proofs.Listing.{still_courses, listed_now, not_among, as_before}
+use Rattle.leader.proofs.Listing.{still_courses, listed_now, as_before}
 use Rattle.leader.proofs.courses.Courses.list.Goals as goal
 
 pub returns-clause-ok : goal.returns-clause-ok
 returns-clause-ok c =
     listed_now c.self.inside.transactions c.self.inside.rows.items c.self.inside.begun c.add.new.self c.args.self.now c.self.view_is
     c.args.tx.now c.args.place c.requires c.add.result c.len.ensures.distinct c.self.invariant.1 c.add.ensures.ok
-
-pub returns-clause-absent : goal.returns-clause-absent
-returns-clause-absent c =
-    not_among c.self.inside.transactions c.self.inside.rows.items c.self.inside.begun c.add.new.self c.args.self.now c.self.view_is
-    c.args.tx.now c.args.place c.requires c.add.result c.len.ensures.distinct c.self.invariant.1 c.add.ensures.absent
 
 pub returns-clause-kept : goal.returns-clause-kept
 returns-clause-kept c =

@@ -1,11 +1,11 @@
-use Rattle.leader.proofs.Storing.{listed_grown, listed_ready}
+use Rattle.leader.proofs.Storing.{roomed_ready, roomed_kept}
 use Rattle.leader.proofs.courses.Courses.make_ready.Goals as goal
 
-pub returns-clause-ready : goal.returns-clause-ready
-returns-clause-ready c =
-    listed_ready c.make_place.new.self c.list.new.self c.args.tx.now c.in-Ok.place c.list.result c.in-Ok.ensures.there c.list.ensures.ok
+pub returns-in-Ok-clause-ready : goal.returns-in-Ok-clause-ready
+returns-in-Ok-clause-ready c =
+    roomed_ready c.make_place.new.self c.reserve.new.self c.args.tx.now c.in-Ok.field-0 c.reserve.result c.in-Ok.ensures.there
+    c.reserve.ensures.same c.reserve.ensures.room
 
-pub returns-clause-grown : goal.returns-clause-grown
-returns-clause-grown c =
-    listed_grown c.args.self.now c.make_place.new.self c.list.new.self c.args.tx.now c.list.result c.in-Ok.ensures.kept
-    c.list.ensures.ok c.list.ensures.kept
+pub returns-in-Ok-clause-kept : goal.returns-in-Ok-clause-kept
+returns-in-Ok-clause-kept c =
+    roomed_kept c.args.self.now c.make_place.new.self c.reserve.new.self c.in-Ok.ensures.kept c.reserve.ensures.same

@@ -7,4 +7,4 @@ pub returns : goal.returns
 returns c = λ config number memory.
     made_ready config number memory (the_view c.self.inside) c.args.self.now c.make_ready.new.self c.in-Ballot.tx
     c.in-Ballot.ballot c.args.fact.now c.make_ready.result c.self.view_is (sym c.kind.ensures.value ∙ c.in-Ballot.is)
-    c.make_ready.ensures.grown c.make_ready.ensures.err c.make_ready.ensures.ready
+    c.make_ready.ensures.kept c.make_ready.ensures.err c.make_ready.ensures.ready

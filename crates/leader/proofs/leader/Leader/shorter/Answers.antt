@@ -8,5 +8,5 @@ use Rattle.leader.proofs.leader.Leader.shorter.Goals as goal
 pub returns-clause-ok : goal.returns-clause-ok
 returns-clause-ok c =
     IfOk-weaker c.compacted.result _ _ (λ kept e.
-    subst (λ l. Compacts l kept.items) c.self.view_is (is_compacted (the_view c.self.inside) kept.items c.begun_count.ensures.distinct e))
+    subst (λ l. Compacts l kept.items) c.self.view_is (is_compacted (the_view c.self.inside) kept.items e))
     c.compacted.ensures.ok
