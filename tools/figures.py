@@ -49,7 +49,7 @@ def named_edits():
     table = text("docs/EVIDENCE.md").split("## Wrong bodies in the gate")[1].split("\nAn edit costs")[0]
     names = re.findall(r"`([a-z_0-9]+)`", table)
     edits = [(path.parts[-3], path.stem) for path in ROOT.glob("crates/*/must-fail/*.edit")]
-    return [edit for edit in edits if re.sub(r"_\d+$", "", edit[1]) in names], edits
+    return [edit for edit in edits if re.sub(r"_(\d+|changes|gets|tables|order)$", "", edit[1]) in names], edits
 
 
 def told_rules():
