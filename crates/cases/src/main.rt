@@ -5,6 +5,7 @@
 mod acceptors;
 mod ballots;
 mod calls;
+mod clusters;
 mod codec;
 mod leaders;
 mod managers;

@@ -42,8 +42,8 @@ fn request_of(event: Event) -> Result<Request, Stop> {
     }
 }
 
-/// The request that the words of an event are, as in a script.
-pub fn request(alloc: Global, words: &[u8]) -> Result<Request, Stop> {
+/// The command that a line is, as in a script.
+pub fn command(alloc: Global, words: &[u8]) -> Result<Command, Stop> {
     let mut text = Vec::new(alloc);
     text.extend_from_slice(b"cluster acceptors 1 leaders 1 rms 1\n")?;
     text.extend_from_slice(words)?;
@@ -53,12 +53,17 @@ pub fn request(alloc: Global, words: &[u8]) -> Result<Request, Stop> {
         Err(_) => return Err(Stop::Unread),
     };
     for command in script.commands.into_vec() {
-        return match command {
-            Command::Do(event) => request_of(event),
-            Command::Flow(_) => Err(Stop::Unread),
-        };
+        return Ok(command);
     }
     Err(Stop::Unread)
+}
+
+/// The request that the words of an event are, as in a script.
+pub fn request(alloc: Global, words: &[u8]) -> Result<Request, Stop> {
+    match command(alloc, words)? {
+        Command::Do(event) => request_of(event),
+        Command::Flow(_) => Err(Stop::Unread),
+    }
 }
 
 /// Runs the calls of a case: `NODE ACCEPTORS LEADERS MANAGERS`, `bundled` in a bundled cluster, and the record, as `memory HEX`,

@@ -3,8 +3,8 @@
 use crate::page::Page;
 use crate::stop::Stop;
 use crate::{
-    acceptors, ballots, codec, leaders, managers, nodes, numbers, ports, records, tables, texts,
-    values, words,
+    acceptors, ballots, clusters, codec, leaders, managers, nodes, numbers, ports, records, tables,
+    texts, values, words,
 };
 
 /// Runs the calls of a case of the part that its head names.
@@ -26,6 +26,7 @@ pub fn run(rt: HostRuntime, head: &[u8], calls: &[String], page: &mut Page) -> R
         b"manager" => managers::run(alloc, rest, calls, page),
         b"node" => nodes::run(rt, rest, calls, page),
         b"port" => ports::run(alloc, rest, calls, page),
+        b"cluster" => clusters::run(alloc, rest, calls, page),
         _ => Err(Stop::Unread),
     }
 }
