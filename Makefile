@@ -41,7 +41,7 @@ scripts:
 	tests/sweeps.py bin/pcommit
 	tests/memory.py bin/pcommit
 
-# tries each wrong rule of the protocol on a copy of the definitions, outside the gate: about ten minutes
+# tries each wrong rule of the protocol on a copy of the definitions, outside the gate: the six that are safe take minutes each
 wrong-rules: proof-tools
 	tests/wrong-rules/run.sh
 
