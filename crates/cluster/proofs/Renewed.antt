@@ -245,9 +245,11 @@ module _ (config : Config) (world : World) (sizes : Sizes) (nodes : List NodePar
         befallen_up None e = absurd (cc (e))
         befallen_up (Some x) e =
             let m_is : m ≡ x = cc (e) in
-            let befallen : BefallsShorter config who m.facts node.held new.held up.fault =
-            (up.befalls, leaves_shorter config who m node.held new.held up.fault result up.befalls up.answer_is
-            (subst (λ (n : NodeId). IsRecompacted config n m.facts node.held new.held result) who_is up.content)) in
+            let befallen : BefallsShorter config who m.facts node.held new.held up.fault = (
+              up.befalls,
+              leaves_shorter config who m node.held new.held up.fault result up.befalls up.answer_is
+                  (subst (λ (n : NodeId). IsRecompacted config n m.facts node.held new.held result) who_is up.content),
+            ) in
             subst (λ (n : NodeState). IsMetIf n.up ((p : ℕ) (d : NodeParts) → place config who ≡ Some p
             → BefallsShorter config who n.facts (get_or nodes p d).held (get_or (set nodes at new) p d).held up.fault) up.fault) m_is
             (subst (λ (b : Bool). IsMetIf b ((p : ℕ) (d : NodeParts) → place config who ≡ Some p
