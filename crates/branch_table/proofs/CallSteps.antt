@@ -1,5 +1,5 @@
 -- What each client call meets and leaves, exit by exit.
-use Rattle.std.proofs.Common.{◌≡◌, ◌≢◌, ◌∙◌, ℕ, ◌+◌, ◌<◌, Bool, true, false, ◌||◌, ◌&&◌, cond, ltb, List, [], ◌∷◌, length, Option, Some, None, refl, sym, ap, subst, Decides}
+use Rattle.std.proofs.Common.{◌≡◌, ◌≢◌, ◌∙◌, ℕ, Bool, true, false, ◌||◌, ◌&&◌, cond, ltb, List, [], length, Option, Some, None, Ok, Err, refl, sym, ap, subst, Decides}
 use Rattle.std.specs.Option.{option_map}
 use Rattle.std.specs.Str.{bytes_eq}
 use Rattle.std.proofs.lemmas.Bool.{cond_both, both_ways, false_from_ne_true}
@@ -10,7 +10,6 @@ use Rattle.xid.proofs.Deciding.{xid_decides, xid_apart}
 use Rattle.xid.specs.declared.codes.XaCode.TheVariants as code
 use Rattle.xid.specs.declared.refusals.Refusal.TheVariants.{Busy, Full}
 use Rattle.stable_record.specs.declared.fact.Act.{Act}
-use Rattle.stable_record.specs.declared.fact.Touched.{Touched}
 use Rattle.stable_record.specs.Facts.{AreAscending}
 use Rattle.protocol.specs.declared.answers.Answer.{Answer}
 use Rattle.protocol.specs.declared.answers.Answer.TheVariants.{Code, Refused}
@@ -20,15 +19,17 @@ use Rattle.protocol.specs.declared.rows.Row.{Row}
 use Rattle.protocol.specs.declared.states.BranchState.{BranchState}
 use Rattle.protocol.specs.Branches.{BranchView, no_branch, is_write, hinders_use, hinders, key_of, key_fits}
 use Rattle.protocol.specs.Branches.{value_fits, call_answer, touch_answer, is_done, by_state, rollback_answer, get_answer, read_of}
-use Rattle.protocol.specs.Managers.{Branch, act_on, has_key, last_act, view_by, view_named, with_touched}
+use Rattle.protocol.specs.Managers.{Branch, act_on, has_key, last_act, view_named}
 use Rattle.protocol.proofs.TouchedKeys.{acts_touched, has_touched}
-use Rattle.branch_table.specs.OneCall.{Answers, IsHindered, SameView, view_after, Leaves, view_with_act, view_after_done}
-use Rattle.branch_table.specs.Tables.{TableState, AreHeldApart, ChangesOnly, Steps, branch_done, branch_left, branch_named, can_be_rolled_back, in_state, is_active, with_act}
-use Rattle.branch_table.specs.Admission.{end_action, end_state, end_code, Denies, IsAdmitted, Meets, Touches}
+use Rattle.branch_table.specs.OneCall.{Answers, IsHindered, SameView, view_with_act, view_after_done}
+use Rattle.branch_table.specs.Tables.{TableState, AreHeldApart, ChangesOnly, Steps, branch_done, branch_named, can_be_rolled_back, in_state, is_active, with_act}
+use Rattle.branch_table.specs.Admission.{end_action, end_state, end_code, Admits, IsAdmitted, Meets, Touches}
+use Rattle.branch_table.specs.Parts.{hold_of}
+use Rattle.branch_table.specs.declared.hold.Hold.{Hold}
 use Rattle.branch_table.specs.declared.table.Ending.{Ending}
 use Rattle.branch_table.specs.declared.table.Ending.TheVariants as ending
 use Rattle.branch_table.proofs.Found.{view_of_named, view_or_none}
-use Rattle.branch_table.proofs.Uses.{untouched}
+use Rattle.branch_table.proofs.TableRows.{untouched}
 use Rattle.branch_table.proofs.Views.{shows_touched}
 
 -- how a branch shows that was found, or not
@@ -60,7 +61,6 @@ undone_steps t x action answer e answers = record {
   };
   branches = rw e (unchanged t.branches x);
   rows = refl;
-  places = refl;
 }
 
 -- what a call that was done makes of its branch
@@ -70,7 +70,7 @@ pub record IsDoneCall (x : XidParts) (action : Action) (answer : Answer) (o w : 
   pub view : SameView (view_or_none w) (view_after_done (view_or_none o) action)
 
 pub done_steps : (old new : TableState) (x : XidParts) (action : Action) (answer : Answer) (o w : Option Branch)
-    → branch_named old.branches x ≡ o → ChangesOnly old.branches new.branches x w → (new.rows ≡ old.rows) × (new.places ≡ old.places)
+    → branch_named old.branches x ≡ o → ChangesOnly old.branches new.branches x w → new.rows ≡ old.rows
     → IsDoneCall x action answer o w → Answers old.rows (view_named old.branches) x action answer → Steps old new x action answer
 done_steps old new x action answer o w found only same_rows call answers = record {
   answers = answers;
@@ -80,8 +80,7 @@ done_steps old new x action answer o w found only same_rows call answers = recor
     others = λ y apart. same_from _ _ (others_shown old.branches new.branches x w only y apart);
   };
   branches = rw (call.done, found, ← call.branch) only;
-  rows = same_rows.0;
-  places = same_rows.1;
+  rows = same_rows;
 }
 
 -- no branch hinders a call on no key
@@ -112,7 +111,7 @@ abbrev pub started_branch : XidParts → Branch
 started_branch x = record { xid = x; state = BranchState.Active; keys = [] }
 
 pub start_done : (old new : TableState) (x : XidParts) → branch_named old.branches x ≡ None
-    → ChangesOnly old.branches new.branches x (Some (started_branch x)) → (new.rows ≡ old.rows) × (new.places ≡ old.places)
+    → ChangesOnly old.branches new.branches x (Some (started_branch x)) → new.rows ≡ old.rows
     → Steps old new x Start (Code code.Ok)
 start_done old new x none only same_rows =
     done_steps old new x Start (Code code.Ok) None (Some (started_branch x)) none only same_rows
@@ -158,7 +157,7 @@ in_another : (b : Branch) (s : BranchState) → SameView (view_or_none (Some (in
 in_another b s = record { state = refl; touched = λ _. refl; count = refl; act = λ _. refl }
 
 pub end_done : (old new : TableState) (x : XidParts) (e : Ending) (b : Branch) → branch_named old.branches x ≡ Some b → is_active b.state ≡ true
-    → ChangesOnly old.branches new.branches x (Some (in_state (end_state e) b)) → (new.rows ≡ old.rows) × (new.places ≡ old.places)
+    → ChangesOnly old.branches new.branches x (Some (in_state (end_state e) b)) → new.rows ≡ old.rows
     → Steps old new x (end_action e) (Code (end_code e))
 end_done old new x ending.Success b found active only same_rows =
     done_steps old new x End (Code code.Ok) (Some b) (Some (in_state BranchState.Idle b)) found only same_rows
@@ -196,7 +195,7 @@ rollback_refused t x b found e =
     (keyless_answers t x Rollback (Some b) (Code code.Proto) (λ _. refl) found (no_rollback b.state e))
 
 pub rollback_done : (old new : TableState) (x : XidParts) (b : Branch) → branch_named old.branches x ≡ Some b
-    → can_be_rolled_back b.state ≡ true → ChangesOnly old.branches new.branches x None → (new.rows ≡ old.rows) × (new.places ≡ old.places)
+    → can_be_rolled_back b.state ≡ true → ChangesOnly old.branches new.branches x None → new.rows ≡ old.rows
     → Steps old new x Rollback (Code code.Ok)
 rollback_done old new x b found e only same_rows =
     done_steps old new x Rollback (Code code.Ok) (Some b) None found only same_rows
@@ -218,11 +217,11 @@ module _ (bs : List Branch) (x : XidParts) (writes : Bool) (key : List ℕ) wher
       → touch_answer (view_named bs x) busy key admitted ≡ touch_answer (view_or_none o) busy key admitted
   touch_by busy o admitted found = ap (λ v. touch_answer v busy key admitted) (shown bs x o found)
 
-  pub denies_absent : (busy : Bool) → IsBusy busy → branch_named bs x ≡ None → Denies bs x writes key (Some (Code code.Nota))
+  pub denies_absent : (busy : Bool) → IsBusy busy → branch_named bs x ≡ None → Admits bs x writes key (Err (Code code.Nota))
   denies_absent busy is none = λ admitted. (busy, is, touch_by busy None admitted none)
 
   pub denies_ended : (busy : Bool) (b : Branch) → IsBusy busy → branch_named bs x ≡ Some b → is_active b.state ≡ false
-      → Denies bs x writes key (Some (Code code.Proto))
+      → Admits bs x writes key (Err (Code code.Proto))
   denies_ended busy b is found ended = λ admitted.
       (busy, is, touch_by busy (Some b) admitted found ∙ ended_answer b.state (Code code.Nota) _ (Code code.Proto) ended)
 
@@ -232,21 +231,21 @@ module _ (bs : List Branch) (x : XidParts) (writes : Bool) (key : List ℕ) wher
       touch_by busy (Some b) admitted found ∙ active_answer b.state (Code code.Nota) _ (Code code.Proto) active
 
   pub denies_hindered : (b : Branch) → IsBusy true → branch_named bs x ≡ Some b → is_active b.state ≡ true
-      → Denies bs x writes key (Some (Refused Busy))
+      → Admits bs x writes key (Err (Refused Busy))
   denies_hindered b is found active = λ admitted. (true, is, active_touch true b admitted found active)
 
   pub denies_full : (b : Branch) → IsBusy false → branch_named bs x ≡ Some b → is_active b.state ≡ true → has_room b key ≡ false
-      → Denies bs x writes key (Some (Refused Full))
+      → Admits bs x writes key (Err (Refused Full))
   denies_full b is found active full = λ admitted.
       (false, is, active_touch false b admitted found active ∙ ap (λ r. cond r admitted (Refused Full)) full)
 
   not_hindered : IsBusy false → IsHindered (hinders_use writes key) (view_named bs) x → ⊥
   not_hindered is hindered = both_ways false refl (is.1 hindered)
 
-  pub denies_none : (b : Branch) → IsBusy false → branch_named bs x ≡ Some b → is_active b.state ≡ true → has_room b key ≡ true
-      → AreAscending b.keys → Denies bs x writes key None
-  denies_none b is found active room up =
-      record { branch = b; found = found; active = active; free = not_hindered is; ascending = up; room = room }
+  pub admits : (b : Branch) (own : Hold) → IsBusy false → branch_named bs x ≡ Some b → is_active b.state ≡ true → has_room b key ≡ true
+      → AreAscending b.keys → own ≡ hold_of b.keys key → Admits bs x writes key (Ok own)
+  admits b own is found active room up held =
+      (record { branch = b; found = found; active = active; free = not_hindered is; ascending = up; room = room }, held)
 
   -- one that is let in meets its own answer
   pub admitted_meets : IsAdmitted bs x writes key → (answer : Answer) → Meets bs x writes key answer answer
@@ -347,7 +346,7 @@ key_inval t x action key busy is key-is inval =
 
 -- a branch that is not there or not active, another one that hinders, or no room
 pub key_denied : {action : Action} {key : List ℕ} {act : Act} {answer : Answer} (t : TableState) (x : XidParts) (denial : Answer)
-    → IsKeyCall t.rows (view_named t.branches x) action key act answer → Denies t.branches x (is_write act) key (Some denial)
+    → IsKeyCall t.rows (view_named t.branches x) action key act answer → Admits t.branches x (is_write act) key (Err denial)
     → Steps t t x action denial
 key_denied {action} {key} {act} {answer} t x denial call denies =
     let met = denies answer in
@@ -365,7 +364,7 @@ key_done {action} {key} {act} {answer} old new x call admitted touched =
     let b = admitted.branch in
     let met = admitted_meets old.branches x (is_write act) key admitted answer in
     let only = subst (λ o. ChangesOnly old.branches new.branches x (option_map (with_act key act) o)) admitted.found touched.branches in
-    done_steps old new x action answer (Some b) (Some (with_act key act b)) admitted.found only (touched.rows, touched.places)
+    done_steps old new x action answer (Some b) (Some (with_act key act b)) admitted.found only touched.rows
     (record { done = call.done; branch = call.branch (Some b) x; view = rw (call.leaves (view_or_none (Some b))) (shows_touched b key act admitted.ascending) })
     (met.0, rw call.hindered met.1, sym (call.answers met.0 ∙ met.2))
 

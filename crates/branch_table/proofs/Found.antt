@@ -1,6 +1,6 @@
 -- Branches by their names: what a look-up finds, and what a change of one entry leaves.
-use Rattle.std.proofs.Common.{◌≡◌, ◌≢◌, ◌∙◌, ℕ, zero, suc, ◌+◌, ◌<◌, Bool, true, false, cond, List, [], ◌∷◌, ◌++◌, length, map, get_or, Option, Some, None, Bor, refl, sym, ap, subst, arith}
-use Rattle.std.specs.List.{IsDistinct, sum_by, count_by, swap_remove}
+use Rattle.std.proofs.Common.{◌≡◌, ◌∙◌, ℕ, zero, suc, ◌+◌, ◌<◌, Bool, true, false, cond, List, [], ◌∷◌, ◌++◌, length, map, get_or, Option, Some, None, Bor, refl, sym, ap, subst, arith}
+use Rattle.std.specs.List.{IsDistinct, sum_by, swap_remove}
 use Rattle.std.specs.Prelude.{is_some, position}
 use Rattle.std.specs.Map.{lookup, set_value, keys_of}
 use Rattle.std.specs.Option.{option_map, option_map_or, option_copied}
@@ -8,7 +8,7 @@ use Rattle.std.proofs.lemmas.List.{get_or-map, length-map}
 use Rattle.std.proofs.lemmas.List.Quantifiers.{position-Some}
 use Rattle.std.proofs.lemmas.List.Sums.{sum_by-cons, sum_by_push, sum_by-swap_remove}
 use Rattle.xid.specs.Names.{XidParts, xid_eq}
-use Rattle.xid.proofs.Deciding.{xid_self, xid_decides, xid_other, xid_apart}
+use Rattle.xid.proofs.Deciding.{xid_decides, xid_other, xid_apart}
 use Rattle.protocol.specs.Branches.{BranchView, no_branch}
 use Rattle.protocol.specs.Managers.{Branch, view_by, view_named}
 use Rattle.indexmap.specs.IndexMap.{swap_remove_entry}

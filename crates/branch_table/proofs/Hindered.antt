@@ -1,12 +1,12 @@
 -- Another branch hinders where a key has more uses than the own branch makes of it.
-use Rattle.std.proofs.Common.{◌≡◌, ◌≢◌, ◌∙◌, ℕ, ◌+◌, ◌<◌, ◌≤◌, Bool, true, false, not, ◌&&◌, ◌||◌, cond, ltb, List, [], ◌∷◌, map, Option, Some, None, refl, sym, ap, subst, arith, Decides, inl, inr}
-use Rattle.std.specs.List.{list_any, AllByRecursion, IsDistinct, count_by}
+use Rattle.std.proofs.Common.{◌≡◌, ◌∙◌, ℕ, ◌+◌, ◌<◌, ◌≤◌, Bool, true, false, not, ◌&&◌, ◌||◌, cond, ltb, List, [], ◌∷◌, map, Some, None, refl, sym, ap, subst, arith, Decides, inl, inr}
+use Rattle.std.specs.List.{list_any, AllByRecursion, IsDistinct}
 use Rattle.std.proofs.lemmas.Bool.{and_parts, both_ways, cond_both, lt-ltb, ltb-true, not-true, or_cases, or_from, or_left, or_parts, or_right}
 use Rattle.std.proofs.lemmas.List.Sums.{sum_by-cons}
 use Rattle.xid.specs.Names.{XidParts, xid_eq}
 use Rattle.xid.proofs.Deciding.{xid_self, xid_decides, xid_other, xid_apart}
 use Rattle.protocol.specs.Branches.{BranchView, no_branch, hinders_use}
-use Rattle.protocol.specs.Managers.{Branch, view_by, view_named, is_hindered}
+use Rattle.protocol.specs.Managers.{Branch, view_named}
 use Rattle.branch_table.specs.OneCall.{IsHindered}
 use Rattle.branch_table.specs.Tables.{branch_named}
 use Rattle.branch_table.specs.Parts.{is_using, uses_of, uses_in}
@@ -91,7 +91,7 @@ module _ (writes : Bool) (key : List ℕ) where
   own_tail : (b : Branch) (bs : List Branch) (x : XidParts) → xid_eq b.xid x ≡ false → own (b ∷ bs) x ≡ own bs x
   own_tail b bs x e = ap (λ t. uses_of writes key (cond t (Some b) (branch_named bs x))) e
 
-  own_within : (bs : List Branch) (x : XidParts) → own bs x ≤ uses bs
+  pub own_within : (bs : List Branch) (x : XidParts) → own bs x ≤ uses bs
   own_within [] x = omega arith
   own_within (b ∷ bs) x = by (xid_eq b.xid x) refl (own_within bs x)
     where

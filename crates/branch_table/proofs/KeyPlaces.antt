@@ -9,7 +9,6 @@ use Rattle.std.specs.Str.{bytes_eq}
 use Rattle.std.specs.declared.cmp.Ordering.{Ordering}
 use Rattle.std.specs.declared.cmp.Ordering.TheVariants.{Less, Equal, Greater}
 use Rattle.std.proofs.lemmas.Bool.{cases_lt, le-ltb, lt-ltb, not-true}
-use Rattle.std.proofs.lemmas.Bool.Decides.{same_from_decides}
 use Rattle.std.proofs.lemmas.List.Quantifiers.{position-Some}
 use Rattle.std.proofs.lemmas.Map.Text.{is_eq-slice_cmp}
 use Rattle.std.proofs.lemmas.Slice.Eq.{bytes_eq-Decides}
@@ -20,16 +19,11 @@ use Rattle.std.proofs.lemmas.List.Sums.{prefix_len_is}
 use Rattle.stable_record.specs.Facts.{AreAscending}
 use Rattle.protocol.specs.Managers.{act_on, has_key, last_act, with_touched}
 use Rattle.protocol.proofs.TouchedKeys.{absent, tail_ascends}
+use Rattle.branch_table.proofs.TableRows.{flipped}
 
 -- whether a key stands no later than a touched one
 abbrev pub is_up_to : List ℕ → Touched → Bool
 is_up_to key touched = is_le (slice_cmp nat_cmp key touched.key)
-
-flipped : (x y : List ℕ) → bytes_eq x y ≡ bytes_eq y x
-flipped x y =
-    let here = bytes_eq-Decides x y in
-    let there = bytes_eq-Decides y x in
-    same_from_decides _ _ here ((λ e. sym (there.0 e)), (λ e. there.1 (sym e)))
 
 -- the tests of two keys, by their order
 same_test : (x key : List ℕ) → bytes_eq x key ≡ is_eq (slice_cmp nat_cmp key x)

@@ -4,9 +4,10 @@ pub mod Views
 mod Uses
 mod Found
 mod Hindered
-mod TableRows
+pub mod TableRows
+mod SortedRows
 pub mod RowLimits
-mod HoldTable
+mod PlaceTable
 pub mod CallSteps
 mod TableKept
 mod OutcomeSteps

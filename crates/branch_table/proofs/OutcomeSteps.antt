@@ -1,9 +1,8 @@
 -- What becomes of branches: which keys are idle, and what an end has looked at.
-use Rattle.std.proofs.Common.{◌≡◌, ◌∙◌, ℕ, ◌+◌, ◌*◌, ◌<◌, ◌≤◌, Bool, true, false, ◌&&◌, cond, List, [], ◌∷◌, length, Option, Some, None, refl, sym, ap, subst, arith}
+use Rattle.std.proofs.Common.{◌≡◌, ◌∙◌, ℕ, ◌+◌, ◌*◌, ◌≤◌, Bool, true, false, cond, List, [], ◌∷◌, length, Option, Some, None, refl, sym, ap, subst, arith}
 use Rattle.std.specs.List.{IsDistinct}
 use Rattle.xid.specs.Names.{XidParts, xid_eq}
 use Rattle.stable_record.specs.declared.fact.Touched.{Touched}
-use Rattle.stable_record.specs.Facts.{AreKeys}
 use Rattle.protocol.specs.declared.states.BranchState.{BranchState}
 use Rattle.protocol.specs.Managers.{Branch, idle_keys}
 use Rattle.branch_table.specs.Outcomes.{Looks, keys_named, looks_after}

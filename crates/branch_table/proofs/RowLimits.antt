@@ -1,15 +1,13 @@
 -- Rows stay within the limits.
-use Rattle.std.proofs.Common.{◌≡◌, ◌∙◌, ℕ, Bool, true, false, ◌&&◌, nat_lt, nat_le, cond, List, [], ◌∷◌, length, refl, sym, ap, subst}
-use Rattle.std.specs.Prelude.{filter, ◌++◌}
-use Rattle.std.specs.List.{AllByRecursion, list_all}
+use Rattle.std.proofs.Common.{◌≡◌, ℕ, Bool, true, not, ◌&&◌, nat_lt, nat_le, cond, List, [], ◌∷◌, length, refl}
+use Rattle.std.specs.Prelude.{filter}
 use Rattle.std.specs.Ordering.{nat_cmp, is_lt}
 use Rattle.std.specs.Cmp.Lexicographic.{slice_cmp}
 use Rattle.std.specs.Str.{bytes_eq}
 use Rattle.std.proofs.lemmas.Bool.{and_from, and_parts, cond_both, le-leb, lt-ltb}
 use Rattle.xid.specs.Limits.{most_key, most_value}
 use Rattle.stable_record.specs.declared.fact.Act.{Act}
-use Rattle.stable_record.specs.declared.fact.Touched.{Touched}
-use Rattle.stable_record.specs.Facts.{IsKey, IsValue, IsTouched}
+use Rattle.stable_record.specs.Facts.{IsKey, IsValue}
 use Rattle.protocol.specs.declared.rows.Row.{Row}
 use Rattle.protocol.specs.Tables.{put_row, rows_after}
 use Rattle.branch_table.specs.Tables.{are_rows, is_row}
@@ -42,3 +40,11 @@ kept_fit p (first ∷ rows) are =
     cond_both (p first) (first ∷ filter p rows) (filter p rows) (λ rs. are_rows rs ≡ true)
     (λ passes. and_from (is_row first) (are_rows (filter p rows)) parts.0 (kept_fit p rows parts.1))
     (λ fails. kept_fit p rows parts.1)
+
+-- rows after an act, whose value fits if it puts one
+pub after_fit : (rows : List Row) (key : List ℕ) (act : Act)
+    → ((value : List ℕ) → act ≡ Act.Put value → is_row (record { key = key; value = value }) ≡ true)
+    → are_rows rows ≡ true → are_rows (rows_after rows key act) ≡ true
+after_fit rows key Act.Read fits are = are
+after_fit rows key (Act.Put value) fits are = put_fits rows (record { key = key; value = value }) are (fits value refl)
+after_fit rows key Act.Del fits are = kept_fit (λ row. not (bytes_eq row.key key)) rows are

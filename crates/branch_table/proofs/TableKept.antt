@@ -1,35 +1,43 @@
 -- What a change of one branch keeps: no name has two, holds are the touched keys the other way round, and no key is held by two branches
 -- of which one has written it.
-use Rattle.std.proofs.Common.{◌≡◌, ◌≢◌, ◌∙◌, ℕ, ◌+◌, ◌-◌, Bool, true, false, ◌||◌, cond, List, [], ◌∷◌, ◌++◌, Option, Some, None, Contains, length, ◌<◌, ◌^◌, refl, sym, ap, subst, arith, inl, inr}
+use Rattle.std.proofs.Common.{◌≡◌, ◌≢◌, ◌∙◌, ℕ, ◌+◌, ◌-◌, Bool, true, false, ◌||◌, cond, List, [], ◌∷◌, Option, Some, None, Contains, length, ◌<◌, ◌^◌, refl, sym, ap, subst, arith, inl, inr}
+use Rattle.std.specs.List.{IsDistinct}
 use Rattle.std.specs.Option.{option_map}
 use Rattle.std.specs.Str.{bytes_eq}
-use Rattle.std.proofs.lemmas.Bool.{both_ways, false_from_ne_true}
+use Rattle.std.proofs.lemmas.Bool.{both_ways}
 use Rattle.std.proofs.lemmas.List.Sums.{count_by-le-length}
 use Rattle.std.proofs.lemmas.List.Elements.{Contains-append_right, Contains-get_or}
 use Rattle.std.proofs.lemmas.Slice.Eq.{bytes_eq-Decides}
 use Rattle.xid.specs.Names.{XidParts}
 use Rattle.stable_record.specs.declared.fact.Act.{Act}
 use Rattle.stable_record.specs.declared.fact.Touched.{Touched}
-use Rattle.stable_record.specs.Facts.{AreAscending}
 use Rattle.protocol.specs.declared.states.BranchState.{BranchState}
-use Rattle.protocol.specs.Branches.{BranchView, is_write, hinders_use}
+use Rattle.protocol.specs.Branches.{is_write, hinders_use}
 use Rattle.protocol.specs.Managers.{Branch, act_on, has_key, view_named, with_touched}
 use Rattle.branch_table.specs.OneCall.{IsHindered}
 use Rattle.branch_table.specs.Outcomes.{AreHindered, CanBePrepared, prepared_branch}
 use Rattle.branch_table.specs.Tables.{AreHeldApart, AreTableBranches, branch_named, in_state, is_idle, with_act}
 use Rattle.branch_table.specs.Admission.{IsAdmitted}
-use Rattle.branch_table.specs.Parts.{Adds, AreHolds, Replaces, Takes, hold_at, hold_more, is_using, uses_by, uses_held, uses_in, uses_of}
-use Rattle.branch_table.specs.declared.holds.Hold.{Hold}
+use Rattle.branch_table.specs.Parts.{Adds, AreHolds, free, Replaces, Takes, hold_at, hold_more, is_using, uses_by, uses_held, uses_in, uses_of}
+use Rattle.branch_table.specs.declared.hold.Hold.{Hold}
+use Rattle.branch_table.proofs.Hindered.{own_within}
+use Rattle.branch_table.proofs.PlaceTable.{Known}
+use Rattle.branch_table.proofs.TableRows.{untouched}
 use Rattle.branch_table.proofs.Found.{view_or_none}
 use Rattle.branch_table.proofs.CallSteps.{apart_after, apart_same, apart_touched, apart_without, free_of, others_shown, shown, shows_written, started_branch}
-use Rattle.branch_table.proofs.Uses.{more_uses, uses_none, uses_same, untouched}
-
-abbrev Held : Type 0
-Held = List (List ℕ × Hold)
+use Rattle.branch_table.proofs.Uses.{more_uses, no_hold, uses_none, uses_same}
 
 -- what is kept
-abbrev pub IsKept : Held → List Branch → Type 0
+abbrev pub IsKept : Known → List Branch → Type 0
 IsKept holds branches = AreTableBranches branches × AreHolds holds branches
+
+-- no branch, and no hold
+pub kept_none : (holds : Known) (branches : List Branch) → branches ≡ [] → ((key : List ℕ) → hold_at holds key ≡ free) → IsKept holds branches
+unfolding IsDistinct
+kept_none holds branches none unheld = subst (IsKept holds) (sym none) (
+  record { distinct = tt; apart = λ x y differ key written. absurd (cc (written)) },
+  λ writes key. ap (uses_held writes) (unheld key) ∙ no_hold writes,
+)
 
 -- a branch that is found was it
 pub was_found : (old new : List Branch) (x : XidParts) (b : Branch) (g : Branch → Branch) → branch_named old x ≡ Some b
@@ -37,7 +45,7 @@ pub was_found : (old new : List Branch) (x : XidParts) (b : Branch) (g : Branch 
 was_found old new x b g found is = subst (λ (o : Option Branch). Replaces old new x o (option_map g o)) found is
 
 -- a new branch has no keys
-pub kept_started : (holds : Held) (old new : List Branch) (x : XidParts) → IsKept holds old → Replaces old new x None (Some (started_branch x))
+pub kept_started : (holds : Known) (old new : List Branch) (x : XidParts) → IsKept holds old → Replaces old new x None (Some (started_branch x))
     → IsKept holds new
 kept_started holds old new x kept is = (
   record { distinct = is.distinct; apart = apart_without old new x (Some (started_branch x)) kept.0.apart is.only (λ key. refl) },
@@ -49,7 +57,7 @@ kept_started holds old new x kept is = (
 )
 
 -- a branch is in another state
-pub kept_state : (holds : Held) (old new : List Branch) (x : XidParts) (b : Branch) (s : BranchState) → IsKept holds old
+pub kept_state : (holds : Known) (old new : List Branch) (x : XidParts) (b : Branch) (s : BranchState) → IsKept holds old
     → branch_named old x ≡ Some b → Replaces old new x (branch_named old x) (option_map (in_state s) (branch_named old x)) → IsKept holds new
 kept_state holds old new x b s kept found given =
     let is = was_found old new x b (in_state s) found given in (
@@ -63,7 +71,7 @@ kept_state holds old new x b s kept found given =
     )
 
 -- a branch has ended, and its keys were let go
-pub kept_ended : (holds after : Held) (old new : List Branch) (x : XidParts) (b : Branch) → IsKept holds old → branch_named old x ≡ Some b
+pub kept_ended : (holds after : Known) (old new : List Branch) (x : XidParts) (b : Branch) → IsKept holds old → branch_named old x ≡ Some b
     → Replaces old new x (branch_named old x) None
     → ((writes : Bool) (key : List ℕ) → uses_held writes (hold_at after key) ≡ uses_held writes (hold_at holds key) - uses_by writes key b.keys)
     → IsKept after new
@@ -79,7 +87,7 @@ kept_ended holds after old new x b kept found given freed =
     )
 
 -- there was no branch
-pub kept_absent : (holds : Held) (old new : List Branch) (x : XidParts) → IsKept holds old → branch_named old x ≡ None
+pub kept_absent : (holds : Known) (old new : List Branch) (x : XidParts) → IsKept holds old → branch_named old x ≡ None
     → Replaces old new x (branch_named old x) None → IsKept holds new
 kept_absent holds old new x kept none given =
     let is = subst (λ (o : Option Branch). Replaces old new x o None) none given in (
@@ -96,7 +104,7 @@ add_by held was other own more true is takes uses total counts before = omega (a
 add_by held was other own more false is takes uses total counts before = omega (arith, is, takes, counts, before)
 
 -- one more act on a key of a branch
-pub kept_touched : (holds after : Held) (old new : List Branch) (x : XidParts) (key : List ℕ) (act : Act) → IsKept holds old
+pub kept_touched : (holds after : Known) (old new : List Branch) (x : XidParts) (key : List ℕ) (act : Act) → IsKept holds old
     → (is : IsAdmitted old x (is_write act) key) → Adds holds after key (hold_more is.branch.keys key act)
     → Replaces old new x (branch_named old x) (option_map (with_act key act) (branch_named old x)) → IsKept after new
 kept_touched holds after old new x key act kept is adds given =
@@ -117,7 +125,7 @@ back_by h g k m true more less = omega (arith, more, less)
 back_by h g k m false more less = omega (arith, more, less)
 
 -- a hold that was taken is let go again
-pub kept_back : (holds added back : Held) (branches : List Branch) (key : List ℕ) (more : Hold) → IsKept holds branches
+pub kept_back : (holds added back : Known) (branches : List Branch) (key : List ℕ) (more : Hold) → IsKept holds branches
     → Adds holds added key more → Takes added back key more → IsKept back branches
 kept_back holds added back branches key more kept adds takes = (
   kept.0,
@@ -187,7 +195,7 @@ apart_prepared old new x keys apart free is =
     by key y differ written false h true w = h
     by key y differ written false h false w = h
 
-pub kept_prepared : (holds after : Held) (old new : List Branch) (x : XidParts) (keys : List Touched) → IsKept holds old
+pub kept_prepared : (holds after : Known) (old new : List Branch) (x : XidParts) (keys : List Touched) → IsKept holds old
     → (AreHindered old x keys → ⊥) → Replaces old new x None (Some (prepared_branch x keys))
     → ((writes : Bool) (key : List ℕ) → uses_held writes (hold_at after key) ≡ uses_held writes (hold_at holds key) + uses_by writes key keys)
     → IsKept after new
@@ -249,15 +257,25 @@ pub some_none : (o : Option Branch) (b : Branch) → o ≡ Some b → o ≡ None
 some_none o b some none = absurd (cc (sym some ∙ none))
 
 -- holds that are the same at each key
-pub same_kept : (holds after : Held) (old new : List Branch) → IsKept holds old → new ≡ old
+pub same_kept : (holds after : Known) (old new : List Branch) → IsKept holds old → new ≡ old
     → ((writes : Bool) (key : List ℕ) → uses_held writes (hold_at after key) ≡ uses_held writes (hold_at holds key)) → IsKept after new
 same_kept holds after old new kept same held =
     subst (IsKept after) (sym same) (kept.0, λ writes key. held writes key ∙ kept.1 writes key)
 
 -- a key has no more holders than there are branches
-pub held_small : (holds : Held) (branches : List Branch) → AreHolds holds branches → length branches < 2 ^ 63
+pub held_small : (holds : Known) (branches : List Branch) → AreHolds holds branches → length branches < 2 ^ 63
     → (writes : Bool) (key : List ℕ) → uses_held writes (hold_at holds key) < 2 ^ 63
 held_small holds branches are few writes key =
     let uses = are writes key in
     let counted = count_by-le-length (is_using writes key) branches in
     omega (arith, uses, counted, few)
+
+-- a key that a branch has touched is held
+pub held_there : (holds : Known) (branches : List Branch) (x : XidParts) (b : Branch) → AreHolds holds branches
+    → branch_named branches x ≡ Some b → (key : List ℕ) → has_key key b.keys ≡ true → 0 < (hold_at holds key).touched_by
+held_there holds branches x b are found key there =
+    let uses : (hold_at holds key).touched_by ≡ uses_in true key branches = are true key in
+    let own = ap (uses_of true key) found in
+    let one : uses_of true key (Some b) ≡ 1 = ap (λ h. cond h 1 0) there in
+    let within = own_within true key branches x in
+    omega (arith, uses, own, one, within)

@@ -1,35 +1,267 @@
--- The rows among the places of an ordered map, and what a change of one place makes of them.
-use Rattle.std.proofs.Common.{◌≡◌, ◌∙◌, ℕ, ◌+◌, Bool, true, false, not, ◌||◌, cond, List, [], ◌∷◌, ◌++◌, map, Option, Some, None, refl, sym, ap, subst, arith}
-use Rattle.std.specs.Prelude.{filter, filter_map, is_some}
-use Rattle.std.specs.List.{AllByRecursion, list_all, list_any, cons_option}
-use Rattle.std.specs.List.Sorted.{IsStrictlySortedBy}
-use Rattle.std.specs.Map.{lookup, remove_entry, keys_of}
-use Rattle.std.specs.BTreeMap.{insert_entry}
+-- What writes make of rows, key by key; ascending rows that have the same at each key are the same; and the rows among places, in order.
+use Rattle.std.proofs.Common.{◌≡◌, ◌∙◌, ℕ, Bool, true, false, not, cond, List, [], ◌∷◌, Option, Some, None, unwrap_or, refl, sym, ap}
+use Rattle.std.proofs.Common.{subst}
+use Rattle.std.specs.Prelude.{filter, fold}
+use Rattle.std.specs.List.{AllByRecursion}
+use Rattle.std.specs.Map.{lookup}
 use Rattle.std.specs.Cmp.Lexicographic.{slice_cmp}
-use Rattle.std.specs.Ordering.{nat_cmp, is_lt, is_eq, match_ordering}
+use Rattle.std.specs.Ordering.{nat_cmp, is_lt, is_eq, ordering_reverse}
 use Rattle.std.specs.Str.{bytes_eq}
 use Rattle.std.specs.declared.cmp.Ordering.{Ordering}
 use Rattle.std.specs.declared.cmp.Ordering.TheVariants.{Less, Equal, Greater}
-use Rattle.std.proofs.lemmas.Bool.{and_from, and_parts, or_parts, or_right}
-use Rattle.std.proofs.Common.{Result, Ok, Err, zero, suc, ◌<◌, length, get_or, take}
-use Rattle.std.specs.Prelude.{IfErr, OnOk}
-use Rattle.xid.specs.declared.refusals.Refusal.{Refusal}
-use Rattle.xid.specs.declared.refusals.Refusal.TheVariants.{NoMemory}
+use Rattle.std.proofs.lemmas.Bool.{cond_both, both_ways, false_from_ne_true, or_parts, not-true, not-false}
 use Rattle.std.proofs.lemmas.Bool.Decides.{same_from_decides}
 use Rattle.std.proofs.lemmas.Cmp.{nat_list_cmp_total}
 use Rattle.std.proofs.lemmas.Map.Text.{is_eq-slice_cmp}
 use Rattle.std.proofs.lemmas.Slice.Eq.{bytes_eq-Decides}
 use Rattle.stable_record.specs.declared.fact.Act.{Act}
 use Rattle.stable_record.specs.declared.fact.Touched.{Touched}
-use Rattle.protocol.specs.Managers.{has_key}
-use Rattle.branch_table.specs.Outcomes.{has_place}
+use Rattle.stable_record.specs.Facts.{AreAscending}
 use Rattle.protocol.specs.declared.rows.Row.{Row}
-use Rattle.protocol.specs.Branches.{row_at}
-use Rattle.protocol.specs.Tables.{put_row}
-use Rattle.branch_table.specs.Parts.{row_of_place, rows_in, keys_in}
+use Rattle.protocol.specs.Branches.{row_at, value_after}
+use Rattle.protocol.specs.Managers.{act_on, has_key}
+use Rattle.protocol.specs.Tables.{put_row, rows_after, with_writes}
+use Rattle.protocol.proofs.TouchedKeys.{absent, tail_ascends}
+use Rattle.branch_table.specs.Parts.{act_to, no_place, place_at, table_of}
+use Rattle.branch_table.specs.declared.places.Place.{Place}
 
-abbrev cmp : List ℕ → List ℕ → Ordering
-cmp = slice_cmp nat_cmp
+-- ---- the order of keys
+
+less_from : (o : Ordering) → is_lt o ≡ true → o ≡ Less
+less_from Less e = refl
+less_from Equal e = absurd (cc (e))
+less_from Greater e = absurd (cc (e))
+
+pub later_by : (x y : List ℕ) (o : Ordering) → slice_cmp nat_cmp y x ≡ o → bytes_eq x y ≡ false → is_lt o ≡ false → slice_cmp nat_cmp x y ≡ Less
+later_by x y Less e apart over = absurd (cc (over))
+later_by x y Equal e apart over =
+    let same : y ≡ x = (bytes_eq-Decides y x).0 (sym (is_eq-slice_cmp y x) ∙ ap is_eq e) in
+    absurd (both_ways (bytes_eq x y) apart ((bytes_eq-Decides x y).1 (sym same)))
+later_by x y Greater e apart over = nat_list_cmp_total.antisymm x y ∙ ap ordering_reverse e
+
+not_itself : (key : List ℕ) → slice_cmp nat_cmp key key ≡ Less → ⊥
+not_itself key less =
+    let turned : Less ≡ Greater = sym less ∙ nat_list_cmp_total.antisymm key key ∙ ap ordering_reverse less in
+    absurd (cc (turned))
+
+apart_from : (key k : List ℕ) → slice_cmp nat_cmp key k ≡ Less → bytes_eq k key ≡ false
+apart_from key k less = false_from_ne_true (bytes_eq k key)
+    (λ e. not_itself key (subst (λ (z : List ℕ). slice_cmp nat_cmp key z ≡ Less) ((bytes_eq-Decides k key).0 e) less))
+
+-- a key comes before those of all these rows
+abbrev pub IsBefore : List ℕ → List Row → Type 0
+IsBefore key rows = AllByRecursion (λ (row : Row). slice_cmp nat_cmp key row.key ≡ Less) rows
+
+-- the keys of rows ascend
+abbrev pub AscendRows : List Row → Type 0
+AscendRows [] = Unit {0}
+AscendRows (row ∷ rows) = IsBefore row.key rows × AscendRows rows
+
+pub before_more : (key other : List ℕ) (rows : List Row) → slice_cmp nat_cmp key other ≡ Less → IsBefore other rows → IsBefore key rows
+before_more key other [] less are = tt
+before_more key other (row ∷ rows) less are =
+    (nat_list_cmp_total.trans key other row.key less are.0, before_more key other rows less are.1)
+
+-- there is no row of a key before them
+none_before : (key : List ℕ) (rows : List Row) → IsBefore key rows → row_at rows key ≡ None
+none_before key [] are = refl
+none_before key (row ∷ rows) are =
+    ap (λ (b : Bool). cond b (Some row.value) (row_at rows key)) (apart_from key row.key are.0) ∙ none_before key rows are.1
+
+-- ---- a row put or taken away
+
+put_before : (key : List ℕ) (rows : List Row) (row : Row) → slice_cmp nat_cmp key row.key ≡ Less → IsBefore key rows
+    → IsBefore key (put_row rows row)
+put_before key [] row less are = (less, tt)
+put_before key (first ∷ rows) row less are =
+    cond_both (bytes_eq first.key row.key) _ _ (IsBefore key) (λ same. (less, are.1))
+    (λ apart. cond_both (is_lt (slice_cmp nat_cmp row.key first.key)) _ _ (IsBefore key) (λ here. (less, (are.0, are.1)))
+    (λ there. (are.0, put_before key rows row less are.1)))
+
+put_ascends : (rows : List Row) (row : Row) → AscendRows rows → AscendRows (put_row rows row)
+put_ascends [] row are = (tt, tt)
+put_ascends (first ∷ rows) row are =
+    cond_both (bytes_eq first.key row.key) _ _ AscendRows
+    (λ same. (subst (λ (k : List ℕ). IsBefore k rows) ((bytes_eq-Decides first.key row.key).0 same) are.0, are.1))
+    (λ apart. cond_both (is_lt (slice_cmp nat_cmp row.key first.key)) _ _ AscendRows
+    (λ here. let less = less_from (slice_cmp nat_cmp row.key first.key) here in
+    ((less, before_more row.key first.key rows less are.0), are))
+    (λ there. (
+      put_before first.key rows row (later_by first.key row.key (slice_cmp nat_cmp row.key first.key) refl apart there) are.0,
+      put_ascends rows row are.1,
+    )))
+
+taken_before : (p : Row → Bool) (key : List ℕ) (rows : List Row) → IsBefore key rows → IsBefore key (filter p rows)
+taken_before p key [] are = tt
+taken_before p key (row ∷ rows) are =
+    cond_both (p row) (row ∷ filter p rows) (filter p rows) (IsBefore key) (λ passes. (are.0, taken_before p key rows are.1))
+    (λ fails. taken_before p key rows are.1)
+
+taken_ascends : (p : Row → Bool) (rows : List Row) → AscendRows rows → AscendRows (filter p rows)
+taken_ascends p [] are = tt
+taken_ascends p (row ∷ rows) are =
+    cond_both (p row) (row ∷ filter p rows) (filter p rows) AscendRows
+    (λ passes. (taken_before p row.key rows are.0, taken_ascends p rows are.1)) (λ fails. taken_ascends p rows are.1)
+
+pub after_ascends : (rows : List Row) (key : List ℕ) (act : Act) → AscendRows rows → AscendRows (rows_after rows key act)
+after_ascends rows key Act.Read are = are
+after_ascends rows key (Act.Put value) are = put_ascends rows (record { key = key; value = value }) are
+after_ascends rows key Act.Del are = taken_ascends (λ (row : Row). not (bytes_eq row.key key)) rows are
+
+pub writes_ascend : (rows : List Row) (keys : List Touched) → AscendRows rows → AscendRows (with_writes rows keys)
+writes_ascend rows [] are = are
+writes_ascend rows (t ∷ keys) are = writes_ascend (rows_after rows t.key t.act) keys (after_ascends rows t.key t.act are)
+
+pub first_ascend : (rows first : List Row) → AscendRows rows → AscendRows (fold put_row rows first)
+first_ascend rows [] are = are
+first_ascend rows (row ∷ first) are = first_ascend (put_row rows row) first (put_ascends rows row are)
+
+-- ---- what is there then
+
+put_there : (rows : List Row) (row : Row) (key : List ℕ) → AscendRows rows
+    → row_at (put_row rows row) key ≡ cond (bytes_eq row.key key) (Some row.value) (row_at rows key)
+put_there [] row key are = refl
+put_there (first ∷ rows) row key are =
+    let goal = λ (after : List Row). row_at after key ≡ cond (bytes_eq row.key key) (Some row.value) (row_at (first ∷ rows) key) in
+    cond_both (bytes_eq first.key row.key) _ _ goal
+    (λ same. subst (λ (k : List ℕ). cond (bytes_eq row.key key) (Some row.value) (row_at rows key)
+    ≡ cond (bytes_eq row.key key) (Some row.value) (cond (bytes_eq k key) (Some first.value) (row_at rows key)))
+    (sym ((bytes_eq-Decides first.key row.key).0 same)) (in_its_place (bytes_eq row.key key) (Some row.value) (Some first.value)
+    (row_at rows key)))
+    (λ apart. cond_both (is_lt (slice_cmp nat_cmp row.key first.key)) _ _ goal (λ here. refl)
+    (λ there. ap (λ (o : Option (List ℕ)). cond (bytes_eq first.key key) (Some first.value) o) (put_there rows row key are.1)
+    ∙ either_first (bytes_eq first.key key) (bytes_eq row.key key) (Some first.value) (Some row.value) (row_at rows key)
+    (λ e. false_from_ne_true (bytes_eq row.key key) (λ f. both_ways (bytes_eq first.key row.key) apart
+    ((bytes_eq-Decides first.key row.key).1 ((bytes_eq-Decides first.key key).0 e ∙ sym ((bytes_eq-Decides row.key key).0 f)))))))
+  where
+    in_its_place : (b : Bool) (new old rest : Option (List ℕ)) → cond b new rest ≡ cond b new (cond b old rest)
+    in_its_place true new old rest = refl
+    in_its_place false new old rest = refl
+
+    either_first : (b c : Bool) (x y rest : Option (List ℕ)) → (b ≡ true → c ≡ false) → cond b x (cond c y rest) ≡ cond c y (cond b x rest)
+    either_first true true x y rest one = absurd (cc (one refl))
+    either_first true false x y rest one = refl
+    either_first false c x y rest one = refl
+
+taken_there : (rows : List Row) (gone key : List ℕ)
+    → row_at (filter (λ (row : Row). not (bytes_eq row.key gone)) rows) key ≡ cond (bytes_eq gone key) None (row_at rows key)
+taken_there [] gone key = none_either (bytes_eq gone key)
+  where
+    none_either : (b : Bool) → None ≡ cond b None (row_at [] key)
+    none_either true = refl
+    none_either false = refl
+taken_there (row ∷ rows) gone key =
+    let rest = filter (λ (r : Row). not (bytes_eq r.key gone)) rows in
+    cond_both (not (bytes_eq row.key gone)) (row ∷ rest) rest
+    (λ (left : List Row). row_at left key ≡ cond (bytes_eq gone key) None (row_at (row ∷ rows) key))
+    (λ kept. ap (λ (o : Option (List ℕ)). cond (bytes_eq row.key key) (Some row.value) o) (taken_there rows gone key)
+    ∙ either_first (bytes_eq row.key key) (bytes_eq gone key) (Some row.value) (row_at rows key)
+    (λ e. false_from_ne_true (bytes_eq gone key) (λ f. both_ways (bytes_eq row.key gone) (not-true (bytes_eq row.key gone) kept)
+    ((bytes_eq-Decides row.key gone).1 ((bytes_eq-Decides row.key key).0 e ∙ sym ((bytes_eq-Decides gone key).0 f))))))
+    (λ cut. taken_there rows gone key
+    ∙ subst (λ (k : List ℕ). cond (bytes_eq gone key) None (row_at rows key)
+    ≡ cond (bytes_eq gone key) None (cond (bytes_eq k key) (Some row.value) (row_at rows key)))
+    (sym ((bytes_eq-Decides row.key gone).0 (not-false (bytes_eq row.key gone) cut))) (hidden (bytes_eq gone key) (Some row.value)
+    (row_at rows key)))
+  where
+    either_first : (b c : Bool) (x rest : Option (List ℕ)) → (b ≡ true → c ≡ false) → cond b x (cond c None rest)
+        ≡ cond c None (cond b x rest)
+    either_first true true x rest one = absurd (cc (one refl))
+    either_first true false x rest one = refl
+    either_first false c x rest one = refl
+
+    hidden : (b : Bool) (x rest : Option (List ℕ)) → cond b None rest ≡ cond b None (cond b x rest)
+    hidden true x rest = refl
+    hidden false x rest = refl
+
+pub after_there : (rows : List Row) (key : List ℕ) (act : Act) (k : List ℕ) → AscendRows rows
+    → row_at (rows_after rows key act) k ≡ cond (bytes_eq key k) (value_after act (row_at rows k)) (row_at rows k)
+after_there rows key Act.Read k are = either_way (bytes_eq key k) (row_at rows k)
+  where
+    either_way : (b : Bool) (o : Option (List ℕ)) → o ≡ cond b o o
+    either_way true o = refl
+    either_way false o = refl
+after_there rows key (Act.Put value) k are = put_there rows (record { key = key; value = value }) k are
+after_there rows key Act.Del k are = taken_there rows key k
+
+-- a key that wasn't touched, or stands before those touched, is only read
+pub untouched : (us : List Touched) (key : List ℕ) → has_key key us ≡ false → act_on us key ≡ Act.Read
+untouched [] key none = refl
+untouched (u ∷ us) key none =
+    let parts = or_parts (bytes_eq u.key key) (has_key key us) none in
+    ap (λ (b : Bool). cond b u.act (act_on us key)) parts.0 ∙ untouched us key parts.1
+
+later_unread : (u : Touched) (us : List Touched) (key : List ℕ) → bytes_eq u.key key ≡ true → AreAscending (u ∷ us)
+    → act_on us key ≡ Act.Read
+later_unread u [] key e ascends = refl
+later_unread u (v ∷ us) key e ascends =
+    subst (λ (z : List ℕ). act_on (v ∷ us) z ≡ Act.Read) ((bytes_eq-Decides u.key key).0 e)
+    (untouched (v ∷ us) u.key (absent v us u.key ascends.1 ascends.0))
+
+-- touched keys, of which each stands once
+pub keys_there : (rows : List Row) (keys : List Touched) (k : List ℕ) → AscendRows rows → AreAscending keys
+    → row_at (with_writes rows keys) k ≡ value_after (act_on keys k) (row_at rows k)
+keys_there rows [] k are ascending = refl
+keys_there rows (t ∷ keys) k are ascending =
+    keys_there (rows_after rows t.key t.act) keys k (after_ascends rows t.key t.act are) (tail_ascends t keys ascending)
+    ∙ ap (value_after (act_on keys k)) (after_there rows t.key t.act k are)
+    ∙ by_own (bytes_eq t.key k) refl
+  where
+    by_own : (own : Bool) → bytes_eq t.key k ≡ own
+        → value_after (act_on keys k) (cond own (value_after t.act (row_at rows k)) (row_at rows k))
+        ≡ value_after (cond own t.act (act_on keys k)) (row_at rows k)
+    by_own true e = ap (λ (act : Act). value_after act (value_after t.act (row_at rows k))) (later_unread t keys k e ascending)
+    by_own false e = refl
+
+-- ---- rows with the same at each key
+
+own_there : (row : Row) (rows : List Row) → row_at (row ∷ rows) row.key ≡ Some row.value
+own_there row rows =
+    ap (λ (b : Bool). cond b (Some row.value) (row_at rows row.key)) ((bytes_eq-Decides row.key row.key).1 refl)
+
+pub same_rows : (rows others : List Row) → AscendRows rows → AscendRows others → ((k : List ℕ) → row_at rows k ≡ row_at others k) → rows
+    ≡ others
+same_rows [] [] are also same = refl
+same_rows [] (other ∷ others) are also same = absurd (cc (same other.key, own_there other others))
+same_rows (row ∷ rows) [] are also same = absurd (cc (same row.key, own_there row rows))
+same_rows (row ∷ rows) (other ∷ others) are also same =
+    by_order (λ rest. same_rows rows others are.1 also.1 rest) (slice_cmp nat_cmp row.key other.key) refl
+  where
+    values : row.key ≡ other.key → row.value ≡ other.value
+    values e =
+        let found : Some row.value ≡ Some other.value = sym (own_there row rows) ∙ same row.key
+        ∙ ap (row_at (other ∷ others)) e ∙ own_there other others in
+        ap (λ (o : Option (List ℕ)). unwrap_or o row.value) found
+
+    tails : row.key ≡ other.key → (k : List ℕ) (own : Bool) → bytes_eq row.key k ≡ own → row_at rows k ≡ row_at others k
+    tails e k true is =
+        let here = (bytes_eq-Decides row.key k).0 is in
+        subst (λ (z : List ℕ). row_at rows z ≡ None) here (none_before row.key rows are.0)
+        ∙ sym (subst (λ (z : List ℕ). row_at others z ≡ None) (sym e ∙ here) (none_before other.key others also.0))
+    tails e k false is =
+        sym (ap (λ (b : Bool). cond b (Some row.value) (row_at rows k)) is) ∙ same k
+        ∙ ap (λ (b : Bool). cond b (Some other.value) (row_at others k)) (ap (λ (z : List ℕ). bytes_eq z k) (sym e) ∙ is)
+
+    by_order : (((k : List ℕ) → row_at rows k ≡ row_at others k) → rows ≡ others) → (o : Ordering) → slice_cmp nat_cmp row.key other.key
+        ≡ o → row ∷ rows ≡ other ∷ others
+    by_order rest Less e =
+        let none = none_before row.key (other ∷ others) (e, before_more row.key other.key others e also.0) in
+        let some = own_there row rows in
+        let found = same row.key in
+        absurd (cc (none, some, found))
+    by_order rest Greater e =
+        let less : slice_cmp nat_cmp other.key row.key ≡ Less =
+        nat_list_cmp_total.antisymm other.key row.key ∙ ap ordering_reverse e in
+        let none = none_before other.key (row ∷ rows) (less, before_more other.key row.key rows less are.0) in
+        let some = own_there other others in
+        let found = same other.key in
+        absurd (cc (none, some, found))
+    by_order rest Equal e =
+        let key : row.key ≡ other.key = (bytes_eq-Decides row.key other.key).0 (sym (is_eq-slice_cmp row.key other.key) ∙ ap is_eq e) in
+        let value = values key in
+        λ i. record { key = key i; value = value i } ∷ rest (λ k. tails key k (bytes_eq row.key k) refl) i
+
+-- ---- the rows among places
 
 pub flipped : (x y : List ℕ) → bytes_eq x y ≡ bytes_eq y x
 flipped x y =
@@ -37,273 +269,41 @@ flipped x y =
     let there = bytes_eq-Decides y x in
     same_from_decides _ _ here ((λ e. sym (there.0 e)), (λ e. there.1 (sym e)))
 
--- a key that is compared is equal, or isn't
-same_by : (x y : List ℕ) (o : Ordering) → cmp x y ≡ o → bytes_eq x y ≡ is_eq o
-same_by x y o e = sym (is_eq-slice_cmp x y) ∙ ap is_eq e
+abbrev Known : Type 0
+Known = List (List ℕ × Place)
 
--- the value of a place, if it has one
-abbrev pub value_of : Option (Option (List ℕ)) → Option (List ℕ)
-value_of None = None
-value_of (Some value) = value
+pub table_ascends : (places : Known) → AscendRows (table_of places)
+table_ascends [] = tt
+table_ascends (place ∷ places) = after_ascends (table_of places) place.0 (act_to place.1.value) (table_ascends places)
 
-module _ {K : Type 0} (f : K → List ℕ) where
-  abbrev pub Entries : Type 0
-  Entries = List (K × Option (List ℕ))
-
-  abbrev pub places_of : Entries → List (List ℕ × Option (List ℕ))
-  places_of es = map (λ entry. (f entry.0, entry.1)) es
-
-  abbrev pub key_cmp : K → K → Ordering
-  key_cmp x y = cmp (f x) (f y)
-
-  -- all keys come after this one
-  abbrev AreAfter : List ℕ → Entries → Type 0
-  AreAfter k es = AllByRecursion (λ (y : K). cmp k (f y) ≡ Less) (keys_of es)
-
-  sorted_head : (e : K × Option (List ℕ)) (es : Entries) → IsStrictlySortedBy key_cmp (keys_of (e ∷ es)) → AreAfter (f e.0) es
-  unfolding IsStrictlySortedBy
-  sorted_head e es sorted = sorted.0
-
-  sorted_tail : (e : K × Option (List ℕ)) (es : Entries) → IsStrictlySortedBy key_cmp (keys_of (e ∷ es)) → IsStrictlySortedBy key_cmp (keys_of es)
-  unfolding IsStrictlySortedBy
-  sorted_tail e es sorted = sorted.1
-
-  after_before : (k l : List ℕ) (es : Entries) → cmp k l ≡ Less → AreAfter l es → AreAfter k es
-  after_before k l [] less after = tt
-  after_before k l (e ∷ es) less after = (nat_list_cmp_total.trans k l (f e.0) less after.0, after_before k l es less after.1)
-
-  -- ---- what is read
-
-  none_after : (k : List ℕ) (es : Entries) → AreAfter k es → row_at (rows_in (places_of es)) k ≡ None
-  none_after k [] after = refl
-  none_after k ((x, None) ∷ es) after = none_after k es after.1
-  none_after k ((x, Some v) ∷ es) after = rw (flipped (f x) k, same_by k (f x) Less after.0) (none_after k es after.1)
-
-  pub row_found : (q : List ℕ) (es : Entries) → IsStrictlySortedBy key_cmp (keys_of es)
-      → row_at (rows_in (places_of es)) q ≡ value_of (lookup (λ k. is_eq (cmp q (f k))) es)
-  row_found q [] sorted = refl
-  row_found q ((x, None) ∷ es) sorted = by (cmp q (f x)) refl (row_found q es (sorted_tail (x, None) es sorted))
-    where
-      by : (o : Ordering) → cmp q (f x) ≡ o → row_at (rows_in (places_of es)) q ≡ value_of (lookup (λ k. is_eq (cmp q (f k))) es)
-          → row_at (rows_in (places_of es)) q ≡ value_of (lookup (λ k. is_eq (cmp q (f k))) ((x, None) ∷ es))
-      by Less e rest = rw e rest
-      by Equal e rest =
-          rw e (subst (λ k. row_at (rows_in (places_of es)) k ≡ None) (sym ((bytes_eq-Decides q (f x)).0 (same_by q (f x) Equal e)))
-          (none_after (f x) es (sorted_head (x, None) es sorted)))
-      by Greater e rest = rw e rest
-  row_found q ((x, Some v) ∷ es) sorted =
-      rw (flipped (f x) q, is_eq-slice_cmp q (f x)) (by (bytes_eq q (f x)) (row_found q es (sorted_tail (x, Some v) es sorted)))
-    where
-      by : (b : Bool) → row_at (rows_in (places_of es)) q ≡ value_of (lookup (λ k. is_eq (cmp q (f k))) es)
-          → cond b (Some v) (row_at (rows_in (places_of es)) q)
-          ≡ value_of (cond b (Some (Some v)) (lookup (λ k. is_eq (cmp q (f k))) es))
-      by true rest = refl
-      by false rest = rest
-
-  pub place_found : (q : List ℕ) (es : Entries)
-      → is_some (lookup (λ k. is_eq (cmp q (f k))) es) ≡ list_any (bytes_eq q) (keys_in (places_of es))
-  place_found q [] = refl
-  place_found q (e ∷ es) = rw (is_eq-slice_cmp q (f e.0)) (by (bytes_eq q (f e.0)) (place_found q es))
-    where
-      by : (b : Bool) → is_some (lookup (λ k. is_eq (cmp q (f k))) es) ≡ list_any (bytes_eq q) (keys_in (places_of es))
-          → is_some (cond b (Some e.1) (lookup (λ k. is_eq (cmp q (f k))) es)) ≡ (b || list_any (bytes_eq q) (keys_in (places_of es)))
-      by true rest = refl
-      by false rest = rest
-
-  -- ---- a row is put
-
-  abbrev row_of : List ℕ → List ℕ → Row
-  row_of key value = record { key = key; value = value }
-
-  put_front : (k v : List ℕ) (es : Entries) → AreAfter k es
-      → put_row (rows_in (places_of es)) (row_of k v) ≡ row_of k v ∷ rows_in (places_of es)
-  put_front k v [] after = refl
-  put_front k v ((x, None) ∷ es) after = put_front k v es after.1
-  put_front k v ((x, Some w) ∷ es) after = rw (flipped (f x) k, same_by k (f x) Less after.0, after.0) refl
-
-  pub row_put : (k : K) (v : List ℕ) (es : Entries) → IsStrictlySortedBy key_cmp (keys_of es)
-      → rows_in (places_of (insert_entry key_cmp es k (Some v))) ≡ put_row (rows_in (places_of es)) (row_of (f k) v)
-  row_put k v [] sorted = refl
-  row_put k v ((x, None) ∷ es) sorted = by (cmp (f k) (f x)) refl (row_put k v es (sorted_tail (x, None) es sorted))
-    where
-      by : (o : Ordering) → cmp (f k) (f x) ≡ o → rows_in (places_of (insert_entry key_cmp es k (Some v))) ≡ put_row (rows_in (places_of es)) (row_of (f k) v)
-          → rows_in (places_of (match_ordering o ((k, Some v) ∷ (x, None) ∷ es) ((x, Some v) ∷ es)
-          ((x, None) ∷ insert_entry key_cmp es k (Some v))))
-          ≡ put_row (rows_in (places_of es)) (row_of (f k) v)
-      by Less e rest = sym (put_front (f k) v es (after_before (f k) (f x) es e (sorted_head (x, None) es sorted)))
-      by Equal e rest =
-          subst (λ key. row_of key v ∷ rows_in (places_of es) ≡ put_row (rows_in (places_of es)) (row_of (f k) v))
-          ((bytes_eq-Decides (f k) (f x)).0 (same_by (f k) (f x) Equal e))
-          (sym (put_front (f k) v es (subst (λ key. AreAfter key es) (sym ((bytes_eq-Decides (f k) (f x)).0 (same_by (f k) (f x) Equal e)))
-          (sorted_head (x, None) es sorted))))
-      by Greater e rest = rest
-  row_put k v ((x, Some w) ∷ es) sorted = by (cmp (f k) (f x)) refl (row_put k v es (sorted_tail (x, Some w) es sorted))
-    where
-      by : (o : Ordering) → cmp (f k) (f x) ≡ o → rows_in (places_of (insert_entry key_cmp es k (Some v))) ≡ put_row (rows_in (places_of es)) (row_of (f k) v)
-          → rows_in (places_of (match_ordering o ((k, Some v) ∷ (x, Some w) ∷ es) ((x, Some v) ∷ es)
-          ((x, Some w) ∷ insert_entry key_cmp es k (Some v))))
-          ≡ put_row (row_of (f x) w ∷ rows_in (places_of es)) (row_of (f k) v)
-      by Less e rest = rw (flipped (f x) (f k), same_by (f k) (f x) Less e, e) refl
-      by Equal e rest =
-          rw (flipped (f x) (f k), same_by (f k) (f x) Equal e)
-          (ap (λ key. row_of key v ∷ rows_in (places_of es)) (sym ((bytes_eq-Decides (f k) (f x)).0 (same_by (f k) (f x) Equal e))))
-      by Greater e rest =
-          rw (flipped (f x) (f k), same_by (f k) (f x) Greater e, e)
-          (ap (λ rows. row_of (f x) w ∷ rows) rest)
-
-  -- a place alone changes no row
-  pub place_put : (k : K) (es : Entries) → lookup (λ y. is_eq (key_cmp k y)) es ≡ None
-      → rows_in (places_of (insert_entry key_cmp es k None)) ≡ rows_in (places_of es)
-  place_put k [] none = refl
-  place_put k (e ∷ es) none = by (key_cmp k e.0) refl (place_put k es)
-    where
-      by : (o : Ordering) → key_cmp k e.0 ≡ o
-          → (lookup (λ y. is_eq (key_cmp k y)) es ≡ None → rows_in (places_of (insert_entry key_cmp es k None)) ≡ rows_in (places_of es))
-          → rows_in (places_of (match_ordering o ((k, None) ∷ e ∷ es) ((e.0, None) ∷ es) (e ∷ insert_entry key_cmp es k None)))
-          ≡ rows_in (places_of (e ∷ es))
-      by Less q rest = refl
-      by Equal q rest =
-          absurd (cc (sym (ap (λ o. cond (is_eq o) (Some e.1) (lookup (λ y. is_eq (key_cmp k y)) es)) q) ∙ none))
-      by Greater q rest =
-          let later = sym (ap (λ o. cond (is_eq o) (Some e.1) (lookup (λ y. is_eq (key_cmp k y)) es)) q) ∙ none in
-          ap (λ rows. cons_option (row_of_place (f e.0, e.1)) rows) (rest later)
-
-  pub places_put : (k : K) (w : Option (List ℕ)) (es : Entries) (q : List ℕ)
-      → list_any (bytes_eq q) (keys_in (places_of (insert_entry key_cmp es k w)))
-      ≡ (bytes_eq (f k) q || list_any (bytes_eq q) (keys_in (places_of es)))
-  places_put k w [] q = ap (λ b. b || false) (flipped q (f k))
-  places_put k w (e ∷ es) q = by (key_cmp k e.0) refl (places_put k w es q)
-    where
-      twice : (a b : Bool) → (a || b) ≡ (a || (a || b))
-      twice true b = refl
-      twice false b = refl
-
-      swap : (a b c : Bool) → (a || (b || c)) ≡ (b || (a || c))
-      swap true true c = refl
-      swap true false c = refl
-      swap false true c = refl
-      swap false false c = refl
-
-      by : (o : Ordering) → key_cmp k e.0 ≡ o
-          → list_any (bytes_eq q) (keys_in (places_of (insert_entry key_cmp es k w)))
-          ≡ (bytes_eq (f k) q || list_any (bytes_eq q) (keys_in (places_of es)))
-          → list_any (bytes_eq q) (keys_in (places_of (match_ordering o ((k, w) ∷ e ∷ es) ((e.0, w) ∷ es) (e ∷ insert_entry key_cmp es k w))))
-          ≡ (bytes_eq (f k) q || list_any (bytes_eq q) (keys_in (places_of (e ∷ es))))
-      by Less o rest = ap (λ b. b || list_any (bytes_eq q) (keys_in (places_of (e ∷ es)))) (flipped q (f k))
-      by Equal o rest =
-          let same : f k ≡ f e.0 = (bytes_eq-Decides (f k) (f e.0)).0 (same_by (f k) (f e.0) Equal o) in
-          let turned : bytes_eq (f k) q ≡ bytes_eq q (f e.0) = ap (λ key. bytes_eq key q) same ∙ flipped (f e.0) q in
-          twice (bytes_eq q (f e.0)) (list_any (bytes_eq q) (keys_in (places_of es)))
-          ∙ ap (λ b. b || (bytes_eq q (f e.0) || list_any (bytes_eq q) (keys_in (places_of es)))) (sym turned)
-      by Greater o rest =
-          ap (λ b. bytes_eq q (f e.0) || b) rest
-          ∙ swap (bytes_eq q (f e.0)) (bytes_eq (f k) q) (list_any (bytes_eq q) (keys_in (places_of es)))
-
-  -- ---- a row is taken out
-
-  none_filtered : (q : List ℕ) (es : Entries) → AreAfter q es
-      → filter (λ row. not (bytes_eq row.key q)) (rows_in (places_of es)) ≡ rows_in (places_of es)
-  none_filtered q [] after = refl
-  none_filtered q ((x, None) ∷ es) after = none_filtered q es after.1
-  none_filtered q ((x, Some v) ∷ es) after =
-      rw (flipped (f x) q, same_by q (f x) Less after.0) (ap (λ rows. row_of (f x) v ∷ rows) (none_filtered q es after.1))
-
-  pub row_removed : (q : List ℕ) (es : Entries) → IsStrictlySortedBy key_cmp (keys_of es)
-      → rows_in (places_of (remove_entry (λ k. is_eq (cmp q (f k))) es)) ≡ filter (λ row. not (bytes_eq row.key q)) (rows_in (places_of es))
-  row_removed q [] sorted = refl
-  row_removed q ((x, w) ∷ es) sorted =
-      by (bytes_eq q (f x)) w refl (sorted_head (x, w) es sorted) (row_removed q es (sorted_tail (x, w) es sorted))
-    where
-      after : bytes_eq q (f x) ≡ true → AreAfter (f x) es → AreAfter q es
-      after e up = subst (λ k. AreAfter k es) (sym ((bytes_eq-Decides q (f x)).0 e)) up
-
-      by : (b : Bool) (w : Option (List ℕ)) → bytes_eq q (f x) ≡ b → AreAfter (f x) es
-          → rows_in (places_of (remove_entry (λ k. is_eq (cmp q (f k))) es)) ≡ filter (λ row. not (bytes_eq row.key q)) (rows_in (places_of es))
-          → rows_in (places_of (remove_entry (λ k. is_eq (cmp q (f k))) ((x, w) ∷ es)))
-          ≡ filter (λ row. not (bytes_eq row.key q)) (rows_in (places_of ((x, w) ∷ es)))
-      by true None e up rest = rw (is_eq-slice_cmp q (f x), e) (sym (none_filtered q es (after e up)))
-      by true (Some v) e up rest = rw (is_eq-slice_cmp q (f x), flipped (f x) q, e) (sym (none_filtered q es (after e up)))
-      by false None e up rest = rw (is_eq-slice_cmp q (f x), e) rest
-      by false (Some v) e up rest =
-          rw (is_eq-slice_cmp q (f x), flipped (f x) q, e) (ap (λ rows. row_of (f x) v ∷ rows) rest)
-
-  pub place_removed : (q : List ℕ) (es : Entries) (other : List ℕ) → bytes_eq q other ≡ false
-      → list_any (bytes_eq other) (keys_in (places_of (remove_entry (λ k. is_eq (cmp q (f k))) es)))
-      ≡ list_any (bytes_eq other) (keys_in (places_of es))
-  place_removed q [] other apart = refl
-  place_removed q (e ∷ es) other apart = by (bytes_eq q (f e.0)) refl (place_removed q es other apart)
-    where
-      by : (b : Bool) → bytes_eq q (f e.0) ≡ b
-          → list_any (bytes_eq other) (keys_in (places_of (remove_entry (λ k. is_eq (cmp q (f k))) es)))
-          ≡ list_any (bytes_eq other) (keys_in (places_of es))
-          → list_any (bytes_eq other) (keys_in (places_of (remove_entry (λ k. is_eq (cmp q (f k))) (e ∷ es))))
-          ≡ list_any (bytes_eq other) (keys_in (places_of (e ∷ es)))
-      by true same rest =
-          let is : bytes_eq other (f e.0) ≡ false =
-          ap (bytes_eq other) (sym ((bytes_eq-Decides q (f e.0)).0 same)) ∙ (flipped other q ∙ apart) in
-          rw (is_eq-slice_cmp q (f e.0), same) (ap (λ b. b || list_any (bytes_eq other) (keys_in (places_of es))) (sym is))
-      by false same rest = rw (is_eq-slice_cmp q (f e.0), same) (ap (λ b. bytes_eq other (f e.0) || b) rest)
-
-  pub none_there : (q : List ℕ) (es : Entries) → list_any (bytes_eq q) (keys_in (places_of es)) ≡ false
-      → lookup (λ k. is_eq (cmp q (f k))) es ≡ None
-  none_there q es e = by (lookup (λ k. is_eq (cmp q (f k))) es) (place_found q es ∙ e)
-    where
-      by : (o : Option (Option (List ℕ))) → is_some o ≡ false → o ≡ None
-      by None h = refl
-      by (Some w) h = absurd (cc (h))
-
--- ---- places of touched keys
-
-same_placed : (old new : List (List ℕ)) (key : List ℕ) (act : Act) → list_any (bytes_eq key) new ≡ list_any (bytes_eq key) old
-    → has_place old (record { key = key; act = act }) ≡ true → has_place new (record { key = key; act = act }) ≡ true
-same_placed old new key Act.Read same all = refl
-same_placed old new key (Act.Put value) same all = same ∙ all
-same_placed old new key Act.Del same all = refl
-
--- places are left to the keys after one whose own place may be gone
-pub places_left : (old new : List (List ℕ)) (key : List ℕ) (rest : List Touched) → has_key key rest ≡ false
-    → ((other : List ℕ) → bytes_eq key other ≡ false → list_any (bytes_eq other) new ≡ list_any (bytes_eq other) old)
-    → list_all (has_place old) rest ≡ true → list_all (has_place new) rest ≡ true
-places_left old new key [] none kept all = refl
-places_left old new key (t ∷ rest) none kept all =
-    let apart = or_parts (bytes_eq t.key key) (has_key key rest) none in
-    let parts = and_parts (has_place old t) (list_all (has_place old) rest) all in
-    and_from (has_place new t) (list_all (has_place new) rest)
-    (same_placed old new t.key t.act (kept t.key (flipped key t.key ∙ apart.0)) parts.0) (places_left old new key rest apart.1 kept parts.1)
-
--- a put has its place where its key does
-pub put_placed : (places : List (List ℕ)) (key : List ℕ) (act : Act) (value : List ℕ) → act ≡ Act.Put value
-    → list_any (bytes_eq key) places ≡ true → has_place places (record { key = key; act = act }) ≡ true
-put_placed places key act value is there = rw is there
-
--- a place stays where another was made, or wasn't
-pub places_kept : (r : Result (Unit {0}) Refusal) (old new : List (List ℕ × Option (List ℕ))) (key : List ℕ)
-    → OnOk r ((other : List ℕ) → list_any (bytes_eq other) (keys_in new) ≡ (bytes_eq key other || list_any (bytes_eq other) (keys_in old)))
-    → IfErr r (λ e. (e ≡ NoMemory) × (new ≡ old))
-    → (other : List ℕ) → list_any (bytes_eq other) (keys_in old) ≡ true → list_any (bytes_eq other) (keys_in new) ≡ true
-places_kept (Ok u) old new key ok err other there = ok other ∙ or_right (bytes_eq key other) (list_any (bytes_eq other) (keys_in old)) there
-places_kept (Err e) old new key ok err other there = ap (λ places. list_any (bytes_eq other) (keys_in places)) err.1 ∙ there
-
--- all that had their place keep it
-pub all_kept : (old new : List (List ℕ)) (keys : List Touched)
-    → ((other : List ℕ) → list_any (bytes_eq other) old ≡ true → list_any (bytes_eq other) new ≡ true)
-    → list_all (has_place old) keys ≡ true → list_all (has_place new) keys ≡ true
-all_kept old new [] kept all = refl
-all_kept old new (t ∷ keys) kept all =
-    let parts = and_parts (has_place old t) (list_all (has_place old) keys) all in
-    and_from (has_place new t) (list_all (has_place new) keys) (one t.key t.act parts.0) (all_kept old new keys kept parts.1)
+pub first_value : (place : List ℕ × Place) (places : Known) (key : List ℕ)
+    → (place_at (place ∷ places) key).value ≡ cond (bytes_eq key place.0) place.1.value (place_at places key).value
+first_value place places key = by (bytes_eq key place.0)
   where
-    one : (key : List ℕ) (act : Act) → has_place old (record { key = key; act = act }) ≡ true
-        → has_place new (record { key = key; act = act }) ≡ true
-    one key Act.Read there = refl
-    one key (Act.Put value) there = kept key there
-    one key Act.Del there = refl
+    by : (b : Bool) → (unwrap_or (cond b (Some place.1) (lookup (bytes_eq key) places)) no_place).value
+        ≡ cond b place.1.value (place_at places key).value
+    by true = refl
+    by false = refl
 
--- one more of the first keys passes
-pub all_taken : (test : Touched → Bool) (keys : List Touched) (i : ℕ) (t : Touched) → i < length keys → t ≡ get_or keys i t
-    → list_all test (take i keys) ≡ true → test t ≡ true → list_all test (take (suc i) keys) ≡ true
-all_taken test [] i t lt read all here = absurd (omega (arith, lt))
-all_taken test (k ∷ keys) zero t lt read all here = and_from (test k) true (subst (λ (u : Touched). test u ≡ true) read here) refl
-all_taken test (k ∷ keys) (suc i) t lt read all here =
-    let parts = and_parts (test k) (list_all test (take i keys)) all in
-    and_from (test k) (list_all test (take (suc i) keys)) parts.0 (all_taken test keys i t (omega (arith, lt)) read parts.1 here)
+-- the table has at each key what is known of it
+pub table_at : (places : Known) (key : List ℕ) → row_at (table_of places) key ≡ (place_at places key).value
+table_at [] key = refl
+table_at (place ∷ places) key =
+    after_there (table_of places) place.0 (act_to place.1.value) key (table_ascends places)
+    ∙ (λ i. cond (flipped place.0 key i) (stays place.1.value (row_at (table_of places) key) i) (table_at places key i))
+    ∙ sym (first_value place places key)
+  where
+    stays : (value before : Option (List ℕ)) → value_after (act_to value) before ≡ value
+    stays None before = refl
+    stays (Some v) before = refl
+
+-- the table after a last act on a key
+pub table_after : (old new : Known) (key : List ℕ) (act : Act)
+    → ((other : List ℕ) → (place_at new other).value
+    ≡ cond (bytes_eq key other) (value_after act (place_at old other).value) (place_at old other).value)
+    → table_of new ≡ rows_after (table_of old) key act
+table_after old new key act changed =
+    same_rows (table_of new) (rows_after (table_of old) key act) (table_ascends new) (after_ascends (table_of old) key act (table_ascends old))
+    (λ other. table_at new other ∙ changed other
+    ∙ (λ i. cond (bytes_eq key other) (value_after act (sym (table_at old other) i)) (sym (table_at old other) i))
+    ∙ sym (after_there (table_of old) key act other (table_ascends old)))

@@ -1,25 +1,25 @@
 -- What touched keys, which ascend, use of a key: after one more act, and one key after the other.
-use Rattle.std.proofs.Common.{◌≡◌, ◌∙◌, ℕ, zero, suc, ◌+◌, ◌-◌, ◌^◌, ◌≤◌, ◌<◌, Bool, true, false, not, ◌&&◌, ◌||◌, cond, ltb, List, [], ◌∷◌, ◌++◌, length, get_or, take, drop, refl, sym, ap, subst, arith, inl, inr}
+use Rattle.std.proofs.Common.{◌≡◌, ◌∙◌, ℕ, zero, suc, ◌+◌, ◌-◌, ◌^◌, ◌≤◌, ◌<◌, Bool, true, false, not, ◌&&◌, ◌||◌, ◌==◌, cond, ltb, List, [], ◌∷◌, length, get_or, take, drop, refl, sym, ap, subst, arith}
 use Rattle.std.specs.List.{AllByRecursion}
 use Rattle.std.proofs.Math.Seq.{drop-cons}
 use Rattle.std.specs.Cmp.Lexicographic.{slice_cmp}
 use Rattle.std.specs.Ordering.{nat_cmp, is_lt}
 use Rattle.std.specs.Str.{bytes_eq}
-use Rattle.std.specs.declared.cmp.Ordering.TheVariants.{Less}
-use Rattle.std.proofs.lemmas.Bool.{both_ways, cond_both, or_parts, or_cases, ltb-true}
+use Rattle.std.proofs.lemmas.Bool.{ltb-true}
 use Rattle.std.proofs.lemmas.Slice.Eq.{bytes_eq-Decides}
 use Rattle.xid.specs.Limits.{most_touched}
 use Rattle.stable_record.specs.declared.fact.Act.{Act}
 use Rattle.stable_record.specs.declared.fact.Touched.{Touched}
 use Rattle.stable_record.specs.Facts.{AreAscending, AreKeys, IsTouched, IsKey, IsAct}
 use Rattle.protocol.specs.declared.states.BranchState.{BranchState}
-use Rattle.protocol.specs.Branches.{is_write, hinders_use}
-use Rattle.protocol.specs.Managers.{Branch, act_on, has_key, last_act, view_by, with_touched}
+use Rattle.protocol.specs.Branches.{is_write}
+use Rattle.protocol.specs.Managers.{Branch, act_on, has_key, last_act, with_touched}
 use Rattle.protocol.proofs.TouchedKeys.{absent, acts_touched, counts_touched, has_touched, tail_ascends}
 use Rattle.protocol.specs.declared.requests.Action.TheVariants.{Put, Del, Get}
 use Rattle.protocol.proofs.TouchedKeys.{changed_ascends}
 use Rattle.branch_table.specs.Outcomes.{looks_after}
-use Rattle.branch_table.specs.Parts.{free, hold_by, hold_more, hold_of, is_using, uses_by, uses_held, uses_of}
+use Rattle.branch_table.specs.Parts.{free, hold_by, hold_more, hold_of, more_by, uses_by, uses_held, uses_of}
+use Rattle.branch_table.proofs.TableRows.{untouched}
 use Rattle.std.proofs.Common.{Some, Result, Ok, Err}
 use Rattle.std.specs.Prelude.{OnOk, IfErr}
 use Rattle.xid.specs.declared.refusals.Refusal.{Refusal}
@@ -80,12 +80,6 @@ more_uses false q keys key act up = ap (λ a. one (is_write a)) (acts_touched ke
     by false e = refl
 
 -- ---- one key after the other
-
-pub untouched : (keys : List Touched) (key : List ℕ) → has_key key keys ≡ false → act_on keys key ≡ Act.Read
-untouched [] key none = refl
-untouched (t ∷ keys) key none =
-    let parts = or_parts (bytes_eq t.key key) (has_key key keys) none in
-    ap (λ (b : Bool). cond b t.act (act_on keys key)) parts.0 ∙ untouched keys key parts.1
 
 -- the first key isn't among the others
 pub first_apart : (t : Touched) (keys : List Touched) → AreAscending (t ∷ keys) → has_key t.key keys ≡ false
@@ -239,3 +233,31 @@ more_small false keys key act = by (is_write act && not (is_write (act_on keys k
     by : (b : Bool) → cond b 1 0 ≤ 1
     by true = omega arith
     by false = omega arith
+
+-- what one more act adds to the hold of a branch, by that hold
+pub more_is : (keys : List Touched) (key : List ℕ) (act : Act) → more_by (hold_of keys key) act ≡ hold_more keys key act
+more_is keys key act = λ i. record {
+  touched_by = touched (has_key key keys) i;
+  written_by = written (is_write act) (is_write (act_on keys key)) i;
+}
+  where
+    touched : (h : Bool) → one (one h == 0) ≡ cond h 0 1
+    touched true = refl
+    touched false = refl
+
+    written : (w o : Bool) → one (w && one o == 0) ≡ cond (w && not o) 1 0
+    written true true = refl
+    written true false = refl
+    written false true = refl
+    written false false = refl
+
+-- the hold of one branch, by whether it has touched the key, and its last act
+pub hold_by_act : (keys : List Touched) (key : List ℕ) (act : Act) → act ≡ act_on keys key → has_key key keys ≡ true
+    → hold_by act ≡ hold_of keys key
+hold_by_act keys key act is there =
+    λ i. record { touched_by = one (sym there i); written_by = one (is_write (is i)) }
+
+pub hold_of_none : (keys : List Touched) (key : List ℕ) → act_on keys key ≡ Act.Read → has_key key keys ≡ false
+    → free ≡ hold_of keys key
+hold_of_none keys key is none =
+    λ i. record { touched_by = one (sym none i); written_by = one (is_write (sym is i)) }

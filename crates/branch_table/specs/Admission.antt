@@ -1,5 +1,5 @@
 -- What a call meets before it is done.
-use Rattle.std.specs.Prelude.{◌≡◌, ℕ, List, Option, Some, None, Bool, true, false, ◌||◌, nat_lt, length}
+use Rattle.std.specs.Prelude.{◌≡◌, ℕ, List, Some, Bool, true, false, ◌||◌, nat_lt, length, Result, Ok, Err}
 use Rattle.std.specs.Bool.{Decides}
 use Rattle.std.specs.Option.{option_map}
 use Rattle.xid.specs.Limits.{most_touched}
@@ -15,6 +15,8 @@ use Rattle.protocol.specs.declared.states.BranchState.{BranchState}
 use Rattle.protocol.specs.Branches.{hinders_use, touch_answer}
 use Rattle.protocol.specs.Managers.{Branch, has_key, view_named}
 use Rattle.branch_table.specs.OneCall.{IsHindered}
+use Rattle.branch_table.specs.Parts.{hold_of}
+use Rattle.branch_table.specs.declared.hold.Hold.{Hold}
 use Rattle.branch_table.specs.Tables.{TableState, ChangesOnly, branch_named, is_active, with_act}
 use Rattle.branch_table.specs.declared.table.Access.{Access}
 use Rattle.branch_table.specs.declared.table.Access.TheVariants as access
@@ -56,15 +58,14 @@ pub record IsAdmitted (branches : List Branch) (x : XidParts) (writes : Bool) (k
   pub ascending : AreAscending branch.keys
   pub room : (has_key key branch.keys || nat_lt (length branch.keys) most_touched) ≡ true
 
--- a call on a key is let in, or gets an answer, whatever it asks
-abbrev pub Denies : List Branch → XidParts → (writes : Bool) → List ℕ → Option Answer → Type 0
-Denies branches x writes key None = IsAdmitted branches x writes key
-Denies branches x writes key (Some answer) = (admitted : Answer) → Meets branches x writes key admitted answer
+-- a call on a key is let in, with the hold that its branch has on the key, or gets an answer, whatever it asks
+abbrev pub Admits : List Branch → XidParts → (writes : Bool) → List ℕ → Result Hold Answer → Type 0
+Admits branches x writes key (Ok own) = (is : IsAdmitted branches x writes key) × (own ≡ hold_of is.branch.keys key)
+Admits branches x writes key (Err answer) = (admitted : Answer) → Meets branches x writes key admitted answer
 
 -- the branch of x has one more act on a key
 pub record Touches (old new : TableState) (x : XidParts) (key : List ℕ) (act : Act) : Type 0 where
   pub branches : ChangesOnly old.branches new.branches x
       (option_map (with_act key act) (branch_named old.branches x))
   pub rows : new.rows ≡ old.rows
-  pub places : new.places ≡ old.places
   pub looks : new.looks ≡ old.looks

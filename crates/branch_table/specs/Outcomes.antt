@@ -1,13 +1,10 @@
 -- What becomes of a branch once its work is over: it is prepared, committed or undone.
-use Rattle.std.specs.Prelude.{◌≡◌, ◌⊎◌, ℕ, Contains, ◌+◌, ◌*◌, ◌-◌, ◌^◌, ◌≤◌, Bool, true, false, List, [], filter, length, map, min, Option, Some, None}
-use Rattle.std.specs.List.{list_all, list_any}
+use Rattle.std.specs.Prelude.{◌≡◌, ◌⊎◌, ℕ, Contains, ◌+◌, ◌*◌, ◌-◌, ◌^◌, ◌≤◌, List, [], filter, length, map, min, Option, Some, None}
 use Rattle.std.specs.List.Sorted.{IsSorted, IsPermutation}
 use Rattle.std.specs.Option.{option_map_or}
-use Rattle.std.specs.Str.{bytes_eq}
 use Rattle.xid.specs.Names.{XidParts, xid_cmp}
 use Rattle.xid.specs.declared.refusals.Refusal.{Refusal}
 use Rattle.xid.specs.declared.refusals.Refusal.TheVariants.{NoMemory, Damaged}
-use Rattle.stable_record.specs.declared.fact.Act.{Act}
 use Rattle.stable_record.specs.declared.fact.Touched.{Touched}
 use Rattle.protocol.specs.declared.states.BranchState.{BranchState}
 use Rattle.protocol.specs.Branches.{hinders_use, is_write}
@@ -43,7 +40,6 @@ CanBePrepared branches x keys =
 pub record EndsOnly (old new : TableState) (x : XidParts) (now : Option Branch) : Type 0 where
   pub branches : ChangesOnly old.branches new.branches x now
   pub rows : new.rows ≡ old.rows
-  pub places : new.places ≡ old.places
 
 -- the branch of x was prepared with these keys
 pub record IsRestored (old new : TableState) (x : XidParts) (keys : List Touched) : Type 0 where
@@ -56,24 +52,6 @@ abbrev pub RefusesRestore : List Branch → XidParts → List Touched → Refusa
 RefusesRestore branches x keys e =
     ((e ≡ Damaged) × (CanBePrepared branches x keys → ⊥))
     ⊎ ((e ≡ NoMemory) × CanBePrepared branches x keys × (branch_named branches x ≡ None))
-
--- whether a put of a branch has a place in the table
-abbrev pub has_place : (places : List (List ℕ)) → Touched → Bool
-has_place places touched = fits touched.act
-  where
-    fits : Act → Bool
-    fits (Act.Put value) = list_any (bytes_eq touched.key) places
-    fits act = true
-
--- whether the branch of a name can be committed without memory: all its puts have a place
-abbrev pub is_ready : TableState → XidParts → Bool
-is_ready t x = list_all (has_place t.places) (keys_named t.branches x)
-
--- all is as it was, but for places
-pub record SameMeaning (old new : TableState) : Type 0 where
-  pub rows : new.rows ≡ old.rows
-  pub branches : new.branches ≡ old.branches
-  pub looks : new.looks ≡ old.looks
 
 -- so many looks more; they stay at the greatest value of 64 bits
 abbrev pub looks_after : (before more : ℕ) → ℕ

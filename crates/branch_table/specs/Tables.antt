@@ -16,12 +16,10 @@ use Rattle.protocol.specs.Managers.{Branch, branch_after, view_named, with_touch
 use Rattle.protocol.specs.Tables.{put_row}
 use Rattle.branch_table.specs.OneCall.{Answers, Leaves}
 
--- what a resource manager has in memory: the rows of its table, and its branches; the keys that have a place in the table, with or
--- without a row; and how much the ends of branches have looked at
+-- what a resource manager has in memory: the rows of its table, and its branches; and how much the ends of branches have looked at
 pub record TableState : Type 0 where
   pub rows : List Row
   pub branches : List Branch
-  pub places : List (List ℕ)
   pub looks : ℕ
 
 -- the table of first contents in any order: of two rows with one key the later counts
@@ -99,4 +97,3 @@ pub record Steps (old new : TableState) (x : XidParts) (action : Action) (answer
   pub leaves : Leaves (view_named old.branches) (view_named new.branches) x action answer
   pub branches : ChangesOnly old.branches new.branches x (branch_left (branch_named old.branches x) x action answer)
   pub rows : new.rows ≡ old.rows
-  pub places : new.places ≡ old.places

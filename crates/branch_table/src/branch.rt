@@ -1,19 +1,18 @@
 //! One branch, without its name.
 
-ghost use Rattle.std.specs.Prelude.{◌≡◌, ◌||◌, true, [], IfErr, IfNone, IfSome, OnOk, IfOk, length, nat_lt};
+ghost use Rattle.std.specs.Prelude.{◌≡◌, ◌||◌, true, [], IfErr, IfNone, IfSome, OnOk, IfOk, is_some, length, nat_lt};
 ghost use Rattle.std.specs.Bool.{Decides};
 ghost use Rattle.xid.specs.Limits.{most_touched};
 ghost use Rattle.xid.specs.declared.refusals.Refusal.TheVariants.{NoMemory};
 ghost use Rattle.stable_record.specs.Facts.{AreKeys, IsKey, IsAct};
 ghost use Rattle.protocol.specs.declared.states.BranchState.{BranchState};
 ghost use Rattle.stable_record.specs.declared.fact.Act.TheVariants as acts;
-ghost use Rattle.protocol.specs.Branches.{is_write as is_write_lem};
 ghost use Rattle.protocol.specs.Managers.{act_on as act_on_lem, has_key as has_key_lem, with_touched};
-ghost use Rattle.branch_table.specs.Parts.{hold_more as hold_more_lem, hold_of};
+ghost use Rattle.branch_table.specs.Parts.{hold_of};
 ghost use Rattle.branch_table.specs.Tables.{is_active, is_idle, is_prepared, can_be_rolled_back};
 
-use crate::holds::{Hold, is_write};
-use crate::keys::{act_on, are_same, copied, has_key, touch_key};
+use crate::hold::Hold;
+use crate::keys::{act_on, are_same, copied, touch_key};
 use protocol::BranchState;
 use stable_record::{Act, Touched};
 use std::alloc::Global;
@@ -120,54 +119,32 @@ impl Branch {
         are_same(self.keys(), keys)
     }
 
-    /// Whether it has touched a key.
-    pub fn has_touched(&self, key: &[u8]) -> bool
-        ensures { result ≡ has_key_lem key.now self.now.keys }
-    {
-        has_key(&self.keys, key)
-    }
-
     /// Its last act on a key, if it has touched it.
     pub fn act_on(&self, key: &[u8]) -> Option<&Act>
         ensures some { IfSome result (λ act. act.now ≡ act_on_lem self.now.keys key.now) }
         ensures none { IfNone result (act_on_lem self.now.keys key.now ≡ acts.Read) }
+        ensures touched { is_some result ≡ has_key_lem key.now self.now.keys }
     {
         act_on(&self.keys, key)
-    }
-
-    /// Whether it has put or deleted a key.
-    pub fn has_written(&self, key: &[u8]) -> bool
-        ensures { result ≡ is_write_lem (act_on_lem self.now.keys key.now) }
-    {
-        matches!(self.act_on(key), Some(Act::Put(_) | Act::Del))
     }
 
     /// Its hold on a key.
     pub fn hold_on(&self, key: &[u8]) -> Hold
         ensures { result ≡ hold_of self.now.keys key.now }
     {
-        Hold {
-            touched_by: u64::from(self.has_touched(key)),
-            written_by: u64::from(self.has_written(key)),
+        match self.act_on(key) {
+            Some(act) => Hold::by(act),
+            None => Hold::free(),
         }
     }
 
-    /// What one more act on a key adds to its hold on it.
-    pub fn hold_more(&self, key: &[u8], act: &Act) -> Hold
-        ensures { result ≡ hold_more_lem self.now.keys key.now act.now }
-    {
-        Hold {
-            touched_by: u64::from(!self.has_touched(key)),
-            written_by: u64::from(is_write(act) && !self.has_written(key)),
-        }
-    }
-
-    /// Whether it may touch a key.
-    pub fn has_room(&self, key: &[u8]) -> bool
+    /// Whether it may touch a key on which it has this hold.
+    pub fn has_room(&self, key: &[u8], own: Hold) -> bool
+        requires { own ≡ hold_of self.now.keys key.now }
         ensures valid { AreKeys self.now.keys }
         ensures value { result ≡ (has_key_lem key.now self.now.keys || nat_lt (length self.now.keys) most_touched) }
     {
-        self.has_touched(key) || self.keys.len() < MAX_TOUCHED
+        own.touched_by > 0 || self.keys.len() < MAX_TOUCHED
     }
 
     /// Notes a key as touched, at its place, and its last act. At `NoMemory`, the only refusal, nothing changes.

@@ -1,6 +1,6 @@
 //! Touched keys, which stand ascending by their bytes.
 
-ghost use Rattle.std.specs.Prelude.{◌≡◌, ◌≤◌, IfOk, IfErr, IfSome, IfNone, OnOk, vec_len, position, insert};
+ghost use Rattle.std.specs.Prelude.{◌≡◌, ◌≤◌, IfOk, IfErr, IfSome, IfNone, OnOk, is_some, vec_len, position, insert};
 ghost use Rattle.std.specs.Bool.{Decides};
 ghost use Rattle.std.specs.Cmp.Lexicographic.{slice_cmp};
 ghost use Rattle.std.specs.Ordering.{nat_cmp, is_le};
@@ -39,22 +39,12 @@ fn place_of(keys: &[Touched], key: &[u8]) -> Option<usize>
     Some(at)
 }
 
-/// Whether a key was touched.
-pub fn has_key(keys: &[Touched], key: &[u8]) -> bool
-    requires { AreAscending keys.now }
-    ensures { result ≡ has_key_lem key.now keys.now }
-{
-    match place_of(keys, key) {
-        Some(at) => is_of_key(&keys[at], key),
-        None => false,
-    }
-}
-
 /// The last act on a key, if it was touched.
 pub fn act_on<'a>(keys: &'a [Touched], key: &[u8]) -> Option<&'a Act>
     requires { AreAscending keys.now }
     ensures some { IfSome result (λ act. act.now ≡ act_on_lem keys.now key.now) }
     ensures none { IfNone result (act_on_lem keys.now key.now ≡ acts.Read) }
+    ensures touched { is_some result ≡ has_key_lem key.now keys.now }
 {
     let Some(at) = place_of(keys, key) else {
         return None;

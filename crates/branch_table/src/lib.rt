@@ -3,11 +3,11 @@
 
 mod branch;
 mod branches;
-mod holds;
+mod hold;
 mod keys;
 mod looks;
 mod outcomes;
-mod rows;
+mod places;
 mod table;
 
 pub use table::{BranchTable, Ending};

@@ -10,11 +10,11 @@ ghost use Rattle.protocol.specs.Managers.{Branch as Named, idle_keys, view_named
 ghost use Rattle.branch_table.specs.OneCall.{IsHindered};
 ghost use Rattle.protocol.specs.declared.answers.Answer.TheVariants as answers;
 ghost use Rattle.branch_table.specs.Tables.{AreTableBranches, branch_named};
-ghost use Rattle.branch_table.specs.Outcomes.{AreHindered, AreRecovered, Commits, IsRestored, RefusesRestore, SameMeaning, Undoes, is_ready};
+ghost use Rattle.branch_table.specs.Outcomes.{AreHindered, AreRecovered, Commits, IsRestored, RefusesRestore, Undoes};
 ghost use Rattle.branch_table.specs.Outcomes.{keys_named};
 
 use crate::branch::Branch;
-use crate::holds::Hold;
+use crate::hold::Hold;
 use crate::keys::copied;
 use crate::looks::Looks;
 use crate::table::{Access, BranchTable};
@@ -68,11 +68,11 @@ impl BranchTable {
         };
         // so many branches hold a key at most
         let _ = self.branches.len();
-        if self.holds.hold(self.alloc, keys).is_err() {
+        if self.places.hold(self.alloc, keys).is_err() {
             return Err(Refusal::NoMemory);
         }
         if self.branches.add(xid, branch).is_err() {
-            self.holds.let_go(keys, &mut Looks::new());
+            self.places.let_go(keys, &mut Looks::new());
             return Err(Refusal::NoMemory);
         }
         Ok(())
@@ -120,33 +120,8 @@ impl BranchTable {
         self.branches.get(xid).is_some()
     }
 
-    /// Whether a branch can be committed without memory: there is a place in the table for each of its puts. A branch that doesn't
-    /// exist can.
-    pub fn is_ready(&self, xid: &Xid) -> bool
-        ensures { result ≡ is_ready self.now xid.now }
-    {
-        match self.branches.get(xid) {
-            Some(branch) => self.rows.have_places(branch.keys()),
-            None => true,
-        }
-    }
-
-    /// Makes a place in the table for each put of a branch, so that it can be committed without memory. Refused: `NoMemory` alone. It
-    /// leaves rows, branches and looks as they were in any case.
-    pub fn ready_commit(&mut self, xid: &Xid) -> Result<(), Refusal>
-        ensures ok { OnOk result (is_ready self.new xid.now ≡ true) }
-        ensures err { IfErr result (λ e. e ≡ NoMemory) }
-        ensures same { SameMeaning self.old self.new }
-    {
-        match self.branches.get(xid) {
-            Some(branch) => self.rows.make_places(self.alloc, branch.keys()),
-            None => Ok(()),
-        }
-    }
-
     /// Ends a branch, and moves its writes into the table. It takes no memory. Where there is no such branch, only looks change.
     pub fn commit(&mut self, xid: &Xid)
-        requires { is_ready self.old xid.now ≡ true }
         ensures { Commits self.old self.new xid.now }
     {
         self.looks.add(1);
@@ -154,8 +129,7 @@ impl BranchTable {
             return;
         };
         self.looks.add(1);
-        self.holds.let_go(branch.keys(), &mut self.looks);
-        self.rows.write_all(branch.into_keys());
+        self.places.settle(branch.into_keys(), &mut self.looks);
     }
 
     /// Ends a branch without effect. It takes no memory. Where there is no such branch, only looks change.
@@ -167,7 +141,7 @@ impl BranchTable {
             return;
         };
         self.looks.add(1);
-        self.holds.let_go(branch.keys(), &mut self.looks);
+        self.places.let_go(branch.keys(), &mut self.looks);
     }
 
     /// The XIDs of the prepared branches, ascending (xa_recover). Refused: `NoMemory` alone.

@@ -1,6 +1,6 @@
 //! A resource manager's branches and table, and the client calls on them.
 
-ghost use Rattle.std.specs.Prelude.{◌≡◌, ◌≢◌, ◌<◌, ◌||◌, ◌&&◌, Some, None, [], true, IfOk, IfErr, OnOk, length};
+ghost use Rattle.std.specs.Prelude.{◌≡◌, ◌≢◌, ◌<◌, ◌||◌, ◌&&◌, Some, None, [], true, IfOk, IfErr, OnOk, length, Ok};
 ghost use Rattle.std.specs.Bool.{Decides};
 ghost use Rattle.std.specs.Option.{option_map};
 ghost use Rattle.xid.specs.Names.{XidParts};
@@ -11,7 +11,7 @@ ghost use Rattle.protocol.specs.declared.requests.Action.TheVariants as actions;
 ghost use Rattle.protocol.specs.declared.answers.Answer.TheVariants as answers;
 ghost use Rattle.protocol.specs.Branches.{key_fits as key_fits_lem, value_fits as value_fits_lem, get_answer, hinders_use, is_write as is_write_lem, read_of, row_at};
 ghost use Rattle.protocol.specs.Managers.{view_named};
-ghost use Rattle.branch_table.specs.Admission.{end_action, end_state, end_code, is_writing, Denies, IsAdmitted, Touches};
+ghost use Rattle.branch_table.specs.Admission.{end_action, end_state, end_code, is_writing, Admits, Touches};
 ghost use Rattle.branch_table.specs.OneCall.{IsHindered};
 ghost use Rattle.branch_table.specs.Outcomes.{Looks as LooksLem, keys_named};
 ghost use Rattle.branch_table.specs.Parts.{uses_held, uses_of};
@@ -19,9 +19,9 @@ ghost use Rattle.branch_table.specs.Tables.{AreTableBranches, Steps, are_rows, b
 
 use crate::branch::Branch;
 use crate::branches::Branches;
-use crate::holds::{Hold, Holds};
+use crate::hold::Hold;
 use crate::looks::Looks;
-use crate::rows::Rows;
+use crate::places::Places;
 use protocol::{Answer, BranchState, Row};
 use stable_record::Act;
 use std::alloc::Global;
@@ -76,21 +76,20 @@ impl Access {
 #[derive(Debug, Drop)]
 pub struct BranchTable {
     pub(crate) alloc: Global,
-    pub(crate) rows: Rows,
+    pub(crate) places: Places,
     pub(crate) branches: Branches,
-    pub(crate) holds: Holds,
     pub(crate) looks: Looks,
 }
 
 impl Model for BranchTable {
     ghost use Rattle.branch_table.specs.Tables.{TableState, AreTableBranches};
-    ghost use Rattle.branch_table.specs.Parts.{AreHolds, rows_in, keys_in};
+    ghost use Rattle.branch_table.specs.Parts.{AreHolds, table_of};
 
     ghost Value = { TableState };
 
-    ghost view = { λ t. record { rows = rows_in t.rows; branches = t.branches; places = keys_in t.rows; looks = t.looks } };
+    ghost view = { λ t. record { rows = table_of t.places; branches = t.branches; looks = t.looks } };
 
-    ghost invariant = { λ t. AreTableBranches t.branches × AreHolds t.holds t.branches };
+    ghost invariant = { λ t. AreTableBranches t.branches × AreHolds t.places t.branches };
 }
 
 impl BranchTable {
@@ -101,12 +100,11 @@ impl BranchTable {
         ensures ok { IfOk result (λ table. (table.rows ≡ first_table rows.items) × (table.branches ≡ []) × (table.looks ≡ 0)) }
         ensures err { IfErr result (λ e. e ≡ NoMemory) }
     {
-        let rows = Rows::new(alloc, rows)?;
+        let places = Places::new(alloc, rows)?;
         Ok(BranchTable {
             alloc,
-            rows,
+            places,
             branches: Branches::new(alloc),
-            holds: Holds::new(alloc),
             looks: Looks::new(),
         })
     }
@@ -118,16 +116,7 @@ impl BranchTable {
         ensures limits { are_rows self.now.rows ≡ true }
         ensures branches { AreTableBranches self.now.branches }
     {
-        self.rows.copied(self.alloc)
-    }
-
-    /// The rows of the table alone, with their keys ascending. Refused: `NoMemory` alone.
-    pub fn into_rows(self) -> Result<Vec<Row>, Refusal>
-        ensures ok { IfOk result (λ rows. rows.items ≡ self.rows) }
-        ensures err { IfErr result (λ e. e ≡ NoMemory) }
-    {
-        let alloc = self.alloc;
-        self.rows.into_rows(alloc)
+        self.places.rows(self.alloc)
     }
 
     /// How many branches, holds and keys of their own the ends of branches have read or taken out. It stays at the greatest value.
@@ -196,11 +185,12 @@ impl BranchTable {
         if !put_fits(key, value) {
             return Ok(Answer::Code(XaCode::Inval));
         }
-        if let Some(answer) = self.denial(xid, Access::Write, key) {
-            return Ok(answer);
-        }
+        let own = match self.admit(xid, Access::Write, key) {
+            Ok(own) => own,
+            Err(answer) => return Ok(answer),
+        };
         let act = Act::Put(Bytes::copy_of(alloc, value)?);
-        self.touch(alloc, xid, key, act)?;
+        self.touch(alloc, xid, key, act, own)?;
         Ok(Answer::Code(XaCode::Ok))
     }
 
@@ -214,10 +204,11 @@ impl BranchTable {
         if !key_fits(key) {
             return Ok(Answer::Code(XaCode::Inval));
         }
-        if let Some(answer) = self.denial(xid, Access::Write, key) {
-            return Ok(answer);
-        }
-        self.touch(alloc, xid, key, Act::Del)?;
+        let own = match self.admit(xid, Access::Write, key) {
+            Ok(own) => own,
+            Err(answer) => return Ok(answer),
+        };
+        self.touch(alloc, xid, key, Act::Del, own)?;
         Ok(Answer::Code(XaCode::Ok))
     }
 
@@ -232,32 +223,34 @@ impl BranchTable {
         if !key_fits(key) {
             return Ok(Answer::Code(XaCode::Inval));
         }
-        if let Some(answer) = self.denial(xid, Access::Read, key) {
-            return Ok(answer);
-        }
+        let own = match self.admit(xid, Access::Read, key) {
+            Ok(own) => own,
+            Err(answer) => return Ok(answer),
+        };
         let answer = self.read(alloc, xid, key)?;
-        self.touch(alloc, xid, key, Act::Read)?;
+        self.touch(alloc, xid, key, Act::Read, own)?;
         Ok(answer)
     }
 
-    /// The answer of a call on a key that isn't let in. The branch, its state, the holds of others and the room are asked for in
-    /// this order.
-    fn denial(&self, xid: &Xid, access: Access, key: &[u8]) -> Option<Answer>
-        ensures { Denies self.now.branches xid.now (is_writing access) key.now result }
+    /// Lets a call on a key in, with the hold that its branch has on the key, or gives the answer of one that isn't let in. The branch,
+    /// its state, the holds of others and the room are asked for in this order.
+    fn admit(&self, xid: &Xid, access: Access, key: &[u8]) -> Result<Hold, Answer>
+        ensures { Admits self.now.branches xid.now (is_writing access) key.now result }
     {
         let Some(branch) = self.branches.get(xid) else {
-            return Some(Answer::Code(XaCode::Nota));
+            return Err(Answer::Code(XaCode::Nota));
         };
         if !branch.is_active() {
-            return Some(Answer::Code(XaCode::Proto));
+            return Err(Answer::Code(XaCode::Proto));
         }
-        if self.is_hindered(branch.hold_on(key), access, key) {
-            return Some(Answer::Refused(Refusal::Busy));
+        let own = branch.hold_on(key);
+        if self.is_hindered(own, access, key) {
+            return Err(Answer::Refused(Refusal::Busy));
         }
-        if !branch.has_room(key) {
-            return Some(Answer::Refused(Refusal::Full));
+        if !branch.has_room(key, own) {
+            return Err(Answer::Refused(Refusal::Full));
         }
-        None
+        Ok(own)
     }
 
     /// Whether another branch hinders an access to a key, by the hold that one's own branch has on it.
@@ -265,7 +258,7 @@ impl BranchTable {
         ensures { (x : XidParts) → uses_held (is_writing access) own ≡ uses_of (is_writing access) key.now (branch_named self.now.branches x)
             → Decides result (IsHindered (hinders_use (is_writing access) key.now) (view_named self.now.branches) x) }
     {
-        let hold = self.holds.at(key);
+        let hold = self.places.hold_at(key);
         match access {
             Access::Read => hold.written_by > own.written_by,
             Access::Write => hold.touched_by > own.touched_by,
@@ -295,29 +288,33 @@ impl BranchTable {
         ensures ok { IfOk result (λ answer. answer ≡ get_answer (row_at self.now.rows key.now)) }
         ensures err { IfErr result (λ e. e ≡ NoMemory) }
     {
-        match self.rows.get(key) {
+        match self.places.value_at(key) {
             Some(value) => Ok(Answer::Value(Bytes::copy_of(alloc, value)?)),
             None => Ok(Answer::NoValue),
         }
     }
 
-    /// Notes an act on a key at a branch that may do it. At `NoMemory`, the only refusal, nothing changes.
-    fn touch(&mut self, alloc: Global, xid: &Xid, key: &[u8], act: Act) -> Result<(), Refusal>
+    /// Notes an act on a key at a branch that may do it, and has this hold on it. At `NoMemory`, the only refusal, nothing changes.
+    fn touch(
+        &mut self,
+        alloc: Global,
+        xid: &Xid,
+        key: &[u8],
+        act: Act,
+        own: Hold,
+    ) -> Result<(), Refusal>
         requires key { IsKey key.now }
         requires act { IsAct act }
-        requires admitted { IsAdmitted self.old.branches xid.now (is_write_lem act) key.now }
+        requires admitted { Admits self.old.branches xid.now (is_write_lem act) key.now (Ok own) }
         ensures ok { OnOk result (Touches self.old self.new xid.now key.now act) }
         ensures err { IfErr result (λ e. (e ≡ NoMemory) × (self.new ≡ self.old)) }
     {
-        let Some(branch) = self.branches.get(xid) else {
-            return Ok(());
-        };
-        let more = branch.hold_more(key, &act);
+        let more = own.more(&act);
         // so many branches hold a key at most
         let _ = self.branches.len();
-        self.holds.add(alloc, key, more)?;
+        self.places.add(alloc, key, more)?;
         if self.branches.touch(alloc, xid, key, act).is_err() {
-            self.holds.take(key, more);
+            self.places.leave(key, Act::Read, more);
             return Err(Refusal::NoMemory);
         }
         Ok(())

@@ -1,4 +1,4 @@
-use Rattle.std.proofs.Common.{◌≡◌, ◌∙◌, None, Some, sym, ap, subst}
+use Rattle.std.proofs.Common.{◌∙◌, None, Some, ap, subst}
 use Rattle.xid.specs.Names.{xid_eq}
 use Rattle.indexmap.proofs.CallerLemmas.{insert_entry-new}
 use Rattle.branch_table.specs.Parts.{branch_of, Replaces}

@@ -1,4 +1,4 @@
-use Rattle.std.proofs.Common.{◌≡◌, ◌∙◌, None, Some, sym, ap, subst}
+use Rattle.std.proofs.Common.{◌∙◌, None, sym, ap, subst}
 use Rattle.std.specs.Option.{option_map}
 use Rattle.branch_table.specs.Parts.{branch_of, Replaces}
 use Rattle.branch_table.specs.Tables.{branch_named}

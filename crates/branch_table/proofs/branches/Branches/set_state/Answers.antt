@@ -1,4 +1,4 @@
-use Rattle.std.proofs.Common.{◌≡◌, ◌∙◌, ◌+◌, ◌-◌, ◌<◌, ◌*◌, true, false, Some, None, Ok, Err, Bool, List, ℕ, refl, sym, ap, subst, arith}
+use Rattle.std.proofs.Common.{sym, ap, subst}
 use Rattle.std.specs.List.{IsDistinct}
 use Rattle.xid.specs.Names.{xid_eq}
 use Rattle.branch_table.specs.Parts.{branch_of, Replaces}

@@ -1,4 +1,4 @@
-use Rattle.std.proofs.Common.{◌≡◌, ◌∙◌, ◌+◌, ◌-◌, ◌<◌, ◌*◌, true, false, Some, None, Ok, Err, Bool, List, ℕ, refl, sym, ap, subst, arith}
+use Rattle.std.proofs.Common.{◌≡◌, ◌∙◌, true, sym, ap, subst}
 use Rattle.std.proofs.Common.{◌||◌, rules, length}
 use Rattle.std.specs.List.{IsDistinct}
 use Rattle.std.specs.Option.{option_map}
@@ -10,7 +10,7 @@ use Rattle.protocol.specs.Managers.{has_key, with_touched}
 use Rattle.branch_table.specs.Parts.{branch_of, Replaces}
 use Rattle.branch_table.specs.Tables.{branch_named, with_act}
 use Rattle.branch_table.proofs.Found.{branches_of, named_from, not_absent, set_to}
-use Rattle.branch_table.proofs.HoldTable.{on_err, on_ok}
+use Rattle.branch_table.proofs.PlaceTable.{on_err, on_ok}
 use Rattle.std.specs.Map.{set_value}
 use Rattle.branch_table.proofs.branches.Branches.touch.Goals as goal
 

@@ -1,18 +1,16 @@
-use Rattle.std.proofs.Common.{◌≡◌, ◌∙◌, ◌+◌, ◌-◌, ◌<◌, ◌≤◌, ◌*◌, ◌||◌, true, false, Some, None, Ok, Err, Bool, List, [], ℕ, length, refl, sym, ap, subst, arith, inl, inr}
-use Rattle.std.specs.List.{list_all}
-use Rattle.branch_table.specs.Outcomes.{Looks, has_place, is_ready, keys_named, looks_after}
-use Rattle.branch_table.specs.Parts.{branch_of, keys_in, rows_in}
-use Rattle.protocol.specs.Tables.{with_writes}
-use Rattle.branch_table.specs.Tables.{ChangesOnly}
-use Rattle.branch_table.proofs.OutcomeSteps.{keys_found, keys_none, looks_absent, looks_ended}
-use Rattle.branch_table.proofs.TableKept.{kept_absent, kept_ended}
+use Rattle.std.proofs.Common.{◌∙◌, ◌-◌, length, List, sym, ap, subst}
 use Rattle.stable_record.specs.declared.fact.Touched.{Touched}
-use Rattle.branch_table.specs.Parts.{hold_at, uses_by, uses_held}
+use Rattle.protocol.specs.Managers.{has_key}
+use Rattle.protocol.specs.Tables.{with_writes}
+use Rattle.branch_table.specs.Outcomes.{Looks, keys_named}
+use Rattle.branch_table.specs.Parts.{branch_of, hold_at, table_of, uses_by, uses_held}
+use Rattle.branch_table.proofs.OutcomeSteps.{keys_found, keys_none, looks_absent, looks_ended}
+use Rattle.branch_table.proofs.TableKept.{held_there, kept_absent, kept_ended}
 use Rattle.branch_table.proofs.table.BranchTable.commit.Goals as goal
 
 pub invariant_of-self : goal.invariant_of-self
 invariant_of-self c =
-    kept_absent c.self.inside.holds c.self.inside.branches c.remove.new.self c.args.xid.now c.self.invariant (sym c.in_default.ensures.value)
+    kept_absent c.self.inside.places c.self.inside.branches c.remove.new.self c.args.xid.now c.self.invariant (sym c.in_default.ensures.value)
     c.remove.ensures.left
 
 pub returns-in_default : goal.returns-in_default
@@ -22,37 +20,36 @@ returns-in_default c =
     rw (← c.self.view_is)
     (record {
       branches = c.remove.ensures.left.only;
-      rows = sym (ap (with_writes (rows_in c.self.inside.rows)) none);
+      rows = sym (ap (with_writes (table_of c.self.inside.places)) none);
       looks = looks_absent c.self.inside.looks c.add.new.self (keys_named c.self.inside.branches x) c.add.ensures none;
     })
 
-pub write_all-requires-clause-places : goal.write_all-requires-clause-places
-write_all-requires-clause-places c =
-    let x = c.args.xid.now in
-    let keys = keys_found c.self.inside.branches x (branch_of x c.in-Some.branch) (sym c.in-Some.ensures.value) in
-    ap (list_all (has_place (keys_in c.self.inside.rows))) (c.into_keys.ensures.value ∙ sym keys)
-    ∙ ap (λ t. is_ready t x) c.self.view_is ∙ c.requires
+pub settle-requires-clause-held : goal.settle-requires-clause-held
+settle-requires-clause-held c =
+    let b = branch_of c.args.xid.now c.in-Some.branch in
+    λ key there. held_there c.self.inside.places c.self.inside.branches c.args.xid.now b c.self.invariant.1 (sym c.in-Some.ensures.value) key
+    (ap (has_key key) (sym c.into_keys.ensures.value) ∙ there)
 
 pub invariant_of-self-2 : goal.invariant_of-self-2
 invariant_of-self-2 c =
     let x = c.args.xid.now in
     let b = branch_of x c.in-Some.branch in
-    kept_ended c.self.inside.holds c.let_go.new.self c.self.inside.branches c.remove.new.self x b c.self.invariant
+    kept_ended c.self.inside.places c.settle.new.self c.self.inside.branches c.remove.new.self x b c.self.invariant
     (sym c.in-Some.ensures.value) c.remove.ensures.left
-    (λ writes key. c.let_go.ensures.holds writes key
-    ∙ ap (λ keys. uses_held writes (hold_at c.self.inside.holds key) - uses_by writes key keys) c.keys.ensures.value)
+    (λ writes key. c.settle.ensures.holds writes key
+    ∙ ap (λ keys. uses_held writes (hold_at c.self.inside.places key) - uses_by writes key keys) c.into_keys.ensures.value)
 
 pub returns : goal.returns
 returns c =
     let x = c.args.xid.now in
-    let keys = keys_found c.self.inside.branches x (branch_of x c.in-Some.branch) (sym c.in-Some.ensures.value) in
-    let looks = subst (λ (touched : List Touched). Looks c.self.inside.looks c.let_go.new.looks (length touched))
-    (c.keys.ensures.value ∙ sym keys)
-    (looks_ended c.self.inside.looks c.add.new.self c.add-2.new.self c.let_go.new.looks (length c.keys.result.now) c.add.ensures c.add-2.ensures
-    c.let_go.ensures.looks) in
+    let keys = c.into_keys.ensures.value
+    ∙ sym (keys_found c.self.inside.branches x (branch_of x c.in-Some.branch) (sym c.in-Some.ensures.value)) in
+    let looks = subst (λ (touched : List Touched). Looks c.self.inside.looks c.settle.new.looks (length touched)) keys
+    (looks_ended c.self.inside.looks c.add.new.self c.add-2.new.self c.settle.new.looks (length c.into_keys.result.items) c.add.ensures
+    c.add-2.ensures c.settle.ensures.looks) in
     rw (← c.self.view_is)
     (record {
       branches = c.remove.ensures.left.only;
-      rows = c.write_all.ensures ∙ ap (with_writes (rows_in c.self.inside.rows)) (c.into_keys.ensures.value ∙ sym keys);
+      rows = c.settle.ensures.rows ∙ ap (with_writes (table_of c.self.inside.places)) keys;
       looks = looks;
     })

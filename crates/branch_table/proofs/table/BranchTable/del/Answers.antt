@@ -1,7 +1,5 @@
-use Rattle.std.proofs.Common.{◌≡◌, ◌∙◌, ◌+◌, ◌<◌, ◌*◌, true, false, Some, None, Ok, Err, Bool, List, ℕ, refl, sym, ap, subst, arith}
+use Rattle.std.proofs.Common.{true, refl, sym}
 use Rattle.protocol.specs.declared.requests.Action.TheVariants.{Del}
-use Rattle.stable_record.specs.declared.fact.Act.TheVariants as acts
-use Rattle.branch_table.specs.Admission.{Denies, Touches}
 use Rattle.branch_table.proofs.CallSteps.{key_denied, key_done, key_inval, del_call}
 use Rattle.branch_table.proofs.Hindered.{is_busy}
 use Rattle.branch_table.proofs.table.BranchTable.del.Goals as goal
@@ -13,11 +11,11 @@ returns-then-not-key_fits-clause-ok c =
     let busy = is_busy true key c.self.inside.branches x c.self.invariant.0.distinct in
     rw (← c.self.view_is) (key_inval _ x (Del key) key busy.0 busy.1 refl (rw (← c.if-not-key_fits.ensures) refl))
 
-pub returns-in-Some-clause-ok : goal.returns-in-Some-clause-ok
-returns-in-Some-clause-ok c =
-    key_denied c.args.self.now c.args.xid.now c.in-Some.answer (del_call _ _ c.args.key.now (sym c.if-not-key_fits.ensures)) c.in-Some.ensures
+pub returns-in-Err-clause-ok : goal.returns-in-Err-clause-ok
+returns-in-Err-clause-ok c =
+    key_denied c.args.self.now c.args.xid.now c.in-Err.answer (del_call _ _ c.args.key.now (sym c.if-not-key_fits.ensures)) c.in-Err.ensures
 
 pub returns-clause-ok : goal.returns-clause-ok
 returns-clause-ok c =
-    key_done c.args.self.now c.touch.new.self c.args.xid.now (del_call _ _ c.args.key.now (sym c.if-not-key_fits.ensures)) c.in_default.ensures
+    key_done c.args.self.now c.touch.new.self c.args.xid.now (del_call _ _ c.args.key.now (sym c.if-not-key_fits.ensures)) c.in-Ok.ensures.0
     c.in_ok-touch.ensures.ok

@@ -1,7 +1,6 @@
-use Rattle.std.proofs.Common.{◌≡◌, ◌∙◌, true, false, Some, None, Ok, Err, Bool, List, ℕ, refl, sym, ap, subst}
+use Rattle.std.proofs.Common.{refl, sym, ap}
 use Rattle.std.specs.Prelude.{is_some}
 use Rattle.branch_table.specs.Parts.{branch_of}
-use Rattle.branch_table.specs.Admission.{end_state}
 use Rattle.branch_table.proofs.CallSteps.{end_absent, end_done, end_ended}
 use Rattle.branch_table.proofs.TableKept.{kept_state, was_found}
 use Rattle.branch_table.specs.Tables.{in_state}
@@ -19,7 +18,7 @@ returns-then-not-is_active-clause-steps c =
 pub invariant_of-self : goal.invariant_of-self
 invariant_of-self c =
     let x = c.args.xid.now in
-    kept_state c.self.inside.holds c.self.inside.branches c.set_state.new.self x (branch_of x c.in-Some.branch.now) c.outcome-state.result.0
+    kept_state c.self.inside.places c.self.inside.branches c.set_state.new.self x (branch_of x c.in-Some.branch.now) c.outcome-state.result.0
     c.self.invariant (sym c.in-Some.ensures) c.set_state.ensures
 
 pub returns-clause-steps : goal.returns-clause-steps
@@ -29,7 +28,7 @@ returns-clause-steps c =
     let is = was_found c.self.inside.branches c.set_state.new.self x b (in_state c.outcome-state.result.0) (sym c.in-Some.ensures) c.set_state.ensures in
     rw (← c.self.view_is, c.outcome-state.ensures.code)
     (end_done _ _ x c.args.ending b (sym c.in-Some.ensures) (sym c.if-not-is_active.ensures)
-    (rw (← c.outcome-state.ensures.state) is.only) (refl, refl))
+    (rw (← c.outcome-state.ensures.state) is.only) refl)
 
 pub set_state-requires : goal.set_state-requires
 set_state-requires c = ap is_some (sym c.in-Some.ensures)

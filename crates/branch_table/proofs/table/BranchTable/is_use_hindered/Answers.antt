@@ -1,4 +1,4 @@
-use Rattle.std.proofs.Common.{◌≡◌, ◌∙◌, ◌+◌, ◌-◌, ◌<◌, ◌≤◌, ◌*◌, ◌||◌, true, false, Some, None, Ok, Err, Bool, List, [], ℕ, length, refl, sym, ap, subst, arith, inl, inr}
+use Rattle.std.proofs.Common.{◌∙◌, sym, ap, subst}
 use Rattle.std.specs.Bool.{Decides}
 use Rattle.protocol.specs.Branches.{hinders_use, is_write}
 use Rattle.protocol.specs.Managers.{view_named}

@@ -1,7 +1,6 @@
-use Rattle.std.proofs.Common.{◌≡◌, ◌∙◌, ◌+◌, ◌-◌, ◌<◌, ◌≤◌, ◌*◌, ◌||◌, true, false, Some, None, Ok, Err, Bool, List, [], ℕ, length, refl, sym, ap, subst, arith, inl, inr}
+use Rattle.std.proofs.Common.{◌∙◌, Some, None, sym, ap}
 use Rattle.std.proofs.Common.{cond}
 use Rattle.protocol.specs.Managers.{idle_keys}
-use Rattle.branch_table.specs.Parts.{branch_of}
 use Rattle.branch_table.proofs.OutcomeSteps.{idle_from, idle_of}
 use Rattle.branch_table.proofs.table.BranchTable.prepare.Goals as goal
 

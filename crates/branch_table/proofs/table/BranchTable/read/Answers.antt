@@ -1,8 +1,7 @@
-use Rattle.std.proofs.Common.{◌≡◌, ◌∙◌, ◌+◌, ◌-◌, ◌<◌, ◌≤◌, ◌*◌, ◌||◌, true, false, Some, None, Ok, Err, Bool, List, [], ℕ, length, refl, sym, ap, subst, arith, inl, inr}
+use Rattle.std.proofs.Common.{◌≡◌, ◌∙◌, Some, None, sym, ap, subst}
 use Rattle.std.specs.Prelude.{IfOk}
 use Rattle.protocol.specs.declared.answers.Answer.TheVariants.{Value}
 use Rattle.protocol.specs.Branches.{get_answer, read_of, row_at, value_after}
-use Rattle.protocol.specs.Managers.{act_on}
 use Rattle.branch_table.specs.Parts.{branch_of}
 use Rattle.branch_table.specs.Tables.{branch_named}
 use Rattle.branch_table.proofs.CallSteps.{shown}

@@ -1,14 +1,13 @@
-use Rattle.std.proofs.Common.{◌≡◌, ◌∙◌, ◌+◌, ◌-◌, ◌<◌, ◌≤◌, ◌*◌, ◌||◌, true, false, Some, None, Ok, Err, Bool, List, [], ℕ, length, refl, sym, ap, subst, arith, inl, inr}
+use Rattle.std.proofs.Common.{◌≡◌, ◌∙◌, ◌+◌, ◌<◌, Some, None, Bool, List, ℕ, refl, sym, ap, subst, arith, inl, inr}
 use Rattle.std.specs.Prelude.{is_some}
 use Rattle.std.proofs.Common.{◌^◌}
-use Rattle.std.specs.Option.{option_map}
 use Rattle.stable_record.specs.declared.fact.Touched.{Touched}
-use Rattle.protocol.specs.Managers.{Branch}
+use Rattle.protocol.specs.declared.rows.Row.{Row}
 use Rattle.protocol.specs.declared.states.BranchState.{BranchState}
 use Rattle.branch_table.specs.Outcomes.{AreHindered, prepared_branch}
-use Rattle.branch_table.specs.Parts.{Replaces, branch_of, hold_at, keys_in, rows_in, uses_by, uses_held, uses_in}
+use Rattle.branch_table.specs.Parts.{Replaces, branch_of, hold_at, uses_by, uses_held}
 use Rattle.branch_table.specs.Tables.{ChangesOnly, TableState, branch_named, in_state}
-use Rattle.branch_table.proofs.HoldTable.{given_on_err, given_on_ok, kept_on_err}
+use Rattle.branch_table.proofs.PlaceTable.{given_on_err, given_on_ok, kept_on_err}
 use Rattle.branch_table.proofs.TableKept.{could_idle, held_small, kept_prepared, kept_state, refused_hindered, refused_keys, refused_state, same_kept, was_found}
 use Rattle.std.proofs.lemmas.Bool.{both_ways}
 use Rattle.branch_table.proofs.table.BranchTable.restore.Goals as goal
@@ -37,7 +36,7 @@ set_state-requires c = ap is_some (sym c.in-Some.ensures)
 pub invariant_of-self : goal.invariant_of-self
 invariant_of-self c =
     let x = c.args.xid.now in
-    kept_state c.self.inside.holds c.self.inside.branches c.set_state.new.self x (branch_of x c.in-Some.branch.now) BranchState.Prepared
+    kept_state c.self.inside.places c.self.inside.branches c.set_state.new.self x (branch_of x c.in-Some.branch.now) BranchState.Prepared
     c.self.invariant (sym c.in-Some.ensures) c.set_state.ensures
 
 pub returns-in-Some-clause-ok : goal.returns-in-Some-clause-ok
@@ -53,7 +52,6 @@ returns-in-Some-clause-ok c =
       left = record {
         branches = subst (λ (keys : List Touched). ChangesOnly old c.set_state.new.self x (Some (prepared_branch x keys))) same is.only;
         rows = refl;
-        places = refl;
       };
       looks = refl;
     })
@@ -74,15 +72,15 @@ returns-in_default-prepared-clause-err c =
 
 pub hold-requires-clause-fits : goal.hold-requires-clause-fits
 hold-requires-clause-fits c =
-    held_small c.self.inside.holds c.self.inside.branches c.self.invariant.1
+    held_small c.self.inside.places c.self.inside.branches c.self.invariant.1
     (subst (λ n. n < 2 ^ 63) c.len.ensures.value c.len.ensures.few)
 
 pub invariant_of-self-then-is_err : goal.invariant_of-self-then-is_err
 invariant_of-self-then-is_err c =
     let same = given_on_err c.hold.result
-    ((writes : Bool) (key : List ℕ) → uses_held writes (hold_at c.hold.new.self key) ≡ uses_held writes (hold_at c.self.inside.holds key))
+    ((writes : Bool) (key : List ℕ) → uses_held writes (hold_at c.hold.new.self key) ≡ uses_held writes (hold_at c.self.inside.places key))
     (sym c.is_err.ensures.value ∙ c.if-is_err.true) c.hold.ensures.err in
-    same_kept c.self.inside.holds c.hold.new.self c.self.inside.branches c.self.inside.branches c.self.invariant refl same
+    same_kept c.self.inside.places c.hold.new.self c.self.inside.branches c.self.inside.branches c.self.invariant refl same
 
 pub returns-then-is_err-clause-err : goal.returns-then-is_err-clause-err
 returns-then-is_err-clause-err c =
@@ -90,7 +88,8 @@ returns-then-is_err-clause-err c =
     let none = ap (λ t. branch_named t.branches x) (sym c.self.view_is) ∙ sym c.in_default.ensures in
     let free : AreHindered c.args.self.now.branches x c.args.keys.now → ⊥ =
     λ is. both_ways c.are_hindered.result c.if-are_hindered.false ((c.are_hindered.ensures x none).1 is) in
-    (inr (refl, inr (none, free), none), c.self.view_is)
+    let view : List Row → TableState = λ rows. record { rows = rows; branches = c.self.inside.branches; looks = c.self.inside.looks } in
+    (inr (refl, inr (none, free), none), ap view c.hold.ensures.rows ∙ c.self.view_is)
 
 pub invariant_of-self-then-is_err-2 : goal.invariant_of-self-then-is_err-2
 invariant_of-self-then-is_err-2 c =
@@ -98,9 +97,9 @@ invariant_of-self-then-is_err-2 c =
     c.add.ensures.err in
     let held = given_on_ok c.hold.result
     ((writes : Bool) (key : List ℕ) → uses_held writes (hold_at c.hold.new.self key)
-    ≡ uses_held writes (hold_at c.self.inside.holds key) + uses_by writes key c.args.keys.now)
+    ≡ uses_held writes (hold_at c.self.inside.places key) + uses_by writes key c.args.keys.now)
     (sym c.is_err.ensures.value ∙ c.if-is_err.false) c.hold.ensures.ok in
-    same_kept c.self.inside.holds c.let_go.new.self c.self.inside.branches c.add.new.self c.self.invariant same
+    same_kept c.self.inside.places c.let_go.new.self c.self.inside.branches c.add.new.self c.self.invariant same
     (λ writes key.
     let more = held writes key in
     let less = c.let_go.ensures.holds writes key in
@@ -114,13 +113,10 @@ returns-then-is_err-2-clause-err c =
     let none = ap (λ t. branch_named t.branches x) (sym c.self.view_is) ∙ sym c.in_default.ensures in
     let free : AreHindered c.args.self.now.branches x c.args.keys.now → ⊥ =
     λ is. both_ways c.are_hindered.result c.if-are_hindered.false ((c.are_hindered.ensures x none).1 is) in
-    let view : List Branch → TableState = λ branches. record {
-      rows = rows_in c.self.inside.rows;
-      branches = branches;
-      places = keys_in c.self.inside.rows;
-      looks = c.self.inside.looks;
-    } in
-    (inr (refl, inr (none, free), none), ap view same ∙ c.self.view_is)
+    let rows = c.let_go.ensures.rows ∙ c.hold.ensures.rows in (
+      inr (refl, inr (none, free), none),
+      (λ i. record { rows = rows i; branches = same i; looks = c.self.inside.looks }) ∙ c.self.view_is,
+    )
 
 pub invariant_of-self-else-is_err-2 : goal.invariant_of-self-else-is_err-2
 invariant_of-self-else-is_err-2 c =
@@ -134,9 +130,9 @@ invariant_of-self-else-is_err-2 c =
     (sym c.is_err-2.ensures.value ∙ c.if-is_err-2.false) c.add.ensures.ok in
     let held = given_on_ok c.hold.result
     ((writes : Bool) (key : List ℕ) → uses_held writes (hold_at c.hold.new.self key)
-    ≡ uses_held writes (hold_at c.self.inside.holds key) + uses_by writes key keys)
+    ≡ uses_held writes (hold_at c.self.inside.places key) + uses_by writes key keys)
     (sym c.is_err.ensures.value ∙ c.if-is_err.false) c.hold.ensures.ok in
-    kept_prepared c.self.inside.holds c.hold.new.self old c.add.new.self x keys c.self.invariant
+    kept_prepared c.self.inside.places c.hold.new.self old c.add.new.self x keys c.self.invariant
     (subst (λ (t : TableState). AreHindered t.branches x keys → ⊥) (sym c.self.view_is) free)
     (subst (λ b. Replaces old c.add.new.self x None (Some (branch_of x b))) c.in-Ok.ensures.ok replaced) held
 
@@ -155,6 +151,6 @@ returns-clause-ok c =
     rw (← c.self.view_is)
     (record {
       could = inr (sym c.in_default.ensures, apart);
-      left = record { branches = made.only; rows = refl; places = refl };
+      left = record { branches = made.only; rows = c.hold.ensures.rows };
       looks = refl;
     })

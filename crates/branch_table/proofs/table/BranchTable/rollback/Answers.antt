@@ -1,4 +1,4 @@
-use Rattle.std.proofs.Common.{◌≡◌, ◌∙◌, ◌+◌, ◌<◌, ◌*◌, true, false, Some, None, Ok, Err, Bool, List, ℕ, refl, sym, ap, subst, arith}
+use Rattle.std.proofs.Common.{◌∙◌, sym, ap}
 use Rattle.branch_table.specs.Parts.{branch_of}
 use Rattle.branch_table.specs.Tables.{branch_named}
 use Rattle.branch_table.proofs.CallSteps.{rollback_absent, rollback_done, rollback_refused}
@@ -19,4 +19,4 @@ returns-clause-steps c =
     let found = ap (λ t. branch_named t.branches x) (sym c.self.view_is) ∙ sym c.in-Some.ensures in
     let left = c.undo.ensures.left in
     rollback_done c.args.self.now c.undo.new.self x (branch_of x c.in-Some.branch.now) found (sym c.if-not-can_be_rolled_back.ensures)
-    left.branches (left.rows, left.places)
+    left.branches left.rows

@@ -1,7 +1,0 @@
-use Rattle.std.proofs.Common.{◌≡◌, ◌+◌, ℕ, Bool, List, drop}
-use Rattle.branch_table.specs.Parts.{hold_at, uses_by, uses_held}
-use Rattle.branch_table.proofs.holds.Holds.hold.Given as goal
-
-abbrev pub invariant-loop-at : goal.invariant-loop-at
-invariant-loop-at l = (writes : Bool) (key : List ℕ) → uses_held writes (hold_at l.self key) + uses_by writes key (drop l.at l.keys)
-    ≡ uses_held writes (hold_at l.initial.self key) + uses_by writes key l.keys
