@@ -13,18 +13,16 @@ use Rattle.stable_record.specs.Held.{Held}
 use Rattle.protocol.specs.declared.answers.Answer.{Answer}
 use Rattle.protocol.specs.declared.answers.Answer.TheVariants.{Refused}
 use Rattle.protocol.specs.declared.nodes.NodeId.{NodeId}
-use Rattle.protocol.specs.declared.rows.Row.{Row}
 use Rattle.protocol.specs.Effects.{Config, Effect, answer_only, no_effect}
-use Rattle.protocol.specs.Nodes.{NodeState, Memory, Input, Received, ReceivedNoise, accepts_input, down_answer, effect_of}
+use Rattle.protocol.specs.Nodes.{Memory, Input, Received, ReceivedNoise, accepts_input, down_answer, effect_of}
 use Rattle.protocol.specs.Nodes.{is_message_inside}
 use Rattle.protocol.specs.Nodes.{on_message}
 use Rattle.node_core.specs.declared.output.Output.{Output}
 use Rattle.node_core.specs.declared.role.Role.{Role}
 use Rattle.node_core.specs.Sends.{sent}
 use Rattle.node_core.specs.Roles.{RoleStands}
-use Rattle.node_core.specs.Storing.{IsDone, Carries, carried, output_of}
-use Rattle.node_core.specs.Nodes.{Stands, Steps, datagram_input, role_settled}
-use Rattle.node_core.proofs.Steps.{steps_settled, steps_down}
+use Rattle.node_core.specs.Storing.{IsDone, Carries, output_of}
+use Rattle.node_core.specs.Nodes.{datagram_input}
 
 abbrev handed : Option Kind → Input
 handed read = option_map_or Received read ReceivedNoise
@@ -37,14 +35,14 @@ noise_by bytes (Some k) is none = let s = spelled k bytes is in absurd (none k s
 is_noise : (bytes : List ℕ) → ((k : Kind) → IsMessage k → bytes ≢ spelling k) → datagram_input bytes ≡ ReceivedNoise
 is_noise bytes none = noise_by bytes (message_at bytes) refl none
 
-is_received : (bytes : List ℕ) (k : Kind) → Spells k bytes → datagram_input bytes ≡ Received k
+pub is_received : (bytes : List ℕ) (k : Kind) → Spells k bytes → datagram_input bytes ≡ Received k
 is_received bytes k spells = ap handed (found k bytes spells)
 
-accepted_by : (who : NodeId) (read : Option Kind) → accepts_input who (handed read) ≡ true
+pub accepted_by : (who : NodeId) (read : Option Kind) → accepts_input who (handed read) ≡ true
 accepted_by who None = refl
 accepted_by who (Some k) = refl
 
-down_by : (read : Option Kind) → down_answer (handed read) ≡ Refused Refusal.Down
+pub down_by : (read : Option Kind) → down_answer (handed read) ≡ Refused Refusal.Down
 down_by None = refl
 down_by (Some k) = refl
 
@@ -66,7 +64,7 @@ module _ (config : Config) (who : NodeId) (facts : List Fact) (memory : Memory) 
   noise_done bytes out none is s =
       answered (heard bytes) (Refused Refusal.BadMessage) out (ap (effect_of config who facts memory) (is_noise bytes none)) is s
 
-  heard_is : (bytes : List ℕ) (k : Kind) (inside : Bool) → Spells k bytes → inside ≡ is_message_inside config k
+  pub heard_is : (bytes : List ℕ) (k : Kind) (inside : Bool) → Spells k bytes → inside ≡ is_message_inside config k
       → heard bytes ≡ (if inside then on_message config who facts memory k else no_effect memory)
   heard_is bytes k inside spells is =
       ap (effect_of config who facts memory) (is_received bytes k spells)
@@ -84,20 +82,3 @@ module _ (config : Config) (who : NodeId) (facts : List Fact) (memory : Memory) 
       → Carries config who facts memory (heard bytes) held new now done
   inside_carries bytes k new now done spells is h =
       subst (λ e. Carries config who facts memory e held new now done) (sym (heard_is bytes k true spells is)) h
-
-module _ (config : Config) (who : NodeId) (own : List Row) (m : NodeState) (bytes : List ℕ) where
-  pub hears_down : (held : Held) (role : Option Role) (out : Output) → role ≡ None → out ≡ output_of (Refused Refusal.Down) None
-      → Stands config who own held role m → Steps config who own m (datagram_input bytes) held held role out
-  hears_down held role out is out_is s =
-      subst (λ r. Steps config who own m (datagram_input bytes) held held r out) (sym is)
-      (steps_down config who own m (datagram_input bytes) held out (subst (λ r. Stands config who own held r m) is s)
-      (accepted_by who (message_at bytes)) (out_is ∙ ap (λ a. output_of a None) (sym (down_by (message_at bytes)))))
-
-  pub hears : (old new : Held) (was role : Option Role) (before now : Role) (up : Bool) (out : Output)
-      → was ≡ Some before → role ≡ role_settled (Some now) up
-      → (RoleStands config who before m.facts m.memory
-      → Carries config who m.facts m.memory (effect_of config who m.facts m.memory (datagram_input bytes)) old new now (carried up out))
-      → Stands config who own old was m → Steps config who own m (datagram_input bytes) old new role out
-  hears old new was role before now up out is role_is carries s =
-      steps_settled config who own m (datagram_input bytes) old new was role before now up out is (accepted_by who (message_at bytes))
-      role_is carries s

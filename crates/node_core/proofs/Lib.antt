@@ -4,8 +4,14 @@ pub mod Addressed
 pub mod Stopping
 pub mod Changes
 pub mod Steps
+pub mod Handled
 pub mod Hearing
+pub mod Sparing
 pub mod Sound
+pub mod Taken
+pub mod Gathered
+pub mod Grouped
+pub mod Walked
 pub mod Reading
 pub mod Replaying
 pub mod Rows
@@ -15,4 +21,5 @@ pub mod Loading
 pub mod Restarting
 pub mod Sizing
 pub mod Looking
+pub mod Listing
 pub mod Shortening

@@ -1,7 +1,7 @@
 -- What reading a record leaves.
-use Rattle.std.proofs.Common.{◌≡◌, ◌∙◌, ℕ, ◌-◌, ◌≤◌, List, [], ◌∷◌, ◌++◌, length, drop, take, refl, sym, ap, subst}
+use Rattle.std.proofs.Common.{◌≡◌, ◌∙◌, ℕ, ◌-◌, List, [], ◌∷◌, ◌++◌, length, drop, take, refl, sym, ap, subst}
 use Rattle.std.proofs.Common.{inl, inr, arith}
-use Rattle.std.specs.Prelude.{◌⊎◌, IsTrue, true, map, Option, Some, None, Result, Ok, Err}
+use Rattle.std.specs.Prelude.{◌⊎◌, IsTrue, true, map, Option, Some, None, Ok, Err}
 use Rattle.std.specs.List.{list_all, flat_map}
 use Rattle.std.proofs.lemmas.List.{length-drop, take-append-drop}
 use Rattle.xid.specs.declared.refusals.Refusal.{Refusal}
@@ -13,7 +13,7 @@ use Rattle.stable_record.specs.declared.fact.FactKind.{FactKind as Fact}
 use Rattle.stable_record.specs.declared.record.RecordError.{RecordError}
 use Rattle.stable_record.specs.declared.record.RecordError.TheVariants.{Fault, Memory}
 use Rattle.stable_record.specs.Grammar.{IsStored, frame}
-use Rattle.stable_record.specs.Held.{Held, HasRead, HasPut, HasFailed, IsCounted, refusal_of, with_bytes}
+use Rattle.stable_record.specs.Held.{Held, HasRead, HasPut, IsCounted, refusal_of, with_bytes}
 use Rattle.stable_record.proofs.Framed.{taken_stored, stored_same, one_stored, stored_joined, empty_tail}
 use Rattle.stable_record.proofs.Lengths.{entry_in_version_2}
 use Rattle.protocol.specs.declared.nodes.NodeId.{NodeId}

@@ -3,13 +3,12 @@ use Rattle.std.proofs.Common.{◌≡◌, ◌∙◌, ℕ, suc, ◌-◌, Bool, tru
 use Rattle.std.proofs.Common.{append_assoc, append-nil, inl, inr}
 use Rattle.std.specs.Prelude.{◌⊎◌, map, Option, Some, None, nat_lt, nat_le, length, slice_get}
 use Rattle.std.specs.Option.{option_map_or}
-use Rattle.std.specs.declared.cmp.Ordering.{Ordering}
 use Rattle.std.specs.List.{list_all}
 use Rattle.std.specs.Cmp.Lexicographic.{slice_cmp}
 use Rattle.std.specs.Ordering.{nat_cmp, is_lt}
 use Rattle.std.proofs.lemmas.Bool.{and_parts, and_from, both_ways}
 use Rattle.std.proofs.lemmas.Bool.Decides.{nat_tests}
-use Rattle.std.proofs.Common.{◌≤◌, arith, length-append}
+use Rattle.std.proofs.Common.{arith, length-append}
 use Rattle.std.proofs.lemmas.List.{map-append}
 use Rattle.std.proofs.lemmas.List.Folds.{list_all-append}
 use Rattle.xid.specs.declared.refusals.Refusal.{Refusal}
@@ -21,9 +20,8 @@ use Rattle.stable_record.specs.Entries.{IsEntry}
 use Rattle.stable_record.specs.Grammar.{IsStored, IsFramed, IsTail, HasNoFrame}
 use Rattle.stable_record.proofs.Framed.{framed_same, tail_unframed, nothing_stored}
 use Rattle.protocol.specs.declared.rows.Row.{Row}
-use Rattle.protocol.specs.declared.nodes.NodeId.{NodeId}
-use Rattle.resource_manager.specs.Compacted.{IsCompacted, row_entry, are_ascending, is_about_tx, facts_of}
-use Rattle.branch_table.specs.Tables.{is_row, are_rows}
+use Rattle.resource_manager.specs.Compacted.{row_entry, are_ascending, is_about_tx}
+use Rattle.branch_table.specs.Tables.{is_row}
 use Rattle.node_core.specs.Opening.{IsReadUpTo, row_of, is_snapshot, may_follow, AreRowsTo, AreAllRows, IsSnapshot, IsUncompacted}
 use Rattle.node_core.specs.Opening.{TakesNothing, IsShort}
 use Rattle.node_core.proofs.Reading.{nothing_read, read_more, read_both, damaged_on}

@@ -1,13 +1,13 @@
 -- A node that stood for a node of the machine still does.
-use Rattle.std.proofs.Common.{◌≡◌, ℕ, Option, Some, None, refl, sym, ap, subst}
+use Rattle.std.proofs.Common.{◌≡◌, ℕ, true, Option, Some, None, refl, sym, ap, subst}
 use Rattle.stable_record.specs.declared.fact.FactKind.{FactKind as Fact}
 use Rattle.stable_record.specs.Held.{Held}
 use Rattle.protocol.specs.Effects.{Config}
 use Rattle.protocol.specs.Nodes.{NodeState, Input, node_step, Fault, NoFault, NoMemoryBefore, NoMemoryAt, RecordFails}
-use Rattle.node_core.specs.declared.output.Input.{Input as Handed}
 use Rattle.node_core.specs.declared.output.Output.{Output}
 use Rattle.node_core.specs.declared.role.Role.{Role}
-use Rattle.node_core.specs.Nodes.{AreSizes, Stands, Steps, StepsAs, NodeParts, NodeStands, IsSound, HasMet, Befalls, fact_to_store, input_of}
+use Rattle.node_core.specs.Nodes.{AreSizes, Stands, Steps, StepsFreely, StepsAs, NodeParts, NodeStands, IsSound, HasMet, Befalls, fact_to_store}
+use Rattle.node_core.specs.Sparing.{is_free}
 
 -- ---- whether the record may fail of itself stays
 
@@ -15,7 +15,7 @@ met_may_fail : (armed : Option ℕ) (fact : Fact) (old new : Held) → HasMet ar
 met_may_fail None fact old new met = met.may_fail
 met_may_fail (Some n) fact old new met = met.may_fail
 
-step_may_fail : (fact : Option Fact) (old new : Held) (fault : Fault) → Befalls fact old new fault → new.may_fail ≡ old.may_fail
+pub step_may_fail : (fact : Option Fact) (old new : Held) (fault : Fault) → Befalls fact old new fault → new.may_fail ≡ old.may_fail
 step_may_fail fact old new NoMemoryBefore b = absurd b
 step_may_fail fact old new NoMemoryAt b = ap (λ (r : Held). r.may_fail) b
 step_may_fail None old new NoFault b = ap (λ (r : Held). r.may_fail) b
@@ -44,8 +44,10 @@ module _ (node : NodeParts) (held : Held) (role : Option Role) where
       }
 
   pub steps_as : (config : Config) (m : NodeState) (input : Input) (out : Output) → Steps config node.who node.rows m input node.held held role out
+      → (is_free node.who input ≡ true → fact_to_store config node.who m input ≡ None
+      → StepsFreely config node.who node.rows m input node.held held role out)
       → StepsAs config m input node with_state out
-  steps_as config m input out s = record {
+  steps_as config m input out s free = record {
     same = record {
       who_is = refl;
       sizes_are = refl;
@@ -53,12 +55,12 @@ module _ (node : NodeParts) (held : Held) (role : Option Role) where
       may_fail_is = step_may_fail (fact_to_store config node.who m input) node.held held s.fault s.befalls;
     };
     steps = s;
+    free = free;
   }
 
--- the same of the node as it is seen, and of what it was handed
-pub steps_from : (inside old new : NodeParts) (handed known : Handed) (out : Output) → inside ≡ old → handed ≡ known
-    → ((config : Config) (m : NodeState) → NodeStands config inside m → StepsAs config m (input_of known) inside new out)
-    → (config : Config) (m : NodeState) → NodeStands config old m → StepsAs config m (input_of handed) old new out
-steps_from inside old new handed known out is known_is h config m s =
-    subst (λ o. StepsAs config m (input_of handed) o new out) is
-    (subst (λ i. StepsAs config m (input_of i) inside new out) (sym known_is) (h config m (subst (λ o. NodeStands config o m) (sym is) s)))
+-- the same of the node as it is seen
+pub steps_from : (inside old new : NodeParts) (input : Input) (out : Output) → inside ≡ old
+    → ((config : Config) (m : NodeState) → NodeStands config inside m → StepsAs config m input inside new out)
+    → (config : Config) (m : NodeState) → NodeStands config old m → StepsAs config m input old new out
+steps_from inside old new input out is h config m s =
+    subst (λ o. StepsAs config m input o new out) is (h config m (subst (λ o. NodeStands config o m) (sym is) s))

@@ -1,11 +1,9 @@
 -- What the bytes of a record say, with a snapshot in front or without one.
-use Rattle.std.proofs.Common.{◌≡◌, ◌∙◌, ℕ, suc, ◌+◌, ◌-◌, ◌≤◌, Bool, true, false, ◌&&◌, List, [], ◌∷◌, ◌++◌, length, drop, refl, sym, ap}
-use Rattle.std.proofs.Common.{subst, append-nil, length-append, arith, inl, inr}
-use Rattle.std.specs.Prelude.{map, replicate, slice_get, unwrap_or, Option, Some, None, Result, Ok, Err}
+use Rattle.std.proofs.Common.{◌≡◌, ◌∙◌, ℕ, suc, ◌+◌, ◌-◌, ◌≤◌, true, false, ◌&&◌, List, [], ◌∷◌, ◌++◌, length, drop, refl, sym, ap}
+use Rattle.std.proofs.Common.{subst, length-append, arith, inl, inr}
+use Rattle.std.specs.Prelude.{map, replicate, unwrap_or, Option, Some, None, Result, Ok, Err}
 use Rattle.std.specs.List.{list_all, flat_map}
-use Rattle.std.specs.Borrow.{Bor}
-use Rattle.std.proofs.lemmas.Bool.{and_parts, and_from}
-use Rattle.std.proofs.lemmas.List.{drop_at, drop-drop, length-drop, get_or-replicate}
+use Rattle.std.proofs.lemmas.List.{drop_at, drop-drop, get_or-replicate}
 use Rattle.std.proofs.lemmas.Option.{unwrap_or-slice_get}
 use Rattle.xid.specs.declared.refusals.Refusal.{Refusal}
 use Rattle.stable_record.specs.declared.entry.EntryKind.{EntryKind as Entry}
@@ -16,13 +14,12 @@ use Rattle.protocol.specs.declared.nodes.NodeId.{NodeId}
 use Rattle.protocol.specs.declared.nodes.NodeId.TheVariants.{A, L, R}
 use Rattle.protocol.specs.declared.rows.Row.{Row}
 use Rattle.protocol.specs.Effects.{Config}
-use Rattle.protocol.specs.Nodes.{empty_memory, plays, all_play, first_rows}
-use Rattle.resource_manager.specs.Compacted.{beginning_with, row_entry, is_about_tx, facts_of}
+use Rattle.protocol.specs.Nodes.{plays, all_play, first_rows}
+use Rattle.resource_manager.specs.Compacted.{beginning_with, row_entry, facts_of}
 use Rattle.node_core.specs.declared.config.Sizes.{Sizes}
 use Rattle.node_core.specs.declared.role.Role.{Role}
-use Rattle.node_core.specs.Roles.{RoleStands}
 use Rattle.node_core.specs.Nodes.{Kept, MeansFrom, Holds, begun, AreSizes, HasRows}
-use Rattle.node_core.specs.Opening.{is_fact, may_stand, Goes, HasPlayed, IsUnplayable, IsPlayedFrom, IsSnapshot, IsUncompacted, IsManager}
+use Rattle.node_core.specs.Opening.{is_fact, Goes, HasPlayed, IsUnplayable, IsPlayedFrom, IsSnapshot, IsManager}
 use Rattle.node_core.specs.Opening.{IsPlain, IsBad, IsReadAs, Reads, TakesNothing}
 
 -- ---- the cluster in which a table begins with the rows of a record

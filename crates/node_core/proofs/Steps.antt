@@ -36,9 +36,9 @@ use Rattle.node_core.specs.declared.output.Output.{Output}
 use Rattle.node_core.specs.declared.role.Role.{Role}
 use Rattle.node_core.specs.Sends.{sent}
 use Rattle.node_core.specs.Roles.{RoleStands}
-use Rattle.node_core.specs.Storing.{fact_frame, output_of, change_made, IsTorn, IsKept, RanOut, WasStopped, Carries, carried}
+use Rattle.node_core.specs.Storing.{fact_frame, output_of, change_made, IsTorn, IsKept, IsDone, RanOut, WasStopped, Carries, carried}
 use Rattle.node_core.specs.Nodes.{role_left, role_settled, out_of}
-use Rattle.node_core.specs.Nodes.{MeansFrom, begun, SameState, Keeps, Stands, Befalls, HasMet, Shows, Steps, fact_to_store}
+use Rattle.node_core.specs.Nodes.{MeansFrom, begun, SameState, Keeps, Stands, Befalls, HasMet, Shows, Steps, StepsFreely, fact_to_store}
 use Rattle.node_core.proofs.Changes.{unchanged, changes_made}
 use Rattle.node_core.proofs.Loading.{holds_again}
 
@@ -350,3 +350,49 @@ module _ (config : Config) (who : NodeId) (own : List Row) (m : NodeState) (inpu
       subst (λ r. P r out) (sym (role_is ∙ settled_left now up out))
       (subst (λ o. P (role_left now (carried up out)) o) (sym (put_out up out))
       (steps_up old new before now (carried up out) stands accepted (carries stands.role_is.2)))
+
+  -- ---- what wants no memory and stores nothing
+
+  pub freely_refused : (held : Held) (role : Option Role) (out : Output) → Stands config who own held role m
+      → accepts_input who input ≡ false → out ≡ output_of (Refused Refusal.NoSuch) None
+      → StepsFreely config who own m input held held role out
+  unfolding steps_refused answered
+  freely_refused held role out s refused is = record { same = refl; shows = (steps_refused held role out s refused is).shows }
+
+  pub freely_down : (held : Held) (out : Output) → Stands config who own held None m → accepts_input who input ≡ true
+      → out ≡ output_of (down_answer input) None → StepsFreely config who own m input held held None out
+  unfolding steps_down answered
+  freely_down held out s accepted is = record { same = refl; shows = (steps_down held out s accepted is).shows }
+
+  freely_done : (old new : Held) (before now : Role) (out : Output) → Stands config who own old (Some before) m
+      → accepts_input who input ≡ true → whole_effect.fact ≡ None
+      → IsDone config who m.facts whole_effect old new now out → StepsFreely config who own m input old new (Some now) out
+  unfolding done_comes
+  freely_done old new before now out s accepted none done =
+      let kept : IsKept config who m.facts whole_effect old new now out.now None =
+      subst (IsKept config who m.facts whole_effect old new now out.now) none done.kept in
+      let c = done_comes config who own m whole_effect old new before s now out done.reply_is done.sends_are None kept in
+      let up = s.role_is.0 in
+      let same : node_step config who m input NoFault ≡ effect_outcome m whole_effect None m.tear NoFault = λ i.
+      if not (accepted i) then answer_outcome m (Refused Refusal.NoSuch)
+      else if not (up i) then answer_outcome m (down_answer input)
+      else effect_outcome m whole_effect (none i) m.tear NoFault in
+      record { same = kept.same; shows = subst (Shows config who own m.facts new (Some now) out) (sym same) c.shows }
+
+  pub freely_settled : (old new : Held) (was role : Option Role) (before now : Role) (up : Bool) (out : Output)
+      → was ≡ Some before → accepts_input who input ≡ true → role ≡ role_settled (Some now) up
+      → (RoleStands config who before m.facts m.memory
+      → Carries config who m.facts m.memory whole_effect old new now (carried up out))
+      → (RoleStands config who before m.facts m.memory → whole_effect.fact ≡ None → up ≡ true)
+      → fact_to_store config who m input ≡ None → Stands config who own old was m → StepsFreely config who own m input old new role out
+  freely_settled old new was role before now up out is accepted role_is carries free none s =
+      let stands : Stands config who own old (Some before) m = subst (λ r. Stands config who own old r m) is s in
+      let there = stands.role_is.0 in
+      let fact : fact_to_store config who m input ≡ whole_effect.fact = λ i.
+      if accepted i && there i then whole_effect.fact else None in
+      let nothing : whole_effect.fact ≡ None = sym fact ∙ none in
+      let yes = free stands.role_is.2 nothing in
+      let done : IsDone config who m.facts whole_effect old new now out =
+      subst (λ b. Carries config who m.facts m.memory whole_effect old new now (carried b out)) yes (carries stands.role_is.2) in
+      subst (λ r. StepsFreely config who own m input old new r out) (sym (role_is ∙ ap (role_settled (Some now)) yes))
+      (freely_done old new before now out stands accepted nothing done)

@@ -1,9 +1,13 @@
 pub mod Sends
 pub mod Roles
 pub mod Storing
+pub mod Sparing
 pub mod Nodes
+pub mod Handling
 pub mod Configs
 pub mod Places
 pub mod Opening
 pub mod Viewing
+pub mod Listing
 pub mod Compacting
+pub mod Groups

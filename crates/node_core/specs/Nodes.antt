@@ -27,6 +27,7 @@ use Rattle.branch_table.specs.Tables.{are_rows}
 use Rattle.node_core.specs.Sends.{sent}
 use Rattle.node_core.specs.Roles.{RoleStands}
 use Rattle.node_core.specs.Storing.{fact_frame, IsTorn}
+use Rattle.node_core.specs.Sparing.{is_free}
 
 -- ---- what a record keeps
 
@@ -134,6 +135,12 @@ pub record Steps (config : Config) (who : NodeId) (own : List Row) (m : NodeStat
   pub befalls : Befalls (fact_to_store config who m input) old new fault
   pub shows : Shows config who own m.facts new role out (node_step config who m input fault)
 
+-- an input was handled as the machine handles it without a fault, and the record is as it was
+pub record StepsFreely (config : Config) (who : NodeId) (own : List Row) (m : NodeState) (input : Input) (old new : Held)
+    (role : Option Role) (out : Output) : Type 0 where
+  pub same : new ≡ old
+  pub shows : Shows config who own m.facts new role out (node_step config who m input NoFault)
+
 -- what is left of a role once a decision was carried out: where it wasn't, the node is down
 abbrev pub role_left : Role → Result Output Output → Option Role
 role_left role (Ok out) = Some role
@@ -197,7 +204,9 @@ pub record IsSameNode (old new : NodeParts) : Type 0 where
   pub rows_are : new.rows ≡ old.rows
   pub may_fail_is : new.held.may_fail ≡ old.held.may_fail
 
--- an input was handled as the machine handles it
+-- an input was handled as the machine handles it; one that wants no memory to be decided, and stores nothing, without a fault
 pub record StepsAs (config : Config) (m : NodeState) (input : Input) (old new : NodeParts) (out : Output) : Type 0 where
   pub same : IsSameNode old new
   pub steps : Steps config old.who old.rows m input old.held new.held new.role out
+  pub free : is_free old.who input ≡ true → fact_to_store config old.who m input ≡ None
+      → StepsFreely config old.who old.rows m input old.held new.held new.role out

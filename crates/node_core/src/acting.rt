@@ -1,19 +1,21 @@
 //! What a node does on an input: by its role, if it is up.
 
-ghost use Rattle.std.specs.Prelude.{◌≡◌, ℕ, List, Option, Some, None};
+ghost use Rattle.std.specs.Prelude.{◌≡◌, ℕ, true, List, Option, Some, None};
 ghost use Rattle.wire.specs.Grammar.{Spells};
 ghost use Rattle.stable_record.specs.declared.fact.FactKind.{FactKind};
 ghost use Rattle.xid.specs.Transactions.{participants};
 ghost use Rattle.resource_manager.specs.Messages.{are_below};
-ghost use Rattle.protocol.specs.declared.rows.Row.{Row};
 ghost use Rattle.protocol.specs.Effects.{Config};
-ghost use Rattle.protocol.specs.Nodes.{Memory, NodeState, Asked, effect_of, is_message_inside, down_answer as down_answer_of};
+ghost use Rattle.protocol.specs.Nodes.{Memory, Asked, effect_of, is_message_inside, down_answer as down_answer_of};
 ghost use Rattle.node_core.specs.Roles.{RoleStands};
 ghost use Rattle.node_core.specs.Storing.{Carries, carried};
-ghost use Rattle.node_core.specs.Nodes.{AreSizes, Stands, Steps, datagram_input, role_settled};
+ghost use Rattle.node_core.specs.declared.config.Sizes.{Sizes as SizesParts};
+ghost use Rattle.node_core.specs.Nodes.{AreSizes, datagram_input, input_of, role_settled};
+ghost use Rattle.node_core.specs.Sparing.{asks_freely, hears_freely, is_free};
+ghost use Rattle.node_core.specs.Handling.{Handles};
 
 use crate::config::Sizes;
-use crate::output::Output;
+use crate::output::{Input, Output};
 use crate::requests::accepts_request;
 use crate::role::Role;
 use crate::storing::{Workspace, carry_out};
@@ -67,10 +69,13 @@ fn hear_message<R: Record>(
     message: &Message,
     out: &mut Output,
 ) -> bool
-    ensures { (config : Config) (facts : List FactKind) (memory : Memory) (bytes : List ℕ) → AreSizes config sizes
+    ensures carries { (config : Config) (facts : List FactKind) (memory : Memory) (bytes : List ℕ) → AreSizes config sizes
         → Spells message.now bytes → RoleStands config who role.old facts memory
         → Carries config who facts memory (effect_of config who facts memory (datagram_input bytes))
         (R.held device.old) (R.held device.new) role.new (carried result out.new) }
+    ensures free { hears_freely role.old ≡ true → (config : Config) (facts : List FactKind) (memory : Memory) (bytes : List ℕ)
+        → AreSizes config sizes → Spells message.now bytes → RoleStands config who role.old facts memory
+        → (effect_of config who facts memory (datagram_input bytes)).fact ≡ None → result ≡ true }
 {
     if !is_of_cluster(sizes, message) {
         out.answer(Answer::Done);
@@ -95,10 +100,13 @@ fn hear<R: Record>(
     bytes: &[u8],
     out: &mut Output,
 ) -> bool
-    ensures { (config : Config) (facts : List FactKind) (memory : Memory) → AreSizes config sizes
+    ensures carries { (config : Config) (facts : List FactKind) (memory : Memory) → AreSizes config sizes
         → RoleStands config who role.old facts memory
         → Carries config who facts memory (effect_of config who facts memory (datagram_input bytes.now))
         (R.held device.old) (R.held device.new) role.new (carried result out.new) }
+    ensures free { is_free who (datagram_input bytes.now) ≡ true → (config : Config) (facts : List FactKind) (memory : Memory)
+        → AreSizes config sizes → RoleStands config who role.old facts memory
+        → (effect_of config who facts memory (datagram_input bytes.now)).fact ≡ None → result ≡ true }
 {
     match &decode(bytes) {
         Ok(message) => hear_message(work, device, who, sizes, role, message, out),
@@ -118,9 +126,12 @@ fn serve<R: Record>(
     request: &Request,
     out: &mut Output,
 ) -> bool
-    ensures { (config : Config) (facts : List FactKind) (memory : Memory) → RoleStands config who role.old facts memory
+    ensures carries { (config : Config) (facts : List FactKind) (memory : Memory) → RoleStands config who role.old facts memory
         → Carries config who facts memory (effect_of config who facts memory (Asked request.now))
         (R.held device.old) (R.held device.new) role.new (carried result out.new) }
+    ensures free { asks_freely who request.now ≡ true → (config : Config) (facts : List FactKind) (memory : Memory)
+        → RoleStands config who role.old facts memory
+        → (effect_of config who facts memory (Asked request.now)).fact ≡ None → result ≡ true }
 {
     match role.on_request(request, out, &mut work.fact) {
         Ok(()) => carry_out(work, device, who, role, out),
@@ -132,7 +143,7 @@ fn serve<R: Record>(
 }
 
 /// Where a decision wasn't carried out, the node is down.
-fn settle(role: &mut Option<Role>, up: bool)
+pub(crate) fn settle(role: &mut Option<Role>, up: bool)
     ensures { role.new ≡ role_settled role.old up }
 {
     if !up {
@@ -155,7 +166,7 @@ fn down_answer(request: &Request) -> Answer
 }
 
 /// What a node does on the bytes of a datagram.
-pub(crate) fn receive<R: Record>(
+fn receive<R: Record>(
     work: &mut Workspace,
     device: &mut R,
     who: NodeId,
@@ -164,9 +175,7 @@ pub(crate) fn receive<R: Record>(
     bytes: &[u8],
     out: &mut Output,
 )
-    ensures { (config : Config) (own : List Row) (m : NodeState) → AreSizes config sizes
-        → Stands config who own (R.held device.old) role.old m
-        → Steps config who own m (datagram_input bytes.now) (R.held device.old) (R.held device.new) role.new out.new }
+    ensures { Handles who sizes (datagram_input bytes.now) (R.held device.old) (R.held device.new) role.old role.new out.new }
 {
     let stays = match role {
         Some(up) => hear(work, device, who, sizes, up, bytes, out),
@@ -178,8 +187,8 @@ pub(crate) fn receive<R: Record>(
     settle(role, stays);
 }
 
-/// What a node does on a request.
-pub(crate) fn ask<R: Record>(
+/// What a node does on a request, in a cluster of whatever sizes.
+fn ask<R: Record>(
     work: &mut Workspace,
     device: &mut R,
     who: NodeId,
@@ -187,8 +196,7 @@ pub(crate) fn ask<R: Record>(
     request: &Request,
     out: &mut Output,
 )
-    ensures { (config : Config) (own : List Row) (m : NodeState) → Stands config who own (R.held device.old) role.old m
-        → Steps config who own m (Asked request.now) (R.held device.old) (R.held device.new) role.new out.new }
+    ensures { (sizes : SizesParts) → Handles who sizes (Asked request.now) (R.held device.old) (R.held device.new) role.old role.new out.new }
 {
     if !accepts_request(who, request) {
         out.refuse(Refusal::NoSuch);
@@ -202,4 +210,22 @@ pub(crate) fn ask<R: Record>(
         }
     };
     settle(role, stays);
+}
+
+/// What a node does on an input. What is put out takes the place of what came of another.
+pub(crate) fn handle<R: Record>(
+    work: &mut Workspace,
+    device: &mut R,
+    who: NodeId,
+    sizes: Sizes,
+    role: &mut Option<Role>,
+    input: &Input,
+    out: &mut Output,
+)
+    ensures { Handles who sizes (input_of input.now) (R.held device.old) (R.held device.new) role.old role.new out.new }
+{
+    match input {
+        Input::Asked(request) => ask(work, device, who, role, request, out),
+        Input::Received(bytes) => receive(work, device, who, sizes, role, bytes, out),
+    }
 }

@@ -6,6 +6,7 @@ mod acting;
 mod compacting;
 mod config;
 mod frames;
+mod grouping;
 mod migrating;
 mod node;
 mod opening;

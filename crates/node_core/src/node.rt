@@ -1,21 +1,25 @@
-ghost use Rattle.std.specs.Prelude.{◌≡◌, is_none, IfOk, IfErr, Some};
+ghost use Rattle.std.specs.Prelude.{◌≡◌, length, map, is_none, IfOk, IfErr, Some};
+ghost use Rattle.stable_record.specs.Held.{armed_with};
 ghost use Rattle.protocol.specs.Effects.{Config as ConfigParts};
 ghost use Rattle.protocol.specs.Nodes.{NodeState};
 ghost use Rattle.node_core.specs.Nodes.{IsSameNode, IsSound, NodeStands, StepsAs, input_of};
 ghost use Rattle.node_core.specs.Opening.{IsOpened, IsUnopened, RestartsAs};
 ghost use Rattle.node_core.specs.Viewing.{ViewsAs, TablesAs};
+ghost use Rattle.node_core.specs.Listing.{ListsOpen};
 ghost use Rattle.node_core.specs.Compacting.{CompactsAs};
+ghost use Rattle.node_core.specs.Groups.{GroupsAs};
 
-use crate::acting::{ask, receive};
+use crate::acting::handle;
 use crate::compacting::compact;
 use crate::config::{Config, Sizes};
+use crate::grouping::handle_group;
 use crate::opening::{copy_rows, load, reload};
 use crate::output::{Input, Output};
 use crate::role::Role;
 use crate::storing::Workspace;
-use crate::viewing::{table, view};
+use crate::viewing::{list_open, table, view};
 use protocol::{NodeId, Row, View};
-use stable_record::{Record, Tear};
+use stable_record::{Record, RecordError, Tear};
 use std::alloc::Global;
 use std::marker::Model;
 use xid::{Refusal, Sequence, Tx};
@@ -162,6 +166,15 @@ impl<R: Record> Node<R> {
         )
     }
 
+    /// The transactions that the resource manager's record has prepared and not ended, in the order of their first facts. Refused: it is no
+    /// resource manager (`NoSuch`), it is down (`Down`), or `NoMemory`. The node stays as it is.
+    pub fn open_transactions(&self) -> Result<Sequence<Tx>, Refusal>
+        ensures { (config : ConfigParts) (m : NodeState) → NodeStands config self.now m
+            → ListsOpen self.now.who m.facts self.now.role result }
+    {
+        list_open(self.alloc, self.who, &self.role)
+    }
+
     /// The record, and the node is no more.
     pub fn into_record(self) -> R
         ensures { R.held result ≡ self.held }
@@ -204,7 +217,8 @@ impl<R: Record> Node<R> {
     /// answers `Down`, at a resource manager the code `RmFail` to client calls; bytes that spell no message are refused (`BadMessage`),
     /// and a message that no rule takes is answered ok; else it is what its role's rules say. A fact is appended before anything is
     /// sent, at most one. Where the record fails (`RecordFault`), or memory runs out (`NoMemory`), the node is down and nothing is
-    /// sent.
+    /// sent. Memory runs out only where a fact is to be stored, or where the input wants some: at a leader a commit and messages, at a
+    /// resource manager a recover, messages, and calls that don't end a branch.
     pub fn step(&mut self, input: Input) -> Output
         ensures { (config : ConfigParts) (m : NodeState) → NodeStands config self.old m
             → StepsAs config m (input_of input.entry) self.old self.new result }
@@ -219,32 +233,45 @@ impl<R: Record> Node<R> {
         ensures { (config : ConfigParts) (m : NodeState) → NodeStands config self.old m
             → StepsAs config m (input_of input.entry) self.old self.new out.new }
     {
-        match input {
-            Input::Asked(request) => ask(
-                &mut self.work,
-                &mut self.device,
-                self.who,
-                &mut self.role,
-                request,
-                out,
-            ),
-            Input::Received(bytes) => receive(
-                &mut self.work,
-                &mut self.device,
-                self.who,
-                self.sizes,
-                &mut self.role,
-                bytes,
-                out,
-            ),
-        }
+        handle(
+            &mut self.work,
+            &mut self.device,
+            self.who,
+            self.sizes,
+            &mut self.role,
+            &input,
+            out,
+        );
+    }
+
+    /// What it does on inputs, one after another as `step` says, with one append for all that they store: each is decided after those
+    /// before it, in memory, and what came of each is put out in its place. Where memory runs out at one, it is refused (`NoMemory`), those
+    /// behind it find the node down, and what those before it store is stored. Refused: the append, of which the frames of the first
+    /// inputs are kept (`Fault`) or nothing (`Memory`). The inputs before one of them were handled, this one as where its own append is
+    /// refused, and those behind it weren't; the node is down, and each is answered that refusal, with nothing sent. Where a tear is
+    /// armed, each input has an append of its own, to the one that is stopped.
+    pub fn step_all(&mut self, inputs: &[Input], outs: &mut [Output]) -> Result<(), RecordError>
+        requires { length outs.old ≡ length inputs.now }
+        ensures { (config : ConfigParts) (m : NodeState) → NodeStands config self.old m
+            → GroupsAs config m (map input_of inputs.now) self.old self.new outs.new result }
+    {
+        handle_group(
+            &mut self.work,
+            &mut self.device,
+            self.who,
+            self.sizes,
+            &mut self.role,
+            inputs,
+            outs,
+        )
     }
 }
 
 impl<R: Tear> Node<R> {
     /// The next append of its record that doesn't answer for want of memory keeps the first so many of its bytes, all if it has fewer,
-    /// and fails. An earlier tear is armed no longer; a restart leaves it.
+    /// and fails. An earlier tear is armed no longer; a restart leaves it. Nothing else changes.
     pub fn arm(&mut self, n: usize)
+        ensures held { self.new ≡ record self.old { held = armed_with (Some n) self.old.held } }
         ensures same { IsSameNode self.old self.new }
         ensures armed { (config : ConfigParts) (m : NodeState) → NodeStands config self.old m
             → NodeStands config self.new (record m { tear = Some n }) }

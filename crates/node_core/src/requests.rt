@@ -1,6 +1,6 @@
 //! What a leader and a resource manager are asked.
 
-ghost use Rattle.std.specs.Prelude.{◌≡◌, ℕ, IfOk, IfErr, OnOk};
+ghost use Rattle.std.specs.Prelude.{◌≡◌, ℕ, true, IfOk, IfErr, IsOk, OnOk};
 ghost use Rattle.xid.specs.declared.refusals.Refusal.TheVariants.{NoMemory, NoSuch};
 ghost use Rattle.protocol.specs.declared.answers.Answer.TheVariants.{Refused};
 ghost use Rattle.protocol.specs.declared.requests.Request.TheVariants as requests;
@@ -9,6 +9,7 @@ ghost use Rattle.protocol.specs.Nodes.{on_request, accepts_request as is_accepte
 ghost use Rattle.resource_manager.specs.Managers.{IsCall};
 ghost use Rattle.node_core.specs.declared.role.Role.TheVariants as roles;
 ghost use Rattle.node_core.specs.Roles.{Decides, decided, answering};
+ghost use Rattle.node_core.specs.Sparing.{is_ending, leads_freely, manages_freely};
 
 use crate::output::Output;
 use branch_table::Ending;
@@ -48,6 +49,7 @@ pub(crate) fn at_leader(
     ensures ok { OnOk result (Decides (roles.Leader leader.old) (roles.Leader leader.new) (decided fact.new out.new)
         (λ config who facts memory. on_request config who facts memory request.now)) }
     ensures err { IfErr result (λ e. e ≡ NoMemory) }
+    ensures free { leads_freely request.now ≡ true → IsOk result }
 {
     match request {
         Request::Commit { tx } => commit(leader, tx.get(), out, fact),
@@ -128,6 +130,7 @@ pub(crate) fn at_manager(
     ensures ok { OnOk result (Decides (roles.Manager manager.old) (roles.Manager manager.new) (decided fact.new out.new)
         (λ config who facts memory. on_request config who facts memory request.now)) }
     ensures err { IfErr result (λ e. e ≡ NoMemory) }
+    ensures free { manages_freely request.now ≡ true → IsOk result }
 {
     match request {
         Request::Call { xid, action } => match call(manager, xid, action) {
@@ -189,6 +192,7 @@ fn call(manager: &mut ResourceManager, xid: &Xid, action: &Action) -> Result<Ans
     ensures ok { IfOk result (λ answer. (config : Config) (number : ℕ)
         → IsCall config number manager.old manager.new xid.now action.now answer) }
     ensures err { IfErr result (λ e. e ≡ NoMemory) }
+    ensures free { is_ending action.now ≡ true → IsOk result }
 {
     match action {
         Action::Start => manager.start(xid),

@@ -1,9 +1,10 @@
-ghost use Rattle.std.specs.Prelude.{◌≡◌, ℕ, [], IfErr, OnOk};
+ghost use Rattle.std.specs.Prelude.{◌≡◌, ℕ, [], true, IfErr, IsOk, OnOk};
 ghost use Rattle.xid.specs.declared.refusals.Refusal.TheVariants.{NoMemory};
 ghost use Rattle.protocol.specs.Effects.{Config};
 ghost use Rattle.protocol.specs.Nodes.{on_message as on_message_of, on_request as on_request_of, empty_memory};
 ghost use Rattle.node_core.specs.declared.role.Role.TheVariants as roles;
 ghost use Rattle.node_core.specs.Roles.{Decides, IsReadyFor, IsSame, Replays, Takes, decided};
+ghost use Rattle.node_core.specs.Sparing.{hears_freely, serves_freely};
 
 use crate::output::Output;
 use crate::requests::{at_leader, at_manager, not_taken};
@@ -45,8 +46,8 @@ fn let_manager_go(_: ResourceManager) {}
 
 impl Role {
     /// What it does on a message of the cluster: the answer and what to send are put out, and in the place of `fact` stands the one that
-    /// is to be stored before, if there is one. Its caller makes ready for it, stores it and then has it taken. Refused: `NoMemory` alone, and then the
-    /// role is of no use any more.
+    /// is to be stored before, if there is one. Its caller makes ready for it, stores it and then has it taken. Refused: `NoMemory` alone, never by an
+    /// acceptor, and then the role is of no use any more.
     pub fn on_message(
         &mut self,
         message: &Message,
@@ -56,6 +57,7 @@ impl Role {
         ensures ok { OnOk result (Decides self.old self.new (decided fact.new out.new)
             (λ config who facts memory. on_message_of config who facts memory message.now)) }
         ensures err { IfErr result (λ e. e ≡ NoMemory) }
+        ensures free { hears_freely self.old ≡ true → IsOk result }
     {
         match self {
             Role::Acceptor(acceptor) => {
@@ -67,7 +69,8 @@ impl Role {
         }
     }
 
-    /// What it does on a request. One that its kind doesn't take is answered `NoSuch`. For the rest it is as `on_message`.
+    /// What it does on a request. One that its kind doesn't take is answered `NoSuch`. For the rest it is as `on_message`: `NoMemory`
+    /// is answered to a commit at a leader, and at a resource manager to a recover and to calls that end no branch.
     pub fn on_request(
         &mut self,
         request: &Request,
@@ -77,6 +80,7 @@ impl Role {
         ensures ok { OnOk result (Decides self.old self.new (decided fact.new out.new)
             (λ config who facts memory. on_request_of config who facts memory request.now)) }
         ensures err { IfErr result (λ e. e ≡ NoMemory) }
+        ensures free { serves_freely self.old request.now ≡ true → IsOk result }
     {
         match self {
             Role::Acceptor(_) => {

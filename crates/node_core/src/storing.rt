@@ -1,6 +1,6 @@
 //! How a node stores what was decided: ready for the fact first, then appended, then played. Nothing is sent that wasn't stored before.
 
-ghost use Rattle.std.specs.Prelude.{◌≡◌, IfOk, OnOk, List};
+ghost use Rattle.std.specs.Prelude.{◌≡◌, IfOk, OnOk, List, None, true};
 ghost use Rattle.stable_record.specs.declared.fact.FactKind.{FactKind};
 ghost use Rattle.stable_record.specs.Facts.{IsFact};
 ghost use Rattle.protocol.specs.Effects.{Config, Effect};
@@ -11,7 +11,7 @@ ghost use Rattle.node_core.specs.Storing.{HasStored, Carries, carried};
 use crate::output::Output;
 use crate::role::Role;
 use protocol::NodeId;
-use stable_record::{Fact, Record, RecordError};
+use stable_record::{Fact, MemRecord, Record, RecordError};
 use std::alloc::Global;
 use xid::Refusal;
 
@@ -27,7 +27,8 @@ pub(crate) enum Stopped {
     Memory,
 }
 
-/// Where a node has the fact that it is to store, and its frame: places that are kept from input to input, so that neither is made anew.
+/// Where a node has the fact that it is to store, its frame, and the frames of a group: places that are kept from input to input, so that
+/// none is made anew.
 #[derive(Drop)]
 pub(crate) struct Workspace {
     /// Where memory comes from.
@@ -36,6 +37,8 @@ pub(crate) struct Workspace {
     pub(crate) fact: Option<Fact>,
     /// The frame of the last one that was stored.
     pub(crate) frame: Vec<u8>,
+    /// The frames of the last group.
+    pub(crate) group: MemRecord,
 }
 
 impl Workspace {
@@ -45,6 +48,7 @@ impl Workspace {
             alloc,
             fact: None,
             frame: Vec::new(alloc),
+            group: MemRecord::new(alloc, Vec::new(alloc)),
         }
     }
 }
@@ -83,9 +87,10 @@ pub(crate) fn carry_out<R: Record>(
     role: &mut Role,
     out: &mut Output,
 ) -> bool
-    ensures { (config : Config) (facts : List FactKind) (memory : Memory) (e : Effect Memory)
+    ensures carries { (config : Config) (facts : List FactKind) (memory : Memory) (e : Effect Memory)
         → IsDecided config who facts memory role.old (decided work.old.fact out.old) e
         → Carries config who facts memory e (R.held device.old) (R.held device.new) role.new (carried result out.new) }
+    ensures idle { work.old.fact ≡ None → result ≡ true }
 {
     let Some(fact) = &work.fact else {
         out.keep_view();

@@ -9,6 +9,9 @@ ghost use Rattle.node_core.specs.Roles.{RoleStands};
 ghost use Rattle.branch_table.specs.Tables.{are_rows};
 ghost use Rattle.node_core.specs.Nodes.{AreSizes, IsAmong, IsSized, Stands};
 ghost use Rattle.node_core.specs.Viewing.{Peeks, SaysView, SaysTable, Views, Tables};
+ghost use Rattle.node_core.specs.Listing.{ListsOpen, SaysOpen};
+ghost use Rattle.stable_record.specs.Held.{Held};
+ghost use Rattle.protocol.specs.declared.rows.Row.{Row as RowParts};
 
 use crate::config::Sizes;
 use crate::opening::read_role;
@@ -124,5 +127,38 @@ pub(crate) fn table<R: Record>(
     match peek(alloc, device, who, sizes, own) {
         Ok(read) => table_of(&read),
         Err(refusal) => Err(refusal),
+    }
+}
+
+/// The transactions that a role has prepared and not ended. Refused: it is no resource manager's (`NoSuch`); `NoMemory`.
+fn open_of(alloc: Global, role: &Role) -> Result<Sequence<Tx>, Refusal>
+    ensures { (config : Config) (who : Id) (facts : List FactKind) (memory : Memory) → RoleStands config who role.now facts memory
+        → SaysOpen who facts result }
+{
+    match role {
+        Role::Manager(manager) => match manager.open_transactions(alloc) {
+            Ok(txs) => Ok(Sequence::new(txs)),
+            Err(refusal) => Err(refusal),
+        },
+        Role::Acceptor(_) => Err(Refusal::NoSuch),
+        Role::Leader(_) => Err(Refusal::NoSuch),
+    }
+}
+
+/// The transactions that a node's record has prepared and not ended, where it is up.
+pub(crate) fn list_open(
+    alloc: Global,
+    who: NodeId,
+    role: &Option<Role>,
+) -> Result<Sequence<Tx>, Refusal>
+    ensures { (config : Config) (own : List RowParts) (held : Held) (m : NodeState) → Stands config who own held role.now m
+        → ListsOpen who m.facts role.now result }
+{
+    let NodeId::R(_) = who else {
+        return Err(Refusal::NoSuch);
+    };
+    match role {
+        Some(up) => open_of(alloc, up),
+        None => Err(Refusal::Down),
     }
 }

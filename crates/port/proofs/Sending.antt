@@ -1,5 +1,5 @@
 -- Datagrams that go out by a port, one send after another.
-use Rattle.std.proofs.Common.{◌≡◌, ◌∙◌, ℕ, false, ◌+◌, ◌<◌, List, [], ◌∷◌, ◌++◌, length, map, take, get_or, refl, sym, ap, subst, Result}
+use Rattle.std.proofs.Common.{◌≡◌, ◌∙◌, ℕ, false, ◌+◌, ◌<◌, List, [], ◌∷◌, ◌++◌, length, map, take, get_or, refl, sym, ap, subst, Result, None}
 use Rattle.std.specs.List.{flat_map, range_with_len}
 use Rattle.std.proofs.lemmas.Grind.{flat_map-append}
 use Rattle.std.proofs.lemmas.List.{append-nil, map_push, take_more}
@@ -18,7 +18,12 @@ use Rattle.protocol.specs.Worlds.{Datagram, datagrams_of}
 use Rattle.node_core.specs.declared.config.Sizes.{Sizes}
 use Rattle.node_core.specs.Configs.{config_by}
 use Rattle.node_core.specs.Nodes.{AreSizes}
-use Rattle.port.specs.Calls.{Sending, SendsAll}
+use Rattle.protocol.specs.declared.answers.Answer.TheVariants.{Refused}
+use Rattle.protocol.specs.Nodes.{Input}
+use Rattle.node_core.specs.declared.output.Output.{Output}
+use Rattle.node_core.specs.Sends.{sent}
+use Rattle.node_core.specs.Storing.{output_of}
+use Rattle.port.specs.Calls.{Sending, SendsAll, datagrams_from}
 
 -- an unmarked datagram
 abbrev pub datagram_for : NodeId → Kind → NodeId → Datagram
@@ -73,3 +78,24 @@ datagrams_as config sizes are who (send ∷ sends) =
     ap (λ (rs : List NodeId). map (datagram_for who send.message) rs ++ flat_map (datagrams_of (config_by sizes []) who) sends)
     (receivers_as config sizes are send.to (message_tx send.message))
     ∙ ap (λ (ds : List Datagram). datagrams_of config who send ++ ds) (datagrams_as config sizes are who sends)
+
+-- the same of what came of inputs
+pub all_datagrams_as : (config : Config) (sizes : Sizes) → AreSizes config sizes → (who : NodeId) (outs : List Output)
+    → flat_map (datagrams_from (config_by sizes []) who) outs ≡ flat_map (datagrams_from config who) outs
+all_datagrams_as config sizes are who [] = refl
+all_datagrams_as config sizes are who (out ∷ outs) =
+    λ i. datagrams_as config sizes are who (sent out.sends) i ++ all_datagrams_as config sizes are who outs i
+
+-- nothing came of inputs that were refused
+pub nothing_from : (config : Config) (who : NodeId) (refusal : Refusal) (inputs : List Input)
+    → flat_map (datagrams_from config who) (map (λ (input : Input). output_of (Refused refusal) None) inputs) ≡ []
+nothing_from config who refusal [] = refl
+nothing_from config who refusal (input ∷ inputs) = nothing_from config who refusal inputs
+
+-- so nothing is sent
+pub nothing_sent : {P : Type 0} (Sent : Sending P) (config : Config) (who : NodeId) (refusal : Refusal) (inputs : List Input)
+    (outs : List Output) (port : P) → outs ≡ map (λ (input : Input). output_of (Refused refusal) None) inputs
+    → SendsAll Sent port port (flat_map (datagrams_from config who) outs)
+nothing_sent Sent config who refusal inputs outs port is =
+    subst (λ (ds : List Datagram). SendsAll Sent port port ds)
+    (sym (ap (flat_map (datagrams_from config who)) is ∙ nothing_from config who refusal inputs)) refl

@@ -3,6 +3,7 @@ use Rattle.std.specs.Prelude.{◌≡◌, ℕ, List, [], ◌∷◌, Option, Some,
 use Rattle.std.specs.List.{flat_map}
 use Rattle.xid.specs.declared.refusals.Refusal.{Refusal}
 use Rattle.wire.specs.Grammar.{spelling}
+use Rattle.stable_record.specs.declared.record.RecordError.{RecordError}
 use Rattle.protocol.specs.declared.nodes.NodeId.{NodeId}
 use Rattle.protocol.specs.Effects.{Config}
 use Rattle.protocol.specs.Nodes.{NodeState, Input}
@@ -10,6 +11,7 @@ use Rattle.protocol.specs.Worlds.{Datagram, datagrams_of}
 use Rattle.node_core.specs.declared.output.Output.{Output}
 use Rattle.node_core.specs.Sends.{sent}
 use Rattle.node_core.specs.Nodes.{NodeParts, NodeStands, StepsAs, datagram_input}
+use Rattle.node_core.specs.Groups.{GroupsAs}
 use Rattle.port.specs.declared.calling.Served.{Served}
 
 -- a way in which sends change a port
@@ -35,6 +37,23 @@ pub record CallsAs {P : Type 0} (Sent : Sending P) (config : Config) (m : NodeSt
 abbrev pub Calls : {P : Type 0} → Sending P → Input → (old new : NodeParts) → (before after : P) → Served → Type 0
 Calls Sent input old new before after served =
     (config : Config) (m : NodeState) → NodeStands config old m → CallsAs Sent config m input old new before after served
+
+-- the datagrams that came of an input
+abbrev pub datagrams_from : Config → NodeId → Output → List Datagram
+datagrams_from config who out = flat_map (datagrams_of config who) (sent out.sends)
+
+-- a node was handed a group of inputs at its port: they came to what a group does, and the port went by one send for each datagram of
+-- each, in order
+pub record CallsAllAs {P : Type 0} (Sent : Sending P) (config : Config) (m : NodeState) (inputs : List Input) (old new : NodeParts)
+    (before after : P) (outs : List Output) (result : Result (Unit {0}) RecordError) : Type 0 where
+  pub groups : GroupsAs config m inputs old new outs result
+  pub sends : SendsAll Sent before after (flat_map (datagrams_from config old.who) outs)
+
+-- whatever node of the machine it stood for
+abbrev pub CallsAll : {P : Type 0} → Sending P → List Input → (old new : NodeParts) → (before after : P) → List Output
+    → Result (Unit {0}) RecordError → Type 0
+CallsAll Sent inputs old new before after outs result =
+    (config : Config) (m : NodeState) → NodeStands config old m → CallsAllAs Sent config m inputs old new before after outs result
 
 -- a way in which receives change a port
 abbrev pub Receiving : Type 0 → Type 1

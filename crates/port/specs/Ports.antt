@@ -27,6 +27,20 @@ faults_after faults (Err refusal) = min (faults + 1) most_faults
 abbrev pub fake_count : FakePort → ℕ
 fake_count port = port.faults
 
+-- the first letter that was waiting was drawn; without one there was none; a failure leaves them
+abbrev pub FakeDraws : (old new : List (List ℕ)) → Result (Option (List ℕ)) Refusal → Type 0
+FakeDraws old new (Ok None) = (old ≡ []) × (new ≡ [])
+FakeDraws old new (Ok (Some first)) = old ≡ first ∷ new
+FakeDraws old new (Err refusal) = new ≡ old
+
+-- a draw takes of what was waiting, and leaves what has gone. It is counted as a call, and fails where it is the one that shall
+pub record FakeDrawn (old new : FakePort) (drawn : Result (Option (List ℕ)) Refusal) : Type 0 where
+  pub draws : FakeDraws old.waiting.items new.waiting.items drawn
+  pub gone : new.gone.items ≡ old.gone.items
+  pub left : new.left ≡ old.left - 1
+  pub due : is_err drawn ≡ (old.left == 1)
+  pub faults : new.faults ≡ faults_after old.faults drawn
+
 -- the first letter that was waiting was taken, as far as a buffer reaches; without one there was none; a failure leaves them
 abbrev pub FakeTakes : (old new : List (List ℕ)) → Result (Option (List ℕ)) Refusal → Type 0
 FakeTakes old new (Ok None) = (old ≡ []) × (new ≡ [])

@@ -1,4 +1,4 @@
-ghost use Rattle.std.specs.Prelude.{◌≡◌, [], IfErr};
+ghost use Rattle.std.specs.Prelude.{◌≡◌, [], length, map, IfErr};
 ghost use Rattle.std.specs.List.{flat_map};
 ghost use Rattle.xid.specs.declared.refusals.Refusal.TheVariants.{PortFault};
 ghost use Rattle.stable_record.specs.Held.{IsCounted};
@@ -7,12 +7,12 @@ ghost use Rattle.protocol.specs.Worlds.{datagrams_of};
 ghost use Rattle.node_core.specs.Configs.{config_by};
 ghost use Rattle.node_core.specs.Sends.{sent as sent_by};
 ghost use Rattle.node_core.specs.Nodes.{input_of};
-ghost use Rattle.port.specs.Calls.{SendsAll, Calls, Serves};
+ghost use Rattle.port.specs.Calls.{SendsAll, Calls, CallsAll, Serves, datagrams_from};
 
 use crate::port::{MAX_TAKEN, Port};
 use node_core::{Input, Node, NodeSends, Output, Sizes, receiver_at, receiver_count};
 use protocol::{Answer, Change, Outgoing};
-use stable_record::Record;
+use stable_record::{Record, RecordError};
 use wire::{MAX_DATAGRAM, encode};
 use xid::Refusal;
 
@@ -57,6 +57,37 @@ pub fn call<R: Record, P: Port>(node: &mut Node<R>, port: &mut P, input: Input) 
     let Output { reply, now, sends } = node.step(input);
     send_all(port, sizes, &sends);
     Served { reply, now }
+}
+
+/// Sends what came of each input, in order.
+fn send_each<P: Port>(port: &mut P, sizes: Sizes, outs: &[Output])
+    ensures { (sender : Sender) → SendsAll P.sent port.old port.new (flat_map (datagrams_from (config_by sizes []) sender) outs.now) }
+{
+    for out in outs {
+        send_all(port, sizes, &out.sends);
+    }
+}
+
+/// Hands a group of inputs to a node, which stores with one append what it decides on them, and then sends what came of each, in order
+/// and once to each receiver. What came of an input stands in its place of `outs`. A send that fails is a loss, which the port counts,
+/// and the next is tried. Refused: the append, as `Node::step_all` says; then nothing is sent, and nobody is to be answered.
+pub fn call_all<R: Record, P: Port>(
+    node: &mut Node<R>,
+    port: &mut P,
+    inputs: &[Input],
+    outs: &mut [Output],
+) -> Result<(), RecordError>
+    requires { length outs.old ≡ length inputs.now }
+    ensures calls { CallsAll P.sent (map input_of inputs.now) node.old node.new port.old port.new outs.new result }
+    ensures quiet { IfErr result (λ error. port.new ≡ port.old) }
+{
+    let sizes = node.sizes();
+    match node.step_all(inputs, outs) {
+        Ok(()) => {}
+        Err(error) => return Err(error),
+    }
+    send_each(port, sizes, outs);
+    Ok(())
 }
 
 /// Takes a datagram at a node's port, if one is there, and hands its bytes to the node as `call` does. Refused: the port failed

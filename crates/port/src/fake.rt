@@ -1,7 +1,7 @@
 ghost use Rattle.std.specs.Prelude.{◌≡◌, ◌+◌, ◌-◌, ◌≤◌, ◌==◌, min, [], ◌++◌, ◌∷◌, take, IfErr, OnOk};
 ghost use Rattle.xid.specs.declared.refusals.Refusal.TheVariants.{PortFault, NoMemory};
 ghost use Rattle.stable_record.specs.Held.{IsCounted, most_faults};
-ghost use Rattle.port.specs.Ports.{gone_after};
+ghost use Rattle.port.specs.Ports.{gone_after, FakeDrawn};
 
 use crate::port::{MAX_TAKEN, Port};
 use protocol::NodeId;
@@ -65,6 +65,23 @@ impl FakePort {
         &self.gone
     }
 
+    /// The first of what is waiting, which then waits no more. None where nothing is. Refused: this call is the one that fails
+    /// (`PortFault`).
+    pub fn take_first(&mut self) -> Result<Option<Bytes>, Refusal>
+        ensures step { FakeDrawn self.old self.new result }
+        ensures well { OnOk result (self.new.faults ≡ self.old.faults) }
+        ensures fault { IfErr result (λ e. (e ≡ PortFault) × IsCounted self.old.faults self.new.faults) }
+    {
+        if self.is_due() {
+            return Err(self.count());
+        }
+        if self.waiting.is_empty() {
+            return Ok(None);
+        }
+        let first = self.waiting.remove(0);
+        Ok(Some(first))
+    }
+
     /// Whether this call is the one that fails. It counts the call.
     fn is_due(&mut self) -> bool
         ensures same { self.new ≡ record self.old { left = self.old.left - 1 } }
@@ -108,14 +125,11 @@ impl Port for FakePort {
     ghost sent = { FakeSent };
 
     fn recv(&mut self, buffer: &mut [u8; MAX_TAKEN]) -> Result<Option<usize>, Refusal> {
-        if self.is_due() {
-            return Err(self.count());
+        match self.take_first() {
+            Ok(Some(first)) => Ok(Some(copy(first.as_slice(), buffer))),
+            Ok(None) => Ok(None),
+            Err(refusal) => Err(refusal),
         }
-        if self.waiting.is_empty() {
-            return Ok(None);
-        }
-        let first = self.waiting.remove(0);
-        Ok(Some(copy(first.as_slice(), buffer)))
     }
 
     fn send(&mut self, receiver: NodeId, bytes: &[u8]) -> Result<(), Refusal> {

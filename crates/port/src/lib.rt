@@ -9,7 +9,7 @@ mod port;
 mod udp;
 
 pub use addresses::Addresses;
-pub use calling::{Served, call, serve_once};
+pub use calling::{Served, call, call_all, serve_once};
 pub use fake::{FakePort, Letter};
 pub use port::{MAX_TAKEN, Port};
 pub use udp::UdpPort;

@@ -6,14 +6,12 @@ use Rattle.std.specs.List.{cons_option}
 use Rattle.std.proofs.lemmas.Bool.{and_parts, leb-true, ltb-true}
 use Rattle.std.proofs.lemmas.List.Elements.{filter_map-append}
 use Rattle.xid.specs.Transactions.{TxParts}
-use Rattle.stable_record.specs.declared.entry.EntryKind.{EntryKind as Entry}
 use Rattle.xid.specs.Limits.{most_key, most_value}
 use Rattle.xid.specs.Names.{IsBytes}
 use Rattle.stable_record.specs.Facts.{IsKey, IsValue}
 use Rattle.protocol.specs.declared.rows.Row.{Row}
 use Rattle.branch_table.specs.Tables.{is_row}
 use Rattle.resource_manager.specs.Managers.{ManagerParts}
-use Rattle.resource_manager.specs.Compacted.{entry_at}
 
 -- a row within the limits can be an entry
 pub row_valid : (row : Row) → is_row row ≡ true → IsBytes row.key → IsBytes row.value → IsKey row.key × IsValue row.value
@@ -40,14 +38,14 @@ given_more {Y = Y} h (y ∷ xs) (suc i) x lt read = by (h y) (given_more h xs i 
     by None e = e
     by (Some z) e = ap (λ zs. z ∷ zs) e
 
--- what is written of a transaction that is there
-abbrev pub written_of : (TxParts → Option Entry) → Option TxParts → List Entry
+-- what is given of a transaction that is there
+abbrev pub written_of : {Y : Type 0} → (TxParts → Option Y) → Option TxParts → List Y
 written_of h None = []
 written_of h (Some tx) = cons_option (h tx) []
 
 -- what is written of the first of some transactions, with one more
-pub written_more : (h : TxParts → Option Entry) (ts : List TxParts) (numbers : List ℕ) (i n : ℕ) (o : Option TxParts)
-    → (base old new : List Entry)
+pub written_more : {Y : Type 0} (h : TxParts → Option Y) (ts : List TxParts) (numbers : List ℕ) (i n : ℕ) (o : Option TxParts)
+    → (base old new : List Y)
     → i < length numbers → n ≡ get_or numbers i n → slice_get ts n ≡ o
     → old ≡ base ++ filter_map h (filter_map (slice_get ts) (take i numbers)) → new ≡ old ++ written_of h o
     → new ≡ base ++ filter_map h (filter_map (slice_get ts) (take (i + 1) numbers))
@@ -70,12 +68,13 @@ read_at [] i d lt = absurd (omega (arith, lt))
 read_at (n ∷ numbers) zero d lt = refl
 read_at (n ∷ numbers) (suc i) d lt = read_at numbers i d (omega (arith, lt))
 
--- a resource manager has written of one transaction more
-pub written_step : (m inside : ManagerParts) → inside ≡ m → (numbers : List ℕ) (i d : ℕ) (o : Option TxParts)
-    → (base old new : List Entry) → i < length numbers → o ≡ slice_get inside.courses.transactions (get_or numbers i d)
-    → old ≡ base ++ filter_map (entry_at m) (filter_map (slice_get m.courses.transactions) (take i numbers))
-    → new ≡ old ++ written_of (entry_at m) o
-    → new ≡ base ++ filter_map (entry_at m) (filter_map (slice_get m.courses.transactions) (take (i + 1) numbers))
-written_step m inside same numbers i d o base old new lt found before pushed =
-    written_more (entry_at m) m.courses.transactions numbers i (get_or numbers i d) o base old new lt (read_at numbers i d lt)
+-- a resource manager has given of one transaction more
+pub written_step : {Y : Type 0} (h : ManagerParts → TxParts → Option Y) (m inside : ManagerParts) → inside ≡ m → (numbers : List ℕ)
+    → (i d : ℕ) (o : Option TxParts) (base old new : List Y) → i < length numbers
+    → o ≡ slice_get inside.courses.transactions (get_or numbers i d)
+    → old ≡ base ++ filter_map (h m) (filter_map (slice_get m.courses.transactions) (take i numbers))
+    → new ≡ old ++ written_of (h m) o
+    → new ≡ base ++ filter_map (h m) (filter_map (slice_get m.courses.transactions) (take (i + 1) numbers))
+written_step h m inside same numbers i d o base old new lt found before pushed =
+    written_more (h m) m.courses.transactions numbers i (get_or numbers i d) o base old new lt (read_at numbers i d lt)
     (ap (λ n. slice_get n.courses.transactions (get_or numbers i d)) (sym same) ∙ sym found) before pushed

@@ -16,3 +16,4 @@ pub mod Entries
 pub mod Ascending
 pub mod Same
 pub mod Shortened
+pub mod Opened

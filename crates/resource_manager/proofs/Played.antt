@@ -12,17 +12,16 @@ use Rattle.stable_record.specs.declared.fact.Touched.{Touched}
 use Rattle.protocol.specs.Effects.{Config}
 use Rattle.protocol.specs.Facts.{bound_branches, is_prepared_view, is_open_view, is_spent, view}
 use Rattle.protocol.specs.Managers.{Branch, stored_votes, plays_at_manager, is_new, is_name_spent, is_some_held}
-use Rattle.protocol.specs.Tables.{with_writes}
 use Rattle.protocol.proofs.Manager.Keys.{names_name}
 use Rattle.protocol.proofs.Manager.Played.{voted_named}
 use Rattle.protocol.proofs.Manager.Views.{prepared_shows}
-use Rattle.branch_table.specs.Tables.{TableState, ChangesOnly, branch_named}
-use Rattle.branch_table.specs.Outcomes.{Commits, RefusesRestore, SameMeaning, is_ready, keys_named}
+use Rattle.branch_table.specs.Tables.{TableState, branch_named}
+use Rattle.branch_table.specs.Outcomes.{Commits, RefusesRestore}
 use Rattle.resource_manager.specs.declared.course.Course.{Course}
 use Rattle.resource_manager.specs.Courses.{CoursesParts, stored_by, view_among, view_of, vote_among, is_ended_among, is_new_course}
 use Rattle.resource_manager.specs.Courses.{course_in, begun_with, Sets}
 use Rattle.resource_manager.specs.SpentNames.{is_spent_in}
-use Rattle.resource_manager.specs.Managers.{ManagerParts, StandsFor, CanCommit, unspent_branches}
+use Rattle.resource_manager.specs.Managers.{ManagerParts, StandsFor, unspent_branches}
 use Rattle.resource_manager.specs.Playing.{MeansSame, BecomesCommitted, PlaysEnd, PlaysVote, RefusesVote, Plays}
 use Rattle.resource_manager.proofs.Standing.{same_stands}
 use Rattle.resource_manager.proofs.Votes.{new_by, view_is, plays_by, can_play, cannot_play, there_play, vote_stands}
@@ -257,19 +256,6 @@ module _ (m new : ManagerParts) (tx : TxParts) (x : XidParts) (name : xid_at tx 
     refused = tt;
   }
 
-  pub lacks_commit : course_in m.courses tx ≡ Course.Prepared → (CanCommit m tx → ⊥) → MeansSame m new
-      → Plays m new (Fact.Committed tx) (Err Refusal.NoMemory)
-  lacks_commit prepared unready same = record {
-    played = λ config number branches playable. (
-      λ facts stands.
-          committed_plays config number m new facts branches stands tx x
-          (named config number facts branches stands) Course.Prepared prepared,
-      unready,
-      λ facts stands. same_after same config number facts (unspent_branches number facts branches) stands,
-    );
-    refused = same_after same;
-  }
-
 -- ---- as the code asks
 
 pub from_view : (m old new : ManagerParts) (fact : Fact) (result : Result (Unit {0}) Refusal) → m ≡ old → Plays m new fact result
@@ -300,31 +286,19 @@ open_working Course.Committed e f = absurd (cc (e))
 open_working Course.RolledBack e f = absurd (cc (e))
 open_working Course.AbortedUnvoted e f = absurd (cc (e))
 
--- a commit by its steps: places are made, the branch is committed, and the course is set
-pub committed_by : (m : ManagerParts) (ready now : TableState) (courses : CoursesParts) (tx : TxParts) (x : XidParts)
-    → SameMeaning m.table ready → Commits ready now x → Sets m.courses courses tx Course.Committed → courses.begun ≡ begun_with m.courses tx
+-- a commit by its steps: the branch is committed, and the course is set
+pub committed_by : (m : ManagerParts) (now : TableState) (courses : CoursesParts) (tx : TxParts) (x : XidParts)
+    → Commits m.table now x → Sets m.courses courses tx Course.Committed → courses.begun ≡ begun_with m.courses tx
     → BecomesCommitted m
     (record { number = m.number; managers = m.managers; courses = courses; spent = m.spent; table = now }) tx x
-committed_by m ready now courses tx x same commits sets begun = record {
+committed_by m now courses tx x commits sets begun = record {
   number = refl;
   managers = refl;
   courses = sets;
   begun = begun;
   spent = λ y. refl;
-  rows = commits.rows ∙ (λ i. with_writes (same.rows i) (keys_named (same.branches i) x));
-  branches = subst (λ bs. ChangesOnly bs now.branches x None) same.branches commits.branches;
-}
-
-pub rows_same : (m : ManagerParts) (ready : TableState) → SameMeaning m.table ready
-    → MeansSame m (record { number = m.number; managers = m.managers; courses = m.courses; spent = m.spent; table = ready })
-rows_same m ready same = record {
-  number = refl;
-  managers = refl;
-  courses = λ tx. refl;
-  begun = refl;
-  spent = λ x. refl;
-  rows = same.rows;
-  branches = λ x. ap (λ bs. branch_named bs x) same.branches;
+  rows = commits.rows;
+  branches = commits.branches;
 }
 
 -- the facts that are none of a resource manager's
@@ -375,7 +349,7 @@ restore_refused m old now tx x keys e view is =
       },
     )
 
--- a commit, or that memory is wanted for it
+-- a commit
 module _ (m old : ManagerParts) (tx : TxParts) (x : XidParts) (view : m ≡ old) (name : xid_at tx old.number ≡ Some x)
     (prepared : course_in old.courses tx ≡ Course.Prepared) where
   own_name : xid_at tx m.number ≡ Some x
@@ -384,20 +358,11 @@ module _ (m old : ManagerParts) (tx : TxParts) (x : XidParts) (view : m ≡ old)
   own_course : course_in m.courses tx ≡ Course.Prepared
   own_course = ap (λ (o : ManagerParts). course_in o.courses tx) view ∙ prepared
 
-  pub lacks_by : (now : TableState) (e : Refusal) → SameMeaning m.table now → (e ≡ Refusal.NoMemory) × (is_ready m.table x ≡ false)
-      → Plays old (record { number = m.number; managers = m.managers; courses = m.courses; spent = m.spent; table = now })
-      (Fact.Committed tx) (Err e)
-  lacks_by now e same is =
-      let new : ManagerParts = record { number = m.number; managers = m.managers; courses = m.courses; spent = m.spent; table = now } in
-      from_view m old new (Fact.Committed tx) (Err e) view
-      (subst (λ (r : Refusal). Plays m new (Fact.Committed tx) (Err r)) (sym is.0)
-      (lacks_commit m new tx x own_name own_course (λ can. both_ways (is_ready m.table x) is.1 (can x own_name)) (rows_same m now same)))
-
-  pub commits_by : (ready now : TableState) (courses : CoursesParts) → SameMeaning m.table ready → Commits ready now x
+  pub commits_by : (now : TableState) (courses : CoursesParts) → Commits m.table now x
       → Sets m.courses courses tx Course.Committed → courses.begun ≡ begun_with m.courses tx
       → Plays old (record { number = m.number; managers = m.managers; courses = courses; spent = m.spent; table = now })
       (Fact.Committed tx) (Ok tt)
-  commits_by ready now courses same commits sets begun =
+  commits_by now courses commits sets begun =
       let new : ManagerParts = record { number = m.number; managers = m.managers; courses = courses; spent = m.spent; table = now } in
       from_view m old new (Fact.Committed tx) (Ok tt) view
-      (plays_commit m new tx x own_name own_course (committed_by m ready now courses tx x same commits sets begun))
+      (plays_commit m new tx x own_name own_course (committed_by m now courses tx x commits sets begun))

@@ -21,7 +21,6 @@ use Rattle.stable_record.specs.Parts.{Part}
 use Rattle.protocol.specs.Facts.{with_fact}
 use Rattle.protocol.specs.Tables.{table}
 use Rattle.branch_table.specs.Tables.{TableState, branch_named}
-use Rattle.branch_table.specs.Outcomes.{is_ready}
 use Rattle.resource_manager.specs.Courses.{CoursesParts, IsSeen, course_in, stored_in, stored_by, begun_in}
 use Rattle.resource_manager.specs.SpentNames.{SpentParts, is_spent_in}
 
@@ -66,15 +65,10 @@ HasPlaces m tx = IsSeen m.courses tx × (0 < m.courses.room) × (0 < m.spent.roo
 abbrev pub HasBranch : ManagerParts → TxParts → Type 0
 HasBranch m tx = (x : XidParts) → xid_at tx m.number ≡ Some x → is_some (branch_named m.table.branches x) ≡ true
 
--- the branch of the name that a transaction has here, if it has one, can be committed without memory
-abbrev pub CanCommit : ManagerParts → TxParts → Type 0
-CanCommit m tx = (x : XidParts) → xid_at tx m.number ≡ Some x → is_ready m.table x ≡ true
-
 -- to play a fact takes no memory
 abbrev pub IsReadyFor : ManagerParts → Fact → Type 0
 IsReadyFor m (Fact.VotePrepared tx keys) = HasPlaces m tx × HasBranch m tx
 IsReadyFor m (Fact.VoteAborted tx) = HasPlaces m tx
-IsReadyFor m (Fact.Committed tx) = CanCommit m tx
 IsReadyFor m (Fact.Aborted tx) = HasPlaces m tx
 IsReadyFor m fact = Unit {0}
 

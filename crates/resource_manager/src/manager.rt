@@ -1,4 +1,5 @@
-ghost use Rattle.std.specs.Prelude.{◌≡◌, ℕ, true, List, [], IfOk, IfErr};
+ghost use Rattle.std.specs.Prelude.{◌≡◌, ◌++◌, ℕ, true, List, [], filter_map, IfOk, IfErr, OnOk};
+ghost use Rattle.std.specs.List.{cons_option};
 ghost use Rattle.xid.specs.declared.refusals.Refusal.TheVariants.{NoMemory};
 ghost use Rattle.stable_record.specs.declared.fact.FactKind.{FactKind as Fact};
 ghost use Rattle.protocol.specs.declared.requests.Action.TheVariants as actions;
@@ -9,6 +10,7 @@ ghost use Rattle.protocol.specs.Tables.{table};
 ghost use Rattle.branch_table.specs.Admission.{end_action};
 ghost use Rattle.branch_table.specs.Tables.{are_rows};
 ghost use Rattle.resource_manager.specs.Managers.{IsCall, StandsFor, view_answer};
+ghost use Rattle.resource_manager.specs.Open.{open_at, open_in};
 
 use crate::courses::Courses;
 use crate::messages::is_inside;
@@ -153,6 +155,41 @@ impl ResourceManager {
             return Err(Refusal::BadTx);
         }
         Ok(self.courses.of(tx).view())
+    }
+
+    /// The transactions that are prepared and not ended, in the order of their first facts. Refused: `NoMemory` alone.
+    pub fn open_transactions(&self, alloc: Global) -> Result<Vec<Tx>, Refusal>
+        ensures ok { IfOk result (λ txs. (config : Config) (number : ℕ) (facts : List Fact) (branches : List Branch)
+            → StandsFor config number self.now facts branches → txs.items ≡ open_in facts) }
+        ensures err { IfErr result (λ e. e ≡ NoMemory) }
+    {
+        self.prepared(alloc)
+    }
+
+    /// The transactions that are prepared, of those of which a fact is stored. Refused: `NoMemory` alone.
+    fn prepared(&self, alloc: Global) -> Result<Vec<Tx>, Refusal>
+        ensures ok { IfOk result (λ txs. txs.items ≡ filter_map (open_at self.now) self.now.courses.begun) }
+        ensures err { IfErr result (λ e. e ≡ NoMemory) }
+    {
+        let mut txs = Vec::new(alloc);
+        for number in self.courses.begun() {
+            let Some(tx) = self.courses.get(*number) else {
+                continue;
+            };
+            self.push_open(&mut txs, tx)?;
+        }
+        Ok(txs)
+    }
+
+    /// Pushes a transaction, if it is prepared. Refused: `NoMemory` alone.
+    fn push_open(&self, txs: &mut Vec<Tx>, tx: Tx) -> Result<(), Refusal>
+        ensures ok { OnOk result (txs.new.items ≡ txs.old.items ++ cons_option (open_at self.now tx) []) }
+        ensures err { IfErr result (λ e. e ≡ NoMemory) }
+    {
+        if self.courses.of(&tx).is_prepared() {
+            txs.push(tx)?;
+        }
+        Ok(())
     }
 
     /// The rows of the table, copied, with their keys ascending. Refused: `NoMemory` alone.

@@ -9,19 +9,17 @@ ghost use Rattle.protocol.specs.Effects.{Config};
 ghost use Rattle.protocol.specs.Managers.{Branch};
 ghost use Rattle.stable_record.specs.Parts.{IsMadeReady, IsPlayed};
 ghost use Rattle.branch_table.specs.Tables.{branch_named};
-ghost use Rattle.branch_table.specs.Outcomes.{SameMeaning, is_ready};
-ghost use Rattle.resource_manager.specs.Managers.{HasPlaces, HasBranch, CanCommit, IsPlayable, StandsForSame, manager_part};
+ghost use Rattle.resource_manager.specs.Managers.{HasPlaces, HasBranch, IsPlayable, StandsForSame, manager_part};
 ghost use Rattle.resource_manager.specs.Playing.{IsThere, MeansSame, Plays, PlaysEnd, PlaysVote, Stores};
 
 use crate::course::Course;
 use crate::manager::ResourceManager;
-use branch_table::BranchTable;
 use stable_record::{Fact, FactKind, Touched};
 use xid::{Refusal, Tx, Xid};
 
 impl ResourceManager {
-    /// Makes itself ready for a fact that it decided, so that `play` of it takes no memory: its transaction is seen, there is room for a
-    /// spent name, and of a commit, there are places for the rows. At `NoMemory`, the only refusal, and else too, it stands for what it
+    /// Makes itself ready for a fact that it decided, so that `play` of it takes no memory: its transaction is seen, and there is room for
+    /// a spent name; a commit takes none. At `NoMemory`, the only refusal, and else too, it stands for what it
     /// stood for. A vote prepared of a branch that doesn't exist takes memory only when it is played: it is refused here.
     pub fn ready(&mut self, fact: &Fact) -> Result<(), Refusal>
         ensures { (config : Config) (number : ℕ) (branches : List Branch)
@@ -30,7 +28,6 @@ impl ResourceManager {
         match fact.kind() {
             FactKind::VotePrepared { tx, .. } => self.ready_vote(tx),
             FactKind::VoteAborted(tx) => self.ready_end(tx),
-            FactKind::Committed(tx) => self.ready_commit(tx),
             FactKind::Aborted(tx) => self.ready_end(tx),
             _ => Ok(()),
         }
@@ -117,18 +114,6 @@ impl ResourceManager {
             }
         }
         self.ready_end(tx)
-    }
-
-    /// Makes ready for a commit.
-    fn ready_commit(&mut self, tx: &Tx) -> Result<(), Refusal>
-        ensures ok { OnOk result (CanCommit self.new tx.now) }
-        ensures same { MeansSame self.old self.new }
-        ensures err { IfErr result (λ e. e ≡ NoMemory) }
-    {
-        match self.name_here(tx) {
-            Some(xid) => self.table.ready_commit(&xid),
-            None => Ok(()),
-        }
     }
 
     /// Notes how far a transaction has come that has places, and that its name is spent.
@@ -268,24 +253,8 @@ impl ResourceManager {
         if !self.courses.at(number).is_prepared() {
             return Err(Refusal::Damaged);
         }
-        match make_rows_ready(&mut self.table, &xid) {
-            Ok(()) => {}
-            Err(refusal) => return Err(refusal),
-        }
         self.table.commit(&xid);
         self.courses.set(tx, number, Course::Committed);
         Ok(())
     }
-}
-
-/// Makes places for the rows of a branch that is to be committed, unless they are there.
-fn make_rows_ready(table: &mut BranchTable, xid: &Xid) -> Result<(), Refusal>
-    ensures ok { OnOk result (is_ready table.new xid.now ≡ true) }
-    ensures same { SameMeaning table.old table.new }
-    ensures err { IfErr result (λ e. (e ≡ NoMemory) × (is_ready table.old xid.now ≡ false)) }
-{
-    if table.is_ready(xid) {
-        return Ok(());
-    }
-    table.ready_commit(xid)
 }

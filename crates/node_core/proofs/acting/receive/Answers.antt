@@ -1,11 +1,26 @@
-use Rattle.node_core.proofs.Hearing.{hears, hears_down}
+use Rattle.std.proofs.Common.{◌∙◌, inl, inr, refl, sym, ap, None}
+use Rattle.wire.specs.Decoding.{message_at}
+use Rattle.node_core.specs.Storing.{output_of}
+use Rattle.node_core.proofs.Hearing.{accepted_by, down_by}
 use Rattle.node_core.proofs.acting.receive.Goals as goal
 
 pub returns-in-None : goal.returns-in-None
-returns-in-None g c = λ config own m sizes s.
-    hears_down config c.args.who own m c.args.bytes.now _ c.args.role.now c.refuse.new.self c.in-None.is c.refuse.ensures s
+returns-in-None g c = inr (inl (record {
+  accepted = accepted_by c.args.who (message_at c.args.bytes.now);
+  was_is = c.in-None.is;
+  out_is = c.refuse.ensures ∙ ap (λ a. output_of a None) (sym (down_by (message_at c.args.bytes.now)));
+  held_is = refl;
+  role_is = c.in-None.is;
+}))
 
 pub returns : goal.returns
-returns g c = λ config own m sizes s.
-    hears config c.args.who own m c.args.bytes.now _ _ c.args.role.now c.settle.new.role c.in-Some.up c.hear-stays.new.role
-    c.hear-stays.result c.hear-stays.new.out c.in-Some.is c.settle.ensures (c.hear-stays.ensures config m.facts m.memory sizes) s
+returns g c = inr (inr (record {
+  accepted = accepted_by c.args.who (message_at c.args.bytes.now);
+  before = c.in-Some.up;
+  after = c.hear-stays.new.role;
+  up = c.hear-stays.result;
+  was_is = c.in-Some.is;
+  role_is = c.settle.ensures;
+  carries = λ config facts memory are s. c.hear-stays.ensures.carries config facts memory are s;
+  free = λ is config facts memory are s. c.hear-stays.ensures.free is config facts memory are s;
+}))

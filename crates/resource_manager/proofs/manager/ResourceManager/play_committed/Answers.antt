@@ -2,7 +2,7 @@ use Rattle.std.proofs.Common.{◌∙◌, refl, sym, ap}
 use Rattle.std.specs.List.{slice_index_or}
 use Rattle.resource_manager.specs.declared.course.Course.{Course}
 use Rattle.resource_manager.proofs.Deciding.{course_of}
-use Rattle.resource_manager.proofs.Played.{unnamed_commit, early_commit, lacks_by, commits_by, prepared_course}
+use Rattle.resource_manager.proofs.Played.{unnamed_commit, early_commit, commits_by, prepared_course}
 use Rattle.resource_manager.proofs.manager.ResourceManager.play_committed.Goals as goal
 
 pub returns-in_default : goal.returns-in_default
@@ -20,18 +20,10 @@ returns-then-not-is_prepared c =
     (c.at.ensures ∙ ap (λ n. slice_index_or c.self.inside.courses.courses n Course.Working) c.in-Some-number_of.ensures.0))
     (sym c.if-not-is_prepared.ensures)
 
-pub returns-in-Err : goal.returns-in-Err
-returns-in-Err c =
-    lacks_by _ c.args.self.now c.args.tx.now c.in-Some.xid c.self.view_is (sym c.in-Some.ensures.value)
-    (course_of _ c.args.self.now c.args.tx.now c.at.result c.self.view_is
-    (c.at.ensures ∙ ap (λ n. slice_index_or c.self.inside.courses.courses n Course.Working) c.in-Some-number_of.ensures.0)
-    ∙ prepared_course c.at.result (sym c.if-not-is_prepared.ensures))
-    c.make_rows_ready.new.table c.in-Err.refusal c.in-Err.ensures.same c.in-Err.ensures.err
-
 pub returns : goal.returns
 returns c =
     commits_by _ c.args.self.now c.args.tx.now c.in-Some.xid c.self.view_is (sym c.in-Some.ensures.value)
     (course_of _ c.args.self.now c.args.tx.now c.at.result c.self.view_is
     (c.at.ensures ∙ ap (λ n. slice_index_or c.self.inside.courses.courses n Course.Working) c.in-Some-number_of.ensures.0)
     ∙ prepared_course c.at.result (sym c.if-not-is_prepared.ensures))
-    c.make_rows_ready.new.table c.commit.new.self c.set.new.self c.in-Ok.ensures.same c.commit.ensures c.set.ensures.courses c.set.ensures.begun
+    c.commit.new.self c.set.new.self c.commit.ensures c.set.ensures.courses c.set.ensures.begun

@@ -1,0 +1,5 @@
+pub mod Steps
+pub mod Following
+pub mod Upkeep
+pub mod Reached
+pub mod Nodes

@@ -1,0 +1,7 @@
+//! A cluster whose nodes work in groups comes to nothing that it couldn't come to one event after another: what a group does at a node is
+//! what events of the machine do, of which some sends are lost. So what holds of every world of the machine holds of it. The functions
+//! have empty bodies; their clauses are the theorems.
+#![tactic(auto)]
+
+/// The claim.
+pub mod headline;

@@ -1,0 +1,74 @@
+-- What a node says of its open transactions.
+use Rattle.std.proofs.Common.{◌≡◌, ℕ, List, Option, Some, None, refl, sym, subst}
+use Rattle.std.specs.Prelude.{Result, Ok, Err}
+use Rattle.xid.specs.Transactions.{TxParts}
+use Rattle.xid.specs.declared.refusals.Refusal.{Refusal}
+use Rattle.stable_record.specs.declared.fact.FactKind.{FactKind as Fact}
+use Rattle.stable_record.specs.Held.{Held}
+use Rattle.protocol.specs.declared.nodes.NodeId.{NodeId}
+use Rattle.protocol.specs.declared.nodes.NodeId.TheVariants.{A, L, R}
+use Rattle.protocol.specs.declared.rows.Row.{Row}
+use Rattle.protocol.specs.Effects.{Config}
+use Rattle.protocol.specs.Managers.{Branch}
+use Rattle.protocol.specs.Nodes.{NodeState, Memory}
+use Rattle.acceptor.specs.Acceptors.{AcceptorParts}
+use Rattle.leader.specs.Leaders.{LeaderParts}
+use Rattle.resource_manager.specs.Managers as manager_specs
+use Rattle.resource_manager.specs.Managers.{ManagerParts}
+use Rattle.resource_manager.specs.Open.{open_in}
+use Rattle.node_core.specs.declared.role.Role.{Role}
+use Rattle.node_core.specs.Roles.{RoleStands}
+use Rattle.node_core.specs.Nodes.{Stands}
+use Rattle.node_core.specs.Listing.{SaysOpen, ListsOpen}
+
+-- whatever a role stands for
+abbrev pub OpenAll : Role → Result (List TxParts) Refusal → Type 0
+OpenAll role result =
+    (config : Config) (who : NodeId) (facts : List Fact) (memory : Memory) → RoleStands config who role facts memory
+    → SaysOpen who facts result
+
+pub manager_open : (p : ManagerParts) (txs : List TxParts)
+    → ((config : Config) (number : ℕ) (facts : List Fact) (branches : List Branch) → manager_specs.StandsFor config number p facts branches
+    → txs ≡ open_in facts) → OpenAll (Role.Manager p) (Ok txs)
+manager_open p txs h config (A a) facts memory s = absurd s
+manager_open p txs h config (L l) facts memory s = absurd s
+manager_open p txs h config (R rm) facts memory s = h config rm facts memory.branches s
+
+pub none_open : (p : ManagerParts) (e : Refusal) → e ≡ Refusal.NoMemory → OpenAll (Role.Manager p) (Err e)
+none_open p e is config (A a) facts memory s = absurd s
+none_open p e is config (L l) facts memory s = absurd s
+none_open p e is config (R rm) facts memory s = is
+
+pub acceptor_open : (p : AcceptorParts) → OpenAll (Role.Acceptor p) (Err Refusal.NoSuch)
+acceptor_open p config (A a) facts memory s = refl
+acceptor_open p config (L l) facts memory s = absurd s
+acceptor_open p config (R rm) facts memory s = absurd s
+
+pub leader_open : (p : LeaderParts) → OpenAll (Role.Leader p) (Err Refusal.NoSuch)
+leader_open p config (A a) facts memory s = absurd s
+leader_open p config (L l) facts memory s = refl
+leader_open p config (R rm) facts memory s = absurd s
+
+pub open_so : (role inner : Role) (result : Result (List TxParts) Refusal) → role ≡ inner → OpenAll inner result → OpenAll role result
+open_so role inner result is h = subst (λ r. OpenAll r result) (sym is) h
+
+up_lists : (who : NodeId) (facts : List Fact) (up : Role) (result : Result (List TxParts) Refusal) → SaysOpen who facts result
+    → ListsOpen who facts (Some up) result
+up_lists (A a) facts up result h = h
+up_lists (L l) facts up result h = h
+up_lists (R rm) facts up result h = h
+
+-- what a node that is up says is what its role says
+pub lists_up : (config : Config) (who : NodeId) (own : List Row) (held : Held) (role : Option Role) (m : NodeState) (up : Role)
+    (result : Result (List TxParts) Refusal) → role ≡ Some up → OpenAll up result → Stands config who own held role m
+    → ListsOpen who m.facts role result
+lists_up config who own held role m up result is h s =
+    let t : Stands config who own held (Some up) m = subst (λ r. Stands config who own held r m) is s in
+    subst (λ r. ListsOpen who m.facts r result) (sym is)
+    (up_lists who m.facts up result (h config who m.facts m.memory t.role_is.2))
+
+pub lists_down : (who : NodeId) (rm : ℕ) (facts : List Fact) (role : Option Role) → who ≡ R rm → role ≡ None
+    → ListsOpen who facts role (Err Refusal.Down)
+lists_down who rm facts role is none =
+    subst (λ w. ListsOpen w facts role (Err Refusal.Down)) (sym is)
+    (subst (λ r. ListsOpen (R rm) facts r (Err Refusal.Down)) (sym none) refl)
