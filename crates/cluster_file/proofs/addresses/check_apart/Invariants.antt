@@ -1,0 +1,11 @@
+use Rattle.std.proofs.Common.{◌≡◌, ◌≢◌, take}
+use Rattle.std.specs.List.{AllPairs}
+use Rattle.cluster_file.specs.Clusters.{addresses_of}
+use Rattle.cluster_file.proofs.addresses.check_apart.Given as goal
+
+-- the addresses so far are apart
+abbrev pub invariant-loop-i : goal.invariant-loop-i
+invariant-loop-i l = record {
+  said : l.taken.items ≡ addresses_of (take l.i l.places);
+  apart : AllPairs (λ a b. a ≢ b) l.taken.items;
+}

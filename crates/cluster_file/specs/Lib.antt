@@ -1,0 +1,4 @@
+pub mod Clusters
+pub mod Keys
+pub mod Reads
+pub mod Texts

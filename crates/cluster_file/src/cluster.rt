@@ -1,0 +1,187 @@
+ghost use Rattle.std.specs.Prelude.{◌≡◌, ◌≤◌, Ok, Some, IfOk, false};
+ghost use Rattle.toml.specs.Data.{get_member, Members};
+ghost use Rattle.toml.specs.View.{table_view};
+ghost use Rattle.toml.specs.Parse.{parse_document};
+ghost use Rattle.cluster_file.specs.Clusters.{IsCluster, AreNodes};
+ghost use Rattle.cluster_file.specs.Reads.{text_of, name_bytes, IsRefused, SaysCluster};
+
+use crate::addresses::check_apart;
+use crate::error::{ClusterError, Fault, Kind};
+use crate::nodes::{Keyed, read_nodes};
+use crate::section::Section;
+use node_core::Config;
+use protocol::Row;
+use std::alloc::Global;
+use std::net::SocketAddr;
+use toml::Table;
+use xid::Sequence;
+
+/// Where a node is found.
+#[derive(Clone, Copy, Debug, PartialEq, Eq)]
+pub struct Place {
+    /// Its socket for datagrams, where the other nodes send.
+    pub node: SocketAddr,
+    /// Where its clients come, if they may.
+    pub client: Option<SocketAddr>,
+}
+
+/// How long nodes wait, in milliseconds.
+#[derive(Clone, Copy, Debug, PartialEq, Eq)]
+pub struct Timing {
+    /// The first delay before a node asks again.
+    pub ask: u32,
+    /// How long nobody touches a branch that is then rolled back. It never is where this is 0.
+    pub idle: u32,
+}
+
+/// A cluster, as a file says it.
+#[derive(Debug, Drop)]
+pub struct Cluster {
+    /// Its sizes, its kind and its first tables.
+    pub config: Config,
+    /// Where its nodes are found: acceptors, then leaders, then resource managers.
+    pub places: Vec<Place>,
+    /// The name of the file with the key that datagrams are signed with. Without one all nodes are at loopback addresses.
+    pub key: Option<String>,
+    /// The name of the file with the clients' key. Without one all clients come at loopback addresses.
+    pub client_key: Option<String>,
+    /// How long nodes wait.
+    pub timing: Timing,
+}
+
+/// The keys of a cluster's file.
+const KEYS: [&str; 7] = [
+    "acceptor",
+    "bundled",
+    "client_key",
+    "key",
+    "leader",
+    "rm",
+    "time",
+];
+
+/// The name of a file at a key, if there is one.
+fn name_at(root: &Section<'_>, key: &str) -> Result<Option<String>, ClusterError>
+    ensures { IfOk result (λ name. text_of (get_member key.now (table_view root.now.table.now)) ≡ Ok (name_bytes name)) }
+{
+    match root.text(key)? {
+        Some(name) => Ok(Some(String::from_str(root.alloc, name)?)),
+        None => Ok(None),
+    }
+}
+
+/// Whether both keys have one name.
+fn are_shared(key: &Option<String>, client_key: &Option<String>) -> bool {
+    match (key, client_key) {
+        (Some(key), Some(client_key)) => key.as_str() == client_key.as_str(),
+        _ => false,
+    }
+}
+
+/// How long nodes wait, as a table says it, or as they do where there is none.
+fn timing_of(root: &Section<'_>) -> Result<Timing, ClusterError>
+    ensures { IfOk result (λ timing. (1 ≤ timing.ask) × (timing.ask ≤ 60000)) }
+{
+    let Some(table) = root.inner("time")? else {
+        return Ok(Timing {
+            ask: 200,
+            idle: 60_000,
+        });
+    };
+    let time = Section {
+        alloc: root.alloc,
+        path: "time.",
+        table,
+    };
+    time.check_keys(&["ask", "idle"])?;
+    let ask = time.number("ask", 1, 60_000, 200)?;
+    let idle = time.number("idle", 0, u32::MAX, 60_000)?;
+    Ok(Timing { ask, idle })
+}
+
+/// The nodes of a cluster: where they are found, and their sizes and tables.
+fn nodes_of(root: &Section<'_>, keyed: Keyed) -> Result<(Config, Vec<Place>), ClusterError>
+    ensures nodes { IfOk result (λ found. AreNodes keyed.nodes keyed.clients found.0 found.1.items) }
+    ensures plain { IfOk result (λ found. found.0.bundled ≡ false) }
+{
+    let mut places = Vec::new(root.alloc);
+    let mut none = Vec::new(root.alloc);
+    let mut tables = Vec::new(root.alloc);
+    let acceptors = read_nodes(root, Kind::Acceptor, keyed, &mut places, &mut none)?;
+    let leaders = read_nodes(root, Kind::Leader, keyed, &mut places, &mut none)?;
+    let managers = read_nodes(root, Kind::Manager, keyed, &mut places, &mut tables)?;
+    check_apart(root.alloc, acceptors, leaders, &places)?;
+    match Config::new(acceptors, leaders, managers, Sequence::new(tables)) {
+        Ok(config) => Ok((config, places)),
+        Err(_) => Err(root.fault("rm", Fault::Limits)),
+    }
+}
+
+/// The cluster that a table says.
+fn cluster_of(root: &Section<'_>) -> Result<Cluster, ClusterError>
+    ensures cluster { IfOk result IsCluster }
+    ensures says { IfOk result (SaysCluster (table_view root.now.table.now)) }
+{
+    root.check_keys(&KEYS)?;
+    let bundled = root.flag("bundled")?;
+    let key = name_at(root, "key")?;
+    let client_key = name_at(root, "client_key")?;
+    if are_shared(&key, &client_key) {
+        return Err(root.fault("client_key", Fault::SharedKey));
+    }
+    let timing = timing_of(root)?;
+    let keyed = Keyed {
+        nodes: key.is_some(),
+        clients: client_key.is_some(),
+    };
+    let (plain, places) = nodes_of(root, keyed)?;
+    let config = if bundled { plain.bundled() } else { plain };
+    Ok(Cluster {
+        config,
+        places,
+        key,
+        client_key,
+        timing,
+    })
+}
+
+/// The line of a place in a text, counted from 1.
+fn line_of(text: &[u8], place: usize) -> usize {
+    let mut line: usize = 1;
+    for i in 0..text.len().min(place) {
+        if text[i] == b'\n' {
+            line = line.saturating_add(1);
+        }
+    }
+    line
+}
+
+/// The table that a text says.
+fn table_of(alloc: Global, text: &str) -> Result<Table, ClusterError>
+    ensures { IfOk result (λ table. parse_document text.now ≡ Some (table_view table)) }
+{
+    match toml::table_from_str(alloc, text) {
+        Ok(table) => Ok(table),
+        Err(error) => match error.span() {
+            Some(span) => Err(ClusterError::Syntax {
+                line: line_of(text.as_bytes(), span.start),
+                error,
+            }),
+            None => Err(ClusterError::Memory),
+        },
+    }
+}
+
+/// The cluster that a file's text says. Refused: it is no TOML (`Syntax`), a key in it is wrong (`Wrong`, the first that is found), or
+/// memory ran out (`Memory`).
+pub fn read_cluster(alloc: Global, text: &str) -> Result<Cluster, ClusterError>
+    ensures cluster { IfOk result IsCluster }
+    ensures says { IfOk result (λ c. (members : Members) × (parse_document text.now ≡ Some members) × SaysCluster members c) }
+{
+    let table = table_of(alloc, text)?;
+    cluster_of(&Section {
+        alloc,
+        path: "",
+        table: &table,
+    })
+}
