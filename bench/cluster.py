@@ -1,0 +1,285 @@
+#!/usr/bin/env python3
+"""Figures of a cluster of seven processes: cluster.py [--program FILE] [--folder DIR] [--seconds N] [--memory] [--take-over N] [--start N]
+[--postgresql].
+
+Each transaction writes a row at each of two managers: its client sends start, put and end to both at once, then commit and await to a
+leader and await to both managers. For 1, 8 and 32 clients: transactions a second, the time to the leader's outcome and to both views,
+and of 32 clients, over all nodes by `info`: appends, groups and datagrams for a transaction, and what each kind of node takes of a
+processor.
+--memory tells what each node has in memory, and its record's size, --start N how long a start over N transactions takes,
+--take-over how long it is from a kill of the first leader until every prepared branch has its outcome."""
+import argparse
+import collections
+import multiprocessing
+import os
+import select
+import shutil
+import sys
+import tempfile
+import time
+
+sys.path.insert(0, os.path.join(os.path.dirname(os.path.abspath(__file__)), '..', 'tests', 'cluster'))
+from processes import Processes
+from bank import Votes
+from pcommit_client import Cluster, Connection
+
+KEYS = 64
+WORDS = {'cpu': (1e6, 'microseconds of processors'), 'in': (1, 'datagrams in'), 'out': (1, 'datagrams out')}
+KINDS = {'a': 'acceptors', 'l': 'leaders', 'r': 'managers'}
+
+
+class Client:
+    """A client that has its lines under way by itself: it is told when an answer has come."""
+
+    def __init__(self, number, serial, file, leader='l0'):
+        self.number, self.serial, self.leader = number, serial, leader
+        cluster = Cluster(file)
+        self.ends = {name: Connection(name, cluster.addresses[name], cluster.key and cluster.proof(name), 5)
+                     for name in ('r0', 'r1', leader)}
+        self.left = dict.fromkeys(self.ends, b'')
+        for end in self.ends.values():
+            end.socket.setblocking(True)
+        self.sockets = {name: end.socket.fileno() for name, end in self.ends.items()}
+
+    def send(self, name, *lines):
+        self.ends[name].socket.sendall(''.join(line + '\n' for line in lines).encode())
+        self.wanted[name] += len(lines)
+
+    def begin(self):
+        self.serial += 1
+        self.begun = time.perf_counter()
+        self.wanted = dict.fromkeys(self.ends, 0)
+        gtrid = '%04x%012x' % (self.number, self.serial)
+        self.tx, key, self.is_asked = '1:%s/0=61,1=62' % gtrid, '%04x%02x' % (self.number, self.serial % KEYS), False
+        for name, bqual in (('r0', '61'), ('r1', '62')):
+            xid = '%s 1:%s:%s' % (name, gtrid, bqual)
+            self.send(name, 'start ' + xid, 'put %s %s %08x' % (xid, key, self.serial & 0xffffffff), 'end ' + xid)
+
+    def come(self, name):
+        """An answer has come. The times to the outcome and to both views, when all is there."""
+        data = self.left[name] + self.ends[name].socket.recv(65536)
+        lines = data.split(b'\n')
+        self.left[name] = lines.pop()
+        self.wanted[name] -= len(lines)
+        if any(line not in (b'0', b'undecided', b'committed') for line in lines):
+            raise SystemExit('%s is answered at %s to %s' % (lines, name, self.tx))
+        if name == self.leader and self.wanted[name] == 0:
+            self.outcome = time.perf_counter() - self.begun
+        if any(self.wanted.values()):
+            return None
+        if not self.is_asked:
+            self.is_asked = True
+            self.send(self.leader, 'commit %s %s' % (self.leader, self.tx), 'await %s %s' % (self.leader, self.tx))
+            for rm in ('r0', 'r1'):
+                self.send(rm, 'await %s %s' % (rm, self.tx))
+            return None
+        return self.outcome, time.perf_counter() - self.begun
+
+
+def drive(make, numbers, seconds, most, serial, pipe):
+    """Clients in one process, for a while or until each has made so many transactions."""
+    clients = [make(number, serial) for number in numbers]
+    poll, at, times = select.epoll(), {}, []
+    for client in clients:
+        for name, number in client.sockets.items():
+            poll.register(number, select.EPOLLIN)
+            at[number] = client, name
+    pipe.send('ready')
+    pipe.recv()
+    until = time.time() + seconds
+    for client in clients:
+        client.begin()
+    live = len(clients)
+    while live:
+        for number, _event in poll.poll():
+            client, name = at[number]
+            took = client.come(name)
+            if took:
+                times.append(took)
+                if time.time() < until and client.serial < serial + most:
+                    client.begin()
+                else:
+                    live -= 1
+    pipe.send(times)
+
+
+def run(make, clients, seconds, most=1 << 40, serial=0):
+    """The times of the transactions of so many clients, and for how long they ran. `make(number, serial)` makes a client."""
+    count = min(clients, 4)
+    pipes, processes = [], []
+    for number in range(count):
+        mine, other = multiprocessing.Pipe()
+        args = (make, range(number, clients, count), seconds, most, serial, other)
+        processes.append(multiprocessing.Process(target=drive, args=args, daemon=True))
+        pipes.append(mine)
+    for process in processes:
+        process.start()
+    for pipe in pipes:
+        pipe.recv()
+    for pipe in pipes:
+        pipe.send('go')
+    times, begun = [], time.time()
+    for pipe in pipes:
+        while not pipe.poll(0.2):
+            if not all(process.is_alive() or process.exitcode == 0 for process in processes):
+                raise SystemExit('a client has ended')
+        times += pipe.recv()
+    took = time.time() - begun
+    for process in processes:
+        process.join()
+    return times, took
+
+
+def at(times, part):
+    return 1000 * times[min(len(times) - 1, int(part * len(times)))]
+
+
+def rates(times, took):
+    outcomes, views = sorted(one[0] for one in times), sorted(one[1] for one in times)
+    return '%6.0f a second; to the outcome %.2f ms (99th percentile %.2f), to both views %.2f ms (%.2f)' % (
+        len(times) / took, at(outcomes, 0.5), at(outcomes, 0.99), at(views, 0.5), at(views, 0.99))
+
+
+def totals(cluster):
+    """By kind of node, what `info` counts, and seconds of the processors."""
+    client, found = Cluster(cluster.file), collections.defaultdict(collections.Counter)
+    for name in cluster.names:
+        found[name[0]].update(client.info(name))
+        found[name[0]]['cpu'] += cluster.cpu(name)
+    client.close()
+    return found
+
+
+def measure(cluster, seconds):
+    for number, clients in enumerate((1, 8, 32)):
+        before = totals(cluster)
+        times, took = run(lambda n, serial: Client(n, serial, cluster.file), clients, seconds, serial=(number + 1) << 32)
+        after = totals(cluster)
+        print('%2d clients: %s' % (clients, rates(times, took)), flush=True)
+    count = len(times)
+    for word in ('appends', 'groups', 'in', 'out', 'cpu'):
+        parts = {kind: (after[kind][word] - before[kind][word]) / count for kind in KINDS}
+        unit, name = WORDS.get(word, (1, word))
+        told = ', '.join('%s %.2f' % (KINDS[kind], unit * part) for kind, part in parts.items())
+        print('32 clients: %s for a transaction: %.2f (%s)' % (name, unit * sum(parts.values()), told), flush=True)
+
+
+def tell_memory(cluster):
+    for name in cluster.names:
+        print('%s: %.1f MB in memory, record %.1f MB' % (name, cluster.memory(name) / 1024, len(cluster.record(name)) / 1e6), flush=True)
+
+
+def start(cluster, count):
+    """How long a start over so many transactions takes, by each node."""
+    times, took = run(lambda n, serial: Client(n, serial, cluster.file), 32, 1 << 30, most=count // 32, serial=9 << 32)
+    print('%d transactions in %.0f s' % (len(times), took), flush=True)
+    tell_memory(cluster)
+    for name in cluster.names:
+        cluster.kill(name)
+        begun = time.monotonic()
+        cluster.start(name)
+        took = time.monotonic() - begun
+        print('%s: listens %.2f s after its start, %.1f MB in memory' % (name, took, cluster.memory(name) / 1024), flush=True)
+
+
+def keep_busy(file, number, stop):
+    """A client that goes on whatever happens."""
+    client = Cluster(file)
+    while not stop.is_set():
+        try:
+            client.run(lambda tx: [tx.put(rm, b'k%d' % number, b'1') for rm in (0, 1)])
+        except Exception:
+            time.sleep(0.01)
+
+
+def take_over(cluster, rounds):
+    """From a kill of the first leader until every branch that was prepared then has its outcome."""
+    stop = multiprocessing.Event()
+    clients = [multiprocessing.Process(target=keep_busy, args=(cluster.file, number, stop), daemon=True) for number in range(8)]
+    for one in clients:
+        one.start()
+    votes, took = [Votes(cluster, rm) for rm in (0, 1)], []
+    for _ in range(rounds):
+        time.sleep(0.5)
+        cluster.kill('l0')
+        begun = time.monotonic()
+        waiting = set().union(*(one.read() for one in votes))
+        while waiting and time.monotonic() - begun < 60:
+            time.sleep(0.002)
+            left = waiting & set().union(*(one.read() for one in votes))
+            took += [time.monotonic() - begun] * (len(waiting) - len(left))
+            waiting = left
+        cluster.start('l0')
+    stop.set()
+    for one in clients:
+        one.join(5)
+        one.kill()
+    took.sort()
+    if not took:
+        raise SystemExit('no votes were open when the leader was killed')
+    print('first leader killed %d times, %d votes open then: their outcome came after %.2f s in the median, %.2f in the 99th percentile, '
+          '%.2f at most' % (rounds, len(took), at(took, 0.5) / 1000, at(took, 0.99) / 1000, took[-1]), flush=True)
+
+
+def beside_postgresql(cluster, folder, seconds, turns=3):
+    """pcommit's own managers, PostgreSQL's two-phase commit, and PostgreSQL ended by pcommit and by a coordinator that logs, turn and turn
+    about on the same disk."""
+    from postgresql_clients import PostgresClient, make_tables
+    from servers import Servers
+    os.chmod(folder, 0o755)
+    servers = Servers(folder, accounts=1)
+    dsns, log = [one.dsn for one in servers.all], os.path.join(folder, 'log')
+    kinds = {
+        'pcommit': lambda n, serial: Client(n, serial, cluster.file),
+        'PostgreSQL, without a log': lambda n, serial: PostgresClient(n, serial, dsns),
+        'PostgreSQL, with a log': lambda n, serial: PostgresClient(n, serial, dsns, log=log),
+        'PostgreSQL, by pcommit': lambda n, serial: PostgresClient(n, serial, dsns, file=cluster.file),
+    }
+    try:
+        make_tables(servers)
+        serial = 0
+        for clients in (1, 8, 32):
+            all_times, all_took = collections.defaultdict(list), collections.Counter()
+            for _ in range(turns):
+                for kind, make in kinds.items():
+                    serial += 1
+                    times, took = run(make, clients, seconds / turns, serial=serial << 32)
+                    all_times[kind] += times
+                    all_took[kind] += took
+            for kind in kinds:
+                print('%2d clients, %-26s %s' % (clients, kind + ':', rates(all_times[kind], all_took[kind])), flush=True)
+    finally:
+        servers.stop()
+
+
+def main():
+    words = argparse.ArgumentParser()
+    words.add_argument('--program', default='bin/pcommit_node')
+    words.add_argument('--folder', help='where the records are (a new folder in it)')
+    words.add_argument('--seconds', type=float, default=10)
+    words.add_argument('--memory', action='store_true')
+    words.add_argument('--start', type=int)
+    words.add_argument('--take-over', type=int)
+    words.add_argument('--bundled', action='store_true')
+    words.add_argument('--postgresql', action='store_true', help='needs /usr/bin/python3 with psycopg2')
+    asked = words.parse_args()
+    folder = tempfile.mkdtemp(prefix='pcommit-bench-', dir=asked.folder)
+    try:
+        with Processes(asked.program, folder, bundled=asked.bundled) as cluster:
+            cluster.start()
+            if asked.start:
+                start(cluster, asked.start)
+            elif asked.postgresql:
+                beside_postgresql(cluster, folder, asked.seconds)
+            elif asked.take_over:
+                take_over(cluster, asked.take_over)
+            else:
+                measure(cluster, asked.seconds)
+            if asked.memory:
+                tell_memory(cluster)
+    finally:
+        shutil.rmtree(folder)
+
+
+if __name__ == '__main__':
+    main()

@@ -1,0 +1,266 @@
+//! The loop of a node: what its socket has, what its clients ask, and what time asks, group after group.
+
+use crate::answering::{answer_all, answer_awaited};
+use crate::desk::Desk;
+use crate::failure::Failure;
+use crate::group::{Item, MOST_DATAGRAMS, MOST_ITEMS, Origin, Work, inputs_of};
+use crate::socket::Counting;
+use log::info;
+use mio::Events;
+use node_core::{Input, Node, Output};
+use port::{MAX_TAKEN, Port, call_all};
+use protocol::{Answer, Boxed, NodeId, Request, Standing, View};
+use serving::{Due, Turn};
+use stable_record::{FileRecord, RecordError};
+use std::alloc::{AllocError, Global};
+use std::fs;
+use std::io::ErrorKind;
+use std::time::{Duration, Instant};
+use xid::{Bytes, Refusal, Tx};
+
+/// Datagrams that wait come into a group. Those that the port refuses come to nothing.
+fn take_datagrams<P: Port>(
+    desk: &mut Desk,
+    port: &mut P,
+    items: &mut Vec<Item>,
+) -> Result<(), AllocError> {
+    let mut buffer = [0; MAX_TAKEN];
+    for _ in 0..MOST_DATAGRAMS {
+        if !desk.door.has_datagrams || items.len() >= MOST_ITEMS {
+            return Ok(());
+        }
+        match port.recv(&mut buffer) {
+            Ok(Some(len)) => {
+                let Ok(bytes) = Bytes::copy_of(desk.alloc, &buffer[..len]) else {
+                    return Err(AllocError);
+                };
+                items.push(Item {
+                    origin: Origin::Node,
+                    work: Work::Take(bytes),
+                })?;
+            }
+            Ok(None) => desk.door.has_datagrams = false,
+            Err(_) => {}
+        }
+    }
+    Ok(())
+}
+
+/// Where a transaction stands with a leader or a resource manager. A transaction is read, and nothing stored or sent.
+pub(crate) fn standing(
+    alloc: Global,
+    node: &mut Node<FileRecord>,
+    tx: &Tx,
+) -> Result<Standing, Refusal> {
+    let request = match node.id() {
+        NodeId::L(_) => Request::Status {
+            tx: Boxed::new(alloc, *tx)?,
+        },
+        _ => Request::View {
+            tx: Boxed::new(alloc, *tx)?,
+        },
+    };
+    match node.step(Input::Asked(&request)).reply {
+        Answer::Stands(standing) => Ok(standing),
+        Answer::Refused(refusal) => Err(refusal),
+        _ => Err(Refusal::NoSuch),
+    }
+}
+
+/// What is asked after a transaction that is due.
+fn question(alloc: Global, desk: &Desk, due: &Due) -> Result<Request, Refusal> {
+    let tx = Boxed::new(alloc, due.tx)?;
+    match desk.who {
+        NodeId::L(_) if desk.schedule.turn(due.turn) == Turn::Again => Ok(Request::Commit { tx }),
+        _ => Ok(Request::Timeout { tx }),
+    }
+}
+
+/// Whether a transaction that stands so is to be asked after.
+fn is_open(standing: Standing) -> bool {
+    matches!(standing, Standing::Undecided | Standing::Prepared)
+}
+
+/// What is due is asked after.
+fn take_due(
+    node: &mut Node<FileRecord>,
+    desk: &mut Desk,
+    items: &mut Vec<Item>,
+    now: Instant,
+) -> Result<(), Failure> {
+    for _ in items.len()..MOST_ITEMS {
+        let Some(due) = desk.watches.next_due(now) else {
+            return Ok(());
+        };
+        match standing(desk.alloc, node, &due.tx) {
+            Ok(standing) if is_open(standing) => {
+                items.push(Item {
+                    origin: Origin::Node,
+                    work: Work::Ask(question(desk.alloc, desk, &due)?),
+                })?;
+                desk.watches.again(&due, now)?;
+            }
+            Err(Refusal::NoMemory) => return Err(Failure::Memory),
+            _ => desk.watches.settle(&due.tx),
+        }
+    }
+    Ok(())
+}
+
+/// Why the node went down.
+fn down(error: RecordError) -> Failure {
+    match error {
+        RecordError::Memory => Failure::Memory,
+        RecordError::Fault => Failure::Down {
+            refusal: Refusal::RecordFault,
+        },
+    }
+}
+
+/// The items are handed to the node as one group: one append for all that they store. Then what came of them is sent.
+fn hand<P: Port>(
+    alloc: Global,
+    node: &mut Node<FileRecord>,
+    port: &mut P,
+    items: &[Item],
+    outs: &mut Vec<Output>,
+) -> Result<(), Failure> {
+    let inputs = inputs_of(alloc, items)?;
+    for _ in outs.len()..inputs.len() {
+        outs.push(Output::nothing())?;
+    }
+    let count = inputs.len();
+    if count > outs.len() {
+        return Err(Failure::Memory);
+    }
+    match call_all(node, port, &inputs, &mut outs[..count]) {
+        Ok(()) => Ok(()),
+        Err(error) => Err(down(error)),
+    }
+}
+
+/// How many bytes the record's file has.
+pub(crate) fn record_len(rt: &HostRuntime, path: &str) -> Result<u64, Failure> {
+    match fs::metadata(rt, path) {
+        Ok(found) => Ok(found.len()),
+        Err(_) => Err(Failure::Down {
+            refusal: Refusal::RecordFault,
+        }),
+    }
+}
+
+/// The record is made shorter, if it is time.
+fn shorten(
+    rt: &HostRuntime,
+    node: &mut Node<FileRecord>,
+    desk: &mut Desk,
+    path: &str,
+) -> Result<(), Failure> {
+    let before = desk.counts.record;
+    if !desk.shortening.is_due(before) {
+        return Ok(());
+    }
+    node.compact()?;
+    let after = record_len(rt, path)?;
+    desk.shortening.note(before, after);
+    desk.counts.record = after;
+    info!(desk.door.log; "the record was made shorter: from {before} bytes to {after}");
+    Ok(())
+}
+
+/// What waits is done: one group of inputs, and then its answers.
+fn do_group<P: Port + Counting>(
+    rt: &HostRuntime,
+    node: &mut Node<FileRecord>,
+    port: &mut P,
+    desk: &mut Desk,
+    outs: &mut Vec<Output>,
+    path: &str,
+    now: Instant,
+) -> Result<(), Failure> {
+    let mut items = Vec::new(desk.alloc);
+    desk.take_pending(&mut items)?;
+    take_due(node, desk, &mut items, now)?;
+    take_datagrams(desk, port, &mut items)?;
+    desk.take_lines(&mut items, now)?;
+    if items.is_empty() {
+        return Ok(());
+    }
+    hand(desk.alloc, node, port, &items, outs)?;
+    let len = record_len(rt, path)?;
+    desk.counts.groups = desk.counts.groups.saturating_add(1);
+    if len != desk.counts.record {
+        desk.counts.appends = desk.counts.appends.saturating_add(1);
+        desk.counts.record = len;
+    }
+    answer_all(node, port, desk, &items, outs, now)
+}
+
+/// One round of the loop, at a time.
+fn go_round<P: Port + Counting>(
+    rt: &HostRuntime,
+    node: &mut Node<FileRecord>,
+    port: &mut P,
+    desk: &mut Desk,
+    outs: &mut Vec<Output>,
+    path: &str,
+    now: Instant,
+) -> Result<(), Failure> {
+    desk.door.accept_all(now);
+    desk.door.read_all();
+    do_group(rt, node, port, desk, outs, path, now)?;
+    answer_awaited(node, desk, now)?;
+    desk.door.write_all();
+    if node.is_down() {
+        return Err(Failure::Memory);
+    }
+    desk.sweep(now)?;
+    desk.look_for_idle(now)?;
+    shorten(rt, node, desk, path)
+}
+
+/// After a start a resource manager asks after all that its record has prepared and not ended.
+fn watch_open(node: &Node<FileRecord>, desk: &mut Desk, now: Instant) -> Result<(), Failure> {
+    let NodeId::R(_) = desk.who else {
+        return Ok(());
+    };
+    let open = node.open_transactions()?;
+    for tx in open.as_slice() {
+        desk.watches.add(tx, 0, now)?;
+    }
+    Ok(())
+}
+
+/// Waits for the system to tell of sockets, so long at most, and notes what it told.
+fn wait(
+    desk: &mut Desk,
+    events: &mut Events<Global>,
+    timeout: Option<Duration>,
+) -> Result<(), Failure> {
+    match desk.door.poll.poll(events, timeout) {
+        Ok(()) => desk.door.note(events),
+        Err(error) if error.kind() == ErrorKind::Interrupted => {}
+        Err(error) => return Err(error.into()),
+    }
+    Ok(())
+}
+
+/// The node's life. It ends where it fails.
+pub(crate) fn live<P: Port + Counting>(
+    rt: &HostRuntime,
+    node: &mut Node<FileRecord>,
+    port: &mut P,
+    desk: &mut Desk,
+    path: &str,
+) -> Result<(), Failure> {
+    let mut events = Events::with_capacity(desk.alloc, 256)?;
+    let mut outs = Vec::new(desk.alloc);
+    desk.counts.record = record_len(rt, path)?;
+    watch_open(node, desk, Instant::now(rt)?)?;
+    for _ in 0..u64::MAX {
+        let timeout = desk.timeout(Instant::now(rt)?);
+        wait(desk, &mut events, timeout)?;
+        go_round(rt, node, port, desk, &mut outs, path, Instant::now(rt)?)?;
+    }
+    Ok(())
+}

@@ -1,0 +1,251 @@
+//! One node of a cluster in a process of its own: it goes on from its record, and serves the other nodes by datagrams and its clients by
+//! lines over TCP.
+#![tactic(auto)]
+
+mod answering;
+mod client;
+mod command;
+mod desk;
+mod door;
+mod failure;
+mod group;
+mod life;
+mod logging;
+mod proving;
+mod setup;
+mod socket;
+
+use crate::command::{Options, read_options};
+use crate::desk::Desk;
+use crate::door::{DATAGRAMS, Door, LISTENER};
+use crate::failure::Failure;
+use crate::life::live;
+use crate::logging::logger;
+use crate::proving::{Lock, make_lock};
+use crate::setup::{Setup, claim, open_node, owned, record_path, set_up};
+use crate::socket::NodeSocket;
+use cluster_file::KEY;
+use hmac::Key;
+use log::LevelFilter;
+use mio::net::TcpListener;
+use mio::{Interest, Poll};
+use node_core::Node;
+use protocol::NodeId;
+use serving::{Branches, Counts, Schedule, Shortening, Watches};
+use signed_port::{PlainPort, SignedPort};
+use slab::Slab;
+use stable_record::FileRecord;
+use std::alloc::{AllocError, Global};
+use std::collections::VecDeque;
+use std::net::SocketAddr;
+use std::process::ExitCode;
+use std::time::{Duration, Instant};
+use std::{env, io};
+use xid::Refusal;
+
+/// Where all nodes are found by each other.
+fn node_places(alloc: Global, setup: &Setup) -> Result<Vec<SocketAddr>, AllocError> {
+    let mut found = Vec::new(alloc);
+    for place in &setup.cluster.places {
+        found.push(place.node)?;
+    }
+    Ok(found)
+}
+
+/// Why an address can't be used.
+fn address_fault(alloc: Global, at: SocketAddr, error: io::Error) -> Failure {
+    match format!(in alloc; "{at}: {error}") {
+        Ok(what) => Failure::Device {
+            refusal: Refusal::PortFault,
+            what,
+            todo: "stop the process that has the address, or mend the address in the cluster's file",
+        },
+        Err(_) => Failure::Memory,
+    }
+}
+
+/// The node's socket for datagrams.
+fn bind(rt: &HostRuntime, poll: &Poll, setup: &Setup) -> Result<NodeSocket, Failure> {
+    let places = node_places(rt.alloc(), setup)?;
+    let (at, sizes) = (setup.place.node, setup.cluster.config.sizes());
+    match NodeSocket::bind(rt, poll.registry(), DATAGRAMS, at, sizes, places) {
+        Ok(socket) => Ok(socket),
+        Err(error) => Err(address_fault(rt.alloc(), at, error)),
+    }
+}
+
+/// Where clients come in, if they do.
+fn listen(rt: &HostRuntime, poll: &Poll, setup: &Setup) -> Result<Option<TcpListener>, Failure> {
+    let Some(at) = setup.place.client else {
+        return Ok(None);
+    };
+    match TcpListener::bind(rt, at) {
+        Ok(listener) => {
+            let mut listener = listener;
+            poll.registry()
+                .register(&mut listener, LISTENER, Interest::READABLE)?;
+            Ok(Some(listener))
+        }
+        Err(error) => Err(address_fault(rt.alloc(), at, error)),
+    }
+}
+
+/// What clients have to prove, if they do.
+fn lock_of(alloc: Global, setup: &Setup, name: &str) -> Result<Option<Lock>, AllocError> {
+    match setup.client_key {
+        Some(key) => Ok(Some(make_lock(alloc, key, name.as_bytes(), &setup.digest)?)),
+        None => Ok(None),
+    }
+}
+
+/// The door of a node.
+fn open_door(
+    rt: HostRuntime,
+    level: LevelFilter,
+    poll: Poll,
+    setup: &Setup,
+    name: &str,
+) -> Result<Door, Failure> {
+    let listener = listen(&rt, &poll, setup)?;
+    Ok(Door {
+        alloc: rt.alloc(),
+        log: logger(rt, level),
+        poll,
+        listener,
+        lock: lock_of(rt.alloc(), setup, name)?,
+        clients: Slab::new(rt.alloc()),
+        count: 0,
+        has_datagrams: true,
+        has_clients: true,
+    })
+}
+
+/// How long a node waits before it asks after a transaction: a later leader longer, so that no two outbid each other for ever.
+fn schedule_of(setup: &Setup) -> Schedule {
+    let ask = u64::from(setup.cluster.timing.ask);
+    match setup.who {
+        NodeId::L(leader) => Schedule {
+            first: ask * (u64::from(leader) + 1),
+        },
+        _ => Schedule { first: ask },
+    }
+}
+
+/// How long a branch is left that nobody touches.
+fn idle_of(setup: &Setup) -> Option<Duration> {
+    match setup.cluster.timing.idle {
+        0 => None,
+        idle => Some(Duration::from_millis(u64::from(idle))),
+    }
+}
+
+/// What the process keeps beside its node and its port.
+fn make_desk(rt: HostRuntime, setup: &Setup, door: Door) -> Result<Desk, Failure> {
+    let alloc = rt.alloc();
+    let schedule = schedule_of(setup);
+    Ok(Desk {
+        alloc,
+        who: setup.who,
+        door,
+        schedule,
+        watches: Watches::new(alloc, schedule)?,
+        branches: Branches::new(alloc),
+        shortening: Shortening::new(),
+        counts: Counts::default(),
+        idle: idle_of(setup),
+        next_look: Instant::now(&rt)?,
+        pending: VecDeque::new(alloc),
+        first: 0,
+    })
+}
+
+/// Says where the node is found.
+fn announce(rt: &HostRuntime, name: &str, setup: &Setup) -> Result<(), Failure> {
+    let node = setup.place.node;
+    match setup.place.client {
+        Some(client) => {
+            println!(rt; "pcommit_node {name}: nodes at {node}, clients at {client}")?;
+        }
+        None => println!(rt; "pcommit_node {name}: nodes at {node}, no clients")?,
+    }
+    Ok(())
+}
+
+/// What datagrams are signed with.
+fn signing_key(key: &[u8; KEY]) -> Key {
+    Key::new(key)
+}
+
+/// The life of a node at a socket, whose datagrams are signed if there is a key.
+fn lead_signed(
+    rt: &HostRuntime,
+    node: &mut Node<FileRecord>,
+    socket: NodeSocket,
+    desk: &mut Desk,
+    setup: &Setup,
+    path: &str,
+) -> Result<(), Failure> {
+    match &setup.key {
+        Some(key) => {
+            let mut port = SignedPort::new(socket, signing_key(key), setup.digest, setup.who);
+            live(rt, node, &mut port, desk, path)
+        }
+        None => {
+            let mut port = PlainPort::new(socket);
+            live(rt, node, &mut port, desk, path)
+        }
+    }
+}
+
+/// The life of a node at its place.
+fn lead(
+    rt: HostRuntime,
+    node: &mut Node<FileRecord>,
+    setup: &Setup,
+    options: Options,
+    path: &str,
+) -> Result<(), Failure> {
+    let poll = Poll::new(&rt)?;
+    let socket = bind(&rt, &poll, setup)?;
+    let door = open_door(rt, options.level, poll, setup, options.name)?;
+    let mut desk = make_desk(rt, setup, door)?;
+    announce(&rt, options.name, setup)?;
+    lead_signed(&rt, node, socket, &mut desk, setup, path)
+}
+
+/// A node of a cluster lives.
+fn run(rt: HostRuntime, options: Options) -> Result<(), Failure> {
+    let setup = match set_up(rt, options) {
+        Ok(setup) => setup,
+        Err(failure) => return Err(failure),
+    };
+    claim(rt, &setup, options)?;
+    let path = record_path(rt.alloc(), options)?;
+    match open_node(rt, &setup.cluster.config, setup.who, path.as_str()) {
+        Ok(node) => {
+            let mut node = node;
+            lead(rt, &mut node, &setup, options, path.as_str())
+        }
+        Err(failure) => Err(failure),
+    }
+}
+
+/// Carries out the command line.
+fn run_words(rt: HostRuntime) -> Result<(), Failure> {
+    let mut words = Vec::new(rt.alloc());
+    for word in env::args(&rt)? {
+        words.push(word)?;
+    }
+    let options = read_options(rt.alloc(), words.as_slice())?;
+    run(rt, options)
+}
+
+fn main(rt: HostRuntime) -> ExitCode {
+    match run_words(rt) {
+        Ok(()) => ExitCode::SUCCESS,
+        Err(failure) => {
+            let _ = eprintln!(rt; "pcommit_node: {failure}");
+            ExitCode::from(failure.status())
+        }
+    }
+}

@@ -1,0 +1,163 @@
+ghost use Rattle.std.specs.Prelude.{◌≡◌, ◌≤◌, ◌+◌, min, length, IfOk, IfSome};
+ghost use Rattle.xid.specs.declared.refusals.Refusal.TheVariants.{PortFault};
+ghost use Rattle.stable_record.specs.Held.{IsCounted, most_faults};
+ghost use Rattle.pcommit_node.specs.Sockets.{socket_count};
+
+use mio::net::UdpSocket;
+use mio::{Interest, Registry, Token};
+use node_core::{Sizes, place_of};
+use port::Port;
+use protocol::NodeId;
+use signed_port::{Carrier, MAX_CARRIED, PlainPort, SignedPort};
+use std::io::{self, ErrorKind};
+use std::net::{Net, SocketAddr};
+use xid::Refusal;
+
+/// A node's socket for datagrams, which finds the other nodes by their places.
+#[derive(Drop)]
+pub struct NodeSocket {
+    socket: UdpSocket,
+    sizes: Sizes,
+    places: Vec<SocketAddr>,
+    taken: u64,
+    sent: u64,
+    faults: u64,
+}
+
+/// What a port has counted.
+#[derive(Clone, Copy, Debug, PartialEq, Eq)]
+pub struct PortCounts {
+    /// How many datagrams came.
+    pub taken: u64,
+    /// How many were sent.
+    pub sent: u64,
+    /// How many of those that came were dropped for their signature.
+    pub dropped: u64,
+}
+
+/// A port that counts.
+pub trait Counting {
+    /// What it has counted.
+    fn counts(&self) -> PortCounts;
+}
+
+impl NodeSocket {
+    /// A socket at an address, of which a registry tells when something has come.
+    pub fn bind<R: Net>(
+        rt: &R,
+        registry: &Registry,
+        token: Token,
+        at: SocketAddr,
+        sizes: Sizes,
+        places: Vec<SocketAddr>,
+    ) -> io::Result<NodeSocket> {
+        let mut socket = UdpSocket::bind(rt, at)?;
+        registry.register(&mut socket, token, Interest::READABLE)?;
+        Ok(NodeSocket {
+            socket,
+            sizes,
+            places,
+            taken: 0,
+            sent: 0,
+            faults: 0,
+        })
+    }
+
+    /// Counts a fault, and answers it.
+    fn count(&mut self) -> Refusal
+        ensures fault { result ≡ PortFault }
+        ensures counted { IsCounted (socket_count self.old) (socket_count self.new) }
+        ensures same { self.new ≡ record self.old { faults = min (self.old.faults + 1) most_faults } }
+    {
+        self.faults = self.faults.saturating_add(1);
+        Refusal::PortFault
+    }
+}
+
+/// Takes a datagram, if one is there, and answers how many bytes of it stand in the buffer.
+fn take(socket: &UdpSocket, buffer: &mut [u8]) -> io::Result<Option<usize>>
+    ensures { IfOk result (λ taken. IfSome taken (λ len. len ≤ length buffer.new)) }
+{
+    for _ in 0..u64::MAX {
+        match socket.recv_from(buffer) {
+            Ok((len, _)) => return Ok(Some(len)),
+            Err(e) if e.kind() == ErrorKind::WouldBlock => return Ok(None),
+            Err(e) if e.kind() == ErrorKind::Interrupted => {}
+            Err(e) => return Err(e),
+        }
+    }
+    Ok(None)
+}
+
+/// Whether all bytes were sent, as one datagram.
+fn put(socket: &UdpSocket, bytes: &[u8], place: SocketAddr) -> bool {
+    for _ in 0..u64::MAX {
+        match socket.send_to(bytes, place) {
+            Ok(len) => return len == bytes.len(),
+            Err(e) if e.kind() == ErrorKind::Interrupted => {}
+            Err(_) => return false,
+        }
+    }
+    false
+}
+
+impl Carrier for NodeSocket {
+    ghost use Rattle.pcommit_node.specs.Sockets.{socket_count, SocketReceived, SocketSent};
+
+    ghost fault_count = { socket_count };
+
+    ghost received = { SocketReceived };
+
+    ghost sent = { SocketSent };
+
+    fn recv(&mut self, buffer: &mut [u8; MAX_CARRIED]) -> Result<Option<usize>, Refusal> {
+        match take(&self.socket, buffer) {
+            Ok(Some(len)) => {
+                self.taken = self.taken.saturating_add(1);
+                Ok(Some(len))
+            }
+            Ok(None) => Ok(None),
+            Err(_) => Err(self.count()),
+        }
+    }
+
+    fn send(&mut self, receiver: NodeId, bytes: &[u8]) -> Result<(), Refusal> {
+        let Some(at) = place_of(self.sizes, receiver) else {
+            return Err(self.count());
+        };
+        let Some(place) = self.places.get(at) else {
+            return Err(self.count());
+        };
+        if !put(&self.socket, bytes, *place) {
+            return Err(self.count());
+        }
+        self.sent = self.sent.saturating_add(1);
+        Ok(())
+    }
+
+    fn faults(&self) -> u64 {
+        self.faults
+    }
+}
+
+impl Counting for SignedPort<NodeSocket> {
+    fn counts(&self) -> PortCounts {
+        let socket = self.carrier();
+        PortCounts {
+            taken: socket.taken,
+            sent: socket.sent,
+            dropped: self.dropped(),
+        }
+    }
+}
+
+impl Counting for PlainPort<NodeSocket> {
+    fn counts(&self) -> PortCounts {
+        let socket = self.carrier();
+        PortCounts {
+            taken: socket.taken,
+            sent: socket.sent,
+            dropped: 0,
+        }
+    }
+}

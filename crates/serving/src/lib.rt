@@ -1,0 +1,20 @@
+//! What the process of a node keeps in mind beside the node: the lines of its clients and the words in them, the branches that they
+//! started, the transactions that are to be asked after and when, and when the record is to be made shorter. There is no socket and no
+//! clock here: whoever calls says what came and when.
+#![tactic(auto)]
+
+mod branches;
+mod lines;
+mod replies;
+mod schedule;
+mod shortening;
+mod watches;
+mod words;
+
+pub use branches::Branches;
+pub use lines::{Front, MAX_LINE, front_of};
+pub use replies::{Counts, put_info, put_open, put_reply, put_table};
+pub use schedule::{MOST_DELAY, Schedule, Turn};
+pub use shortening::{LEAST_RECORD, Shortening};
+pub use watches::{Due, Watches};
+pub use words::{Wish, read_wish};

@@ -1,0 +1,95 @@
+use itoa::Buffer;
+use net_script::{put_answer, put_node, put_rows, put_tx};
+use protocol::{Answer, NodeId, Row};
+use std::alloc::Global;
+use xid::{Refusal, Tx};
+
+/// What a node's process has counted.
+#[derive(Clone, Copy, Debug, Default, PartialEq, Eq)]
+pub struct Counts {
+    /// How many bytes the record has.
+    pub record: u64,
+    /// How many groups of inputs were handled.
+    pub groups: u64,
+    /// How many of these changed the record: as many appends there were.
+    pub appends: u64,
+    /// How many datagrams came, well signed.
+    pub taken: u64,
+    /// How many datagrams were sent.
+    pub sent: u64,
+    /// How many datagrams were dropped for their signature.
+    pub dropped: u64,
+    /// How often the port failed.
+    pub port_faults: u64,
+    /// How often the record failed.
+    pub record_faults: u64,
+    /// How many clients there are.
+    pub clients: u64,
+}
+
+/// Puts words, each of which has a space before it, as a line without the first space.
+fn put_words(out: &mut Vec<u8>, words: &[u8]) -> Result<(), Refusal> {
+    out.extend_from_slice(words.strip_prefix(b" ".as_slice()).unwrap_or(words))?;
+    out.push(b'\n')?;
+    Ok(())
+}
+
+/// Puts the line of an answer after what stands in `out`. The only refusal is `NoMemory`.
+pub fn put_reply(alloc: Global, out: &mut Vec<u8>, answer: &Answer) -> Result<(), Refusal> {
+    let mut words = Vec::new(alloc);
+    put_answer(alloc, &mut words, answer)?;
+    put_words(out, &words)
+}
+
+/// Puts the line of a table's rows: `rows`, and each row as in a trace's last lines. The only refusal is `NoMemory`.
+pub fn put_table(alloc: Global, out: &mut Vec<u8>, rows: &[Row]) -> Result<(), Refusal> {
+    let mut words = Vec::from_slice(alloc, b" rows")?;
+    put_rows(alloc, &mut words, rows)?;
+    put_words(out, &words)
+}
+
+/// A number, after a space.
+fn put_number(out: &mut Vec<u8>, number: u64) -> Result<(), Refusal> {
+    let mut digits = Buffer::new();
+    out.push(b' ')?;
+    out.extend_from_slice(digits.format(number).as_bytes())?;
+    Ok(())
+}
+
+/// Puts the line of the transactions that aren't final: `open`, and each with its age in milliseconds. The only refusal is `NoMemory`.
+pub fn put_open(alloc: Global, out: &mut Vec<u8>, open: &[(Tx, u64)]) -> Result<(), Refusal> {
+    let mut words = Vec::from_slice(alloc, b" open")?;
+    for (tx, age) in open {
+        put_tx(alloc, &mut words, tx)?;
+        put_number(&mut words, *age)?;
+    }
+    put_words(out, &words)
+}
+
+/// A count under its name, after a space.
+fn put_count(out: &mut Vec<u8>, name: &[u8], count: u64) -> Result<(), Refusal> {
+    out.push(b' ')?;
+    out.extend_from_slice(name)?;
+    put_number(out, count)
+}
+
+/// Puts the line that says how a node is: `info`, its name, and each count under its name. The only refusal is `NoMemory`.
+pub fn put_info(
+    alloc: Global,
+    out: &mut Vec<u8>,
+    who: NodeId,
+    counts: &Counts,
+) -> Result<(), Refusal> {
+    let mut words = Vec::from_slice(alloc, b" info")?;
+    put_node(&mut words, who)?;
+    put_count(&mut words, b"record", counts.record)?;
+    put_count(&mut words, b"groups", counts.groups)?;
+    put_count(&mut words, b"appends", counts.appends)?;
+    put_count(&mut words, b"in", counts.taken)?;
+    put_count(&mut words, b"out", counts.sent)?;
+    put_count(&mut words, b"dropped", counts.dropped)?;
+    put_count(&mut words, b"port-faults", counts.port_faults)?;
+    put_count(&mut words, b"record-faults", counts.record_faults)?;
+    put_count(&mut words, b"clients", counts.clients)?;
+    put_words(out, &words)
+}

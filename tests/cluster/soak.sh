@@ -1,0 +1,31 @@
+#!/bin/sh
+# The long tests of clusters of real processes, about an hour one after another: tests/cluster/soak.sh [PROGRAM [PART]]. A thousand kills;
+# the bank for ten minutes; a network that fails for fifteen; a million datagrams of strangers; seven hosts, where namespaces may be made.
+# With PART 10, a tenth of each. The seed is printed (SEED=N makes a run again). The last line is 'N passed, M failed'.
+tests=$(cd "$(dirname "$0")" && pwd)
+program=$(realpath "${1:-bin/pcommit_node}")
+part=${2:-1}
+seed=${SEED:-$(date +%s)}
+scratch=$(mktemp -d)
+export PYTHONDONTWRITEBYTECODE=1
+trap 'rm -rf "$scratch"' EXIT
+passed=0
+failed=0
+
+long() { # TEST AMOUNT
+    echo "$1: $2, seed $seed, begun at $(date +%H:%M:%S)"
+    python3 "$tests/$1.py" "$program" "$2" "$seed" >"$scratch/said" 2>&1
+    cat "$scratch/said"
+    count=$(sed -n "s/^$1: \([0-9]*\) passed, \([0-9]*\) failed.*/\1 \2/p" "$scratch/said" | tail -n 1)
+    [ -n "$count" ] || count='0 1'
+    passed=$((passed + ${count% *}))
+    failed=$((failed + ${count#* }))
+}
+long lines long
+long killed $((1000 / part))
+long bank $((600 / part))
+long network $((90 / part))
+long strangers $((1000000 / part))
+long hosts $((60 / part))
+echo "$passed passed, $failed failed"
+[ "$failed" = 0 ]
