@@ -1,0 +1,83 @@
+#!/usr/bin/python3
+"""Ends the prepared transactions of one PostgreSQL server as the pcommit manager beside it says: resolver.py CLUSTER.toml RM DSN.
+
+Every while it lists what is prepared at the server under our names, and asks the manager where each transaction stands:
+    committed  COMMIT PREPARED
+    aborted    ROLLBACK PREPARED
+    prepared   nothing: the manager asks leaders by itself
+    working    nothing at first; once it has been prepared for longer than GRACE, its application is taken for gone, and a leader is
+               asked to decide (`timeout`): committed if all have voted so after all, else aborted
+It keeps nothing, so it may be started and killed at any time. It ends nothing whose outcome it wasn't told, and touches no other names."""
+import os
+import sys
+import time
+
+import psycopg2
+
+from pay import PREFIX, end_prepared, tx_of
+from pcommit_client import FINAL, Cluster, Gone
+
+EVERY = float(os.environ.get('PCOMMIT_EVERY', '0.1'))
+GRACE = float(os.environ.get('PCOMMIT_GRACE', '5'))
+LIST = ('SELECT gid, extract(epoch FROM clock_timestamp() - prepared) FROM pg_prepared_xacts '
+        'WHERE database = current_database() AND starts_with(gid, %s)')
+
+
+class Resolver:
+    def __init__(self, file, rm, dsn):
+        self.cluster, self.rm, self.dsn = Cluster(file), int(rm), dsn
+        self.node, self.connection, self.said = 'r%d' % self.rm, None, None
+
+    def say(self, words):
+        """Says what is wrong, once."""
+        if words != self.said:
+            self.said = words
+            if words:
+                print('resolver %s: %s' % (self.node, words), file=sys.stderr, flush=True)
+
+    def cursor(self):
+        if self.connection is None or self.connection.closed:
+            self.connection = psycopg2.connect(self.dsn)
+            self.connection.autocommit = True
+        return self.connection.cursor()
+
+    def round(self):
+        """Looks at each prepared transaction once. How many were ended."""
+        cursor = self.cursor()
+        cursor.execute(LIST, (PREFIX,))
+        ended = 0
+        for gid, age in cursor.fetchall():
+            tx = tx_of(self.rm, gid)
+            if tx is None:
+                continue
+            view = self.cluster.ask(self.node, 'view %s %s' % (self.node, tx))[0]
+            if view in FINAL:
+                end_prepared(cursor, gid, view)
+                ended += 1
+            elif view == 'working' and age > GRACE:
+                self.ask_leaders(tx)
+        return ended
+
+    def ask_leaders(self, tx):
+        """Has one leader decide."""
+        for leader in self.cluster.leaders:
+            try:
+                if self.cluster.ask(leader, 'timeout %s %s' % (leader, tx))[0] == 'ok':
+                    return
+            except Gone:
+                continue
+
+    def live(self):
+        while True:
+            try:
+                self.round()
+                self.say(None)
+            except (psycopg2.Error, Gone) as error:
+                self.say(str(error).strip().split('\n')[0])
+            time.sleep(EVERY)
+
+
+if __name__ == '__main__':
+    if len(sys.argv) != 4:
+        raise SystemExit('usage: resolver.py CLUSTER.toml RM DSN')
+    Resolver(*sys.argv[1:]).live()
