@@ -11,7 +11,7 @@ if [ "$1" != one ]; then
     cc -shared -fPIC -o "$scratch/refuse.so" "$(dirname "$0")/refuse_memory.c" -ldl || exit 1
     mkdir "$scratch/cases" "$scratch/told" || exit 1
     grep -v '^#' "$2" | awk -v to="$scratch/cases/" 'NF==0 {open=0; next} !open {open=1; count++} {print > (to sprintf("%03d", count))}'
-    grep -lE '^(port|cluster [0-9]+|record failing|node .* failing) ' "$scratch"/cases/* | xargs rm
+    grep -lE '^(port|signed|cluster [0-9]+|record failing|node .* failing) ' "$scratch"/cases/* | xargs rm
     ls "$scratch/cases" | xargs -P "$(nproc)" -n 1 sh "$0" one "$program" "$scratch"
     cat "$scratch"/told/*.why
     cat "$scratch"/told/*.count | awk '{p+=$1; e+=$2; f+=$3; if ($1+$2 < 3) few++} END {
@@ -42,6 +42,13 @@ begins_right() { # LAST
 
 # the end of a line that says so, of a node's record too; what stands after it at a node, or is a whole trace, isn't the same
 refused='-> refused 11\( [0-9]*\)\?$'
+# what stands before the first refusal of memory. A group that would have torn the record isn't torn where an input is refused before the
+# append, so nothing of such a group stands
+before_refusal() {
+    awk '/^tear /{torn=1} /^group /{group=NR} /-> refused 11( [0-9]*)?$/{if (torn && $1 == "came") end=group; else end=NR; exit}
+        {line[NR]=$0} END {if (!end) end=NR+1; for (n=1; n<end; n++) print line[n]}' out
+}
+
 passed=0 ended=0 failed=0 is_last=false
 grep -qE '^(node |trace$)' "$case" && is_last=true
 : >"$told.why"
@@ -52,7 +59,7 @@ cp out ample
 for n in $(seq "$(wc -c <marks)"); do
     run "$n"
     status=$?
-    if $is_last; then sed "/$refused/,\$d" out >told; else grep -v -e "$refused" out >told; fi
+    if $is_last; then before_refusal >told; else grep -v -e "$refused" out >told; fi
     if [ $status = 0 ] && cmp -s told ample; then
         passed=$((passed + 1))
     elif [ $status = 0 ] && $is_last && grep -q -e "$refused" out && begins_right 0; then

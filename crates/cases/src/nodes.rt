@@ -3,7 +3,7 @@
 use crate::calls::{Part, run_calls};
 use crate::page::Page;
 use crate::stop::Stop;
-use crate::{codec, managers, records, words};
+use crate::{codec, groups, managers, records, words};
 use net_script::{Command, read_script};
 use node_core::{Config, Input, Node, Output};
 use protocol::{Event, NodeId, Request};
@@ -218,6 +218,40 @@ fn say_table<R: Record + Drop>(node: &mut Node<R>, page: &mut Page) -> Result<()
     page.end_line()
 }
 
+/// A node handles a group of inputs.
+fn group<R: Record + Drop>(
+    node: &mut Node<R>,
+    alloc: Global,
+    line: &[u8],
+    page: &mut Page,
+) -> Result<(), Stop> {
+    let items = groups::items(alloc, line)?;
+    let inputs = groups::inputs(alloc, &items)?;
+    let mut outs = groups::places(alloc, inputs.len())?;
+    match node.step_all(&inputs, &mut outs) {
+        Ok(()) => page.finished(Ok(()))?,
+        Err(error) => page.finished(Err(error.into()))?,
+    }
+    for output in outs {
+        page.bytes(b"came ->")?;
+        say(output, page)?;
+    }
+    Ok(())
+}
+
+/// The transactions that are prepared and not ended.
+fn say_open<R: Record + Drop>(node: &Node<R>, page: &mut Page) -> Result<(), Stop> {
+    match node.open_transactions() {
+        Ok(txs) => {
+            for tx in txs.as_slice() {
+                page.tx(tx)?;
+            }
+        }
+        Err(refusal) => page.refusal(refusal)?,
+    }
+    page.end_line()
+}
+
 /// A call of a node.
 fn call_node<R: Record + Drop>(
     node: &mut Node<R>,
@@ -244,6 +278,8 @@ fn call_node<R: Record + Drop>(
         b"compact" => page.finished(node.compact()),
         b"view" => say_view(node, rest, page),
         b"table" => say_table(node, page),
+        b"group" => group(node, alloc, rest, page),
+        b"open" => say_open(node, page),
         b"down" => {
             page.truth(node.is_down())?;
             page.end_line()

@@ -7,7 +7,7 @@ use stable_record::{Act, Entry, Fact, Touched};
 use std::alloc::Global;
 use std::io::{self, Write};
 use wire::Message;
-use xid::{Refusal, Sequence};
+use xid::{Refusal, Sequence, Tx};
 
 /// How much is printed of a case without asking for memory again.
 const ROOM: usize = 65536;
@@ -53,6 +53,12 @@ impl Page {
     pub fn number(&mut self, number: u64) -> Result<(), Stop> {
         let digits = format!(in self.alloc; "{number}")?;
         self.word(digits.as_bytes())
+    }
+
+    /// A transaction after a space.
+    pub fn tx(&mut self, tx: &Tx) -> Result<(), Stop> {
+        self.bytes(b" ")?;
+        Ok(tx.write(self.alloc, &mut self.text)?)
     }
 
     /// Bytes as hex digits after a space, `-` for none.

@@ -4,9 +4,9 @@ use crate::calls::{Part, run_calls};
 use crate::nodes::{self, Place};
 use crate::page::Page;
 use crate::stop::{Stop, wanted};
-use crate::{records, words};
-use node_core::{Input, Node};
-use port::{FakePort, Port, Served, call, serve_once};
+use crate::{groups, records, words};
+use node_core::{Input, Node, Output};
+use port::{FakePort, Port, Served, call, call_all, serve_once};
 use stable_record::MemRecord;
 use std::alloc::Global;
 
@@ -52,8 +52,29 @@ fn serve(station: &mut Station, page: &mut Page) -> Result<(), Stop> {
     }
 }
 
+/// A node handles a group of inputs.
+fn group(station: &mut Station, alloc: Global, line: &[u8], page: &mut Page) -> Result<(), Stop> {
+    let items = groups::items(alloc, line)?;
+    let inputs = groups::inputs(alloc, &items)?;
+    let mut outs = groups::places(alloc, inputs.len())?;
+    match call_all(&mut station.node, &mut station.port, &inputs, &mut outs) {
+        Ok(()) => page.finished(Ok(()))?,
+        Err(error) => page.finished(Err(error.into()))?,
+    }
+    for output in outs {
+        let Output {
+            reply,
+            now,
+            sends: _,
+        } = output;
+        page.bytes(b"came ->")?;
+        say(Served { reply, now }, page)?;
+    }
+    Ok(())
+}
+
 /// What has gone out: how many, and a line for each.
-fn say_gone(port: &FakePort, page: &mut Page) -> Result<(), Stop> {
+pub fn say_gone(port: &FakePort, page: &mut Page) -> Result<(), Stop> {
     page.number(port.gone().len() as u64)?;
     page.end_line()?;
     for letter in port.gone() {
@@ -80,6 +101,11 @@ impl Part for Station {
                     call(&mut self.node, &mut self.port, Input::Asked(&request)),
                     page,
                 )
+            }
+            b"group" => group(self, alloc, rest, page),
+            b"tear" => {
+                self.node.arm(words::number(rest)? as usize);
+                page.finished(Ok(()))
             }
             b"gone" => say_gone(&self.port, page),
             b"faults" => {

@@ -104,16 +104,6 @@ fn restore(
     }
 }
 
-/// Commits a branch that was made ready.
-fn commit(table: &mut BranchTable, xid: &Xid, page: &mut Page) -> Result<(), Stop> {
-    let is_ready = table.is_ready(xid);
-    if is_ready {
-        table.commit(xid);
-    }
-    page.truth(is_ready)?;
-    page.end_line()
-}
-
 /// A call of the layer above, on a branch.
 fn call_from_above(
     table: &mut BranchTable,
@@ -136,12 +126,10 @@ fn call_from_above(
             table.undo(xid);
             page.nothing()
         }
-        b"ready" => {
-            wanted(table.ready_commit(xid))?;
-            page.truth(table.is_ready(xid))?;
-            page.end_line()
+        b"commit" => {
+            table.commit(xid);
+            page.nothing()
         }
-        b"commit" => commit(table, xid, page),
         b"exists" => {
             page.truth(table.has_branch(xid))?;
             page.end_line()

@@ -25,7 +25,7 @@ pub fn run_scripts(
 }
 
 /// The bytes that a text says.
-fn unescaped(alloc: Global, text: &[u8], out: &mut Vec<u8>) -> Result<(), Stop> {
+pub fn unescaped(alloc: Global, text: &[u8], out: &mut Vec<u8>) -> Result<(), Stop> {
     for (i, piece) in text.split(|byte| *byte == b'\\').enumerate() {
         match piece {
             [first, second, rest @ ..] if i > 0 => {
