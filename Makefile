@@ -2,7 +2,7 @@
 SCRIPT ?= examples/plain-commit.script
 PREFIX ?= /usr/local
 
-.PHONY: run build try test golden scripts wrong-rules docs install clean proof-tools test-tools
+.PHONY: run build try test golden scripts wrong-rules cluster demo-postgresql soak docs install clean proof-tools test-tools
 
 # builds the program and runs it on a script
 run: build
@@ -36,8 +36,28 @@ test: test-tools
 
 golden: test-tools build scripts
 
+# proves and builds the program of a node of a cluster, and leaves it at bin/pcommit_node
+bin/pcommit_node: bin/pcommit | proof-tools
+	@tools/progress.py pcommit_node bin/node-build.log --help
+	@cp crates/pcommit_node/out/pcommit_node bin/pcommit_node
+
+# seven processes on this host, a transaction, and a leader that is killed in the middle of one: docs/DEPLOY.md
+cluster: bin/pcommit_node
+	@examples/cluster/demo.py bin/pcommit_node
+
+# two PostgreSQL servers and a transaction over both whose coordinator dies, with and without pcommit
+demo-postgresql: bin/pcommit_node
+	@[ -x /usr/bin/python3 ] && /usr/bin/python3 -c 'import psycopg2' 2>/dev/null && ls /usr/lib/postgresql/*/bin/postgres >/dev/null 2>&1 || \
+	    { echo 'not installed: apt-get install postgresql python3-psycopg2' >&2; exit 1; }
+	@/usr/bin/python3 examples/postgresql/demo.py bin/pcommit_node
+
+# a cluster of processes on this host for an hour: a thousand kills, a network that fails, strangers
+soak: test-tools bin/pcommit_node
+	tests/cluster/soak.sh bin/pcommit_node
+
 scripts:
 	tests/run.sh bin/pcommit
+	[ ! -e crates/pcommit_node/out/pcommit_node ] || tests/cluster/run.sh crates/pcommit_node/out/pcommit_node
 	tests/sweeps.py bin/pcommit
 	tests/memory.py bin/pcommit
 

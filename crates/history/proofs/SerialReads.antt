@@ -52,7 +52,7 @@ use Rattle.history.proofs.Moves.{manager_in, branches_of, IsMove, Quiet, Restart
 use Rattle.history.proofs.Orders.{IsFirst, once_filter, first_alone, first_more, first_filtered, find_more, one_way}
 use Rattle.history.proofs.Orders.{same_order}
 use Rattle.history.proofs.Orders.{in_before, first_before, before_first, first_those, once_before}
-use Rattle.history.proofs.Rows.{AscendRows, writes_ascend, first_ascend}
+use Rattle.branch_table.proofs.TableRows.{AscendRows, writes_ascend, first_ascend}
 use Rattle.history.proofs.Runs.{IsRun, AtFirst, Then, reached, facts_in}
 use Rattle.history.proofs.SerialTables as tables
 use Rattle.history.proofs.Stretches.{since_call}

@@ -36,7 +36,7 @@ use Rattle.history.proofs.Conflicts.{AreOrdered, Clash, commits_in, stored_commi
 use Rattle.history.proofs.Kept.{IsKept, kept_ever}
 use Rattle.history.proofs.Moves.{manager_in}
 use Rattle.history.proofs.Orders.{IsFirst, first_is, is_first, once_filter, first_filtered, same_order}
-use Rattle.history.proofs.Rows.{AscendRows, writes_ascend, first_ascend, keys_there, same_rows, untouched}
+use Rattle.branch_table.proofs.TableRows.{AscendRows, writes_ascend, first_ascend, keys_there, same_rows, untouched}
 use Rattle.history.proofs.Runs.{IsRun, lines_back}
 use Rattle.history.proofs.TablesBack.{IsVoteFound, vote_found, voted_found, writes_by, all_back, order_back}
 use Rattle.history.proofs.Told.{IsSound, IsTold, sound, told_ever}

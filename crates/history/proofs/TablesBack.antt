@@ -23,7 +23,8 @@ use Rattle.history.specs.Words.{Fact, Touched, Change, Step, Row}
 use Rattle.history.specs.Lines.{changes_at, change_stored, view_back}
 use Rattle.history.specs.Writes.{actions_since_start, accepted_writes, writes_of, is_committed_view, changed_to, commit_order, table_back}
 use Rattle.history.specs.Writes.{names_prepared}
-use Rattle.history.proofs.Rows.{AscendRows, writes_ascend, first_ascend, same_writes}
+use Rattle.branch_table.proofs.TableRows.{AscendRows, writes_ascend, first_ascend}
+use Rattle.history.proofs.Rows.{same_writes}
 use Rattle.history.proofs.Told.{IsSound, IsTold}
 use Rattle.history.proofs.Kept.{IsKept}
 

@@ -41,7 +41,7 @@ fn view_word(view: View) -> &'static [u8]
 }
 
 /// The words of an answer.
-pub(crate) fn put_answer(alloc: Global, out: &mut Vec<u8>, answer: &Answer) -> Result<(), Refusal>
+pub fn put_answer(alloc: Global, out: &mut Vec<u8>, answer: &Answer) -> Result<(), Refusal>
     ensures ok { OnOk result (out.new.items ≡ out.old.items ++ spaced_words (answer_words answer.now)) }
     ensures err { IfErr result (λ e. e ≡ NoMemory) }
 {

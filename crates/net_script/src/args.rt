@@ -93,7 +93,7 @@ pub(crate) fn leader(args: &[u8]) -> Option<(u8, &[u8])>
 }
 
 /// The node of the first word, and the rest.
-pub(crate) fn node(args: &[u8]) -> Option<(NodeId, &[u8])>
+pub fn node(args: &[u8]) -> Option<(NodeId, &[u8])>
     ensures { MatchOption result
         ((n : NodeId) (ws : List (List ℕ)) → IsNode n → words args.now ≢ node_text n ∷ ws)
         (λ found. IsNode found.0 × (words args.now ≡ node_text found.0 ∷ words found.1.now)) }
@@ -108,7 +108,7 @@ pub(crate) fn node(args: &[u8]) -> Option<(NodeId, &[u8])>
 }
 
 /// The node that is the only word.
-pub(crate) fn last_node(args: &[u8]) -> Option<NodeId>
+pub fn last_node(args: &[u8]) -> Option<NodeId>
     ensures { MatchOption result
         ((n : NodeId) → IsNode n → words args.now ≢ node_text n ∷ [])
         (λ n. IsNode n × (words args.now ≡ node_text n ∷ [])) }
@@ -123,7 +123,7 @@ pub(crate) fn last_node(args: &[u8]) -> Option<NodeId>
 }
 
 /// The transaction that is the only word.
-pub(crate) fn last_tx(alloc: Global, args: &[u8]) -> Result<Option<Boxed<Tx>>, Refusal>
+pub fn last_tx(alloc: Global, args: &[u8]) -> Result<Option<Boxed<Tx>>, Refusal>
     ensures { Reads IsTx (λ tx. tx_text tx ∷ []) (words args.now) result }
 {
     let Some((word, rest)) = next_word(args) else {

@@ -243,7 +243,7 @@ pub(crate) fn read_event(alloc: Global, text: &[u8]) -> Result<Option<Event>, Re
 }
 
 /// The command of these words.
-pub(crate) fn read_command(alloc: Global, line: &[u8]) -> Result<Option<Command>, Refusal>
+pub fn read_command(alloc: Global, line: &[u8]) -> Result<Option<Command>, Refusal>
     ensures { Reads IsCommand command_words (words line.now) result }
 {
     let Some((word, args)) = next_word(line) else {

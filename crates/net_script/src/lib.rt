@@ -26,7 +26,12 @@ mod traces;
 mod values;
 mod words;
 
+pub use answers::put_answer;
+pub use args::{last_node, last_tx, node};
+pub use commands::read_command;
+pub use pieces::{put_node, put_rows, put_tx};
 pub use scripts::{line_of, one_reading, read_script};
 pub use trace_reading::{one_trace, read_trace};
 pub use traces::{write_finals, write_head, write_step, write_trace};
 pub use values::{Command, Entry, Script, Sizes, Table, Trace};
+pub use words::{is_over, next_word};

@@ -51,7 +51,7 @@ pub(crate) fn put_manager(out: &mut Vec<u8>, rm: usize) -> Result<(), Refusal>
 }
 
 /// A node.
-pub(crate) fn put_node(out: &mut Vec<u8>, node: NodeId) -> Result<(), Refusal>
+pub fn put_node(out: &mut Vec<u8>, node: NodeId) -> Result<(), Refusal>
     ensures ok { OnOk result (out.new.items ≡ out.old.items ++ 32 ∷ node_text node) }
     ensures err { IfErr result (λ e. e ≡ NoMemory) }
 {
@@ -96,7 +96,7 @@ pub(crate) fn put_xid(alloc: Global, out: &mut Vec<u8>, xid: &Xid) -> Result<(),
 }
 
 /// A transaction.
-pub(crate) fn put_tx(alloc: Global, out: &mut Vec<u8>, tx: &Tx) -> Result<(), Refusal>
+pub fn put_tx(alloc: Global, out: &mut Vec<u8>, tx: &Tx) -> Result<(), Refusal>
     ensures ok { OnOk result (out.new.items ≡ out.old.items ++ 32 ∷ tx_text tx.now) }
     ensures err { IfErr result (λ e. e ≡ NoMemory) }
 {
@@ -118,7 +118,7 @@ fn put_row(alloc: Global, out: &mut Vec<u8>, row: &Row) -> Result<(), Refusal>
 }
 
 /// Rows.
-pub(crate) fn put_rows(alloc: Global, out: &mut Vec<u8>, rows: &[Row]) -> Result<(), Refusal>
+pub fn put_rows(alloc: Global, out: &mut Vec<u8>, rows: &[Row]) -> Result<(), Refusal>
     ensures ok { OnOk result (out.new.items ≡ out.old.items ++ spaced_words (rows_words rows.now)) }
     ensures err { IfErr result (λ e. e ≡ NoMemory) }
 {

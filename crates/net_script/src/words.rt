@@ -25,7 +25,7 @@ pub(crate) fn next_piece(text: &[u8], mark: u8) -> Option<(&[u8], &[u8])>
 }
 
 /// The first word of a line, and the rest of the line.
-pub(crate) fn next_word(line: &[u8]) -> Option<(&[u8], &[u8])>
+pub fn next_word(line: &[u8]) -> Option<(&[u8], &[u8])>
     ensures { MatchOption result (words line.now ≡ []) (λ parts. IsFirstWord line.now parts.0.now parts.1.now) }
 {
     let mut rest = line;
@@ -39,7 +39,7 @@ pub(crate) fn next_word(line: &[u8]) -> Option<(&[u8], &[u8])>
 }
 
 /// Whether no word is left.
-pub(crate) fn is_over(line: &[u8]) -> bool
+pub fn is_over(line: &[u8]) -> bool
     ensures { IsTrue result ↔ (words line.now ≡ []) }
 {
     let Some((_word, _rest)) = next_word(line) else {
