@@ -58,7 +58,7 @@ module _ (p : AcceptorParts) (d : Decision) (message : Kind)
       → acceptor_specs.StandsFor config a p facts → (o : Option Fact) → IfSome o (λ fact. plays_at_acceptor (slot facts) fact ≡ true)
       → IsLeft config (A a) facts memory (Role.Acceptor p) (in_memory (λ none. memory) e) o
   acceptor_left config a facts memory e s None plays = s
-  acceptor_left config a facts memory e s (Some fact) plays = record { stands = s; fits = plays; playable = tt; leaves = refl }
+  acceptor_left config a facts memory e s (Some fact) plays = record { stands = s; fits = plays; idle = tt; leaves = refl }
 
   pub acceptor_decides : Decides (Role.Acceptor p) (Role.Acceptor p) d
       (λ config who facts memory. on_message config who facts memory message)
@@ -77,7 +77,7 @@ module _ (p : ManagerParts) (d : Decision) (message : Kind) (h : manager_specs.D
     (λ config number stored branches. on_manager_message number stored branches (xid_at (message_tx message) number) message)) where
   manager_left : (config : Config) (rm : ℕ) (facts : List Fact) (memory : Memory) (e : Effect (List Branch))
       → manager_specs.StandsFor config rm p facts memory.branches → (o : Option Fact)
-      → IfSome o (λ fact. (plays_at_manager rm (stored_votes rm facts) fact ≡ true) × manager_specs.IsPlayable rm memory.branches fact)
+      → IfSome o (λ fact. (plays_at_manager rm (stored_votes rm facts) fact ≡ true) × manager_specs.IsOfIdleBranch rm memory.branches fact)
       → e.memory ≡ manager_specs.unspent_branches rm (with_fact facts o) memory.branches
       → IsLeft config (R rm) facts memory (Role.Manager p) (of_manager memory e) o
   manager_left config rm facts memory e s None plays leaves =
@@ -85,7 +85,7 @@ module _ (p : ManagerParts) (d : Decision) (message : Kind) (h : manager_specs.D
   manager_left config rm facts memory e s (Some fact) plays leaves = record {
     stands = s;
     fits = plays.0;
-    playable = plays.1;
+    idle = plays.1;
     leaves = ap (λ (branches : List Branch). record memory { branches = branches }) leaves;
   }
 
@@ -225,7 +225,7 @@ module _ (old new : LeaderParts) (d : LeaderDecision) (tx : TxParts) where
   timeout_left config l facts memory s (Some fact) is plays waits stands = record {
     stands = subst (λ (p : LeaderParts). leader_specs.StandsFor config l p facts memory.leader) (sym waits) s;
     fits = plays;
-    playable = tt;
+    idle = tt;
     leaves = timeout_leaves config l facts memory tx fact (sym is);
   }
 

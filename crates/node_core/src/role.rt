@@ -5,7 +5,7 @@ ghost use Rattle.acceptor.specs.Acceptors.{acceptor_part};
 ghost use Rattle.protocol.specs.Effects.{Config};
 ghost use Rattle.protocol.specs.Nodes.{on_message as on_message_of, on_request as on_request_of, empty_memory};
 ghost use Rattle.node_core.specs.declared.role.Role.TheVariants as roles;
-ghost use Rattle.node_core.specs.Roles.{Decides, IsReadyFor, IsSame, Replays, Takes, decided};
+ghost use Rattle.node_core.specs.Roles.{Decides, HasRoomFor, IsSame, Replays, Takes, decided};
 ghost use Rattle.node_core.specs.Sparing.{hears_freely, serves_freely};
 
 use crate::output::Output;
@@ -93,7 +93,7 @@ impl Role {
 
     /// Makes itself ready for a fact that it decided, so that `take` of it takes no memory. Refused: `NoMemory` alone.
     pub fn ready(&mut self, fact: &Fact) -> Result<(), Refusal>
-        ensures ok { OnOk result (IsSame self.old self.new × IsReadyFor self.new fact.now) }
+        ensures ok { OnOk result (IsSame self.old self.new × HasRoomFor self.new fact.now) }
         ensures err { IfErr result (λ e. e ≡ NoMemory) }
     {
         match self {

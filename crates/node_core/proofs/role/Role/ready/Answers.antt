@@ -1,6 +1,6 @@
 use Rattle.acceptor.specs.Acceptors.{acceptor_part}
 use Rattle.leader.specs.Leaders.{leader_part}
-use Rattle.resource_manager.specs.Managers.{manager_part}
+use Rattle.resource_manager.specs.Managers.{placed_part}
 use Rattle.std.proofs.Common.{[]}
 use Rattle.protocol.specs.LeaderMemory.{nothing_heard}
 use Rattle.node_core.proofs.Deciding.{no_config}
@@ -33,5 +33,5 @@ returns-in-Manager-clause-ok c =
 
 pub returns-in-Manager-clause-err : goal.returns-in-Manager-clause-err
 returns-in-Manager-clause-err c =
-    refuses_memory (manager_part no_config 0 []) c.in-Manager.manager c.ready-in-Manager.new.self c.args.fact.now
+    refuses_memory (placed_part no_config 0 []) c.in-Manager.manager c.ready-in-Manager.new.self c.args.fact.now
     c.ready-in-Manager.result (c.ready-in-Manager.ensures no_config 0 [])

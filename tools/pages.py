@@ -1,13 +1,16 @@
 #!/usr/bin/env python3
-"""figures.py --check: counts again what the pages say there is so many of (runs, edits, tests, calls, rules), and fails where a page says
-another figure, or none says it any more. Figures of time and speed are measured and can't be counted again."""
+"""pages.py --check: counts again what the pages say there is so many of (crates, runs, edits, tests, calls, rules), and fails where a page
+says another figure, or none says it any more, or two pages differ in how long `make try` takes; where a link of a page leads to no file or no
+heading; where a file of the repository that a page names isn't there. Figures of time and speed are measured and can't be counted again."""
 import ast
 import re
 import sys
 from pathlib import Path
 
 ROOT = Path(__file__).resolve().parent.parent
-PAGES = ["README.md", "CONTRIBUTING.md", "Makefile"] + sorted(
+# what is made and isn't kept
+MADE = ("docs/DEFINITIONS.md", "bin/")
+PAGES = ["README.md", "CONTRIBUTING.md", "Makefile", "bench/RESULTS.md"] + sorted(
     str(path.relative_to(ROOT)) for path in (ROOT / "docs").glob("*.md") if path.name not in ("DEFINITIONS.md", "definitions-head.md"))
 ONES = ("zero one two three four five six seven eight nine ten eleven twelve thirteen fourteen fifteen sixteen seventeen eighteen "
         "nineteen").split()
@@ -58,6 +61,32 @@ def told_rules():
     return len({path.stem for path in ROOT.glob("tests/wrong-rules/*.rule")} & set(told))
 
 
+def anchors(page):
+    """The places in a page that a link may lead to: its headings, as pages show them."""
+    heads = re.findall(r"^#+ +(.*)$", re.sub(r"^```.*?^```", "", text(page), flags=re.M | re.S), re.M)
+    return {re.sub(r"[^\w\- ]", "", head.lower()).replace(" ", "-") for head in heads}
+
+
+def broken_links(page):
+    """The links of a page that lead nowhere."""
+    for target in re.findall(r"\]\(([^)\s]+)\)", text(page)):
+        file, _, place = target.partition("#")
+        if re.match(r"\w+:", target):
+            continue
+        path = (ROOT / page).parent / file if file else ROOT / page
+        if not path.exists():
+            yield f"{page} links to {target}: no such file"
+        elif place and place not in anchors(path.resolve().relative_to(ROOT)):
+            yield f"{page} links to {target}: no such heading"
+
+
+def missing_files(page):
+    """The files that a page names by their path from the top, and that aren't there. A name in capitals or a star stands for any."""
+    for name in re.findall(r"`((?:crates|docs|tests|tools|bench|examples)/[^`\s]*)`", text(page)):
+        if not name.startswith(MADE) and not any(ROOT.glob(re.sub(r"\b[A-Z_]{3,}\b(?!\.md)", "*", name).rstrip("/"))):
+            yield f"{page} names {name}, which isn't there"
+
+
 named, edits = named_edits()
 others = [crate for crate, _ in edits if (crate, _) not in named]
 rules, looking_back = count("tests/wrong-rules/*.rule"), count("tests/wrong-rules/*.rule", "crate: history")
@@ -93,6 +122,8 @@ def main():
     minutes = r"(?:in|proofs:) (about [a-z ]*minutes?)(?=, with no proofs|\.\")"
     tries = {found for page in pages.values() for found in re.findall(minutes, page)}
     wrong += [] if len(tries) == 1 else [f"`make try` takes {' and '.join(tries)}"]
+    for page in PAGES:
+        wrong += [*broken_links(page), *missing_files(page)]
     print("\n".join(wrong), end="\n" if wrong else "", file=sys.stderr)
     return 1 if wrong else 0
 
