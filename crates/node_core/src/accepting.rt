@@ -1,12 +1,11 @@
 //! What an acceptor does on a datagram: its message is seen over the bytes, and so is the fact that is stored. No transaction is built.
 
 ghost use Rattle.std.specs.Prelude.{◌≡◌, ◌&&◌, ℕ, true, IfErr, OnOk, List, None};
-ghost use Rattle.xid.specs.Transactions.{TxParts, participants};
+ghost use Rattle.xid.specs.Transactions.{TxParts};
 ghost use Rattle.xid.specs.declared.refusals.Refusal.TheVariants.{NoMemory};
 ghost use Rattle.wire.specs.Grammar.{Spells};
 ghost use Rattle.wire.specs.Said.{said};
 ghost use Rattle.stable_record.specs.declared.fact.FactKind.{FactKind};
-ghost use Rattle.resource_manager.specs.Messages.{are_below};
 ghost use Rattle.protocol.specs.Effects.{Config, Effect};
 ghost use Rattle.protocol.specs.Nodes.{Memory, effect_of, is_acceptor_inside, is_form_of, is_message_inside};
 ghost use Rattle.node_core.specs.declared.role.Role.TheVariants as roles;
@@ -20,20 +19,8 @@ use crate::storing::store_spelled;
 use acceptor::Acceptor;
 use protocol::{Answer, NodeId};
 use stable_record::{Record, SpelledFact};
-use wire::{MessageView, Rest, SpelledTx, view_of};
+use wire::{MessageView, Rest, view_of};
 use xid::Refusal;
-
-/// Whether a transaction names only resource managers of the cluster.
-fn is_inside(managers: u8, tx: &SpelledTx<'_>) -> bool
-    ensures { result ≡ are_below managers (participants tx.now) }
-{
-    for i in 0..tx.count() {
-        if tx.rm(i) >= u16::from(managers) {
-            return false;
-        }
-    }
-    true
-}
 
 /// Whether what a message says beside its transaction names none but nodes of the cluster, and has the form that goes there.
 fn has_form(sizes: Sizes, rest: Rest<'_>) -> bool
@@ -59,7 +46,7 @@ fn has_form(sizes: Sizes, rest: Rest<'_>) -> bool
 fn is_of_cluster(sizes: Sizes, message: &MessageView<'_>) -> bool
     ensures { (config : Config) → AreSizes config sizes → result ≡ is_message_inside config message.now }
 {
-    if !is_inside(sizes.managers, message.tx()) {
+    if !message.tx().are_below(u16::from(sizes.managers)) {
         return false;
     }
     has_form(sizes, message.rest())

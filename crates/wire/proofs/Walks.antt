@@ -1,15 +1,15 @@
 -- Walking over the branches on their bytes.
 use Rattle.std.proofs.Common.{◌≡◌, ◌≢◌, eqb, ℕ, zero, suc, ◌+◌, ◌-◌, ◌<◌, ◌≤◌, Bool, true, false, ltb, List, [], ◌∷◌, ◌++◌, length, take, drop, get_or}
 use Rattle.std.proofs.Common.{Option, Some, None, IsTrue, refl, sym, ap, ◌∙◌, arith, slice_index}
-use Rattle.std.specs.Prelude.{is_some}
-use Rattle.std.specs.List.{flat_map, All, list_any}
+use Rattle.std.specs.Prelude.{is_some, nat_lt}
+use Rattle.std.specs.List.{flat_map, All, list_all, list_any}
 use Rattle.std.proofs.lemmas.Bool.Decides.{nat_tests}
-use Rattle.std.proofs.lemmas.Bool.{ltb-true, ltb-false, le-ltb}
+use Rattle.std.proofs.lemmas.Bool.{ltb-true, ltb-false, le-ltb, lt-ltb}
 use Rattle.std.proofs.lemmas.List.Concat.{flat_map-cons}
 use Rattle.std.proofs.lemmas.Grind.{common_steps}
 use Rattle.byteorder.specs.Endian.{big_number}
 use Rattle.xid.specs.Limits.{most_component}
-use Rattle.xid.specs.Transactions.{BranchParts, IsBranch, is_at}
+use Rattle.xid.specs.Transactions.{BranchParts, IsBranch, is_at, rm_numbers}
 use Rattle.wire.specs.Grammar.{branch_spelling, branches_spelling}
 use Rattle.wire.specs.Reading.{branch_at, component_at}
 use Rattle.wire.specs.Versions.{version_2}
@@ -133,3 +133,16 @@ none_yet bs i rm d other before k less = by (ltb k i) refl
         let same : k ≡ i = omega (arith, less, ltb-false k i et) in
         let no : eqb (get_or bs i d).rm rm ≡ false = grind (arith, nat_tests, other) in
         ap (λ (n : ℕ). is_at rm (get_or bs n d)) same ∙ no
+
+-- whether all branches from a place on are below a number
+pub all_stops : (bs : List BranchParts) (i n : ℕ) (d : BranchParts) → i < length bs → n ≤ (get_or bs i d).rm
+    → list_all (λ rm. nat_lt rm n) (rm_numbers (drop i bs)) ≡ false
+all_stops bs i n d lt le =
+    let no : ltb (get_or bs i d).rm n ≡ false = le-ltb _ _ le in
+    ap (λ (xs : List BranchParts). list_all (λ rm. nat_lt rm n) (rm_numbers xs)) (drops bs i d lt) ∙ rw no refl
+
+pub all_goes : (bs : List BranchParts) (i n : ℕ) (d : BranchParts) → i < length bs → (get_or bs i d).rm < n
+    → list_all (λ rm. nat_lt rm n) (rm_numbers (drop i bs)) ≡ list_all (λ rm. nat_lt rm n) (rm_numbers (drop (i + 1) bs))
+all_goes bs i n d lt below =
+    let yes : ltb (get_or bs i d).rm n ≡ true = lt-ltb _ _ below in
+    ap (λ (xs : List BranchParts). list_all (λ rm. nat_lt rm n) (rm_numbers xs)) (drops bs i d lt) ∙ rw yes refl

@@ -1,5 +1,5 @@
-ghost use Rattle.std.specs.Prelude.{◌≡◌, ◌≤◌, ◌<◌, IsTrue, is_some, length, slice_index, MatchOption};
-ghost use Rattle.std.specs.List.{position_or_len};
+ghost use Rattle.std.specs.Prelude.{◌≡◌, ◌≤◌, ◌<◌, IsTrue, is_some, length, slice_index, MatchOption, nat_lt};
+ghost use Rattle.std.specs.List.{list_all, position_or_len};
 ghost use Rattle.xid.specs.Limits.{most_managers};
 ghost use Rattle.xid.specs.Transactions.{IsTx, nth_branch, participants, is_at, is_participant};
 ghost use Rattle.wire.specs.Decoding.{tx_in};
@@ -214,6 +214,23 @@ impl<'a> SpelledTx<'a> {
             rest = branch.2;
         }
         false
+    }
+
+    /// Whether each resource manager that takes part has a number below this one.
+    pub fn are_below(&self, managers: ManagerNumber) -> bool
+        ensures value { result ≡ list_all (λ rm. nat_lt rm managers) (participants self.now) }
+        ensures valid { IsTx self.now }
+    {
+        let branches = self.branches();
+        let mut rest = &branches[1..];
+        for _ in 0..branches[0] {
+            let branch = first_branch(rest);
+            if branch.0 >= managers {
+                return false;
+            }
+            rest = branch.2;
+        }
+        true
     }
 
     /// The place of a resource manager's branch, or how many branches there are where it takes no part.
