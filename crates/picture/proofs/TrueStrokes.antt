@@ -110,7 +110,7 @@ note_true sizes rows count page =
 carried_true : (sizes : Sizes) (rows : List Row) (count page rms : ℕ) → All (IsTrueOf sizes rows) (carried_elements count rows page rms)
 carried_true sizes rows count page rms =
     all_of_each (IsTrueOf sizes rows) (carried_view count rows page)
-    (λ rm. band_true sizes rows count page rm (page_top page + 22) (view_before rows rm (next_line (min (page * 60) (2 ^ 32 - 1)))))
+    (λ rm. band_true sizes rows count page rm (page_top page + 22) (view_before rows rm (next_line (min (page * 90) (2 ^ 32 - 1)))))
     (range_with_len 0 rms)
 
 page_true : (sizes : Sizes) (rows : List Row) (count page : ℕ) → All (IsTrueOf sizes rows) (page_elements sizes count rows page)

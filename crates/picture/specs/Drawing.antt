@@ -86,7 +86,7 @@ band_elements lines page rm y view = Band view (point (lane_x 0 0 rm - 5) y) (pa
 -- the view of a resource manager with which a page begins
 abbrev pub carried_view : ℕ → List Row → ℕ → ℕ → List Element
 carried_view lines rows page rm =
-    band_elements lines page rm (page_top page + 22) (view_before rows rm (next_line (min (page * 60) (2 ^ 32 - 1))))
+    band_elements lines page rm (page_top page + 22) (view_before rows rm (next_line (min (page * 90) (2 ^ 32 - 1))))
 
 -- the views with which a page begins
 abbrev pub carried_elements : ℕ → List Row → ℕ → ℕ → List Element

@@ -5,21 +5,21 @@ use Rattle.net_script.specs.declared.values.Sizes.{Sizes}
 use Rattle.protocol.specs.declared.nodes.NodeId.{NodeId}
 use Rattle.protocol.specs.declared.nodes.NodeId.TheVariants.{A, L, R}
 
--- the page of a line, from 0: a page has 60 lines
+-- the page of a line, from 0: a page has 90 lines
 abbrev pub page_of : ℕ → ℕ
-page_of line = (line - 1) / 60
+page_of line = (line - 1) / 90
 
 -- where a page begins
 abbrev pub page_top : ℕ → ℕ
-page_top page = 110 + 970 * page
+page_top page = 110 + 1420 * page
 
 -- how far down the row of a line is: rows are 15 pixels apart, below the head of their page
 abbrev pub row_y : ℕ → ℕ
-row_y line = page_top (page_of line) + 36 + 15 * ((line - 1) % 60)
+row_y line = page_top (page_of line) + 36 + 15 * ((line - 1) % 90)
 
 -- where the lanes of a page end, in a picture of so many lines: below its last row
 abbrev pub page_end : ℕ → ℕ → ℕ
-page_end page lines = min (row_y lines) (page_top page + 36 + 15 * 59) + 10
+page_end page lines = min (row_y lines) (page_top page + 36 + 15 * 89) + 10
 
 -- the lane of a node of this number, behind those of two kinds
 abbrev pub lane_x : ℕ → ℕ → ℕ → ℕ

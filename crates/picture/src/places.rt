@@ -7,9 +7,9 @@ use net_script::Sizes;
 use protocol::NodeId;
 
 /// How many lines of a trace a page has.
-pub(crate) const PAGE_LINES: u32 = 60;
+pub(crate) const PAGE_LINES: u32 = 90;
 /// How high a page is, its head and the space below it among that.
-const PAGE_HEIGHT: u64 = 970;
+const PAGE_HEIGHT: u64 = 1420;
 /// Where the first page begins, below the legend.
 const FIRST_PAGE: u64 = 110;
 /// How far the first row of a page is below its top.
