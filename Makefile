@@ -21,12 +21,12 @@ try: proof-tools
 	@echo "Interpreting $(SCRIPT), with no proofs: about a minute." >&2
 	@cd crates/pcommit && rt try --data script=$(abspath $(SCRIPT)) -- run script
 
-# everything: the page of definitions, figures on the pages, each proof from nothing, the must-fail edits, the tests, the programs as two
+# everything: a sentence above each definition, figures and links on the pages, each proof from nothing, the must-fail edits, the tests, the programs as two
 # compilers build them, the cases of single parts among them; then, of what was built so, the golden scripts, runs and cases with each block
 # of memory refused in turn, and runs of many transactions
 test: test-tools
 	tools/definitions.py --check
-	tools/figures.py --check
+	tools/pages.py --check
 	rt ci
 	@mkdir -p bin
 	@cp crates/pcommit/out/pcommit bin/pcommit
@@ -77,7 +77,7 @@ scripts:
 wrong-rules: proof-tools
 	tests/wrong-rules/run.sh
 
-# writes docs/DEFINITIONS.md from crates/*/specs
+# writes every definition with its sentence to docs/DEFINITIONS.md, which isn't kept
 docs:
 	tools/definitions.py
 

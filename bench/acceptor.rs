@@ -1,6 +1,7 @@
 //! An acceptor takes phase 2a messages of transactions with two branches:
 //! `bench_acceptor plain|bundled TRANSACTIONS BALLOTS REPETITIONS`.
-//! In each ballot, beginning with 0, each transaction's two messages are decided, and their facts made ready and played. A repetition
+//! In each ballot, beginning with 0, each transaction's two messages are seen over their bytes and decided, their facts made ready and
+//! played, and what is sent is spelled. A repetition
 //! begins with an acceptor that has played nothing. Prints how many facts were played, and a sum of what was sent last.
 #![tactic(auto)]
 
@@ -8,54 +9,63 @@ mod common;
 
 use acceptor::Acceptor;
 use anyhow::bail;
-use common::{message_of, sum_of, tx_of};
-use protocol::Decision;
+use common::{message_of, sum_of_bytes, tx_of};
 use std::alloc::Global;
 use std::env;
-use wire::{Kind, Message};
+use wire::{Kind, MAX_DATAGRAM, encode, view_of};
 use xid::{Ballot, ManagerNumber, Refusal, Vote};
 
 const USAGE: &str = "usage: bench_acceptor plain|bundled TRANSACTIONS BALLOTS REPETITIONS";
 
-/// Phase 2a of an instance of a transaction.
-fn phase_2a(number: u32, instance: ManagerNumber, ballot: Ballot) -> Result<Message, Refusal> {
-    message_of(Kind::P2a {
+/// The bytes of phase 2a of an instance of a transaction.
+fn phase_2a(
+    alloc: Global,
+    number: u32,
+    instance: ManagerNumber,
+    ballot: Ballot,
+) -> anyhow::Result<Vec<u8>> {
+    let message = message_of(Kind::P2a {
         tx: tx_of(number, 2)?,
         instance,
         ballot,
         vote: Vote::Prepared,
-    })
+    })?;
+    let mut bytes = [0; MAX_DATAGRAM];
+    let len = encode(&message, &mut bytes);
+    Ok(Vec::from_slice(alloc, &bytes[..len])?)
 }
 
 /// The messages of all ballots, one ballot after the other.
-fn messages_of(alloc: Global, transactions: u32, ballots: Ballot) -> Result<Vec<Message>, Refusal> {
+fn messages_of(alloc: Global, transactions: u32, ballots: Ballot) -> anyhow::Result<Vec<Vec<u8>>> {
     let mut messages = Vec::new(alloc);
     for ballot in 0..ballots {
         for number in 0..transactions {
-            messages.push(phase_2a(number, 0, ballot)?)?;
-            messages.push(phase_2a(number, 1, ballot)?)?;
+            messages.push(phase_2a(alloc, number, 0, ballot)?)?;
+            messages.push(phase_2a(alloc, number, 1, ballot)?)?;
         }
     }
     Ok(messages)
 }
 
-/// An acceptor decides on each message, and plays what is to be stored. Answers how many facts it played, and the sum of the
-/// message that it sent last.
-fn play_all(alloc: Global, bundled: bool, messages: &[Message]) -> Result<(u64, u64), Refusal> {
+/// An acceptor sees each message over its bytes and decides on it, and plays what is to be stored. Answers how many facts it played, and
+/// the sum of the bytes that it sent last.
+fn play_all(alloc: Global, bundled: bool, messages: &[Vec<u8>]) -> Result<(u64, u64), Refusal> {
     let mut acceptor = Acceptor::new(alloc, 0, 1, bundled);
     let mut played: u64 = 0;
-    let mut decision = Decision::nothing();
-    for message in messages {
-        acceptor.decide(message, &mut decision);
+    let mut sent = [0; MAX_DATAGRAM];
+    let mut len = 0;
+    for bytes in messages {
+        let decision = acceptor.on_message(&view_of(bytes)?);
         if let Some(fact) = &decision.fact {
-            acceptor.ready(fact)?;
-            acceptor.play_by(fact)?;
+            acceptor.ready(fact.tx())?;
+            acceptor.play(fact)?;
             played = played.wrapping_add(1);
         }
+        if let Some(reply) = &decision.reply {
+            len = reply.message.encode(&mut sent);
+        }
     }
-    let last = decision.sends.as_slice().first();
-    let sum = last.map_or(0, |outgoing| sum_of(&outgoing.message));
-    Ok((played, sum))
+    Ok((played, sum_of_bytes(&sent[..len])))
 }
 
 fn main(rt: HostRuntime) -> anyhow::Result<()> {

@@ -19,13 +19,18 @@ pub fn message_of(kind: Kind) -> Result<Message, Refusal> {
     Ok(Message::new(kind))
 }
 
+/// The sum of bytes.
+pub fn sum_of_bytes(bytes: &[u8]) -> u64 {
+    let mut sum: u64 = 0;
+    for byte in bytes {
+        sum = sum.wrapping_add(u64::from(*byte));
+    }
+    sum
+}
+
 /// The sum of a message's bytes.
 pub fn sum_of(message: &Message) -> u64 {
     let mut out = [0; MAX_DATAGRAM];
     let len = encode(message, &mut out);
-    let mut sum: u64 = 0;
-    for byte in &out[..len] {
-        sum = sum.wrapping_add(u64::from(*byte));
-    }
-    sum
+    sum_of_bytes(&out[..len])
 }

@@ -1,6 +1,7 @@
-//! Groups of inputs at a node over a record in memory, for `bench/groups.sh`:
-//! `bench_groups acceptor|manager SIZE TRANSACTIONS REPETITIONS`. Prints how many inputs were handed over, and how many appends were made.
-//! With size 0 a node is only opened; with `step` each input is a step. The inputs are those of `bench/nodes.rs`.
+//! Groups of inputs at a node over a record in memory or in a file, for `bench/groups.sh`:
+//! `bench_groups acceptor|manager SIZE TRANSACTIONS REPETITIONS [FILE]`. Prints how many inputs were handed over, and how many appends were
+//! made. With size 0 a node is only opened; with `step` each input is a step. The inputs are those of `bench/nodes.rs`. What stood in the
+//! file is lost.
 #![tactic(auto)]
 
 mod common;
@@ -10,32 +11,22 @@ use anyhow::bail;
 use datagrams::{begun, datagrams_of, node_of};
 use node_core::{Input, Node, Output};
 use protocol::NodeId;
-use stable_record::{MemRecord, Record, RecordError};
+use stable_record::{FileRecord, MemRecord, Record, RecordError};
 use std::alloc::Global;
 use std::env;
 
-const USAGE: &str = "usage: bench_groups acceptor|manager step|SIZE TRANSACTIONS REPETITIONS";
+const USAGE: &str =
+    "usage: bench_groups acceptor|manager step|SIZE TRANSACTIONS REPETITIONS [FILE]";
 
-/// A record in memory that counts its appends.
+/// A record that counts its appends.
 #[derive(Drop)]
-struct Counted {
-    record: MemRecord,
+struct Counted<R: Record> {
+    record: R,
     appends: u64,
 }
 
-impl Counted {
-    fn new(alloc: Global) -> Counted {
-        Counted {
-            record: MemRecord::new(alloc, Vec::new(alloc)),
-            appends: 0,
-        }
-    }
-}
-
-impl Record for Counted {
-    ghost use Rattle.stable_record.specs.Records.{mem_held};
-
-    ghost held = { λ counted. mem_held counted.record };
+impl<R: Record> Record for Counted<R> {
+    ghost held = { λ counted. R.held counted.record };
 
     fn read(&mut self, alloc: Global) -> Result<Vec<u8>, RecordError> {
         self.record.read(alloc)
@@ -87,15 +78,15 @@ impl Way {
 }
 
 /// Each datagram is a step.
-fn step_each(node: &mut Node<Counted>, datagrams: &[Vec<u8>], out: &mut Output) {
+fn step_each<R: Record>(node: &mut Node<Counted<R>>, datagrams: &[Vec<u8>], out: &mut Output) {
     for bytes in datagrams {
         node.step_into(Input::Received(bytes), out);
     }
 }
 
 /// Some datagrams are a group. There is a place for what comes of each.
-fn step_group(
-    node: &mut Node<Counted>,
+fn step_group<R: Record>(
+    node: &mut Node<Counted<R>>,
     alloc: Global,
     datagrams: &[Vec<u8>],
     outs: &mut [Output],
@@ -123,8 +114,8 @@ fn places(alloc: Global, count: usize) -> anyhow::Result<Vec<Output>> {
 }
 
 /// The datagrams go to a node.
-fn hand(
-    node: &mut Node<Counted>,
+fn hand<R: Record>(
+    node: &mut Node<Counted<R>>,
     alloc: Global,
     way: Way,
     datagrams: &[Vec<u8>],
@@ -142,13 +133,42 @@ fn hand(
     Ok(())
 }
 
-/// All repetitions. Answers how many appends were made.
+/// The datagrams go to a node over a record. Answers how many appends were made.
+fn hand_over<R: Record + Drop>(
+    alloc: Global,
+    who: NodeId,
+    way: Way,
+    transactions: u32,
+    datagrams: &[Vec<u8>],
+    outs: &mut [Output],
+    record: R,
+) -> anyhow::Result<u64> {
+    let record = Counted { record, appends: 0 };
+    let mut node = begun(alloc, who, transactions, record)?;
+    hand(&mut node, alloc, way, datagrams, outs)?;
+    Ok(node.into_record().appends)
+}
+
+/// The record in a file, emptied.
+fn emptied(rt: HostRuntime, path: &str) -> anyhow::Result<FileRecord> {
+    let mut record = match FileRecord::open(rt, path) {
+        Ok(record) => record,
+        Err(_) => bail!("the file can't be opened"),
+    };
+    match record.cut(0) {
+        Ok(()) => Ok(record),
+        Err(_) => bail!("the file can't be emptied"),
+    }
+}
+
+/// All repetitions. Answers how many inputs were handed over, and how many appends were made.
 fn repeat(
-    rt: &HostRuntime,
+    rt: HostRuntime,
     who: NodeId,
     way: Way,
     transactions: u32,
     repetitions: u32,
+    file: Option<&str>,
 ) -> anyhow::Result<(u64, u64)> {
     let alloc = rt.alloc();
     let datagrams = datagrams_of(alloc, who, transactions)?;
@@ -156,16 +176,28 @@ fn repeat(
     let mut appends: u64 = 0;
     let mut inputs: u64 = 0;
     for _ in 0..repetitions {
-        let mut node = begun(alloc, who, transactions, Counted::new(alloc))?;
-        hand(&mut node, alloc, way, &datagrams, &mut outs)?;
-        appends = appends.wrapping_add(node.into_record().appends);
+        let made = match file {
+            Some(path) => {
+                let record = emptied(rt, path)?;
+                hand_over(alloc, who, way, transactions, &datagrams, &mut outs, record)?
+            }
+            None => {
+                let record = MemRecord::new(alloc, Vec::new(alloc));
+                hand_over(alloc, who, way, transactions, &datagrams, &mut outs, record)?
+            }
+        };
+        appends = appends.wrapping_add(made);
         inputs = inputs.wrapping_add(datagrams.len() as u64);
     }
     Ok((inputs, appends))
 }
 
 /// Does what the words say.
-fn run(rt: &HostRuntime, words: &[String]) -> anyhow::Result<(u64, u64)> {
+fn run(rt: HostRuntime, words: &[String]) -> anyhow::Result<(u64, u64)> {
+    let (words, file) = match words {
+        [first @ .., path] if first.len() == 5 => (first, Some(path.as_str())),
+        all => (all, None),
+    };
     let [_, role, way, transactions, repetitions] = words else {
         bail!("{USAGE}");
     };
@@ -183,12 +215,13 @@ fn run(rt: &HostRuntime, words: &[String]) -> anyhow::Result<(u64, u64)> {
         way,
         transactions.parse::<u32>()?,
         repetitions.parse::<u32>()?,
+        file,
     )
 }
 
 fn main(rt: HostRuntime) -> anyhow::Result<()> {
     let words: Vec<String> = env::args(&rt)?.collect(rt.alloc())?;
-    let (inputs, appends) = run(&rt, &words)?;
+    let (inputs, appends) = run(rt, &words)?;
     println!(rt; "{inputs} {appends}")?;
     Ok(())
 }

@@ -1,5 +1,5 @@
 #!/usr/bin/env python3
-"""Proves the crates of this repository side by side, prints a line for each as it ends, and then builds a program.
+"""Proves a crate and all that it stands on, side by side, prints a line for each crate as it ends, and then builds its program.
 
 tools/progress.py CRATE LOG WORDS.. builds the program of that crate and runs it with these words, in the crate's folder. All that `rt`
 prints goes to the file LOG; where a step fails, its errors and the place of the log are printed, and the status is 1.
@@ -9,6 +9,7 @@ import re
 import subprocess
 import sys
 import time
+from concurrent.futures import FIRST_COMPLETED, ThreadPoolExecutor, wait
 from pathlib import Path
 
 ROOT = Path(__file__).resolve().parent.parent
@@ -16,10 +17,14 @@ ROOT = Path(__file__).resolve().parent.parent
 MEMORY_OF_A_CHECK = 4_000_000_000
 
 
-def crates():
-    """The crates of this repository, in the order of crates.txt."""
+def below(crate):
+    """A crate and those of this repository that it stands on: each with the ones that it names, in the order of crates.txt."""
     lines = (ROOT / "crates.txt").read_text(encoding="utf-8").splitlines()
-    return [line.split(":")[0].split()[0] for line in lines if line.strip() and line[0] != "#"]
+    named = {line.split(":")[0].strip(): line.partition(":")[2].split() for line in lines if line.strip() and line[0] != "#"}
+    wanted = {crate}
+    for name in reversed(named):
+        wanted |= set(named[name]) if name in wanted else set()
+    return {name: [other for other in named[name] if other in named] for name in named if name in wanted}
 
 
 def jobs():
@@ -32,30 +37,31 @@ def say(text):
     print(text, flush=True)
 
 
-def run(command, folder, log, seen):
-    """Runs a command, copies what it prints to the log, and hands each line to `seen`. Its status."""
-    process = subprocess.Popen(command, cwd=folder, stdout=subprocess.PIPE, stderr=subprocess.STDOUT, text=True, encoding="utf-8",
-                               errors="replace")
-    for line in process.stdout:
-        log.write(line)
-        log.flush()
-        seen(line)
-    return process.wait()
+def run(command, folder, log):
+    """Runs a command, and copies what it prints to the log. Its status."""
+    told = subprocess.run(command, cwd=folder, stdout=subprocess.PIPE, stderr=subprocess.STDOUT, text=True, encoding="utf-8", errors="replace")
+    log.write(told.stdout)
+    log.flush()
+    return told.returncode
 
 
-class Progress:
-    """Counts crates in the order in which they end. A crate's lines begin with its name."""
-
-    def __init__(self, names):
-        self.left = set(names)
-        self.count = len(names)
-        self.begun = time.monotonic()
-
-    def see(self, line):
-        named = re.match(r"== (\w+)", line)
-        if named and named.group(1) in self.left:
-            self.left.remove(named.group(1))
-            say(f"{self.count - len(self.left):3} of {self.count}  {named.group(1)}, after {time.monotonic() - self.begun:.0f} s")
+def prove(crates, lanes, log, begun):
+    """Checks crates, each once those that it stands on are proved, and says so of each. Whether all were; at the first that isn't, no more
+    begin."""
+    left, proved, running = dict(crates), set(), {}
+    with ThreadPoolExecutor(lanes) as pool:
+        while left or running:
+            for crate in [name for name in left if proved.issuperset(left[name])]:
+                del left[crate]
+                running[pool.submit(run, ["rt", "check"], ROOT / "crates" / crate, log)] = crate
+            for ended in wait(running, return_when=FIRST_COMPLETED).done:
+                crate = running.pop(ended)
+                if ended.result():
+                    pool.shutdown(cancel_futures=True)
+                    return False
+                proved.add(crate)
+                say(f"{len(proved):3} of {len(crates)}  {crate}, after {time.monotonic() - begun:.0f} s")
+    return True
 
 
 def faults(lines):
@@ -66,18 +72,18 @@ def faults(lines):
 
 def main():
     crate, log_path, words = sys.argv[1], Path(sys.argv[2]), sys.argv[3:]
-    names, lanes = crates(), jobs()
+    crates, lanes = below(crate), jobs()
     log_path.parent.mkdir(parents=True, exist_ok=True)
-    say(f"Proving {len(names)} crates, {lanes} at a time, low ones first; what is proved is kept. README.md says how long it takes the first time.")
+    say(f"Proving {len(crates)} crates, {lanes} at a time, low ones first; what is proved is kept. README.md says how long it takes the first time.")
     say(f"The whole log goes to {log_path}.")
-    progress = Progress(names)
+    begun = time.monotonic()
     with open(log_path, "w", encoding="utf-8") as log:
-        status = run(["rt", "all", "check", "--jobs", str(lanes)], ROOT, log, progress.see)
-        if not status:
+        done = prove(crates, lanes, log, begun)
+        if done:
             say(f"Building {crate}.")
-            status = run(["rt", "run", "--", *words], ROOT / "crates" / crate, log, lambda line: None)
-    seconds = time.monotonic() - progress.begun
-    if status:
+            done = not run(["rt", "run", "--", *words], ROOT / "crates" / crate, log)
+    seconds = time.monotonic() - begun
+    if not done:
         for line in faults(log_path.read_text(encoding="utf-8").splitlines())[:20]:
             say(line)
         say(f"Failed after {seconds:.0f} s; see {log_path}.")

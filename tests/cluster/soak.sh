@@ -12,9 +12,9 @@ trap 'rm -rf "$scratch"' EXIT
 passed=0
 failed=0
 
-long() { # TEST AMOUNT
-    echo "$1: $2, seed $seed, begun at $(date +%H:%M:%S)"
-    python3 "$tests/$1.py" "$program" "$2" "$seed" >"$scratch/said" 2>&1
+long() { # TEST AMOUNT [SEED]
+    echo "$1: $2${3:+, seed $3}, begun at $(date +%H:%M:%S)"
+    python3 "$tests/$1.py" "$program" "$2" $3 >"$scratch/said" 2>&1
     cat "$scratch/said"
     count=$(sed -n "s/^$1: \([0-9]*\) passed, \([0-9]*\) failed.*/\1 \2/p" "$scratch/said" | tail -n 1)
     [ -n "$count" ] || count='0 1'
@@ -22,10 +22,10 @@ long() { # TEST AMOUNT
     failed=$((failed + ${count#* }))
 }
 long lines long
-long killed $((1000 / part))
-long bank $((600 / part))
-long network $((90 / part))
-long strangers $((1000000 / part))
-long hosts $((60 / part))
+long killed $((1000 / part)) "$seed"
+long bank $((600 / part)) "$seed"
+long network $((90 / part)) "$seed"
+long strangers $((1000000 / part)) "$seed"
+long hosts $((60 / part)) "$seed"
 echo "$passed passed, $failed failed"
 [ "$failed" = 0 ]

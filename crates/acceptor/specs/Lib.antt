@@ -2,3 +2,4 @@ pub mod Slots
 pub mod Tables
 pub mod Acceptors
 pub mod Compaction
+pub mod Decisions

@@ -3,23 +3,26 @@ ghost use Rattle.xid.specs.Limits.{most_acceptors};
 ghost use Rattle.xid.specs.declared.refusals.Refusal.TheVariants.{NoMemory};
 ghost use Rattle.wire.specs.Messages.{IsMessage};
 ghost use Rattle.wire.specs.declared.message.Kind.TheVariants.{P1a, P2a, B1a};
-ghost use Rattle.stable_record.specs.Facts.{fact_tx};
+ghost use Rattle.stable_record.specs.declared.fact.FactKind.{FactKind};
+ghost use Rattle.stable_record.specs.Facts.{IsFact, fact_tx};
+ghost use Rattle.stable_record.specs.Spelled.{stated};
 ghost use Rattle.protocol.specs.Acceptors.{on_1a, on_b1a, on_2a, on_acceptor_message};
 ghost use Rattle.protocol.specs.Effects.{Config};
 ghost use Rattle.stable_record.specs.Parts.{IsMadeReady, IsPlayed};
 ghost use Rattle.acceptor.specs.Acceptors.{acceptor_part, StandsFor, Decides};
+ghost use Rattle.acceptor.specs.Decisions.{shown};
 ghost use Rattle.acceptor.specs.Compaction.{Compacts};
 
 use crate::bundles::Accepted;
+use crate::decision::AcceptorDecision;
 use crate::rules::{Seat, on_1a, on_2a, on_b1a};
 use crate::slots::plays;
 use crate::table::{Table, begin};
-use protocol::Decision;
-use stable_record::Fact;
+use stable_record::{Fact, FactKind, FactRest, SpelledFact};
 use std::alloc::Global;
 use std::marker::Model;
 use transactions::Order;
-use wire::{Kind, Message};
+use wire::{MAX_TX_BYTES, MessageView, Rest, SpelledTx};
 use xid::{Ballot, ManagerNumber, Refusal, Tx, Vote};
 
 /// An acceptor: its number, how many leaders there are, whether the cluster is bundled, a slot for each instance of each transaction that
@@ -72,118 +75,72 @@ impl Acceptor {
 
     /// Phase 1a: above every ballot before, the promise is to be stored, and what was accepted last goes to the ballot's
     /// owner. Else nothing. It takes no memory.
-    pub fn on_1a(&self, tx: &Tx, instance: ManagerNumber, ballot: Ballot) -> Decision
+    pub fn on_1a<'a>(
+        &self,
+        tx: &SpelledTx<'a>,
+        instance: ManagerNumber,
+        ballot: Ballot,
+    ) -> AcceptorDecision<'a>
         requires { IsMessage (P1a tx.now instance ballot) }
-        ensures { Decides self.now result (λ config a slots. on_1a config a slots tx.now instance ballot) }
+        ensures { Decides self.now (shown result) (λ config a slots. on_1a config a slots tx.now instance ballot) }
     {
-        let mut decision = Decision::nothing();
-        self.decide_1a(tx, instance, ballot, &mut decision);
-        decision
+        on_1a(self.seat, tx, self.table.slots_of(tx), instance, ballot)
     }
 
     /// Phase 1a of all instances: where some stands below the ballot, one promise for all of these is to be stored, and they are
     /// reported to the ballot's owner. Else nothing. It takes no memory.
-    pub fn on_b1a(&self, tx: &Tx, ballot: Ballot) -> Decision
+    pub fn on_b1a<'a>(&self, tx: &SpelledTx<'a>, ballot: Ballot) -> AcceptorDecision<'a>
         requires { IsMessage (B1a tx.now ballot) }
-        ensures { Decides self.now result (λ config a slots. on_b1a config a slots tx.now ballot) }
+        ensures { Decides self.now (shown result) (λ config a slots. on_b1a config a slots tx.now ballot) }
     {
-        let mut decision = Decision::nothing();
-        self.decide_b1a(tx, ballot, &mut decision);
-        decision
+        on_b1a(self.seat, tx, self.table.slots_of(tx), ballot)
     }
 
     /// Phase 2a: no lower than any ballot before, the value is accepted, and all leaders are told, in a bundled cluster of every
     /// instance that has a value, once all have one or this one is aborted; the accept is to be stored where it isn't what stands.
     /// Else nothing. It takes no memory.
-    pub fn on_2a(&self, tx: &Tx, instance: ManagerNumber, ballot: Ballot, vote: Vote) -> Decision
-        requires { IsMessage (P2a tx.now instance ballot vote) }
-        ensures { Decides self.now result (λ config a slots. on_2a config a slots tx.now instance ballot vote) }
-    {
-        let mut decision = Decision::nothing();
-        self.decide_2a(tx, instance, ballot, vote, &mut decision);
-        decision
-    }
-
-    /// What it does on a message: on phases 1a and 2a what `on_1a`, `on_b1a` and `on_2a` say, on every other nothing. That the message
-    /// is of this kind of cluster and names none but nodes of it is asked before, by the node.
-    pub fn on_message(&self, message: &Message) -> Decision
-        ensures { Decides self.now result (λ config a slots. on_acceptor_message config a slots message.now) }
-    {
-        let mut decision = Decision::nothing();
-        self.decide(message, &mut decision);
-        decision
-    }
-
-    /// Decides as `on_message` does, in the place of what was decided before, so that no fact or message is copied to hand it over.
-    pub fn decide(&self, message: &Message, decision: &mut Decision)
-        ensures { Decides self.now decision.new (λ config a slots. on_acceptor_message config a slots message.now) }
-    {
-        match message.kind() {
-            Kind::P1a {
-                tx,
-                instance,
-                ballot,
-            } => self.decide_1a(tx, *instance, *ballot, decision),
-            Kind::B1a { tx, ballot } => self.decide_b1a(tx, *ballot, decision),
-            Kind::P2a {
-                tx,
-                instance,
-                ballot,
-                vote,
-            } => self.decide_2a(tx, *instance, *ballot, *vote, decision),
-            _ => decision.clear(),
-        }
-    }
-
-    /// Decides as `on_1a` does.
-    fn decide_1a(&self, tx: &Tx, instance: ManagerNumber, ballot: Ballot, decision: &mut Decision)
-        requires { IsMessage (P1a tx.now instance ballot) }
-        ensures { Decides self.now decision.new (λ config a slots. on_1a config a slots tx.now instance ballot) }
-    {
-        on_1a(
-            self.seat,
-            tx,
-            self.table.slots_of(tx),
-            instance,
-            ballot,
-            decision,
-        );
-    }
-
-    /// Decides as `on_b1a` does.
-    fn decide_b1a(&self, tx: &Tx, ballot: Ballot, decision: &mut Decision)
-        requires { IsMessage (B1a tx.now ballot) }
-        ensures { Decides self.now decision.new (λ config a slots. on_b1a config a slots tx.now ballot) }
-    {
-        on_b1a(self.seat, tx, self.table.slots_of(tx), ballot, decision);
-    }
-
-    /// Decides as `on_2a` does.
-    fn decide_2a(
+    pub fn on_2a<'a>(
         &self,
-        tx: &Tx,
+        tx: &SpelledTx<'a>,
         instance: ManagerNumber,
         ballot: Ballot,
         vote: Vote,
-        decision: &mut Decision,
-    )
+    ) -> AcceptorDecision<'a>
         requires { IsMessage (P2a tx.now instance ballot vote) }
-        ensures { Decides self.now decision.new (λ config a slots. on_2a config a slots tx.now instance ballot vote) }
+        ensures { Decides self.now (shown result) (λ config a slots. on_2a config a slots tx.now instance ballot vote) }
     {
         let accepted = Accepted {
             instance,
             ballot,
             vote,
         };
-        on_2a(self.seat, tx, self.table.slots_of(tx), accepted, decision);
+        on_2a(self.seat, tx, self.table.slots_of(tx), accepted)
     }
 
-    /// Makes itself ready for a fact: its transaction is seen, and there is room for it to begin, so that `play` of it takes no memory. At
-    /// `NoMemory`, the only refusal, and else too, it stands for what it stood for.
-    pub fn ready(&mut self, fact: &Fact) -> Result<(), Refusal>
-        ensures { (config : Config) (number : ℕ) → IsMadeReady (acceptor_part config number) self.old self.new fact.now result }
+    /// What it does on a message: on phases 1a and 2a what `on_1a`, `on_b1a` and `on_2a` say, on every other nothing. That the message
+    /// is of this kind of cluster and names none but nodes of it is asked before, by the node.
+    pub fn on_message<'a>(&self, message: &MessageView<'a>) -> AcceptorDecision<'a>
+        ensures { Decides self.now (shown result) (λ config a slots. on_acceptor_message config a slots message.now) }
     {
-        match self.table.see(fact.kind().tx()) {
+        match message.rest() {
+            Rest::P1a { instance, ballot } => self.on_1a(message.tx(), instance, ballot),
+            Rest::B1a { ballot } => self.on_b1a(message.tx(), ballot),
+            Rest::P2a {
+                instance,
+                ballot,
+                vote,
+            } => self.on_2a(message.tx(), instance, ballot, vote),
+            _ => AcceptorDecision::nothing(),
+        }
+    }
+
+    /// Makes itself ready for a fact of a transaction: that is seen, and there is room for it to begin, so that `play` of the fact takes
+    /// no memory. At `NoMemory`, the only refusal, and else too, it stands for what it stood for.
+    pub fn ready(&mut self, tx: &SpelledTx<'_>) -> Result<(), Refusal>
+        ensures { (config : Config) (number : ℕ) (fact : FactKind) → tx.now ≡ fact_tx fact
+            → IsMadeReady (acceptor_part config number) self.old self.new fact result }
+    {
+        match self.table.see(tx) {
             Ok(_) => self.begun.reserve(),
             Err(_) => Err(Refusal::NoMemory),
         }
@@ -191,17 +148,10 @@ impl Acceptor {
 
     /// Plays a fact that is stored. Refused (`Damaged`) where its condition on the slots doesn't hold, and (`NoMemory`) where it wasn't
     /// made ready for it; then it stands for what it stood for.
-    pub fn play(&mut self, fact: Fact) -> Result<(), Refusal>
-        ensures { (config : Config) (number : ℕ) → IsPlayed (acceptor_part config number) self.old self.new fact result }
-    {
-        self.play_by(&fact)
-    }
-
-    /// Plays a fact as `play` does, which the caller keeps.
-    pub fn play_by(&mut self, fact: &Fact) -> Result<(), Refusal>
+    pub fn play(&mut self, fact: &SpelledFact<'_>) -> Result<(), Refusal>
         ensures { (config : Config) (number : ℕ) → IsPlayed (acceptor_part config number) self.old self.new fact.now result }
     {
-        let tx = fact.kind().tx();
+        let tx = fact.tx();
         let Some(number) = self.table.number_of(tx) else {
             return self.play_first(tx, fact);
         };
@@ -216,7 +166,7 @@ impl Acceptor {
     }
 
     /// Plays a fact of a transaction that may not have been seen.
-    fn play_first(&mut self, tx: &Tx, fact: &Fact) -> Result<(), Refusal>
+    fn play_first(&mut self, tx: &SpelledTx<'_>, fact: &SpelledFact<'_>) -> Result<(), Refusal>
         requires { tx.now ≡ fact_tx fact.now }
         ensures { (config : Config) (number : ℕ) → IsPlayed (acceptor_part config number) self.old self.new fact.now result }
     {
@@ -231,6 +181,53 @@ impl Acceptor {
         };
         self.table.change(number, fact);
         Ok(())
+    }
+
+    /// Plays what a fact of a transaction says.
+    fn play_rest(&mut self, tx: &Tx, rest: FactRest) -> Result<(), Refusal>
+        requires { IsFact (stated tx.now rest) }
+        ensures { (config : Config) (number : ℕ)
+            → IsPlayed (acceptor_part config number) self.old self.new (stated tx.now rest) result }
+    {
+        let mut buffer = [0; MAX_TX_BYTES];
+        let tx = SpelledTx::of(tx, &mut buffer);
+        self.play(&SpelledFact::new(&tx, rest))
+    }
+
+    /// Plays a fact of a record as `play` does. One that is no acceptor's never plays (`Damaged`).
+    pub fn replay(&mut self, fact: &Fact) -> Result<(), Refusal>
+        ensures { (config : Config) (number : ℕ) → IsPlayed (acceptor_part config number) self.old self.new fact.now result }
+    {
+        match fact.kind() {
+            FactKind::Promise {
+                tx,
+                instance,
+                ballot,
+            } => self.play_rest(
+                tx,
+                FactRest::Promise {
+                    instance: *instance,
+                    ballot: *ballot,
+                },
+            ),
+            FactKind::Accept {
+                tx,
+                instance,
+                ballot,
+                vote,
+            } => self.play_rest(
+                tx,
+                FactRest::Accept {
+                    instance: *instance,
+                    ballot: *ballot,
+                    vote: *vote,
+                },
+            ),
+            FactKind::PromiseAll { tx, ballot } => {
+                self.play_rest(tx, FactRest::PromiseAll { ballot: *ballot })
+            }
+            _ => Err(Refusal::Damaged),
+        }
     }
 
     /// The facts of a shorter record that says the same: for each transaction in the order of its first fact, and each instance ascending,

@@ -8,8 +8,8 @@ ghost use Rattle.acceptor.specs.Slots.{slots_of, listed_items, with_item, report
 
 use crate::slots::{KeptSlot, slot_at};
 use ballot::Report;
-use wire::{InstanceAccept, InstanceReport, Items};
-use xid::{Ballot, ManagerNumber, Tx, Vote};
+use wire::{InstanceAccept, InstanceReport, Items, SpelledTx};
+use xid::{Ballot, ManagerNumber, Vote};
 
 /// Puts an item, if it is one, after the others.
 fn put_item<T: Copy>(items: &mut Option<Items<T>>, item: Option<T>)
@@ -26,7 +26,7 @@ fn put_item<T: Copy>(items: &mut Option<Items<T>>, item: Option<T>)
 }
 
 /// What is reported of the instance at a place of a transaction, where it stands below a ballot.
-fn report_at(tx: &Tx, slots: &[KeptSlot], ballot: Ballot, place: usize) -> Option<InstanceReport>
+fn report_at(tx: &SpelledTx<'_>, slots: &[KeptSlot], ballot: Ballot, place: usize) -> Option<InstanceReport>
     requires { place < length tx.now.branches }
     ensures value { result ≡ report_item (slots_of tx.now slots.now) tx.now ballot (nth_branch tx.now place).rm }
     ensures below { IfSome result (λ item. IsReportBelow ballot item.report) }
@@ -43,7 +43,7 @@ fn report_at(tx: &Tx, slots: &[KeptSlot], ballot: Ballot, place: usize) -> Optio
 }
 
 /// What is reported of the instances of a transaction that stand below a ballot, where there are any.
-pub fn reports_below(tx: &Tx, slots: &[KeptSlot], ballot: Ballot) -> Option<Items<InstanceReport>>
+pub fn reports_below(tx: &SpelledTx<'_>, slots: &[KeptSlot], ballot: Ballot) -> Option<Items<InstanceReport>>
     ensures value { MatchOption result (is_some_below (slots_of tx.now slots.now) tx.now ballot ≡ false)
         (λ items. (is_some_below (slots_of tx.now slots.now) tx.now ballot ≡ true)
         × (items ≡ reports_of (slots_of tx.now slots.now) tx.now ballot)) }
@@ -70,7 +70,7 @@ pub struct Accepted {
 }
 
 /// What is accepted last at a place of a transaction, once this value is accepted.
-fn report_after(tx: &Tx, slots: &[KeptSlot], accepted: Accepted, place: usize) -> Report
+fn report_after(tx: &SpelledTx<'_>, slots: &[KeptSlot], accepted: Accepted, place: usize) -> Report
     requires { place < length tx.now.branches }
     ensures value { result ≡ report_of (slots_of tx.now slots.now) tx.now accepted.instance accepted.ballot accepted.vote
         (nth_branch tx.now place).rm }
@@ -83,7 +83,7 @@ fn report_after(tx: &Tx, slots: &[KeptSlot], accepted: Accepted, place: usize) -
 }
 
 /// Whether each instance of a transaction has a value, once this one is accepted.
-pub fn have_all_values(tx: &Tx, slots: &[KeptSlot], accepted: Accepted) -> bool
+pub fn have_all_values(tx: &SpelledTx<'_>, slots: &[KeptSlot], accepted: Accepted) -> bool
     ensures { result ≡ list_all (λ j. is_some (report_of
         (slots_of tx.now slots.now) tx.now accepted.instance accepted.ballot accepted.vote j))
         (participants tx.now) }
@@ -98,7 +98,7 @@ pub fn have_all_values(tx: &Tx, slots: &[KeptSlot], accepted: Accepted) -> bool
 
 /// The value at a place of a transaction, if there is one, once this value is accepted.
 fn accept_at(
-    tx: &Tx,
+    tx: &SpelledTx<'_>,
     slots: &[KeptSlot],
     accepted: Accepted,
     place: usize,
@@ -120,7 +120,7 @@ fn accept_at(
 
 /// The value of every instance of a transaction that has one, once this one is accepted.
 pub fn accepts_after(
-    tx: &Tx,
+    tx: &SpelledTx<'_>,
     slots: &[KeptSlot],
     accepted: Accepted,
 ) -> Option<Items<InstanceAccept>>

@@ -12,6 +12,7 @@ use ballot::{Report, Slot};
 use stable_record::{Fact, FactKind};
 use std::alloc::Global;
 use transactions::Order;
+use wire::{MAX_TX_BYTES, SpelledTx};
 use xid::{ManagerNumber, Refusal, Tx};
 
 /// Puts what was accepted last of an instance, if anything was, after other facts.
@@ -97,11 +98,13 @@ pub fn facts_of(alloc: Global, table: &Table, begun: &Order) -> Result<Vec<Fact>
     ensures err { IfErr result (λ e. e ≡ NoMemory) }
 {
     let mut facts = Vec::new(alloc);
+    let mut buffer = [0; MAX_TX_BYTES];
     for i in 0..table.begun_count(begun) {
         let Some(tx) = table.begun_at(begun, i) else {
             unreachable!();
         };
-        put_transaction(&mut facts, &tx, table.slots_of(&tx))?;
+        let slots = table.slots_of(&SpelledTx::of(&tx, &mut buffer));
+        put_transaction(&mut facts, &tx, slots)?;
     }
     Ok(facts)
 }

@@ -5,8 +5,10 @@
 mod acceptor;
 mod bundles;
 mod compaction;
+mod decision;
 mod rules;
 mod slots;
 mod table;
 
 pub use acceptor::Acceptor;
+pub use decision::{AcceptorDecision, SentReply};

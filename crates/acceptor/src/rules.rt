@@ -5,19 +5,20 @@ ghost use Rattle.wire.specs.declared.message.Kind.TheVariants.{P1a, P2a, B1a};
 ghost use Rattle.protocol.specs.Acceptors.{on_1a as on_1a_of, on_b1a as on_b1a_of, on_2a as on_2a_of};
 ghost use Rattle.protocol.specs.Acceptors.{accept_messages as accept_messages_of, is_accepted as is_accepted_in};
 ghost use Rattle.stable_record.specs.declared.fact.FactKind.TheVariants.{Accept};
-ghost use Rattle.ballot.specs.Ballots.{owner_of};
-ghost use Rattle.protocol.specs.declared.nodes.NodeId.TheVariants.{L};
-ghost use Rattle.protocol.specs.declared.decisions.Address.TheVariants.{Node};
+ghost use Rattle.protocol.specs.declared.decisions.Address.TheVariants.{Leaders};
 ghost use Rattle.protocol.specs.Effects.{Config, decision_of, to};
+ghost use Rattle.wire.specs.Said.{replied};
+ghost use Rattle.acceptor.specs.Decisions.{sent_reply, shown};
 ghost use Rattle.acceptor.specs.Slots.{slots_of};
 
 use crate::bundles::{Accepted, accepts_after, have_all_values, reports_below};
+use crate::decision::{AcceptorDecision, SentReply};
 use crate::slots::{KeptSlot, is_accepted, slot_of};
 use ballot::{Slot, owner};
-use protocol::{Address, Answer, Decision, NodeId, Outgoing, Sends};
-use stable_record::{Fact, FactKind};
-use wire::{Kind, Message};
-use xid::{Ballot, ManagerNumber, Tx, Vote};
+use protocol::{Address, NodeId};
+use stable_record::{FactRest, SpelledFact};
+use wire::{Reply, ReplyRest, SpelledTx};
+use xid::{Ballot, ManagerNumber, Vote};
 
 /// Which acceptor it is, and what it has to know of its cluster.
 #[derive(Clone, Copy, Debug)]
@@ -30,166 +31,177 @@ pub struct Seat {
     pub bundled: bool,
 }
 
-/// A message to the leader that owns a ballot.
-fn to_owner(seat: Seat, ballot: Ballot, message: Message) -> Sends
-    requires ballot { 0 < ballot }
-    requires leaders { 0 < seat.leaders }
-    ensures { result ≡ to (Node (L (owner_of seat.leaders ballot))) message ∷ [] }
-{
-    Sends::one(Outgoing {
-        to: Address::Node(NodeId::L(owner(ballot, seat.leaders))),
-        message,
-    })
-}
-
 /// Phase 1a at the slots of its transaction.
-pub fn on_1a(
+pub fn on_1a<'a>(
     seat: Seat,
-    tx: &Tx,
+    tx: &SpelledTx<'a>,
     slots: &[KeptSlot],
     instance: ManagerNumber,
     ballot: Ballot,
-    decision: &mut Decision,
-)
+) -> AcceptorDecision<'a>
     requires message { IsMessage (P1a tx.now instance ballot) }
     requires number { seat.number < most_acceptors }
     requires leaders { 0 < seat.leaders }
     ensures { (config : Config) → seat.leaders ≡ config.leaders
-        → decision.new ≡ decision_of (on_1a_of config seat.number (slots_of tx.now slots.now) tx.now instance ballot) }
+        → shown result ≡ decision_of (on_1a_of config seat.number (slots_of tx.now slots.now) tx.now instance ballot) }
 {
     let slot = slot_of(tx, slots, instance);
     if ballot <= slot.mbal {
-        decision.clear();
-        return;
+        return AcceptorDecision::nothing();
     }
-    decision.answer = Answer::Done;
-    decision.fact = Some(Fact::new(FactKind::Promise {
-        tx: *tx,
+    let promise = FactRest::Promise { instance, ballot };
+    let report = ReplyRest::P1b {
         instance,
         ballot,
-    }));
-    decision.sends = to_owner(
-        seat,
-        ballot,
-        Message::new(Kind::P1b {
-            tx: *tx,
-            instance,
-            ballot,
-            report: slot.report,
-            acceptor: seat.number,
+        report: slot.report,
+        acceptor: seat.number,
+    };
+    AcceptorDecision {
+        fact: Some(SpelledFact::new(tx, promise)),
+        reply: Some(SentReply {
+            to: Address::Node(NodeId::L(owner(ballot, seat.leaders))),
+            message: Reply::new(tx, report),
         }),
-    );
+    }
 }
 
 /// Phase 1a of all instances at the slots of their transaction.
-pub fn on_b1a(seat: Seat, tx: &Tx, slots: &[KeptSlot], ballot: Ballot, decision: &mut Decision)
+pub fn on_b1a<'a>(
+    seat: Seat,
+    tx: &SpelledTx<'a>,
+    slots: &[KeptSlot],
+    ballot: Ballot,
+) -> AcceptorDecision<'a>
     requires message { IsMessage (B1a tx.now ballot) }
     requires number { seat.number < most_acceptors }
     requires leaders { 0 < seat.leaders }
     ensures { (config : Config) → seat.leaders ≡ config.leaders
-        → decision.new ≡ decision_of (on_b1a_of config seat.number (slots_of tx.now slots.now) tx.now ballot) }
+        → shown result ≡ decision_of (on_b1a_of config seat.number (slots_of tx.now slots.now) tx.now ballot) }
 {
     let Some(reports) = reports_below(tx, slots, ballot) else {
-        decision.clear();
-        return;
+        return AcceptorDecision::nothing();
     };
-    decision.answer = Answer::Done;
-    decision.fact = Some(Fact::new(FactKind::PromiseAll { tx: *tx, ballot }));
-    decision.sends = to_owner(
-        seat,
+    let report = ReplyRest::B1b {
         ballot,
-        Message::new(Kind::B1b {
-            tx: *tx,
-            ballot,
-            acceptor: seat.number,
-            reports,
+        acceptor: seat.number,
+        reports,
+    };
+    AcceptorDecision {
+        fact: Some(SpelledFact::new(tx, FactRest::PromiseAll { ballot })),
+        reply: Some(SentReply {
+            to: Address::Node(NodeId::L(owner(ballot, seat.leaders))),
+            message: Reply::new(tx, report),
         }),
-    );
+    }
+}
+
+/// A message to all leaders.
+fn to_leaders<'a>(tx: &SpelledTx<'a>, rest: ReplyRest) -> Option<SentReply<'a>>
+    requires { IsMessage (replied tx.now rest) }
+    ensures { sent_reply result ≡ to Leaders (replied tx.now rest) ∷ [] }
+{
+    Some(SentReply {
+        to: Address::Leaders,
+        message: Reply::new(tx, rest),
+    })
 }
 
 /// What is told of every instance that has a value, once one is accepted in a bundled cluster.
-fn accept_bundle(seat: Seat, tx: &Tx, slots: &[KeptSlot], accepted: Accepted, sends: &mut Sends)
+fn accept_bundle<'a>(
+    seat: Seat,
+    tx: &SpelledTx<'a>,
+    slots: &[KeptSlot],
+    accepted: Accepted,
+) -> Option<SentReply<'a>>
     requires message { IsMessage (P2a tx.now accepted.instance accepted.ballot accepted.vote) }
     requires number { seat.number < most_acceptors }
     requires bundled { seat.bundled ≡ true }
     ensures { (config : Config) → seat.bundled ≡ config.bundled
-        → sends.new ≡ accept_messages_of config seat.number
+        → sent_reply result ≡ accept_messages_of config seat.number
         (slots_of tx.now slots.now) tx.now accepted.instance accepted.ballot accepted.vote }
 {
     if accepted.vote == Vote::Prepared && !have_all_values(tx, slots, accepted) {
-        sends.clear();
-        return;
+        return None;
     }
     let Some(accepts) = accepts_after(tx, slots, accepted) else {
-        sends.clear();
-        return;
+        return None;
     };
-    *sends = Sends::one(Outgoing {
-        to: Address::Leaders,
-        message: Message::new(Kind::B2b {
-            tx: *tx,
+    to_leaders(
+        tx,
+        ReplyRest::B2b {
             acceptor: seat.number,
             accepts,
-        }),
-    });
+        },
+    )
 }
 
 /// What is told of an accept.
-fn accept_messages(seat: Seat, tx: &Tx, slots: &[KeptSlot], accepted: Accepted, sends: &mut Sends)
+fn accept_messages<'a>(
+    seat: Seat,
+    tx: &SpelledTx<'a>,
+    slots: &[KeptSlot],
+    accepted: Accepted,
+) -> Option<SentReply<'a>>
     requires message { IsMessage (P2a tx.now accepted.instance accepted.ballot accepted.vote) }
     requires number { seat.number < most_acceptors }
     ensures { (config : Config) → seat.bundled ≡ config.bundled
-        → sends.new ≡ accept_messages_of config seat.number
+        → sent_reply result ≡ accept_messages_of config seat.number
         (slots_of tx.now slots.now) tx.now accepted.instance accepted.ballot accepted.vote }
 {
     if seat.bundled {
-        accept_bundle(seat, tx, slots, accepted, sends);
-        return;
+        return accept_bundle(seat, tx, slots, accepted);
     }
-    *sends = Sends::one(Outgoing {
-        to: Address::Leaders,
-        message: Message::new(Kind::P2b {
-            tx: *tx,
+    to_leaders(
+        tx,
+        ReplyRest::P2b {
             instance: accepted.instance,
             ballot: accepted.ballot,
             vote: accepted.vote,
             acceptor: seat.number,
-        }),
-    });
+        },
+    )
 }
 
 /// The accept to be stored, where it isn't what stands.
-fn put_accept(tx: &Tx, slot: &Slot, accepted: Accepted, fact: &mut Option<Fact>)
+fn accept_fact<'a>(
+    tx: &SpelledTx<'a>,
+    slot: &Slot,
+    accepted: Accepted,
+) -> Option<SpelledFact<'a>>
     requires { IsMessage (P2a tx.now accepted.instance accepted.ballot accepted.vote) }
-    ensures { fact.new ≡ if is_accepted_in slot.now accepted.ballot accepted.vote then None
+    ensures { result ≡ if is_accepted_in slot.now accepted.ballot accepted.vote then None
         else Some (Accept tx.now accepted.instance accepted.ballot accepted.vote) }
 {
     if is_accepted(slot, accepted.ballot, accepted.vote) {
-        *fact = None;
-        return;
+        return None;
     }
-    *fact = Some(Fact::new(FactKind::Accept {
-        tx: *tx,
+    let accept = FactRest::Accept {
         instance: accepted.instance,
         ballot: accepted.ballot,
         vote: accepted.vote,
-    }));
+    };
+    Some(SpelledFact::new(tx, accept))
 }
 
 /// Phase 2a at the slots of its transaction.
-pub fn on_2a(seat: Seat, tx: &Tx, slots: &[KeptSlot], accepted: Accepted, decision: &mut Decision)
+pub fn on_2a<'a>(
+    seat: Seat,
+    tx: &SpelledTx<'a>,
+    slots: &[KeptSlot],
+    accepted: Accepted,
+) -> AcceptorDecision<'a>
     requires message { IsMessage (P2a tx.now accepted.instance accepted.ballot accepted.vote) }
     requires number { seat.number < most_acceptors }
     ensures { (config : Config) → seat.bundled ≡ config.bundled
-        → decision.new ≡ decision_of (on_2a_of config seat.number
+        → shown result ≡ decision_of (on_2a_of config seat.number
         (slots_of tx.now slots.now) tx.now accepted.instance accepted.ballot accepted.vote) }
 {
     let slot = slot_of(tx, slots, accepted.instance);
     if accepted.ballot < slot.mbal {
-        decision.clear();
-        return;
+        return AcceptorDecision::nothing();
     }
-    decision.answer = Answer::Done;
-    put_accept(tx, &slot, accepted, &mut decision.fact);
-    accept_messages(seat, tx, slots, accepted, &mut decision.sends);
+    AcceptorDecision {
+        fact: accept_fact(tx, &slot, accepted),
+        reply: accept_messages(seat, tx, slots, accepted),
+    }
 }

@@ -3,15 +3,17 @@ ghost use Rattle.wire.specs.Messages.{IsReportBelow};
 ghost use Rattle.ballot.specs.Slots.{empty_slot, promised, accepted_in};
 ghost use Rattle.stable_record.specs.declared.fact.FactKind.TheVariants.{Promise, Accept, PromiseAll};
 ghost use Rattle.stable_record.specs.Facts.{fact_tx};
+ghost use Rattle.stable_record.specs.Spelled.{stated};
 ghost use Rattle.protocol.specs.Acceptors.{is_accepted as is_accepted_in, plays_at_acceptor};
-ghost use Rattle.acceptor.specs.Slots.{IsKept, place_of as place_in_tx, slot_at as slot_at_place, slot_of as slot_of_instance, slots_of};
+ghost use Rattle.acceptor.specs.Slots.{IsKept, slot_at as slot_at_place, slot_of as slot_of_instance, slots_of};
 ghost use Rattle.acceptor.specs.Slots.{slots_after};
 
 use crate::bundles::reports_below;
 use ballot::Slot;
-use stable_record::{Fact, FactKind};
+use stable_record::{FactRest, SpelledFact};
 use std::marker::Model;
-use xid::{Ballot, ManagerNumber, Tx, Vote};
+use wire::SpelledTx;
+use xid::{Ballot, ManagerNumber, Vote};
 
 /// A slot as it is kept: what it accepted last is no higher than the greatest ballot that it took part in.
 #[derive(Clone, Copy, Debug)]
@@ -63,19 +65,6 @@ impl KeptSlot {
     }
 }
 
-/// The place of an instance among the branches of a transaction, or how many there are where it is none of its instances.
-pub fn place_of(tx: &Tx, instance: ManagerNumber) -> usize
-    ensures { result ≡ place_in_tx tx.now instance }
-{
-    let count = tx.count();
-    for place in 0..count {
-        if tx.rm(place) == instance {
-            return place;
-        }
-    }
-    count
-}
-
 /// The slot at a place, one at first where none is kept.
 pub fn slot_at(slots: &[KeptSlot], place: usize) -> Slot
     ensures value { result ≡ slot_at_place slots.now place }
@@ -88,11 +77,11 @@ pub fn slot_at(slots: &[KeptSlot], place: usize) -> Slot
 }
 
 /// The slot of an instance of a transaction, of which these are the slots.
-pub fn slot_of(tx: &Tx, slots: &[KeptSlot], instance: ManagerNumber) -> Slot
+pub fn slot_of(tx: &SpelledTx<'_>, slots: &[KeptSlot], instance: ManagerNumber) -> Slot
     ensures value { result ≡ slot_of_instance tx.now slots.now instance }
     ensures below { (b : ℕ) → result.mbal < b → IsReportBelow b result.report }
 {
-    slot_at(slots, place_of(tx, instance))
+    slot_at(slots, tx.place_of(instance))
 }
 
 /// Whether a slot already stands at a ballot with this value accepted in it.
@@ -103,7 +92,7 @@ pub fn is_accepted(slot: &Slot, ballot: Ballot, vote: Vote) -> bool
 }
 
 /// Whether a promise plays: the transaction has the instance, which stands below the ballot.
-fn can_promise(tx: &Tx, slots: &[KeptSlot], instance: ManagerNumber, ballot: Ballot) -> bool
+fn can_promise(tx: &SpelledTx<'_>, slots: &[KeptSlot], instance: ManagerNumber, ballot: Ballot) -> bool
     ensures { result ≡ plays_at_acceptor (slots_of tx.now slots.now) (Promise tx.now instance ballot) }
 {
     if !tx.is_participant(instance) {
@@ -114,7 +103,7 @@ fn can_promise(tx: &Tx, slots: &[KeptSlot], instance: ManagerNumber, ballot: Bal
 
 /// Whether an accept plays: the transaction has the instance, which stands no higher than the ballot, and the accept is new.
 fn can_accept(
-    tx: &Tx,
+    tx: &SpelledTx<'_>,
     slots: &[KeptSlot],
     instance: ManagerNumber,
     ballot: Ballot,
@@ -134,32 +123,33 @@ fn can_accept(
 
 /// Whether a promise for all plays: some instance stands below the ballot.
 #[inline(never)]
-fn can_promise_all(tx: &Tx, slots: &[KeptSlot], ballot: Ballot) -> bool
+fn can_promise_all(tx: &SpelledTx<'_>, slots: &[KeptSlot], ballot: Ballot) -> bool
     ensures { result ≡ plays_at_acceptor (slots_of tx.now slots.now) (PromiseAll tx.now ballot) }
 {
     reports_below(tx, slots, ballot).is_some()
 }
 
-/// Whether the condition of a fact holds of its transaction's slots: a promise is above every ballot before, an accept no lower
-/// than any, and new, both of an instance of the transaction. A fact that is no acceptor's never plays.
-pub fn plays(slots: &[KeptSlot], fact: &Fact) -> bool
-    ensures { result ≡ plays_at_acceptor (slots_of (fact_tx fact.now) slots.now) fact.now }
+/// Whether the condition of what a fact says of a transaction holds of the transaction's slots.
+fn can_play(tx: &SpelledTx<'_>, slots: &[KeptSlot], rest: FactRest) -> bool
+    ensures { result ≡ plays_at_acceptor (slots_of tx.now slots.now) (stated tx.now rest) }
 {
-    match fact.kind() {
-        FactKind::Promise {
-            tx,
-            instance,
-            ballot,
-        } => can_promise(tx, slots, *instance, *ballot),
-        FactKind::Accept {
-            tx,
+    match rest {
+        FactRest::Promise { instance, ballot } => can_promise(tx, slots, instance, ballot),
+        FactRest::Accept {
             instance,
             ballot,
             vote,
-        } => can_accept(tx, slots, *instance, *ballot, *vote),
-        FactKind::PromiseAll { tx, ballot } => can_promise_all(tx, slots, *ballot),
-        _ => false,
+        } => can_accept(tx, slots, instance, ballot, vote),
+        FactRest::PromiseAll { ballot } => can_promise_all(tx, slots, ballot),
     }
+}
+
+/// Whether the condition of a fact holds of its transaction's slots: a promise is above every ballot before, an accept no lower
+/// than any, and new, both of an instance of the transaction.
+pub fn plays(slots: &[KeptSlot], fact: &SpelledFact<'_>) -> bool
+    ensures { result ≡ plays_at_acceptor (slots_of (fact_tx fact.now) slots.now) fact.now }
+{
+    can_play(fact.tx(), slots, fact.rest())
 }
 
 /// Takes part in a ballot in each slot that stands below it.
@@ -171,33 +161,34 @@ fn promise_all(slots: &mut [KeptSlot], ballot: Ballot)
     }
 }
 
-/// Changes a transaction's slots by a fact of it.
-pub fn change(slots: &mut [KeptSlot], fact: &Fact)
-    ensures { slots.new ≡ slots_after (fact_tx fact.now) slots.old fact.now }
+/// Changes a transaction's slots by what a fact says of it.
+fn change_by(slots: &mut [KeptSlot], tx: &SpelledTx<'_>, rest: FactRest)
+    ensures { slots.new ≡ slots_after tx.now slots.old (stated tx.now rest) }
 {
-    match fact.kind() {
-        FactKind::Promise {
-            tx,
-            instance,
-            ballot,
-        } => {
-            let place = place_of(tx, *instance);
+    match rest {
+        FactRest::Promise { instance, ballot } => {
+            let place = tx.place_of(instance);
             if place < slots.len() {
-                slots[place].promise(*ballot);
+                slots[place].promise(ballot);
             }
         }
-        FactKind::Accept {
-            tx,
+        FactRest::Accept {
             instance,
             ballot,
             vote,
         } => {
-            let place = place_of(tx, *instance);
+            let place = tx.place_of(instance);
             if place < slots.len() {
-                slots[place].accept(*ballot, *vote);
+                slots[place].accept(ballot, vote);
             }
         }
-        FactKind::PromiseAll { ballot, .. } => promise_all(slots, *ballot),
-        _ => {}
+        FactRest::PromiseAll { ballot } => promise_all(slots, ballot),
     }
+}
+
+/// Changes a transaction's slots by a fact of it.
+pub fn change(slots: &mut [KeptSlot], fact: &SpelledFact<'_>)
+    ensures { slots.new ≡ slots_after (fact_tx fact.now) slots.old fact.now }
+{
+    change_by(slots, fact.tx(), fact.rest());
 }

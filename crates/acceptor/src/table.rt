@@ -12,10 +12,11 @@ ghost use Rattle.acceptor.specs.Compaction.{compacted};
 
 use crate::compaction::facts_of;
 use crate::slots::{KeptSlot, change};
-use stable_record::Fact;
+use stable_record::{Fact, SpelledFact};
 use std::alloc::{AllocError, Global};
 use std::marker::Model;
 use transactions::{Order, Transactions};
+use wire::SpelledTx;
 use xid::{Refusal, Tx};
 
 /// The slots of all transactions that an acceptor has seen: for each one for each of its branches.
@@ -24,6 +25,8 @@ pub struct Table {
     alloc: Global,
     transactions: Transactions,
     slots: Vec<Vec<KeptSlot>>,
+    // the number of the one that changed last, which is likely to be the next one asked for
+    near: usize,
 }
 
 impl Model for Table {
@@ -47,17 +50,18 @@ impl Table {
             alloc,
             transactions: Transactions::new(alloc),
             slots: Vec::new(alloc),
+            near: 0,
         }
     }
 
     /// The number of a transaction, where it was seen.
-    pub fn number_of(&self, tx: &Tx) -> Option<usize>
+    pub fn number_of(&self, tx: &SpelledTx<'_>) -> Option<usize>
         ensures { IfSome result (λ number. (number ≡ place_in self.now.transactions tx.now) × IsSeen self.now tx.now
             × (number < length self.now.slots)) }
     {
         // a use of a field, by which it is known that each number has slots
         let _slots = &self.slots;
-        self.transactions.number_of(tx)
+        self.transactions.number_of_view(tx, self.near)
     }
 
     /// The slots of the transaction of a number.
@@ -69,10 +73,10 @@ impl Table {
     }
 
     /// The slots of a transaction, none where it wasn't seen.
-    pub fn slots_of(&self, tx: &Tx) -> &[KeptSlot]
+    pub fn slots_of(&self, tx: &SpelledTx<'_>) -> &[KeptSlot]
         ensures { result.now ≡ slots_in self.now tx.now }
     {
-        match self.transactions.number_of(tx) {
+        match self.transactions.number_of_view(tx, self.near) {
             Some(number) => &self.slots[number],
             None => &[],
         }
@@ -80,14 +84,14 @@ impl Table {
 
     /// Sees a transaction: its slots are those at first, unless it was seen. It answers the transaction's number. At `NoMemory`, the
     /// only refusal, it wasn't seen, and all is as before.
-    pub fn see(&mut self, tx: &Tx) -> Result<usize, Refusal>
+    pub fn see(&mut self, tx: &SpelledTx<'_>) -> Result<usize, Refusal>
         ensures number { IfOk result (λ number. number ≡ place_in self.new.transactions tx.now) }
         ensures seen { IfOk result (λ _. IsSeen self.new tx.now) }
         ensures transactions { OnOk result (self.new.transactions ≡ seen_with self.old.transactions tx.now) }
         ensures same { (other : TxParts) (i : ℕ) → slot_in self.new other i ≡ slot_in self.old other i }
         ensures err { IfErr result (λ e. (e ≡ NoMemory) × (¬ IsSeen self.old tx.now) × (self.new ≡ self.old)) }
     {
-        if let Some(number) = self.transactions.number_of(tx) {
+        if let Some(number) = self.transactions.number_of_view(tx, self.near) {
             return Ok(number);
         }
         let Ok(slots) = first_slots(self.alloc, tx) else {
@@ -96,7 +100,7 @@ impl Table {
         if self.slots.reserve(1).is_err() {
             return Err(Refusal::NoMemory);
         }
-        let Ok(number) = self.transactions.add(tx) else {
+        let Ok(number) = self.transactions.insert_view(tx) else {
             return Err(Refusal::NoMemory);
         };
         self.slots.push_reserved(slots);
@@ -104,13 +108,14 @@ impl Table {
     }
 
     /// Changes the slots of the transaction of a number by a fact that plays.
-    pub fn change(&mut self, number: usize, fact: &Fact)
+    pub fn change(&mut self, number: usize, fact: &SpelledFact<'_>)
         requires number { number ≡ place_in self.old.transactions (fact_tx fact.now) }
         requires seen { IsSeen self.old (fact_tx fact.now) }
         requires plays { plays_at_acceptor (slot_in self.old) fact.now ≡ true }
         ensures transactions { self.new.transactions ≡ self.old.transactions }
         ensures slots { (other : TxParts) (i : ℕ) → slot_in self.new other i ≡ after_fact other i (slot_in self.old other i) fact.now }
     {
+        self.near = number;
         change(&mut self.slots[number], fact);
     }
 
@@ -157,7 +162,7 @@ impl Table {
 
 /// Puts a transaction that was seen, by its number, after those that have begun, unless it is there. At `NoMemory`, the only refusal, there
 /// was no room for it, and all is as before.
-pub fn begin(begun: &mut Order, table: &Table, number: usize, tx: &Tx) -> Result<(), Refusal>
+pub fn begin(begun: &mut Order, table: &Table, number: usize, tx: &SpelledTx<'_>) -> Result<(), Refusal>
     requires number { number ≡ place_in table.now.transactions tx.now }
     requires seen { IsSeen table.now tx.now }
     requires inside { AreInside (length table.now.transactions) begun.old.numbers }
@@ -172,7 +177,7 @@ pub fn begin(begun: &mut Order, table: &Table, number: usize, tx: &Tx) -> Result
 }
 
 /// The slots of a transaction at first.
-fn first_slots(alloc: Global, tx: &Tx) -> Result<Vec<KeptSlot>, AllocError>
+fn first_slots(alloc: Global, tx: &SpelledTx<'_>) -> Result<Vec<KeptSlot>, AllocError>
     ensures { IfOk result (λ slots. slots.items ≡ replicate (length tx.now.branches) empty_slot) }
 {
     let count = tx.count();

@@ -4,8 +4,10 @@ use crate::calls::{Part, run_calls};
 use crate::page::Page;
 use crate::stop::{Stop, wanted};
 use crate::{codec, records, words};
-use acceptor::Acceptor;
+use acceptor::{Acceptor, SentReply};
+use protocol::{Answer, Outgoing};
 use std::alloc::Global;
+use wire::{MAX_DATAGRAM, decode, encode, view_of};
 
 /// Runs the calls of a case: `NUMBER LEADERS`, and `bundled` in a bundled cluster.
 pub fn run(alloc: Global, rest: &[u8], calls: &[String], page: &mut Page) -> Result<(), Stop> {
@@ -20,21 +22,38 @@ pub fn run(alloc: Global, rest: &[u8], calls: &[String], page: &mut Page) -> Res
     run_calls(&mut acceptor, alloc, calls, page)
 }
 
+/// What is sent, as callers have it.
+fn outgoing_of(reply: &SentReply<'_>) -> Result<Outgoing, Stop> {
+    let mut bytes = [0; MAX_DATAGRAM];
+    let len = reply.message.encode(&mut bytes);
+    match decode(&bytes[..len]) {
+        Ok(message) => Ok(Outgoing {
+            to: reply.to,
+            message,
+        }),
+        Err(_) => Err(Stop::Unread),
+    }
+}
+
 /// A message comes: a fact is decided on, made ready for and played, and then the messages go.
 fn hear(acceptor: &mut Acceptor, alloc: Global, words: &[u8], page: &mut Page) -> Result<(), Stop> {
-    let message = codec::message(alloc, words)?;
+    let mut bytes = [0; MAX_DATAGRAM];
+    let len = encode(&codec::message(alloc, words)?, &mut bytes);
+    let Ok(message) = view_of(&bytes[..len]) else {
+        return Err(Stop::Unread);
+    };
     let decision = acceptor.on_message(&message);
     if let Some(fact) = &decision.fact {
-        wanted(acceptor.ready(fact))?;
-        acceptor.play_by(fact)?;
+        wanted(acceptor.ready(fact.tx()))?;
+        acceptor.play(fact)?;
     }
-    page.answer(decision.answer)?;
+    page.answer(Answer::Done)?;
     page.end_line()?;
     if let Some(fact) = &decision.fact {
-        page.fact(fact)?;
+        page.spelled_fact(fact)?;
     }
-    for outgoing in decision.sends.as_slice() {
-        page.sent(outgoing)?;
+    if let Some(reply) = &decision.reply {
+        page.sent(&outgoing_of(reply)?)?;
     }
     Ok(())
 }
@@ -45,7 +64,7 @@ impl Part for Acceptor {
         match verb {
             b"hear" => hear(self, alloc, rest, page),
             b"play" => {
-                let played = self.play(records::fact(alloc, rest)?);
+                let played = self.replay(&records::fact(alloc, rest)?);
                 page.played(played)
             }
             b"shorter" => {

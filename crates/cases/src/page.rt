@@ -3,7 +3,7 @@
 use crate::stop::Stop;
 use net_script::write_step;
 use protocol::{Address, Answer, Change, Event, NodeId, Outgoing, Row, Sent, Step};
-use stable_record::{Act, Entry, Fact, Touched};
+use stable_record::{Act, Entry, Fact, SpelledFact, Touched};
 use std::alloc::Global;
 use std::io::{self, Write};
 use wire::Message;
@@ -164,6 +164,15 @@ impl Page {
     pub fn fact(&mut self, fact: &Fact) -> Result<(), Stop> {
         let mut frame = Vec::new(self.alloc);
         fact.write(self.alloc, &mut frame)?;
+        self.bytes(b"stored")?;
+        self.hex(&frame)?;
+        self.end_line()
+    }
+
+    /// The same, of a fact over the bytes of its transaction.
+    pub fn spelled_fact(&mut self, fact: &SpelledFact<'_>) -> Result<(), Stop> {
+        let mut frame = Vec::new(self.alloc);
+        fact.write(&mut frame)?;
         self.bytes(b"stored")?;
         self.hex(&frame)?;
         self.end_line()

@@ -8,7 +8,7 @@ use Rattle.std.proofs.lemmas.List.Elements.{All-cons, All-head, All-tail, AllZip
 use Rattle.stable_record.specs.declared.fact.FactKind.{FactKind as Fact}
 use Rattle.stable_record.specs.Held.{Held, IsStoppedAt}
 use Rattle.protocol.specs.declared.events.Event.{Event}
-use Rattle.protocol.specs.declared.events.Event.TheVariants.{Restart, Compact}
+use Rattle.protocol.specs.declared.events.Event.TheVariants.{Tear, Restart, Compact}
 use Rattle.protocol.specs.declared.events.Step.{Step}
 use Rattle.protocol.specs.declared.nodes.NodeId.{NodeId}
 use Rattle.protocol.specs.Effects.{Config}
@@ -127,4 +127,5 @@ module _ (config : Config) (world : World) (old new : ClusterParts) (stands : Cl
   pub no_failure : (event : Event) → BefallsIn config world event old.nodes new.nodes (RecordFails whole) → ⊥
   no_failure (Restart who) b = restarted_firm who (node_at config world who) refl b
   no_failure (Compact who) b = compacted_firm who (node_at config world who) refl b
+  no_failure (Tear who n) b = absurd (cc (b.0))
   no_failure event b = handed_firm (handed world event) b

@@ -1,5 +1,5 @@
 -- What came of an event is what comes of it in the machine.
-use Rattle.std.proofs.Common.{◌≡◌, ◌≢◌, ◌∙◌, ℕ, zero, suc, ◌+◌, ◌-◌, ◌<◌, ◌≤◌, Bool, true, false, List, [], ◌∷◌, ◌++◌, length, take, drop}
+use Rattle.std.proofs.Common.{◌≡◌, ◌≢◌, ◌∙◌, ℕ, zero, suc, ◌<◌, ◌≤◌, Bool, true, false, List, [], ◌∷◌, ◌++◌, length, take, drop}
 use Rattle.std.proofs.Common.{Option, Some, None, refl, sym, ap, subst, nat_lt, arith}
 use Rattle.std.specs.Prelude.{if◌then◌else◌, is_some}
 use Rattle.std.specs.Option.{option_map, option_map_or, option_and_then}
@@ -31,7 +31,7 @@ use Rattle.node_core.specs.Nodes.{NodeParts, datagram_input}
 use Rattle.network.specs.Networks.{NetworkParts, StandsFor}
 use Rattle.cluster.specs.declared.handing.Came.{Came}
 use Rattle.cluster.specs.Clusters.{ClusterParts, cluster_of, ClusterStands, IsSound, IsSameCluster, ReachesAs, ComesTo, BefallsAt}
-use Rattle.cluster.specs.Clusters.{BefallsReached, BefallsRestarted, BefallsCompacted, BefallsEvent, BefallsIn, OccursAs, Occurs, step_by, handed, handed_cut}
+use Rattle.cluster.specs.Clusters.{BefallsReached, IsArmed, BefallsRestarted, BefallsCompacted, BefallsEvent, BefallsIn, OccursAs, Occurs, step_by, handed, handed_cut}
 use Rattle.cluster.specs.Clusters.{place_reached, StayBut}
 use Rattle.cluster.proofs.Standing.{unchanged, all_stay}
 
@@ -210,7 +210,10 @@ module _ (config : Config) (world : World) (old new : ClusterParts) (came : Came
     where
       pub not_torn : (n : ℕ) → came.answer ≡ Refused refusals.NoSuch → came.now ≡ None → came.sent.items ≡ []
           → ClusterStands config new world → OccursAs config world (Tear who n) old new (step_by (Tear who n) came)
-      not_torn n = not_there sizes_are nodes_are (Tear who n) refl (ap (if_found world _) none)
+      not_torn n =
+          not_there sizes_are nodes_are (Tear who n)
+          (refl, subst (λ (o : Option NodeState). IsArmed config old.nodes new.nodes who n o) (sym none) tt)
+          (ap (if_found world _) none)
 
       pub not_restarted : came.answer ≡ Refused refusals.NoSuch → came.now ≡ None → came.sent.items ≡ []
           → ClusterStands config new world → OccursAs config world (Restart who) old new (step_by (Restart who) came)

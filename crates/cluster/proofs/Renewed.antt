@@ -1,5 +1,5 @@
 -- A node is torn, restarted or compacted: what comes of it is what comes of it in the machine.
-use Rattle.std.proofs.Common.{◌≡◌, ◌∙◌, inl, inr, ℕ, suc, Bool, true, false, if◌then◌else◌, List, [], ◌++◌, length, get_or, set}
+use Rattle.std.proofs.Common.{◌≡◌, ◌∙◌, inl, inr, ℕ, suc, Bool, false, if◌then◌else◌, List, [], ◌++◌, length, get_or, set}
 use Rattle.std.proofs.Common.{Option, Some, None, refl, sym, ap, subst, arith}
 use Rattle.std.specs.Prelude.{slice_get, Result, Ok, Err}
 use Rattle.std.specs.List.{flat_map}
@@ -9,7 +9,7 @@ use Rattle.std.proofs.lemmas.List.{append-nil}
 use Rattle.std.proofs.lemmas.Option.{slice_get_past}
 use Rattle.xid.specs.declared.refusals.Refusal.{Refusal}
 use Rattle.stable_record.specs.declared.fact.FactKind.{FactKind as Fact}
-use Rattle.stable_record.specs.Held.{Held}
+use Rattle.stable_record.specs.Held.{Held, armed_with}
 use Rattle.protocol.specs.declared.answers.Answer.TheVariants.{Done, Refused}
 use Rattle.protocol.specs.declared.events.Event.TheVariants.{Tear, Restart, Compact}
 use Rattle.protocol.specs.declared.nodes.NodeId.{NodeId}
@@ -26,6 +26,7 @@ use Rattle.node_core.specs.Opening.{BefallsRestart, Restarts, RestartsAs, restar
 use Rattle.network.specs.Networks.{NetworkParts, StandsFor}
 use Rattle.cluster.specs.declared.handing.Came.{Came}
 use Rattle.cluster.specs.Clusters.{ClusterParts, sized, cluster_of, ClusterStands, ComesTo, BefallsRestarted, BefallsCompacted, IsMetIf}
+use Rattle.cluster.specs.Clusters.{IsArmed}
 use Rattle.cluster.specs.Clusters.{StayBut, OccursAs, step_by, LeavesShorter, BefallsShorter}
 use Rattle.cluster.proofs.Standing.{there, placed, found, named, node_put, node_kept, at_place, same_but, others_stay, stands_still}
 use Rattle.cluster.proofs.Occurring.{occurs, no_fault, comes_quiet}
@@ -101,10 +102,17 @@ module _ (config : Config) (world : World) (sizes : Sizes) (nodes : List NodePar
   here same = subst (λ (x : NodeParts). IsSameNode x new) read same
 
   -- a tear
-  module _ (n : ℕ) (same : IsSameNode node new)
+  module _ (n : ℕ) (same : IsSameNode node new) (holds : new ≡ record node { held = armed_with (Some n) node.held })
       (arms : (config : Config) (m : NodeState) → NodeStands config node m → NodeStands config new (record m { tear = Some n })) where
     abbrev torn : World
     torn = set_node config world who (record m { tear = Some n })
+
+    armed : (o : Option NodeState) → IsArmed config nodes (set nodes at new) who n o
+    armed None = tt
+    armed (Some x) =
+        at_place config world sizes nodes network s who at (sym is)
+        (λ (before after : NodeParts). after ≡ record before { held = armed_with (Some n) before.held }) node new
+        (subst (λ (x : NodeParts). new ≡ record x { held = armed_with (Some n) x.held }) read holds)
 
     pub torn_made : (came : Came) → came.answer ≡ Done → came.now ≡ None → came.sent.items ≡ []
         → OccursAs config world (Tear who n) (cluster_of sizes nodes network) (cluster_of sizes (set nodes at new) network)
@@ -114,7 +122,8 @@ module _ (config : Config) (world : World) (sizes : Sizes) (nodes : List NodePar
         node_put config world sizes nodes network s who at (sym is) node new (record m { tear = Some n }) (here same)
         (arms config m stands) network world.net s.net_is in
         occurs config world (Tear who n) (cluster_of sizes nodes network) (cluster_of sizes (set nodes at new) network) came
-        (same_but sizes nodes network network at node new (here same)) others NoFault no_fault refl (answer_result torn Done)
+        (same_but sizes nodes network network at node new (here same)) others NoFault no_fault
+        (refl, armed (node_at config world who)) (answer_result torn Done)
         (ap (if_found world _) node_is)
         (comes_quiet config world torn (length world.net) (cluster_of sizes (set nodes at new) network) came Done answer_is now_is sent_is
         next)

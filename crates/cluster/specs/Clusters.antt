@@ -5,7 +5,7 @@ use Rattle.std.specs.List.{AllZip}
 use Rattle.std.specs.Option.{option_map, option_and_then}
 use Rattle.xid.specs.declared.refusals.Refusal.{Refusal}
 use Rattle.stable_record.specs.declared.fact.FactKind.{FactKind as Fact}
-use Rattle.stable_record.specs.Held.{Held}
+use Rattle.stable_record.specs.Held.{Held, armed_with}
 use Rattle.wire.specs.Grammar.{spelling}
 use Rattle.wire.specs.Decoding.{spells_message}
 use Rattle.protocol.specs.declared.events.Event.{Event}
@@ -142,10 +142,18 @@ BefallsCompacted config old new who (Some m) fault =
     IsMetIf m.up ((at : ℕ) (d : NodeParts) → place config who ≡ Some at
     → BefallsShorter config who m.facts (slice_index_or old at d).held (slice_index_or new at d).held fault) fault
 
--- a fault is true to what befell the node that an event reached
+-- a tear of so many bytes is armed on the record of a node that there is, and nothing else of the node changes
+abbrev pub IsArmed : Config → (old new : List NodeParts) → NodeId → ℕ → Option NodeState → Type 0
+IsArmed config old new who n None = Unit {0}
+IsArmed config old new who n (Some m) =
+    (at : ℕ) (d : NodeParts) → place config who ≡ Some at
+    → slice_index_or new at d ≡ record (slice_index_or old at d) { held = armed_with (Some n) (slice_index_or old at d).held }
+
+-- a fault is true to what befell the node that an event reached; to arm a tear meets none
 abbrev pub BefallsEvent : Config → World → Event → (old new : List NodeParts) → Fault → Type 0
 BefallsEvent config world (Restart who) old new fault = BefallsRestarted config old new who (node_at config world who) fault
 BefallsEvent config world (Compact who) old new fault = BefallsCompacted config old new who (node_at config world who) fault
+BefallsEvent config world (Tear who n) old new fault = (fault ≡ NoFault) × IsArmed config old new who n (node_at config world who)
 BefallsEvent config world event old new fault = BefallsReached config world old new (handed world event) fault
 
 -- a fault is true to what happened: where memory was wanted before a node was reached, no node has changed

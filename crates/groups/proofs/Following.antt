@@ -1,32 +1,21 @@
 -- Events of the machine follow a cluster whose nodes work in groups.
-use Rattle.std.proofs.Common.{◌≡◌, ◌∙◌, ℕ, Bool, true, false, if◌then◌else◌, List, [], ◌∷◌, ◌++◌, Option, Some, None, inl, inr}
-use Rattle.std.proofs.Common.{refl, sym, ap, subst, append-nil}
-use Rattle.std.specs.Prelude.{map}
+use Rattle.std.proofs.Common.{◌≡◌, ◌∙◌, Bool, true, false, if◌then◌else◌, List, [], ◌∷◌, ◌++◌, Some, inl, inr}
+use Rattle.std.proofs.Common.{refl, sym, ap, subst}
 use Rattle.std.specs.List.{AllByRecursion, flat_map}
-use Rattle.std.specs.Option.{option_map_or}
 use Rattle.std.proofs.lemmas.Grind.{flat_map-append}
 use Rattle.ballot.specs.Greatest.{IsIn}
-use Rattle.xid.specs.Transactions.{TxParts, is_participant}
-use Rattle.xid.specs.declared.refusals.Refusal.TheVariants.{Down}
-use Rattle.protocol.specs.declared.answers.Answer.TheVariants.{Done, Refused}
 use Rattle.protocol.specs.declared.decisions.Outgoing.{Outgoing}
-use Rattle.protocol.specs.declared.events.Event.{Event}
-use Rattle.protocol.specs.declared.events.Event.TheVariants.{Restart, Compact, Tear}
 use Rattle.protocol.specs.declared.nodes.NodeId.{NodeId}
 use Rattle.protocol.specs.Effects.{Config}
-use Rattle.protocol.specs.Nodes.{NodeState, Input, Asked, Received, ReceivedNoise, Fault, NoFault, NoMemoryBefore, NoMemoryAt, RecordFails}
-use Rattle.protocol.specs.Nodes.{Outcome, node_step, restart_outcome, compact_outcome, all_play}
-use Rattle.protocol.specs.TCommit.{IsCommitStep}
-use Rattle.protocol.specs.Worlds.{World, Datagram, StepResult, opening, node_at, set_node, datagrams_of, if_found, outcome_result}
+use Rattle.protocol.specs.Nodes.{NodeState, Input, Asked, Received, ReceivedNoise}
+use Rattle.protocol.specs.Nodes.{Outcome, node_step}
+use Rattle.protocol.specs.Worlds.{World, Datagram, opening, node_at, datagrams_of}
 use Rattle.protocol.specs.Worlds.{Occurrence, world_step, world_after}
-use Rattle.protocol.proofs.Lists.{IsIn-append, IsIn-before, IsIn-after, IsIn-map, IsIn-mapped}
+use Rattle.protocol.proofs.Lists.{IsIn-append, IsIn-before, IsIn-after, IsIn-map}
 use Rattle.progress.proofs.Mail.{Letter, letter_of, mail, letters, letters_of, posted_mail}
-use Rattle.safety.specs.CommitSteps.{IsConsistent}
-use Rattle.safety.specs.Runs.{IsReachable, Opening, After, views_in}
 use Rattle.safety.proofs.World.NodePlaces.{node_there}
-use Rattle.safety.proofs.World.Reachable as reachable
 use Rattle.groups.specs.Runs.{Handed, node_after, sends_after, handled_in, CanBeHanded, group_result, Happening, AreSame}
-use Rattle.groups.proofs.Steps.{among, put, put_twice, put_same, Comes, step_comes, IsMailed}
+use Rattle.groups.proofs.Steps.{among, put, put_twice, put_same, step_comes, IsMailed}
 
 -- all letters of the one are among the other's
 abbrev IsAmong : (some all : List Letter) → Type 0

@@ -1,19 +1,17 @@
 -- A group at a node over a record is one of the machine.
-use Rattle.std.proofs.Common.{◌≡◌, ◌∙◌, List, [], ◌∷◌, ◌++◌, Option, Some, None, refl, sym, ap, subst, append-nil}
+use Rattle.std.proofs.Common.{◌≡◌, ◌∙◌, List, [], ◌∷◌, ◌++◌, None, refl, sym, ap, subst, append-nil}
 use Rattle.std.specs.Prelude.{map, Result, Ok, Err}
 use Rattle.std.specs.List.{flat_map}
 use Rattle.xid.specs.declared.refusals.Refusal.{Refusal}
-use Rattle.stable_record.specs.Held.{Held, refusal_of}
+use Rattle.stable_record.specs.Held.{refusal_of}
 use Rattle.stable_record.specs.declared.record.RecordError.{RecordError}
 use Rattle.protocol.specs.declared.answers.Answer.TheVariants.{Refused}
-use Rattle.protocol.specs.declared.decisions.Outgoing.{Outgoing}
 use Rattle.protocol.specs.declared.nodes.NodeId.{NodeId}
 use Rattle.protocol.specs.declared.rows.Row.{Row}
 use Rattle.protocol.specs.Effects.{Config}
 use Rattle.protocol.specs.Nodes.{NodeState, Input, node_step}
 use Rattle.node_core.specs.declared.output.Output.{Output}
-use Rattle.node_core.specs.declared.role.Role.{Role}
-use Rattle.node_core.specs.Groups.{Place, Runs, IsSameButKept, StopsIn, GroupsAs}
+use Rattle.node_core.specs.Groups.{Place, Runs, GroupsAs}
 use Rattle.node_core.specs.Nodes.{AreSizes, IsSameNode, NodeParts, NodeStands, Stands}
 use Rattle.node_core.specs.Sends.{sent}
 use Rattle.node_core.specs.Storing.{output_of}

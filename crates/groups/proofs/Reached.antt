@@ -8,7 +8,7 @@ use Rattle.protocol.specs.declared.nodes.NodeId.{NodeId}
 use Rattle.protocol.specs.Effects.{Config}
 use Rattle.protocol.specs.Nodes.{NodeState, Fault, Outcome, node_step}
 use Rattle.protocol.specs.TCommit.{IsCommitStep}
-use Rattle.protocol.specs.Worlds.{World, Datagram, Occurrence, opening, node_at, world_step, world_after}
+use Rattle.protocol.specs.Worlds.{World, Datagram, Occurrence, opening, node_at, world_step}
 use Rattle.protocol.proofs.Lists.{IsIn-map, IsIn-mapped}
 use Rattle.progress.proofs.Mail.{Letter, letter_of, mail}
 use Rattle.safety.specs.CommitSteps.{IsConsistent}
@@ -18,7 +18,7 @@ use Rattle.safety.proofs.World.Reachable as proved
 use Rattle.safety.proofs.World.Events.{reachable_after}
 use Rattle.groups.specs.Runs.{Handed, node_after, CanBeHanded, group_result, is_upkeep, IsReached, Opening, Grouped, Kept, IsSent, IsMachines}
 use Rattle.groups.specs.Runs.{Happening, Upkept, all_happened}
-use Rattle.groups.proofs.Steps.{among, put, put_twice, step_comes}
+use Rattle.groups.proofs.Steps.{put, put_twice, step_comes}
 use Rattle.groups.proofs.Following.{Follows, led, after_append, same_append, group_followed, mailed, there_next}
 use Rattle.groups.proofs.Upkeep.{upkeep_nodes, upkeep_net}
 

@@ -2,7 +2,7 @@
 use Rattle.std.proofs.Common.{◌≡◌, ◌∙◌, ℕ, zero, suc, Bool, true, false, not, if◌then◌else◌, List, [], ◌∷◌, ◌++◌, Option, Some, None}
 use Rattle.std.proofs.Common.{refl, sym, ap, subst}
 use Rattle.std.specs.Prelude.{slice_get}
-use Rattle.std.specs.List.{slice_set, flat_map}
+use Rattle.std.specs.List.{slice_set}
 use Rattle.std.specs.Option.{option_and_then, option_map_or}
 use Rattle.ballot.specs.Greatest.{IsIn}
 use Rattle.wire.specs.declared.message.Kind.{Kind}
@@ -16,10 +16,10 @@ use Rattle.protocol.specs.declared.requests.Request.{Request}
 use Rattle.protocol.specs.Effects.{Config, Effect}
 use Rattle.protocol.specs.Nodes.{NodeState, Memory, Input, Asked, Received, ReceivedNoise, Fault, NoFault, NoMemoryBefore, NoMemoryAt}
 use Rattle.protocol.specs.Nodes.{RecordFails, Outcome, node_step, effect_of, accepts_input, answer_outcome, down_answer, effect_outcome}
-use Rattle.protocol.specs.Worlds.{World, Datagram, StepResult, place, node_at, set_node, datagrams_of, if_found, outcome_result, at_node}
+use Rattle.protocol.specs.Worlds.{World, Datagram, StepResult, place, node_at, if_found, outcome_result, at_node}
 use Rattle.protocol.specs.Worlds.{datagram_at, with_mark, mark_at, dispatch, world_step}
 use Rattle.groups.specs.Runs.{Hands}
-use Rattle.progress.proofs.Mail.{Letter, letter_of, mail, marked_mail, deliverable, letters, posted_mail}
+use Rattle.progress.proofs.Mail.{Letter, mail, marked_mail, deliverable, letters, posted_mail}
 
 -- ---- nodes in a place
 

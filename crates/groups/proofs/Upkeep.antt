@@ -1,5 +1,5 @@
 -- A restart, a compaction and an armed tear do the same to the same nodes, and send nothing.
-use Rattle.std.proofs.Common.{◌≡◌, ◌∙◌, ℕ, Bool, true, false, if◌then◌else◌, List, [], ◌++◌, Option, Some, None, refl, sym, ap, append-nil}
+use Rattle.std.proofs.Common.{◌≡◌, ◌∙◌, Bool, true, false, if◌then◌else◌, List, [], ◌++◌, Option, Some, None, refl, sym, ap, append-nil}
 use Rattle.std.specs.List.{flat_map}
 use Rattle.xid.specs.declared.refusals.Refusal.TheVariants.{Down, Damaged}
 use Rattle.stable_record.specs.declared.fact.FactKind.{FactKind as Fact}
@@ -11,7 +11,7 @@ use Rattle.protocol.specs.declared.nodes.NodeId.{NodeId}
 use Rattle.protocol.specs.Effects.{Config}
 use Rattle.protocol.specs.Nodes.{NodeState, Fault, NoFault, NoMemoryBefore, NoMemoryAt, RecordFails, Outcome, restart_outcome, compact_outcome}
 use Rattle.protocol.specs.Nodes.{all_play, answer_outcome, down_node, empty_memory}
-use Rattle.protocol.specs.Worlds.{World, Datagram, StepResult, node_at, set_node, datagrams_of, if_found, outcome_result, answer_result}
+use Rattle.protocol.specs.Worlds.{World, StepResult, node_at, set_node, datagrams_of, if_found, outcome_result, answer_result}
 use Rattle.protocol.specs.Worlds.{dispatch, world_step}
 use Rattle.groups.specs.Runs.{is_upkeep}
 use Rattle.groups.proofs.Steps.{among, put}

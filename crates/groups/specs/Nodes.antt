@@ -1,5 +1,5 @@
 -- What a group does at a node over a record, as a group of the machine.
-use Rattle.std.specs.Prelude.{◌≡◌, Bool, if◌then◌else◌, List, [], ◌++◌, map, Result, Ok, Err, is_ok}
+use Rattle.std.specs.Prelude.{◌≡◌, if◌then◌else◌, List, [], ◌++◌, map, Result, Ok, Err, is_ok}
 use Rattle.std.specs.List.{flat_map}
 use Rattle.stable_record.specs.declared.record.RecordError.{RecordError}
 use Rattle.protocol.specs.Effects.{Config}

@@ -1,10 +1,9 @@
 -- Frames of both versions, and those that are written today.
 use Rattle.std.proofs.Common.{◌≡◌, ◌≢◌, ◌∙◌, ℕ, ◌+◌, ◌<◌, ◌≤◌, true, false, ◌==◌, List, [], ◌∷◌, ◌++◌, length, drop, take, get_or, refl, sym, ap, subst}
-use Rattle.std.proofs.Common.{append_assoc, append-nil, length-append, arith, Option, Some, None, inl, inr}
+use Rattle.std.proofs.Common.{append_assoc, append-nil, length-append, arith, Some, None, inl, inr}
 use Rattle.xid.specs.declared.refusals.Refusal.{Refusal}
 use Rattle.std.specs.Prelude.{◌⊎◌, map, Result, Ok, Err}
 use Rattle.std.proofs.lemmas.Bool.Decides.{nat_tests}
-use Rattle.std.specs.List.{flat_map}
 use Rattle.std.proofs.lemmas.Grind.{flat_map-append}
 use Rattle.std.proofs.lemmas.List.{drop_at, take_more, map-append}
 use Rattle.wire.specs.Reading.{number_at}
@@ -18,7 +17,7 @@ use Rattle.stable_record.specs.declared.entry.EntryKind.{EntryKind as Entry}
 use Rattle.stable_record.specs.declared.fact.FactKind.{FactKind as Fact}
 use Rattle.stable_record.specs.Facts.{IsFact}
 use Rattle.stable_record.specs.Entries.{IsEntry, IsEntryIn}
-use Rattle.stable_record.specs.Grammar.{IsStored, IsDamaged, IsFramed, IsTail, frame, body_spelling}
+use Rattle.stable_record.specs.Grammar.{IsStored, IsDamaged, IsTail, frame, body_spelling}
 use Rattle.stable_record.specs.declared.record.RecordError.{RecordError}
 use Rattle.stable_record.specs.declared.record.RecordError.TheVariants.{Fault, Memory}
 use Rattle.stable_record.specs.Held.{Held, HasPut, refusal_of, with_bytes}

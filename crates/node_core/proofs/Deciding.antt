@@ -58,7 +58,7 @@ module _ (p : AcceptorParts) (d : Decision) (message : Kind)
       → acceptor_specs.StandsFor config a p facts → (o : Option Fact) → IfSome o (λ fact. plays_at_acceptor (slot facts) fact ≡ true)
       → IsLeft config (A a) facts memory (Role.Acceptor p) (in_memory (λ none. memory) e) o
   acceptor_left config a facts memory e s None plays = s
-  acceptor_left config a facts memory e s (Some fact) plays = record { stands = s; fits = plays; playable = tt; leaves = refl }
+  acceptor_left config a facts memory e s (Some fact) plays = record { stands = s; fits = plays; idle = tt; leaves = refl }
 
   pub acceptor_decides : Decides (Role.Acceptor p) (Role.Acceptor p) d
       (λ config who facts memory. on_message config who facts memory message)
@@ -77,7 +77,7 @@ module _ (p : ManagerParts) (d : Decision) (message : Kind) (h : manager_specs.D
     (λ config number stored branches. on_manager_message number stored branches (xid_at (message_tx message) number) message)) where
   manager_left : (config : Config) (rm : ℕ) (facts : List Fact) (memory : Memory) (e : Effect (List Branch))
       → manager_specs.StandsFor config rm p facts memory.branches → (o : Option Fact)
-      → IfSome o (λ fact. (plays_at_manager rm (stored_votes rm facts) fact ≡ true) × manager_specs.IsPlayable rm memory.branches fact)
+      → IfSome o (λ fact. (plays_at_manager rm (stored_votes rm facts) fact ≡ true) × manager_specs.IsOfIdleBranch rm memory.branches fact)
       → e.memory ≡ manager_specs.unspent_branches rm (with_fact facts o) memory.branches
       → IsLeft config (R rm) facts memory (Role.Manager p) (of_manager memory e) o
   manager_left config rm facts memory e s None plays leaves =
@@ -85,7 +85,7 @@ module _ (p : ManagerParts) (d : Decision) (message : Kind) (h : manager_specs.D
   manager_left config rm facts memory e s (Some fact) plays leaves = record {
     stands = s;
     fits = plays.0;
-    playable = plays.1;
+    idle = plays.1;
     leaves = ap (λ (branches : List Branch). record memory { branches = branches }) leaves;
   }
 
@@ -225,7 +225,7 @@ module _ (old new : LeaderParts) (d : LeaderDecision) (tx : TxParts) where
   timeout_left config l facts memory s (Some fact) is plays waits stands = record {
     stands = subst (λ (p : LeaderParts). leader_specs.StandsFor config l p facts memory.leader) (sym waits) s;
     fits = plays;
-    playable = tt;
+    idle = tt;
     leaves = timeout_leaves config l facts memory tx fact (sym is);
   }
 
@@ -358,11 +358,11 @@ told_so old inner new d e rule is is_d h =
     subst (λ x. P x d) (sym is) (subst (λ y. P inner y) (sym is_d) h)
 
 -- what an acceptor or a resource manager decided, once its parts stand apart, beside no other message
-pub apart_so : (P : Decision → Type 0) (d : Decision) (answer : Answer) (fact : Option Fact) (question by_leader : List Outgoing)
-    → answer ≡ d.answer → fact ≡ d.fact → question ≡ [] → by_leader ≡ [] → P d
-    → P (record { answer = answer; fact = fact; sends = d.sends ++ question ++ by_leader })
-apart_so P d answer fact question by_leader answer_is fact_is question_is leader_is h =
-    let all = (λ i. d.sends ++ question_is i ++ leader_is i) ∙ append-nil (d.sends ++ []) ∙ append-nil d.sends in
+pub apart_so : (P : Decision → Type 0) (d : Decision) (answer : Answer) (fact : Option Fact) (replied question by_leader : List Outgoing)
+    → answer ≡ d.answer → fact ≡ d.fact → replied ≡ [] → question ≡ [] → by_leader ≡ [] → P d
+    → P (record { answer = answer; fact = fact; sends = replied ++ (d.sends ++ question ++ by_leader) })
+apart_so P d answer fact replied question by_leader answer_is fact_is replied_is question_is leader_is h =
+    let all = (λ i. replied_is i ++ (d.sends ++ question_is i ++ leader_is i)) ∙ append-nil (d.sends ++ []) ∙ append-nil d.sends in
     subst P (λ i. record { answer = sym answer_is i; fact = sym fact_is i; sends = sym all i }) h
 
 -- a resource manager that left what it decided in a place, or refused
@@ -377,12 +377,16 @@ managed_so old p message is (Err refusal) fact out h = tt
 
 -- what a leader decided, once its parts stand apart, beside no other message
 pub led_follows : (config : Config) (number : ℕ) (old new : LeaderParts) (rule : leader_specs.Rule) (d : LeaderDecision) (answer : Answer)
-    (fact : Option Fact) (first question : List Outgoing) → answer ≡ d.answer → fact ≡ d.fact → first ≡ [] → question ≡ []
-    → Follows config number old new d rule
-    → Follows config number old new (record { answer = answer; fact = fact; sends = first ++ question ++ d.sends }) rule
-led_follows config number old new rule d answer fact first question answer_is fact_is first_is question_is h =
+    (fact : Option Fact) (replied first question : List Outgoing) → answer ≡ d.answer → fact ≡ d.fact → replied ≡ [] → first ≡ []
+    → question ≡ [] → Follows config number old new d rule
+    → Follows config number old new (record { answer = answer; fact = fact; sends = replied ++ (first ++ question ++ d.sends) }) rule
+led_follows config number old new rule d answer fact replied first question answer_is fact_is replied_is first_is question_is h =
     subst (λ (x : LeaderDecision). Follows config number old new x rule)
-    (λ i. record { answer = sym answer_is i; fact = sym fact_is i; sends = sym first_is i ++ sym question_is i ++ d.sends }) h
+    (λ i. record {
+      answer = sym answer_is i;
+      fact = sym fact_is i;
+      sends = sym replied_is i ++ (sym first_is i ++ sym question_is i ++ d.sends);
+    }) h
 
 -- a leader that left what it decided in a place, or refused
 pub led_so : (old : Role) (inner new : LeaderParts) (message : Kind) → old ≡ Role.Leader inner → (result : Result (Unit {0}) Refusal)

@@ -2,14 +2,14 @@
 use Rattle.std.proofs.Common.{◌≡◌, ◌∙◌, ℕ, ◌+◌, ◌-◌, ◌<◌, ◌≤◌, zero, suc, Bool, true, false, ◌==◌, List, [], ◌∷◌, ◌++◌, length, take, Option}
 use Rattle.std.proofs.Common.{Some, None, inl, inr, ltb, IsTrue}
 use Rattle.std.proofs.Common.{refl, sym, ap, subst, append_assoc, append-nil, arith}
-use Rattle.std.specs.Prelude.{map, is_some, ◌⊎◌, if◌then◌else◌, Result, Ok, Err}
+use Rattle.std.specs.Prelude.{is_some, ◌⊎◌, if◌then◌else◌, Result, Ok, Err}
 use Rattle.std.proofs.lemmas.Bool.Decides.{nat_tests}
 use Rattle.std.proofs.lemmas.List.{length-append}
 use Rattle.xid.specs.declared.refusals.Refusal.{Refusal}
 use Rattle.xid.specs.declared.refusals.Refusal.TheVariants.{RecordFault, NoMemory}
 use Rattle.stable_record.specs.declared.fact.FactKind.{FactKind as Fact}
 use Rattle.stable_record.specs.Facts.{IsFact}
-use Rattle.stable_record.specs.Held.{Held, IsAdded, IsStopped, IsStoppedAt, IsCounted, refusal_of}
+use Rattle.stable_record.specs.Held.{Held, IsAdded, IsStopped, IsStoppedAt, IsCounted}
 use Rattle.stable_record.specs.declared.record.RecordError.{RecordError}
 use Rattle.stable_record.specs.declared.record.RecordError.TheVariants as errors
 use Rattle.protocol.specs.declared.answers.Answer.TheVariants.{Refused}
@@ -19,10 +19,9 @@ use Rattle.protocol.specs.Effects.{Config, Effect}
 use Rattle.protocol.specs.Nodes.{NodeState, Memory, Input, plays, accepts_input, effect_of, node_step}
 use Rattle.node_core.specs.declared.output.Output.{Output}
 use Rattle.node_core.specs.declared.role.Role.{Role}
-use Rattle.node_core.specs.Roles.{RoleStands}
 use Rattle.node_core.specs.Sends.{sent}
 use Rattle.node_core.specs.Storing.{fact_frame, output_of, change_made, IsKept, Carries, carried, WasStopped}
-use Rattle.node_core.specs.Nodes.{Stands, Steps, Keeps, NodeParts, NodeStands, IsSound, AreSizes}
+use Rattle.node_core.specs.Nodes.{Stands, Steps, AreSizes}
 use Rattle.node_core.specs.Groups.{Place, Does, Runs, IsSameButKept, StopsIn, Tears, Leaves, Acts, Gathers, ActsOn, GathersOn}
 use Rattle.node_core.specs.Groups.{IsStoredAll, Comes}
 use Rattle.node_core.proofs.Steps.{steps_up, steps_settled, steps_refused, steps_down}

@@ -1,5 +1,5 @@
 -- What a group leaves: the node still stands for a node of the machine.
-use Rattle.std.proofs.Common.{◌≡◌, ◌∙◌, List, [], ◌∷◌, length, Option, Some, None, refl, sym, ap, subst, arith}
+use Rattle.std.proofs.Common.{◌≡◌, ◌∙◌, List, [], ◌∷◌, length, Option, None, refl, sym, ap, subst, arith}
 use Rattle.std.specs.Prelude.{map, Result, Ok, Err}
 use Rattle.xid.specs.declared.refusals.Refusal.{Refusal}
 use Rattle.stable_record.specs.Held.{Held, refusal_of}

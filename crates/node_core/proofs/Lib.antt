@@ -23,3 +23,4 @@ pub mod Sizing
 pub mod Looking
 pub mod Listing
 pub mod Shortening
+pub mod Replying

@@ -1,6 +1,6 @@
 -- A role that is made ready for a fact, and plays it.
 use Rattle.std.proofs.Common.{rules, tests}
-use Rattle.std.proofs.Common.{◌≡◌, ◌∙◌, ℕ, ◌<◌, Bool, true, false, List, [], ◌∷◌, ◌++◌, refl, sym, ap, subst, arith, inl}
+use Rattle.std.proofs.Common.{◌≡◌, ◌∙◌, ℕ, ◌<◌, Bool, true, false, List, [], ◌∷◌, ◌++◌, refl, sym, ap, subst, arith, inl, inr}
 use Rattle.node_core.proofs.Deciding.{no_config}
 use Rattle.std.specs.Prelude.{if◌then◌else◌, Result, Ok, Err, OnOk, IfErr, nat_lt}
 use Rattle.std.proofs.lemmas.Bool.{both_ways, and_parts}
@@ -22,10 +22,11 @@ use Rattle.leader.specs.Leaders.{LeaderParts, leader_part, StandsForBallots}
 use Rattle.leader.proofs.Leading.{stored_ballot}
 use Rattle.leader.proofs.Basics.{tx_self}
 use Rattle.resource_manager.specs.Managers as manager_specs
-use Rattle.resource_manager.specs.Managers.{ManagerParts, manager_part, unspent_branches}
+use Rattle.resource_manager.specs.Managers.{ManagerParts, manager_part, placed_part, unspent_branches}
+use Rattle.resource_manager.proofs.Votes.{idle_there}
 use Rattle.resource_manager.proofs.More.{unspent_all}
 use Rattle.node_core.specs.declared.role.Role.{Role}
-use Rattle.node_core.specs.Roles.{RoleStands, IsReadyFor, IsSame, Takes, Replays, IsReplayed, memory_after}
+use Rattle.node_core.specs.Roles.{RoleStands, HasRoomFor, IsSame, Takes, Replays, IsReplayed, memory_after}
 
 -- ---- made ready
 
@@ -59,7 +60,7 @@ left_all : (config : Config) (rm : ℕ) (p : ManagerParts) (facts : List Fact) (
 left_all config rm p facts branches s = unspent_all rm facts branches s.apart.unspent
 
 manager_ready : (old new : ManagerParts) (fact : Fact)
-    → ((config : Config) (number : ℕ) (branches : List Branch) → ready_parts (manager_part config number branches) old new fact)
+    → ((config : Config) (number : ℕ) (branches : List Branch) → ready_parts (placed_part config number branches) old new fact)
     → IsSame (Role.Manager old) (Role.Manager new)
 manager_ready old new fact h config (A a) facts memory s = absurd s
 manager_ready old new fact h config (L l) facts memory s = absurd s
@@ -70,7 +71,7 @@ manager_ready old new fact h config (R rm) facts memory s =
 
 -- what `ready` leaves
 abbrev IsReadied : (self new : Role) → Fact → Result (Unit {0}) Refusal → Type 0
-IsReadied self new fact r = OnOk r (IsSame self new × IsReadyFor new fact)
+IsReadied self new fact r = OnOk r (IsSame self new × HasRoomFor new fact)
 
 pub acceptor_readied : (self : Role) (old new : AcceptorParts) (fact : Fact) (r : Result (Unit {0}) Refusal) → self ≡ Role.Acceptor old
     → ((config : Config) (number : ℕ) → IsMadeReady (acceptor_part config number) old new fact r)
@@ -88,7 +89,7 @@ leader_readied self old new fact (Ok tt) is h =
     (leader_ready old new fact h, λ config number memory. (h config number memory).1)
 
 pub manager_readied : (self : Role) (old new : ManagerParts) (fact : Fact) (r : Result (Unit {0}) Refusal) → self ≡ Role.Manager old
-    → ((config : Config) (number : ℕ) (branches : List Branch) → IsMadeReady (manager_part config number branches) old new fact r)
+    → ((config : Config) (number : ℕ) (branches : List Branch) → IsMadeReady (placed_part config number branches) old new fact r)
     → IsReadied self (Role.Manager new) fact r
 manager_readied self old new fact (Err e) is h = tt
 manager_readied self old new fact (Ok tt) is h =
@@ -113,22 +114,37 @@ part_takes part old new facts fact (Err other) h s plays ready = absurd h
 pub acceptor_takes : (old new : AcceptorParts) (fact : Fact) (r : Result (Unit {0}) Refusal)
     → ((config : Config) (number : ℕ) → IsPlayed (acceptor_part config number) old new fact r)
     → Takes (Role.Acceptor old) (Role.Acceptor new) fact r
-acceptor_takes old new fact r h config (A a) facts memory s fits playable ready =
+acceptor_takes old new fact r h config (A a) facts memory s fits idle ready =
     let t = part_takes (acceptor_part config a) old new facts fact r (h config a) s fits ready in
     record { done = t.done; stands = t.stands }
-acceptor_takes old new fact r h config (L l) facts memory s fits playable ready = absurd s
-acceptor_takes old new fact r h config (R rm) facts memory s fits playable ready = absurd s
+acceptor_takes old new fact r h config (L l) facts memory s fits idle ready = absurd s
+acceptor_takes old new fact r h config (R rm) facts memory s fits idle ready = absurd s
+
+idle_plays : (rm : ℕ) (branches : List Branch) (fact : Fact) → manager_specs.IsOfIdleBranch rm branches fact
+    → manager_specs.IsPlayable rm branches fact
+idle_plays rm branches (Fact.VotePrepared tx keys) idle = inr idle
+idle_plays rm branches other idle = tt
+
+-- a decided vote's branch is there, so that places are all that it takes
+idle_ready : (config : Config) (rm : ℕ) (p : ManagerParts) (facts : List Fact) (branches : List Branch)
+    → manager_specs.StandsFor config rm p facts branches → (fact : Fact) → manager_specs.IsOfIdleBranch rm branches fact
+    → manager_specs.HasRoomFor p fact → manager_specs.IsReadyFor p fact
+idle_ready config rm p facts branches s (Fact.VotePrepared tx keys) idle room =
+    (room, idle_there config rm p facts branches s tx idle.0 keys idle.1 idle.2)
+idle_ready config rm p facts branches s other idle room = room
 
 pub manager_takes : (old new : ManagerParts) (fact : Fact) (r : Result (Unit {0}) Refusal)
     → ((config : Config) (number : ℕ) (branches : List Branch) → manager_specs.IsPlayable number branches fact
     → IsPlayed (manager_part config number branches) old new fact r)
     → Takes (Role.Manager old) (Role.Manager new) fact r
-manager_takes old new fact r h config (A a) facts memory s fits playable ready = absurd s
-manager_takes old new fact r h config (L l) facts memory s fits playable ready = absurd s
-manager_takes old new fact r h config (R rm) facts memory s fits playable ready =
+manager_takes old new fact r h config (A a) facts memory s fits idle ready = absurd s
+manager_takes old new fact r h config (L l) facts memory s fits idle ready = absurd s
+manager_takes old new fact r h config (R rm) facts memory s fits idle ready =
     let all = left_all config rm old facts memory.branches s in
-    let t = part_takes (manager_part config rm memory.branches) old new facts fact r (h config rm memory.branches playable)
-    (subst (manager_specs.StandsFor config rm old facts) (sym all) s) fits ready in
+    let t = part_takes (manager_part config rm memory.branches) old new facts fact r
+    (h config rm memory.branches (idle_plays rm memory.branches fact idle))
+    (subst (manager_specs.StandsFor config rm old facts) (sym all) s) fits
+    (idle_ready config rm old facts memory.branches s fact idle ready) in
     record { done = t.done; stands = t.stands }
 
 -- a ballot that plays is above 0
@@ -143,9 +159,9 @@ module _ (old played new : LeaderParts) (tx : TxParts) (b : ℕ) (fact : Fact) (
       → StandsForBallots config number played stored memory → 0 < stored tx
       → StandsForBallots config number new stored (with_begun tx b (with_met tx memory)) × (new.courses.begun ≡ played.courses.begun))
       → Takes (Role.Leader old) (Role.Leader new) fact (Ok tt)
-  leader_takes r done h begins config (A a) facts memory s fits playable ready = absurd s
-  leader_takes r done h begins config (R rm) facts memory s fits playable ready = absurd s
-  leader_takes r done h begins config (L l) facts memory s fits playable ready =
+  leader_takes r done h begins config (A a) facts memory s fits idle ready = absurd s
+  leader_takes r done h begins config (R rm) facts memory s fits idle ready = absurd s
+  leader_takes r done h begins config (L l) facts memory s fits idle ready =
       let t = part_takes (leader_part config l memory.leader) old played facts fact r (h config l memory.leader) s fits
       (ready config l memory.leader) in
       let fits_ballot = subst (λ (f : Fact). plays_at_leader config.leaders l (last_ballot facts) f ≡ true) is fits in
@@ -166,9 +182,9 @@ module _ (old played new : LeaderParts) (tx : TxParts) (b : ℕ) (fact : Fact) (
 pub leader_refused : (old new : LeaderParts) (fact : Fact) (r : Result (Unit {0}) Refusal) (e : Refusal) → r ≡ Err e
     → ((config : Config) (number : ℕ) (memory : LeaderMemory) → IsPlayed (leader_part config number memory) old new fact r)
     → Takes (Role.Leader old) (Role.Leader new) fact (Err e)
-leader_refused old new fact r e is h config (A a) facts memory s fits playable ready = absurd s
-leader_refused old new fact r e is h config (R rm) facts memory s fits playable ready = absurd s
-leader_refused old new fact r e is h config (L l) facts memory s fits playable ready =
+leader_refused old new fact r e is h config (A a) facts memory s fits idle ready = absurd s
+leader_refused old new fact r e is h config (R rm) facts memory s fits idle ready = absurd s
+leader_refused old new fact r e is h config (L l) facts memory s fits idle ready =
     let t = part_takes (leader_part config l memory.leader) old new facts fact r (h config l memory.leader) s fits
     (ready config l memory.leader) in
     absurd (cc (t.done, is))
@@ -183,9 +199,9 @@ no_ballot leaders l facts other none h = absurd (cc (h))
 
 pub leader_stranger : (p : LeaderParts) (fact : Fact) (r : Result (Unit {0}) Refusal) → IsNoBallot fact
     → Takes (Role.Leader p) (Role.Leader p) fact r
-leader_stranger p fact r none config (A a) facts memory s fits playable ready = absurd s
-leader_stranger p fact r none config (R rm) facts memory s fits playable ready = absurd s
-leader_stranger p fact r none config (L l) facts memory s fits playable ready =
+leader_stranger p fact r none config (A a) facts memory s fits idle ready = absurd s
+leader_stranger p fact r none config (R rm) facts memory s fits idle ready = absurd s
+leader_stranger p fact r none config (L l) facts memory s fits idle ready =
     absurd (no_ballot config.leaders l facts fact none fits)
 
 -- ---- replayed

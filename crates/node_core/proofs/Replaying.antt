@@ -11,7 +11,7 @@ use Rattle.xid.specs.declared.refusals.Refusal.TheVariants.{Damaged, NoMemory}
 use Rattle.stable_record.specs.declared.entry.EntryKind.{EntryKind as Entry}
 use Rattle.stable_record.specs.declared.entry.EntryKind.TheVariants as entries
 use Rattle.stable_record.specs.declared.fact.FactKind.{FactKind as Fact}
-use Rattle.stable_record.specs.Grammar.{IsStored, IsFramed, IsTail, HasNoFrame}
+use Rattle.stable_record.specs.Grammar.{IsFramed, IsTail, HasNoFrame}
 use Rattle.stable_record.proofs.Framed.{all_read, nothing_stored}
 use Rattle.protocol.specs.declared.nodes.NodeId.{NodeId}
 use Rattle.protocol.specs.Effects.{Config}
@@ -19,7 +19,7 @@ use Rattle.protocol.specs.Nodes.{empty_memory, plays, all_play}
 use Rattle.resource_manager.specs.Compacted.{facts_of}
 use Rattle.node_core.specs.declared.role.Role.{Role}
 use Rattle.node_core.specs.Roles.{RoleStands, Replays, IsReplayed}
-use Rattle.node_core.specs.Opening.{may_stand, AreReplayed, ReplaysAll, IsEntryPlayed, IsPlayedAs, PlaysEntry, Goes, HasPlayed, IsUnplayable}
+use Rattle.node_core.specs.Opening.{may_stand, AreReplayed, ReplaysAll, IsEntryPlayed, IsPlayedAs, PlaysEntry, HasPlayed, IsUnplayable}
 use Rattle.node_core.specs.Opening.{IsPlayedWhole, HasPlayedTo}
 use Rattle.node_core.proofs.Reading.{nothing_read, read_more, then_came}
 

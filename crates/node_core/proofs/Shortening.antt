@@ -1,18 +1,16 @@
 -- A record that was made shorter says the same.
-use Rattle.std.proofs.Common.{◌≡◌, ◌∙◌, ℕ, true, false, List, [], ◌∷◌, ◌++◌, Option, Some, None, refl, sym, ap, subst, inl, inr, Vec, Global}
-use Rattle.std.specs.Prelude.{◌⊎◌, map, Result, Ok, Err, IfOk}
+use Rattle.std.proofs.Common.{◌≡◌, ◌∙◌, ℕ, false, List, [], ◌++◌, Option, Some, None, refl, sym, ap, subst, inl, inr, Vec, Global}
+use Rattle.std.specs.Prelude.{◌⊎◌, Result, Ok, Err, IfOk}
 use Rattle.xid.specs.declared.refusals.Refusal.{Refusal}
 use Rattle.stable_record.specs.declared.entry.EntryKind.{EntryKind as Entry}
-use Rattle.stable_record.specs.declared.entry.EntryKind.TheVariants as entries
 use Rattle.stable_record.specs.declared.fact.FactKind.{FactKind as Fact}
-use Rattle.stable_record.specs.Grammar.{IsStored}
 use Rattle.stable_record.specs.Held.{Held, with_bytes}
 use Rattle.protocol.specs.declared.nodes.NodeId.{NodeId}
 use Rattle.protocol.specs.declared.nodes.NodeId.TheVariants.{A, L, R}
 use Rattle.protocol.specs.declared.rows.Row.{Row}
 use Rattle.protocol.specs.Effects.{Config}
 use Rattle.protocol.specs.Managers.{Branch}
-use Rattle.protocol.specs.Nodes.{NodeState, Memory, Fault, NoFault, NoMemoryBefore, NoMemoryAt, RecordFails, all_play, compact_outcome}
+use Rattle.protocol.specs.Nodes.{NodeState, Memory, Fault, NoFault, NoMemoryBefore, NoMemoryAt, RecordFails, compact_outcome}
 use Rattle.protocol.specs.Nodes.{down_node}
 use Rattle.acceptor.specs.Acceptors.{AcceptorParts}
 use Rattle.acceptor.specs.Compaction as of_acceptor
@@ -24,8 +22,8 @@ use Rattle.resource_manager.specs.Compacted.{IsShortened}
 use Rattle.node_core.specs.declared.role.Role.{Role}
 use Rattle.node_core.specs.Roles.{RoleStands}
 use Rattle.node_core.specs.Nodes.{begun, SameState, Keeps, Stands, NodeParts, NodeStands, IsSound}
-use Rattle.node_core.specs.Opening.{frames_of, AreFrames, IsReplaced}
-use Rattle.node_core.specs.Compacting.{IsShorter, Shortens, IsRecompacted, Recompacts, IsUnfaulted, HasCounted, BefallsCompact, IsCompactedUp, role_kept}
+use Rattle.node_core.specs.Opening.{AreFrames, IsReplaced}
+use Rattle.node_core.specs.Compacting.{IsShorter, Shortens, IsRecompacted, Recompacts, BefallsCompact, IsCompactedUp, role_kept}
 use Rattle.node_core.specs.Compacting.{Compacts, CompactsAs}
 use Rattle.node_core.proofs.Starting.{of_facts}
 

@@ -23,12 +23,12 @@ RoleStands config (L l) (Role.Leader p) facts memory = of_leader.StandsFor confi
 RoleStands config (R rm) (Role.Manager p) facts memory = of_manager.StandsFor config rm p facts memory.branches
 RoleStands config who role facts memory = ⊥
 
--- to play a fact takes no memory
-abbrev pub IsReadyFor : Role → Fact → Type 0
-IsReadyFor (Role.Acceptor p) fact = of_acceptor.IsReadyFor p fact
-IsReadyFor (Role.Leader p) fact =
+-- it is ready for a fact: to play one that it decided takes no memory
+abbrev pub HasRoomFor : Role → Fact → Type 0
+HasRoomFor (Role.Acceptor p) fact = of_acceptor.IsReadyFor p fact
+HasRoomFor (Role.Leader p) fact =
     (config : Config) (number : ℕ) (memory : LeaderMemory) → (of_leader.leader_part config number memory).IsReadyFor p fact
-IsReadyFor (Role.Manager p) fact = of_manager.IsReadyFor p fact
+HasRoomFor (Role.Manager p) fact = of_manager.HasRoomFor p fact
 
 -- ---- what is decided
 
@@ -51,17 +51,17 @@ memory_after (R rm) facts memory fact =
     record memory { branches = of_manager.unspent_branches rm (facts ++ fact ∷ []) memory.branches }
 memory_after who facts memory fact = memory
 
--- a vote prepared is of a branch that is idle with just its keys; or there are none but prepared branches
-abbrev pub IsPlayable : NodeId → Memory → Fact → Type 0
-IsPlayable (R rm) memory fact = of_manager.IsPlayable rm memory.branches fact
-IsPlayable who memory fact = Unit {0}
+-- a vote prepared is of a branch that is idle with just its keys
+abbrev pub IsOfIdleBranch : NodeId → Memory → Fact → Type 0
+IsOfIdleBranch (R rm) memory fact = of_manager.IsOfIdleBranch rm memory.branches fact
+IsOfIdleBranch who memory fact = Unit {0}
 
 -- a fact is to be stored: until then the role stands for what it stood for; it plays, and leaves what the effect does
 pub record WaitsFor (config : Config) (who : NodeId) (facts : List Fact) (memory : Memory) (role : Role) (e : Effect Memory)
     (fact : Fact) : Type 0 where
   pub stands : RoleStands config who role facts memory
   pub fits : plays config who facts fact ≡ true
-  pub playable : IsPlayable who memory fact
+  pub idle : IsOfIdleBranch who memory fact
   pub leaves : e.memory ≡ memory_after who facts memory fact
 
 -- what a decision leaves: with nothing to store, what the effect does
@@ -103,7 +103,7 @@ pub record IsTaken (config : Config) (who : NodeId) (facts : List Fact) (memory 
 abbrev pub Takes : (old new : Role) → Fact → Result (Unit {0}) Refusal → Type 0
 Takes old new fact result =
     (config : Config) (who : NodeId) (facts : List Fact) (memory : Memory) → RoleStands config who old facts memory
-    → plays config who facts fact ≡ true → IsPlayable who memory fact → IsReadyFor old fact
+    → plays config who facts fact ≡ true → IsOfIdleBranch who memory fact → HasRoomFor old fact
     → IsTaken config who facts memory new fact result
 
 -- a fact of a record was played after others, or not

@@ -1,5 +1,9 @@
 -- What a node sends, as the machine has it.
-use Rattle.std.specs.Prelude.{List, Option, Result, Ok, Err}
+use Rattle.std.specs.Prelude.{◌≡◌, ℕ, ◌<◌, ◌≤◌, ◌+◌, length, List, [], ◌∷◌, take, Option, Some, None, Result, Ok, Err}
+use Rattle.wire.specs.declared.message.Kind.{Kind}
+use Rattle.wire.specs.declared.grammar.TheConstants.{MAX_DATAGRAM}
+use Rattle.wire.specs.Grammar.{Spells}
+use Rattle.protocol.specs.declared.decisions.Address.{Address}
 use Rattle.xid.specs.declared.refusals.Refusal.{Refusal}
 use Rattle.stable_record.specs.declared.fact.FactKind.{FactKind as Fact}
 use Rattle.protocol.specs.declared.answers.Answer.{Answer}
@@ -14,3 +18,18 @@ sent all = all
 abbrev pub led : Answer → Option Fact → List Outgoing → Result (Unit {0}) Refusal → Result LeaderDecision Refusal
 led answer fact sends (Ok done) = Ok (record { answer = answer; fact = fact; sends = sends })
 led answer fact sends (Err refusal) = Err refusal
+
+-- a message and whom it is for, if there is one
+abbrev pub addressed : Address → Option Kind → List Outgoing
+addressed to None = []
+addressed to (Some message) = record { to = to; message = message } ∷ []
+
+-- so many bytes are none, or spell a message
+pub record IsReplied (len : ℕ) (bytes : List ℕ) : Type 0 where
+  pub few : len ≤ MAX_DATAGRAM
+  pub spells : 0 < len → (message : Kind) × Spells message (take len bytes)
+
+-- the messages that are sent stand in one place: an acceptor's reply, a leader's, or what a resource manager decided and asks
+pub record AreSends (replied decided question led : List Outgoing) : Type 0 where
+  pub by_leader : 0 < length led → length decided + length question ≡ 0
+  pub by_acceptor : 0 < length replied → length decided + length question + length led ≡ 0

@@ -1,6 +1,6 @@
 //! What a node does on an input: by its role, if it is up.
 
-ghost use Rattle.std.specs.Prelude.{◌≡◌, ℕ, true, List, Option, Some, None};
+ghost use Rattle.std.specs.Prelude.{◌≡◌, ℕ, true, false, List, Option, Some, None};
 ghost use Rattle.wire.specs.Grammar.{Spells};
 ghost use Rattle.stable_record.specs.declared.fact.FactKind.{FactKind};
 ghost use Rattle.xid.specs.Transactions.{participants};
@@ -14,6 +14,7 @@ ghost use Rattle.node_core.specs.Nodes.{AreSizes, datagram_input, input_of, role
 ghost use Rattle.node_core.specs.Sparing.{asks_freely, hears_freely, is_free};
 ghost use Rattle.node_core.specs.Handling.{Handles};
 
+use crate::accepting::accept_bytes;
 use crate::config::Sizes;
 use crate::output::{Input, Output};
 use crate::requests::accepts_request;
@@ -59,7 +60,7 @@ fn is_of_cluster(sizes: Sizes, message: &Message) -> bool
     }
 }
 
-/// What a node that is up does on a message, whatever bytes spelled it. False where it goes down.
+/// What a node that is up and no acceptor does on a message, whatever bytes spelled it. False where it goes down.
 fn hear_message<R: Record>(
     work: &mut Workspace,
     device: &mut R,
@@ -69,13 +70,11 @@ fn hear_message<R: Record>(
     message: &Message,
     out: &mut Output,
 ) -> bool
-    ensures carries { (config : Config) (facts : List FactKind) (memory : Memory) (bytes : List ℕ) → AreSizes config sizes
+    requires { hears_freely role.old ≡ false }
+    ensures { (config : Config) (facts : List FactKind) (memory : Memory) (bytes : List ℕ) → AreSizes config sizes
         → Spells message.now bytes → RoleStands config who role.old facts memory
         → Carries config who facts memory (effect_of config who facts memory (datagram_input bytes))
         (R.held device.old) (R.held device.new) role.new (carried result out.new) }
-    ensures free { hears_freely role.old ≡ true → (config : Config) (facts : List FactKind) (memory : Memory) (bytes : List ℕ)
-        → AreSizes config sizes → Spells message.now bytes → RoleStands config who role.old facts memory
-        → (effect_of config who facts memory (datagram_input bytes)).fact ≡ None → result ≡ true }
 {
     if !is_of_cluster(sizes, message) {
         out.answer(Answer::Done);
@@ -86,6 +85,34 @@ fn hear_message<R: Record>(
         Err(refusal) => {
             out.refuse(refusal);
             false
+        }
+    }
+}
+
+/// What a node that is up and no acceptor does on the bytes of a datagram. False where it goes down.
+fn hear_bytes<R: Record>(
+    work: &mut Workspace,
+    device: &mut R,
+    who: NodeId,
+    sizes: Sizes,
+    role: &mut Role,
+    bytes: &[u8],
+    out: &mut Output,
+) -> bool
+    requires { hears_freely role.old ≡ false }
+    ensures carries { (config : Config) (facts : List FactKind) (memory : Memory) → AreSizes config sizes
+        → RoleStands config who role.old facts memory
+        → Carries config who facts memory (effect_of config who facts memory (datagram_input bytes.now))
+        (R.held device.old) (R.held device.new) role.new (carried result out.new) }
+    ensures free { is_free who (datagram_input bytes.now) ≡ true → (config : Config) (facts : List FactKind) (memory : Memory)
+        → AreSizes config sizes → RoleStands config who role.old facts memory
+        → (effect_of config who facts memory (datagram_input bytes.now)).fact ≡ None → result ≡ true }
+{
+    match &decode(bytes) {
+        Ok(message) => hear_message(work, device, who, sizes, role, message, out),
+        Err(_) => {
+            out.refuse(Refusal::BadMessage);
+            true
         }
     }
 }
@@ -108,12 +135,12 @@ fn hear<R: Record>(
         → AreSizes config sizes → RoleStands config who role.old facts memory
         → (effect_of config who facts memory (datagram_input bytes.now)).fact ≡ None → result ≡ true }
 {
-    match &decode(bytes) {
-        Ok(message) => hear_message(work, device, who, sizes, role, message, out),
-        Err(_) => {
-            out.refuse(Refusal::BadMessage);
-            true
+    match role {
+        Role::Acceptor(acceptor) => {
+            accept_bytes(&mut work.frame, device, who, sizes, acceptor, bytes, out)
         }
+        Role::Leader(_) => hear_bytes(work, device, who, sizes, role, bytes, out),
+        Role::Manager(_) => hear_bytes(work, device, who, sizes, role, bytes, out),
     }
 }
 

@@ -2,6 +2,7 @@
 //! each role stand in the crates beneath; this one hands inputs on to them, and keeps the record.
 #![tactic(auto)]
 
+mod accepting;
 mod acting;
 mod compacting;
 mod config;
@@ -13,6 +14,7 @@ mod opening;
 mod output;
 mod receivers;
 mod records;
+mod replied;
 mod requests;
 mod role;
 mod sends;

@@ -1,10 +1,12 @@
 ghost use Rattle.std.specs.Prelude.{◌≡◌, None, Some};
 ghost use Rattle.protocol.specs.declared.answers.Answer.TheVariants.{Done, Refused};
+ghost use Rattle.acceptor.specs.Decisions.{sent_reply};
 ghost use Rattle.node_core.specs.Roles.{decided, from_reminder, answering};
 ghost use Rattle.node_core.specs.Storing.{output_of, stopped_output, change_made};
 
 use crate::sends::{NodeSends, forget_fact};
 use crate::storing::Stopped;
+use acceptor::SentReply;
 use leader::LeaderSends;
 use protocol::{Answer, Change, NodeId, Request, View};
 use resource_manager::Reminder;
@@ -113,6 +115,24 @@ impl Output {
         } }
     {
         self.now = Some(Change { rm, tx: *tx, view });
+    }
+
+    /// What an acceptor answers and sends.
+    pub(crate) fn put_reply(&mut self, reply: &Option<SentReply<'_>>)
+        ensures { self.new ≡ record { reply = Done; now = self.old.now; sends = sent_reply reply.now } }
+    {
+        self.reply = Answer::Done;
+        self.sends.reply(reply);
+    }
+
+    /// The refusal of an append that was stopped, with no change.
+    pub(crate) fn stop_unchanged(&mut self, stopped: Stopped)
+        ensures { self.new ≡ stopped_output stopped None }
+    {
+        match stopped {
+            Stopped::Memory => self.refuse(Refusal::NoMemory),
+            Stopped::Fault { .. } => self.refuse(Refusal::RecordFault),
+        }
     }
 
     /// What a leader answers and sends.

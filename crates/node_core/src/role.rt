@@ -1,9 +1,11 @@
-ghost use Rattle.std.specs.Prelude.{◌≡◌, ℕ, [], true, IfErr, IsOk, OnOk};
+ghost use Rattle.std.specs.Prelude.{◌≡◌, ℕ, [], true, false, IfErr, IsOk, OnOk};
 ghost use Rattle.xid.specs.declared.refusals.Refusal.TheVariants.{NoMemory};
+ghost use Rattle.stable_record.specs.Parts.{IsMadeReady};
+ghost use Rattle.acceptor.specs.Acceptors.{acceptor_part};
 ghost use Rattle.protocol.specs.Effects.{Config};
 ghost use Rattle.protocol.specs.Nodes.{on_message as on_message_of, on_request as on_request_of, empty_memory};
 ghost use Rattle.node_core.specs.declared.role.Role.TheVariants as roles;
-ghost use Rattle.node_core.specs.Roles.{Decides, IsReadyFor, IsSame, Replays, Takes, decided};
+ghost use Rattle.node_core.specs.Roles.{Decides, HasRoomFor, IsSame, Replays, Takes, decided};
 ghost use Rattle.node_core.specs.Sparing.{hears_freely, serves_freely};
 
 use crate::output::Output;
@@ -13,7 +15,7 @@ use leader::Leader;
 use protocol::Request;
 use resource_manager::ResourceManager;
 use stable_record::{Fact, FactKind};
-use wire::Message;
+use wire::{MAX_TX_BYTES, Message, SpelledTx};
 use xid::Refusal;
 
 /// What a node is: one part of the protocol. None of their rules stands here.
@@ -45,25 +47,22 @@ fn let_leader_go(_: Leader) {}
 fn let_manager_go(_: ResourceManager) {}
 
 impl Role {
-    /// What it does on a message of the cluster: the answer and what to send are put out, and in the place of `fact` stands the one that
-    /// is to be stored before, if there is one. Its caller makes ready for it, stores it and then has it taken. Refused: `NoMemory` alone, never by an
-    /// acceptor, and then the role is of no use any more.
+    /// What it does, if it is no acceptor, on a message of the cluster: the answer and what to send are put out, and in the place of
+    /// `fact` stands the one that is to be stored before, if there is one. Its caller makes ready for it, stores it and then has it
+    /// taken. Refused: `NoMemory` alone, and then the role is of no use any more.
     pub fn on_message(
         &mut self,
         message: &Message,
         out: &mut Output,
         fact: &mut Option<Fact>,
     ) -> Result<(), Refusal>
+        requires { hears_freely self.old ≡ false }
         ensures ok { OnOk result (Decides self.old self.new (decided fact.new out.new)
             (λ config who facts memory. on_message_of config who facts memory message.now)) }
         ensures err { IfErr result (λ e. e ≡ NoMemory) }
-        ensures free { hears_freely self.old ≡ true → IsOk result }
     {
         match self {
-            Role::Acceptor(acceptor) => {
-                out.sends.accept(acceptor, message, &mut out.reply, fact);
-                Ok(())
-            }
+            Role::Acceptor(_) => unreachable!(),
             Role::Leader(leader) => out.sends.lead(leader, message, &mut out.reply, fact),
             Role::Manager(manager) => out.sends.manage(manager, message, &mut out.reply, fact),
         }
@@ -94,11 +93,11 @@ impl Role {
 
     /// Makes itself ready for a fact that it decided, so that `take` of it takes no memory. Refused: `NoMemory` alone.
     pub fn ready(&mut self, fact: &Fact) -> Result<(), Refusal>
-        ensures ok { OnOk result (IsSame self.old self.new × IsReadyFor self.new fact.now) }
+        ensures ok { OnOk result (IsSame self.old self.new × HasRoomFor self.new fact.now) }
         ensures err { IfErr result (λ e. e ≡ NoMemory) }
     {
         match self {
-            Role::Acceptor(acceptor) => acceptor.ready(fact),
+            Role::Acceptor(acceptor) => ready_of(acceptor, fact),
             Role::Leader(leader) => leader.ready(fact),
             Role::Manager(manager) => manager.ready(fact),
         }
@@ -110,7 +109,7 @@ impl Role {
         ensures { Takes self.old self.new fact.now result }
     {
         match self {
-            Role::Acceptor(acceptor) => acceptor.play_by(fact),
+            Role::Acceptor(acceptor) => acceptor.replay(fact),
             Role::Leader(leader) => begin_stored(leader, fact),
             Role::Manager(manager) => manager.play_by(fact),
         }
@@ -122,11 +121,19 @@ impl Role {
         ensures { Replays self.old self.new fact result }
     {
         match self {
-            Role::Acceptor(acceptor) => acceptor.play(fact),
+            Role::Acceptor(acceptor) => acceptor.replay(&fact),
             Role::Leader(leader) => leader.play(fact),
             Role::Manager(manager) => manager.play(fact),
         }
     }
+}
+
+/// Makes an acceptor ready for a fact.
+fn ready_of(acceptor: &mut Acceptor, fact: &Fact) -> Result<(), Refusal>
+    ensures { (config : Config) (number : ℕ) → IsMadeReady (acceptor_part config number) acceptor.old acceptor.new fact.now result }
+{
+    let mut buffer = [0; MAX_TX_BYTES];
+    acceptor.ready(&SpelledTx::of(fact.kind().tx(), &mut buffer))
 }
 
 /// Plays a ballot that is stored, and makes it current.

@@ -2,16 +2,16 @@ ghost use Rattle.std.specs.Prelude.{◌≡◌, ℕ, ◌<◌, [], ◌++◌, lengt
 ghost use Rattle.xid.specs.Transactions.{xid_at};
 ghost use Rattle.xid.specs.declared.refusals.Refusal.TheVariants.{NoMemory};
 ghost use Rattle.wire.specs.Messages.{message_tx};
-ghost use Rattle.protocol.specs.Acceptors.{on_acceptor_message};
 ghost use Rattle.protocol.specs.Effects.{Config};
 ghost use Rattle.protocol.specs.Leaders.{on_leader_message};
 ghost use Rattle.protocol.specs.Managers.{on_manager_message};
-ghost use Rattle.acceptor.specs.Acceptors.{Decides as AcceptorDecides};
+ghost use Rattle.acceptor.specs.Decisions.{sent_reply};
 ghost use Rattle.leader.specs.Leaders.{FollowsOrRefuses};
 ghost use Rattle.resource_manager.specs.Managers.{Decides as ManagerDecides};
 ghost use Rattle.node_core.specs.Sends.{led};
 
-use acceptor::Acceptor;
+use crate::replied::Replied;
+use acceptor::SentReply;
 use leader::{Leader, LeaderDecision, LeaderSends};
 use protocol::{Answer, Decision, Outgoing, Sends};
 use resource_manager::ResourceManager;
@@ -25,7 +25,9 @@ use xid::Refusal;
 /// for those of each kind of node, so that what is sent at one input can take the place of what was sent at another.
 #[derive(Debug)]
 pub struct NodeSends {
-    // what an acceptor or a resource manager decided, of which the message alone is sent
+    // what an acceptor replies, as it is spelled
+    replied: Replied,
+    // what a resource manager decided, of which the message alone is sent
     decided: Decision,
     // what a resource manager asks when nothing was heard for too long
     question: Sends,
@@ -37,6 +39,7 @@ pub struct NodeSends {
 impl Drop for NodeSends {
     fn drop(self) {
         let NodeSends {
+            replied: _,
             decided: _,
             question: _,
             led: _,
@@ -45,14 +48,15 @@ impl Drop for NodeSends {
 }
 
 impl Model for NodeSends {
-    ghost use Rattle.std.specs.Prelude.{◌≡◌, ◌<◌, ◌+◌, List, ◌++◌, length};
+    ghost use Rattle.std.specs.Prelude.{List, ◌++◌};
     ghost use Rattle.protocol.specs.declared.decisions.Outgoing.{Outgoing};
+    ghost use Rattle.node_core.specs.Sends.{AreSends};
 
     ghost Value = { List Outgoing };
 
-    ghost view = { λ s. s.decided.sends ++ s.question ++ s.led.sends };
+    ghost view = { λ s. s.replied ++ (s.decided.sends ++ s.question ++ s.led.sends) };
 
-    ghost invariant = { λ s. 0 < length s.led.sends → length s.decided.sends + length s.question ≡ 0 };
+    ghost invariant = { λ s. AreSends s.replied s.decided.sends s.question s.led.sends };
 }
 
 /// No message of a leader any more.
@@ -92,6 +96,7 @@ impl NodeSends {
         ensures { result ≡ [] }
     {
         NodeSends {
+            replied: Replied::none(),
             decided: Decision::nothing(),
             question: Sends::none(),
             led: LeaderDecision::nothing(),
@@ -102,28 +107,21 @@ impl NodeSends {
     pub(crate) fn clear(&mut self)
         ensures { self.new ≡ [] }
     {
+        self.replied.clear();
         self.decided.sends.clear();
         self.question.clear();
         forget_led(&mut self.led.sends);
     }
 
-    /// What an acceptor sends on a message, in place of what was sent before; beside it the answer and the fact are left that is to be
-    /// stored.
-    pub(crate) fn accept(
-        &mut self,
-        acceptor: &Acceptor,
-        message: &Message,
-        reply: &mut Answer,
-        fact: &mut Option<Fact>,
-    )
-        ensures { AcceptorDecides acceptor.now (record { answer = reply.new; fact = fact.new; sends = self.new })
-            (λ config a slots. on_acceptor_message config a slots message.now) }
+    /// What an acceptor sends, in place of what was sent before.
+    pub(crate) fn reply(&mut self, reply: &Option<SentReply<'_>>)
+        ensures { self.new ≡ sent_reply reply.now }
     {
-        self.question.clear();
-        forget_led(&mut self.led.sends);
-        acceptor.decide(message, &mut self.decided);
-        *reply = mem::replace(&mut self.decided.answer, Answer::Done);
-        hand_over(&mut self.decided.fact, fact);
+        self.clear();
+        match reply {
+            Some(reply) => self.replied.put(reply),
+            None => {}
+        }
     }
 
     /// What a resource manager sends on a message, in place of what was sent before; beside it the answer and the fact are left that is
@@ -140,6 +138,7 @@ impl NodeSends {
             (xid_at (message_tx message.now) number) message.now)) }
         ensures err { IfErr result (λ e. e ≡ NoMemory) }
     {
+        self.replied.clear();
         self.question.clear();
         forget_led(&mut self.led.sends);
         match manager.decide(message, &mut self.decided) {
@@ -165,6 +164,7 @@ impl NodeSends {
             (led reply.new fact.new self.new result)
             (λ stored memory. on_leader_message config stored memory message.now) }
     {
+        self.replied.clear();
         self.decided.sends.clear();
         self.question.clear();
         match leader.decide(message, &mut self.led) {
@@ -181,6 +181,7 @@ impl NodeSends {
     pub(crate) fn remind(&mut self, vote: Sends, question: Sends)
         ensures { self.new ≡ vote ++ question }
     {
+        self.replied.clear();
         self.decided.sends = vote;
         self.question = question;
         forget_led(&mut self.led.sends);
@@ -190,6 +191,7 @@ impl NodeSends {
     pub(crate) fn put_led(&mut self, sends: LeaderSends)
         ensures { self.new ≡ sends }
     {
+        self.replied.clear();
         self.decided.sends.clear();
         self.question.clear();
         self.led.sends = sends;
@@ -199,6 +201,10 @@ impl NodeSends {
     pub fn count(&self) -> usize
         ensures { result ≡ length self.now }
     {
+        let replied = self.replied.count();
+        if replied > 0 {
+            return replied;
+        }
         let led = self.led.sends.count();
         if led > 0 {
             return led;
@@ -211,6 +217,9 @@ impl NodeSends {
         requires { i < length self.now }
         ensures { result ≡ slice_index_or self.now i result }
     {
+        if self.replied.count() > 0 {
+            return self.replied.get();
+        }
         let first = self.decided.sends.as_slice();
         if i < first.len() {
             return first[i];

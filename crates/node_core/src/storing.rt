@@ -6,12 +6,12 @@ ghost use Rattle.stable_record.specs.Facts.{IsFact};
 ghost use Rattle.protocol.specs.Effects.{Config, Effect};
 ghost use Rattle.protocol.specs.Nodes.{Memory};
 ghost use Rattle.node_core.specs.Roles.{IsDecided, decided};
-ghost use Rattle.node_core.specs.Storing.{HasStored, Carries, carried};
+ghost use Rattle.node_core.specs.Storing.{HasStored, Carries, carried, fact_frame};
 
 use crate::output::Output;
 use crate::role::Role;
 use protocol::NodeId;
-use stable_record::{Fact, MemRecord, Record, RecordError};
+use stable_record::{Fact, MemRecord, Record, RecordError, SpelledFact};
 use std::alloc::Global;
 use xid::Refusal;
 
@@ -53,6 +53,20 @@ impl Workspace {
     }
 }
 
+/// Appends the frame of whatever fact it is.
+fn append_frame<R: Record>(device: &mut R, frame: &[u8]) -> Result<(), Stopped>
+    ensures { (fact : FactKind) → frame.now ≡ fact_frame fact → HasStored fact (R.held device.old) (R.held device.new) result }
+{
+    match device.append(frame) {
+        Ok(()) => Ok(()),
+        Err(RecordError::Fault) => {
+            let whole = device.kept() == frame.len();
+            Err(Stopped::Fault { whole })
+        }
+        Err(RecordError::Memory) => Err(Stopped::Memory),
+    }
+}
+
 /// Appends the frame of a fact, which is made in the place of another.
 pub(crate) fn store<R: Record>(
     alloc: Global,
@@ -65,16 +79,24 @@ pub(crate) fn store<R: Record>(
 {
     frame.clear();
     match fact.write(alloc, frame) {
-        Ok(()) => {}
-        Err(_) => return Err(Stopped::Memory),
+        Ok(()) => append_frame(device, frame),
+        Err(_) => Err(Stopped::Memory),
     }
-    match device.append(frame) {
-        Ok(()) => Ok(()),
-        Err(RecordError::Fault) => {
-            let whole = device.kept() == frame.len();
-            Err(Stopped::Fault { whole })
-        }
-        Err(RecordError::Memory) => Err(Stopped::Memory),
+}
+
+/// The same of a fact over the bytes of its transaction.
+pub(crate) fn store_spelled<R: Record>(
+    frame: &mut Vec<u8>,
+    device: &mut R,
+    fact: &SpelledFact<'_>,
+) -> Result<(), Stopped>
+    ensures stored { HasStored fact.now (R.held device.old) (R.held device.new) result }
+    ensures valid { IsFact fact.now }
+{
+    frame.clear();
+    match fact.write(frame) {
+        Ok(()) => append_frame(device, frame),
+        Err(_) => Err(Stopped::Memory),
     }
 }
 

@@ -1,5 +1,5 @@
 -- What a resource manager decides is what the machine's rules say.
-use Rattle.std.proofs.Common.{◌≡◌, ◌∙◌, inr, ℕ, Bool, true, false, ◌||◌, ◌&&◌, if◌then◌else◌, List, [], ◌∷◌, ◌++◌, Option}
+use Rattle.std.proofs.Common.{◌≡◌, ◌∙◌, ℕ, Bool, true, false, ◌||◌, ◌&&◌, if◌then◌else◌, List, [], ◌∷◌, ◌++◌, Option}
 use Rattle.std.proofs.Common.{Some, None, Result, Ok, Err, is_some, refl, sym, ap, subst}
 use Rattle.std.specs.Prelude.{OnOk}
 use Rattle.std.specs.List.{IsDistinct}
@@ -39,7 +39,7 @@ use Rattle.resource_manager.specs.declared.messages.Reminder.{Reminder}
 use Rattle.resource_manager.specs.Courses.{Stored, stored_by, vote_of, view_of, vote_among, is_ended_among, is_new_course, view_among}
 use Rattle.resource_manager.specs.Courses.{course_in}
 use Rattle.resource_manager.specs.SpentNames.{is_spent_in}
-use Rattle.resource_manager.specs.Managers.{ManagerParts, StandsFor, IsDecision, IsPlayable, Decides, Rule, branches_in, unspent_branches}
+use Rattle.resource_manager.specs.Managers.{ManagerParts, StandsFor, IsDecision, IsOfIdleBranch, Decides, Rule, branches_in, unspent_branches}
 use Rattle.resource_manager.specs.Messages.{are_below, asked_by, IsReminder}
 use Rattle.resource_manager.proofs.Named.{same_idle, same_named}
 use Rattle.resource_manager.proofs.More.{spent_more, unspent_more, unspent_all}
@@ -71,7 +71,7 @@ pub stores_fact : (m : ManagerParts) (decision : Decision) (fact : Fact) (sends 
     → ((config : Config) (number : ℕ) (facts : List Fact) (branches : List Branch) → StandsFor config number m facts branches
     → (rule config number (stored_votes number facts) branches
     ≡ stores (unspent_branches number (facts ++ fact ∷ []) branches) fact sends)
-    × (plays_at_manager number (stored_votes number facts) fact ≡ true) × IsPlayable number branches fact) → Decides m decision rule
+    × (plays_at_manager number (stored_votes number facts) fact ≡ true) × IsOfIdleBranch number branches fact) → Decides m decision rule
 stores_fact m decision fact sends rule e is config number facts branches stands =
     let all = is config number facts branches stands in
     subst (λ (d : Decision). IsDecision number facts branches d (rule config number (stored_votes number facts) branches)) (sym e)
@@ -269,7 +269,7 @@ module _ (m : ManagerParts) (tx : TxParts) where
             idle = idle;
           },
         ),
-        inr (x, at_name, idle),
+        (x, at_name, idle),
       );
       leaves = without_is number facts branches (Fact.VotePrepared tx keys) x stands.apart.unspent at_name;
     }

@@ -34,7 +34,7 @@ use Rattle.branch_table.specs.Outcomes.{AreHindered, CanBePrepared, idle_branch,
 use Rattle.resource_manager.specs.declared.course.Course.{Course}
 use Rattle.resource_manager.specs.Courses.{Stored, stored_by, view_among, vote_among, is_ended_among, course_in}
 use Rattle.resource_manager.specs.SpentNames.{is_spent_in}
-use Rattle.resource_manager.specs.Managers.{ManagerParts, StandsFor, IsPlayable, branches_in, unspent_branches}
+use Rattle.resource_manager.specs.Managers.{ManagerParts, StandsFor, HasBranch, IsPlayable, branches_in, unspent_branches}
 use Rattle.resource_manager.specs.Playing.{Becomes, IsThere}
 use Rattle.resource_manager.proofs.Named.{named_at, named_in, idle_named, named_idle, shown, view_shown}
 use Rattle.resource_manager.proofs.More.{voted_then, table_more}
@@ -294,3 +294,17 @@ module _ (config : Config) (number : ℕ) (m : ManagerParts) (facts : List Fact)
         stands_then config number m new facts branches fact x stands plays name apart Course.Prepared (Some (prepared_branch x keys))
         becomes.number becomes.managers becomes.courses becomes.begun (voted_then facts tx keys (stands.stored_are tx ∙ ap stored_by working))
         becomes.spent (rows_stay config number m new facts was stands fact refl becomes.rows) becomes.branches now_bound
+
+-- a branch that is idle has its branch in the table
+pub idle_there : (config : Config) (number : ℕ) (m : ManagerParts) (facts : List Fact) (branches : List Branch)
+    → StandsFor config number m facts branches → (tx : TxParts) (x : XidParts) (keys : List Touched) → xid_at tx number ≡ Some x
+    → idle_keys branches x ≡ Some keys → HasBranch m tx
+idle_there config number m facts branches stands tx x keys name idle y e =
+    let same = name_of (xid_at tx number) x y name (ap (xid_at tx) (sym stands.number_is) ∙ e) in
+    let found = idle_named branches x keys stands.apart.distinct idle in
+    let among = named_in branches x (idle_branch x keys) found in
+    let once = names_held_once config number facts branches stands.played stands.apart in
+    subst (λ (z : XidParts). is_some (branch_named m.table.branches z) ≡ true) same
+    (ap is_some (stands.branches_are x
+    ∙ named_at (branches_in number facts branches) (idle_branch x keys) x once
+    (other_in number facts branches (idle_branch x keys) among.0) refl))

@@ -65,12 +65,17 @@ HasPlaces m tx = IsSeen m.courses tx × (0 < m.courses.room) × (0 < m.spent.roo
 abbrev pub HasBranch : ManagerParts → TxParts → Type 0
 HasBranch m tx = (x : XidParts) → xid_at tx m.number ≡ Some x → is_some (branch_named m.table.branches x) ≡ true
 
--- to play a fact takes no memory
+-- there are places for what a fact leaves. The branch of a prepared vote is none of them
+abbrev pub HasRoomFor : ManagerParts → Fact → Type 0
+HasRoomFor m (Fact.VotePrepared tx keys) = HasPlaces m tx
+HasRoomFor m (Fact.VoteAborted tx) = HasPlaces m tx
+HasRoomFor m (Fact.Aborted tx) = HasPlaces m tx
+HasRoomFor m fact = Unit {0}
+
+-- to play a fact takes no memory: there are places, and a prepared vote's branch is there
 abbrev pub IsReadyFor : ManagerParts → Fact → Type 0
 IsReadyFor m (Fact.VotePrepared tx keys) = HasPlaces m tx × HasBranch m tx
-IsReadyFor m (Fact.VoteAborted tx) = HasPlaces m tx
-IsReadyFor m (Fact.Aborted tx) = HasPlaces m tx
-IsReadyFor m fact = Unit {0}
+IsReadyFor m fact = HasRoomFor m fact
 
 -- resource manager `number` of a cluster as a part of a node. In memory it has those of some branches whose names aren't spent
 abbrev pub manager_part : (config : Config) (number : ℕ) → List Branch → Part ManagerParts
@@ -80,11 +85,21 @@ manager_part config number branches = record {
   IsReadyFor = IsReadyFor;
 }
 
+-- the same, made ready as far as it is asked to be: it has places for a fact
+abbrev pub placed_part : (config : Config) (number : ℕ) → List Branch → Part ManagerParts
+placed_part config number branches = record (manager_part config number branches) { IsReadyFor = HasRoomFor }
+
+-- a prepared vote is of a branch that is idle with just its keys
+abbrev pub IsOfIdleBranch : ℕ → List Branch → Fact → Type 0
+IsOfIdleBranch number branches (Fact.VotePrepared tx keys) =
+    (x : XidParts) × (xid_at tx number ≡ Some x) × (idle_keys branches x ≡ Some keys)
+IsOfIdleBranch number branches fact = Unit {0}
+
 -- a prepared vote is stored of a branch that is idle with just its keys; and where a record is replayed, there are none but prepared
 -- branches
 abbrev pub IsPlayable : ℕ → List Branch → Fact → Type 0
 IsPlayable number branches (Fact.VotePrepared tx keys) =
-    (branches ≡ []) ⊎ ((x : XidParts) × (xid_at tx number ≡ Some x) × (idle_keys branches x ≡ Some keys))
+    (branches ≡ []) ⊎ IsOfIdleBranch number branches (Fact.VotePrepared tx keys)
 IsPlayable number branches fact = Unit {0}
 
 -- a rule's decision: a fact of it plays, and in memory it leaves what the fact does
@@ -92,7 +107,7 @@ pub record IsDecision (number : ℕ) (facts : List Fact) (branches : List Branch
     (effect : Effect (List Branch)) : Type 0 where
   pub effect_is : decision ≡ decision_of effect
   pub plays : IfSome decision.fact (λ fact. (plays_at_manager number (stored_votes number facts) fact ≡ true)
-      × IsPlayable number branches fact)
+      × IsOfIdleBranch number branches fact)
   pub leaves : effect.memory ≡ unspent_branches number (with_fact facts decision.fact) branches
 
 -- a rule of resource managers, at some input

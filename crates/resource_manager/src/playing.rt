@@ -9,7 +9,7 @@ ghost use Rattle.protocol.specs.Effects.{Config};
 ghost use Rattle.protocol.specs.Managers.{Branch};
 ghost use Rattle.stable_record.specs.Parts.{IsMadeReady, IsPlayed};
 ghost use Rattle.branch_table.specs.Tables.{branch_named};
-ghost use Rattle.resource_manager.specs.Managers.{HasPlaces, HasBranch, IsPlayable, StandsForSame, manager_part};
+ghost use Rattle.resource_manager.specs.Managers.{HasPlaces, IsPlayable, StandsForSame, manager_part, placed_part};
 ghost use Rattle.resource_manager.specs.Playing.{IsThere, MeansSame, Plays, PlaysEnd, PlaysVote, Stores};
 
 use crate::course::Course;
@@ -19,16 +19,16 @@ use xid::{Refusal, Tx, Xid};
 
 impl ResourceManager {
     /// Makes itself ready for a fact that it decided, so that `play` of it takes no memory: its transaction is seen, and there is room for
-    /// a spent name; a commit takes none. At `NoMemory`, the only refusal, and else too, it stands for what it
-    /// stood for. A vote prepared of a branch that doesn't exist takes memory only when it is played: it is refused here.
+    /// a spent name; a commit takes none. At `NoMemory`, the only refusal, and else too, it stands for what it stood for. A vote prepared of a
+    /// branch that doesn't exist, which none that it decided is, takes memory when it is played.
     pub fn ready(&mut self, fact: &Fact) -> Result<(), Refusal>
         ensures { (config : Config) (number : ℕ) (branches : List Branch)
-            → IsMadeReady (manager_part config number branches) self.old self.new fact.now result }
+            → IsMadeReady (placed_part config number branches) self.old self.new fact.now result }
     {
         match fact.kind() {
-            FactKind::VotePrepared { tx, .. } => self.ready_vote(tx),
-            FactKind::VoteAborted(tx) => self.ready_end(tx),
-            FactKind::Aborted(tx) => self.ready_end(tx),
+            FactKind::VotePrepared { tx, .. } => self.ready_places(tx),
+            FactKind::VoteAborted(tx) => self.ready_places(tx),
+            FactKind::Aborted(tx) => self.ready_places(tx),
             _ => Ok(()),
         }
     }
@@ -90,8 +90,8 @@ impl ResourceManager {
         }
     }
 
-    /// Makes ready for a fact that ends a branch, or has none.
-    fn ready_end(&mut self, tx: &Tx) -> Result<(), Refusal>
+    /// Makes ready for a vote, or an abort.
+    fn ready_places(&mut self, tx: &Tx) -> Result<(), Refusal>
         ensures ok { OnOk result (HasPlaces self.new tx.now) }
         ensures same { MeansSame self.old self.new }
         ensures err { IfErr result (λ e. e ≡ NoMemory) }
@@ -100,20 +100,6 @@ impl ResourceManager {
             Ok(_) => Ok(()),
             Err(refusal) => Err(refusal),
         }
-    }
-
-    /// Makes ready for a vote prepared.
-    fn ready_vote(&mut self, tx: &Tx) -> Result<(), Refusal>
-        ensures ok { OnOk result (HasPlaces self.new tx.now × HasBranch self.new tx.now) }
-        ensures same { MeansSame self.old self.new }
-        ensures err { IfErr result (λ e. e ≡ NoMemory) }
-    {
-        if let Some(xid) = self.name_here(tx) {
-            if !self.table.has_branch(&xid) {
-                return Err(Refusal::NoMemory);
-            }
-        }
-        self.ready_end(tx)
     }
 
     /// Notes how far a transaction has come that has places, and that its name is spent.

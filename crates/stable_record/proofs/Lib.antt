@@ -5,3 +5,4 @@ pub mod Spelled
 pub mod SpelledEntries
 pub mod Lengths
 pub mod Framed
+pub mod Stated

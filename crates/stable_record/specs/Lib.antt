@@ -6,3 +6,4 @@ pub mod Reading
 pub mod Held
 pub mod Records
 pub mod Parts
+pub mod Spelled

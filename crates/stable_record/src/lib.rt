@@ -10,6 +10,7 @@ pub mod laws;
 mod memory;
 mod reading;
 mod record;
+mod spelled_fact;
 mod writing;
 
 pub use entry::{Entry, EntryKind};
@@ -19,6 +20,7 @@ pub use file::FileRecord;
 pub use frames::{MAX_BODY, entries, take_frame};
 pub use memory::MemRecord;
 pub use record::{Record, RecordError, Tear};
+pub use spelled_fact::{FactRest, SpelledFact};
 
 #[cfg(test)]
 mod file_tests;

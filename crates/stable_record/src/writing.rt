@@ -20,7 +20,7 @@ use xid::{ManagerNumber, Refusal, Tx, Vote};
 const USUAL_BODY_BYTES: usize = 128;
 
 /// Puts a number of 32 bits at the end. Each of these functions puts the spelling of its name at the end.
-fn put_number(out: &mut Vec<u8>, number: u32) -> Result<(), AllocError>
+pub(crate) fn put_number(out: &mut Vec<u8>, number: u32) -> Result<(), AllocError>
     ensures { OnOk result (out.new.items ≡ out.old.items ++ number_spelling number) }
 {
     let mut bytes = [0; 4];
@@ -93,7 +93,7 @@ fn put_keys(out: &mut Vec<u8>, keys: &[Touched]) -> Result<(), AllocError>
     Ok(())
 }
 
-fn byte_of_vote(vote: Vote) -> u8
+pub(crate) fn byte_of_vote(vote: Vote) -> u8
     ensures { result ≡ vote_byte vote }
 {
     match vote {
@@ -117,7 +117,7 @@ fn byte_of_fact(fact: &FactKind) -> u8
     }
 }
 
-fn put_instance(out: &mut Vec<u8>, instance: ManagerNumber, ballot: u32) -> Result<(), AllocError>
+pub(crate) fn put_instance(out: &mut Vec<u8>, instance: ManagerNumber, ballot: u32) -> Result<(), AllocError>
     ensures { OnOk result (out.new.items ≡ out.old.items ++ (rm_spelling version_2 instance ++ number_spelling ballot)) }
 {
     put_short(out, instance)?;

@@ -22,7 +22,9 @@ use Rattle.wire.specs.Decoding.{tx_in}
 use Rattle.wire.specs.declared.grammar.VersionNumber.TheVariants.{Second}
 use Rattle.wire.proofs.Fields.{tx_taken, in_version_2}
 use Rattle.wire.proofs.TakenTx.{in_again}
-use Rattle.transactions.specs.Seen.{tx_spelled, IsSpelled, place_in, seen_with}
+use Rattle.wire.specs.Spelled.{tx_spelled, IsSpelled}
+use Rattle.wire.proofs.SpelledAgain.{spelled_is}
+use Rattle.transactions.specs.Seen.{place_in, seen_with}
 
 -- ---- tests that answer alike along a list
 
@@ -147,13 +149,13 @@ module _ (seen : List TxParts) (tx : TxParts) where
       let any = present_from_place (tx_eq tx) seen (omega (arith, told)) in
       (told.0, sym (ap (λ (b : Bool). cond b seen (seen ++ tx ∷ [])) any))
 
+  pub seen_already : (n : ℕ) → (n ≡ place_in seen tx) × (n < length seen) → seen ≡ seen_with seen tx
+  seen_already n told =
+      let any = present_from_place (tx_eq tx) seen (omega (arith, told)) in
+      sym (ap (λ (b : Bool). cond b seen (seen ++ tx ∷ [])) any)
+
   pub not_seen : None ≡ position (tx_eq tx) seen → list_any (tx_eq tx) seen ≡ false
   not_seen e = absent_from_place (tx_eq tx) seen (place_of_position (tx_eq tx) seen None e)
-
--- the transaction that its own spelling spells
-pub spelled_is : (bytes : List ℕ) (tx : TxParts) → IsTx tx → bytes ≡ tx_spelling version_2 tx → tx_spelled bytes ≡ tx
-unfolding tx_spelled
-spelled_is bytes tx is e = rw (tx_taken bytes tx [] is (e ∙ sym (append-nil (tx_spelling version_2 tx)))) refl
 
 map_added : {X Y : Type 0} (f : X → Y) (b : Bool) (xs : List X) (x : X) (y : Y) → f x ≡ y
     → map f (cond b xs (xs ++ x ∷ [])) ≡ cond b (map f xs) (map f xs ++ y ∷ [])

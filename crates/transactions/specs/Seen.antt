@@ -1,20 +1,7 @@
--- Transactions in the order of first sight, and the bytes that each is kept by.
-use Rattle.std.specs.Prelude.{◌≡◌, ◌==◌, ℕ, ◌<◌, if◌then◌else◌, List, [], ◌∷◌, ◌++◌, fold, map}
+-- Transactions in the order of first sight.
+use Rattle.std.specs.Prelude.{◌==◌, ℕ, ◌<◌, if◌then◌else◌, List, [], ◌∷◌, ◌++◌, fold, map}
 use Rattle.std.specs.List.{list_any, position_or_len, slice_index_or, AllByRecursion}
-use Rattle.std.specs.Option.{option_map_or}
-use Rattle.xid.specs.Transactions.{TxParts, IsTx, tx_eq}
-use Rattle.wire.specs.Grammar.{tx_spelling}
-use Rattle.wire.specs.Reading.{tx_at}
-use Rattle.wire.specs.Versions.{version_2}
-
--- the transaction at the front of bytes; where none is there, parts that no transaction has
-unfoldable pub tx_spelled : List ℕ → TxParts
-tx_spelled bytes = option_map_or (λ taken. taken.0) (tx_at version_2 bytes) (record { format = 0; gtrid = []; branches = [] })
-
--- bytes are the spelling of a transaction
-pub record IsSpelled (bytes : List ℕ) : Type 0 where
-  pub valid : IsTx (tx_spelled bytes)
-  pub spelled : bytes ≡ tx_spelling version_2 (tx_spelled bytes)
+use Rattle.xid.specs.Transactions.{TxParts, tx_eq}
 
 -- the place of a transaction among those seen, or how many there are where it wasn't
 abbrev pub place_in : List TxParts → TxParts → ℕ

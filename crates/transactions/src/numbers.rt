@@ -12,7 +12,7 @@ use indexmap::IndexSet;
 use std::alloc::Global;
 use std::hash::BuildHasherDefault;
 use std::marker::Model;
-use wire::{MAX_TX_BYTES, VersionNumber, put_tx, take_tx};
+use wire::{MAX_TX_BYTES, SpelledTx, VersionNumber, take_tx};
 use xid::{Refusal, Tx};
 
 /// Transactions in the order of first sight. The number of a transaction is its place in that order, and stays. Each is kept by its
@@ -27,23 +27,13 @@ impl Model for Transactions {
     ghost use Rattle.std.specs.Prelude.{List, map};
     ghost use Rattle.std.specs.List.{All};
     ghost use Rattle.xid.specs.Transactions.{TxParts};
-    ghost use Rattle.transactions.specs.Seen.{tx_spelled, IsSpelled};
+    ghost use Rattle.wire.specs.Spelled.{tx_spelled, IsSpelled};
 
     ghost Value = { List TxParts };
 
     ghost view = { λ t. map (λ key. tx_spelled key.items) t.spelled.keys };
 
     ghost invariant = { λ t. All (λ key. IsSpelled key.items) t.spelled.keys };
-}
-
-/// The spelling of a transaction, written into a buffer.
-fn spell<'b>(tx: &Tx, buffer: &'b mut [u8; MAX_TX_BYTES]) -> &'b [u8]
-    ensures value { result.now ≡ tx_spelling version_2 tx.now }
-    ensures valid { IsTx tx.now }
-{
-    let _ = tx.count();
-    let end = put_tx(tx, buffer, 0);
-    &buffer[..end]
 }
 
 impl Transactions {
@@ -81,7 +71,7 @@ impl Transactions {
             (λ number. (number ≡ place_in self.now tx.now) × (number < length self.now)) }
     {
         let mut buffer = [0; MAX_TX_BYTES];
-        self.number_of_spelled(spell(tx, &mut buffer))
+        self.number_of_spelled(SpelledTx::of(tx, &mut buffer).as_bytes())
     }
 
     /// The transaction of a number, where there is one. It takes no memory.
@@ -113,12 +103,11 @@ impl Transactions {
 
     /// The number of a transaction, where it was seen, as `number_of` gives it. A number that is likely, and the one after it, are
     /// tried before the bytes are hashed. It takes no memory.
-    pub fn number_near(&self, tx: &Tx, likely: usize) -> Option<usize>
+    pub fn number_of_view(&self, tx: &SpelledTx<'_>, likely: usize) -> Option<usize>
         ensures { MatchOption result (place_in self.now tx.now ≡ length self.now)
             (λ number. (number ≡ place_in self.now tx.now) × (number < length self.now)) }
     {
-        let mut buffer = [0; MAX_TX_BYTES];
-        let spelled = spell(tx, &mut buffer);
+        let spelled = tx.as_bytes();
         if self.is_at(likely, spelled) {
             return Some(likely);
         }
@@ -129,20 +118,28 @@ impl Transactions {
         self.number_of_spelled(spelled)
     }
 
-    /// Puts a transaction, spelled so, after the others, unless it was seen.
-    fn put(&mut self, tx: &Tx, spelled: &[u8]) -> Result<usize, Refusal>
-        requires valid { IsTx tx.now }
-        requires spelled { spelled.now ≡ tx_spelling version_2 tx.now }
+    /// The same, of a transaction that isn't spelled.
+    pub fn number_near(&self, tx: &Tx, likely: usize) -> Option<usize>
+        ensures { MatchOption result (place_in self.now tx.now ≡ length self.now)
+            (λ number. (number ≡ place_in self.now tx.now) × (number < length self.now)) }
+    {
+        let mut buffer = [0; MAX_TX_BYTES];
+        self.number_of_view(&SpelledTx::of(tx, &mut buffer), likely)
+    }
+
+    /// Puts a transaction after the others, unless it was seen, and answers its number. It is likely to be new, so it isn't looked for
+    /// first. At `NoMemory`, the only refusal, all is as before, whether it was seen or not.
+    pub fn insert_view(&mut self, tx: &SpelledTx<'_>) -> Result<usize, Refusal>
+        ensures valid { IsTx tx.now }
         ensures ok { IfOk result (λ number. (number ≡ place_in self.old tx.now) × (self.new ≡ seen_with self.old tx.now)) }
         ensures err { IfErr result (λ e. (e ≡ NoMemory) × (self.new ≡ self.old)) }
     {
-        let Ok(key) = Vec::from_slice(self.alloc, spelled) else {
+        let Ok(key) = Vec::from_slice(self.alloc, tx.as_bytes()) else {
             return Err(Refusal::NoMemory);
         };
         let Ok((number, _)) = self.spelled.insert_full(key) else {
             return Err(Refusal::NoMemory);
         };
-        let _ = tx;
         Ok(number)
     }
 
@@ -154,22 +151,20 @@ impl Transactions {
         ensures err { IfErr result (λ e. (e ≡ NoMemory) × (list_any (tx_eq tx.now) self.old ≡ false) × (self.new ≡ self.old)) }
     {
         let mut buffer = [0; MAX_TX_BYTES];
-        let spelled = spell(tx, &mut buffer);
-        match self.number_of_spelled(spelled) {
+        let view = SpelledTx::of(tx, &mut buffer);
+        match self.number_of_spelled(view.as_bytes()) {
             Some(number) => Ok(number),
-            None => self.put(tx, spelled),
+            None => self.insert_view(&view),
         }
     }
 
-    /// The same, of a transaction that is likely to be new: it isn't looked for first. At `NoMemory`, the only refusal, all is as
-    /// before, whether it was seen or not.
+    /// As `insert_view`, of a transaction that isn't spelled.
     pub fn insert(&mut self, tx: &Tx) -> Result<usize, Refusal>
         ensures valid { IsTx tx.now }
         ensures ok { IfOk result (λ number. (number ≡ place_in self.old tx.now) × (self.new ≡ seen_with self.old tx.now)) }
         ensures err { IfErr result (λ e. (e ≡ NoMemory) × (self.new ≡ self.old)) }
     {
         let mut buffer = [0; MAX_TX_BYTES];
-        let spelled = spell(tx, &mut buffer);
-        self.put(tx, spelled)
+        self.insert_view(&SpelledTx::of(tx, &mut buffer))
     }
 }

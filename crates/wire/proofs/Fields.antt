@@ -54,7 +54,7 @@ component_again xs rest few =
     let long : ltb (length (xs ++ rest)) (length xs) ≡ false = le-ltb _ _ (omega (arith, length-append xs rest)) in
     rw (fits, long, take_at xs rest (length xs) refl, drop_at xs rest (length xs) refl) refl
 
-branch_again : (v : Version) (b : BranchParts) (rest : List ℕ) → IsWide v → b.rm < v.most_managers → IsBranch b
+pub branch_again : (v : Version) (b : BranchParts) (rest : List ℕ) → IsWide v → b.rm < v.most_managers → IsBranch b
     → branch_at v (branch_spelling v b ++ rest) ≡ Some (b, rest)
 unfolding branch_at
 branch_again v b rest wide lt is =

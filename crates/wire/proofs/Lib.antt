@@ -11,3 +11,9 @@ pub mod DecodingLemmas
 pub mod Decoded
 pub mod PushedItems
 pub mod TakenTx
+pub mod Walks
+pub mod Ends
+pub mod CountedItems
+pub mod BundleKinds
+pub mod SpelledAgain
+pub mod Replies

@@ -26,7 +26,7 @@ pub record Front (bytes front rest : List ℕ) : Type 0 where
   pub same : bytes ≡ front ++ rest
   pub after : IsBytes rest
 
-bytes_after : (front rest : List ℕ) → IsBytes (front ++ rest) → IsBytes rest
+pub bytes_after : (front rest : List ℕ) → IsBytes (front ++ rest) → IsBytes rest
 bytes_after [] rest is = is
 bytes_after (x ∷ front) rest is = bytes_after front rest (λ i. is (suc i))
 

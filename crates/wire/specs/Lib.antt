@@ -4,3 +4,6 @@ pub mod Versions
 pub mod Grammar
 pub mod Reading
 pub mod Decoding
+pub mod Spelled
+pub mod SpelledItems
+pub mod Said

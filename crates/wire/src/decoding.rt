@@ -17,7 +17,7 @@ use crate::reading::{
 use xid::{Branches, Refusal, Tx};
 
 /// Takes the end.
-fn take_end(bytes: &[u8]) -> Option<()>
+pub(crate) fn take_end(bytes: &[u8]) -> Option<()>
     ensures { result ≡ end_at bytes.now }
 {
     let [] = bytes else {
@@ -280,7 +280,7 @@ fn message_from(code: u8, tx: &Tx, bytes: &[u8]) -> Result<Message, Refusal>
 }
 
 /// The number of the kind, and what follows it, behind the version.
-fn take_code(bytes: &[u8]) -> Option<(u8, &[u8])>
+pub(crate) fn take_code(bytes: &[u8]) -> Option<(u8, &[u8])>
     ensures { MatchOption result ((k : Kind) → bytes.now ≢ spelling k) (λ x. bytes.now ≡ version_2.byte ∷ x.0 ∷ x.1.now) }
 {
     let [VERSION, code, rest @ ..] = bytes else {

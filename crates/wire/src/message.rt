@@ -101,7 +101,7 @@ impl Kind {
 }
 
 /// Whether a reported ballot, if there is one, is below this one.
-fn is_report_below(report: Option<(Ballot, Vote)>, ballot: Ballot) -> bool
+pub(crate) fn is_report_below(report: Option<(Ballot, Vote)>, ballot: Ballot) -> bool
     ensures { IsTrue result ↔ IsReportBelow ballot report }
 {
     match report {

@@ -255,7 +255,7 @@ pub(crate) fn take_instance(bytes: &[u8]) -> Option<(ManagerNumber, u32, &[u8])>
 }
 
 #[tactic(auto, unfolding(crate::specs::Reading::report_item_at))]
-fn take_report_item(bytes: &[u8]) -> Option<(InstanceReport, &[u8])>
+pub(crate) fn take_report_item(bytes: &[u8]) -> Option<(InstanceReport, &[u8])>
     ensures { taken result ≡ report_item_at bytes.now }
 {
     let Some((instance, rest)) = take_rm(VersionNumber::Second, bytes) else {
@@ -268,7 +268,7 @@ fn take_report_item(bytes: &[u8]) -> Option<(InstanceReport, &[u8])>
 }
 
 #[tactic(auto, unfolding(crate::specs::Reading::accept_item_at))]
-fn take_accept_item(bytes: &[u8]) -> Option<(InstanceAccept, &[u8])>
+pub(crate) fn take_accept_item(bytes: &[u8]) -> Option<(InstanceAccept, &[u8])>
     ensures { taken result ≡ accept_item_at bytes.now }
 {
     let Some((instance, ballot, rest)) = take_instance(bytes) else {

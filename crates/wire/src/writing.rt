@@ -19,7 +19,7 @@ use xid::{MAX_BRANCHES, MAX_COMPONENT, ManagerNumber, Tx, Vote};
 
 /// Puts bytes at a place. Each of these functions answers the place after what it put; what is in front of it and what follows
 /// it stays.
-fn put_bytes(out: &mut [u8], at: usize, bytes: &[u8]) -> usize
+pub(crate) fn put_bytes(out: &mut [u8], at: usize, bytes: &[u8]) -> usize
     requires { at + length bytes.now ≤ length out.old }
     ensures end { result ≡ at + length bytes.now }
     ensures shown { take result out.new ≡ take at out.old ++ bytes.now }
@@ -29,7 +29,7 @@ fn put_bytes(out: &mut [u8], at: usize, bytes: &[u8]) -> usize
     at + bytes.len()
 }
 
-fn put_byte(out: &mut [u8], at: usize, byte: u8) -> usize
+pub(crate) fn put_byte(out: &mut [u8], at: usize, byte: u8) -> usize
     requires { at < length out.old }
     ensures end { result ≡ at + 1 }
     ensures shown { take result out.new ≡ take at out.old ++ byte ∷ [] }
@@ -39,7 +39,7 @@ fn put_byte(out: &mut [u8], at: usize, byte: u8) -> usize
     at + 1
 }
 
-fn put_number(out: &mut [u8], at: usize, number: u32) -> usize
+pub(crate) fn put_number(out: &mut [u8], at: usize, number: u32) -> usize
     requires { at + NUMBER_BYTES ≤ length out.old }
     ensures end { result ≡ at + NUMBER_BYTES }
     ensures shown { take result out.new ≡ take at out.old ++ number_spelling number }
@@ -50,7 +50,7 @@ fn put_number(out: &mut [u8], at: usize, number: u32) -> usize
     put_bytes(out, at, &bytes)
 }
 
-fn put_rm(out: &mut [u8], at: usize, rm: ManagerNumber) -> usize
+pub(crate) fn put_rm(out: &mut [u8], at: usize, rm: ManagerNumber) -> usize
     requires { at + RM_BYTES ≤ length out.old }
     ensures end { result ≡ at + RM_BYTES }
     ensures shown { take result out.new ≡ take at out.old ++ rm_spelling version_2 rm }
@@ -112,7 +112,7 @@ pub fn put_tx(tx: &Tx, out: &mut [u8], at: usize) -> usize
     put_branches(tx, out, at)
 }
 
-fn byte_of_vote(vote: Vote) -> u8
+pub(crate) fn byte_of_vote(vote: Vote) -> u8
     ensures { result ≡ vote_byte vote }
 {
     match vote {
@@ -121,7 +121,7 @@ fn byte_of_vote(vote: Vote) -> u8
     }
 }
 
-fn put_report(out: &mut [u8], at: usize, report: Option<(u32, Vote)>) -> usize
+pub(crate) fn put_report(out: &mut [u8], at: usize, report: Option<(u32, Vote)>) -> usize
     requires { at + REPORT_BYTES ≤ length out.old }
     ensures end { result ≡ at + length (report_spelling report) }
     ensures few { result ≡ at + REPORT_BYTES }
@@ -157,7 +157,7 @@ fn put_accept_item(item: &InstanceAccept, out: &mut [u8], at: usize) -> usize
     put_byte(out, at, byte_of_vote(item.vote))
 }
 
-fn put_reports(reports: &[InstanceReport], out: &mut [u8], at: usize) -> usize
+pub(crate) fn put_reports(reports: &[InstanceReport], out: &mut [u8], at: usize) -> usize
     requires few { length reports.now ≤ MAX_BRANCHES }
     requires room { at + MAX_ITEMS_BYTES ≤ length out.old }
     ensures end { result ≡ at + 1 + ITEM_BYTES * length reports.now }
@@ -171,7 +171,7 @@ fn put_reports(reports: &[InstanceReport], out: &mut [u8], at: usize) -> usize
     at
 }
 
-fn put_accepts(accepts: &[InstanceAccept], out: &mut [u8], at: usize) -> usize
+pub(crate) fn put_accepts(accepts: &[InstanceAccept], out: &mut [u8], at: usize) -> usize
     requires few { length accepts.now ≤ MAX_BRANCHES }
     requires room { at + MAX_ITEMS_BYTES ≤ length out.old }
     ensures end { result ≡ at + 1 + ITEM_BYTES * length accepts.now }

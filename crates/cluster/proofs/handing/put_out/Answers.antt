@@ -1,4 +1,3 @@
-use Rattle.std.proofs.Common.{◌∙◌}
 use Rattle.std.specs.List.{flat_map}
 use Rattle.protocol.specs.Worlds.{datagrams_of}
 use Rattle.node_core.specs.Sends.{sent as sent_by}

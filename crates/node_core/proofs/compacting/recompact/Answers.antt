@@ -1,5 +1,3 @@
-use Rattle.std.proofs.Common.{subst}
-use Rattle.node_core.specs.Opening.{IsReplaced}
 use Rattle.node_core.proofs.Shortening.{rewritten_text}
 use Rattle.node_core.proofs.compacting.recompact.Goals as goal
 

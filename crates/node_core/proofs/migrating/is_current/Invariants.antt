@@ -1,4 +1,4 @@
-use Rattle.std.proofs.Common.{ℕ, List, [], length}
+use Rattle.std.proofs.Common.{List, [], length}
 use Rattle.stable_record.specs.declared.entry.EntryKind.{EntryKind as Entry}
 use Rattle.stable_record.specs.Grammar.{IsStored}
 use Rattle.node_core.proofs.Current.{IsCurrentUpTo}

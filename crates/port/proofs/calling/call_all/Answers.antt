@@ -1,11 +1,10 @@
-use Rattle.std.proofs.Common.{List, map, refl, sym, ap, subst, ◌∙◌}
-use Rattle.std.specs.Prelude.{Result, Ok, Err}
+use Rattle.std.proofs.Common.{List, map, sym, subst}
 use Rattle.stable_record.specs.Held.{refusal_of}
 use Rattle.protocol.specs.Worlds.{Datagram}
 use Rattle.node_core.specs.declared.config.Sizes.{Sizes}
 use Rattle.node_core.specs.Groups.{GroupsAs}
 use Rattle.node_core.specs.Nodes.{AreSizes, input_of}
-use Rattle.port.specs.Calls.{SendsAll, datagrams_from}
+use Rattle.port.specs.Calls.{SendsAll}
 use Rattle.port.proofs.Sending.{all_datagrams_as, nothing_sent}
 use Rattle.port.proofs.calling.call_all.Goals as goal
 

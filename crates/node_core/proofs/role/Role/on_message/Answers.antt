@@ -3,12 +3,6 @@ use Rattle.node_core.specs.Roles.{decided}
 use Rattle.node_core.proofs.Deciding.{told_so, led_so, led_refused, managed_so, acceptor_decides}
 use Rattle.node_core.proofs.role.Role.on_message.Goals as goal
 
-pub returns-in-Acceptor-clause-ok : goal.returns-in-Acceptor-clause-ok
-returns-in-Acceptor-clause-ok c =
-    let out = record c.args.out.now { reply = c.accept.new.reply; sends = c.accept.new.self } in
-    told_so _ _ _ _ _ _ c.in-Acceptor.is refl
-    (acceptor_decides c.in-Acceptor.acceptor (decided c.accept.new.fact out) c.args.message.now c.accept.ensures)
-
 pub returns-in-Leader-clause-ok : goal.returns-in-Leader-clause-ok
 returns-in-Leader-clause-ok c =
     led_so c.args.self.now c.in-Leader.leader c.lead.new.leader c.args.message.now c.in-Leader.is c.lead.result c.lead.new.fact

@@ -1,0 +1,18 @@
+use Rattle.std.proofs.Common.{◌∙◌, ap, subst}
+use Rattle.protocol.specs.Acceptors.{on_1a}
+use Rattle.protocol.specs.Effects.{decision_of}
+use Rattle.acceptor.specs.Slots.{slots_of}
+use Rattle.acceptor.specs.Acceptors.{Decides}
+use Rattle.acceptor.specs.Decisions.{shown}
+use Rattle.acceptor.proofs.Standing.{decides, plays_1a}
+use Rattle.acceptor.proofs.acceptor.Acceptor.on_1a.Goals as goal
+
+pub returns : goal.returns
+returns c =
+    subst (λ a. Decides a (shown c.on_1a.result) (λ config number slots. on_1a config number slots c.args.tx.now c.args.instance c.args.ballot))
+    c.self.view_is
+    (decides _ (shown c.on_1a.result) (λ config number slots. on_1a config number slots c.args.tx.now c.args.instance c.args.ballot)
+    (λ config leads bundled. c.on_1a.ensures config leads
+    ∙ ap (λ slots. decision_of (on_1a config c.self.inside.seat.number
+    (slots_of c.args.tx.now slots) c.args.tx.now c.args.instance c.args.ballot)) c.slots_of.ensures)
+    (plays_1a c.args.tx.now c.args.instance c.args.ballot c.requires))

@@ -1,0 +1,135 @@
+-- Walking over the branches on their bytes.
+use Rattle.std.proofs.Common.{◌≡◌, ◌≢◌, eqb, ℕ, zero, suc, ◌+◌, ◌-◌, ◌<◌, ◌≤◌, Bool, true, false, ltb, List, [], ◌∷◌, ◌++◌, length, take, drop, get_or}
+use Rattle.std.proofs.Common.{Option, Some, None, IsTrue, refl, sym, ap, ◌∙◌, arith, slice_index}
+use Rattle.std.specs.Prelude.{is_some}
+use Rattle.std.specs.List.{flat_map, All, list_any}
+use Rattle.std.proofs.lemmas.Bool.Decides.{nat_tests}
+use Rattle.std.proofs.lemmas.Bool.{ltb-true, ltb-false, le-ltb}
+use Rattle.std.proofs.lemmas.List.Concat.{flat_map-cons}
+use Rattle.std.proofs.lemmas.Grind.{common_steps}
+use Rattle.byteorder.specs.Endian.{big_number}
+use Rattle.xid.specs.Limits.{most_component}
+use Rattle.xid.specs.Transactions.{BranchParts, IsBranch, is_at}
+use Rattle.wire.specs.Grammar.{branch_spelling, branches_spelling}
+use Rattle.wire.specs.Reading.{branch_at, component_at}
+use Rattle.wire.specs.Versions.{version_2}
+use Rattle.wire.proofs.Fields.{branch_again, wide_2}
+
+-- a branch at the front, by where its fields stand
+pub record Stands (bytes : List ℕ) : Type 0 where
+  pub long : 3 ≤ length bytes
+  pub whole : 3 + slice_index bytes 2 ≤ length bytes
+  pub read :
+      branch_at version_2 bytes
+      ≡ Some (record { rm = big_number 2 bytes; bqual = take (slice_index bytes 2) (drop 3 bytes) }, drop (3 + slice_index bytes 2) bytes)
+
+pub stands : (bytes : List ℕ) → IsTrue (is_some (branch_at version_2 bytes)) → Stands bytes
+unfolding branch_at component_at
+stands [] some = absurd (cc (some))
+stands (a ∷ []) some = absurd (cc (some))
+stands (a ∷ b ∷ []) some = absurd (cc (some))
+stands (a ∷ b ∷ n ∷ rest) some = by (ltb most_component n) (ltb (length rest) n) refl refl
+  where
+    long : ltb (suc (suc (suc (length rest)))) 2 ≡ false
+    long = le-ltb _ _ (omega arith)
+
+    by : (great short : Bool) → ltb most_component n ≡ great → ltb (length rest) n ≡ short → Stands (a ∷ b ∷ n ∷ rest)
+    by true short eg es = let none : branch_at version_2 (a ∷ b ∷ n ∷ rest) ≡ None = rw (long, eg) refl in absurd (cc (none, some))
+    by false true eg es = let none : branch_at version_2 (a ∷ b ∷ n ∷ rest) ≡ None = rw (long, eg, es) refl in absurd (cc (none, some))
+    by false false eg es = record {
+      long = omega arith;
+      whole = let le : n ≤ length rest = ltb-false (length rest) n es in omega arith;
+      read = let e : 3 + n ≡ suc (suc (suc n)) = omega arith in rw (e, long, eg, es) refl;
+    }
+
+same_branch : (bytes : List ℕ) (n rm : ℕ) → rm ≡ big_number 2 bytes → 3 + n ≤ length bytes
+    → ◌≡◌ {A = Option (BranchParts × List ℕ)}
+    (Some (record { rm = rm; bqual = take (3 + n - 3) (drop 3 bytes) }, take (length bytes - (3 + n)) (drop (3 + n) bytes)))
+    (Some (record { rm = big_number 2 bytes; bqual = take n (drop 3 bytes) }, drop (3 + n) bytes))
+same_branch bytes n rm e le =
+    let back : 3 + n - 3 ≡ n = omega arith in
+    let all : take (length bytes - (3 + n)) (drop (3 + n) bytes) ≡ drop (3 + n) bytes = grind (arith, common_steps) in
+    rw (back, all, e) refl
+
+-- what is read where the fields stand
+pub read_there : (bytes : List ℕ) (rm : ℕ) → IsTrue (is_some (branch_at version_2 bytes)) → rm ≡ big_number 2 bytes
+    → ◌≡◌ {A = Option (BranchParts × List ℕ)} (Some (
+      record { rm = rm; bqual = take (3 + slice_index bytes 2 - 3) (drop 3 bytes) },
+      take (length bytes - (3 + slice_index bytes 2)) (drop (3 + slice_index bytes 2) bytes),
+    )) (branch_at version_2 bytes)
+read_there bytes rm some e = let s = stands bytes some in same_branch bytes (slice_index bytes 2) rm e s.whole ∙ sym s.read
+
+-- the branches from a place on
+abbrev pub from : List BranchParts → ℕ → List ℕ
+from bs i = flat_map (branch_spelling version_2) (drop i bs)
+
+pub drops : {X : Type 0} (xs : List X) (i : ℕ) (d : X) → i < length xs → drop i xs ≡ get_or xs i d ∷ drop (i + 1) xs
+drops [] i d lt = absurd (omega arith)
+drops (x ∷ xs) zero d lt = refl
+drops (x ∷ xs) (suc i) d lt = let e : suc i + 1 ≡ suc (i + 1) = omega arith in rw e (drops xs i d (omega arith))
+
+-- the next branch of a walk
+pub next : (bs : List BranchParts) (i : ℕ) (bytes : List ℕ) (d : BranchParts) → All IsBranch bs → i < length bs → bytes ≡ from bs i
+    → branch_at version_2 bytes ≡ Some (get_or bs i d, from bs (i + 1))
+next bs i bytes d each lt e =
+    let is = each i d lt in
+    let split : from bs i ≡ branch_spelling version_2 (get_or bs i d) ++ from bs (i + 1) =
+    ap (λ (xs : List BranchParts). flat_map (branch_spelling version_2) xs) (drops bs i d lt)
+    ∙ flat_map-cons (branch_spelling version_2) (get_or bs i d) (drop (i + 1) bs) in
+    ap (branch_at version_2) (e ∙ split) ∙ branch_again version_2 (get_or bs i d) (from bs (i + 1)) wide_2 is.rm is
+
+pub some_next : (bs : List BranchParts) (i : ℕ) (bytes : List ℕ) → All IsBranch bs → i < length bs → bytes ≡ from bs i
+    → IsTrue (is_some (branch_at version_2 bytes))
+some_next bs i bytes each lt e = let there = next bs i bytes (record { rm = 0; bqual = [] }) each lt e in rw there refl
+
+some_same : (x y : BranchParts × List ℕ) → Some x ≡ Some y → x ≡ y
+some_same x y e = cc
+
+-- what a walk took
+pub record Took (bs : List BranchParts) (i : ℕ) (d : BranchParts) (rm : ℕ) (bqual rest : List ℕ) : Type 0 where
+  pub manager : rm ≡ (get_or bs i d).rm
+  pub name : bqual ≡ (get_or bs i d).bqual
+  pub after : rest ≡ from bs (i + 1)
+
+pub took : (bs : List BranchParts) (i : ℕ) (bytes : List ℕ) (d : BranchParts) (rm : ℕ) (bqual rest : List ℕ) → All IsBranch bs → i < length bs
+    → bytes ≡ from bs i → ◌≡◌ {A = Option (BranchParts × List ℕ)} (Some (record { rm = rm; bqual = bqual }, rest)) (branch_at version_2 bytes) → Took bs i d rm bqual rest
+took bs i bytes d rm bqual rest each lt e got =
+    let same = some_same (record { rm = rm; bqual = bqual }, rest) (get_or bs i d, from bs (i + 1)) (got ∙ next bs i bytes d each lt e) in
+    record {
+      manager = ap (λ (x : BranchParts × List ℕ). x.0.rm) same;
+      name = ap (λ (x : BranchParts × List ℕ). x.0.bqual) same;
+      after = ap (λ (x : BranchParts × List ℕ). x.1) same;
+    }
+
+-- the branches after their count
+pub at_first : (bs : List BranchParts) (xs : List ℕ) → xs ≡ branches_spelling version_2 bs → take (length xs - 1) (drop 1 xs) ≡ from bs 0
+at_first bs xs e =
+    let all : take (length xs - 1) (drop 1 xs) ≡ drop 1 xs = grind (arith, common_steps) in
+    all ∙ ap (drop 1) e
+
+pub count_is : (bs : List BranchParts) (xs : List ℕ) → xs ≡ branches_spelling version_2 bs → get_or xs 0 0 ≡ length bs
+count_is bs xs e = ap (λ (xs : List ℕ). get_or xs 0 0) e
+
+pub any_here : (bs : List BranchParts) (i rm : ℕ) (d : BranchParts) → i < length bs → (get_or bs i d).rm ≡ rm
+    → list_any (is_at rm) (drop i bs) ≡ true
+any_here bs i rm d lt e =
+    let yes : eqb (get_or bs i d).rm rm ≡ true = grind (arith, nat_tests, e) in
+    ap (list_any (is_at rm)) (drops bs i d lt) ∙ rw yes refl
+
+pub any_later : (bs : List BranchParts) (i rm : ℕ) (d : BranchParts) → i < length bs → (get_or bs i d).rm ≢ rm
+    → list_any (is_at rm) (drop i bs) ≡ list_any (is_at rm) (drop (i + 1) bs)
+any_later bs i rm d lt e =
+    let no : eqb (get_or bs i d).rm rm ≡ false = grind (arith, nat_tests, e) in
+    ap (list_any (is_at rm)) (drops bs i d lt) ∙ rw no refl
+
+-- none of the branches so far is a resource manager's, nor is the next one
+pub none_yet : (bs : List BranchParts) (i rm : ℕ) (d : BranchParts) → (get_or bs i d).rm ≢ rm
+    → ((k : ℕ) → k < i → is_at rm (get_or bs k d) ≡ false) → (k : ℕ) → k < i + 1 → is_at rm (get_or bs k d) ≡ false
+none_yet bs i rm d other before k less = by (ltb k i) refl
+  where
+    by : (t : Bool) → ltb k i ≡ t → is_at rm (get_or bs k d) ≡ false
+    by true et = before k (ltb-true k i et)
+    by false et =
+        let same : k ≡ i = omega (arith, less, ltb-false k i et) in
+        let no : eqb (get_or bs i d).rm rm ≡ false = grind (arith, nat_tests, other) in
+        ap (λ (n : ℕ). is_at rm (get_or bs n d)) same ∙ no

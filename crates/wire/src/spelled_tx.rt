@@ -1,0 +1,235 @@
+ghost use Rattle.std.specs.Prelude.{◌≡◌, ◌≤◌, ◌<◌, IsTrue, is_some, length, slice_index, MatchOption};
+ghost use Rattle.std.specs.List.{position_or_len};
+ghost use Rattle.xid.specs.Limits.{most_managers};
+ghost use Rattle.xid.specs.Transactions.{IsTx, nth_branch, participants, is_at, is_participant};
+ghost use Rattle.wire.specs.Decoding.{tx_in};
+ghost use Rattle.wire.specs.Grammar.{tx_spelling, branches_spelling};
+ghost use Rattle.wire.specs.Reading.{taken, branch_at};
+ghost use Rattle.wire.specs.Versions.{version_2};
+ghost use Rattle.wire.specs.Spelled.{tx_spelled, IsSpelled, seen, branch_taken, manager_at, after_branches, after_tx};
+
+use crate::grammar::{MAX_TX_BYTES, VersionNumber};
+use crate::reading::{take_byte, take_component, take_number, take_rm};
+use crate::writing::put_tx;
+use byteorder::{BigEndian, ByteOrder};
+use std::marker::Model;
+use xid::{FORMATS, MAX_BRANCHES, MAX_MANAGERS, ManagerNumber, Tx};
+
+/// A transaction, by the bytes that spell it, which stand elsewhere.
+#[derive(Debug, Drop)]
+pub struct SpelledTx<'a> {
+    bytes: &'a [u8],
+}
+
+impl<'a> Model for SpelledTx<'a> {
+    ghost use Rattle.xid.specs.Transactions.{TxParts};
+    ghost use Rattle.wire.specs.Spelled.{tx_spelled, IsSpelled};
+
+    ghost Value = { TxParts };
+
+    ghost view = { λ t. tx_spelled t.bytes.now };
+
+    ghost invariant = { λ t. IsSpelled t.bytes.now };
+}
+
+/// Takes a branch from the front, one that a transaction may have, with a resource manager that isn't below the least, and answers
+/// that and what follows the branch.
+#[tactic(auto, unfolding(crate::specs::Spelled::manager_at, crate::specs::Reading::branch_at))]
+fn take_manager(least: ManagerNumber, bytes: &[u8]) -> Option<(ManagerNumber, &[u8])>
+    ensures value { taken result ≡ manager_at least bytes.now }
+    ensures below { MatchOption result (Unit {0}) (λ x. x.0 < MAX_MANAGERS) }
+{
+    let Some((rm, rest)) = take_rm(VersionNumber::Second, bytes) else {
+        return None;
+    };
+    let Some((bqual, rest)) = take_component(rest) else {
+        return None;
+    };
+    if rm < least {
+        return None;
+    }
+    if rm >= MAX_MANAGERS {
+        return None;
+    }
+    if bqual.len() == 0 {
+        return None;
+    }
+    Some((rm, rest))
+}
+
+/// What follows so many branches that a transaction may have.
+fn after_branches(count: u8, bytes: &[u8]) -> Option<&[u8]>
+    ensures { seen result ≡ after_branches 0 count bytes.now }
+{
+    let mut rest = bytes;
+    let mut least = 0;
+    for _ in 0..count {
+        let Some((rm, after)) = take_manager(least, rest) else {
+            return None;
+        };
+        least = rm + 1;
+        rest = after;
+    }
+    Some(rest)
+}
+
+/// What follows the transaction that is spelled at the front.
+#[tactic(auto, unfolding(crate::specs::Spelled::after_tx))]
+fn after_tx(bytes: &[u8]) -> Option<&[u8]>
+    ensures { seen result ≡ after_tx bytes.now }
+{
+    let Some((format, rest)) = take_number(bytes) else {
+        return None;
+    };
+    if format >= FORMATS {
+        return None;
+    }
+    let Some((gtrid, rest)) = take_component(rest) else {
+        return None;
+    };
+    if gtrid.len() == 0 {
+        return None;
+    }
+    let Some((count, rest)) = take_byte(rest) else {
+        return None;
+    };
+    if count == 0 {
+        return None;
+    }
+    if count as usize > MAX_BRANCHES {
+        return None;
+    }
+    after_branches(count, rest)
+}
+
+/// Takes the first of branches: its resource manager, its bqual, and what follows it.
+fn first_branch(bytes: &[u8]) -> (ManagerNumber, &[u8], &[u8])
+    requires { IsTrue (is_some (branch_at version_2 bytes.now)) }
+    ensures { branch_taken result ≡ branch_at version_2 bytes.now }
+{
+    let len = bytes[2] as usize;
+    (
+        BigEndian::read_u16(bytes),
+        &bytes[3..3 + len],
+        &bytes[3 + len..],
+    )
+}
+
+impl<'a> SpelledTx<'a> {
+    /// Takes a transaction from the front, whose spelling stands there, and answers it and what follows it. None where the bytes
+    /// begin with no spelling of a transaction.
+    pub fn take(bytes: &'a [u8]) -> Option<(SpelledTx<'a>, &'a [u8])>
+        ensures { taken result ≡ tx_in version_2 bytes.now }
+    {
+        let Some(rest) = after_tx(bytes) else {
+            return None;
+        };
+        let len = bytes.len() - rest.len();
+        let tx = SpelledTx {
+            bytes: &bytes[..len],
+        };
+        Some((tx, rest))
+    }
+
+    /// A transaction over its spelling, which is written into a buffer.
+    pub fn of(tx: &Tx, buffer: &'a mut [u8; MAX_TX_BYTES]) -> SpelledTx<'a>
+        ensures { result ≡ tx.now }
+    {
+        let _ = tx.count();
+        let end = put_tx(tx, buffer, 0);
+        SpelledTx {
+            bytes: &buffer[..end],
+        }
+    }
+
+    /// The same transaction.
+    pub fn again(&self) -> SpelledTx<'a>
+        ensures { result ≡ self.now }
+    {
+        SpelledTx { bytes: self.bytes }
+    }
+
+    /// Its spelling.
+    pub fn as_bytes(&self) -> &'a [u8]
+        ensures value { result.now ≡ tx_spelling version_2 self.now }
+        ensures few { length result.now ≤ MAX_TX_BYTES }
+        ensures valid { IsTx self.now }
+    {
+        self.bytes
+    }
+
+    /// How many branches, and each.
+    fn branches(&self) -> &'a [u8]
+        ensures value { result.now ≡ branches_spelling version_2 self.now.branches }
+        ensures valid { IsTx self.now }
+    {
+        let bytes = self.bytes;
+        &bytes[5 + bytes[4] as usize..]
+    }
+
+    /// How many resource managers take part, 1 to `MAX_BRANCHES`.
+    pub fn count(&self) -> usize
+        ensures value { result ≡ length self.now.branches }
+        ensures valid { IsTx self.now }
+    {
+        self.branches()[0] as usize
+    }
+
+    /// The branch at a place, and the branches after it.
+    fn nth(&self, i: usize) -> (ManagerNumber, &'a [u8], &'a [u8])
+        requires { i < length self.now.branches }
+        ensures rm { result.0 ≡ (nth_branch self.now i).rm }
+        ensures valid { IsTx self.now }
+    {
+        let mut branch = first_branch(&self.branches()[1..]);
+        for _ in 0..i {
+            branch = first_branch(branch.2);
+        }
+        branch
+    }
+
+    /// The number of the resource manager of a branch, by the branch's place.
+    pub fn rm(&self, i: usize) -> ManagerNumber
+        requires { i < length self.now.branches }
+        ensures value { result ≡ slice_index (participants self.now) i }
+        ensures branch { result ≡ (nth_branch self.now i).rm }
+        ensures below { result < most_managers }
+        ensures valid { IsTx self.now }
+    {
+        self.nth(i).0
+    }
+
+    /// Whether a resource manager takes part.
+    pub fn is_participant(&self, rm: ManagerNumber) -> bool
+        ensures value { result ≡ is_participant self.now rm }
+        ensures valid { IsTx self.now }
+    {
+        let branches = self.branches();
+        let mut rest = &branches[1..];
+        for _ in 0..branches[0] {
+            let branch = first_branch(rest);
+            if branch.0 == rm {
+                return true;
+            }
+            rest = branch.2;
+        }
+        false
+    }
+
+    /// The place of a resource manager's branch, or how many branches there are where it takes no part.
+    pub fn place_of(&self, rm: ManagerNumber) -> usize
+        ensures value { result ≡ position_or_len (is_at rm) self.now.branches }
+        ensures valid { IsTx self.now }
+    {
+        let branches = self.branches();
+        let mut rest = &branches[1..];
+        for place in 0..branches[0] {
+            let branch = first_branch(rest);
+            if branch.0 == rm {
+                return place as usize;
+            }
+            rest = branch.2;
+        }
+        branches[0] as usize
+    }
+}
