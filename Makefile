@@ -2,7 +2,7 @@
 SCRIPT ?= examples/plain-commit.script
 PREFIX ?= /usr/local
 
-.PHONY: run build try test golden scripts wrong-rules cluster demo-postgresql soak docs install clean proof-tools test-tools
+.PHONY: run build try test golden scripts pictures wrong-rules cluster demo-postgresql soak docs install clean proof-tools test-tools
 
 # builds the program and runs it on a script
 run: build
@@ -41,6 +41,17 @@ bin/pcommit_node: bin/pcommit | proof-tools
 	@tools/progress.py pcommit_node bin/node-build.log --help
 	@cp crates/pcommit_node/out/pcommit_node bin/pcommit_node
 
+# proves and builds the program that draws traces, and leaves it at bin/pcommit_picture
+bin/pcommit_picture: bin/pcommit | proof-tools
+	@tools/progress.py pcommit_picture bin/picture-build.log data/torn-vote.trace
+	@cp crates/pcommit_picture/out/pcommit_picture bin/pcommit_picture
+
+# draws the pictures of the pages anew: each is of the golden trace of its name
+pictures: bin/pcommit_picture
+	cd docs/pictures && for picture in *.svg; do \
+	    ../../bin/pcommit_picture ../../tests/golden/$${picture%.svg}.out >$$picture || exit 1; \
+	done
+
 # seven processes on this host, a transaction, and a leader that is killed in the middle of one: docs/DEPLOY.md
 cluster: bin/pcommit_node
 	@examples/cluster/demo.py bin/pcommit_node
@@ -58,6 +69,7 @@ soak: test-tools bin/pcommit_node
 scripts:
 	tests/run.sh bin/pcommit
 	[ ! -e crates/pcommit_node/out/pcommit_node ] || tests/cluster/run.sh crates/pcommit_node/out/pcommit_node
+	[ ! -e crates/pcommit_picture/out/pcommit_picture ] || tests/pictures.py crates/pcommit_picture/out/pcommit_picture
 	tests/sweeps.py bin/pcommit
 	tests/memory.py bin/pcommit
 

@@ -343,10 +343,11 @@ def said(tx):
 
 
 def over(name, program, begin, drive, **words):
-    """Runs a bank: `begin(cluster, folder)` before its nodes start, `drive(cluster, bank)` while it works. Its faults are printed."""
+    """Runs a bank: `begin(cluster, folder)` before its nodes start, `drive(cluster, bank)` while it works. Its faults are printed. A branch that
+    was ended, and whose abort is lost, keeps its keys for as long as `idle` says, so that is less than the last read waits for them."""
     folder = tempfile.mkdtemp(prefix='pcommit-%s-' % name)
     seed, makes = words.pop('seed', 1), words.pop('makes', Processes)
-    with makes(program, folder, tables=first_tables(), **words) as cluster:
+    with makes(program, folder, tables=first_tables(), clock={'idle': 10000}, **words) as cluster:
         others = begin(cluster, folder) if begin else None
         try:
             cluster.start()

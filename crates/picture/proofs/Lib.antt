@@ -1,0 +1,6 @@
+pub mod Lines
+pub mod Loops
+pub mod Made
+pub mod Plain
+pub mod Several
+pub mod TrueStrokes

@@ -1,0 +1,8 @@
+use Rattle.std.proofs.Common.{◌≡◌, ◌++◌}
+use Rattle.std.specs.List.{flat_map, range_with_len}
+use Rattle.picture.specs.Drawing.{page_elements}
+use Rattle.picture.proofs.backdrop.draw_pages.Given as goal
+
+abbrev pub invariant-loop-page : goal.invariant-loop-page
+invariant-loop-page l =
+    l.out.items ≡ l.fn.out.items ++ flat_map (page_elements l.sizes l.lines l.rows) (range_with_len 0 l.page)

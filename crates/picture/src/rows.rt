@@ -1,0 +1,343 @@
+//! The lines of a trace that tell of events, each with its label and with what it adds to the picture.
+
+ghost use Rattle.std.specs.Prelude.{◌≡◌, IfOk, IfErr, OnOk};
+ghost use Rattle.std.specs.List.{list_any};
+ghost use Rattle.std.specs.Option.{option_copied};
+ghost use Rattle.xid.specs.declared.refusals.Refusal.TheVariants.{NoMemory};
+ghost use Rattle.picture.specs.Rows.{are_several, is_error, is_missing, is_of_other, line_at, lost, mark_of, rows_of, taken, told_tx, tx_of, what_of};
+ghost use Rattle.picture.specs.Rows.{with_change, with_entry, with_outcome, with_row, with_sent};
+
+use crate::elements::Mark;
+use crate::labels::{change_label, event_word, sent_label};
+use net_script::Entry;
+use protocol::{Answer, Change, Event, NodeId, Sent, View};
+use std::alloc::Global;
+use xid::{Bytes, Refusal, Tx, XaCode};
+
+/// What a line of a trace adds to its picture.
+#[derive(Clone, Copy, Debug)]
+pub enum What {
+    /// Something happened at a node.
+    At {
+        /// The node.
+        node: NodeId,
+        /// What happened.
+        mark: Mark,
+    },
+    /// A datagram was handed over, or its first bytes.
+    Takes {
+        /// Its number.
+        number: u32,
+        /// Whether all of it was.
+        is_whole: bool,
+        /// What came of it.
+        mark: Mark,
+    },
+    /// A datagram was lost.
+    Loses {
+        /// Its number.
+        number: u32,
+    },
+    /// There is no such datagram, or no such part of it.
+    Misses,
+    /// A resource manager changed its view.
+    Changes {
+        /// Its number.
+        rm: u8,
+        /// The view.
+        view: View,
+    },
+    /// A datagram was sent.
+    Sends {
+        /// Its number.
+        number: u32,
+        /// Who sent it.
+        sender: NodeId,
+        /// Whom it is for.
+        receiver: NodeId,
+    },
+}
+
+/// A line of a trace.
+#[derive(Debug, Drop)]
+pub struct Row {
+    /// Its number, from 1.
+    pub line: u32,
+    /// What stands beside its mark, or beside the mark where its datagram ends.
+    pub label: Bytes,
+    /// What it adds.
+    pub what: What,
+}
+
+/// Whether an event wasn't done.
+fn is_error(answer: &Answer) -> bool
+    ensures { result ≡ is_error answer.now }
+{
+    match answer {
+        Answer::Refused(_) => true,
+        Answer::Code(code) => match code {
+            XaCode::Ok | XaCode::RbRollback => false,
+            XaCode::Nota | XaCode::Inval | XaCode::Proto | XaCode::RmFail | XaCode::DupId => true,
+        },
+        Answer::Done | Answer::Value(_) | Answer::NoValue | Answer::Xids(_) | Answer::Stands(_) =>
+            false,
+    }
+}
+
+/// The mark of an event.
+fn mark_of(done: Mark, answer: &Answer) -> Mark
+    ensures { result ≡ mark_of done answer.now }
+{
+    if is_error(answer) {
+        return Mark::Refusal;
+    }
+    done
+}
+
+/// Whether there was no such datagram, or no such part of it.
+fn is_missing(answer: &Answer) -> bool
+    ensures { result ≡ is_missing answer.now }
+{
+    match answer {
+        Answer::Refused(refusal) => matches!(refusal, Refusal::NoSuch),
+        Answer::Done
+        | Answer::Code(_)
+        | Answer::Value(_)
+        | Answer::NoValue
+        | Answer::Xids(_)
+        | Answer::Stands(_) => false,
+    }
+}
+
+/// What the delivery of a datagram adds, or that of its first bytes.
+fn taken(number: u32, is_whole: bool, answer: &Answer) -> What
+    ensures { result ≡ taken number is_whole answer.now }
+{
+    if is_missing(answer) {
+        return What::Misses;
+    }
+    What::Takes {
+        number,
+        is_whole,
+        mark: mark_of(Mark::Done, answer),
+    }
+}
+
+/// What the loss of a datagram adds.
+fn lost(number: u32, answer: &Answer) -> What
+    ensures { result ≡ lost number answer.now }
+{
+    if is_error(answer) {
+        return What::Misses;
+    }
+    What::Loses { number }
+}
+
+/// What an event adds.
+fn what_of(event: &Event, answer: &Answer) -> What
+    ensures { result ≡ what_of event.now answer.now }
+{
+    match event {
+        Event::Ask { node, .. } | Event::Noise { node, .. } => What::At {
+            node: *node,
+            mark: mark_of(Mark::Done, answer),
+        },
+        Event::Deliver { number } => taken(*number, true, answer),
+        Event::Cut { number, .. } => taken(*number, false, answer),
+        Event::Lose { number } => lost(*number, answer),
+        Event::Tear { node, .. } => What::At {
+            node: *node,
+            mark: mark_of(Mark::Tear, answer),
+        },
+        Event::Restart { node } => What::At {
+            node: *node,
+            mark: mark_of(Mark::Restart, answer),
+        },
+        Event::Compact { node } => What::At {
+            node: *node,
+            mark: mark_of(Mark::Compaction, answer),
+        },
+    }
+}
+
+/// The number of the line so many lines after the first; beyond 2^32-1 all have that number.
+pub(crate) fn line_at(first: u32, place: usize) -> u32
+    ensures { result ≡ line_at first place }
+{
+    let Ok(place) = u32::try_from(place) else {
+        return u32::MAX;
+    };
+    first.saturating_add(place)
+}
+
+/// Puts a row after others.
+fn push_row(rows: &mut Vec<Row>, first: u32, label: Bytes, what: What) -> Result<(), Refusal>
+    ensures ok { OnOk result (rows.new.items ≡ with_row first rows.old.items label what) }
+    ensures err { IfErr result (λ e. e ≡ NoMemory) }
+{
+    let line = line_at(first, rows.len());
+    rows.push(Row { line, label, what })?;
+    Ok(())
+}
+
+/// Puts the row of a changed view, if there is one, after others.
+fn push_change(
+    alloc: Global,
+    rows: &mut Vec<Row>,
+    first: u32,
+    several: bool,
+    now: &Option<Change>,
+) -> Result<(), Refusal>
+    ensures ok { OnOk result (rows.new.items ≡ with_change first several rows.old.items now.now) }
+    ensures err { IfErr result (λ e. e ≡ NoMemory) }
+{
+    let Some(change) = now else {
+        return Ok(());
+    };
+    let label = change_label(alloc, several, change)?;
+    let what = What::Changes {
+        rm: change.rm,
+        view: change.view,
+    };
+    push_row(rows, first, label, what)
+}
+
+/// Puts the row of a datagram after others.
+fn push_sent(
+    alloc: Global,
+    rows: &mut Vec<Row>,
+    first: u32,
+    several: bool,
+    sent: &Sent,
+) -> Result<(), Refusal>
+    ensures ok { OnOk result (rows.new.items ≡ with_sent first several rows.old.items sent.now) }
+    ensures err { IfErr result (λ e. e ≡ NoMemory) }
+{
+    let label = sent_label(alloc, several, sent)?;
+    let what = What::Sends {
+        number: sent.number,
+        sender: sent.sender,
+        receiver: sent.receiver,
+    };
+    push_row(rows, first, label, what)
+}
+
+/// Puts the rows of what came of an event after others.
+fn push_outcome(
+    alloc: Global,
+    rows: &mut Vec<Row>,
+    first: u32,
+    several: bool,
+    now: &Option<Change>,
+    sent: &[Sent],
+) -> Result<(), Refusal>
+    ensures ok { OnOk result (rows.new.items ≡ with_outcome first several rows.old.items now.now sent.now) }
+    ensures err { IfErr result (λ e. e ≡ NoMemory) }
+{
+    push_change(alloc, rows, first, several, now)?;
+    for datagram in sent {
+        push_sent(alloc, rows, first, several, datagram)?;
+    }
+    Ok(())
+}
+
+/// Puts the rows of what happened, and of what came of it, after others.
+fn push_entry(
+    alloc: Global,
+    rows: &mut Vec<Row>,
+    first: u32,
+    several: bool,
+    entry: &Entry,
+) -> Result<(), Refusal>
+    ensures ok { OnOk result (rows.new.items ≡ with_entry first several rows.old.items entry.now) }
+    ensures err { IfErr result (λ e. e ≡ NoMemory) }
+{
+    match entry {
+        Entry::Step(step) => {
+            let label = Bytes::copy_of(alloc, event_word(&step.event))?;
+            push_row(rows, first, label, what_of(&step.event, &step.answer))?;
+            push_outcome(alloc, rows, first, several, &step.now, step.sent.as_slice())
+        }
+        Entry::Serve {
+            node,
+            answer,
+            now,
+            sent,
+        } => {
+            let label = Bytes::copy_of(alloc, b"serve")?;
+            let what = What::At {
+                node: *node,
+                mark: mark_of(Mark::Done, answer),
+            };
+            push_row(rows, first, label, what)?;
+            push_outcome(alloc, rows, first, several, now, sent.as_slice())
+        }
+    }
+}
+
+/// The rows of what happened, of which the first is this line. Transactions are named where there are several. The only refusal is
+/// `NoMemory`.
+pub(crate) fn rows_of(alloc: Global, first: u32, entries: &[Entry]) -> Result<Vec<Row>, Refusal>
+    ensures ok { IfOk result (λ rows. rows.items ≡ rows_of first entries.now) }
+    ensures err { IfErr result (λ e. e ≡ NoMemory) }
+{
+    let several = are_several(entries);
+    let mut rows = Vec::new(alloc);
+    for entry in entries {
+        push_entry(alloc, &mut rows, first, several, entry)?;
+    }
+    Ok(rows)
+}
+
+/// The transaction of which a view or a datagram tells.
+fn told_tx<'a>(now: &'a Option<Change>, sent: &'a [Sent]) -> Option<&'a Tx>
+    ensures { option_copied result ≡ told_tx now.now sent.now }
+{
+    if let Some(change) = now {
+        return Some(&change.tx);
+    }
+    let [first, ..] = sent else {
+        return None;
+    };
+    Some(first.message.kind().tx())
+}
+
+/// The transaction of which what came of an event tells.
+fn tx_of(entry: &Entry) -> Option<&Tx>
+    ensures { option_copied result ≡ tx_of entry.now }
+{
+    match entry {
+        Entry::Step(step) => told_tx(&step.now, step.sent.as_slice()),
+        Entry::Serve { now, sent, .. } => told_tx(now, sent.as_slice()),
+    }
+}
+
+/// Whether what came of an event tells of another transaction.
+fn is_of_other(tx: &Tx, entry: &Entry) -> bool
+    ensures { result ≡ is_of_other tx.now entry.now }
+{
+    match tx_of(entry) {
+        Some(other) => *other != *tx,
+        None => false,
+    }
+}
+
+/// Whether any of these tells of another transaction.
+fn tell_of_other(tx: &Tx, entries: &[Entry]) -> bool
+    ensures { result ≡ list_any (is_of_other tx.now) entries.now }
+{
+    entries.iter().any(|entry| is_of_other(tx, entry))
+}
+
+/// Whether a trace tells of several transactions.
+pub(crate) fn are_several(entries: &[Entry]) -> bool
+    ensures { result ≡ are_several entries.now }
+{
+    for (place, entry) in entries.iter().enumerate() {
+        if let Some(tx) = tx_of(entry) {
+            let (_, later) = entries.split_at(place + 1);
+            return tell_of_other(tx, later);
+        }
+    }
+    false
+}
