@@ -10,7 +10,7 @@ ghost use Rattle.protocol.specs.Effects.{Config, Effect};
 ghost use Rattle.protocol.specs.Nodes.{Memory, effect_of, is_acceptor_inside, is_form_of, is_message_inside};
 ghost use Rattle.node_core.specs.declared.role.Role.TheVariants as roles;
 ghost use Rattle.node_core.specs.Nodes.{AreSizes, datagram_input};
-ghost use Rattle.node_core.specs.Roles.{IsDecided, IsReadyFor, IsSame, RoleStands, Takes, decided};
+ghost use Rattle.node_core.specs.Roles.{IsDecided, HasRoomFor, IsSame, RoleStands, Takes, decided};
 ghost use Rattle.node_core.specs.Storing.{Carries, carried};
 
 use crate::config::Sizes;
@@ -55,7 +55,7 @@ fn is_of_cluster(sizes: Sizes, message: &MessageView<'_>) -> bool
 /// Makes an acceptor ready for a fact that it decided.
 fn make_ready(acceptor: &mut Acceptor, fact: &SpelledFact<'_>) -> Result<(), Refusal>
     ensures ok { OnOk result (IsSame (roles.Acceptor acceptor.old) (roles.Acceptor acceptor.new)
-        × IsReadyFor (roles.Acceptor acceptor.new) fact.now) }
+        × HasRoomFor (roles.Acceptor acceptor.new) fact.now) }
     ensures err { IfErr result (λ e. e ≡ NoMemory) }
 {
     acceptor.ready(fact.tx())
