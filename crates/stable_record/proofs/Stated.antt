@@ -3,7 +3,7 @@ use Rattle.std.proofs.Common.{◌≡◌, ℕ, ◌+◌, List, [], ◌∷◌, ◌+
 use Rattle.std.proofs.lemmas.List.{length-append}
 use Rattle.byteorder.specs.Numbers.{length-bytes_high_first}
 use Rattle.xid.specs.Transactions.{TxParts}
-use Rattle.wire.specs.Grammar.{number_spelling, rm_spelling, tx_spelling, vote_byte}
+use Rattle.wire.specs.Grammar.{number_spelling, rm_spelling, tx_spelling}
 use Rattle.wire.specs.Versions.{version_2}
 use Rattle.stable_record.specs.declared.entry.EntryKind.{EntryKind as Entry}
 use Rattle.stable_record.specs.declared.spelled_fact.FactRest.{FactRest}

@@ -3,9 +3,8 @@ use Rattle.std.proofs.Common.{◌≡◌, ◌==◌, ℕ, zero, suc, ◌<◌, ◌^
 use Rattle.std.proofs.Common.{cond, ltb, List, [], ◌∷◌, length, map, Option, Some, None, IsTrue}
 use Rattle.std.proofs.Common.{refl, sym, ap, subst, ◌∙◌, arith}
 use Rattle.std.specs.Prelude.{Result, Ok, Err}
-use Rattle.std.specs.List.{AllByRecursion, flat_map}
+use Rattle.std.specs.List.{AllByRecursion}
 use Rattle.std.proofs.lemmas.Bool.{ltb-true, lt-ltb}
-use Rattle.std.proofs.lemmas.List.{append-nil}
 use Rattle.xid.specs.Limits.{most_acceptors, most_branches}
 use Rattle.xid.specs.Names.{IsBytes}
 use Rattle.xid.specs.Transactions.{TxParts, IsTx, is_participant}
@@ -20,14 +19,13 @@ use Rattle.wire.specs.Messages.{IsMessage, IsLeaderBallot, IsBallot, IsReportBel
 use Rattle.byteorder.specs.Endian.{big_number}
 use Rattle.wire.specs.declared.grammar.VersionNumber.TheVariants.{Second}
 use Rattle.wire.specs.Versions.{version_2}
-use Rattle.wire.specs.Grammar.{report_item_spelling, accept_item_spelling}
 use Rattle.wire.specs.Reading.{byte_at, number_at, rm_at, vote_at, instance_at}
 use Rattle.wire.specs.Reading.{list_at, items_at, report_item_at, accept_item_at, b1b_at, b2b_at}
 use Rattle.wire.specs.Decoding.{is_report, is_message, decoded}
 use Rattle.wire.proofs.DecodingLemmas.{message_decides}
 use Rattle.wire.proofs.Decoded.{accepted}
 use Rattle.wire.proofs.Spelled.{some_same, step, unless, rm_spelled}
-use Rattle.wire.proofs.Spelled.{byte_spelled, number_spelled, report_item_spelled, accept_item_spelled, items_spelled}
+use Rattle.wire.proofs.Spelled.{byte_spelled, accept_item_spelled}
 use Rattle.wire.specs.SpelledItems.{reports_spelled, accepts_spelled, are_items, is_reported, is_accepted}
 use Rattle.wire.proofs.CountedItems.{are, are_again}
 

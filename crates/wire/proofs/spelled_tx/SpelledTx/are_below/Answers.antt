@@ -1,4 +1,4 @@
-use Rattle.std.proofs.Common.{◌<◌, ◌≤◌, length, [], sym, ◌∙◌, arith}
+use Rattle.std.proofs.Common.{◌<◌, length, [], sym, ◌∙◌, arith}
 use Rattle.xid.specs.Transactions.{BranchParts}
 use Rattle.wire.proofs.Walks.{took, some_next, count_is, all_stops, all_goes}
 use Rattle.wire.proofs.spelled_tx.SpelledTx.are_below.Goals as goal
