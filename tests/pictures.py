@@ -112,7 +112,7 @@ def look(path):
     tops = {head + 6 for head in picture.heads}
     check(f"{name}, its bands", [band for band in picture.bands if band[2] not in tops] == wanted)
     told = [f"{path.name}#L{at}" for at, _ in lines]
-    events = [f"{path.name}#L{at}" for at, words in lines if words[0] not in ("cluster", "table", "final")]
+    events = [f"{path.name}#L{at}" for at, words in lines if words[0] not in ("cluster", "table", "sent", "final")]
     check(f"{name}, its links", picture.links == told + events)
     served = any(words[0] == "serve" for _, words in lines)
     check(f"{name}, its note", any("no arrows" in note for note in picture.notes) == served)

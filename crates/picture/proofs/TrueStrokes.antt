@@ -175,12 +175,23 @@ sign_true sizes rows line label Misses = alone_true sizes rows Mark.Refusal besi
 sign_true sizes rows line label (Changes rm view) = each sizes rows (view_element (node_x sizes (R rm)) line label ∷ []) (tt, tt)
 sign_true sizes rows line label (Sends number sender receiver) = each sizes rows [] tt
 
-linked_true : (sizes : Sizes) (rows : List Row) (row : Row) → All (IsTrueOf sizes rows) (linked_elements sizes rows row)
-linked_true sizes rows row =
+link_true : (sizes : Sizes) (rows : List Row) (line : ℕ) (label : List ℕ) (what : What)
+    → (let row : Row = record { line = line; label = label; what = what } in
+    All (IsTrueOf sizes rows) (Link line ∷ sign_elements sizes rows row ++ EndLink ∷ []))
+link_true sizes rows line label what =
     let P : Element → Type 0 = IsTrueOf sizes rows in
-    let signs : List Element = sign_elements sizes rows row in
-    All-append P (Link row.line ∷ signs) (EndLink ∷ [])
-    (All-cons P (Link row.line) signs tt (sign_true sizes rows row.line row.label row.what)) (each sizes rows (EndLink ∷ []) (tt, tt))
+    let signs : List Element = sign_elements sizes rows (record { line = line; label = label; what = what }) in
+    All-append P (Link line ∷ signs) (EndLink ∷ [])
+    (All-cons P (Link line) signs tt (sign_true sizes rows line label what)) (each sizes rows (EndLink ∷ []) (tt, tt))
+
+linked_true : (sizes : Sizes) (rows : List Row) (line : ℕ) (label : List ℕ) (what : What)
+    → All (IsTrueOf sizes rows) (linked_elements sizes rows (record { line = line; label = label; what = what }))
+linked_true sizes rows line label (Sends number sender receiver) = each sizes rows [] tt
+linked_true sizes rows line label (At node mark) = link_true sizes rows line label (At node mark)
+linked_true sizes rows line label (Takes number is_whole mark) = link_true sizes rows line label (Takes number is_whole mark)
+linked_true sizes rows line label (Loses number) = link_true sizes rows line label (Loses number)
+linked_true sizes rows line label Misses = link_true sizes rows line label Misses
+linked_true sizes rows line label (Changes rm view) = link_true sizes rows line label (Changes rm view)
 
 -- ---- strokes
 
@@ -306,7 +317,7 @@ all_true bytes t =
     all_of_each P (change_elements count) (λ row. change_true t.sizes rows count row.line row.label row.what) rows in
     let strokes_true : All P strokes =
     all_of_own P (stroke_elements t.sizes rows) rows (λ row there. stroke_true t.sizes rows row.line row.label row.what there) in
-    let signs_true : All P signs = all_of_each P (linked_elements t.sizes rows) (λ row. linked_true t.sizes rows row) rows in
+    let signs_true : All P signs = all_of_each P (linked_elements t.sizes rows) (λ row. linked_true t.sizes rows row.line row.label row.what) rows in
     let backdrop_true : All P backdrop =
     All-append P (note ++ pages) changes (All-append P note pages (served_true t.sizes rows t.entries) pages_true) changes_true in
     let front_true : All P front =

@@ -255,6 +255,9 @@ sign_elements sizes rows row = signs row.what where
   signs (Changes rm view) = view_element (node_x sizes (R rm)) row.line row.label ∷ []
   signs (Sends number sender receiver) = []
 
--- the same, as a link to its line
+-- the same, as a link to its line; a datagram that is sent has none
 abbrev pub linked_elements : Sizes → List Row → Row → List Element
-linked_elements sizes rows row = Link row.line ∷ sign_elements sizes rows row ++ EndLink ∷ []
+linked_elements sizes rows row = linked row.what where
+  linked : What → List Element
+  linked (Sends number sender receiver) = []
+  linked what = Link row.line ∷ sign_elements sizes rows row ++ EndLink ∷ []

@@ -8,7 +8,7 @@ use Rattle.picture.specs.declared.elements.Pen.{Pen}
 use Rattle.picture.specs.declared.elements.Mark.{Mark}
 use Rattle.picture.specs.declared.elements.Element.{Element}
 use Rattle.picture.specs.declared.elements.Element.TheVariants.{Head, Link, Words, Stroke, Band, Stamp, EndLink, End}
-use Rattle.picture.specs.declared.style.TheConstants.{FURNITURE, OPENING, ROLE, TITLE}
+use Rattle.picture.specs.declared.style.TheConstants.{FURNITURE, OPENING, ROLE, TITLE, VIEW_BOX}
 
 -- ---- names in the style
 
@@ -82,11 +82,17 @@ place across down at = attribute across at.x ++ attribute down at.y
 
 -- ---- elements
 
--- the tag of a picture of this size
+-- two numbers, a space between them
+abbrev pub two_numbers : ℕ → ℕ → List ℕ
+two_numbers first second = decimal first ++ codes " " ++ decimal second
+
+-- the size of a picture
 abbrev pub size_text : ℕ → ℕ → List ℕ
-size_text width height =
-    OPENING.now ++ attribute (codes "width") width ++ attribute (codes "height") height
-    ++ ROLE.now
+size_text width height = OPENING.now ++ attribute (codes "width") width ++ attribute (codes "height") height
+
+-- how much of the plane a picture of this size shows: all of it
+abbrev pub view_box : ℕ → ℕ → List ℕ
+view_box width height = VIEW_BOX.now ++ two_numbers width height ++ ROLE.now
 
 -- the title of a picture
 abbrev pub title_text : List ℕ → List ℕ
@@ -94,7 +100,7 @@ title_text address = TITLE.now ++ escaped address ++ codes "</title>\n"
 
 -- the beginning of a picture: its size, its title, and what is the same in all pictures
 abbrev pub head_text : List ℕ → ℕ → ℕ → List ℕ
-head_text address width height = size_text width height ++ title_text address ++ FURNITURE.now
+head_text address width height = size_text width height ++ view_box width height ++ title_text address ++ FURNITURE.now
 
 -- the beginning of a link to a line, whose title is the line's number
 abbrev pub link_text : List ℕ → ℕ → List ℕ

@@ -460,7 +460,7 @@ fn draw_signs(
     }
 }
 
-/// The mark and the words of a row, as a link to its line.
+/// The mark and the words of a row, as a link to its line; a datagram that is sent has none.
 fn draw_linked(
     alloc: Global,
     out: &mut Vec<Element>,
@@ -471,9 +471,18 @@ fn draw_linked(
     ensures ok { OnOk result (out.new.items ≡ out.old.items ++ linked_elements sizes rows.now row.now) }
     ensures err { IfErr result (λ e. e ≡ NoMemory) }
 {
-    out.push(Element::Link { line: row.line })?;
-    draw_signs(alloc, out, sizes, rows, row)?;
-    out.push(Element::EndLink)?;
+    match row.what {
+        What::Sends { .. } => {}
+        What::At { .. }
+        | What::Takes { .. }
+        | What::Loses { .. }
+        | What::Misses
+        | What::Changes { .. } => {
+            out.push(Element::Link { line: row.line })?;
+            draw_signs(alloc, out, sizes, rows, row)?;
+            out.push(Element::EndLink)?;
+        }
+    }
     Ok(())
 }
 

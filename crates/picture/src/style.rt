@@ -2,9 +2,11 @@
 
 /// How each picture begins.
 pub(crate) const OPENING: &str = "<svg xmlns='http://www.w3.org/2000/svg'";
-/// What its tag has after its size.
+/// What its tag has after its size: how much of the plane it shows begins.
+pub(crate) const VIEW_BOX: &str = " viewBox='0 0 ";
+/// What its tag has after that.
 pub(crate) const ROLE: &str =
-    " role='graphics-document' aria-labelledby='title' aria-describedby='desc'>\n";
+    "' role='graphics-document' aria-labelledby='title' aria-describedby='desc'>\n";
 /// How its title begins.
 pub(crate) const TITLE: &str = "<title id='title'>A run of pcommit: ";
 /// What stands in each picture after its title: how to read it, how its parts look, and the legend.

@@ -4,10 +4,10 @@ ghost use Rattle.std.specs.Prelude.{◌≡◌, ◌++◌, ℕ, List, true, decima
 ghost use Rattle.std.specs.List.{flat_map, list_all};
 ghost use Rattle.xid.specs.declared.refusals.Refusal.TheVariants.{NoMemory};
 ghost use Rattle.picture.specs.Elements.{attribute, element_text, escaped, escaped_byte, head_text, is_harmless, lettering_name};
-ghost use Rattle.picture.specs.Elements.{link_text, mark_name, opened, pen_name, view_name, band_text, stamp_text, stroke_text, words_text, place, size_text, title_text};
+ghost use Rattle.picture.specs.Elements.{link_text, mark_name, opened, pen_name, view_name, band_text, stamp_text, stroke_text, words_text, place, size_text, title_text, two_numbers, view_box};
 
 use crate::elements::{Element, Lettering, Mark, Pen, Point};
-use crate::style::{FURNITURE, OPENING, ROLE, TITLE};
+use crate::style::{FURNITURE, OPENING, ROLE, TITLE, VIEW_BOX};
 use itoa::Buffer;
 use protocol::View;
 use std::alloc::Global;
@@ -146,7 +146,18 @@ fn put_place(out: &mut Vec<u8>, across: &[u8], down: &[u8], at: Point) -> Result
     Ok(())
 }
 
-/// The tag of the picture.
+/// Two numbers, a space between them.
+fn put_two_numbers(out: &mut Vec<u8>, first: u64, second: u64) -> Result<(), Refusal>
+    ensures ok { OnOk result (out.new.items ≡ out.old.items ++ two_numbers first second) }
+    ensures err { IfErr result (λ e. e ≡ NoMemory) }
+{
+    put_number(out, first)?;
+    out.push(b' ')?;
+    put_number(out, second)?;
+    Ok(())
+}
+
+/// The size of the picture.
 fn put_size(out: &mut Vec<u8>, width: u64, height: u64) -> Result<(), Refusal>
     ensures ok { OnOk result (out.new.items ≡ out.old.items ++ size_text width height) }
     ensures err { IfErr result (λ e. e ≡ NoMemory) }
@@ -154,6 +165,16 @@ fn put_size(out: &mut Vec<u8>, width: u64, height: u64) -> Result<(), Refusal>
     out.extend_from_slice(OPENING.as_bytes())?;
     put_attribute(out, b"width", width)?;
     put_attribute(out, b"height", height)?;
+    Ok(())
+}
+
+/// How much of the plane the picture shows: all of it, so that it may be scaled.
+fn put_view_box(out: &mut Vec<u8>, width: u64, height: u64) -> Result<(), Refusal>
+    ensures ok { OnOk result (out.new.items ≡ out.old.items ++ view_box width height) }
+    ensures err { IfErr result (λ e. e ≡ NoMemory) }
+{
+    out.extend_from_slice(VIEW_BOX.as_bytes())?;
+    put_two_numbers(out, width, height)?;
     out.extend_from_slice(ROLE.as_bytes())?;
     Ok(())
 }
@@ -175,6 +196,7 @@ fn put_head(out: &mut Vec<u8>, address: &[u8], width: u64, height: u64) -> Resul
     ensures err { IfErr result (λ e. e ≡ NoMemory) }
 {
     put_size(out, width, height)?;
+    put_view_box(out, width, height)?;
     put_title(out, address)?;
     out.extend_from_slice(FURNITURE.as_bytes())?;
     Ok(())
