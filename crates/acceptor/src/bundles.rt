@@ -26,7 +26,12 @@ fn put_item<T: Copy>(items: &mut Option<Items<T>>, item: Option<T>)
 }
 
 /// What is reported of the instance at a place of a transaction, where it stands below a ballot.
-fn report_at(tx: &SpelledTx<'_>, slots: &[KeptSlot], ballot: Ballot, place: usize) -> Option<InstanceReport>
+fn report_at(
+    tx: &SpelledTx<'_>,
+    slots: &[KeptSlot],
+    ballot: Ballot,
+    place: usize,
+) -> Option<InstanceReport>
     requires { place < length tx.now.branches }
     ensures value { result ≡ report_item (slots_of tx.now slots.now) tx.now ballot (nth_branch tx.now place).rm }
     ensures below { IfSome result (λ item. IsReportBelow ballot item.report) }
@@ -43,7 +48,11 @@ fn report_at(tx: &SpelledTx<'_>, slots: &[KeptSlot], ballot: Ballot, place: usiz
 }
 
 /// What is reported of the instances of a transaction that stand below a ballot, where there are any.
-pub fn reports_below(tx: &SpelledTx<'_>, slots: &[KeptSlot], ballot: Ballot) -> Option<Items<InstanceReport>>
+pub fn reports_below(
+    tx: &SpelledTx<'_>,
+    slots: &[KeptSlot],
+    ballot: Ballot,
+) -> Option<Items<InstanceReport>>
     ensures value { MatchOption result (is_some_below (slots_of tx.now slots.now) tx.now ballot ≡ false)
         (λ items. (is_some_below (slots_of tx.now slots.now) tx.now ballot ≡ true)
         × (items ≡ reports_of (slots_of tx.now slots.now) tx.now ballot)) }

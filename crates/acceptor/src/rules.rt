@@ -163,11 +163,7 @@ fn accept_messages<'a>(
 }
 
 /// The accept to be stored, where it isn't what stands.
-fn accept_fact<'a>(
-    tx: &SpelledTx<'a>,
-    slot: &Slot,
-    accepted: Accepted,
-) -> Option<SpelledFact<'a>>
+fn accept_fact<'a>(tx: &SpelledTx<'a>, slot: &Slot, accepted: Accepted) -> Option<SpelledFact<'a>>
     requires { IsMessage (P2a tx.now accepted.instance accepted.ballot accepted.vote) }
     ensures { result ≡ if is_accepted_in slot.now accepted.ballot accepted.vote then None
         else Some (Accept tx.now accepted.instance accepted.ballot accepted.vote) }

@@ -92,7 +92,12 @@ pub fn is_accepted(slot: &Slot, ballot: Ballot, vote: Vote) -> bool
 }
 
 /// Whether a promise plays: the transaction has the instance, which stands below the ballot.
-fn can_promise(tx: &SpelledTx<'_>, slots: &[KeptSlot], instance: ManagerNumber, ballot: Ballot) -> bool
+fn can_promise(
+    tx: &SpelledTx<'_>,
+    slots: &[KeptSlot],
+    instance: ManagerNumber,
+    ballot: Ballot,
+) -> bool
     ensures { result ≡ plays_at_acceptor (slots_of tx.now slots.now) (Promise tx.now instance ballot) }
 {
     if !tx.is_participant(instance) {

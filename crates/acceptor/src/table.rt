@@ -162,7 +162,12 @@ impl Table {
 
 /// Puts a transaction that was seen, by its number, after those that have begun, unless it is there. At `NoMemory`, the only refusal, there
 /// was no room for it, and all is as before.
-pub fn begin(begun: &mut Order, table: &Table, number: usize, tx: &SpelledTx<'_>) -> Result<(), Refusal>
+pub fn begin(
+    begun: &mut Order,
+    table: &Table,
+    number: usize,
+    tx: &SpelledTx<'_>,
+) -> Result<(), Refusal>
     requires number { number ≡ place_in table.now.transactions tx.now }
     requires seen { IsSeen table.now tx.now }
     requires inside { AreInside (length table.now.transactions) begun.old.numbers }

@@ -1,12 +1,10 @@
 -- An acceptor's reply by its spelled bytes, and where it stands among what a node sends.
-use Rattle.std.proofs.Common.{◌≡◌, ◌∙◌, ℕ, zero, suc, ◌<◌, ◌+◌, List, [], ◌∷◌, ◌++◌, length, take, refl, sym, ap, subst, arith}
-use Rattle.std.specs.Prelude.{slice_index_or, slice_index}
+use Rattle.std.proofs.Common.{◌≡◌, ℕ, zero, suc, ◌<◌, List, [], ◌∷◌, length, take, ap, arith}
 use Rattle.wire.specs.declared.message.Kind.{Kind}
 use Rattle.wire.specs.Decoding.{message_at}
 use Rattle.wire.specs.Grammar.{Spells}
 use Rattle.wire.proofs.DecodingLemmas.{found}
 use Rattle.protocol.specs.declared.decisions.Address.{Address}
-use Rattle.protocol.specs.declared.decisions.Outgoing.{Outgoing}
 use Rattle.node_core.specs.Sends.{addressed, IsReplied}
 
 pub one_replied : (to : Address) (bytes : List ℕ) (message : Kind) → Spells message bytes

@@ -3,7 +3,7 @@ use Rattle.std.proofs.Common.{◌≡◌, ℕ, ◌+◌, List, [], ◌∷◌, ◌+
 use Rattle.std.proofs.lemmas.List.{length-append}
 use Rattle.byteorder.specs.Numbers.{length-bytes_high_first}
 use Rattle.xid.specs.Transactions.{TxParts}
-use Rattle.wire.specs.Grammar.{number_spelling, rm_spelling, tx_spelling, vote_byte}
+use Rattle.wire.specs.Grammar.{number_spelling, rm_spelling, tx_spelling}
 use Rattle.wire.specs.Versions.{version_2}
 use Rattle.stable_record.specs.declared.entry.EntryKind.{EntryKind as Entry}
 use Rattle.stable_record.specs.declared.spelled_fact.FactRest.{FactRest}
@@ -12,7 +12,8 @@ use Rattle.stable_record.specs.Grammar.{frame, body_spelling}
 use Rattle.stable_record.specs.Spelled.{stated, stated_byte, stated_spelling}
 
 pub stated_body : (tx : TxParts) (rest : FactRest)
-    → body_spelling version_2 (Entry.Fact (stated tx rest)) ≡ version_2.byte ∷ stated_byte rest ∷ (tx_spelling version_2 tx ++ stated_spelling rest)
+    → body_spelling version_2 (Entry.Fact (stated tx rest)) ≡ version_2.byte ∷ stated_byte rest ∷
+    (tx_spelling version_2 tx ++ stated_spelling rest)
 stated_body tx (rests.Promise instance ballot) = refl
 stated_body tx (rests.Accept instance ballot vote) = refl
 stated_body tx (rests.PromiseAll ballot) = refl
@@ -42,7 +43,8 @@ pub framed : (old a b c d : List ℕ) (n : ℕ) (tx : TxParts) (spelled : List �
     → a ≡ old ++ number_spelling n → b ≡ a ++ version_2.byte ∷ stated_byte rest ∷ [] → c ≡ b ++ spelled → d ≡ c ++ stated_spelling rest
     → d ≡ old ++ frame version_2 (Entry.Fact (stated tx rest))
 framed old a b c d n tx spelled rest is len ea eb ec ed =
-    let body : version_2.byte ∷ stated_byte rest ∷ (spelled ++ stated_spelling rest) ≡ body_spelling version_2 (Entry.Fact (stated tx rest)) =
+    let body : version_2.byte ∷ stated_byte rest ∷ (spelled ++ stated_spelling rest) ≡ body_spelling version_2
+    (Entry.Fact (stated tx rest)) =
     ap (λ (xs : List ℕ). version_2.byte ∷ stated_byte rest ∷ (xs ++ stated_spelling rest)) is ∙ sym (stated_body tx rest) in
     let all : n ≡ length (version_2.byte ∷ stated_byte rest ∷ (spelled ++ stated_spelling rest)) =
     omega (arith, len, length-append spelled (stated_spelling rest)) in

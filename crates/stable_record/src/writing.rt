@@ -117,7 +117,11 @@ fn byte_of_fact(fact: &FactKind) -> u8
     }
 }
 
-pub(crate) fn put_instance(out: &mut Vec<u8>, instance: ManagerNumber, ballot: u32) -> Result<(), AllocError>
+pub(crate) fn put_instance(
+    out: &mut Vec<u8>,
+    instance: ManagerNumber,
+    ballot: u32,
+) -> Result<(), AllocError>
     ensures { OnOk result (out.new.items ≡ out.old.items ++ (rm_spelling version_2 instance ++ number_spelling ballot)) }
 {
     put_short(out, instance)?;

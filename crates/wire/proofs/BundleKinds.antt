@@ -1,10 +1,10 @@
 -- The bundles that bytes spell, by what was passed over.
-use Rattle.std.proofs.Common.{◌≡◌, ◌==◌, ℕ, zero, suc, ◌<◌, ◌^◌, ◌&&◌, Bool, true, false, cond, ltb, List, [], ◌∷◌, length, map, Option, Some, None, IsTrue}
+use Rattle.std.proofs.Common.{◌≡◌, ◌==◌, ℕ, zero, suc, ◌<◌, ◌^◌, ◌&&◌, Bool, true, false}
+use Rattle.std.proofs.Common.{cond, ltb, List, [], ◌∷◌, length, map, Option, Some, None, IsTrue}
 use Rattle.std.proofs.Common.{refl, sym, ap, subst, ◌∙◌, arith}
 use Rattle.std.specs.Prelude.{Result, Ok, Err}
-use Rattle.std.specs.List.{AllByRecursion, flat_map}
+use Rattle.std.specs.List.{AllByRecursion}
 use Rattle.std.proofs.lemmas.Bool.{ltb-true, lt-ltb}
-use Rattle.std.proofs.lemmas.List.{append-nil}
 use Rattle.xid.specs.Limits.{most_acceptors, most_branches}
 use Rattle.xid.specs.Names.{IsBytes}
 use Rattle.xid.specs.Transactions.{TxParts, IsTx, is_participant}
@@ -19,12 +19,13 @@ use Rattle.wire.specs.Messages.{IsMessage, IsLeaderBallot, IsBallot, IsReportBel
 use Rattle.byteorder.specs.Endian.{big_number}
 use Rattle.wire.specs.declared.grammar.VersionNumber.TheVariants.{Second}
 use Rattle.wire.specs.Versions.{version_2}
-use Rattle.wire.specs.Grammar.{report_item_spelling, accept_item_spelling}
-use Rattle.wire.specs.Reading.{byte_at, number_at, rm_at, vote_at, instance_at, list_at, items_at, report_item_at, accept_item_at, b1b_at, b2b_at}
+use Rattle.wire.specs.Reading.{byte_at, number_at, rm_at, vote_at, instance_at}
+use Rattle.wire.specs.Reading.{list_at, items_at, report_item_at, accept_item_at, b1b_at, b2b_at}
 use Rattle.wire.specs.Decoding.{is_report, is_message, decoded}
 use Rattle.wire.proofs.DecodingLemmas.{message_decides}
 use Rattle.wire.proofs.Decoded.{accepted}
-use Rattle.wire.proofs.Spelled.{some_same, step, unless, rm_spelled, byte_spelled, number_spelled, report_item_spelled, accept_item_spelled, items_spelled}
+use Rattle.wire.proofs.Spelled.{some_same, step, unless, rm_spelled}
+use Rattle.wire.proofs.Spelled.{byte_spelled, accept_item_spelled}
 use Rattle.wire.specs.SpelledItems.{reports_spelled, accepts_spelled, are_items, is_reported, is_accepted}
 use Rattle.wire.proofs.CountedItems.{are, are_again}
 
@@ -115,7 +116,8 @@ module _ (tx : TxParts) (bytes rest reports : List ℕ) (ballot acceptor : ℕ) 
       said_ok : List InstanceReport → Result Kind Refusal
       said_ok items = Ok (B1b tx ballot acceptor items)
 
-  pub b1b_refused : (are_items report_item_at (is_reported tx ballot) report_instance reports ≡ false) → Err BadMessage ≡ decoded (b1b_at tx bytes)
+  pub b1b_refused : (are_items report_item_at (is_reported tx ballot) report_instance reports ≡ false)
+      → Err BadMessage ≡ decoded (b1b_at tx bytes)
   b1b_refused fails = by (items_at report_item_at reports) refl
     where
       asked : (items : List InstanceReport) (t : Bool) → is_message (B1b tx ballot acceptor items) ≡ t
@@ -131,7 +133,8 @@ module _ (tx : TxParts) (bytes rest reports : List ℕ) (ballot acceptor : ℕ) 
           absurd (cc (all, fails))
       asked items false et er = refl
 
-      by : (read : Option (List InstanceReport × List ℕ)) → items_at report_item_at reports ≡ read → Err BadMessage ≡ decoded (b1b_at tx bytes)
+      by : (read : Option (List InstanceReport × List ℕ)) → items_at report_item_at reports ≡ read
+          → Err BadMessage ≡ decoded (b1b_at tx bytes)
       by None er = rw (b1b_none er) refl
       by (Some (items, [])) er = rw (b1b_read (items, []) er) (asked items (is_message (B1b tx ballot acceptor items)) refl er)
       by (Some (items, x ∷ xs)) er = rw (b1b_read (items, x ∷ xs) er) refl
@@ -160,7 +163,8 @@ item_fits : (bytes : List ℕ) (x : InstanceAccept × List ℕ) → IsBytes byte
 unfolding accept_item_at
 item_fits bytes x is e =
     step (instance_at version_2 bytes) _ e (λ i ei e. step (vote_at i.2) _ e (λ vote ev e.
-    subst (λ (x : InstanceAccept × List ℕ). IsBallot x.0.ballot) (some_same (record { instance = i.0; ballot = i.1; vote = vote.0 }, vote.1) x e)
+    subst (λ (x : InstanceAccept × List ℕ). IsBallot x.0.ballot)
+    (some_same (record { instance = i.0; ballot = i.1; vote = vote.0 }, vote.1) x e)
     (instance_fits bytes i is ei)))
 
 list_fits : (n : ℕ) (bytes : List ℕ) (x : List InstanceAccept × List ℕ) → IsBytes bytes → list_at accept_item_at n bytes ≡ Some x
@@ -191,7 +195,8 @@ module _ (tx : TxParts) (bytes accepts : List ℕ) (acceptor : ℕ) (ea : Some (
   unfolding accepts_spelled
   accepts_read items e = rw e refl
 
-  b2b_read : (x : List InstanceAccept × List ℕ) → items_at accept_item_at accepts ≡ Some x → b2b_at tx bytes ≡ Some (B2b tx acceptor x.0, x.1)
+  b2b_read : (x : List InstanceAccept × List ℕ) → items_at accept_item_at accepts ≡ Some x
+      → b2b_at tx bytes ≡ Some (B2b tx acceptor x.0, x.1)
   unfolding b2b_at
   b2b_read x e = rw (sym ea, e) refl
 
@@ -238,7 +243,8 @@ module _ (tx : TxParts) (bytes accepts : List ℕ) (acceptor : ℕ) (ea : Some (
           absurd (cc (all, fails))
       asked items false et er = refl
 
-      by : (read : Option (List InstanceAccept × List ℕ)) → items_at accept_item_at accepts ≡ read → Err BadMessage ≡ decoded (b2b_at tx bytes)
+      by : (read : Option (List InstanceAccept × List ℕ)) → items_at accept_item_at accepts ≡ read
+          → Err BadMessage ≡ decoded (b2b_at tx bytes)
       by None er = rw (b2b_none er) refl
       by (Some (items, [])) er = rw (b2b_read (items, []) er) (asked items (is_message (B2b tx acceptor items)) refl er)
       by (Some (items, x ∷ xs)) er = rw (b2b_read (items, x ∷ xs) er) refl

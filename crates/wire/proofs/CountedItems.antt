@@ -1,5 +1,6 @@
 -- Passing over the items of a bundle.
-use Rattle.std.proofs.Common.{◌≡◌, ℕ, zero, suc, ◌+◌, ◌-◌, ◌<◌, ◌≤◌, ◌&&◌, ◌==◌, Bool, true, false, cond, ltb, leb, List, [], ◌∷◌, length, map}
+use Rattle.std.proofs.Common.{◌≡◌, ℕ, zero, suc, ◌+◌, ◌-◌, ◌<◌, ◌≤◌, ◌&&◌, ◌==◌}
+use Rattle.std.proofs.Common.{Bool, true, false, cond, ltb, leb, List, [], ◌∷◌, length, map}
 use Rattle.std.proofs.Common.{Option, Some, None, refl, sym, ap, subst, ◌∙◌, arith}
 use Rattle.std.specs.List.{AllByRecursion}
 use Rattle.std.specs.List.Sorted.{IsStrictlyIncreasing}
@@ -79,11 +80,13 @@ module _ {X : Type 0} (one : List ℕ → Option (X × List ℕ)) (is : X → Bo
   ended [] e = refl
   ended (x ∷ xs) e = absurd (cc (e))
 
-  ascend_with : (n : ℕ) (xs : List X) → IsFrom (n + 1) xs → IsStrictlyIncreasing (map instance xs) → IsStrictlyIncreasing (n ∷ map instance xs)
+  ascend_with : (n : ℕ) (xs : List X) → IsFrom (n + 1) xs → IsStrictlyIncreasing (map instance xs)
+      → IsStrictlyIncreasing (n ∷ map instance xs)
   ascend_with n [] from up = λ k lt. absurd (omega arith)
   ascend_with n (x ∷ xs) from up = before n (instance x) (map instance xs) (omega (arith, from)) up
 
-  reads : (n : ℕ) (bytes : List ℕ) (x : X) (after : List ℕ) (xs : List X) → one bytes ≡ Some (x, after) → list_at one n after ≡ Some (xs, [])
+  reads : (n : ℕ) (bytes : List ℕ) (x : X) (after : List ℕ) (xs : List X) → one bytes ≡ Some (x, after)
+      → list_at one n after ≡ Some (xs, [])
       → list_at one (suc n) bytes ≡ Some (x ∷ xs, [])
   unfolding list_at
   reads n bytes x after xs e es = rw (e, es) refl

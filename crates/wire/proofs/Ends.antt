@@ -19,7 +19,8 @@ use Rattle.wire.specs.Reading.{number_at, rm_at, component_at, byte_at, branch_a
 use Rattle.wire.specs.Decoding.{tx_in}
 use Rattle.wire.proofs.Ascending.{before, later}
 use Rattle.wire.proofs.Fields.{wide_2, in_version_2, tx_taken, branch_again, number_again, component_again}
-use Rattle.wire.proofs.Spelled.{Front, some_same, step, unless, byte_spelled, number_spelled, component_spelled, branch_spelled, bytes_after}
+use Rattle.wire.proofs.Spelled.{Front, some_same, step, unless}
+use Rattle.wire.proofs.Spelled.{byte_spelled, number_spelled, component_spelled, branch_spelled, bytes_after}
 use Rattle.wire.proofs.Spelled as spelled
 use Rattle.wire.proofs.TakenTx.{in_spelled, in_again}
 use Rattle.wire.specs.Spelled.{tx_spelled, IsSpelled, manager_at, after_branches, after_tx}
@@ -119,7 +120,8 @@ found (suc n) least bytes rest is e =
     step (manager_at least bytes) _ e (λ m em e.
     let one = passed least bytes m is em in
     let others = found n (m.0 + 1) m.1 rest one.after e in
-    let from : IsFrom (one.branch.rm + 1) others.branches = subst (λ (rm : ℕ). IsFrom (rm + 1) others.branches) (sym one.same) others.from in
+    let from : IsFrom (one.branch.rm + 1) others.branches = subst (λ (rm : ℕ). IsFrom (rm + 1) others.branches) (sym one.same)
+    others.from in
     record {
       branches = one.branch ∷ others.branches;
       read = rw (one.read, others.read) refl;
@@ -173,7 +175,8 @@ All_of P [] each k d lt = absurd (omega arith)
 All_of P (x ∷ xs) each zero d lt = each.0
 All_of P (x ∷ xs) each (suc k) d lt = All_of P xs each.1 k d (omega arith)
 
-tx_read : (bytes rest : List ℕ) (format count : ℕ × List ℕ) (gtrid : List ℕ × List ℕ) (bs : List BranchParts) → number_at bytes ≡ Some format
+tx_read : (bytes rest : List ℕ) (format count : ℕ × List ℕ) (gtrid : List ℕ × List ℕ) (bs : List BranchParts)
+    → number_at bytes ≡ Some format
     → component_at format.1 ≡ Some gtrid → byte_at gtrid.1 ≡ Some count → ltb most_branches count.0 ≡ false
     → branches_at version_2 count.0 count.1 ≡ Some (bs, rest)
     → tx_at version_2 bytes ≡ Some (record { format = format.0; gtrid = gtrid.0; branches = bs }, rest)
@@ -277,6 +280,7 @@ module _ (least count i : ℕ) (bytes : List ℕ) where
 -- the bytes of a transaction that was passed over
 pub cut : (bytes rest : List ℕ) (e : Ends bytes rest) → take (length bytes - length rest) bytes ≡ tx_spelling version_2 e.tx
 cut bytes rest e =
-    let len : length bytes ≡ length (tx_spelling version_2 e.tx) + length rest = ap length e.front ∙ length-append (tx_spelling version_2 e.tx) rest in
+    let len : length bytes ≡ length (tx_spelling version_2 e.tx) + length rest = ap length e.front ∙ length-append
+    (tx_spelling version_2 e.tx) rest in
     let n : length (tx_spelling version_2 e.tx) ≡ length bytes - length rest = omega (arith, len) in
     ap (take (length bytes - length rest)) e.front ∙ take_at (tx_spelling version_2 e.tx) rest (length bytes - length rest) n

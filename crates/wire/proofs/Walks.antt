@@ -1,5 +1,6 @@
 -- Walking over the branches on their bytes.
-use Rattle.std.proofs.Common.{◌≡◌, ◌≢◌, eqb, ℕ, zero, suc, ◌+◌, ◌-◌, ◌<◌, ◌≤◌, Bool, true, false, ltb, List, [], ◌∷◌, ◌++◌, length, take, drop, get_or}
+use Rattle.std.proofs.Common.{◌≡◌, ◌≢◌, eqb, ℕ, zero, suc, ◌+◌, ◌-◌, ◌<◌, ◌≤◌, Bool}
+use Rattle.std.proofs.Common.{true, false, ltb, List, [], ◌∷◌, ◌++◌, length, take, drop, get_or}
 use Rattle.std.proofs.Common.{Option, Some, None, IsTrue, refl, sym, ap, ◌∙◌, arith, slice_index}
 use Rattle.std.specs.Prelude.{is_some, nat_lt}
 use Rattle.std.specs.List.{flat_map, All, list_all, list_any}
@@ -91,8 +92,11 @@ pub record Took (bs : List BranchParts) (i : ℕ) (d : BranchParts) (rm : ℕ) (
   pub name : bqual ≡ (get_or bs i d).bqual
   pub after : rest ≡ from bs (i + 1)
 
-pub took : (bs : List BranchParts) (i : ℕ) (bytes : List ℕ) (d : BranchParts) (rm : ℕ) (bqual rest : List ℕ) → All IsBranch bs → i < length bs
-    → bytes ≡ from bs i → ◌≡◌ {A = Option (BranchParts × List ℕ)} (Some (record { rm = rm; bqual = bqual }, rest)) (branch_at version_2 bytes) → Took bs i d rm bqual rest
+pub took : (bs : List BranchParts) (i : ℕ) (bytes : List ℕ) (d : BranchParts) (rm : ℕ) (bqual rest : List ℕ) → All IsBranch bs
+    → i < length bs
+    → bytes ≡ from bs i
+    → ◌≡◌ {A = Option (BranchParts × List ℕ)} (Some (record { rm = rm; bqual = bqual }, rest)) (branch_at version_2 bytes)
+    → Took bs i d rm bqual rest
 took bs i bytes d rm bqual rest each lt e got =
     let same = some_same (record { rm = rm; bqual = bqual }, rest) (get_or bs i d, from bs (i + 1)) (got ∙ next bs i bytes d each lt e) in
     record {

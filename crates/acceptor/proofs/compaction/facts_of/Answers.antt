@@ -14,5 +14,6 @@ loop-i-preserved c =
     c.put_transaction.new.facts.items _ (omega (arith, c.loop-i-test.true, c.begun_count-i-end.ensures))
     (get_or_from_slice_get txs c.loop-i.i c.in-Some.tx c.in-Some.tx (sym c.in-Some.ensures))
     (c.in_ok-put_transaction.ensures.ok
-    ∙ ap (λ row. c.loop-i.facts.items ++ transaction_facts (slots_of c.in-Some.tx row) c.in-Some.tx) (c.slots_of-slots.ensures ∙ ap (slots_in c.args.table.now) c.of.ensures))
+    ∙ ap (λ row. c.loop-i.facts.items ++ transaction_facts (slots_of c.in-Some.tx row) c.in-Some.tx)
+    (c.slots_of-slots.ensures ∙ ap (slots_in c.args.table.now) c.of.ensures))
     c.loop-i.invariant

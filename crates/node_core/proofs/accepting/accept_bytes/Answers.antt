@@ -13,7 +13,8 @@ pub returns-in-Err-clause-carries : goal.returns-in-Err-clause-carries
 returns-in-Err-clause-carries g c = λ config facts memory sizes s.
     let refused = subst (λ r. IfErr r (λ e. (e ≡ BadMessage) × ((k : Kind) → IsMessage k → c.args.bytes.now ≢ spelling k))) c.in-Err.is
     c.view_of.ensures.err in
-    noise_done config c.args.who facts memory _ (roles.Acceptor c.args.acceptor.now) c.args.bytes.now c.refuse.new.self refused.1 c.refuse.ensures s
+    noise_done config c.args.who facts memory _ (roles.Acceptor c.args.acceptor.now) c.args.bytes.now c.refuse.new.self refused.1
+    c.refuse.ensures s
 
 pub returns-in-Ok-clause-carries : goal.returns-in-Ok-clause-carries
 returns-in-Ok-clause-carries g c = λ config facts memory sizes s.

@@ -1,6 +1,5 @@
-use Rattle.std.proofs.Common.{ap, subst}
+use Rattle.std.proofs.Common.{subst}
 use Rattle.node_core.specs.Roles.{RoleStands}
-use Rattle.node_core.specs.Sparing.{hears_freely}
 use Rattle.node_core.proofs.acting.hear.Goals as goal
 
 pub returns-in-Acceptor-clause-carries : goal.returns-in-Acceptor-clause-carries

@@ -8,7 +8,8 @@ returns-in_default c =
 
 pub loop-preserved : goal.loop-preserved
 loop-preserved c =
-    sym (goes c.loop.least c.args.count c.loop.counter c.loop.rest.now c.in-Some.rm c.in-Some.after.now c.loop-test.true c.in-Some.ensures.value)
+    sym (goes c.loop.least c.args.count c.loop.counter c.loop.rest.now c.in-Some.rm c.in-Some.after.now c.loop-test.true
+    c.in-Some.ensures.value)
     ∙ c.loop.invariant
 
 pub returns : goal.returns

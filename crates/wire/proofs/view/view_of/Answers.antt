@@ -23,7 +23,8 @@ use Rattle.wire.proofs.view.view_of.Goals as goal
 heads : (k : Kind) (bytes after : List ℕ) (code : ℕ) → bytes ≡ version_2.byte ∷ code ∷ after → bytes ≡ spelling k
     → (code ≡ kind_byte k) × (after ≡ tx_spelling version_2 (message_tx k) ++ rest_spelling version_2 k)
 heads k bytes after code read e =
-    codes version_2.byte code version_2.byte (kind_byte k) after (tx_spelling version_2 (message_tx k) ++ rest_spelling version_2 k) (sym read ∙ e)
+    codes version_2.byte code version_2.byte (kind_byte k) after (tx_spelling version_2 (message_tx k) ++ rest_spelling version_2 k)
+    (sym read ∙ e)
 
 -- a transaction that stands at the front is taken
 front_taken : (bytes : List ℕ) (tx : TxParts) (rest : List ℕ) → IsTx tx → bytes ≡ tx_spelling version_2 tx ++ rest
@@ -39,7 +40,8 @@ returns-in_default-take-clause-err c = (
   λ k is e.
       let head = heads k c.args.bytes.now c.in-Some.after.now c.in-Some.code c.in-Some.ensures e in
       let t = front_taken c.in-Some.after.now (message_tx k) (rest_spelling version_2 k) (tx_valid k is) head.1 in
-      let none : ◌≡◌ {A = Option (TxParts × List ℕ)} None (Some (message_tx k, rest_spelling version_2 k)) = c.in_default-take.ensures ∙ t in
+      let none : ◌≡◌ {A = Option (TxParts × List ℕ)} None (Some (message_tx k, rest_spelling version_2 k)) = c.in_default-take.ensures ∙
+      t in
       absurd (cc (none)),
 )
 
@@ -49,7 +51,8 @@ returns-in_default-rest_of-clause-err c =
     (λ (k : Kind). c.args.bytes.now ≡ spelling k) c.in_default-rest_of.ensures (λ k is e.
     let head = heads k c.args.bytes.now c.in-Some.after.now c.in-Some.code c.in-Some.ensures e in
     let t = front_taken c.in-Some.after.now (message_tx k) (rest_spelling version_2 k) (tx_valid k is) head.1 in
-    let same = some_same (c.in-Some-take.tx, c.in-Some-take.last.now) (message_tx k, rest_spelling version_2 k) (c.in-Some-take.ensures ∙ t) in
+    let same = some_same (c.in-Some-take.tx, c.in-Some-take.last.now) (message_tx k, rest_spelling version_2 k)
+    (c.in-Some-take.ensures ∙ t) in
     let about : c.in-Some-take.tx ≡ message_tx k = ap (λ (x : TxParts × List ℕ). x.0) same in
     let after : c.in-Some-take.last.now ≡ rest_spelling version_2 k = ap (λ (x : TxParts × List ℕ). x.1) same in
     let taken : kind_at c.in-Some.code c.in-Some-take.tx c.in-Some-take.last.now ≡ Some (k, []) =

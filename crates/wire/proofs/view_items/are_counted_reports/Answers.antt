@@ -10,42 +10,55 @@ use Rattle.wire.proofs.BundleKinds.{not_below, below_again}
 use Rattle.wire.proofs.view_items.are_counted_reports.Goals as goal
 
 pub returns-in_default : goal.returns-in_default
-returns-in_default c = sym (next_none report_item_at (is_reported c.args.tx.now c.args.ballot) (λ item. item.instance) c.loop.least c.args.count c.loop.counter c.loop.rest.now c.loop-test.true c.in_default.ensures) ∙ c.loop.invariant
+returns-in_default c =
+    sym (next_none report_item_at (is_reported c.args.tx.now c.args.ballot) (λ item. item.instance) c.loop.least c.args.count
+    c.loop.counter c.loop.rest.now c.loop-test.true c.in_default.ensures) ∙ c.loop.invariant
 
 pub returns-then-not-is_participant : goal.returns-then-not-is_participant
 returns-then-not-is_participant c =
-    let other : is_participant c.args.tx.now c.in-Some.item.instance ≡ false = sym c.is_participant.ensures.value ∙ c.if-not-is_participant.true in
+    let other : is_participant c.args.tx.now c.in-Some.item.instance ≡ false = sym c.is_participant.ensures.value ∙
+    c.if-not-is_participant.true in
     let fails : is_reported c.args.tx.now c.args.ballot c.in-Some.item ≡ false = rw other refl in
-    sym (next_fails report_item_at (is_reported c.args.tx.now c.args.ballot) (λ item. item.instance) c.loop.least c.args.count c.loop.counter c.loop.rest.now c.loop-test.true c.in-Some.item c.in-Some.after.now c.in-Some.ensures fails) ∙ c.loop.invariant
+    sym (next_fails report_item_at (is_reported c.args.tx.now c.args.ballot) (λ item. item.instance) c.loop.least c.args.count
+    c.loop.counter c.loop.rest.now c.loop-test.true c.in-Some.item c.in-Some.after.now c.in-Some.ensures fails) ∙ c.loop.invariant
 
 pub returns-then-not-is_report_below : goal.returns-then-not-is_report_below
 returns-then-not-is_report_below c =
-    let one : is_participant c.args.tx.now c.in-Some.item.instance ≡ true = sym c.is_participant.ensures.value ∙ c.if-not-is_participant.false in
+    let one : is_participant c.args.tx.now c.in-Some.item.instance ≡ true = sym c.is_participant.ensures.value ∙
+    c.if-not-is_participant.false in
     let great : is_report c.args.ballot c.in-Some.item.report ≡ false = not_below c.args.ballot c.in-Some.item.report
     (λ low. absurd (cc (c.is_report_below.ensures.1 low, c.if-not-is_report_below.true))) in
     let fails : is_reported c.args.tx.now c.args.ballot c.in-Some.item ≡ false = rw (one, great) refl in
-    sym (next_fails report_item_at (is_reported c.args.tx.now c.args.ballot) (λ item. item.instance) c.loop.least c.args.count c.loop.counter c.loop.rest.now c.loop-test.true c.in-Some.item c.in-Some.after.now c.in-Some.ensures fails) ∙ c.loop.invariant
+    sym (next_fails report_item_at (is_reported c.args.tx.now c.args.ballot) (λ item. item.instance) c.loop.least c.args.count
+    c.loop.counter c.loop.rest.now c.loop-test.true c.in-Some.item c.in-Some.after.now c.in-Some.ensures fails) ∙ c.loop.invariant
 
 pub returns-then-item-least : goal.returns-then-item-least
 returns-then-item-least c =
-    sym (next_low report_item_at (is_reported c.args.tx.now c.args.ballot) (λ item. item.instance) c.loop.least c.args.count c.loop.counter c.loop.rest.now c.loop-test.true c.in-Some.item c.in-Some.after.now c.in-Some.ensures c.if-item-least.true) ∙ c.loop.invariant
+    sym (next_low report_item_at (is_reported c.args.tx.now c.args.ballot) (λ item. item.instance) c.loop.least c.args.count
+    c.loop.counter c.loop.rest.now c.loop-test.true c.in-Some.item c.in-Some.after.now c.in-Some.ensures c.if-item-least.true) ∙
+    c.loop.invariant
 
 pub overflow_add-least : goal.overflow_add-least
 overflow_add-least c =
-    let one : is_participant c.args.tx.now c.in-Some.item.instance ≡ true = sym c.is_participant.ensures.value ∙ c.if-not-is_participant.false in
+    let one : is_participant c.args.tx.now c.in-Some.item.instance ≡ true = sym c.is_participant.ensures.value ∙
+    c.if-not-is_participant.false in
     let below : c.in-Some.item.instance < most_managers =
     branches_below c.args.tx.now.branches c.in-Some.item.instance c.is_participant.ensures.valid.branches.each one in
     omega (arith, below)
 
 pub loop-preserved : goal.loop-preserved
 loop-preserved c =
-    let one : is_participant c.args.tx.now c.in-Some.item.instance ≡ true = sym c.is_participant.ensures.value ∙ c.if-not-is_participant.false in
+    let one : is_participant c.args.tx.now c.in-Some.item.instance ≡ true = sym c.is_participant.ensures.value ∙
+    c.if-not-is_participant.false in
     let low : is_report c.args.ballot c.in-Some.item.report ≡ true =
     below_again c.args.ballot c.in-Some.item.report (c.is_report_below.ensures.0 c.if-not-is_report_below.false) in
     let holds : is_reported c.args.tx.now c.args.ballot c.in-Some.item ≡ true = rw (one, low) refl in
-    sym (next_goes report_item_at (is_reported c.args.tx.now c.args.ballot) (λ item. item.instance) c.loop.least c.args.count c.loop.counter c.loop.rest.now c.loop-test.true c.in-Some.item c.in-Some.after.now c.in-Some.ensures holds c.if-item-least.false)
+    sym (next_goes report_item_at (is_reported c.args.tx.now c.args.ballot) (λ item. item.instance) c.loop.least c.args.count
+    c.loop.counter c.loop.rest.now c.loop-test.true c.in-Some.item c.in-Some.after.now c.in-Some.ensures holds c.if-item-least.false)
     ∙ c.loop.invariant
 
 pub returns : goal.returns
 returns c =
-    c.is_empty.ensures ∙ end_is c.loop.rest.now ∙ sym (at_end report_item_at (is_reported c.args.tx.now c.args.ballot) (λ item. item.instance) c.loop.least c.args.count c.loop.counter c.loop.rest.now c.loop-test.false) ∙ c.loop.invariant
+    c.is_empty.ensures ∙ end_is c.loop.rest.now ∙ sym
+    (at_end report_item_at (is_reported c.args.tx.now c.args.ballot) (λ item. item.instance) c.loop.least c.args.count c.loop.counter
+    c.loop.rest.now c.loop-test.false) ∙ c.loop.invariant

@@ -7,7 +7,8 @@ use Rattle.wire.proofs.view_reading.b1b_of.Goals as goal
 
 pub returns-then-not-are_reports : goal.returns-then-not-are_reports
 returns-then-not-are_reports c =
-    b1b_refused c.args.tx.now c.args.bytes.now c.in-Some.rest.now c.in-Some-take_byte.reports.now c.in-Some.ballot c.in-Some-take_byte.acceptor
+    b1b_refused c.args.tx.now c.args.bytes.now c.in-Some.rest.now c.in-Some-take_byte.reports.now c.in-Some.ballot
+    c.in-Some-take_byte.acceptor
     c.in-Some.ensures c.in-Some-take_byte.ensures (sym c.are_reports.ensures ∙ c.if-not-are_reports.true)
 
 pub returns : goal.returns
@@ -17,6 +18,7 @@ returns c =
       some = omega (arith, c.if-ballot-eq0.false);
       fits = number_fits c.args.bytes.now (c.in-Some.ballot, c.in-Some.rest.now) is (sym c.in-Some.ensures);
     } in
-    b1b_accepted c.args.tx.now c.args.bytes.now c.in-Some.rest.now c.in-Some-take_byte.reports.now c.in-Some.ballot c.in-Some-take_byte.acceptor
+    b1b_accepted c.args.tx.now c.args.bytes.now c.in-Some.rest.now c.in-Some-take_byte.reports.now c.in-Some.ballot
+    c.in-Some-take_byte.acceptor
     c.in-Some.ensures c.in-Some-take_byte.ensures c.count.ensures.valid leader c.if-acceptor-ge-MAX_ACCEPTORS.false
     (sym c.are_reports.ensures ∙ c.if-not-are_reports.false)

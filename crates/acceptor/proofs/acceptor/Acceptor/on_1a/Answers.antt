@@ -9,7 +9,8 @@ use Rattle.acceptor.proofs.acceptor.Acceptor.on_1a.Goals as goal
 
 pub returns : goal.returns
 returns c =
-    subst (λ a. Decides a (shown c.on_1a.result) (λ config number slots. on_1a config number slots c.args.tx.now c.args.instance c.args.ballot))
+    subst (λ a. Decides a (shown c.on_1a.result)
+    (λ config number slots. on_1a config number slots c.args.tx.now c.args.instance c.args.ballot))
     c.self.view_is
     (decides _ (shown c.on_1a.result) (λ config number slots. on_1a config number slots c.args.tx.now c.args.instance c.args.ballot)
     (λ config leads bundled. c.on_1a.ensures config leads

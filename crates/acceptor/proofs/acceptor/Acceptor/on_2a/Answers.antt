@@ -9,9 +9,11 @@ use Rattle.acceptor.proofs.acceptor.Acceptor.on_2a.Goals as goal
 
 pub returns : goal.returns
 returns c =
-    subst (λ a. Decides a (shown c.on_2a.result) (λ config number slots. on_2a config number slots c.args.tx.now c.args.instance c.args.ballot
+    subst (λ a. Decides a (shown c.on_2a.result)
+    (λ config number slots. on_2a config number slots c.args.tx.now c.args.instance c.args.ballot
     c.args.vote)) c.self.view_is
-    (decides _ (shown c.on_2a.result) (λ config number slots. on_2a config number slots c.args.tx.now c.args.instance c.args.ballot c.args.vote)
+    (decides _ (shown c.on_2a.result)
+    (λ config number slots. on_2a config number slots c.args.tx.now c.args.instance c.args.ballot c.args.vote)
     (λ config leads bundled. c.on_2a.ensures config bundled
     ∙ ap (λ slots. decision_of (on_2a config c.self.inside.seat.number
     (slots_of c.args.tx.now slots) c.args.tx.now c.args.instance c.args.ballot c.args.vote)) c.slots_of.ensures)

@@ -9,7 +9,8 @@ use Rattle.acceptor.proofs.acceptor.Acceptor.on_b1a.Goals as goal
 
 pub returns : goal.returns
 returns c =
-    subst (λ a. Decides a (shown c.on_b1a.result) (λ config number slots. on_b1a config number slots c.args.tx.now c.args.ballot)) c.self.view_is
+    subst (λ a. Decides a (shown c.on_b1a.result) (λ config number slots. on_b1a config number slots c.args.tx.now c.args.ballot))
+    c.self.view_is
     (decides _ (shown c.on_b1a.result) (λ config number slots. on_b1a config number slots c.args.tx.now c.args.ballot)
     (λ config leads bundled. c.on_b1a.ensures config leads
     ∙ ap (λ slots. decision_of (on_b1a config c.self.inside.seat.number

@@ -1,6 +1,5 @@
 use Rattle.std.proofs.Common.{◌∙◌, ℕ, [], get_or, Ok, Err, refl, ap, subst}
 use Rattle.xid.specs.declared.refusals.Refusal.TheVariants.{Damaged, NoMemory}
-use Rattle.stable_record.specs.Facts.{fact_tx}
 use Rattle.protocol.specs.Effects.{Config}
 use Rattle.stable_record.specs.Parts.{IsPlayed}
 use Rattle.transactions.specs.Seen.{at_places, seen_with}

@@ -1,6 +1,4 @@
-use Rattle.std.proofs.Common.{refl}
-use Rattle.node_core.specs.Roles.{decided}
-use Rattle.node_core.proofs.Deciding.{told_so, led_so, led_refused, managed_so, acceptor_decides}
+use Rattle.node_core.proofs.Deciding.{led_so, led_refused, managed_so}
 use Rattle.node_core.proofs.role.Role.on_message.Goals as goal
 
 pub returns-in-Leader-clause-ok : goal.returns-in-Leader-clause-ok

@@ -9,7 +9,8 @@ use Rattle.node_core.proofs.role.Role.ready.Goals as goal
 
 pub returns-in-Acceptor-clause-ok : goal.returns-in-Acceptor-clause-ok
 returns-in-Acceptor-clause-ok c =
-    acceptor_readied c.args.self.now c.in-Acceptor.acceptor c.ready_of.new.acceptor c.args.fact.now c.ready_of.result c.in-Acceptor.is c.ready_of.ensures
+    acceptor_readied c.args.self.now c.in-Acceptor.acceptor c.ready_of.new.acceptor c.args.fact.now c.ready_of.result c.in-Acceptor.is
+    c.ready_of.ensures
 
 pub returns-in-Acceptor-clause-err : goal.returns-in-Acceptor-clause-err
 returns-in-Acceptor-clause-err c =

@@ -21,5 +21,6 @@ pub returns : goal.returns
 returns c =
     place_of_position (tx_eq c.args.tx.now) c.args.self.now c.number_of_spelled.result
     (c.number_of_spelled.ensures.value
-    ∙ position_by_tx c.as_bytes-spelled.result.now c.args.tx.now c.args.self.now c.as_bytes-spelled.ensures.valid c.as_bytes-spelled.ensures.value
+    ∙ position_by_tx c.as_bytes-spelled.result.now c.args.tx.now c.args.self.now c.as_bytes-spelled.ensures.valid
+    c.as_bytes-spelled.ensures.value
     c.number_of_spelled.ensures.valid)

@@ -17,7 +17,8 @@ returns-then-branch-rm-clause-value c =
     let bs = c.args.self.now.branches in
     let lt : c.loop.counter < length bs = omega (arith, c.loop-test.true, count_is bs _ c.branches-branches.ensures.value) in
     let was = took bs c.loop.counter c.loop.rest.now blank c.first_branch-branch.result.0 c.first_branch-branch.result.1.now
-    c.first_branch-branch.result.2.now c.branches-branches.ensures.valid.branches.each lt c.loop.invariant.left c.first_branch-branch.ensures in
+    c.first_branch-branch.result.2.now c.branches-branches.ensures.valid.branches.each lt c.loop.invariant.left
+    c.first_branch-branch.ensures in
     sym (any_here bs c.loop.counter c.args.rm blank lt (sym was.manager ∙ c.if-branch-rm.true)) ∙ c.loop.invariant.same
 
 pub loop-preserved : goal.loop-preserved
@@ -25,7 +26,8 @@ loop-preserved c =
     let bs = c.args.self.now.branches in
     let lt : c.loop.counter < length bs = omega (arith, c.loop-test.true, count_is bs _ c.branches-branches.ensures.value) in
     let was = took bs c.loop.counter c.loop.rest.now blank c.first_branch-branch.result.0 c.first_branch-branch.result.1.now
-    c.first_branch-branch.result.2.now c.branches-branches.ensures.valid.branches.each lt c.loop.invariant.left c.first_branch-branch.ensures in
+    c.first_branch-branch.result.2.now c.branches-branches.ensures.valid.branches.each lt c.loop.invariant.left
+    c.first_branch-branch.ensures in
     record {
       left = was.after;
       same =
