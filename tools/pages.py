@@ -97,9 +97,9 @@ NUMBER = rf"\b(\d[\d,]*|(?:{'|'.join(TENS)})(?:-[a-z]+)?|{'|'.join(ONES)})\b"
 FIGURES = [
     # two runs share one file
     ("# worked runs", count("crates/protocol/proofs/*.antt", "proofs.RowWords") + 1),
-    ("# wrong bodies are tried", len(edits)), (r"There are #: \d+ that bear", len(edits)),
+    ("tries # wrong bodies", len(edits)), (r"There are #: \d+ that bear", len(edits)),
     ("# that bear one of these names", len(named)), ("at most # a crate", max(map(others.count, others))),
-    ("Now # tests are left", sum(path.read_text(encoding="utf-8").count("#[test]") for path in ROOT.glob("crates/*/src/**/*.rt"))),
+    ("and # tests that are proved", sum(path.read_text(encoding="utf-8").count("#[test]") for path in ROOT.glob("crates/*/src/**/*.rt"))),
     ("some # calls of the codec", calls()),
     ("tries # wrong rules", rules), ("# of the protocol, six of which", rules - looking_back),
     ("and # ways to look back", looking_back), ("For # rules it is also proved", count("tests/wrong-rules/*.law") - safe),

@@ -1,8 +1,9 @@
 #!/usr/bin/env python3
 """Proves a crate and all that it stands on, side by side, prints a line for each crate as it ends, and then builds its program.
 
-tools/progress.py CRATE LOG WORDS.. builds the program of that crate and runs it with these words, in the crate's folder. All that `rt`
-prints goes to the file LOG; where a step fails, its errors and the place of the log are printed, and the status is 1.
+tools/progress.py CRATE LOG WORDS.. builds the program of that crate and runs it once with these words, in the crate's folder, whatever it
+says to them. All that `rt` prints goes to the file LOG; where a step fails, its errors and the place of the log are printed, and the status
+is 1.
 """
 import os
 import re
@@ -66,7 +67,7 @@ def prove(crates, lanes, log, begun):
 
 def faults(lines):
     """The lines of a log that say why its command failed: errors, and what isn't proved; or else the last ones."""
-    found = [line for line in lines if re.search(r"\berror(\[|:)|it is not proved|: no proof:|NOT PROVED|: FAILED", line)]
+    found = [line for line in lines if re.search(r"\berror(\[|: )|it is not proved|: no proof:|NOT PROVED|: FAILED", line)]
     return list(dict.fromkeys(found)) or lines[-10:]
 
 
@@ -81,7 +82,9 @@ def main():
         done = prove(crates, lanes, log, begun)
         if done:
             say(f"Building {crate}.")
-            done = not run(["rt", "run", "--", *words], ROOT / "crates" / crate, log)
+            run(["rt", "run", "--", *words], ROOT / "crates" / crate, log)
+            # rt says so once the program is built, before it starts it
+            done = "\nrt: running out/" in log_path.read_text(encoding="utf-8")
     seconds = time.monotonic() - begun
     if not done:
         for line in faults(log_path.read_text(encoding="utf-8").splitlines())[:20]:
