@@ -3,15 +3,8 @@
 # replayed; beside it a plain Rust program that does the same, turn and turn about, where there is a rustc, and, where there is a valgrind,
 # how many instructions each takes: `bench/branches.sh [PROGRAM]`. The program is bench/branches.rs as bench/build.sh leaves it, and is
 # built where it isn't given.
-here=$(cd "$(dirname "$0")" && pwd)
-scratch=$(mktemp -d)
-trap 'rm -rf "$scratch"' EXIT
-trap 'exit 1' INT TERM
-program=$1
-if [ -z "$program" ]; then
-    program=$scratch/branches
-    "$here/build.sh" resource_manager "$here/branches.rs" "$program" calls 1 1 || exit 1
-fi
+. "$(dirname "$0")/start.sh"
+take_program "$1" resource_manager branches calls 1 1
 plain=
 if command -v rustc >/dev/null && rustc -O --edition 2021 -o "$scratch/plain" "$here/plain/branches.rs" 2>/dev/null; then
     plain=$scratch/plain

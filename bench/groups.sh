@@ -3,15 +3,8 @@
 # file, one by one and in groups of 1, 8 and 64, and how many times the instructions of steps that is: `bench/groups.sh [PROGRAM]`. The
 # program is bench/groups.rs as bench/build.sh leaves it, and is built where it isn't given. It needs valgrind. The file stands in the folder
 # for temporary files, and what the operating system does isn't counted.
-here=$(cd "$(dirname "$0")" && pwd)
-scratch=$(mktemp -d)
-trap 'rm -rf "$scratch"' EXIT
-trap 'exit 1' INT TERM
-program=$1
-if [ -z "$program" ]; then
-    program=$scratch/groups
-    "$here/build.sh" node_core "$here/groups.rs" "$program" acceptor step 1 1 || exit 1
-fi
+. "$(dirname "$0")/start.sh"
+take_program "$1" node_core groups acceptor step 1 1
 
 # role, way, and the file if there is one: the instructions of a run, and what it printed
 counted() {

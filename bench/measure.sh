@@ -1,22 +1,15 @@
 #!/bin/sh
 # Prints how many messages or events a crate takes in a second: `bench/measure.sh messages|acceptor|leader [PROGRAM]`. The program is that
 # of the same name in this folder, as bench/build.sh leaves it, and is built where it isn't given.
-here=$(cd "$(dirname "$0")" && pwd)
+. "$(dirname "$0")/start.sh"
 case $1 in
 messages) crate=wire first="encode prepare 1" ;;
 acceptor) crate=acceptor first="plain 1 1 1" ;;
 leader) crate=leader first="plain commit 2 1 1" ;;
 *) echo "usage: bench/measure.sh messages|acceptor|leader [PROGRAM]" >&2; exit 2 ;;
 esac
-scratch=$(mktemp -d)
-trap 'rm -rf "$scratch"' EXIT
-trap 'exit 1' INT TERM
-measured=$2
-if [ -z "$measured" ]; then
-    measured=$scratch/measured
-    # shellcheck disable=SC2086 # words
-    "$here/build.sh" "$crate" "$here/$1.rs" "$measured" $first || exit 1
-fi
+# shellcheck disable=SC2086 # words
+take_program "$2" "$crate" "$1" $first
 
 # Runs the program three times, and takes the shortest. It prints how many it took and, of messages, how many bytes
 # each has.
@@ -24,7 +17,7 @@ timed() {
     shortest=
     for _ in 1 2 3; do
         begin=$(date +%s%N)
-        "$measured" "$@" >"$scratch/counts" || exit 1
+        "$program" "$@" >"$scratch/counts" || exit 1
         nanoseconds=$(($(date +%s%N) - begin))
         if [ "$nanoseconds" -lt "${shortest:-$((nanoseconds + 1))}" ]; then shortest=$nanoseconds; fi
     done
@@ -43,7 +36,7 @@ messages() {
 beside() {
     events=$1 label=$2
     shift 2
-    turns=$("$here/turns.py" "$measured" "$scratch/plain" "$events" "$@") || exit 1
+    turns=$("$here/turns.py" "$program" "$scratch/plain" "$events" "$@") || exit 1
     echo "$label: $turns"
 }
 
@@ -56,7 +49,7 @@ events() {
 event_instructions() {
     command -v valgrind >/dev/null || return 0
     for repetitions in 0 "$3"; do
-        valgrind --tool=callgrind --callgrind-out-file="$scratch/callgrind.$repetitions" "$measured" \
+        valgrind --tool=callgrind --callgrind-out-file="$scratch/callgrind.$repetitions" "$program" \
             "$1" "$2" 2 "$repetitions" >/dev/null 2>&1 || return 0
     done
     counted() { sed -n 's/^summary: //p' "$scratch/callgrind.$1"; }
@@ -89,7 +82,7 @@ instructions() {
     command -v valgrind >/dev/null || return 0
     label=$1
     shift
-    counted_in "$measured" "$@" || return 0
+    counted_in "$program" "$@" || return 0
     line="$label: $each instructions per event"
     if [ -x "$scratch/plain" ] && counted_in "$scratch/plain" "$@"; then line="$line; plain Rust $each"; fi
     echo "$line"
@@ -98,7 +91,7 @@ instructions() {
 # how many bytes a transaction takes: the peak of memory with an acceptor and without
 memory() {
     [ -x /usr/bin/time ] || return 0
-    peak() { /usr/bin/time -f %M "$measured" plain 100000 1 "$1" 2>&1 >/dev/null; }
+    peak() { /usr/bin/time -f %M "$program" plain 100000 1 "$1" 2>&1 >/dev/null; }
     echo "$((($(peak 1) - $(peak 0)) * 1024 / 100000)) bytes per transaction of two branches"
 }
 

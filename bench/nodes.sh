@@ -2,15 +2,8 @@
 # Prints how long the steps of a node over a record in memory take, in each role, with 10 and with 100,000 transactions, and, where there is
 # a valgrind, how many instructions; and how many times as much a step takes of the many: `bench/nodes.sh [PROGRAM]`. The program is
 # bench/nodes.rs as bench/build.sh leaves it, and is built where it isn't given.
-here=$(cd "$(dirname "$0")" && pwd)
-scratch=$(mktemp -d)
-trap 'rm -rf "$scratch"' EXIT
-trap 'exit 1' INT TERM
-program=$1
-if [ -z "$program" ]; then
-    program=$scratch/nodes
-    "$here/build.sh" node_core "$here/nodes.rs" "$program" acceptor stepped 1 1 || exit 1
-fi
+. "$(dirname "$0")/start.sh"
+take_program "$1" node_core nodes acceptor stepped 1 1
 
 # role, transactions, repetitions: the nanoseconds of a step, in the shortest of five turns
 timed() {

@@ -2,16 +2,9 @@
 # Prints how fast frames are read one after the other, and how many frames a second are appended to a file and synced, beside a plain C
 # loop of write and fdatasync, turn and turn about: `bench/records.sh [PROGRAM [FOLDER..]]`. The program is bench/records.rs as
 # bench/build.sh leaves it, and is built where it isn't given. The folders are those to append in: one on a disk, and one in memory.
-here=$(cd "$(dirname "$0")" && pwd)
-scratch=$(mktemp -d)
-trap 'rm -rf "$scratch"' EXIT
-trap 'exit 1' INT TERM
-program=$1
+. "$(dirname "$0")/start.sh"
+take_program "$1" stable_record records replay 1 1
 if [ $# -gt 0 ]; then shift; fi
-if [ -z "$program" ]; then
-    program=$scratch/records
-    "$here/build.sh" stable_record "$here/records.rs" "$program" replay 1 1 || exit 1
-fi
 cc -O2 -o "$scratch/plain" "$here/plain/append.c" || exit 1
 [ $# -gt 0 ] || set -- "$here" /dev/shm
 

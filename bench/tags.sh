@@ -2,15 +2,8 @@
 # Prints how many instructions a tag takes, of messages of 100, 1,400 and 65,536 bytes, beside OpenSSL's with and without the processor's
 # instructions for SHA-256: `bench/tags.sh [PROGRAM]`. The program is bench/tags.rs as bench/build.sh leaves it, and is built where it isn't
 # given. It needs valgrind, and OpenSSL's headers.
-here=$(cd "$(dirname "$0")" && pwd)
-scratch=$(mktemp -d)
-trap 'rm -rf "$scratch"' EXIT
-trap 'exit 1' INT TERM
-program=$1
-if [ -z "$program" ]; then
-    program=$scratch/tags
-    "$here/build.sh" hmac "$here/tags.rs" "$program" 100 1 || exit 1
-fi
+. "$(dirname "$0")/start.sh"
+take_program "$1" hmac tags 100 1
 cc -O2 -Wno-deprecated-declarations -o "$scratch/plain" "$here/plain/tags.c" -lcrypto || exit 1
 
 # program, length, tags: the instructions of so many tags
