@@ -127,12 +127,13 @@ class Busy:
             for account, answer in zip(left, answers):
                 if answer.startswith('value '):
                     self.reads.append((rm, account, bytes.fromhex(answer[6:])))
-            left = [account for account, answer in zip(left, answers) if answer == 'refused 9']
+            left = [account for account, answer in zip(left, answers) if not answer.startswith('value ')]
             if not left:
                 return
             time.sleep(0.002)
-        # it gives up, by a read of its own
-        self.get(tx, (rm, left[0]))
+        # it gives up: what is left is read one by one, and the first that another holds ends the transaction
+        for account in left:
+            self.get(tx, (rm, account))
 
 
 def work(file, numbers, seed, stop, path, counts):
