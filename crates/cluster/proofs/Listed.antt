@@ -8,6 +8,8 @@ use Rattle.std.proofs.lemmas.Grind.{flat_map-append}
 use Rattle.std.proofs.lemmas.List.{append-nil, map_push, take_more, drop_more, length-take-le, length-map}
 use Rattle.wire.specs.declared.grammar.TheConstants.{MAX_MESSAGE_BYTES}
 use Rattle.wire.specs.declared.message.Kind.{Kind}
+use Rattle.wire.specs.Grammar.{Spells}
+use Rattle.wire.proofs.OneSpelling.{means_one}
 use Rattle.protocol.specs.declared.events.Sent.{Sent}
 use Rattle.protocol.specs.declared.nodes.NodeId.{NodeId}
 use Rattle.protocol.specs.Worlds.{Datagram, numbered}
@@ -241,3 +243,20 @@ next_sent f xs start now new x y z len capacity new_len new_capacity k message l
       (subst (λ (n : ℕ). HasRoom (length (f message) + length (flat_map f (drop (k + 1) xs))) now len n) (sym as_large)
       (subst (λ (n : ℕ). HasRoom n now len capacity) (flat_left f xs k message lt read) room));
 }
+
+-- ---- a message by the bytes that spell it
+
+-- whatever message they spell, it was sent
+pub sent_spelled : (f : Kind → List Datagram) (a b : NetworkParts) (x y : List Sent) (k m : Kind) (bytes : List ℕ) → Spells k bytes
+    → Spells m bytes → HaveSent a b x y (f k) → HaveSent a b x y (f m)
+sent_spelled f a b x y k m bytes is also h = subst (λ (n : Kind). HaveSent a b x y (f n)) (means_one k m bytes is also) h
+
+-- the one message that is all that is sent
+pub only_sent : {X : Type 0} (f : X → List Datagram) (all : List X) (x : X) → all ≡ x ∷ [] → flat_map f all ≡ f x
+only_sent f all x is = ap (flat_map f) is ∙ append-nil (f x)
+
+-- no message
+pub nothing_sent : {X : Type 0} (f : X → List Datagram) (all : List X) (a : NetworkParts) (x : List Sent) → length all ≡ 0
+    → HaveSent a a x x (flat_map f all)
+nothing_sent f [] a x none = none_sent a x
+nothing_sent f (y ∷ ys) a x none = absurd (omega (arith, none))
