@@ -70,7 +70,7 @@ pub record IsPut (old new : NetworkParts) (sender : NodeId) (message : Kind) (re
 abbrev pub sent_to : ℕ → NodeId → Kind → NodeId → Sent
 sent_to number sender message receiver = record { number = number; sender = sender; receiver = receiver; message = message }
 
-pub next_listed : (start now new : NetworkParts) (x y z : List Sent) (sender : NodeId) (message : Kind) (receivers : List NodeId) (i : ℕ)
+next_listed : (start now new : NetworkParts) (x y z : List Sent) (sender : NodeId) (message : Kind) (receivers : List NodeId) (i : ℕ)
     (receiver : NodeId) (again : Bool) (number : ℕ) → i < length receivers → receiver ≡ get_or receivers i receiver → again ≡ nat_lt 0 i
     → IsPut now new sender message receiver again number → z ≡ y ++ sent_to number sender message receiver ∷ []
     → HaveSent start now x y (map (datagram_to sender message) (take i receivers))
@@ -101,6 +101,21 @@ next_listed start now new x y z sender message receivers i receiver again number
           ∙ sym (numbered_append (suc (length net)) so (f receiver ∷ []))
           ∙ ap (λ (ds : List Datagram). numbered (suc (length net)) ds) grown);
     }
+
+-- the same of an entry whose sender and message stay those of the first
+pub next_entry : (start now new : NetworkParts) (x y z : List Sent) (first sender : NodeId) (said message : Kind)
+    (to : Kind → List NodeId) (i : ℕ) (receiver : NodeId) (again : Bool) (number : ℕ) → sender ≡ first → message ≡ said
+    → i < length (to said) → receiver ≡ get_or (to message) i receiver → again ≡ nat_lt 0 i
+    → IsPut now new sender message receiver again number → z ≡ y ++ sent_to number sender message receiver ∷ []
+    → HaveSent start now x y (map (datagram_to first said) (take i (to said)))
+    → HaveSent start new x z (map (datagram_to first said) (take (i + 1) (to said)))
+next_entry start now new x y z first sender said message to i receiver again number by says lt read again_is is pushed h =
+    next_listed start now new x y z first said (to said) i receiver again number lt
+    (subst (λ (m : Kind). receiver ≡ get_or (to m) i receiver) says read) again_is
+    (subst (λ (s : NodeId). IsPut now new s said receiver again number) by
+    (subst (λ (m : Kind). IsPut now new sender m receiver again number) says is))
+    (subst (λ (s : NodeId). z ≡ y ++ sent_to number s said receiver ∷ []) by
+    (subst (λ (m : Kind). z ≡ y ++ sent_to number sender m receiver ∷ []) says pushed)) h
 
 -- ---- room
 

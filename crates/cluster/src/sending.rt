@@ -38,37 +38,32 @@ fn put(network: &mut Network, sender: NodeId, receiver: NodeId, bytes: &[u8], ag
     network.push_spelled(sender, receiver, bytes)
 }
 
-/// Sends a message to each of its receivers, by the bytes that spell it. There is room for that, so it takes no memory.
+/// Sends a message to each of its receivers, by the bytes that spell it. The entry of the list has the sender and the message, and of the
+/// rest what it had for the receiver before. There is room for that, so it takes no memory.
 fn send(
     network: &mut Network,
     listed: &mut Vec<Sent>,
     sizes: Sizes,
-    sender: NodeId,
     to: Address,
-    message: &Message,
+    entry: &mut Sent,
     bytes: &[u8],
 )
     requires few { length bytes.now ≤ MAX_MESSAGE_BYTES }
-    requires spelled { Spells message.now bytes.now }
-    requires room { HasRoom (length (datagrams_of (sized sizes) sender (record { to = to; message = message.now }))) network.old
-        (vec_len listed.old) (vec_capacity listed.old) }
+    requires spelled { Spells entry.old.message bytes.now }
+    requires room { HasRoom (length (datagrams_of (sized sizes) entry.old.sender (record { to = to; message = entry.old.message })))
+        network.old (vec_len listed.old) (vec_capacity listed.old) }
     ensures sent { HaveSent network.old network.new listed.old.items listed.new.items
-        (datagrams_of (sized sizes) sender (record { to = to; message = message.now })) }
-    ensures room { KeepsRoom (length (datagrams_of (sized sizes) sender (record { to = to; message = message.now }))) network.old
-        network.new (vec_len listed.old) (vec_len listed.new) (vec_capacity listed.new) }
+        (datagrams_of (sized sizes) entry.old.sender (record { to = to; message = entry.old.message })) }
+    ensures room { KeepsRoom (length (datagrams_of (sized sizes) entry.old.sender (record { to = to; message = entry.old.message })))
+        network.old network.new (vec_len listed.old) (vec_len listed.new) (vec_capacity listed.new) }
     ensures capacity { vec_capacity listed.new ≡ vec_capacity listed.old }
 {
-    let count = receiver_count(sizes, to, message);
+    let count = receiver_count(sizes, to, &entry.message);
     for i in 0..count {
-        let receiver = receiver_at(sizes, to, message, i);
         let again = i > 0;
-        let number = put(network, sender, receiver, bytes, again);
-        listed.push_reserved(Sent {
-            number,
-            sender,
-            receiver,
-            message: *message,
-        });
+        entry.receiver = receiver_at(sizes, to, &entry.message, i);
+        entry.number = put(network, entry.sender, entry.receiver, bytes, again);
+        listed.push_reserved(*entry);
     }
 }
 
@@ -78,31 +73,35 @@ fn spell_and_send(
     listed: &mut Vec<Sent>,
     sizes: Sizes,
     sender: NodeId,
-    outgoing: &Outgoing,
+    outgoing: Outgoing,
 )
-    requires { HasRoom (length (datagrams_of (sized sizes) sender outgoing.now)) network.old (vec_len listed.old)
-        (vec_capacity listed.old) }
-    ensures sent { HaveSent network.old network.new listed.old.items listed.new.items (datagrams_of (sized sizes) sender outgoing.now) }
-    ensures room { KeepsRoom (length (datagrams_of (sized sizes) sender outgoing.now)) network.old network.new
+    requires { HasRoom (length (datagrams_of (sized sizes) sender outgoing)) network.old (vec_len listed.old) (vec_capacity listed.old) }
+    ensures sent { HaveSent network.old network.new listed.old.items listed.new.items (datagrams_of (sized sizes) sender outgoing) }
+    ensures room { KeepsRoom (length (datagrams_of (sized sizes) sender outgoing)) network.old network.new
         (vec_len listed.old) (vec_len listed.new) (vec_capacity listed.new) }
     ensures capacity { vec_capacity listed.new ≡ vec_capacity listed.old }
 {
-    let message = &outgoing.message;
-    let _ = message.kind();
+    let mut entry = Sent {
+        number: 0,
+        sender,
+        receiver: sender,
+        message: outgoing.message,
+    };
+    let _ = entry.message.kind();
     let mut buffer = [0; MAX_DATAGRAM];
-    let len = encode(message, &mut buffer);
+    let len = encode(&entry.message, &mut buffer);
     send(
         network,
         listed,
         sizes,
-        sender,
         outgoing.to,
-        message,
+        &mut entry,
         &buffer[..len],
     );
 }
 
 /// Sends an acceptor's reply by the bytes that spell it, which are read once, for the list.
+#[inline(never)]
 fn send_reply(
     network: &mut Network,
     listed: &mut Vec<Sent>,
@@ -120,12 +119,21 @@ fn send_reply(
         (datagrams_of (sized sizes) sender (record { to = to; message = message })) }
 {
     match decode(bytes) {
-        Ok(message) => send(network, listed, sizes, sender, to, &message, bytes),
+        Ok(message) => {
+            let mut entry = Sent {
+                number: 0,
+                sender,
+                receiver: sender,
+                message,
+            };
+            send(network, listed, sizes, to, &mut entry, bytes);
+        }
         Err(_) => unreachable!(),
     }
 }
 
 /// Sends the messages of a node that aren't spelled yet, in their order, as `send_all` does.
+#[inline(never)]
 fn spell_and_send_all(
     network: &mut Network,
     listed: &mut Vec<Sent>,
@@ -139,8 +147,7 @@ fn spell_and_send_all(
         (flat_map (datagrams_of (sized sizes) sender) (sent_by sends.now)) }
 {
     for k in 0..sends.count() {
-        let outgoing = sends.at(k);
-        spell_and_send(network, listed, sizes, sender, &outgoing);
+        spell_and_send(network, listed, sizes, sender, sends.at(k));
     }
 }
 
