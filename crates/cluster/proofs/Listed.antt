@@ -8,6 +8,8 @@ use Rattle.std.proofs.lemmas.Grind.{flat_map-append}
 use Rattle.std.proofs.lemmas.List.{append-nil, map_push, take_more, drop_more, length-take-le, length-map}
 use Rattle.wire.specs.declared.grammar.TheConstants.{MAX_MESSAGE_BYTES}
 use Rattle.wire.specs.declared.message.Kind.{Kind}
+use Rattle.wire.specs.Grammar.{Spells}
+use Rattle.wire.proofs.OneSpelling.{means_one}
 use Rattle.protocol.specs.declared.events.Sent.{Sent}
 use Rattle.protocol.specs.declared.nodes.NodeId.{NodeId}
 use Rattle.protocol.specs.Worlds.{Datagram, numbered}
@@ -68,7 +70,7 @@ pub record IsPut (old new : NetworkParts) (sender : NodeId) (message : Kind) (re
 abbrev pub sent_to : ℕ → NodeId → Kind → NodeId → Sent
 sent_to number sender message receiver = record { number = number; sender = sender; receiver = receiver; message = message }
 
-pub next_listed : (start now new : NetworkParts) (x y z : List Sent) (sender : NodeId) (message : Kind) (receivers : List NodeId) (i : ℕ)
+next_listed : (start now new : NetworkParts) (x y z : List Sent) (sender : NodeId) (message : Kind) (receivers : List NodeId) (i : ℕ)
     (receiver : NodeId) (again : Bool) (number : ℕ) → i < length receivers → receiver ≡ get_or receivers i receiver → again ≡ nat_lt 0 i
     → IsPut now new sender message receiver again number → z ≡ y ++ sent_to number sender message receiver ∷ []
     → HaveSent start now x y (map (datagram_to sender message) (take i receivers))
@@ -99,6 +101,21 @@ next_listed start now new x y z sender message receivers i receiver again number
           ∙ sym (numbered_append (suc (length net)) so (f receiver ∷ []))
           ∙ ap (λ (ds : List Datagram). numbered (suc (length net)) ds) grown);
     }
+
+-- the same of an entry whose sender and message stay those of the first
+pub next_entry : (start now new : NetworkParts) (x y z : List Sent) (first sender : NodeId) (said message : Kind)
+    (to : Kind → List NodeId) (i : ℕ) (receiver : NodeId) (again : Bool) (number : ℕ) → sender ≡ first → message ≡ said
+    → i < length (to said) → receiver ≡ get_or (to message) i receiver → again ≡ nat_lt 0 i
+    → IsPut now new sender message receiver again number → z ≡ y ++ sent_to number sender message receiver ∷ []
+    → HaveSent start now x y (map (datagram_to first said) (take i (to said)))
+    → HaveSent start new x z (map (datagram_to first said) (take (i + 1) (to said)))
+next_entry start now new x y z first sender said message to i receiver again number by says lt read again_is is pushed h =
+    next_listed start now new x y z first said (to said) i receiver again number lt
+    (subst (λ (m : Kind). receiver ≡ get_or (to m) i receiver) says read) again_is
+    (subst (λ (s : NodeId). IsPut now new s said receiver again number) by
+    (subst (λ (m : Kind). IsPut now new sender m receiver again number) says is))
+    (subst (λ (s : NodeId). z ≡ y ++ sent_to number s said receiver ∷ []) by
+    (subst (λ (m : Kind). z ≡ y ++ sent_to number sender m receiver ∷ []) says pushed)) h
 
 -- ---- room
 
@@ -241,3 +258,20 @@ next_sent f xs start now new x y z len capacity new_len new_capacity k message l
       (subst (λ (n : ℕ). HasRoom (length (f message) + length (flat_map f (drop (k + 1) xs))) now len n) (sym as_large)
       (subst (λ (n : ℕ). HasRoom n now len capacity) (flat_left f xs k message lt read) room));
 }
+
+-- ---- a message by the bytes that spell it
+
+-- whatever message they spell, it was sent
+pub sent_spelled : (f : Kind → List Datagram) (a b : NetworkParts) (x y : List Sent) (k m : Kind) (bytes : List ℕ) → Spells k bytes
+    → Spells m bytes → HaveSent a b x y (f k) → HaveSent a b x y (f m)
+sent_spelled f a b x y k m bytes is also h = subst (λ (n : Kind). HaveSent a b x y (f n)) (means_one k m bytes is also) h
+
+-- the one message that is all that is sent
+pub only_sent : {X : Type 0} (f : X → List Datagram) (all : List X) (x : X) → all ≡ x ∷ [] → flat_map f all ≡ f x
+only_sent f all x is = ap (flat_map f) is ∙ append-nil (f x)
+
+-- no message
+pub nothing_sent : {X : Type 0} (f : X → List Datagram) (all : List X) (a : NetworkParts) (x : List Sent) → length all ≡ 0
+    → HaveSent a a x x (flat_map f all)
+nothing_sent f [] a x none = none_sent a x
+nothing_sent f (y ∷ ys) a x none = absurd (omega (arith, none))

@@ -9,7 +9,8 @@ ghost use Rattle.cluster.specs.Clusters.{node_count, placed_after, sized};
 ghost use Rattle.cluster.specs.Opening.{name_of};
 
 use node_core::Sizes;
-use protocol::{Address, NodeId, Outgoing};
+use protocol::{Address, NodeId};
+use wire::Message;
 
 /// Where a node stands: acceptors first, then leaders, then resource managers. None where there is no such node.
 pub(crate) fn place_of(sizes: Sizes, who: NodeId) -> Option<usize>
@@ -60,14 +61,14 @@ pub(crate) fn name_at(sizes: Sizes, at: usize) -> NodeId
 }
 
 /// To how many nodes a message goes.
-pub(crate) fn receiver_count(sizes: Sizes, outgoing: &Outgoing) -> usize
-    ensures { result ≡ length (receivers (sized sizes) outgoing.now.to (message_tx outgoing.now.message)) }
+pub(crate) fn receiver_count(sizes: Sizes, to: Address, message: &Message) -> usize
+    ensures { result ≡ length (receivers (sized sizes) to (message_tx message.now)) }
 {
-    match outgoing.to {
+    match to {
         Address::Node(_) => 1,
         Address::Acceptors => usize::from(sizes.acceptors),
         Address::Leaders => usize::from(sizes.leaders),
-        Address::Managers => outgoing.message.kind().tx().count(),
+        Address::Managers => message.kind().tx().count(),
     }
 }
 
@@ -88,14 +89,14 @@ fn leader_at(sizes: Sizes, i: usize) -> NodeId
 }
 
 /// The node of a place among those to which a message goes.
-pub(crate) fn receiver_at(sizes: Sizes, outgoing: &Outgoing, i: usize) -> NodeId
-    requires { i < length (receivers (sized sizes) outgoing.now.to (message_tx outgoing.now.message)) }
-    ensures { result ≡ slice_index_or (receivers (sized sizes) outgoing.now.to (message_tx outgoing.now.message)) i result }
+pub(crate) fn receiver_at(sizes: Sizes, to: Address, message: &Message, i: usize) -> NodeId
+    requires { i < length (receivers (sized sizes) to (message_tx message.now)) }
+    ensures { result ≡ slice_index_or (receivers (sized sizes) to (message_tx message.now)) i result }
 {
-    match outgoing.to {
+    match to {
         Address::Node(node) => node,
         Address::Acceptors => acceptor_at(sizes, i),
         Address::Leaders => leader_at(sizes, i),
-        Address::Managers => NodeId::R(outgoing.message.kind().tx().rm(i) as u8),
+        Address::Managers => NodeId::R(message.kind().tx().rm(i) as u8),
     }
 }

@@ -1,7 +1,7 @@
 -- One message to several receivers.
-use Rattle.std.proofs.Common.{◌≡◌, ℕ, suc, ◌+◌, ◌<◌, List, [], ◌∷◌, ◌++◌, length, get_or, map, take}
-use Rattle.std.proofs.Common.{refl, sym, ap, ◌∙◌, subst, append_assoc, arith}
-use Rattle.std.proofs.lemmas.List.{map_push, take_more}
+use Rattle.std.proofs.Common.{◌≡◌, List, [], ◌∷◌, ◌++◌, map}
+use Rattle.std.proofs.Common.{refl, sym, ap, ◌∙◌, subst, append_assoc}
+use Rattle.std.proofs.lemmas.List.{map_push}
 use Rattle.wire.specs.declared.message.Kind.{Kind}
 use Rattle.protocol.specs.declared.nodes.NodeId.{NodeId}
 use Rattle.protocol.specs.Worlds.{Datagram}
@@ -31,22 +31,3 @@ sent_again old new sender message receiver again net x xs stands =
     (ap (λ (n : List Datagram). n ++ f receiver ∷ []) (sym last.2)
     ∙ append_assoc net (map f (x ∷ xs)) (f receiver ∷ [])
     ∙ ap (λ (ds : List Datagram). net ++ ds) (sym (map_push f (x ∷ xs) receiver))) more
-
--- the first of all receivers, and so many of the others, and then the next of them
-pub next_sent : (all others : List NodeId) (x : NodeId) → all ≡ x ∷ others → (old new : NetworkParts) (sender : NodeId) (message : Kind)
-    → (receiver : NodeId) → ((net : List Datagram) (last : Datagram) → StandsFor old (net ++ last ∷ [])
-    → StandsFor new (net ++ last ∷ [] ++ datagram_to last.sender last.message receiver ∷ []))
-    → (i : ℕ) (d : NodeId) → i < length others → receiver ≡ get_or others i d → (net : List Datagram)
-    → StandsFor old (net ++ map (datagram_to sender message) (take (i + 1) all))
-    → StandsFor new (net ++ map (datagram_to sender message) (take (i + 1 + 1) all))
-next_sent all others x is old new sender message receiver again i d lt read net stands =
-    let f : NodeId → Datagram = datagram_to sender message in
-    let one : i + 1 ≡ suc i = omega arith in
-    let two : i + 1 + 1 ≡ suc (i + 1) = omega arith in
-    let before : take (i + 1) all ≡ x ∷ take i others = ap (take (i + 1)) is ∙ ap (λ (n : ℕ). take n (x ∷ others)) one in
-    let after : take (i + 1 + 1) all ≡ x ∷ (take i others ++ receiver ∷ []) =
-    ap (take (i + 1 + 1)) is ∙ ap (λ (n : ℕ). take n (x ∷ others)) two
-    ∙ ap (λ (xs : List NodeId). x ∷ xs) (take_more others i d lt ∙ ap (λ (r : NodeId). take i others ++ r ∷ []) (sym read)) in
-    subst (λ (xs : List NodeId). StandsFor new (net ++ map f xs)) (sym after)
-    (sent_again old new sender message receiver again net x (take i others)
-    (subst (λ (xs : List NodeId). StandsFor old (net ++ map f xs)) before stands))

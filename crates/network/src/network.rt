@@ -3,8 +3,8 @@ ghost use Rattle.std.specs.Prelude.{IfSome, IfNone, OnOk, IfErr, IsOk};
 ghost use Rattle.std.specs.Option.{option_map};
 ghost use Rattle.std.specs.Vec.{vec_len, vec_capacity};
 ghost use Rattle.xid.specs.declared.refusals.Refusal.TheVariants.{NoMemory};
-ghost use Rattle.wire.specs.Messages.{IsMessage};
-ghost use Rattle.wire.specs.Grammar.{spelling};
+ghost use Rattle.wire.specs.declared.message.Kind.{Kind};
+ghost use Rattle.wire.specs.Grammar.{Spells};
 ghost use Rattle.protocol.specs.Worlds.{Datagram, datagram_at, mark_at};
 ghost use Rattle.network.specs.Networks.{StandsFor, Finds, most_datagrams, datagram_to, least_unmarked, shown};
 
@@ -56,20 +56,13 @@ fn place_of(number: u32, count: usize) -> Option<usize>
     if place < count { Some(place) } else { None }
 }
 
-/// Puts the spelling of a message after the bytes, where there is room for it, and answers how long it is.
-fn put(bytes: &mut Vec<u8>, message: &Message) -> usize
-    requires { vec_len bytes.old + MAX_MESSAGE_BYTES ≤ vec_capacity bytes.old }
-    ensures items { bytes.new.items ≡ bytes.old.items ++ spelling message.now }
+/// Puts a spelling after the bytes, where there is room for it.
+fn put(bytes: &mut Vec<u8>, spelled: &[u8])
+    requires { vec_len bytes.old + length spelled.now ≤ vec_capacity bytes.old }
+    ensures items { bytes.new.items ≡ bytes.old.items ++ spelled.now }
     ensures capacity { vec_capacity bytes.old ≤ vec_capacity bytes.new }
-    ensures len { result ≡ length (spelling message.now) }
-    ensures few { result ≤ MAX_MESSAGE_BYTES }
-    ensures valid { IsMessage message.now }
 {
-    let _ = message.kind();
-    let mut buffer = [0; MAX_DATAGRAM];
-    let len = encode(message, &mut buffer);
-    bytes.extend_from_slice(&buffer[..len]).unwrap();
-    len
+    bytes.extend_from_slice(spelled).unwrap();
 }
 
 impl Network {
@@ -132,11 +125,29 @@ impl Network {
         ensures spare { self.old.spare ≤ self.new.spare + 1 }
         ensures spare_bytes { self.old.spare_bytes ≤ self.new.spare_bytes + MAX_MESSAGE_BYTES }
     {
+        let _ = message.kind();
+        let mut buffer = [0; MAX_DATAGRAM];
+        let len = encode(message, &mut buffer);
+        self.push_spelled(sender, receiver, &buffer[..len])
+    }
+
+    /// Puts a datagram after the others as `push` does, by the bytes that spell its message, which are kept as they stand.
+    pub fn push_spelled(&mut self, sender: NodeId, receiver: NodeId, bytes: &[u8]) -> u32
+        requires datagram { 0 < self.old.spare }
+        requires few { length bytes.now ≤ MAX_MESSAGE_BYTES }
+        requires bytes { MAX_MESSAGE_BYTES ≤ self.old.spare_bytes }
+        ensures stands { (net : List Datagram) (message : Kind) → Spells message bytes.now → StandsFor self.old net
+            → StandsFor self.new (net ++ datagram_to sender message receiver ∷ []) }
+        ensures number { (net : List Datagram) → StandsFor self.old net → result ≡ suc (length net) }
+        ensures some { 0 < length self.new.datagrams }
+        ensures spare { self.old.spare ≤ self.new.spare + 1 }
+        ensures spare_bytes { self.old.spare_bytes ≤ self.new.spare_bytes + MAX_MESSAGE_BYTES }
+    {
         let start = self.bytes.len();
-        let len = put(&mut self.bytes, message);
+        put(&mut self.bytes, bytes);
         self.entries.push_reserved(Entry {
             start,
-            len: len as u16,
+            len: bytes.len() as u16,
             sender,
             receiver,
             marked: false,
@@ -163,25 +174,6 @@ impl Network {
             ..last
         });
         self.entries.len() as u32
-    }
-
-    /// Puts a datagram to each receiver after the others, in their order, unmarked. There is room for them, and for one
-    /// message, whose bytes are kept once; so it takes no memory.
-    pub fn push_to(&mut self, sender: NodeId, receivers: &[NodeId], message: &Message)
-        requires datagrams { length receivers.now ≤ self.old.spare }
-        requires bytes { MAX_MESSAGE_BYTES ≤ self.old.spare_bytes }
-        ensures stands { (net : List Datagram) → StandsFor self.old net
-            → StandsFor self.new (net ++ map (datagram_to sender message.now) receivers.now) }
-        ensures spare { self.old.spare ≤ self.new.spare + length receivers.now }
-        ensures spare_bytes { self.old.spare_bytes ≤ self.new.spare_bytes + MAX_MESSAGE_BYTES }
-    {
-        let Some((first, others)) = receivers.split_first() else {
-            return;
-        };
-        self.push(sender, *first, message);
-        for receiver in others {
-            self.push_again(*receiver);
-        }
     }
 
     /// The datagram of a number, if there is one.

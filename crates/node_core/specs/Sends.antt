@@ -1,7 +1,7 @@
 -- What a node sends, as the machine has it.
 use Rattle.std.specs.Prelude.{◌≡◌, ℕ, ◌<◌, ◌≤◌, ◌+◌, length, List, [], ◌∷◌, take, Option, Some, None, Result, Ok, Err}
 use Rattle.wire.specs.declared.message.Kind.{Kind}
-use Rattle.wire.specs.declared.grammar.TheConstants.{MAX_DATAGRAM}
+use Rattle.wire.specs.declared.grammar.TheConstants.{MAX_MESSAGE_BYTES}
 use Rattle.wire.specs.Grammar.{Spells}
 use Rattle.protocol.specs.declared.decisions.Address.{Address}
 use Rattle.xid.specs.declared.refusals.Refusal.{Refusal}
@@ -26,7 +26,7 @@ addressed to (Some message) = record { to = to; message = message } ∷ []
 
 -- so many bytes are none, or spell a message
 pub record IsReplied (len : ℕ) (bytes : List ℕ) : Type 0 where
-  pub few : len ≤ MAX_DATAGRAM
+  pub few : len ≤ MAX_MESSAGE_BYTES
   pub spells : 0 < len → (message : Kind) × Spells message (take len bytes)
 
 -- the messages that are sent stand in one place: an acceptor's reply, a leader's, or what a resource manager decided and asks

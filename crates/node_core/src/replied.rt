@@ -1,11 +1,13 @@
 //! What an acceptor sends, kept as it is spelled.
 
-ghost use Rattle.std.specs.Prelude.{◌≡◌, ◌<◌, [], ◌∷◌, length};
+ghost use Rattle.std.specs.Prelude.{◌≡◌, ◌<◌, ◌≤◌, [], ◌∷◌, length};
+ghost use Rattle.wire.specs.declared.message.Kind.{Kind};
+ghost use Rattle.wire.specs.Grammar.{Spells};
 
 use acceptor::SentReply;
 use protocol::{Address, Outgoing};
 use std::marker::Model;
-use wire::{MAX_DATAGRAM, decode};
+use wire::{MAX_DATAGRAM, MAX_MESSAGE_BYTES, decode};
 
 /// A message of an acceptor by its spelled bytes, and whom it is for; or none.
 #[derive(Debug, Drop)]
@@ -60,6 +62,16 @@ impl Replied {
         ensures { result ≡ length self.now }
     {
         if self.len == 0 { 0 } else { 1 }
+    }
+
+    /// Whom it is for, and the bytes that spell it.
+    pub(crate) fn spelled(&self) -> (Address, &[u8])
+        requires { 0 < length self.now }
+        ensures few { length result.1.now ≤ MAX_MESSAGE_BYTES }
+        ensures spells { (message : Kind) × Spells message result.1.now
+            × (self.now ≡ record { to = result.0; message = message } ∷ []) }
+    {
+        (self.to, &self.bytes[..self.len])
     }
 
     /// The message.

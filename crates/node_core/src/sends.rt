@@ -1,6 +1,8 @@
-ghost use Rattle.std.specs.Prelude.{◌≡◌, ℕ, ◌<◌, [], ◌++◌, length, slice_index_or, IfErr, OnOk, None};
+ghost use Rattle.std.specs.Prelude.{◌≡◌, ℕ, ◌<◌, [], ◌++◌, ◌≤◌, ◌∷◌, length, slice_index_or, IfErr, IfSome, OnOk, None};
 ghost use Rattle.xid.specs.Transactions.{xid_at};
 ghost use Rattle.xid.specs.declared.refusals.Refusal.TheVariants.{NoMemory};
+ghost use Rattle.wire.specs.declared.message.Kind.{Kind};
+ghost use Rattle.wire.specs.Grammar.{Spells};
 ghost use Rattle.wire.specs.Messages.{message_tx};
 ghost use Rattle.protocol.specs.Effects.{Config};
 ghost use Rattle.protocol.specs.Leaders.{on_leader_message};
@@ -13,12 +15,12 @@ ghost use Rattle.node_core.specs.Sends.{led};
 use crate::replied::Replied;
 use acceptor::SentReply;
 use leader::{Leader, LeaderDecision, LeaderSends};
-use protocol::{Answer, Decision, Outgoing, Sends};
+use protocol::{Address, Answer, Decision, Outgoing, Sends};
 use resource_manager::ResourceManager;
 use stable_record::Fact;
 use std::marker::Model;
 use std::mem;
-use wire::Message;
+use wire::{MAX_MESSAGE_BYTES, Message};
 use xid::Refusal;
 
 /// The messages that a node sends, in order, which a contract sees as the list of them. To make them takes no memory. There is a place
@@ -210,6 +212,18 @@ impl NodeSends {
             return led;
         }
         self.decided.sends.as_slice().len() + self.question.as_slice().len()
+    }
+
+    /// Whom an acceptor's reply is for, and the bytes that spell it, where that is what is sent; nothing else is then.
+    pub fn replied(&self) -> Option<(Address, &[u8])>
+        ensures few { IfSome result (λ reply. length reply.1.now ≤ MAX_MESSAGE_BYTES) }
+        ensures spells { IfSome result (λ reply. (message : Kind) × Spells message reply.1.now
+            × (self.now ≡ record { to = reply.0; message = message } ∷ [])) }
+    {
+        if self.replied.count() == 0 {
+            return None;
+        }
+        Some(self.replied.spelled())
     }
 
     /// The message of a place.

@@ -11,12 +11,14 @@ use Rattle.cluster.proofs.sending.send.Given as goal
 abbrev pub invariant-loop-i : goal.invariant-loop-i
 invariant-loop-i l = record {
   sent : HaveSent l.fn.network l.network l.fn.listed.items l.listed.items
-      (map (datagram_to l.fn.sender l.fn.outgoing.message)
-      (take l.i (receivers (sized l.fn.sizes) l.fn.outgoing.to (message_tx l.fn.outgoing.message))));
+      (map (datagram_to l.fn.entry.sender l.fn.entry.message)
+      (take l.i (receivers (sized l.fn.sizes) l.fn.to (message_tx l.fn.entry.message))));
   some : nat_lt 0 l.i ≡ true → 0 < length l.network.datagrams;
-  room : (more : ℕ) → HasRoom (length (receivers (sized l.fn.sizes) l.fn.outgoing.to (message_tx l.fn.outgoing.message)) + more)
+  room : (more : ℕ) → HasRoom (length (receivers (sized l.fn.sizes) l.fn.to (message_tx l.fn.entry.message)) + more)
       l.fn.network (vec_len l.fn.listed) (vec_capacity l.fn.listed)
-      → HasRoom (length (receivers (sized l.fn.sizes) l.fn.outgoing.to (message_tx l.fn.outgoing.message)) - l.i + more)
+      → HasRoom (length (receivers (sized l.fn.sizes) l.fn.to (message_tx l.fn.entry.message)) - l.i + more)
       l.network (vec_len l.listed) (vec_capacity l.listed);
+  sender : l.entry.sender ≡ l.fn.entry.sender;
+  message : l.entry.message ≡ l.fn.entry.message;
   capacity : vec_capacity l.listed ≡ vec_capacity l.fn.listed;
 }

@@ -1,47 +1,46 @@
 use Rattle.std.proofs.Common.{◌≡◌, ◌∙◌, ◌<◌, false, List, length, refl, sym, ap, subst, arith, length-append}
-use Rattle.wire.specs.Grammar.{spelling}
 use Rattle.network.specs.declared.entry.Entry.{Entry}
 use Rattle.network.specs.Entries.{IsNetwork}
 use Rattle.network.specs.Networks.{NetworkParts, StandsFor, datagram_to}
 use Rattle.network.proofs.Places.{spelled_at_end, network_pushed, stands_pushed, count_is}
-use Rattle.network.proofs.network.Network.push.Goals as goal
+use Rattle.network.proofs.network.Network.push_spelled.Goals as goal
 
 pub invariant_of-self : goal.invariant_of-self
 invariant_of-self c =
     let room : 0 < _ = subst (λ (n : NetworkParts). 0 < n.spare) (sym c.self.view_is) c.requires.datagram in
-    let long : length c.put-len.new.bytes.items ≡ _ =
-    ap length c.put-len.ensures.items ∙ length-append c.self.inside.bytes.items (spelling c.args.message.now) in
-    subst (λ (es : List Entry). IsNetwork c.put-len.new.bytes.items es c.self.inside.front) (sym c.push_reserved.ensures.items)
-    (network_pushed c.self.inside.bytes.items c.put-len.new.bytes.items c.self.inside.entries.items
-    (record { start = c.len-start.result; len = c.put-len.result; sender = c.args.sender; receiver = c.args.receiver; marked = false })
+    let long : length c.put.new.bytes.items ≡ _ =
+    ap length c.put.ensures.items ∙ length-append c.self.inside.bytes.items c.args.bytes.now in
+    subst (λ (es : List Entry). IsNetwork c.put.new.bytes.items es c.self.inside.front) (sym c.push_reserved.ensures.items)
+    (network_pushed c.self.inside.bytes.items c.put.new.bytes.items c.self.inside.entries.items
+    (record { start = c.len-start.result; len = length c.args.bytes.now; sender = c.args.sender; receiver = c.args.receiver; marked = false })
     c.self.inside.front c.self.invariant (omega (arith, long))
-    (omega (arith, long, c.len-start.ensures, c.self.inside.bytes.ok.0, c.put-len.ensures.len))
+    (omega (arith, long, c.len-start.ensures, c.self.inside.bytes.ok.0))
     (omega (arith, room, c.self.inside.entries.ok.0)) refl)
 
 pub returns-clause-stands : goal.returns-clause-stands
-returns-clause-stands c = λ net s.
+returns-clause-stands c = λ net message spells s.
     let at : StandsFor _ net = subst (λ (n : NetworkParts). StandsFor n net) (sym c.self.view_is) s in
     let starts : c.len-start.result ≡ length c.self.inside.bytes.items = omega (arith, c.len-start.ensures, c.self.inside.bytes.ok.0) in
     record {
       datagrams_are =
-          stands_pushed c.self.inside.bytes.items c.put-len.new.bytes.items c.self.inside.entries.items
+          stands_pushed c.self.inside.bytes.items c.put.new.bytes.items c.self.inside.entries.items
           (record {
             start = c.len-start.result;
-            len = c.put-len.result;
+            len = length c.args.bytes.now;
             sender = c.args.sender;
             receiver = c.args.receiver;
             marked = false;
           })
-          (spelling c.args.message.now) c.put-len.ensures.items c.self.invariant.within c.push_reserved.new.self.items
-          c.push_reserved.ensures.items net (datagram_to c.args.sender c.args.message.now c.args.receiver) at.datagrams_are
+          c.args.bytes.now c.put.ensures.items c.self.invariant.within c.push_reserved.new.self.items
+          c.push_reserved.ensures.items net (datagram_to c.args.sender message c.args.receiver) at.datagrams_are
           (record {
             sender_is = refl;
             receiver_is = refl;
             marked_is = refl;
             spells = record {
-              message = c.put-len.ensures.valid;
-              spelled = spelled_at_end c.self.inside.bytes.items (spelling c.args.message.now) c.put-len.new.bytes.items c.len-start.result
-                  c.put-len.result c.put-len.ensures.items starts c.put-len.ensures.len;
+              message = spells.message;
+              spelled = spelled_at_end c.self.inside.bytes.items c.args.bytes.now c.put.new.bytes.items c.len-start.result
+                  (length c.args.bytes.now) c.put.ensures.items starts refl ∙ spells.spelled;
             };
           });
     }

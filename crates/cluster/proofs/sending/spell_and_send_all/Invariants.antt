@@ -5,7 +5,7 @@ use Rattle.protocol.specs.Worlds.{datagrams_of}
 use Rattle.node_core.specs.Sends.{sent as sent_by}
 use Rattle.cluster.specs.Clusters.{sized}
 use Rattle.cluster.specs.Sending.{HasRoom, HaveSent}
-use Rattle.cluster.proofs.sending.send_all.Given as goal
+use Rattle.cluster.proofs.sending.spell_and_send_all.Given as goal
 
 -- so many messages were sent, and there is room for the rest
 abbrev pub invariant-loop-k : goal.invariant-loop-k
