@@ -11,7 +11,7 @@ use signed_port::{DIGEST, PlainPort, SignedPort};
 use std::alloc::Global;
 
 /// A node's key, its cluster's digest, and itself.
-#[derive(Clone, Copy)]
+#[derive(Drop)]
 struct Signing {
     key: Key,
     digest: [u8; DIGEST],
@@ -58,8 +58,9 @@ fn carrier(alloc: Global, datagram: &[u8]) -> Result<FakePort, Stop> {
 }
 
 /// A port of a node over a carrier.
-fn signed(carrier: FakePort, signing: Signing) -> SignedPort<FakePort> {
-    SignedPort::new(carrier, signing.key, signing.digest, signing.who)
+fn signed(carrier: FakePort, signing: &Signing, who: NodeId) -> SignedPort<FakePort> {
+    let key = signing.key.clone().unwrap();
+    SignedPort::new(carrier, key, signing.digest, who)
 }
 
 /// What a port gives of what its carrier has, and how often it has failed.
@@ -74,10 +75,10 @@ fn say_received<P: Port>(port: &mut P, page: &mut Page) -> Result<(), Stop> {
 }
 
 /// A datagram comes; and how many were dropped for their signature.
-fn receive(signing: Option<Signing>, carrier: FakePort, page: &mut Page) -> Result<(), Stop> {
+fn receive(signing: Option<&Signing>, carrier: FakePort, page: &mut Page) -> Result<(), Stop> {
     match signing {
         Some(signing) => {
-            let mut port = signed(carrier, signing);
+            let mut port = signed(carrier, signing, signing.who);
             say_received(&mut port, page)?;
             page.number(port.dropped())
         }
@@ -96,11 +97,12 @@ fn flipped(alloc: Global, datagram: &[u8], at: usize) -> Result<Vec<u8>, Stop> {
 }
 
 /// How many of a short datagram's bits may be turned one by one so that it is still taken.
-fn taken_flips(alloc: Global, signing: Signing, datagram: &[u8]) -> Result<u64, Stop> {
+fn taken_flips(alloc: Global, signing: &Signing, datagram: &[u8]) -> Result<u64, Stop> {
     let mut taken: u64 = 0;
     let mut buffer = [0; MAX_TAKEN];
     for at in 0..8 * datagram.len().min(64) {
-        let mut port = signed(carrier(alloc, &flipped(alloc, datagram, at)?)?, signing);
+        let carrier = carrier(alloc, &flipped(alloc, datagram, at)?)?;
+        let mut port = signed(carrier, signing, signing.who);
         if port.recv(&mut buffer).is_ok() {
             taken = taken.saturating_add(1);
         }
@@ -121,23 +123,19 @@ fn send<P: Port>(
 /// A node sends so many zeros to another, which takes what has gone: how many bytes have, and how many of them are given there.
 fn say_long(
     alloc: Global,
-    signing: Signing,
+    signing: &Signing,
     receiver: NodeId,
     count: u32,
     page: &mut Page,
 ) -> Result<(), Stop> {
     let mut zeros = Vec::new(alloc);
     zeros.resize(count as usize, 0)?;
-    let mut port = signed(FakePort::new(alloc, 0), signing);
+    let mut port = signed(FakePort::new(alloc, 0), signing, signing.who);
     send(&mut port, receiver, &zeros, page)?;
     for letter in port.carrier().gone() {
         let bytes = letter.bytes.as_slice();
         page.number(bytes.len() as u64)?;
-        let theirs = Signing {
-            who: receiver,
-            ..signing
-        };
-        let mut there = signed(carrier(alloc, bytes)?, theirs);
+        let mut there = signed(carrier(alloc, bytes)?, signing, receiver);
         let mut buffer = [0; MAX_TAKEN];
         if let Ok(Some(len)) = there.recv(&mut buffer) {
             page.number(len as u64)?;
@@ -148,7 +146,7 @@ fn say_long(
 
 /// A node sends bytes to another: what its carrier has then.
 fn say_sent(
-    signing: Option<Signing>,
+    signing: Option<&Signing>,
     alloc: Global,
     rest: &[u8],
     page: &mut Page,
@@ -159,7 +157,7 @@ fn say_sent(
     let carrier = FakePort::new(alloc, 0);
     match signing {
         Some(signing) => {
-            let mut port = signed(carrier, signing);
+            let mut port = signed(carrier, signing, signing.who);
             send(&mut port, receiver, &bytes, page)?;
             ports::say_gone(port.carrier(), page)
         }
@@ -174,7 +172,7 @@ fn say_sent(
 impl Part for Station {
     fn call(&mut self, alloc: Global, line: &[u8], page: &mut Page) -> Result<(), Stop> {
         let (verb, rest) = words::cut(line);
-        match (verb, self.signing) {
+        match (verb, self.signing.as_ref()) {
             (b"recv", signing) => receive(
                 signing,
                 carrier(alloc, &words::bytes(alloc, rest)?)?,

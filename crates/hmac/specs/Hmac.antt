@@ -10,6 +10,10 @@ short_key key = if nat_le (length key) 64 then key else sha256 key
 abbrev pub in_block : List ℕ → List ℕ
 in_block bytes = bytes ++ replicate (64 - length bytes) 0
 
+-- a key: its block
+pub record KeyParts : Type 0 where
+  pub block : List ℕ
+
 -- the key as a block
 abbrev pub key_block : List ℕ → List ℕ
 key_block key = in_block (short_key key)

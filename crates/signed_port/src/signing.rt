@@ -16,7 +16,7 @@ pub const DIGEST: usize = 32;
 pub const TRAILER: usize = 2 + TAG;
 
 /// What a node signs by: the key, the cluster's digest, and itself.
-#[derive(Clone, Copy)]
+#[derive(Drop)]
 pub(crate) struct Signer {
     pub(crate) key: Key,
     pub(crate) digest: [u8; DIGEST],
