@@ -1,5 +1,6 @@
 -- Whole traces.
-use Rattle.std.proofs.Common.{◌≡◌, ◌∙◌, ℕ, ◌+◌, ◌<◌, Bool, true, false, ◌&&◌, List, ◌∷◌, length, get_or, take, Result, Ok, Err, refl, sym, ap, subst}
+use Rattle.std.proofs.Common.{◌≡◌, ◌∙◌, ℕ, ◌+◌, ◌<◌, Bool, true, false, ◌&&◌, List, ◌∷◌, length, get_or, take, Result, Ok, Err, refl, sym}
+use Rattle.std.proofs.Common.{ap, subst}
 use Rattle.std.specs.Prelude.{IfOk}
 use Rattle.net_script.specs.declared.values.Entry.{Entry}
 use Rattle.history.specs.SerialOrder.{first_commits}
@@ -28,7 +29,8 @@ module _ (t : Trace) where
 
   abbrev order_kept : Bool
   order_kept =
-      is_order_kept first (stretches_back (history_of t.entries)) (committed_back (history_of t.entries)) (first_commits (history_of t.entries)) t.finals
+      is_order_kept first (stretches_back (history_of t.entries)) (committed_back (history_of t.entries))
+      (first_commits (history_of t.entries)) t.finals
 
   module _ (i : ℕ) (entry : Entry) (lt : i < length t.entries) (is : entry ≡ get_or t.entries i entry) (new : Ledger) (ok : Bool)
       (takes : Takes first (history_of (take i t.entries)) (step_of entry) ok new) where
@@ -55,7 +57,8 @@ module _ (t : Trace) where
 
     -- it isn't where the last rows are others
     pub wrong_tables : false ≡ are_tables (rows_of ledger.tables) 0 t.finals → false ≡ is_consistent t
-    wrong_tables wrong = by (each_step (is_right first) (history_of t.entries)) ∙ ap (λ b. each_step (is_right first) (history_of t.entries) && b && order_kept) (wrong ∙ tables_read)
+    wrong_tables wrong = by (each_step (is_right first) (history_of t.entries))
+        ∙ ap (λ b. each_step (is_right first) (history_of t.entries) && b && order_kept) (wrong ∙ tables_read)
       where
         by : (b : Bool) → false ≡ (b && false && order_kept)
         by true = refl
@@ -63,16 +66,19 @@ module _ (t : Trace) where
 
     -- else it is where the order of first commits explains it
     pub by_order : each_step (is_right first) (history_of t.entries) ≡ true → true ≡ are_tables (rows_of ledger.tables) 0 t.finals
-        → (b : Bool) → b ≡ is_order_kept first (stretch_of ledger.branches) (has_committed ledger.views) ledger.firsts t.finals → b ≡ is_consistent t
+        → (b : Bool) → b ≡ is_order_kept first (stretch_of ledger.branches) (has_committed ledger.views) ledger.firsts t.finals
+        → b ≡ is_consistent t
     by_order right tables b order =
         order ∙ order_so first (history_of t.entries) ledger t.finals follows
         ∙ (λ i. sym right i && (tables ∙ tables_read) i && order_kept)
 
     pub by_result : each_step (is_right first) (history_of t.entries) ≡ true → true ≡ are_tables (rows_of ledger.tables) 0 t.finals
         → (tables : List Table) → tables ≡ t.tables → (finals : List (List Row)) → finals ≡ t.finals → (r : Result Bool Refusal)
-        → IfOk r (λ b. b ≡ is_order_kept (first_tables tables) (stretch_of ledger.branches) (has_committed ledger.views) ledger.firsts finals)
+        → IfOk r (λ b. b ≡ is_order_kept (first_tables tables) (stretch_of ledger.branches) (has_committed ledger.views) ledger.firsts
+        finals)
         → IfOk r (λ b. b ≡ is_consistent t)
     by_result right read tables tables_are finals finals_are (Ok b) order =
         by_order right read b
-        (order ∙ (λ i. is_order_kept (first_tables (tables_are i)) (stretch_of ledger.branches) (has_committed ledger.views) ledger.firsts (finals_are i)))
+        (order ∙ (λ i. is_order_kept (first_tables (tables_are i)) (stretch_of ledger.branches) (has_committed ledger.views) ledger.firsts
+        (finals_are i)))
     by_result right read tables tables_are finals finals_are (Err e) order = tt

@@ -20,7 +20,8 @@ module _ (p : View → Bool) (g : ℕ → View) where
     where
       by : (t : Bool) → (b.rm == r) ≡ t
           → (list_all p (map g (rm_numbers bs)) ≡ true → (r : ℕ) → list_any (is_at r) bs ≡ true → p (g r) ≡ true) → p (g r) ≡ true
-      by true e rest = ap (λ n. p (g n)) (sym ((unsigned_Decides b.rm r).0 e)) ∙ (and_parts (p (g b.rm)) (list_all p (map g (rm_numbers bs))) all).0
+      by true e rest =
+          ap (λ n. p (g n)) (sym ((unsigned_Decides b.rm r).0 e)) ∙ (and_parts (p (g b.rm)) (list_all p (map g (rm_numbers bs))) all).0
       by false e rest =
           rest (and_parts (p (g b.rm)) (list_all p (map g (rm_numbers bs))) all).1 r (ap (λ t. t || list_any (is_at r) bs) (sym e) ∙ named)
 

@@ -1,5 +1,6 @@
 -- What a ledger holds after one entry more.
-use Rattle.std.proofs.Common.{◌≡◌, ◌∙◌, ℕ, ◌+◌, ◌<◌, Bool, true, false, ◌==◌, ◌&&◌, cond, List, [], ◌∷◌, ◌++◌, length, map, get_or, take, drop, reverse, set, Option, Some, None, Result, Ok, Err, refl, sym, ap, subst, suc, arith}
+use Rattle.std.proofs.Common.{◌≡◌, ◌∙◌, ℕ, ◌+◌, ◌<◌, Bool, true, false, ◌==◌, ◌&&◌, cond, List, [], ◌∷◌, ◌++◌, length, map, get_or, take}
+use Rattle.std.proofs.Common.{drop, reverse, set, Option, Some, None, Result, Ok, Err, refl, sym, ap, subst, suc, arith}
 use Rattle.std.specs.Prelude.{IfOk}
 use Rattle.std.specs.Option.{option_map_or, option_and_then}
 use Rattle.std.proofs.Math.Seq.{take-suc}
@@ -61,7 +62,8 @@ module _ (first : ℕ → List Row) (before : List Step) (old mid : Ledger) (fol
       where
         by : (b : Bool)
             → cond (b && true)
-            (with_writes (table_told first rm before) (writes_at (stretches_back (after ∷ before)) rm change.tx)) (table_told first rm before)
+            (with_writes (table_told first rm before) (writes_at (stretches_back (after ∷ before)) rm change.tx))
+            (table_told first rm before)
             ≡ option_map_or (λ tx. with_writes (table_told first rm before) (writes_at (stretches_back (after ∷ before)) rm tx))
             (cond b (Some change.tx) None) (table_told first rm before)
         by true = refl
@@ -70,7 +72,8 @@ module _ (first : ℕ → List Row) (before : List Step) (old mid : Ledger) (fol
       where
         by : (b : Bool)
             → cond (b && false)
-            (with_writes (table_told first rm before) (writes_at (stretches_back (after ∷ before)) rm change.tx)) (table_told first rm before)
+            (with_writes (table_told first rm before) (writes_at (stretches_back (after ∷ before)) rm change.tx))
+            (table_told first rm before)
             ≡ table_told first rm before
         by true = refl
         by false = refl
@@ -111,7 +114,8 @@ module _ (first : ℕ → List Row) (before : List Step) (old mid : Ledger) (fol
 pub right_so : (first : ℕ → List Row) (before : List Step) (old : Ledger) (event : Event) (answer : Answer) → Follows first before old
     → is_event_right (rows_of old.tables) (stretch_of old.branches) event answer
     ≡ is_event_right (λ rm. table_told first rm before) (stretches_back before) event answer
-right_so first before old event answer follows = λ i. is_event_right (λ rm. follows.tables rm i) (λ rm x. follows.branches rm x i) event answer
+right_so first before old event answer follows =
+    λ i. is_event_right (λ rm. follows.tables rm i) (λ rm x. follows.branches rm x i) event answer
 
 -- an entry is refused whose event isn't right
 pub refused : (first : ℕ → List Row) (before : List Step) (step : Step) (old new : Ledger) → Follows first before old
@@ -138,7 +142,8 @@ pub nothing_happened : (old : Ledger) (answer : Answer) → IsHappened old old (
 nothing_happened old answer = record { branches = λ rm x. refl; tables = refl; views = refl; firsts = refl }
 
 -- an entry of a step is taken, or refused, whose event is right
-pub step_taken : (r : Result Bool Refusal) (entry : Entry) (step : Step) (old mid new : Ledger) (b : Bool) → entry ≡ Entry.Step step → b ≡ true
+pub step_taken : (r : Result Bool Refusal) (entry : Entry) (step : Step) (old mid new : Ledger) (b : Bool) → entry ≡ Entry.Step step
+    → b ≡ true
     → (b ≡ is_event_right (rows_of old.tables) (stretch_of old.branches) step.event step.answer)
     × (b ≡ true → IsHappened old mid step.event step.answer)
     → IfOk r (λ yes. (yes ≡ option_map_or (is_move_from mid.views) step.now true) × (yes ≡ true → IsChangedBy mid new step.now))
@@ -149,13 +154,15 @@ step_taken (Ok ok) entry step old mid new b is right event change = λ first bef
 step_taken (Err e) entry step old mid new b is right event change = tt
 
 -- an entry of a serve is taken, or refused
-pub serve_taken : (r : Result Bool Refusal) (entry : Entry) (node : NodeId) (answer : Answer) (now : Option Change) (sent : List Sent) (old new : Ledger)
+pub serve_taken : (r : Result Bool Refusal) (entry : Entry) (node : NodeId) (answer : Answer) (now : Option Change) (sent : List Sent)
+    (old new : Ledger)
     → entry ≡ Entry.Serve node answer now sent
     → IfOk r (λ yes. (yes ≡ option_map_or (is_move_from old.views) now true) × (yes ≡ true → IsChangedBy old new now))
     → IfOk r (λ yes. (first : ℕ → List Row) (before : List Step) → Follows first before old → Takes first before (step_of entry) yes new)
 serve_taken (Ok ok) entry node answer now sent old new is change = λ first before follows.
     subst (λ e. Takes first before (step_of e) ok new) (sym is)
-    (taken first before (step_of (Entry.Serve node answer now sent)) old old new ok follows refl (nothing_happened old answer) change.0 change.1)
+    (taken first before (step_of (Entry.Serve node answer now sent)) old old new ok follows refl (nothing_happened old answer) change.0
+    change.1)
 serve_taken (Err e) entry node answer now sent old new is change = tt
 
 -- ---- histories of the first entries
@@ -173,7 +180,8 @@ history_parts n entries =
     ap history_of (sym (take-append-drop n entries)) ∙ ap reverse (map-append step_of (take n entries) (drop n entries))
     ∙ reverse-append (map step_of (take n entries)) (map step_of (drop n entries))
 
-later_steps : (test : List Step → Step → Bool) (later before : List Step) → each_step test (later ++ before) ≡ true → each_step test before ≡ true
+later_steps : (test : List Step → Step → Bool) (later before : List Step) → each_step test (later ++ before) ≡ true
+    → each_step test before ≡ true
 later_steps test [] before e = e
 later_steps test (step ∷ later) before e =
     later_steps test later before (and_parts (each_step test (later ++ before)) (test (later ++ before) step) e).0
@@ -187,5 +195,7 @@ fails_at test entries i d lt wrong = by (each_step test (history_of entries)) re
     by false e = refl
     by true e =
         let parts = ap (each_step test) (sym (history_parts (i + 1) entries)) ∙ e in
-        let at = ap (each_step test) (sym (history_more entries i d lt)) ∙ later_steps test (history_of (drop (i + 1) entries)) (history_of (take (i + 1) entries)) parts in
-        sym (and_parts (each_step test (history_of (take i entries))) (test (history_of (take i entries)) (step_of (get_or entries i d))) at).1 ∙ wrong
+        let at = ap (each_step test) (sym (history_more entries i d lt))
+        ∙ later_steps test (history_of (drop (i + 1) entries)) (history_of (take (i + 1) entries)) parts in
+        sym (and_parts (each_step test (history_of (take i entries))) (test (history_of (take i entries)) (step_of (get_or entries i d)))
+        at).1 ∙ wrong

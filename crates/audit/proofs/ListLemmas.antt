@@ -1,5 +1,6 @@
 -- Tests of the elements of a list, one by one.
-use Rattle.std.proofs.Common.{◌≡◌, ◌∙◌, ℕ, zero, suc, ◌+◌, ◌<◌, Bool, true, false, ◌==◌, ◌&&◌, cond, ltb, replicate, List, [], ◌∷◌, ◌++◌, length, map, get_or, take, refl, sym, ap, arith}
+use Rattle.std.proofs.Common.{◌≡◌, ◌∙◌, ℕ, zero, suc, ◌+◌, ◌<◌, Bool, true, false, ◌==◌, ◌&&◌, cond, ltb, replicate, List, [], ◌∷◌, ◌++◌}
+use Rattle.std.proofs.Common.{length, map, get_or, take, refl, sym, ap, arith}
 use Rattle.std.specs.List.{fold, list_all}
 use Rattle.std.proofs.lemmas.Bool.{ltb-true, ltb-false}
 use Rattle.std.proofs.Math.ListN.{get_or-eq_default}
@@ -17,7 +18,8 @@ pub all_next : {X : Type 0} (p : X → Bool) (xs : List X) (i : ℕ) (d : X) →
     → p (get_or xs i d) ≡ true → list_all p (take (i + 1) xs) ≡ true
 all_next p xs i d lt before here = list_all_more p xs i d lt ∙ (λ j. before j && here j)
 
-pub all_fails : {X : Type 0} (p : X → Bool) (xs : List X) (i : ℕ) (d : X) → i < length xs → p (get_or xs i d) ≡ false → list_all p xs ≡ false
+pub all_fails : {X : Type 0} (p : X → Bool) (xs : List X) (i : ℕ) (d : X) → i < length xs → p (get_or xs i d) ≡ false
+    → list_all p xs ≡ false
 all_fails p [] i d lt wrong = absurd (omega (arith, lt))
 all_fails p (x ∷ xs) zero d lt wrong = ap (λ b. b && list_all p xs) wrong
 all_fails p (x ∷ xs) (suc i) d lt wrong = ap (λ b. p x && b) (all_fails p xs i d (omega (arith, lt)) wrong) ∙ and_false (p x)
@@ -48,7 +50,8 @@ chosen rm rows table = cond (table.rm == rm) table.rows rows
 pub first_more : (tables : List Table) (i : ℕ) (t : Table) → i < length tables → t ≡ get_or tables i t → (rm : ℕ)
     → first_tables (take (i + 1) tables) rm ≡ cond (t.rm == rm) (fold put_row [] t.rows) (first_tables (take i tables) rm)
 first_more tables i t lt is rm =
-    ap (fold put_row []) (fold_more (chosen rm) [] tables i t lt ∙ ap (chosen rm (fold (chosen rm) [] (take i tables))) (sym is)) ∙ by (t.rm == rm)
+    ap (fold put_row []) (fold_more (chosen rm) [] tables i t lt ∙ ap (chosen rm (fold (chosen rm) [] (take i tables))) (sym is))
+    ∙ by (t.rm == rm)
   where
     by : (b : Bool) → fold put_row [] (cond b t.rows (first_rows_of (take i tables) rm))
         ≡ cond b (fold put_row [] t.rows) (first_tables (take i tables) rm)

@@ -27,7 +27,8 @@ use Rattle.history.proofs.SerialReads.{reads_serial}
 use Rattle.audit.specs.declared.stretch.Shown.{Shown}
 use Rattle.audit.specs.Consistent.{serial_table, are_shown, reads_are_serial}
 use Rattle.audit.specs.Stretches as stretches
-use Rattle.audit.specs.Stretches.{StretchParts, own_act, stretch_after, stretch_by, stretch_back, stretches_back, gets_in, writes_at, branch_at}
+use Rattle.audit.specs.Stretches.{StretchParts, own_act, stretch_after, stretch_by, stretch_back, stretches_back, gets_in, writes_at}
+use Rattle.audit.specs.Stretches.{branch_at}
 use Rattle.audit.specs.Tables.{shows}
 use Rattle.audit.proofs.MachineStretches.{not_called, called, writes_same, own_same}
 
@@ -205,7 +206,8 @@ module _ (config : Config) (world : World) (history : List Step) (run : IsRun co
 
   -- the gets of each committed transaction are explained
   pub gets_serial : reads_are_serial first (stretches_back history) (first_commits history) ≡ true
-  gets_serial = all_passed _ (first_commits history) (λ tx among. all_passed _ (participants tx) (λ rm h. by tx among rm (xid_at tx rm) refl))
+  gets_serial =
+      all_passed _ (first_commits history) (λ tx among. all_passed _ (participants tx) (λ rm h. by tx among rm (xid_at tx rm) refl))
     where
       by : (tx : TxParts) → IsIn (first_commits history) tx → (rm : ℕ) (o : Option XidParts) → xid_at tx rm ≡ o
           → are_shown (serial_table first (stretches_back history) rm (those_before tx (first_commits history)))

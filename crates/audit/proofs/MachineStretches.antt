@@ -163,7 +163,8 @@ some_since p rm x (step ∷ history) e =
         → list_any is_start (filter_map (done_at rm x) history) ≡ true)
         → list_any is_start (filter_map (done_at rm x) (cond b (step ∷ take_while p history) [])) ≡ true
         → list_any is_start (filter_map (done_at rm x) (step ∷ history)) ≡ true
-    by true rest h = some_more (done_at rm x step) (filter_map (done_at rm x) (take_while p history)) (filter_map (done_at rm x) history) rest h
+    by true rest h =
+        some_more (done_at rm x step) (filter_map (done_at rm x) (take_while p history)) (filter_map (done_at rm x) history) rest h
     by false rest h = absurd (cc (h))
 
 writing_active : (action : Action) (state : Option BranchState) → write_by action ≢ None → IsReadyFor action state → state ≡ Some Active

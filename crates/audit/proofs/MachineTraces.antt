@@ -134,7 +134,8 @@ module _ (config : Config) (world : World) (before : List Step) (run : IsRun con
     | inr is ↦ by (nat_lt rm config.managers && accepts_request (R rm) (Call x (Get key))) is
   ]
     where
-      by : (b : Bool) → MatchBool b (IsAnswerOf config rm before (Call x (Get key)) (get_answer found)) (get_answer found ≡ Refused Refusal.NoSuch)
+      by : (b : Bool) → MatchBool b (IsAnswerOf config rm before (Call x (Get key)) (get_answer found))
+          (get_answer found ≡ Refused Refusal.NoSuch)
           → found ≡ value_after (last_act_on (writes_in (actions_since_start rm x before)) key) (row_at rows key)
       by true is = elim is [
         | inl down ↦ absurd (not_down found down.1)
@@ -143,7 +144,8 @@ module _ (config : Config) (world : World) (before : List Step) (run : IsRun con
       by false none = absurd (not_refused found _ none)
 
   right_get : IsAnswered config before (Ask (R rm) (Call x (Get key))) (get_answer found)
-      → shows (table_told (first config world before run) rm before) key (own_act (stretches.writes_in (stretch_back rm x before)) key) found ≡ true
+      → shows (table_told (first config world before run) rm before) key (own_act (stretches.writes_in (stretch_back rm x before)) key)
+      found ≡ true
   right_get answered =
       shows_so (table_told (first config world before run) rm before) key (own_act (stretches.writes_in (stretch_back rm x before)) key)
       (last_act_on (writes_in (actions_since_start rm x before)) key) found
@@ -192,7 +194,8 @@ module _ (config : Config) (world : World) (before : List Step) (run : IsRun con
   named_by input (stored.VoteAborted t) rule = name_names t rm rule.0 rule.1.name
   named_by input (stored.Aborted t) rule = name_names t rm rule.0 rule.1.name
   named_by input (stored.Committed t) rule =
-      voted_named config rm old.facts (sound config world before rm run).played t votes.Prepared (prepared_shows old.facts t rule.prepared).0
+      voted_named config rm old.facts (sound config world before rm run).played t votes.Prepared
+      (prepared_shows old.facts t rule.prepared).0
   named_by input fact rule = absurd rule
 
   moved_by : (e : Option Change) → e ≡ (world_step config world event fault).now
@@ -259,7 +262,8 @@ right_moves config world before run event fault = by (world_step config world ev
 -- ---- whole traces
 
 steps_right : (config : Config) (world : World) (history : List Step) → IsRun config world history
-    → each_step (λ before step. shows_rightly (λ rm. fold put_row [] (first_rows config rm)) before step && moves_rightly before step) history
+    → each_step (λ before step. shows_rightly (λ rm. fold put_row [] (first_rows config rm)) before step && moves_rightly before step)
+    history
     ≡ true
 steps_right config _ _ AtFirst = refl
 steps_right config _ _ (Then world before event fault run) =
@@ -283,14 +287,16 @@ module _ (config : Config) (world : World) (history : List Step) (run : IsRun co
 
   finals_are : (made : ℕ → List Row) → ((rm : ℕ) → table_back (first_rows config rm) rm history ≡ made rm) → are_tables made 0 finals ≡ true
   finals_are made same = are_so made 0 finals (λ rm lt.
-      let less : rm < config.managers = subst (λ (n : ℕ). rm < n) (length-map-range_with_len (table_at config world) 0 config.managers) lt in
+      let less : rm < config.managers =
+      subst (λ (n : ℕ). rm < n) (length-map-range_with_len (table_at config world) 0 config.managers) lt in
       let node = standing rm less in
       let zero_more : 0 + rm ≡ rm = omega arith in
       get_or-map-range_with_len (table_at config world) 0 config.managers rm rm [] less (omega arith)
       ∙ laws.table_looked_back config world history rm run node.0 node.1 ∙ same rm ∙ sym (ap made zero_more))
 
   tables_right : are_tables (λ rm. table_told (first config world history run) rm history) 0 finals ≡ true
-  tables_right = finals_are (λ rm. table_told (first config world history run) rm history) (λ rm. sym (told_back config world history run rm))
+  tables_right =
+      finals_are (λ rm. table_told (first config world history run) rm history) (λ rm. sym (told_back config world history run rm))
 
   tables_serial : are_tables (λ rm. serial_table (first config world history run) (stretches_back history) rm
       (filter (committed_back history rm) (first_commits history))) 0 finals ≡ true
@@ -301,4 +307,5 @@ module _ (config : Config) (world : World) (history : List Step) (run : IsRun co
       ∙ sym (serial_same config world history run rm (committed_at rm history)))
 
   pub consistent : is_history_consistent (λ rm. fold put_row [] (first_rows config rm)) history finals ≡ true
-  consistent = (λ j. steps_right config world history run j && tables_right j && (gets_serial config world history run j && tables_serial j))
+  consistent =
+      (λ j. steps_right config world history run j && tables_right j && (gets_serial config world history run j && tables_serial j))

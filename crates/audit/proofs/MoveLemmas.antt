@@ -1,5 +1,6 @@
 -- The views of a transaction's participants, by place and looked back at.
-use Rattle.std.proofs.Common.{◌≡◌, ◌∙◌, ℕ, suc, ◌+◌, ◌<◌, ◌≤◌, Bool, true, false, ◌==◌, ◌&&◌, cond, ltb, List, [], ◌∷◌, length, map, get_or, set, Option, Some, None, refl, sym, ap, subst, arith}
+use Rattle.std.proofs.Common.{◌≡◌, ◌∙◌, ℕ, suc, ◌+◌, ◌<◌, ◌≤◌, Bool, true, false, ◌==◌, ◌&&◌, cond, ltb, List, [], ◌∷◌, length, map, get_or}
+use Rattle.std.proofs.Common.{set, Option, Some, None, refl, sym, ap, subst, arith}
 use Rattle.std.specs.Prelude.{find, position, not}
 use Rattle.std.specs.Cmp.{unsigned_Decides}
 use Rattle.std.specs.List.{cons_option, list_any, position_or_len}
@@ -112,11 +113,13 @@ module _ (before : List Step) (event : Event) (answer : Answer) (sent : List Sen
           ≡ cond t (set (views_back before tx) (place_at change.rm tx) change.view) (views_back before tx)
       by true e =
           let up = subst IsTx (sym ((tx_decides tx change.tx).0 e)) is in
-          (λ i. map (λ rm. (view_more tx rm ∙ ap (λ t. cond (change.rm == rm) (cond t change.view (view_back rm before tx)) (view_back rm before tx)) e) i)
+          (λ i. map (λ rm. (view_more tx rm
+          ∙ ap (λ t. cond (change.rm == rm) (cond t change.view (view_back rm before tx)) (view_back rm before tx)) e) i)
           (participants tx))
           ∙ set_at change.rm tx.branches (λ rm. view_back rm before tx) change.view up.branches.ascending
       by false e =
-          (λ i. map (λ rm. (view_more tx rm ∙ ap (λ t. cond (change.rm == rm) (cond t change.view (view_back rm before tx)) (view_back rm before tx)) e
+          (λ i. map (λ rm. (view_more tx rm
+          ∙ ap (λ t. cond (change.rm == rm) (cond t change.view (view_back rm before tx)) (view_back rm before tx)) e
           ∙ same (change.rm == rm) (view_back rm before tx)) i) (participants tx))
         where
           same : (b : Bool) (v : View) → cond b v v ≡ v

@@ -1,5 +1,6 @@
 -- The places of the last writes to keys, after one more write.
-use Rattle.std.proofs.Common.{◌≡◌, ◌∙◌, ℕ, ◌+◌, ◌<◌, Bool, true, false, cond, List, [], ◌∷◌, ◌++◌, length, Option, Some, None, refl, sym, ap, subst, arith}
+use Rattle.std.proofs.Common.{◌≡◌, ◌∙◌, ℕ, ◌+◌, ◌<◌, Bool, true, false, cond, List, [], ◌∷◌, ◌++◌, length, Option, Some, None, refl, sym}
+use Rattle.std.proofs.Common.{ap, subst, arith}
 use Rattle.std.proofs.Common.{reverse}
 use Rattle.std.specs.Prelude.{find}
 use Rattle.std.specs.Map.{lookup}
@@ -77,7 +78,8 @@ own_after writes t key =
     (reverse-append writes (t ∷ []))
     ∙ by (bytes_eq t.key key)
   where
-    by : (b : Bool) → option_map_or (λ (write : Touched). write.act) (cond b (Some t) (find (λ (write : Touched). bytes_eq write.key key) (reverse writes))) Act.Read
+    by : (b : Bool) → option_map_or (λ (write : Touched). write.act)
+        (cond b (Some t) (find (λ (write : Touched). bytes_eq write.key key) (reverse writes))) Act.Read
         ≡ cond b t.act (own_act writes key)
     by true = refl
     by false = refl
@@ -85,7 +87,8 @@ own_after writes t key =
 act_stays : (writes : List Touched) (t : Touched) (place : Option ℕ) → IfSome place (λ i. i < length writes)
     → act_at (writes ++ t ∷ []) place ≡ act_at writes place
 act_stays writes t None within = refl
-act_stays writes t (Some i) within = ap (λ (u : Touched). u.act) (get_or_append_left writes (t ∷ []) (record { key = []; act = Act.Read }) i within)
+act_stays writes t (Some i) within =
+    ap (λ (u : Touched). u.act) (get_or_append_left writes (t ∷ []) (record { key = []; act = Act.Read }) i within)
 
 within_more : (n : ℕ) (place : Option ℕ) → IfSome place (λ i. i < n) → IfSome place (λ i. i < n + 1)
 within_more n None within = within

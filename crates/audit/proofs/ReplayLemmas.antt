@@ -1,5 +1,6 @@
 -- The writes of a transaction, made participant by participant.
-use Rattle.std.proofs.Common.{◌≡◌, ◌∙◌, ℕ, zero, suc, ◌+◌, ◌<◌, ◌≤◌, Bool, true, false, ◌==◌, ◌&&◌, ◌||◌, cond, List, [], ◌∷◌, length, get_or, take, Some, None, refl, sym, ap, subst, arith}
+use Rattle.std.proofs.Common.{◌≡◌, ◌∙◌, ℕ, zero, suc, ◌+◌, ◌<◌, ◌≤◌, Bool, true, false, ◌==◌, ◌&&◌, ◌||◌, cond, List, [], ◌∷◌, length}
+use Rattle.std.proofs.Common.{get_or, take, Some, None, refl, sym, ap, subst, arith}
 use Rattle.std.specs.Prelude.{find}
 use Rattle.std.specs.Cmp.{unsigned_Decides}
 use Rattle.std.specs.List.{list_any}
@@ -32,7 +33,8 @@ any_default (x ∷ xs) (suc n) d e under = any_default xs n d e (omega (arith, u
 
 -- ---- a resource manager takes part once
 
-below : (m : ℕ) (bs : List BranchParts) (i : ℕ) (d : BranchParts) → IsStrictlyIncreasing (m ∷ rm_numbers bs) → i < length bs → m < (get_or bs i d).rm
+below : (m : ℕ) (bs : List BranchParts) (i : ℕ) (d : BranchParts) → IsStrictlyIncreasing (m ∷ rm_numbers bs) → i < length bs
+    → m < (get_or bs i d).rm
 below m [] i d up lt = absurd (omega (arith, lt))
 below m (b ∷ bs) zero d up lt = up 0 (omega arith)
 below m (b ∷ bs) (suc i) d up lt =
@@ -75,7 +77,8 @@ module _ (tx : TxParts) (is : IsTx tx) (i : ℕ) (lt : i < length tx.branches) w
   pub own_place : place_at rm tx ≡ i
   own_place =
       position_or_len_is (is_at rm) tx.branches i nobody (omega (arith, lt)) (λ k less. not_before k nobody less)
-      (λ _. (unsigned_Decides _ rm).1 (ap (λ (b : BranchParts). b.rm) (any_default tx.branches i nobody (record { rm = 0; bqual = [] }) lt)))
+      (λ _. (unsigned_Decides _ rm).1
+      (ap (λ (b : BranchParts). b.rm) (any_default tx.branches i nobody (record { rm = 0; bqual = [] }) lt)))
 
 -- ---- one participant more
 
@@ -124,7 +127,8 @@ none_found p (x ∷ xs) e = by (p x) e (none_found p xs)
     by false q rest = rest q
 
 pub no_writes : (done : Stretches) (rm : ℕ) (tx : TxParts) → list_any (is_at rm) tx.branches ≡ false → writes_at done rm tx ≡ []
-no_writes done rm tx none = ap (λ o. writes_in (option_and_then (done rm) (option_map (xid_of tx) o))) (none_found (is_at rm) tx.branches none)
+no_writes done rm tx none =
+    ap (λ o. writes_in (option_and_then (done rm) (option_map (xid_of tx) o))) (none_found (is_at rm) tx.branches none)
 
 -- all writes were made, where no other participant has any
 pub all_made : (named c : Bool) (rows : List Row) (w : List Touched) → (named ≡ false → w ≡ [])
@@ -171,4 +175,5 @@ module _ (done : Stretches) (tx : TxParts) (rm : ℕ) (i : ℕ) (le : length tx.
   pub end_all : now ≡ cond (list_any (is_at rm) (take i tx.branches)) (with_writes rows (writes_at done rm tx)) rows
       → now ≡ with_writes rows (writes_at done rm tx)
   end_all is =
-      end_committed true (is ∙ ap (λ b. cond b (with_writes rows (writes_at done rm tx)) rows) (sym (and_true (list_any (is_at rm) (take i tx.branches)))))
+      end_committed true (is ∙ ap (λ b. cond b (with_writes rows (writes_at done rm tx)) rows)
+      (sym (and_true (list_any (is_at rm) (take i tx.branches)))))

@@ -1,5 +1,6 @@
 -- One serial order: transactions by their places, and which of them a resource manager has committed.
-use Rattle.std.proofs.Common.{◌≡◌, ◌∙◌, ◌⊎◌, inl, inr, ℕ, zero, suc, ◌+◌, ◌<◌, Bool, true, false, ◌&&◌, cond, ltb, List, [], ◌∷◌, ◌++◌, length, get_or, take, Option, Some, None, refl, sym, ap, subst, arith}
+use Rattle.std.proofs.Common.{◌≡◌, ◌∙◌, ◌⊎◌, inl, inr, ℕ, zero, suc, ◌+◌, ◌<◌, Bool, true, false, ◌&&◌, cond, ltb, List, [], ◌∷◌, ◌++◌}
+use Rattle.std.proofs.Common.{length, get_or, take, Option, Some, None, refl, sym, ap, subst, arith}
 use Rattle.std.specs.Prelude.{find, filter, fold, not, slice_get}
 use Rattle.std.specs.List.{AllByRecursion, IsDistinct, list_all, position_or_len}
 use Rattle.std.specs.Option.{option_map, option_and_then, unwrap_or}
@@ -96,7 +97,8 @@ module _ (done : Stretches) (rm : ℕ) where
   abbrev pub with_tx : List Row → TxParts → List Row
   with_tx rows tx = with_writes rows (writes_at done rm tx)
 
-  same_serial : (c d : TxParts → Bool) → ((tx : TxParts) → (c tx ≡ d tx) ⊎ (writes_at done rm tx ≡ [])) → (txs : List TxParts) (rows : List Row)
+  same_serial : (c d : TxParts → Bool) → ((tx : TxParts) → (c tx ≡ d tx) ⊎ (writes_at done rm tx ≡ []))
+      → (txs : List TxParts) (rows : List Row)
       → fold with_tx rows (filter c txs) ≡ fold with_tx rows (filter d txs)
   same_serial c d so [] rows = refl
   same_serial c d so (tx ∷ txs) rows = by (so tx) (same_serial c d so txs)
@@ -106,7 +108,8 @@ module _ (done : Stretches) (rm : ℕ) where
       left rest true = rest (with_tx rows tx)
       left rest false = rest rows
 
-      right : ((rows : List Row) → fold with_tx rows (filter c txs) ≡ fold with_tx rows (filter d txs)) → (a b : Bool) → writes_at done rm tx ≡ []
+      right : ((rows : List Row) → fold with_tx rows (filter c txs) ≡ fold with_tx rows (filter d txs)) → (a b : Bool)
+          → writes_at done rm tx ≡ []
           → fold with_tx rows (cond a (tx ∷ filter c txs) (filter c txs)) ≡ fold with_tx rows (cond b (tx ∷ filter d txs) (filter d txs))
       right rest true true none = rest (with_tx rows tx)
       right rest true false none = ap (λ ws. fold with_tx (with_writes rows ws) (filter c txs)) none ∙ rest rows
@@ -125,7 +128,8 @@ pub order_so : (first : ℕ → List Row) (history : List Step) (ledger : Ledger
     ≡ is_order_kept first (stretches_back history) (committed_back history) (first_commits history) finals
 order_so first history ledger finals follows =
     (λ i. is_order_kept first (λ rm x. follows.branches rm x i) (has_committed ledger.views) (follows.firsts i) finals)
-    ∙ ap (λ b. reads_are_serial first (stretches_back history) (first_commits history) && b) (λ i. are_tables (λ rm. same_serial (stretches_back history) rm (has_committed ledger.views rm) (committed_back history rm)
+    ∙ ap (λ b. reads_are_serial first (stretches_back history) (first_commits history) && b)
+    (λ i. are_tables (λ rm. same_serial (stretches_back history) rm (has_committed ledger.views rm) (committed_back history rm)
     (committed_so history ledger follows.views (stretches_back history) rm) (first_commits history) (first rm) i) 0 finals)
 
 -- ---- one transaction more of the order
@@ -147,14 +151,16 @@ module _ (first : ℕ → List Row) (done : Stretches) (order : List TxParts) (n
       let next : n + 1 ≡ suc n = omega arith in
       ap (λ k. take k order) next ∙ take-suc order n tx under ∙ ap (λ t. take n order ++ t ∷ []) nth
 
-  pub all_more : (rm : ℕ) (rows next : List Row) → rows ≡ serial_table first done rm (take n order) → next ≡ with_writes rows (writes_at done rm tx)
+  pub all_more : (rm : ℕ) (rows next : List Row) → rows ≡ serial_table first done rm (take n order)
+      → next ≡ with_writes rows (writes_at done rm tx)
       → next ≡ serial_table first done rm (take (n + 1) order)
   all_more rm rows next is step =
       step ∙ ap (λ r. with_writes r (writes_at done rm tx)) is
       ∙ sym (ap (serial_table first done rm) longer ∙ fold-append (with_tx done rm) (first rm) (take n order) (tx ∷ []))
 
   pub committed_more : (c : TxParts → Bool) (rm : ℕ) (rows next : List Row) → rows ≡ serial_table first done rm (filter c (take n order))
-      → next ≡ cond (c tx) (with_writes rows (writes_at done rm tx)) rows → next ≡ serial_table first done rm (filter c (take (n + 1) order))
+      → next ≡ cond (c tx) (with_writes rows (writes_at done rm tx)) rows
+      → next ≡ serial_table first done rm (filter c (take (n + 1) order))
   committed_more c rm rows next is step =
       step ∙ ap (λ r. cond (c tx) (with_writes r (writes_at done rm tx)) r) is ∙ by (c tx)
       ∙ sym (ap (λ txs. serial_table first done rm (filter c txs)) longer

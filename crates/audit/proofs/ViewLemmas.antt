@@ -1,5 +1,6 @@
 -- The views of transactions by number: after one more transaction is noted, and after a view is set.
-use Rattle.std.proofs.Common.{◌≡◌, ◌∙◌, ℕ, ◌+◌, ◌<◌, Bool, true, false, cond, ltb, List, [], ◌∷◌, ◌++◌, length, map, get_or, set, zero, suc, Some, None, refl, sym, ap, subst, arith}
+use Rattle.std.proofs.Common.{◌≡◌, ◌∙◌, ℕ, ◌+◌, ◌<◌, Bool, true, false, cond, ltb, List, [], ◌∷◌, ◌++◌, length, map, get_or, set, zero, suc}
+use Rattle.std.proofs.Common.{Some, None, refl, sym, ap, subst, arith}
 use Rattle.std.specs.Prelude.{position}
 use Rattle.std.specs.List.{position_or_len}
 use Rattle.std.proofs.lemmas.Bool.{lt-ltb, le-ltb}
@@ -31,7 +32,8 @@ pub found_none : {X : Type 0} (p : X → Bool) (xs : List X) (d : X) → ((k : �
 found_none p xs d all =
     let is : position_or_len p xs ≡ length xs =
     position_or_len_is p xs (length xs) d (omega arith) all (λ lt. absurd (omega (arith, lt))) in
-    sym (ap (λ n. cond (ltb n (length xs)) (Some n) None) is ∙ ap (λ t. cond t (Some (length xs)) None) (le-ltb (length xs) (length xs) (omega arith)))
+    sym (ap (λ n. cond (ltb n (length xs)) (Some n) None) is
+    ∙ ap (λ t. cond t (Some (length xs)) None) (le-ltb (length xs) (length xs) (omega arith)))
 
 -- ---- views by number
 
@@ -45,7 +47,8 @@ module _ (ts us : List TxParts) (tx : TxParts) (absent : place_in ts tx ≡ leng
 
   pub noted_whole : length more ≡ length us
   noted_whole =
-      ap length pushed ∙ length-append rows (all_working tx ∷ []) ∙ ap (λ n. n + 1) whole ∙ sym (length-append ts (tx ∷ [])) ∙ ap length (sym last)
+      ap length pushed ∙ length-append rows (all_working tx ∷ []) ∙ ap (λ n. n + 1) whole ∙ sym (length-append ts (tx ∷ []))
+      ∙ ap length (sym last)
 
   pub noted_number : (number : ℕ) → number ≡ place_in ts tx → IsNumberOf (views_of us more) tx number
   noted_number number is =
@@ -63,7 +66,8 @@ module _ (ts us : List TxParts) (tx : TxParts) (absent : place_in ts tx ≡ leng
 
 -- one view is set, of the transaction of a number
 pub view_set : (ts : List TxParts) (rows : List (List View)) (n : ℕ) (tx : TxParts) (place : ℕ) (view : View) (row : List View)
-    → IsNumberOf (views_of ts rows) tx n → length rows ≡ length ts → row ≡ set (views_in (views_of ts rows) tx) place view → (other : TxParts)
+    → IsNumberOf (views_of ts rows) tx n → length rows ≡ length ts → row ≡ set (views_in (views_of ts rows) tx) place view
+    → (other : TxParts)
     → views_in (views_of ts (set rows n row)) other
     ≡ cond (tx_eq other tx) (set (views_in (views_of ts rows) other) place view) (views_in (views_of ts rows) other)
 view_set ts rows n tx place view row number whole is other =
@@ -77,7 +81,8 @@ view_set ts rows n tx place view row number whole is other =
     by false e = refl
 
 -- the participants of a transaction that wasn't noted are working
-pub unnoted : (ts : List TxParts) (rows : List (List View)) (tx : TxParts) → length rows ≡ length ts → place_in ts tx ≡ length ts → (place : ℕ)
+pub unnoted : (ts : List TxParts) (rows : List (List View)) (tx : TxParts) → length rows ≡ length ts → place_in ts tx ≡ length ts
+    → (place : ℕ)
     → view_in (views_of ts rows) tx place ≡ View.Working
 unnoted ts rows tx whole absent place =
     ap (λ vs. get_or vs place View.Working) (get_or_past rows (place_in ts tx) (all_working tx) (omega (arith, whole, absent)))
@@ -102,7 +107,8 @@ position_is p xs i e = by (ltb (position_or_len p xs) (length xs)) e
     by false q = absurd (cc (q))
 
 -- a change was a step of TCommit, and was made
-pub moved_so : (old mid new : ViewsParts) (change : Change) (place rm : ℕ) → rm ≡ change.rm → Some place ≡ position (is_at rm) change.tx.branches
+pub moved_so : (old mid new : ViewsParts) (change : Change) (place rm : ℕ) → rm ≡ change.rm
+    → Some place ≡ position (is_at rm) change.tx.branches
     → ((tx : TxParts) → views_in mid tx ≡ views_in old tx) → (now : List View) → now ≡ views_in mid change.tx
     → true ≡ may_move now (get_or now place View.Working) change.view
     → ((tx : TxParts) → views_in new tx ≡ cond (tx_eq tx change.tx) (set (views_in mid tx) place change.view) (views_in mid tx))

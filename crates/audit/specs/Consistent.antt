@@ -30,7 +30,8 @@ abbrev pub reads_are_serial : (first : ℕ → List Row) → Stretches → List 
 reads_are_serial first done order = list_all (λ tx. read_after first done (those_before tx order) tx) order
 
 -- whether one serial order explains the last rows, each table by the transactions that its resource manager has committed, and the gets
-abbrev pub is_order_kept : (first : ℕ → List Row) → Stretches → (committed : ℕ → TxParts → Bool) → List TxParts → (finals : List (List Row)) → Bool
+abbrev pub is_order_kept : (first : ℕ → List Row) → Stretches → (committed : ℕ → TxParts → Bool) → List TxParts → (finals : List (List Row))
+    → Bool
 is_order_kept first done committed order finals =
     reads_are_serial first done order
     && are_tables (λ rm. serial_table first done rm (filter (committed rm) order)) 0 finals

@@ -74,7 +74,8 @@ impl Branches {
         key: &[u8],
         act: Act,
     ) -> Result<(), Refusal>
-        ensures ok { OnOk result (Sets self.old self.new rm xid.now (option_map (with_write key.now act) (stretch_of self.old rm xid.now))) }
+        ensures ok { OnOk result
+            (Sets self.old self.new rm xid.now (option_map (with_write key.now act) (stretch_of self.old rm xid.now))) }
         ensures err { IfErr result (λ e. e ≡ NoMemory) }
     {
         let Some(stretch) = self.named.get_mut(&Name { rm, xid: *xid }) else {

@@ -70,7 +70,8 @@ impl Ledger {
 
     /// Whether an event was rightly answered, and if so adds it. Refused: `NoMemory` alone.
     fn take_event(&mut self, alloc: Global, event: &Event, answer: &Answer) -> Result<bool, Refusal>
-        ensures ok { IfOk result (λ yes. (yes ≡ is_event_right (rows_of self.old.tables) (stretch_of self.old.branches) event.now answer.now)
+        ensures ok { IfOk result (λ yes.
+            (yes ≡ is_event_right (rows_of self.old.tables) (stretch_of self.old.branches) event.now answer.now)
             × (yes ≡ true → IsHappened self.old self.new event.now answer.now)) }
         ensures err { IfErr result (λ e. e ≡ NoMemory) }
     {

@@ -1,5 +1,6 @@
 -- What each client call meets and leaves, exit by exit.
-use Rattle.std.proofs.Common.{◌≡◌, ◌≢◌, ◌∙◌, ℕ, Bool, true, false, ◌||◌, ◌&&◌, cond, ltb, List, [], length, Option, Some, None, Ok, Err, refl, sym, ap, subst, Decides}
+use Rattle.std.proofs.Common.{◌≡◌, ◌≢◌, ◌∙◌, ℕ, Bool, true, false, ◌||◌, ◌&&◌, cond, ltb, List, [], length, Option, Some, None, Ok, Err}
+use Rattle.std.proofs.Common.{refl, sym, ap, subst, Decides}
 use Rattle.std.specs.Option.{option_map}
 use Rattle.std.specs.Str.{bytes_eq}
 use Rattle.std.proofs.lemmas.Bool.{cond_both, both_ways, false_from_ne_true}
@@ -22,7 +23,8 @@ use Rattle.protocol.specs.Branches.{value_fits, call_answer, touch_answer, is_do
 use Rattle.protocol.specs.Managers.{Branch, act_on, has_key, last_act, view_named}
 use Rattle.protocol.proofs.TouchedKeys.{acts_touched, has_touched}
 use Rattle.branch_table.specs.OneCall.{Answers, IsHindered, SameView, view_with_act, view_after_done}
-use Rattle.branch_table.specs.Tables.{TableState, AreHeldApart, ChangesOnly, Steps, branch_done, branch_named, can_be_rolled_back, in_state, is_active, with_act}
+use Rattle.branch_table.specs.Tables.{TableState, AreHeldApart, ChangesOnly, Steps, branch_done, branch_named, can_be_rolled_back, in_state}
+use Rattle.branch_table.specs.Tables.{is_active, with_act}
 use Rattle.branch_table.specs.Admission.{end_action, end_state, end_code, Admits, IsAdmitted, Meets, Touches}
 use Rattle.branch_table.specs.Parts.{hold_of}
 use Rattle.branch_table.specs.declared.hold.Hold.{Hold}
@@ -136,7 +138,8 @@ active_answer BranchState.Idle a b c e = absurd (cc (e))
 active_answer BranchState.RollbackOnly a b c e = absurd (cc (e))
 active_answer BranchState.Prepared a b c e = absurd (cc (e))
 
-pub end_absent : (t : TableState) (x : XidParts) (e : Ending) → branch_named t.branches x ≡ None → Steps t t x (end_action e) (Code code.Nota)
+pub end_absent : (t : TableState) (x : XidParts) (e : Ending) → branch_named t.branches x ≡ None
+    → Steps t t x (end_action e) (Code code.Nota)
 end_absent t x ending.Success none =
     undone_steps t x End (Code code.Nota) refl (keyless_answers t x End None (Code code.Nota) (λ _. refl) none refl)
 end_absent t x ending.Fail none =
@@ -153,10 +156,13 @@ end_ended t x ending.Fail b found ended =
     (keyless_answers t x EndFail (Some b) (Code code.Proto) (λ _. refl) found
     (ended_answer b.state (Code code.Nota) (Code code.RbRollback) (Code code.Proto) ended))
 
-in_another : (b : Branch) (s : BranchState) → SameView (view_or_none (Some (in_state s b))) (record { state = Some s; touched = λ key. has_key key b.keys; count = length b.keys; act = act_on b.keys })
+in_another : (b : Branch) (s : BranchState)
+    → SameView (view_or_none (Some (in_state s b)))
+    (record { state = Some s; touched = λ key. has_key key b.keys; count = length b.keys; act = act_on b.keys })
 in_another b s = record { state = refl; touched = λ _. refl; count = refl; act = λ _. refl }
 
-pub end_done : (old new : TableState) (x : XidParts) (e : Ending) (b : Branch) → branch_named old.branches x ≡ Some b → is_active b.state ≡ true
+pub end_done : (old new : TableState) (x : XidParts) (e : Ending) (b : Branch) → branch_named old.branches x ≡ Some b
+    → is_active b.state ≡ true
     → ChangesOnly old.branches new.branches x (Some (in_state (end_state e) b)) → new.rows ≡ old.rows
     → Steps old new x (end_action e) (Code (end_code e))
 end_done old new x ending.Success b found active only same_rows =
@@ -338,7 +344,8 @@ denied_undone action v busy key none =
     (λ free. cond_both (v.touched key || ltb v.count most_touched) _ _ goal (λ room. none.busy) (λ no_room. none.full)))
 
 -- a key or a value of a length that doesn't fit; busy says whether another branch hinders the call, which isn't looked at
-pub key_inval : (t : TableState) (x : XidParts) (action : Action) (key : List ℕ) (busy : Bool) → Decides busy (IsHindered (hinders action) (view_named t.branches) x)
+pub key_inval : (t : TableState) (x : XidParts) (action : Action) (key : List ℕ) (busy : Bool)
+    → Decides busy (IsHindered (hinders action) (view_named t.branches) x)
     → key_of action ≡ Some key → call_answer t.rows (view_named t.branches x) busy action ≡ Code code.Inval
     → Steps t t x action (Code code.Inval)
 key_inval t x action key busy is key-is inval =
@@ -365,7 +372,12 @@ key_done {action} {key} {act} {answer} old new x call admitted touched =
     let met = admitted_meets old.branches x (is_write act) key admitted answer in
     let only = subst (λ o. ChangesOnly old.branches new.branches x (option_map (with_act key act) o)) admitted.found touched.branches in
     done_steps old new x action answer (Some b) (Some (with_act key act b)) admitted.found only touched.rows
-    (record { done = call.done; branch = call.branch (Some b) x; view = rw (call.leaves (view_or_none (Some b))) (shows_touched b key act admitted.ascending) })
+    (record {
+      done = call.done;
+      branch = call.branch (Some b) x;
+      view = rw (call.leaves (view_or_none (Some b)))
+          (shows_touched b key act admitted.ascending);
+    })
     (met.0, rw call.hindered met.1, sym (call.answers met.0 ∙ met.2))
 
 -- ---- no key is held by two branches of which one has written it
@@ -428,7 +440,8 @@ apart_same old new x b c apart found only keys =
     ∙ ap (λ v. v.touched key) (sym (shown old x (Some b) found)) ∙ apart y x differ key written)
 
 -- what isn't hindered, said of one other branch
-pub free_of : (bs : List Branch) (x y : XidParts) (writes : Bool) (key : List ℕ) → (IsHindered (hinders_use writes key) (view_named bs) x → ⊥)
+pub free_of : (bs : List Branch) (x y : XidParts) (writes : Bool) (key : List ℕ)
+    → (IsHindered (hinders_use writes key) (view_named bs) x → ⊥)
     → y ≢ x → hinders_use writes key (view_named bs y) ≡ false
 free_of bs x y writes key free differ = false_from_ne_true _ (λ e. free (y, differ, e))
 
@@ -476,7 +489,8 @@ apart_touched old new x key act apart is only =
             let same_key = (bytes_eq-Decides key k).0 e in
             let at_key = sym (ap (λ t. is_write (cond t (last_act (act_on b.keys k) act) (act_on b.keys k))) e) ∙ acts in
             subst (λ (q : List ℕ). (view_named old y).touched q ≡ false) same_key
-            (unwritten act y differ is.free (subst (λ (q : List ℕ). is_write (last_act (act_on b.keys q) act) ≡ true) (sym same_key) at_key))
+            (unwritten act y differ is.free
+            (subst (λ (q : List ℕ). is_write (last_act (act_on b.keys q) act) ≡ true) (sym same_key) at_key))
         by false e =
             let at_key = sym (ap (λ t. is_write (cond t (last_act (act_on b.keys k) act) (act_on b.keys k))) e) ∙ acts in
             apart x y (λ same_name. differ (sym same_name)) k (ap (λ v. is_write (v.act k)) before ∙ at_key)

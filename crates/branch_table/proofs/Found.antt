@@ -1,5 +1,6 @@
 -- Branches by their names: what a look-up finds, and what a change of one entry leaves.
-use Rattle.std.proofs.Common.{◌≡◌, ◌∙◌, ℕ, zero, suc, ◌+◌, ◌<◌, Bool, true, false, cond, List, [], ◌∷◌, ◌++◌, length, map, get_or, Option, Some, None, Bor, refl, sym, ap, subst, arith}
+use Rattle.std.proofs.Common.{◌≡◌, ◌∙◌, ℕ, zero, suc, ◌+◌, ◌<◌, Bool, true, false, cond, List, [], ◌∷◌, ◌++◌, length, map, get_or, Option}
+use Rattle.std.proofs.Common.{Some, None, Bor, refl, sym, ap, subst, arith}
 use Rattle.std.specs.List.{IsDistinct, sum_by, swap_remove}
 use Rattle.std.specs.Prelude.{is_some, position}
 use Rattle.std.specs.Map.{lookup, set_value, keys_of}
@@ -162,7 +163,8 @@ counts_swapped writes key (e ∷ es) x =
     by None p =
         let none = lookup_none (xid_eq x) (e ∷ es) e
         (λ k lt. ap (xid_eq x) (sym (key_at (e ∷ es) k e lt))
-        ∙ none_passes (xid_eq x) (keys_of (e ∷ es)) p k e.0 (subst (λ n. k < n) (sym (length-map (e ∷ es) (λ (f : XidParts × Course). f.0))) lt)) in
+        ∙ none_passes (xid_eq x) (keys_of (e ∷ es)) p k e.0
+        (subst (λ n. k < n) (sym (length-map (e ∷ es) (λ (f : XidParts × Course). f.0))) lt)) in
         ap (λ o. uses_in writes key (branches_of (e ∷ es)) + uses_of writes key (option_map (branch_of x) o)) none
     by (Some i) p =
         let found = position-Some (xid_eq x) (keys_of (e ∷ es)) i e.0 p in
@@ -186,7 +188,8 @@ names_of (e ∷ es) = ap (λ xs. e.0 ∷ xs) (names_of es)
 pub distinct_names : (es : Entries) → IsDistinct xid_eq (keys_of es) → IsDistinct xid_eq (map (λ branch. branch.xid) (branches_of es))
 distinct_names es distinct = subst (IsDistinct xid_eq) (sym (names_of es)) distinct
 
-pub copied_map : (x : XidParts) (r : Option (Bor Course)) → option_map (λ branch. branch_of x branch.now) r ≡ option_map (branch_of x) (option_copied r)
+pub copied_map : (x : XidParts) (r : Option (Bor Course))
+    → option_map (λ branch. branch_of x branch.now) r ≡ option_map (branch_of x) (option_copied r)
 copied_map x None = refl
 copied_map x (Some b) = refl
 

@@ -1,7 +1,9 @@
 -- Another branch hinders where a key has more uses than the own branch makes of it.
-use Rattle.std.proofs.Common.{◌≡◌, ◌∙◌, ℕ, ◌+◌, ◌<◌, ◌≤◌, Bool, true, false, not, ◌&&◌, ◌||◌, cond, ltb, List, [], ◌∷◌, map, Some, None, refl, sym, ap, subst, arith, Decides, inl, inr}
+use Rattle.std.proofs.Common.{◌≡◌, ◌∙◌, ℕ, ◌+◌, ◌<◌, ◌≤◌, Bool, true, false, not, ◌&&◌, ◌||◌, cond, ltb, List, [], ◌∷◌, map, Some, None}
+use Rattle.std.proofs.Common.{refl, sym, ap, subst, arith, Decides, inl, inr}
 use Rattle.std.specs.List.{list_any, AllByRecursion, IsDistinct}
-use Rattle.std.proofs.lemmas.Bool.{and_parts, both_ways, cond_both, lt-ltb, ltb-true, not-true, or_cases, or_from, or_left, or_parts, or_right}
+use Rattle.std.proofs.lemmas.Bool.{and_parts, both_ways, cond_both, lt-ltb, ltb-true, not-true, or_cases, or_from, or_left, or_parts}
+use Rattle.std.proofs.lemmas.Bool.{or_right}
 use Rattle.std.proofs.lemmas.List.Sums.{sum_by-cons}
 use Rattle.xid.specs.Names.{XidParts, xid_eq}
 use Rattle.xid.proofs.Deciding.{xid_self, xid_decides, xid_other, xid_apart}
@@ -160,7 +162,8 @@ module _ (writes : Bool) (key : List ℕ) where
 
   -- by numbers: the own uses, and all of them
   pub hindered_by : (bs : List Branch) (x : XidParts) (mine all : ℕ) → IsDistinct xid_eq (names bs) → mine ≡ own bs x → all ≡ uses bs
-      → (mine < all → IsHindered (hinders_use writes key) (view_named bs) x) × (IsHindered (hinders_use writes key) (view_named bs) x → mine < all)
+      → (mine < all → IsHindered (hinders_use writes key) (view_named bs) x)
+      × (IsHindered (hinders_use writes key) (view_named bs) x → mine < all)
   hindered_by bs x mine all distinct is-mine is-all =
       let test = hinders_use writes key in
       let none = none_hinders_use writes key in (

@@ -1,5 +1,6 @@
 -- What becomes of branches: which keys are idle, and what an end has looked at.
-use Rattle.std.proofs.Common.{◌≡◌, ◌∙◌, ℕ, ◌+◌, ◌*◌, ◌≤◌, Bool, true, false, cond, List, [], ◌∷◌, length, Option, Some, None, refl, sym, ap, subst, arith}
+use Rattle.std.proofs.Common.{◌≡◌, ◌∙◌, ℕ, ◌+◌, ◌*◌, ◌≤◌, Bool, true, false, cond, List, [], ◌∷◌, length, Option, Some, None, refl, sym, ap}
+use Rattle.std.proofs.Common.{subst, arith}
 use Rattle.std.specs.List.{IsDistinct}
 use Rattle.xid.specs.Names.{XidParts, xid_eq}
 use Rattle.stable_record.specs.declared.fact.Touched.{Touched}
@@ -51,7 +52,8 @@ looks_absent before after keys is none = record {
 }
 
 -- the end of a branch: one look finds it, one takes it out, and two are for each of its keys and the hold of it
-pub looks_ended : (before one two after : ℕ) (n : ℕ) → one ≡ looks_after before 1 → two ≡ looks_after one 1 → after ≡ looks_after two (2 * n)
+pub looks_ended : (before one two after : ℕ) (n : ℕ) → one ≡ looks_after before 1 → two ≡ looks_after one 1
+    → after ≡ looks_after two (2 * n)
     → Looks before after n
 looks_ended before one two after n is-one is-two is = record {
   count = 2 + 2 * n;

@@ -1,5 +1,6 @@
 -- What is known of keys after a change of one entry.
-use Rattle.std.proofs.Common.{◌≡◌, ◌∙◌, ◌||◌, ℕ, ◌+◌, ◌-◌, ◌<◌, Result, Ok, Err, Bool, true, false, cond, List, [], ◌∷◌, map, Option, Some, None, refl, sym, ap, subst, arith}
+use Rattle.std.proofs.Common.{◌≡◌, ◌∙◌, ◌||◌, ℕ, ◌+◌, ◌-◌, ◌<◌, Result, Ok, Err, Bool, true, false, cond, List, [], ◌∷◌, map, Option, Some}
+use Rattle.std.proofs.Common.{None, refl, sym, ap, subst, arith}
 use Rattle.std.specs.List.{AllByRecursion, IsDistinct}
 use Rattle.std.specs.Map.{lookup, keys_of, KeepsOthers}
 use Rattle.std.specs.Option.{unwrap_or}
@@ -15,7 +16,8 @@ use Rattle.stable_record.specs.declared.fact.Touched.{Touched}
 use Rattle.protocol.specs.Branches.{value_after}
 use Rattle.protocol.specs.Managers.{has_key}
 use Rattle.protocol.specs.Tables.{rows_after}
-use Rattle.branch_table.specs.Parts.{CanLeave, free, no_place, place_and, place_at, place_left, hold_at, table_of, uses_held, Adds, SetsPlace, Takes}
+use Rattle.branch_table.specs.Parts.{CanLeave, free, no_place, place_and, place_at, place_left, hold_at, table_of, uses_held, Adds}
+use Rattle.branch_table.specs.Parts.{SetsPlace, Takes}
 use Rattle.branch_table.specs.declared.hold.Hold.{Hold}
 use Rattle.branch_table.specs.declared.places.Place.{Place}
 use Rattle.stable_record.specs.Facts.{IsKey, IsAct}
@@ -123,7 +125,8 @@ adds old new key more is = λ writes other. by other (bytes_eq key other) refl w
     by other true e false =
         ap (λ (p : Place). p.hold.written_by) (at_key old new key other (place_and (place_at old key) more) is true e)
         ∙ ap (λ (k : List ℕ). (place_at old k).hold.written_by + more.written_by) ((bytes_eq-Decides key other).0 e)
-    by other false e writes = ap (λ (p : Place). uses_held writes p.hold) (at_key old new key other (place_and (place_at old key) more) is false e)
+    by other false e writes =
+        ap (λ (p : Place). uses_held writes p.hold) (at_key old new key other (place_and (place_at old key) more) is false e)
 
 pub takes : (old new : Known) (key : List ℕ) (act : Act) (fewer : Hold) → SetsPlace old new key (place_left (place_at old key) act fewer)
     → Takes old new key fewer
@@ -137,7 +140,8 @@ takes old new key act fewer is = λ writes other. by other (bytes_eq key other) 
     by other true e false =
         ap (λ (p : Place). p.hold.written_by) (at_key old new key other (place_left (place_at old key) act fewer) is true e)
         ∙ ap (λ (k : List ℕ). (place_at old k).hold.written_by - fewer.written_by) ((bytes_eq-Decides key other).0 e)
-    by other false e writes = ap (λ (p : Place). uses_held writes p.hold) (at_key old new key other (place_left (place_at old key) act fewer) is false e)
+    by other false e writes =
+        ap (λ (p : Place). uses_held writes p.hold) (at_key old new key other (place_left (place_at old key) act fewer) is false e)
 
 -- a place whose hold has some holders more
 pub with_hold : (p : Place) (sum more : Hold)
@@ -218,7 +222,8 @@ pub on_ok : (r : Result (Unit {0}) Refusal) (P Q : Type 0) → (P → Q) → OnO
 on_ok (Ok u) P Q f given = f given
 on_ok (Err e) P Q f given = tt
 
-pub on_err : (r : Result (Unit {0}) Refusal) (P Q : Type 0) → (P → Q) → IfErr r (λ e. (e ≡ NoMemory) × P) → IfErr r (λ e. (e ≡ NoMemory) × Q)
+pub on_err : (r : Result (Unit {0}) Refusal) (P Q : Type 0) → (P → Q) → IfErr r (λ e. (e ≡ NoMemory) × P)
+    → IfErr r (λ e. (e ≡ NoMemory) × Q)
 on_err (Ok u) P Q f given = tt
 on_err (Err e) P Q f given = (given.0, f given.1)
 
@@ -244,8 +249,10 @@ held_after old new t rest fewer apart taken held key there = by (bytes_eq t.key 
   where
     by : (b : Bool) → bytes_eq t.key key ≡ b → 0 < (hold_at new key).touched_by
     by true e =
-        absurd (both_ways (has_key key rest) (subst (λ (k : List ℕ). has_key k rest ≡ false) ((bytes_eq-Decides t.key key).0 e) apart) there)
+        absurd (both_ways (has_key key rest) (subst (λ (k : List ℕ). has_key k rest ≡ false) ((bytes_eq-Decides t.key key).0 e) apart)
+        there)
     by false e =
-        let same : (hold_at new key).touched_by ≡ (hold_at old key).touched_by = taken true key ∙ ap (λ b. cond b ((hold_at old key).touched_by - fewer.touched_by) (hold_at old key).touched_by) e in
+        let same : (hold_at new key).touched_by ≡ (hold_at old key).touched_by =
+        taken true key ∙ ap (λ b. cond b ((hold_at old key).touched_by - fewer.touched_by) (hold_at old key).touched_by) e in
         let was = held key (or_right (bytes_eq t.key key) (has_key key rest) there) in
         omega (arith, same, was)

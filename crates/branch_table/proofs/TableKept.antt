@@ -1,6 +1,7 @@
 -- What a change of one branch keeps: no name has two, holds are the touched keys the other way round, and no key is held by two branches
 -- of which one has written it.
-use Rattle.std.proofs.Common.{◌≡◌, ◌≢◌, ◌∙◌, ℕ, ◌+◌, ◌-◌, Bool, true, false, ◌||◌, cond, List, [], ◌∷◌, Option, Some, None, Contains, length, ◌<◌, ◌^◌, refl, sym, ap, subst, arith, inl, inr}
+use Rattle.std.proofs.Common.{◌≡◌, ◌≢◌, ◌∙◌, ℕ, ◌+◌, ◌-◌, Bool, true, false, ◌||◌, cond, List, [], ◌∷◌, Option, Some, None, Contains}
+use Rattle.std.proofs.Common.{length, ◌<◌, ◌^◌, refl, sym, ap, subst, arith, inl, inr}
 use Rattle.std.specs.List.{IsDistinct}
 use Rattle.std.specs.Option.{option_map}
 use Rattle.std.specs.Str.{bytes_eq}
@@ -18,13 +19,15 @@ use Rattle.branch_table.specs.OneCall.{IsHindered}
 use Rattle.branch_table.specs.Outcomes.{AreHindered, CanBePrepared, prepared_branch}
 use Rattle.branch_table.specs.Tables.{AreHeldApart, AreTableBranches, branch_named, in_state, is_idle, with_act}
 use Rattle.branch_table.specs.Admission.{IsAdmitted}
-use Rattle.branch_table.specs.Parts.{Adds, AreHolds, free, Replaces, Takes, hold_at, hold_more, is_using, uses_by, uses_held, uses_in, uses_of}
+use Rattle.branch_table.specs.Parts.{Adds, AreHolds, free, Replaces, Takes, hold_at, hold_more, is_using, uses_by, uses_held, uses_in}
+use Rattle.branch_table.specs.Parts.{uses_of}
 use Rattle.branch_table.specs.declared.hold.Hold.{Hold}
 use Rattle.branch_table.proofs.Hindered.{own_within}
 use Rattle.branch_table.proofs.PlaceTable.{Known}
 use Rattle.branch_table.proofs.TableRows.{untouched}
 use Rattle.branch_table.proofs.Found.{view_or_none}
-use Rattle.branch_table.proofs.CallSteps.{apart_after, apart_same, apart_touched, apart_without, free_of, others_shown, shown, shows_written, started_branch}
+use Rattle.branch_table.proofs.CallSteps.{apart_after, apart_same, apart_touched, apart_without, free_of, others_shown, shown}
+use Rattle.branch_table.proofs.CallSteps.{shows_written, started_branch}
 use Rattle.branch_table.proofs.Uses.{more_uses, no_hold, uses_none, uses_same}
 
 -- what is kept
@@ -32,7 +35,8 @@ abbrev pub IsKept : Known → List Branch → Type 0
 IsKept holds branches = AreTableBranches branches × AreHolds holds branches
 
 -- no branch, and no hold
-pub kept_none : (holds : Known) (branches : List Branch) → branches ≡ [] → ((key : List ℕ) → hold_at holds key ≡ free) → IsKept holds branches
+pub kept_none : (holds : Known) (branches : List Branch) → branches ≡ [] → ((key : List ℕ) → hold_at holds key ≡ free)
+    → IsKept holds branches
 unfolding IsDistinct
 kept_none holds branches none unheld = subst (IsKept holds) (sym none) (
   record { distinct = tt; apart = λ x y differ key written. absurd (cc (written)) },
@@ -45,7 +49,8 @@ pub was_found : (old new : List Branch) (x : XidParts) (b : Branch) (g : Branch 
 was_found old new x b g found is = subst (λ (o : Option Branch). Replaces old new x o (option_map g o)) found is
 
 -- a new branch has no keys
-pub kept_started : (holds : Known) (old new : List Branch) (x : XidParts) → IsKept holds old → Replaces old new x None (Some (started_branch x))
+pub kept_started : (holds : Known) (old new : List Branch) (x : XidParts) → IsKept holds old
+    → Replaces old new x None (Some (started_branch x))
     → IsKept holds new
 kept_started holds old new x kept is = (
   record { distinct = is.distinct; apart = apart_without old new x (Some (started_branch x)) kept.0.apart is.only (λ key. refl) },
@@ -58,7 +63,8 @@ kept_started holds old new x kept is = (
 
 -- a branch is in another state
 pub kept_state : (holds : Known) (old new : List Branch) (x : XidParts) (b : Branch) (s : BranchState) → IsKept holds old
-    → branch_named old x ≡ Some b → Replaces old new x (branch_named old x) (option_map (in_state s) (branch_named old x)) → IsKept holds new
+    → branch_named old x ≡ Some b → Replaces old new x (branch_named old x) (option_map (in_state s) (branch_named old x))
+    → IsKept holds new
 kept_state holds old new x b s kept found given =
     let is = was_found old new x b (in_state s) found given in (
       record { distinct = is.distinct; apart = apart_same old new x b (in_state s b) kept.0.apart found is.only refl },
@@ -73,7 +79,8 @@ kept_state holds old new x b s kept found given =
 -- a branch has ended, and its keys were let go
 pub kept_ended : (holds after : Known) (old new : List Branch) (x : XidParts) (b : Branch) → IsKept holds old → branch_named old x ≡ Some b
     → Replaces old new x (branch_named old x) None
-    → ((writes : Bool) (key : List ℕ) → uses_held writes (hold_at after key) ≡ uses_held writes (hold_at holds key) - uses_by writes key b.keys)
+    → ((writes : Bool) (key : List ℕ)
+    → uses_held writes (hold_at after key) ≡ uses_held writes (hold_at holds key) - uses_by writes key b.keys)
     → IsKept after new
 kept_ended holds after old new x b kept found given freed =
     let is = subst (λ (o : Option Branch). Replaces old new x o None) found given in (
@@ -130,7 +137,8 @@ pub kept_back : (holds added back : Known) (branches : List Branch) (key : List 
 kept_back holds added back branches key more kept adds takes = (
   kept.0,
   λ writes q.
-      back_by (uses_held writes (hold_at holds q)) (uses_held writes (hold_at added q)) (uses_held writes (hold_at back q)) (uses_held writes more)
+      back_by (uses_held writes (hold_at holds q)) (uses_held writes (hold_at added q)) (uses_held writes (hold_at back q))
+      (uses_held writes more)
       (bytes_eq key q) (adds writes q) (takes writes q) ∙ kept.1 writes q,
 )
 
@@ -145,8 +153,13 @@ touched_in (t ∷ keys) key there = by (bytes_eq t.key key) refl (touched_in key
     by : (b : Bool) → bytes_eq t.key key ≡ b
         → (has_key key keys ≡ true → (u : Touched) × (Contains keys u) × (u.key ≡ key) × (u.act ≡ act_on keys key))
         → (u : Touched) × (Contains (t ∷ keys) u) × (u.key ≡ key) × (u.act ≡ act_on (t ∷ keys) key)
-    by true e later =
-        (t, Contains-get_or (t ∷ keys) 0 t (omega arith), (bytes_eq-Decides t.key key).0 e, sym (ap (λ b. cond b t.act (act_on keys key)) e))
+    by true e later = (
+      t,
+      Contains-get_or (t ∷ keys) 0 t (omega arith),
+      (bytes_eq-Decides t.key key).0 e,
+      sym
+          (ap (λ b. cond b t.act (act_on keys key)) e),
+    )
     by false e later =
         let found = later (sym (ap (λ b. b || has_key key keys) e) ∙ there) in (
           found.0,
@@ -182,7 +195,8 @@ apart_prepared old new x keys apart free is =
     (λ y differ key written.
     let acts = ap (λ v. is_write (v.act key)) (sym now) ∙ written in
     not_hindering old x y keys key true free differ (written_there keys key acts) acts)
-    (λ y differ key written. ap (λ v. v.touched key) now ∙ by key y differ written (has_key key keys) refl (is_write (act_on keys key)) refl)
+    (λ y differ key written. ap (λ v. v.touched key) now
+    ∙ by key y differ written (has_key key keys) refl (is_write (act_on keys key)) refl)
   where
     now : view_named new x ≡ view_or_none (Some (prepared_branch x keys))
     now = shown new x (Some (prepared_branch x keys)) is.only.own
@@ -197,7 +211,8 @@ apart_prepared old new x keys apart free is =
 
 pub kept_prepared : (holds after : Known) (old new : List Branch) (x : XidParts) (keys : List Touched) → IsKept holds old
     → (AreHindered old x keys → ⊥) → Replaces old new x None (Some (prepared_branch x keys))
-    → ((writes : Bool) (key : List ℕ) → uses_held writes (hold_at after key) ≡ uses_held writes (hold_at holds key) + uses_by writes key keys)
+    → ((writes : Bool) (key : List ℕ)
+    → uses_held writes (hold_at after key) ≡ uses_held writes (hold_at holds key) + uses_by writes key keys)
     → IsKept after new
 kept_prepared holds after old new x keys kept free is held = (
   record { distinct = is.distinct; apart = apart_prepared old new x keys kept.0.apart free is },

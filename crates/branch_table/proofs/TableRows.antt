@@ -32,7 +32,8 @@ less_from Less e = refl
 less_from Equal e = absurd (cc (e))
 less_from Greater e = absurd (cc (e))
 
-pub later_by : (x y : List ℕ) (o : Ordering) → slice_cmp nat_cmp y x ≡ o → bytes_eq x y ≡ false → is_lt o ≡ false → slice_cmp nat_cmp x y ≡ Less
+pub later_by : (x y : List ℕ) (o : Ordering) → slice_cmp nat_cmp y x ≡ o → bytes_eq x y ≡ false → is_lt o ≡ false
+    → slice_cmp nat_cmp x y ≡ Less
 later_by x y Less e apart over = absurd (cc (over))
 later_by x y Equal e apart over =
     let same : y ≡ x = (bytes_eq-Decides y x).0 (sym (is_eq-slice_cmp y x) ∙ ap is_eq e) in
@@ -303,7 +304,8 @@ pub table_after : (old new : Known) (key : List ℕ) (act : Act)
     ≡ cond (bytes_eq key other) (value_after act (place_at old other).value) (place_at old other).value)
     → table_of new ≡ rows_after (table_of old) key act
 table_after old new key act changed =
-    same_rows (table_of new) (rows_after (table_of old) key act) (table_ascends new) (after_ascends (table_of old) key act (table_ascends old))
+    same_rows (table_of new) (rows_after (table_of old) key act) (table_ascends new)
+    (after_ascends (table_of old) key act (table_ascends old))
     (λ other. table_at new other ∙ changed other
     ∙ (λ i. cond (bytes_eq key other) (value_after act (sym (table_at old other) i)) (sym (table_at old other) i))
     ∙ sym (after_there (table_of old) key act other (table_ascends old)))

@@ -1,5 +1,6 @@
 -- What touched keys, which ascend, use of a key: after one more act, and one key after the other.
-use Rattle.std.proofs.Common.{◌≡◌, ◌∙◌, ℕ, zero, suc, ◌+◌, ◌-◌, ◌^◌, ◌≤◌, ◌<◌, Bool, true, false, not, ◌&&◌, ◌||◌, ◌==◌, cond, ltb, List, [], ◌∷◌, length, get_or, take, drop, refl, sym, ap, subst, arith}
+use Rattle.std.proofs.Common.{◌≡◌, ◌∙◌, ℕ, zero, suc, ◌+◌, ◌-◌, ◌^◌, ◌≤◌, ◌<◌, Bool, true, false, not, ◌&&◌, ◌||◌, ◌==◌, cond, ltb, List}
+use Rattle.std.proofs.Common.{[], ◌∷◌, length, get_or, take, drop, refl, sym, ap, subst, arith}
 use Rattle.std.specs.List.{AllByRecursion}
 use Rattle.std.proofs.Math.Seq.{drop-cons}
 use Rattle.std.specs.Cmp.Lexicographic.{slice_cmp}
@@ -34,11 +35,14 @@ pub uses_same : (writes : Bool) (key : List ℕ) (b : Branch) → uses_of writes
 uses_same true key b = refl
 uses_same false key b = refl
 
-pub ascends : (keys : List Touched) (key : List ℕ) (act : Act) (b : BranchState) → AreAscending keys → AreAscending (with_touched keys key act)
-ascends keys key Act.Read s up = changed_ascends (Get key) (record { xid = record { format = 0; gtrid = []; bqual = [] }; state = s; keys = keys }) up
+pub ascends : (keys : List Touched) (key : List ℕ) (act : Act) (b : BranchState) → AreAscending keys
+    → AreAscending (with_touched keys key act)
+ascends keys key Act.Read s up =
+    changed_ascends (Get key) (record { xid = record { format = 0; gtrid = []; bqual = [] }; state = s; keys = keys }) up
 ascends keys key (Act.Put value) s up =
     changed_ascends (Put key value) (record { xid = record { format = 0; gtrid = []; bqual = [] }; state = s; keys = keys }) up
-ascends keys key Act.Del s up = changed_ascends (Del key) (record { xid = record { format = 0; gtrid = []; bqual = [] }; state = s; keys = keys }) up
+ascends keys key Act.Del s up =
+    changed_ascends (Del key) (record { xid = record { format = 0; gtrid = []; bqual = [] }; state = s; keys = keys }) up
 
 -- ---- one more act on a key
 

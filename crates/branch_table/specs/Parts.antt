@@ -1,6 +1,7 @@
 -- The parts that a resource manager's memory is made of: branches without their names, and what is known of each key, its row and its
 -- hold. Holds are the touched keys of the branches the other way round.
-use Rattle.std.specs.Prelude.{◌≡◌, ℕ, ◌+◌, ◌-◌, ◌<◌, Bool, true, false, not, ◌&&◌, ◌==◌, if◌then◌else◌, List, [], ◌∷◌, map, filter_map, Option, Some, None}
+use Rattle.std.specs.Prelude.{◌≡◌, ℕ, ◌+◌, ◌-◌, ◌<◌, Bool, true, false, not, ◌&&◌, ◌==◌, if◌then◌else◌, List, [], ◌∷◌, map, filter_map}
+use Rattle.std.specs.Prelude.{Option, Some, None}
 use Rattle.std.specs.List.{IsDistinct, count_by}
 use Rattle.std.specs.Map.{lookup}
 use Rattle.std.specs.Option.{option_map, unwrap_or}
@@ -47,7 +48,8 @@ pub record Replaces (old new : List Branch) (x : XidParts) (was now : Option Bra
   pub found : branch_named old x ≡ was
   pub only : ChangesOnly old new x now
   pub distinct : IsDistinct xid_eq (map (λ branch. branch.xid) new)
-  pub counts : (writes : Bool) (key : List ℕ) → uses_in writes key new + uses_of writes key was ≡ uses_in writes key old + uses_of writes key now
+  pub counts : (writes : Bool) (key : List ℕ)
+      → uses_in writes key new + uses_of writes key was ≡ uses_in writes key old + uses_of writes key now
 
 -- ---- what is known of each key
 

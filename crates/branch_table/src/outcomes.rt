@@ -146,7 +146,8 @@ impl BranchTable {
 
     /// The XIDs of the prepared branches, ascending (xa_recover). Refused: `NoMemory` alone.
     pub fn recover(&self) -> Result<Answer, Refusal>
-        ensures ok { IfOk result (λ answer. (names : List XidParts) × (answer ≡ answers.Xids names) × AreRecovered self.now.branches names) }
+        ensures ok { IfOk result
+            (λ answer. (names : List XidParts) × (answer ≡ answers.Xids names) × AreRecovered self.now.branches names) }
         ensures err { IfErr result (λ e. e ≡ NoMemory) }
         ensures branches { AreTableBranches self.now.branches }
     {

@@ -1,6 +1,7 @@
 //! What is known of each key: its row, and how branches hold it.
 
-ghost use Rattle.std.specs.Prelude.{◌≡◌, ◌+◌, ◌-◌, ◌*◌, ◌<◌, ◌^◌, Bool, ℕ, List, [], true, None, Some, IfOk, IfErr, OnOk, MatchOption, length};
+ghost use Rattle.std.specs.Prelude.{◌≡◌, ◌+◌, ◌-◌, ◌*◌, ◌<◌, ◌^◌, Bool, ℕ, List, [], true, None, Some, IfOk, IfErr, OnOk, MatchOption};
+ghost use Rattle.std.specs.Prelude.{length};
 ghost use Rattle.xid.specs.declared.refusals.Refusal.TheVariants.{NoMemory};
 ghost use Rattle.stable_record.specs.Facts.{AreAscending, AreKeys};
 ghost use Rattle.stable_record.specs.declared.fact.Act.TheVariants as acts;
@@ -104,7 +105,8 @@ impl Places {
 
     /// The value at a key, if there is a row of it.
     pub fn value_at(&self, key: &[u8]) -> Option<&[u8]>
-        ensures { MatchOption result (row_at (table_of self.now) key.now ≡ None) (λ value. row_at (table_of self.now) key.now ≡ Some value.now) }
+        ensures { MatchOption result (row_at (table_of self.now) key.now ≡ None)
+            (λ value. row_at (table_of self.now) key.now ≡ Some value.now) }
     {
         let Some(place) = self.known.get(key) else {
             return None;

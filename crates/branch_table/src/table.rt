@@ -9,7 +9,8 @@ ghost use Rattle.xid.specs.declared.refusals.Refusal.TheVariants.{NoMemory};
 ghost use Rattle.stable_record.specs.Facts.{IsKey, IsAct};
 ghost use Rattle.protocol.specs.declared.requests.Action.TheVariants as actions;
 ghost use Rattle.protocol.specs.declared.answers.Answer.TheVariants as answers;
-ghost use Rattle.protocol.specs.Branches.{key_fits as key_fits_lem, value_fits as value_fits_lem, get_answer, hinders_use, is_write as is_write_lem, read_of, row_at};
+ghost use Rattle.protocol.specs.Branches.{key_fits as key_fits_lem, value_fits as value_fits_lem, get_answer, hinders_use};
+ghost use Rattle.protocol.specs.Branches.{is_write as is_write_lem, read_of, row_at};
 ghost use Rattle.protocol.specs.Managers.{view_named};
 ghost use Rattle.branch_table.specs.Admission.{end_action, end_state, end_code, is_writing, Admits, Touches};
 ghost use Rattle.branch_table.specs.OneCall.{IsHindered};
@@ -160,7 +161,8 @@ impl BranchTable {
     /// is no such branch, `Proto` where it is active or prepared.
     pub fn rollback(&mut self, xid: &Xid) -> Answer
         ensures steps { Steps self.old self.new xid.now actions.Rollback result }
-        ensures done { result ≡ answers.Code XaCode.Ok → LooksLem self.old.looks self.new.looks (length (keys_named self.old.branches xid.now)) }
+        ensures done { result ≡ answers.Code XaCode.Ok
+            → LooksLem self.old.looks self.new.looks (length (keys_named self.old.branches xid.now)) }
         ensures undone { result ≢ answers.Code XaCode.Ok → self.new.looks ≡ self.old.looks }
     {
         let Some(branch) = self.branches.get(xid) else {
@@ -255,7 +257,8 @@ impl BranchTable {
 
     /// Whether another branch hinders an access to a key, by the hold that one's own branch has on it.
     pub(crate) fn is_hindered(&self, own: Hold, access: Access, key: &[u8]) -> bool
-        ensures { (x : XidParts) → uses_held (is_writing access) own ≡ uses_of (is_writing access) key.now (branch_named self.now.branches x)
+        ensures { (x : XidParts) → uses_held (is_writing access) own ≡ uses_of (is_writing access) key.now
+            (branch_named self.now.branches x)
             → Decides result (IsHindered (hinders_use (is_writing access) key.now) (view_named self.now.branches) x) }
     {
         let hold = self.places.hold_at(key);

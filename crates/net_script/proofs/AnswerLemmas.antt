@@ -5,7 +5,8 @@ use Rattle.std.specs.Str.{bytes_eq}
 use Rattle.std.proofs.lemmas.Fmt.{decimal_injective}
 use Rattle.net_script.specs.Basics.{IsXid, xid_text, code_number, number_of, XaCode, Refusal, Standing, Answer, Refused}
 use Rattle.net_script.specs.declared.answer_words.AnswerWord.{AnswerWord}
-use Rattle.net_script.specs.Answers.{IsTold, IsAnswer, IsAnswerBy, standing_text, code_text, answer_word_text, answer_word, answer_args, answer_words}
+use Rattle.net_script.specs.Answers.{IsTold, IsAnswer, IsAnswerBy, standing_text, code_text, answer_word_text, answer_word, answer_args}
+use Rattle.net_script.specs.Answers.{answer_words}
 use Rattle.net_script.proofs.WordLemmas.{differ}
 use Rattle.net_script.proofs.NameLemmas.{xid_injective}
 use Rattle.net_script.proofs.OneText.{HasOneText}

@@ -1,5 +1,6 @@
 -- The words of a trace: none is empty, and none has a space, a line's end or an arrow's head in it, but for the arrow itself.
-use Rattle.std.proofs.Common.{◌≡◌, ℕ, ◌<◌, ◌≤◌, ◌^◌, Bool, true, false, not, ◌&&◌, eqb, List, [], ◌∷◌, ◌++◌, length, map, Option, None, Some}
+use Rattle.std.proofs.Common.{◌≡◌, ℕ, ◌<◌, ◌≤◌, ◌^◌, Bool, true, false, not, ◌&&◌, eqb, List, [], ◌∷◌, ◌++◌, length, map, Option, None}
+use Rattle.std.proofs.Common.{Some}
 use Rattle.std.proofs.Common.{refl, sym, subst, arith, decimal, codes}
 use Rattle.std.specs.Fmt.{signed_decimal}
 use Rattle.std.specs.List.{All, AllByRecursion, list_all, flat_map}
@@ -9,11 +10,13 @@ use Rattle.std.proofs.lemmas.List.Elements.{All-head, All-tail}
 use Rattle.xid.specs.Text.{lacks}
 use Rattle.xid.specs.Transactions.{BranchParts, IsBranch, branch_text, branches_text}
 use Rattle.xid.proofs.Texts.{first_true, second_true, both_true, list_all_join, list_all-hex_text, list_all-decimal, length-hex_text}
-use Rattle.net_script.specs.Basics.{IsBytes, XidParts, IsXid, TxParts, IsTx, hex_text, xid_text, tx_text, code_number, number_of, NodeId, A, L, R}
+use Rattle.net_script.specs.Basics.{IsBytes, XidParts, IsXid, TxParts, IsTx, hex_text, xid_text, tx_text, code_number, number_of, NodeId, A}
+use Rattle.net_script.specs.Basics.{L, R}
 use Rattle.net_script.specs.Basics.{Row, XaCode, Standing, View, Vote, Kind, Prepare, P1a, P1b, P2a, P2b, Commit, Abort, B1a, B1b, B2b}
 use Rattle.net_script.specs.Basics.{InstanceReport, InstanceAccept, IsMessage, message_tx, Change, Sent}
 use Rattle.net_script.specs.Basics.{Answer, Done, Code, Value, NoValue, Xids, Stands, Refused, Action, Start, Put, Del, Get, End, EndFail}
-use Rattle.net_script.specs.Basics.{Rollback, Request, Call, Recover, Timeout, Event, Ask, Deliver, Lose, Cut, Noise, Tear, Restart, Compact}
+use Rattle.net_script.specs.Basics.{Rollback, Request, Call, Recover, Timeout, Event, Ask, Deliver, Lose, Cut, Noise, Tear, Restart}
+use Rattle.net_script.specs.Basics.{Compact}
 use Rattle.net_script.specs.declared.keywords.Verb.{Verb}
 use Rattle.net_script.specs.declared.keywords.Keyword.{Keyword}
 use Rattle.net_script.specs.declared.values.Sizes.{Sizes}
@@ -26,7 +29,8 @@ use Rattle.net_script.specs.Events.{event_words}
 use Rattle.net_script.specs.Items.{IsSizes, IsRow, bundled_words, sizes_words, contents_words}
 use Rattle.net_script.specs.Answers.{IsAnswer, standing_text, view_text, code_text, answer_words}
 use Rattle.net_script.specs.Messages.{vote_text, report_words, accepted_text, report_text, report_item_text, accept_item_text}
-use Rattle.net_script.specs.Messages.{message_name_text, message_name, message_args, message_words, FitsReport, FitsReportItem, FitsAcceptItem, FitsKind}
+use Rattle.net_script.specs.Messages.{message_name_text, message_name, message_args, message_words, FitsReport, FitsReportItem}
+use Rattle.net_script.specs.Messages.{FitsAcceptItem, FitsKind}
 use Rattle.net_script.specs.Traces.{serve_words, change_words, sent_words}
 use Rattle.net_script.specs.TraceLines.{IsChange, IsSent, IsTraceLine, final_words, trace_line_words}
 use Rattle.net_script.proofs.AnswerLemmas.{code_digits, refusal_small}
@@ -124,16 +128,19 @@ node_common (R n) lt = record { some = refl; bytes = number_bytes n (omega arith
 xid_common : (x : XidParts) → IsXid x → IsCommon (xid_text x)
 xid_common x is =
     joined (decimal x.format) (58 ∷ (hex_text x.gtrid ++ 58 ∷ hex_text x.bqual)) (number_common x.format (omega (arith, is.format)))
-    (list_all_join is_common (hex_text x.gtrid) (58 ∷ hex_text x.bqual) (hex_bytes x.gtrid is.gtrid.bytes) (hex_bytes x.bqual is.bqual.bytes))
+    (list_all_join is_common (hex_text x.gtrid) (58 ∷ hex_text x.bqual) (hex_bytes x.gtrid is.gtrid.bytes)
+    (hex_bytes x.bqual is.bqual.bytes))
 
 branch_bytes : (b : BranchParts) → IsBranch b → list_all is_common (branch_text b) ≡ true
 branch_bytes b is =
-    list_all_join is_common (decimal b.rm) (61 ∷ hex_text b.bqual) (number_bytes b.rm (omega (arith, is.rm))) (hex_bytes b.bqual is.bqual.bytes)
+    list_all_join is_common (decimal b.rm) (61 ∷ hex_text b.bqual) (number_bytes b.rm (omega (arith, is.rm)))
+    (hex_bytes b.bqual is.bqual.bytes)
 
 later_branches : (bs : List BranchParts) → All IsBranch bs → list_all is_common (flat_map (λ b. (44 ∷ []) ++ branch_text b) bs) ≡ true
 later_branches [] are = refl
 later_branches (b ∷ bs) are =
-    list_all_join is_common (44 ∷ branch_text b) (flat_map (λ y. (44 ∷ []) ++ branch_text y) bs) (branch_bytes b (All-head IsBranch b bs are))
+    list_all_join is_common (44 ∷ branch_text b) (flat_map (λ y. (44 ∷ []) ++ branch_text y) bs)
+    (branch_bytes b (All-head IsBranch b bs are))
     (later_branches bs (All-tail IsBranch b bs are))
 
 branches_bytes : (bs : List BranchParts) → All IsBranch bs → list_all is_common (branches_text bs) ≡ true
@@ -341,8 +348,10 @@ change_common : (c : Change) → IsChange c → AllByRecursion IsCommon (change_
 change_common c is = (node_common (R c.rm) is.rm, (tx_common c.tx is.tx, (view_common c.view, tt)))
 
 sent_common : (s : Sent) → IsSent s → AllByRecursion IsCommon (sent_words s)
-sent_common s is =
-    (number_common s.number is.number, (node_common s.sender is.sender, (node_common s.receiver is.receiver, message_common s.message is.message)))
+sent_common s is = (
+  number_common s.number is.number,
+  (node_common s.sender is.sender, (node_common s.receiver is.receiver, message_common s.message is.message)),
+)
 
 -- what happened, and its answer behind the arrow
 outcome_clean : (ws : List (List ℕ)) (a : Answer) → AllByRecursion IsCommon ws → IsAnswer a

@@ -1,5 +1,6 @@
 -- A trace line by line: its lines give it back, and nothing else follows them.
-use Rattle.std.proofs.Common.{zero, suc, ◌≡◌, ℕ, ◌+◌, ◌-◌, ◌<◌, ◌≤◌, Bool, true, false, not, ◌&&◌, cond, eqb, ltb, List, [], ◌∷◌, ◌++◌, length}
+use Rattle.std.proofs.Common.{zero, suc, ◌≡◌, ℕ, ◌+◌, ◌-◌, ◌<◌, ◌≤◌, Bool, true, false, not, ◌&&◌, cond, eqb, ltb, List, [], ◌∷◌, ◌++◌}
+use Rattle.std.proofs.Common.{length}
 use Rattle.std.proofs.Common.{get_or, set, drop, map, Option, None, Some, refl, sym, ap, subst, ◌∙◌, arith, eqb-true, eq-eqb}
 use Rattle.std.specs.List.{All, AllPairs, list_all, flat_map}
 use Rattle.std.specs.Option.{ForSome, option_map}
@@ -19,7 +20,8 @@ use Rattle.net_script.specs.declared.trace_lines.TraceLine.{TraceLine}
 use Rattle.net_script.specs.declared.trace_lines.TraceLine.TheVariants.{Cluster, Contents, Happened, Served, Changed, Datagram, Final}
 use Rattle.net_script.specs.Items.{IsSizes, IsContents}
 use Rattle.net_script.specs.Answers.{IsAnswer}
-use Rattle.net_script.specs.TraceLines.{IsChange, IsSent, AreFinalRows, IsTraceLine, changed_lines, entry_lines, rows_lines, later_lines, lines_of}
+use Rattle.net_script.specs.TraceLines.{IsChange, IsSent, AreFinalRows, IsTraceLine, changed_lines, entry_lines, rows_lines, later_lines}
+use Rattle.net_script.specs.TraceLines.{lines_of}
 use Rattle.net_script.specs.TraceReading.{IsResult, IsEntry, IsBegun, is_empty, is_bare, with_now, with_sent, at_last, with_entries}
 use Rattle.net_script.specs.TraceReading.{bare_step, takes_table, takes_rows, with_line, opened, begun_with, lines_so_far}
 
@@ -84,10 +86,12 @@ run_tables s done [] below once = ap (λ (all : List Table). Some (trace s all [
 run_tables s done (x ∷ ts) below once =
     let assoc = append_assoc done (x ∷ []) ts in
     let takes : takes_table (trace s done [] []) x ≡ true =
-    both_true (ltb x.rm s.rms) (list_all (is_other x.rm) done) (lt-ltb x.rm s.rms (All-head (λ (table : Table). table.rm < s.rms) x ts below))
+    both_true (ltb x.rm s.rms) (list_all (is_other x.rm) done)
+    (lt-ltb x.rm s.rms (All-head (λ (table : Table). table.rm < s.rms) x ts below))
     (others_all x.rm done (managers_before done ts x once)) in
     ap (λ (b : Bool). run (cond b (Some (trace s (done ++ x ∷ []) [] [])) None) (map Contents ts)) takes
-    ∙ (run_tables s (done ++ x ∷ []) ts (All-tail (λ (table : Table). table.rm < s.rms) x ts below) (subst (AllPairs Apart) (sym assoc) once)
+    ∙ (run_tables s (done ++ x ∷ []) ts (All-tail (λ (table : Table). table.rm < s.rms) x ts below)
+    (subst (AllPairs Apart) (sym assoc) once)
     ∙ ap (λ (all : List Table). Some (trace s all [] [])) assoc)
 
 -- ---- entries
@@ -331,7 +335,8 @@ last_valid f step (x ∷ []) new all e =
 last_valid f step (x ∷ (y ∷ rest)) new all e =
     let got = map_some (λ (others : List Entry). x ∷ others) (at_last f (y ∷ rest)) new e in
     subst (All IsEntry) got.2
-    (All-cons IsEntry x got.0 (All-head IsEntry x (y ∷ rest) all) (last_valid f step (y ∷ rest) got.0 (All-tail IsEntry x (y ∷ rest) all) got.1))
+    (All-cons IsEntry x got.0 (All-head IsEntry x (y ∷ rest) all)
+    (last_valid f step (y ∷ rest) got.0 (All-tail IsEntry x (y ∷ rest) all) got.1))
 
 bare_is : (now : Option Change) (sent : List Sent) → is_bare now sent ≡ true → (now ≡ None) × (sent ≡ [])
 bare_is None sent h = (refl, none_left sent h)
@@ -441,7 +446,8 @@ more_rows t ys =
 grown_rows : (t : Trace) (rm : ℕ) (rows : List Row) → IsBegun t → (rm < 256) × AreFinalRows rows → takes_rows t rm ≡ true
     → Grown t (Final rm rows) (record t { finals = t.finals ++ rows ∷ [] })
 grown_rows t rm rows is range takes =
-    let same : rm ≡ length t.finals = eqb-true rm (length t.finals) (first_true (eqb rm (length t.finals)) (ltb (length t.finals) t.sizes.rms) takes) in
+    let same : rm ≡ length t.finals =
+    eqb-true rm (length t.finals) (first_true (eqb rm (length t.finals)) (ltb (length t.finals) t.sizes.rms) takes) in
     let less : length t.finals < t.sizes.rms =
     let lt = second_true (eqb rm (length t.finals)) (ltb (length t.finals) t.sizes.rms) takes in grind (arith, nat_tests) in
     record {
@@ -573,7 +579,8 @@ last_left f (a ∷ (b ∷ rest)) (suc n) d x len is none =
     ap (option_map (λ (others : List Entry). a ∷ others)) (last_left f (b ∷ rest) n d x (omega (arith, len)) is none)
 
 -- where it can
-pub last_set : (f : Entry → Option Entry) (all : List Entry) (n : ℕ) (d x y : Entry) → suc n ≡ length all → x ≡ get_or all n d → f x ≡ Some y
+pub last_set : (f : Entry → Option Entry) (all : List Entry) (n : ℕ) (d x y : Entry) → suc n ≡ length all → x ≡ get_or all n d
+    → f x ≡ Some y
     → Some (set all n y) ≡ at_last f all
 last_set f [] n d x y len is some = absurd (omega (arith, len))
 last_set f (a ∷ []) zero d x y len is some = sym (ap (option_map (λ (z : Entry). z ∷ [])) (ap f (sym is) ∙ some))

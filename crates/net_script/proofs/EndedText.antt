@@ -17,7 +17,8 @@ use Rattle.net_script.specs.declared.trace_lines.TraceLine.{TraceLine}
 use Rattle.net_script.specs.declared.trace_lines.TraceLine.TheVariants.{Cluster, Contents, Happened, Served, Changed, Datagram, Final}
 use Rattle.net_script.specs.Traces.{joined_words, spaced_words, table_line, change_text, sent_line}
 use Rattle.net_script.specs.Traces.{entry_text, final_lines, trace_text}
-use Rattle.net_script.specs.TraceLines.{IsTraceLine, trace_line_words, trace_line_text, whole_line, changed_lines, entry_lines, rows_lines, lines_of}
+use Rattle.net_script.specs.TraceLines.{IsTraceLine, trace_line_words, trace_line_text, whole_line, changed_lines, entry_lines, rows_lines}
+use Rattle.net_script.specs.TraceLines.{lines_of}
 use Rattle.net_script.specs.TraceReading.{ended_lines}
 use Rattle.net_script.proofs.CleanWords.{IsClean, lacks_end, line_clean}
 

@@ -30,7 +30,8 @@ commands_same (x ∷ es) (f ∷ fs) e =
     let tail : es ≡ fs = commands_same es fs (cc) in
     cc
 
-parts_same : (ts us : List Table) (es fs : List Command) → map Contents ts ++ map Then es ≡ map Contents us ++ map Then fs → (ts ≡ us) × (es ≡ fs)
+parts_same : (ts us : List Table) (es fs : List Command) → map Contents ts ++ map Then es ≡ map Contents us ++ map Then fs → (ts ≡ us)
+    × (es ≡ fs)
 parts_same [] [] es fs e = (refl, commands_same es fs e)
 parts_same [] (u ∷ us) [] fs e = absurd (cc)
 parts_same [] (u ∷ us) (x ∷ es) fs e = absurd (cc)

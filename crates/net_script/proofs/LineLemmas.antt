@@ -174,7 +174,8 @@ step_fails {bytes = bytes} {line = line} {after = after} {number = number} {scri
     inl (record {
       before = number;
       counted = omega arith;
-      within = omega (arith, ap length next.reached.left, next.reached.counted, length-append (take (number + 1) (lines bytes)) (lines after));
+      within =
+          omega (arith, ap length next.reached.left, next.reached.counted, length-append (take (number + 1) (lines bytes)) (lines after));
       can = so_far_begins (take number (lines bytes)) script so.said;
       fails = λ can. fails_more (take number (lines bytes)) line script note so.said read (subst CanBegin next.more can);
     })
@@ -226,7 +227,8 @@ count_found {bytes = bytes} {after = after} {number = number} {passed = passed} 
     record {
       before = number;
       counted = omega arith;
-      within = omega (arith, ap length next.reached.left, next.reached.counted, length-append (take (number + 1) (lines bytes)) (lines after));
+      within =
+          omega (arith, ap length next.reached.left, next.reached.counted, length-append (take (number + 1) (lines bytes)) (lines after));
       earlier = so.kept ∙ same;
       says = kept_more so first note ∙ (let one : passed + 1 ≡ suc place = omega arith in one);
     }

@@ -11,7 +11,8 @@ use Rattle.xid.specs.Text.{lacks}
 use Rattle.xid.proofs.Texts.{both_true, cut_same, decimal_lacks_colon, lacks_not, list_all-decimal}
 use Rattle.wire.specs.Messages.{IsInstance, IsReportBelow}
 use Rattle.wire.proofs.Instances.{instance_below, instances_below, few_instances}
-use Rattle.net_script.specs.Basics.{TxParts, IsTx, tx_text, IsMessage, message_tx, Vote, Kind, Prepare, P1a, P1b, P2a, P2b, Commit, Abort, B1a, B1b, B2b}
+use Rattle.net_script.specs.Basics.{TxParts, IsTx, tx_text, IsMessage, message_tx, Vote, Kind, Prepare, P1a, P1b, P2a, P2b, Commit, Abort}
+use Rattle.net_script.specs.Basics.{B1a, B1b, B2b}
 use Rattle.net_script.specs.Basics.{InstanceReport, InstanceAccept, A, R}
 use Rattle.net_script.specs.declared.message_words.MessageName.{MessageName}
 use Rattle.net_script.specs.Lines.{node_text}
@@ -224,8 +225,11 @@ report_items_fit : (ballot : ℕ) (items : List InstanceReport) → ballot < 2 ^
     → AllByRecursion (λ item. IsReportBelow ballot item.report) items
     → AllByRecursion FitsReportItem items
 report_items_fit ballot [] lt low are = tt
-report_items_fit ballot (item ∷ items) lt low are =
-    (record { instance = omega (arith, low.0); report = report_fits item.report ballot lt are.0 }, report_items_fit ballot items lt low.1 are.1)
+report_items_fit ballot (item ∷ items) lt low are = (
+  record { instance = omega (arith, low.0); report = report_fits item.report ballot lt are.0 },
+  report_items_fit ballot items lt low.1
+      are.1,
+)
 
 accept_items_fit : (items : List InstanceAccept) → AllByRecursion (λ n. n < most_managers) (map (λ item. item.instance) items)
     → AllByRecursion (λ item. item.ballot < 2 ^ 32) items

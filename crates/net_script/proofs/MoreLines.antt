@@ -54,7 +54,8 @@ outcome_of (Changed c) given rest word cut none is e = absurd (none LineName.Now
 outcome_of (Datagram s) given rest word cut none is e = absurd (none LineName.Sent (cc))
 outcome_of (Final rm rows) given rest word cut none is e = absurd (none LineName.Final (cc))
 
-pub more_outcomes : (o : Option Trace) (given rest : List (List ℕ)) (word : List ℕ) (r : Result (Option Trace) Refusal) → given ≡ word ∷ rest
+pub more_outcomes : (o : Option Trace) (given rest : List (List ℕ)) (word : List ℕ) (r : Result (Option Trace) Refusal)
+    → given ≡ word ∷ rest
     → ((n : LineName) → word ≡ line_name_text n → ⊥)
     → ReadsMore IsOutcome o given r
     → ReadsMore IsTraceLine o given r

@@ -68,7 +68,8 @@ branch rm bqual = record { rm = rm; bqual = bqual }
 
 branch_injective : (b c : BranchParts) → IsBranch b → IsBranch c → branch_text b ≡ branch_text c → b ≡ c
 branch_injective b c p q e =
-    let lack = list_all-decimal (λ byte. not (eqb byte 61)) b.rm (λ x low high. no_mark 61 x (omega arith) low high) (omega (arith, p.rm)) in
+    let lack =
+    list_all-decimal (λ byte. not (eqb byte 61)) b.rm (λ x low high. no_mark 61 x (omega arith) low high) (omega (arith, p.rm)) in
     let cut = cut_branch c (branch_text b) (decimal b.rm) (hex_text b.bqual) q e (refl, lack) in
     let same : branch b.rm b.bqual ≡ c =
     branch_same b.rm b.bqual c (decimal b.rm) (hex_text b.bqual) (omega (arith, p.rm)) p.bqual.bytes q cut refl refl in

@@ -8,7 +8,8 @@ use Rattle.std.proofs.lemmas.List.{length-append, get_or_at, get_or_append_left,
 use Rattle.std.proofs.lemmas.List.Elements.{All-cons, All-append, All-map, All-push}
 use Rattle.std.proofs.lemmas.List.Quantifiers.{all_pairs_push}
 use Rattle.net_script.specs.Basics.{IsXid, IsTx, NodeId, L, R, Row, Action, Start, Put, Del, Get, End, EndFail}
-use Rattle.net_script.specs.Basics.{Rollback, Request, Call, Recover, Timeout, Event, Ask, Deliver, Lose, Cut, Noise, Tear, Restart, Compact}
+use Rattle.net_script.specs.Basics.{Rollback, Request, Call, Recover, Timeout, Event, Ask, Deliver, Lose, Cut, Noise, Tear, Restart}
+use Rattle.net_script.specs.Basics.{Compact}
 use Rattle.net_script.specs.declared.keywords.Keyword.{Keyword}
 use Rattle.net_script.specs.declared.values.Sizes.{Sizes}
 use Rattle.net_script.specs.declared.values.Table.{Table}
@@ -19,7 +20,8 @@ use Rattle.net_script.specs.declared.items.Item.{Item}
 use Rattle.net_script.specs.declared.items.Item.TheVariants.{Cluster, Contents, Then}
 use Rattle.net_script.specs.Events.{IsAction, IsAsked, IsEvent, verb_of, action_words, request_keyword, request_args, keyword_of}
 use Rattle.net_script.specs.Events.{event_args, event_words}
-use Rattle.net_script.specs.Items.{IsSizes, IsContents, IsCommand, IsItem, bundled_words, sizes_words, contents_words, command_words, item_words}
+use Rattle.net_script.specs.Items.{IsSizes, IsContents, IsCommand, IsItem, bundled_words, sizes_words, contents_words, command_words}
+use Rattle.net_script.specs.Items.{item_words}
 use Rattle.net_script.specs.Scripts.{script_items, IsScript}
 use Rattle.net_script.proofs.WordLemmas.{bytes_injective, differ}
 use Rattle.net_script.proofs.NameLemmas.{node_injective, manager_injective, xid_injective, tx_injective}

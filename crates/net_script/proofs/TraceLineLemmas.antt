@@ -208,13 +208,15 @@ tidy_of_joined : (ws : List (List ℕ)) → 0 < length ws → AllByRecursion IsC
 tidy_of_joined [] some are = absurd (omega arith)
 tidy_of_joined (w ∷ ws) some are = tidy_joined true w ws are.0 are.1
 
-pub line_text_words : (said : TraceLine) (line : List ℕ) → IsTraceLine said → line ≡ trace_line_text said → words line ≡ trace_line_words said
+pub line_text_words : (said : TraceLine) (line : List ℕ) → IsTraceLine said → line ≡ trace_line_text said
+    → words line ≡ trace_line_words said
 line_text_words said line is e = ap words e ∙ words_of_joined (trace_line_words said) (line_clean said is)
 
 pub line_text_tidy : (said : TraceLine) (line : List ℕ) → IsTraceLine said → line ≡ trace_line_text said → is_tidy line ≡ true
 line_text_tidy said line is e = ap is_tidy e ∙ tidy_of_joined (trace_line_words said) (some_words said) (line_clean said is)
 
-pub line_text_of : (said : TraceLine) (line : List ℕ) → is_tidy line ≡ true → words line ≡ trace_line_words said → line ≡ trace_line_text said
+pub line_text_of : (said : TraceLine) (line : List ℕ) → is_tidy line ≡ true → words line ≡ trace_line_words said
+    → line ≡ trace_line_text said
 line_text_of said line tidy e = sym (tidy_is_joined line tidy) ∙ ap joined_words e
 
 pub push_injective : (xs ys : List ℕ) (x y : ℕ) → xs ++ x ∷ [] ≡ ys ++ y ∷ [] → xs ≡ ys

@@ -1,5 +1,6 @@
 -- A trace, as far as it was read; and one reading of a text.
-use Rattle.std.proofs.Common.{◌≡◌, ℕ, ◌+◌, ◌<◌, ◌≤◌, true, false, inl, inr, List, [], ◌∷◌, ◌++◌, length, take, drop, map, Option, None, Some, Ok}
+use Rattle.std.proofs.Common.{◌≡◌, ℕ, ◌+◌, ◌<◌, ◌≤◌, true, false, inl, inr, List, [], ◌∷◌, ◌++◌, length, take, drop, map, Option, None}
+use Rattle.std.proofs.Common.{Some, Ok}
 use Rattle.std.proofs.Common.{refl, sym, ap, subst, ◌∙◌, arith}
 use Rattle.std.specs.List.{flat_map}
 use Rattle.std.specs.Option.{ForSome}
@@ -173,7 +174,8 @@ no_bytes (x ∷ rest) e = absurd (omega arith)
 whole_text : {bytes rest : List ℕ} {number : ℕ} {trace : Option Trace} → Told bytes rest number trace → rest ≡ []
     → bytes ≡ flat_map whole_line (lines_so_far trace)
 whole_text {trace = trace} so none =
-    so.text ∙ ap (λ (r : List ℕ). flat_map whole_line (lines_so_far trace) ++ r) none ∙ append-nil (flat_map whole_line (lines_so_far trace))
+    so.text ∙ ap (λ (r : List ℕ). flat_map whole_line (lines_so_far trace) ++ r) none
+    ∙ append-nil (flat_map whole_line (lines_so_far trace))
 
 whole_lines : {bytes rest : List ℕ} {number : ℕ} {trace : Option Trace} → Told bytes rest number trace → rest ≡ []
     → ended_lines bytes ≡ map whole_line (lines_so_far trace)

@@ -2,7 +2,8 @@
 use Rattle.std.specs.Prelude.{◌≡◌, ℕ, ◌<◌, ◌≤◌, ◌^◌, List, [], ◌∷◌, ◌++◌, length, map, codes, decimal, Option, Some, None}
 use Rattle.std.specs.List.{All}
 use Rattle.xid.specs.Limits.{most_branches}
-use Rattle.net_script.specs.Basics.{TxParts, tx_text, message_tx, Vote, Kind, Prepare, P1a, P1b, P2a, P2b, Commit, Abort, B1a, B1b, B2b, A, R}
+use Rattle.net_script.specs.Basics.{TxParts, tx_text, message_tx, Vote, Kind, Prepare, P1a, P1b, P2a, P2b, Commit, Abort, B1a, B1b, B2b, A}
+use Rattle.net_script.specs.Basics.{R}
 use Rattle.net_script.specs.Basics.{InstanceReport, InstanceAccept}
 use Rattle.net_script.specs.declared.message_words.MessageName.{MessageName}
 use Rattle.net_script.specs.Lines.{node_text}

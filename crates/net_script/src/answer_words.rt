@@ -5,7 +5,8 @@ ghost use Rattle.std.specs.Fmt.{signed_decimal};
 ghost use Rattle.std.specs.List.{All};
 ghost use Rattle.net_script.specs.Basics.{IsXid, Answer, Refusal, XaCode, Standing, View, xid_text, code_number, number_of};
 ghost use Rattle.net_script.specs.Lines.{Reads, words};
-ghost use Rattle.net_script.specs.Answers.{IsTold, IsAnswer, IsAnswerBy, standing_text, view_text, code_text, answer_word_text, answer_args, answer_words};
+ghost use Rattle.net_script.specs.Answers.{IsTold, IsAnswer, IsAnswerBy, standing_text, view_text, code_text, answer_word_text};
+ghost use Rattle.net_script.specs.Answers.{answer_args, answer_words};
 
 use crate::args::{last_bytes, last_number};
 use crate::words::{is_over, next_word};

@@ -8,7 +8,8 @@ ghost use Rattle.net_script.specs.declared.values.Script.{Script};
 ghost use Rattle.net_script.specs.declared.items.Item.TheVariants.{Contents, Then};
 ghost use Rattle.net_script.specs.Lines.{Reads, lines, words, is_plain};
 ghost use Rattle.net_script.specs.Items.{IsItem, IsContents, IsCommand};
-ghost use Rattle.net_script.specs.Scripts.{is_note, lines_kept, script_items, items_so_far, IsLineOf, IsScript, ReadsLine, SpellsScript, Refuses, IsFirstFault};
+ghost use Rattle.net_script.specs.Scripts.{is_note, lines_kept, script_items, items_so_far, IsLineOf, IsScript, ReadsLine, SpellsScript};
+ghost use Rattle.net_script.specs.Scripts.{Refuses, IsFirstFault};
 
 use crate::items::{Item, read_item};
 use crate::values::{Command, Script, Table};

@@ -3,7 +3,8 @@
 ghost use Rattle.std.specs.Prelude.{◌≡◌, ◌++◌, IfErr, OnOk};
 ghost use Rattle.std.specs.List.{flat_map};
 ghost use Rattle.xid.specs.declared.refusals.Refusal.TheVariants.{NoMemory};
-ghost use Rattle.picture.specs.Drawing.{band_elements, carried_elements, carried_view, change_elements, lane_elements, lane_on, lanes_elements, page_elements};
+ghost use Rattle.picture.specs.Drawing.{band_elements, carried_elements, carried_view, change_elements, lane_elements, lane_on};
+ghost use Rattle.picture.specs.Drawing.{lanes_elements, page_elements};
 ghost use Rattle.picture.specs.Drawing.{page_note, pages_elements, view_after, view_before};
 
 use crate::elements::{Element, Lettering, Pen, Point};

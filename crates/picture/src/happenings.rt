@@ -4,7 +4,8 @@ ghost use Rattle.std.specs.Prelude.{◌≡◌, ◌++◌, ◌∷◌, [], find, If
 ghost use Rattle.std.specs.List.{flat_map, list_any};
 ghost use Rattle.std.specs.Option.{option_copied};
 ghost use Rattle.xid.specs.declared.refusals.Refusal.TheVariants.{NoMemory};
-ghost use Rattle.picture.specs.Drawing.{alone_elements, arrow_elements, arrow_pen, coming_from, short_way, half_way, is_sent, label_element, linked_elements};
+ghost use Rattle.picture.specs.Drawing.{alone_elements, arrow_elements, arrow_pen, coming_from, short_way, half_way, is_sent};
+ghost use Rattle.picture.specs.Drawing.{label_element, linked_elements};
 ghost use Rattle.picture.specs.Drawing.{loss_elements, lost_elements, mark_elements, sent_elements, settles, sign_elements};
 ghost use Rattle.picture.specs.Drawing.{stroke_elements, taken_elements, takes, view_element, whole_way, work_element};
 

@@ -5,7 +5,8 @@ ghost use Rattle.std.specs.List.{All};
 ghost use Rattle.net_script.specs.declared.values.Trace.{Trace};
 ghost use Rattle.xid.specs.declared.refusals.Refusal.TheVariants.{NoMemory};
 ghost use Rattle.net_script.specs.TraceReading.{RefusesTrace};
-ghost use Rattle.picture.specs.Pictures.{IsPictureOf, backdrop_elements, elements_of, front_elements, is_served, served_note, tells_of_sockets, trace_rows};
+ghost use Rattle.picture.specs.Pictures.{IsPictureOf, backdrop_elements, elements_of, front_elements, is_served, served_note};
+ghost use Rattle.picture.specs.Pictures.{tells_of_sockets, trace_rows};
 ghost use Rattle.picture.specs.Ways.{IsTrueOf};
 
 use crate::backdrop::{draw_changes, draw_pages};

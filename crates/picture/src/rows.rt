@@ -4,7 +4,8 @@ ghost use Rattle.std.specs.Prelude.{◌≡◌, IfOk, IfErr, OnOk};
 ghost use Rattle.std.specs.List.{list_any};
 ghost use Rattle.std.specs.Option.{option_copied};
 ghost use Rattle.xid.specs.declared.refusals.Refusal.TheVariants.{NoMemory};
-ghost use Rattle.picture.specs.Rows.{are_several, is_error, is_missing, is_of_other, line_at, lost, mark_of, rows_of, taken, told_tx, tx_of, what_of};
+ghost use Rattle.picture.specs.Rows.{are_several, is_error, is_missing, is_of_other, line_at, lost, mark_of, rows_of, taken, told_tx};
+ghost use Rattle.picture.specs.Rows.{tx_of, what_of};
 ghost use Rattle.picture.specs.Rows.{with_change, with_entry, with_outcome, with_row, with_sent};
 
 use crate::elements::Mark;

@@ -4,7 +4,8 @@ ghost use Rattle.std.specs.Prelude.{◌≡◌, ◌++◌, ℕ, List, true, decima
 ghost use Rattle.std.specs.List.{flat_map, list_all};
 ghost use Rattle.xid.specs.declared.refusals.Refusal.TheVariants.{NoMemory};
 ghost use Rattle.picture.specs.Elements.{attribute, element_text, escaped, escaped_byte, head_text, is_harmless, lettering_name};
-ghost use Rattle.picture.specs.Elements.{link_text, mark_name, opened, pen_name, view_name, band_text, stamp_text, stroke_text, words_text, place, size_text, title_text, two_numbers, view_box};
+ghost use Rattle.picture.specs.Elements.{link_text, mark_name, opened, pen_name, view_name, band_text, stamp_text, stroke_text, words_text};
+ghost use Rattle.picture.specs.Elements.{place, size_text, title_text, two_numbers, view_box};
 
 use crate::elements::{Element, Lettering, Mark, Pen, Point};
 use crate::style::{FURNITURE, OPENING, ROLE, TITLE, VIEW_BOX};

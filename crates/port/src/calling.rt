@@ -40,7 +40,8 @@ fn send<P: Port>(port: &mut P, sizes: Sizes, outgoing: &Outgoing)
 
 /// Sends all messages that a node puts out, in their order.
 fn send_all<P: Port>(port: &mut P, sizes: Sizes, sends: &NodeSends)
-    ensures { (sender : Sender) → SendsAll P.sent port.old port.new (flat_map (datagrams_of (config_by sizes []) sender) (sent_by sends.now)) }
+    ensures { (sender : Sender) → SendsAll P.sent port.old port.new
+        (flat_map (datagrams_of (config_by sizes []) sender) (sent_by sends.now)) }
 {
     for k in 0..sends.count() {
         let outgoing = sends.at(k);

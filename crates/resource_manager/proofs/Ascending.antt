@@ -1,5 +1,6 @@
 -- The rows of a table ascend by their keys, and stay as they are when they are put in order again.
-use Rattle.std.proofs.Common.{◌≡◌, ◌∙◌, ℕ, Bool, true, false, not, cond, List, [], ◌∷◌, ◌++◌, refl, sym, ap, subst, append-nil, append_assoc}
+use Rattle.std.proofs.Common.{◌≡◌, ◌∙◌, ℕ, Bool, true, false, not, cond, List, [], ◌∷◌, ◌++◌, refl, sym, ap, subst, append-nil}
+use Rattle.std.proofs.Common.{append_assoc}
 use Rattle.std.specs.Prelude.{filter, filter_map, fold}
 use Rattle.std.specs.Cmp.Lexicographic.{slice_cmp}
 use Rattle.std.specs.Ordering.{nat_cmp, is_lt, is_eq, ordering_reverse}
@@ -56,7 +57,8 @@ less_by x y Greater e lt eq = nat_list_cmp_total.antisymm y x ∙ ap ordering_re
 put_after : (key : List ℕ) (rows : List Row) (row : Row) → AreAfter key rows → cmp key row.key ≡ Less → AreAfter key (put_row rows row)
 put_after key [] row after less = (less, tt)
 put_after key (first ∷ rows) row after less =
-    cond_both (bytes_eq first.key row.key) (row ∷ rows) (cond (is_lt (cmp row.key first.key)) (row ∷ first ∷ rows) (first ∷ put_row rows row))
+    cond_both (bytes_eq first.key row.key) (row ∷ rows)
+    (cond (is_lt (cmp row.key first.key)) (row ∷ first ∷ rows) (first ∷ put_row rows row))
     (AreAfter key) (λ same. (less, after.1))
     (λ other. cond_both (is_lt (cmp row.key first.key)) (row ∷ first ∷ rows) (first ∷ put_row rows row) (AreAfter key)
     (λ before. (less, after)) (λ not_before. (after.0, put_after key rows row after.1 less)))
@@ -69,7 +71,8 @@ is_less Greater e = absurd (cc (e))
 put_ascends : (rows : List Row) (row : Row) → Ascend rows → Ascend (put_row rows row)
 put_ascends [] row are = (tt, tt)
 put_ascends (first ∷ rows) row are =
-    cond_both (bytes_eq first.key row.key) (row ∷ rows) (cond (is_lt (cmp row.key first.key)) (row ∷ first ∷ rows) (first ∷ put_row rows row))
+    cond_both (bytes_eq first.key row.key) (row ∷ rows)
+    (cond (is_lt (cmp row.key first.key)) (row ∷ first ∷ rows) (first ∷ put_row rows row))
     Ascend (λ same. (subst (λ key. AreAfter key rows) (same_key first.key row.key same) are.0, are.1))
     (λ other. cond_both (is_lt (cmp row.key first.key)) (row ∷ first ∷ rows) (first ∷ put_row rows row) Ascend
     (λ before.
@@ -124,7 +127,8 @@ put_last [] row more are = refl
 put_last (first ∷ rows) row more are =
     let less = first_less first.key rows are.0 in
     let apart : bytes_eq first.key row.key ≡ false = sym (is_eq-slice_cmp first.key row.key) ∙ ap is_eq less in
-    let behind : is_lt (cmp row.key first.key) ≡ false = ap is_lt (nat_list_cmp_total.antisymm row.key first.key ∙ ap ordering_reverse less) in
+    let behind : is_lt (cmp row.key first.key) ≡ false =
+    ap is_lt (nat_list_cmp_total.antisymm row.key first.key ∙ ap ordering_reverse less) in
     ap (λ t. cond t (row ∷ rows) (cond (is_lt (cmp row.key first.key)) (row ∷ first ∷ rows) (first ∷ put_row rows row))) apart
     ∙ ap (λ t. cond t (row ∷ first ∷ rows) (first ∷ put_row rows row)) behind ∙ ap (λ rs. first ∷ rs) (put_last rows row more are.1)
   where

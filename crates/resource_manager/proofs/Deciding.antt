@@ -39,7 +39,8 @@ use Rattle.resource_manager.specs.declared.messages.Reminder.{Reminder}
 use Rattle.resource_manager.specs.Courses.{Stored, stored_by, vote_of, view_of, vote_among, is_ended_among, is_new_course, view_among}
 use Rattle.resource_manager.specs.Courses.{course_in}
 use Rattle.resource_manager.specs.SpentNames.{is_spent_in}
-use Rattle.resource_manager.specs.Managers.{ManagerParts, StandsFor, IsDecision, IsOfIdleBranch, Decides, Rule, branches_in, unspent_branches}
+use Rattle.resource_manager.specs.Managers.{ManagerParts, StandsFor, IsDecision, IsOfIdleBranch, Decides, Rule, branches_in}
+use Rattle.resource_manager.specs.Managers.{unspent_branches}
 use Rattle.resource_manager.specs.Messages.{are_below, asked_by, IsReminder}
 use Rattle.resource_manager.proofs.Named.{same_idle, same_named}
 use Rattle.resource_manager.proofs.More.{spent_more, unspent_more, unspent_all}

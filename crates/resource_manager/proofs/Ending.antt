@@ -100,7 +100,8 @@ module _ (config : Config) (number : ℕ) (m new : ManagerParts) (facts : List F
     pub ended_stands : StandsFor config number new then_facts (unspent_branches number then_facts branches)
     ended_stands =
         stands_then config number m new facts branches fact x stands plays name apart course now becomes.number becomes.managers
-        becomes.courses becomes.begun stored becomes.spent (rows_stay config number m new facts was stands fact none becomes.rows) becomes.branches own
+        becomes.courses becomes.begun stored becomes.spent (rows_stay config number m new facts was stands fact none becomes.rows)
+        becomes.branches own
 
 -- ---- conditions of ends
 

@@ -1,5 +1,6 @@
 -- The entries that a resource manager writes, one by one.
-use Rattle.std.proofs.Common.{◌≡◌, ◌∙◌, ℕ, zero, suc, ◌<◌, true, ◌&&◌, nat_lt, nat_le, List, [], ◌∷◌, ◌++◌, Option, Some, None, refl, sym, ap}
+use Rattle.std.proofs.Common.{◌≡◌, ◌∙◌, ℕ, zero, suc, ◌<◌, true, ◌&&◌, nat_lt, nat_le, List, [], ◌∷◌, ◌++◌, Option, Some, None, refl, sym}
+use Rattle.std.proofs.Common.{ap}
 use Rattle.std.proofs.Common.{◌+◌, length, get_or, take, append_assoc, arith}
 use Rattle.std.specs.Prelude.{filter_map, slice_get}
 use Rattle.std.specs.List.{cons_option}

@@ -20,7 +20,8 @@ use Rattle.protocol.specs.declared.rows.Row.{Row}
 use Rattle.protocol.specs.declared.states.BranchState.TheVariants as states
 use Rattle.protocol.specs.Branches.{hinders_use, is_write}
 use Rattle.protocol.specs.Effects.{Config}
-use Rattle.protocol.specs.Facts.{Bound, HasVote, bound_branches, branch_bound_by, is_open_view, is_prepared_view, is_spent, is_vote_of, view}
+use Rattle.protocol.specs.Facts.{Bound, HasVote, bound_branches, branch_bound_by, is_open_view, is_prepared_view, is_spent, is_vote_of}
+use Rattle.protocol.specs.Facts.{view}
 use Rattle.protocol.specs.Managers.{stored_votes, plays_at_manager, is_new, is_name_spent, is_some_held, view_by}
 use Rattle.protocol.specs.Nodes.{all_play, plays}
 use Rattle.protocol.specs.Tables.{commit_of, keys_voted, put_row, table, with_writes}
@@ -244,7 +245,8 @@ fewer_hold : (some all : List Bound) (keys : List Touched) → ((b : Bound) → 
     → is_some_held some keys ≡ false
 fewer_hold some all keys among free = false_from_ne_true (is_some_held some keys)
     (λ held.
-    let holds = λ (one : Bound). list_any (λ touched. hinders_use (is_write touched.act) touched.key (view_by states.Prepared one.keys)) keys in
+    let holds =
+    λ (one : Bound). list_any (λ touched. hinders_use (is_write touched.act) touched.key (view_by states.Prepared one.keys)) keys in
     let found = any_found holds some held in
     both_ways (is_some_held all keys) free (found_any holds all found.element (among found.element found.among) found.passes))
 
@@ -279,7 +281,8 @@ module _ (config : Config) (rm : ℕ) (facts : List Fact) (play : all_play confi
     begun_new tx h =
         let test = λ (fact : Fact). tx_eq tx (fact_tx fact) in
         let there = sym (any_begun (tx_eq tx) before) ∙ found_any (tx_eq tx) (begun_in before) tx h (tx_self tx) in
-        let all = ap (list_any test) (sym whole) ∙ list_any-append test before rest ∙ or_left (list_any test before) (list_any test rest) there in
+        let all =
+        ap (list_any test) (sym whole) ∙ list_any-append test before rest ∙ or_left (list_any test before) (list_any test rest) there in
         not-true (is_new_course (course tx))
         (sym (begun_course (course tx)) ∙ sym (ap is_begun (stored tx)) ∙ sym (begun_test tx config rm facts play)
         ∙ any_begun (tx_eq tx) facts ∙ all)

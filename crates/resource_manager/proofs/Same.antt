@@ -132,7 +132,8 @@ module _ (number : ℕ) (kept facts : List Fact) (same : LeadsSame number kept f
 
 all_play_append : (config : Config) (rm : ℕ) (before facts more : List Fact) → all_play config (R rm) before (facts ++ more) ≡ true
     → all_play config (R rm) (before ++ facts) more ≡ true
-all_play_append config rm before [] more play = subst (λ (fs : List Fact). all_play config (R rm) fs more ≡ true) (sym (append-nil before)) play
+all_play_append config rm before [] more play =
+    subst (λ (fs : List Fact). all_play config (R rm) fs more ≡ true) (sym (append-nil before)) play
 all_play_append config rm before (fact ∷ facts) more play =
     let parts = and_parts (plays config (R rm) before fact) (all_play config (R rm) (before ++ fact ∷ []) (facts ++ more)) play in
     subst (λ (fs : List Fact). all_play config (R rm) fs more ≡ true) (append_assoc before (fact ∷ []) facts)
@@ -156,10 +157,12 @@ module _ (over config : Config) (number : ℕ) where
       let also = bound_stored facts bound (subst (λ (bs : List Bound). IsIn bs bound) same.leads.bound_are among) in
       let name = names_name tx number (voted_named over number kept same.kept_play tx Vote.Prepared vote) in
       keys_stay kept g tx vote ∙ keys_of_vote over number kept name.0 same.kept_play tx vote.0 vote.1 name.1
-      ∙ sym (keys_of_vote config number facts name.0 same.play tx vote.0 also.voted name.1) ∙ sym (keys_stay facts g tx (vote.0, also.voted))
+      ∙ sym (keys_of_vote config number facts name.0 same.play tx vote.0 also.voted name.1)
+      ∙ sym (keys_stay facts g tx (vote.0, also.voted))
 
   same_step : (kept facts : List Fact) → PlayedSame over config number kept facts → (fact : Fact)
-      → plays_at_manager number (stored_votes number kept) fact ≡ true → PlayedSame over config number (kept ++ fact ∷ []) (facts ++ fact ∷ [])
+      → plays_at_manager number (stored_votes number kept) fact ≡ true
+      → PlayedSame over config number (kept ++ fact ∷ []) (facts ++ fact ∷ [])
   same_step kept facts same fact p =
       let also = sym (plays_same number kept facts same.leads fact) ∙ p in
       record {

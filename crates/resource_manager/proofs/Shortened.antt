@@ -110,7 +110,8 @@ module _ (config : Config) (number : ℕ) (m : ManagerParts) (facts : List Fact)
           ap (λ (o : Option Branch). option_map_or (λ (b : Branch). b.keys) o [])
           (stands.branches_are x
           ∙ named_at (branches_in number facts branches) (prepared_branch x voted.0) x
-          (names_held_once config number facts branches stands.played stands.apart) (bound_in number facts branches bound x among name) refl)
+          (names_held_once config number facts branches stands.played stands.apart) (bound_in number facts branches bound x among name)
+          refl)
           ∙ sym (keys_of_vote config number facts x stands.played tx voted.0 voted.1 name)
 
   -- each transaction's entry is the one that the facts have
@@ -149,7 +150,8 @@ module _ (config : Config) (number : ℕ) (m : ManagerParts) (facts : List Fact)
         same = says_same config number rows (kept config number facts stands.played course stands.stored_are facts) facts
             (record {
               kept_play =
-                  plays_over over config number [] (kept config number facts stands.played course stands.stored_are facts) ∙ all.still.plays;
+                  plays_over over config number [] (kept config number facts stands.played course stands.stored_are facts)
+                  ∙ all.still.plays;
               play = stands.played;
               leads = record {
                 stored_are = kept_stored config number facts stands.played course stands.stored_are rows again;

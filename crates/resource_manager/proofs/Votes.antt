@@ -292,7 +292,8 @@ module _ (config : Config) (number : ℕ) (m : ManagerParts) (facts : List Fact)
     pub vote_stands : StandsFor config number new (facts ++ fact ∷ []) (unspent_branches number (facts ++ fact ∷ []) branches)
     vote_stands =
         stands_then config number m new facts branches fact x stands plays name apart Course.Prepared (Some (prepared_branch x keys))
-        becomes.number becomes.managers becomes.courses becomes.begun (voted_then facts tx keys (stands.stored_are tx ∙ ap stored_by working))
+        becomes.number becomes.managers becomes.courses becomes.begun
+        (voted_then facts tx keys (stands.stored_are tx ∙ ap stored_by working))
         becomes.spent (rows_stay config number m new facts was stands fact refl becomes.rows) becomes.branches now_bound
 
 -- a branch that is idle has its branch in the table

@@ -19,8 +19,8 @@ use xid::{Refusal, Tx, Xid};
 
 impl ResourceManager {
     /// Makes itself ready for a fact that it decided, so that `play` of it takes no memory: its transaction is seen, and there is room for
-    /// a spent name; a commit takes none. At `NoMemory`, the only refusal, and else too, it stands for what it stood for. A vote prepared of a
-    /// branch that doesn't exist, which none that it decided is, takes memory when it is played.
+    /// a spent name; a commit takes none. At `NoMemory`, the only refusal, and else too, it stands for what it stood for. A vote prepared
+    /// of a branch that doesn't exist, which none that it decided is, takes memory when it is played.
     pub fn ready(&mut self, fact: &Fact) -> Result<(), Refusal>
         ensures { (config : Config) (number : ℕ) (branches : List Branch)
             → IsMadeReady (placed_part config number branches) self.old self.new fact.now result }

@@ -18,7 +18,8 @@ pub fn torn_append_is_a_beginning()
 
 /// Bytes hold one list of entries and one tail.
 pub fn stored_in_one_way()
-    ensures { (bytes : List ℕ) (entries others : List EntryKind) (tail end : List ℕ) → IsStored bytes entries tail → IsStored bytes others end
+    ensures { (bytes : List ℕ) (entries others : List EntryKind) (tail end : List ℕ) → IsStored bytes entries tail
+        → IsStored bytes others end
         → (entries ≡ others) × (tail ≡ end) }
 {}
 
@@ -45,7 +46,8 @@ pub fn entries_are_read_in_turn()
 /// A frame of which a proper beginning was kept is no entry: it is a tail after the entries that stood. One that was kept whole is one
 /// more entry.
 pub fn torn_frame_is_a_tail()
-    ensures tail { (v : VersionNumber) (entry : EntryKind) (n : ℕ) → IsEntryIn (version_of v) entry → n < length (frame (version_of v) entry)
+    ensures tail { (v : VersionNumber) (entry : EntryKind) (n : ℕ) → IsEntryIn (version_of v) entry
+        → n < length (frame (version_of v) entry)
         → IsTail (torn (frame (version_of v) entry) n) }
     ensures torn { (v : VersionNumber) (bytes : List ℕ) (entries : List EntryKind) (entry : EntryKind) (n : ℕ) → IsStored bytes entries []
         → IsEntryIn (version_of v) entry → n < length (frame (version_of v) entry)
@@ -63,7 +65,8 @@ pub fn cut_keeps_the_entries()
 
 /// The length of a fact's frame, counted field by field, is that of the frame; and each entry is one of version 2.
 pub fn frame_length_is_exact()
-    ensures length { (v : VersionNumber) (fact : FactKind) → length (frame (version_of v) (EntryKind.Fact fact)) ≡ frame_length_in (version_of v) fact }
+    ensures length { (v : VersionNumber) (fact : FactKind)
+        → length (frame (version_of v) (EntryKind.Fact fact)) ≡ frame_length_in (version_of v) fact }
     ensures today { (fact : FactKind) → length (frame version_2 (EntryKind.Fact fact)) ≡ frame_length fact }
     ensures written { (entry : EntryKind) → IsEntry entry → IsEntryIn version_2 entry }
 {}

@@ -130,7 +130,8 @@ pub fn answer<W: Write>(
     bytes: &[u8],
     out: &mut W,
 ) -> Result<u8, Refusal>
-    ensures ok { IfOk result (λ status. (status < 2) × PrintsOf subcommand.entry bytes.now status (W.contents out.old) (W.contents out.new)) }
+    ensures ok { IfOk result
+        (λ status. (status < 2) × PrintsOf subcommand.entry bytes.now status (W.contents out.old) (W.contents out.new)) }
     ensures err { IfErr result (λ e. Refuses subcommand.entry bytes.now e (W.contents out.old) (W.contents out.new)) }
 {
     let (text, status) = match output_of(rt, subcommand, bytes) {

@@ -1,5 +1,6 @@
 -- The node of a place, and what becomes of it.
-use Rattle.std.proofs.Common.{◌≡◌, ◌≢◌, ℕ, ◌+◌, ◌<◌, Bool, true, false, List, length, get_or, set, refl, sym, ap, subst, Option, Some, None, Result, arith, nat_lt}
+use Rattle.std.proofs.Common.{◌≡◌, ◌≢◌, ℕ, ◌+◌, ◌<◌, Bool, true, false, List, length, get_or, set, refl, sym, ap, subst, Option, Some, None}
+use Rattle.std.proofs.Common.{Result, arith, nat_lt}
 use Rattle.std.specs.Prelude.{if◌then◌else◌, is_some, MatchBool}
 use Rattle.std.proofs.lemmas.Bool.{ltb-true}
 use Rattle.xid.specs.declared.refusals.Refusal.{Refusal}
@@ -56,9 +57,11 @@ place_fits sizes xs who at count is =
 pub reaches : {P : Type 0} (Makes : Served → Making P) (sizes : Sizes) (nodes : List NodeParts) (ports : List P) (noise : P)
     (who : NodeId) (at : ℕ) → Some at ≡ place_in sizes who → length nodes ≡ node_count sizes → (was node : NodeParts) (before port : P)
     (served : Served) → was ≡ get_or nodes at was → before ≡ get_or ports at before → Makes served was node before port
-    → ReachesAt Makes (place_in sizes who) (site_of sizes nodes ports noise) (site_of sizes (set nodes at node) (set ports at port) noise) served
+    → ReachesAt Makes (place_in sizes who) (site_of sizes nodes ports noise) (site_of sizes (set nodes at node) (set ports at port) noise)
+    served
 reaches Makes sizes nodes ports noise who at is count was node before port served read read_port makes =
-    subst (λ (o : Option ℕ). ReachesAt Makes o (site_of sizes nodes ports noise) (site_of sizes (set nodes at node) (set ports at port) noise)
+    subst (λ (o : Option ℕ). ReachesAt Makes o (site_of sizes nodes ports noise)
+    (site_of sizes (set nodes at node) (set ports at port) noise)
     served) is
     (record {
       was = was;

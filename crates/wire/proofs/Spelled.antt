@@ -18,7 +18,8 @@ use Rattle.wire.specs.declared.grammar.VersionNumber.{VersionNumber}
 use Rattle.wire.specs.declared.grammar.VersionNumber.TheVariants.{First, Second}
 use Rattle.wire.specs.Grammar.{number_spelling, rm_spelling, component_spelling, branch_spelling, branches_spelling, tx_spelling, vote_byte}
 use Rattle.wire.specs.Grammar.{report_spelling, report_item_spelling, accept_item_spelling}
-use Rattle.wire.specs.Reading.{◌>>=◌, byte_at, big_at, number_at, rm_at, component_at, branch_at, branches_at, tx_at, vote_at, report_at, instance_at}
+use Rattle.wire.specs.Reading.{◌>>=◌, byte_at, big_at, number_at, rm_at, component_at, branch_at, branches_at, tx_at, vote_at, report_at}
+use Rattle.wire.specs.Reading.{instance_at}
 use Rattle.wire.specs.Reading.{report_item_at, accept_item_at, list_at, items_at}
 
 -- bytes are these in front and those after them, which are bytes
@@ -125,7 +126,8 @@ component_spelled (n ∷ rest) x is e =
     subst (λ (x : List ℕ × List ℕ). Front (n ∷ rest) (component_spelling x.0) x.1) (some_same (take n rest, drop n rest) x long.1)
     (front_of (n ∷ rest) (component_spelling (take n rest)) (drop n rest) is same)
 
-pub branch_spelled : (v : VersionNumber) (bytes : List ℕ) (x : BranchParts × List ℕ) → IsBytes bytes → branch_at (version_of v) bytes ≡ Some x
+pub branch_spelled : (v : VersionNumber) (bytes : List ℕ) (x : BranchParts × List ℕ) → IsBytes bytes
+    → branch_at (version_of v) bytes ≡ Some x
     → Front bytes (branch_spelling (version_of v) x.0) x.1
 unfolding branch_at
 branch_spelled v bytes x is e =
@@ -153,7 +155,8 @@ list_spelled {X} one spell was (suc n) bytes x is e =
     let front = was bytes first is ef in
     let later = list_spelled one spell was n first.1 others front.after eo in
     let whole = joined bytes (spell first.0) first.1 (flat_map spell others.0) others.1 front later.front in
-    let spelled : spell first.0 ++ flat_map spell others.0 ≡ flat_map spell (first.0 ∷ others.0) = sym (flat_map-cons spell first.0 others.0) in
+    let spelled : spell first.0 ++ flat_map spell others.0 ≡ flat_map spell (first.0 ∷ others.0) =
+    sym (flat_map-cons spell first.0 others.0) in
     subst (λ (x : List X × List ℕ). List_front spell (suc n) bytes x) (some_same (first.0 ∷ others.0, others.1) x e)
     (record { front = subst (λ (xs : List ℕ). Front bytes xs others.1) spelled whole; counted = ap suc later.counted })))
 
@@ -167,10 +170,12 @@ tx_spelled v bytes x is e =
     let one = number_spelled bytes format is ef in
     let two = component_spelled format.1 gtrid one.after eg in
     let three = byte_spelled gtrid.1 count two.after ec in
-    let four = list_spelled (branch_at (version_of v)) (branch_spelling (version_of v)) (branch_spelled v) count.0 count.1 branches three.after eb in
+    let four = list_spelled (branch_at (version_of v)) (branch_spelling (version_of v)) (branch_spelled v) count.0 count.1 branches
+    three.after eb in
     let tx : TxParts = record { format = format.0; gtrid = gtrid.0; branches = branches.0 } in
     let all = joined gtrid.1 (count.0 ∷ []) count.1 (flat_map (branch_spelling (version_of v)) branches.0) branches.1 three four.front in
-    let counted = subst (λ (n : ℕ). Front gtrid.1 (n ∷ flat_map (branch_spelling (version_of v)) branches.0) branches.1) (sym four.counted) all in
+    let counted =
+    subst (λ (n : ℕ). Front gtrid.1 (n ∷ flat_map (branch_spelling (version_of v)) branches.0) branches.1) (sym four.counted) all in
     let named = joined format.1 (component_spelling gtrid.0) gtrid.1 (branches_spelling (version_of v) branches.0) branches.1 two counted in
     subst (λ (x : TxParts × List ℕ). Front bytes (tx_spelling (version_of v) x.0) x.1) (some_same (tx, branches.1) x e)
     (joined bytes (number_spelling format.0) format.1 (component_spelling gtrid.0 ++ branches_spelling (version_of v) branches.0) branches.1
@@ -202,7 +207,8 @@ report_spelled bytes x is e =
   where
     by : (ballot v : ℕ × List ℕ) (no_vote no_ballot : Bool) → (no_vote ≡ true → v.0 ≡ 0) → (no_ballot ≡ true → ballot.0 ≡ 0)
         → Front bytes (number_spelling ballot.0) ballot.1 → Front ballot.1 (v.0 ∷ []) v.1
-        → cond no_vote (cond no_ballot (Some (None, v.1)) None) (vote_at ballot.1 >>= λ vote. Some (Some (ballot.0, vote.0), vote.1)) ≡ Some x
+        → cond no_vote (cond no_ballot (Some (None, v.1)) None) (vote_at ballot.1 >>= λ vote. Some (Some (ballot.0, vote.0), vote.1)) ≡ Some
+        x
         → Front bytes (report_spelling x.0) x.1
     by ballot v true true no-vote no-ballot one two e =
         let front = joined bytes (number_spelling ballot.0) ballot.1 (v.0 ∷ []) v.1 one two in

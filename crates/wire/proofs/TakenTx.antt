@@ -1,5 +1,6 @@
 -- A transaction at the front of bytes, in a version: what is taken was spelled, and what is spelled is taken again.
-use Rattle.std.proofs.Common.{◌≡◌, ℕ, ◌<◌, ◌≤◌, Bool, true, false, cond, ltb, List, ◌++◌, length, Option, Some, None, refl, subst, ◌∙◌, arith}
+use Rattle.std.proofs.Common.{◌≡◌, ℕ, ◌<◌, ◌≤◌, Bool, true, false, cond, ltb, List, ◌++◌, length, Option, Some, None, refl, subst, ◌∙◌}
+use Rattle.std.proofs.Common.{arith}
 use Rattle.std.specs.List.{All}
 use Rattle.std.specs.Bool.{Decides}
 use Rattle.std.proofs.lemmas.Bool.Decides.{nat_tests, Decides-by_and, Decides-ltb}
@@ -12,7 +13,8 @@ use Rattle.wire.specs.Grammar.{tx_spelling, branch_spelling}
 use Rattle.wire.specs.Reading.{number_at, component_at, byte_at, branch_at, branches_at, tx_at}
 use Rattle.wire.specs.Decoding.{is_tx, are_managers, tx_in}
 use Rattle.wire.proofs.Fields.{tx_again}
-use Rattle.wire.proofs.Spelled.{Front, some_same, step, unless, byte_spelled, number_spelled, component_spelled, branch_spelled, list_spelled, tx_spelled}
+use Rattle.wire.proofs.Spelled.{Front, some_same, step, unless, byte_spelled, number_spelled, component_spelled, branch_spelled}
+use Rattle.wire.proofs.Spelled.{list_spelled, tx_spelled}
 use Rattle.wire.proofs.DecodingLemmas.{tx_decides}
 
 managers_decide : (v : Version) (bs : List BranchParts) → Decides (are_managers v bs) (All (λ b. b.rm < v.most_managers) bs)

@@ -1,7 +1,8 @@
 //! Numbers and bytes as text. A text is read leniently and then compared with the one text of what was read, so that
 //! each value has one text.
 
-ghost use Rattle.std.specs.Prelude.{◌≡◌, ◌≢◌, ℕ, ◌+◌, ◌<◌, ◌^◌, List, ◌∷◌, ◌++◌, ◌≤◌, ◌↔◌, IsTrue, length, true, decimal, MatchOption, IfErr, OnOk};
+ghost use Rattle.std.specs.Prelude.{◌≡◌, ◌≢◌, ℕ, ◌+◌, ◌<◌, ◌^◌, List, ◌∷◌, ◌++◌, ◌≤◌, ◌↔◌, IsTrue, length, true, decimal, MatchOption};
+ghost use Rattle.std.specs.Prelude.{IfErr, OnOk};
 ghost use Rattle.xid.specs.Limits.{most_component};
 ghost use Rattle.xid.specs.Names.{IsBytes, IsComponent};
 ghost use Rattle.xid.specs.Text.{hex_text, lacks};

@@ -14,9 +14,11 @@ returns-then-not-reads_serially-clause-ok c =
     let n = c.loop-number.number in
     let tx = c.in-Some.tx in
     let found = c.in-Some.ensures in
-    sym (ap (λ b. b && are_tables (λ rm. serial_table first done rm (filter (has_committed c.args.ledger.now.views rm) order)) 0 c.args.finals.now)
+    sym (ap (λ b. b && are_tables (λ rm. serial_table first done rm (filter (has_committed c.args.ledger.now.views rm) order)) 0
+    c.args.finals.now)
     (read_fails first done order n tx found
-    (sym (read_so first done order n tx found c.len-number-end.ensures.distinct (rows_of c.loop-number.replay.all) c.loop-number.invariant.all)
+    (sym (read_so first done order n tx found c.len-number-end.ensures.distinct (rows_of c.loop-number.replay.all)
+    c.loop-number.invariant.all)
     ∙ sym c.if-not-reads_serially.ensures)))
 
 pub loop-number-preserved : goal.loop-number-preserved

@@ -24,4 +24,5 @@ loop-place-preserved c =
     let lt : i < length tx.branches = omega (arith, c.loop-place-test.true, c.count-place-end.ensures.value) in
     let under : i < length (participants tx) = omega (arith, many, lt) in
     let test = λ (rm : ℕ). are_shown (rows_of c.args.tables.now rm) (gets_in (branch_at (stretch_of c.args.branches.now) rm tx)) in
-    all_next test (participants tx) i 0 under c.loop-place.invariant (ap test (participant_at tx i lt) ∙ sym c.if-not-reads_serially_at.ensures)
+    all_next test (participants tx) i 0 under c.loop-place.invariant
+    (ap test (participant_at tx i lt) ∙ sym c.if-not-reads_serially_at.ensures)

@@ -8,5 +8,6 @@ use Rattle.audit.proofs.serial.reads_serially.Given as goal
 
 abbrev pub invariant-loop-place : goal.invariant-loop-place
 invariant-loop-place l =
-    list_all (λ rm. are_shown (rows_of l.tables rm) (gets_in (branch_at (stretch_of l.branches) rm l.tx))) (take l.place (participants l.tx))
+    list_all (λ rm. are_shown (rows_of l.tables rm) (gets_in (branch_at (stretch_of l.branches) rm l.tx)))
+    (take l.place (participants l.tx))
     ≡ true

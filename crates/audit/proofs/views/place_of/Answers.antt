@@ -15,4 +15,5 @@ returns-then-rm-clause-value c =
 pub returns-clause-value : goal.returns-clause-value
 returns-clause-value c =
     let nobody : BranchParts = record { rm = 0; bqual = [] } in
-    found_none (is_at c.args.rm) c.args.tx.now.branches nobody (λ k lt. c.loop-place.invariant k (omega (arith, lt, c.loop-place-test.false, c.count-place-end.ensures.value)))
+    found_none (is_at c.args.rm) c.args.tx.now.branches nobody
+    (λ k lt. c.loop-place.invariant k (omega (arith, lt, c.loop-place-test.false, c.count-place-end.ensures.value)))

@@ -9,7 +9,8 @@ use Rattle.net_script.proofs.message_words.accept_items.Goals as goal
 
 pub returns-in_default-accept_item : goal.returns-in_default-accept_item
 returns-in_default-accept_item c = λ is are e.
-    word_unread accept_items_have_one_text [] is (words c.args.args.now) (words c.args.args.now) (words c.in-Some.after.now) c.in-Some.word.now
+    word_unread accept_items_have_one_text [] is (words c.args.args.now) (words c.args.args.now) (words c.in-Some.after.now)
+    c.in-Some.word.now
     (All-nil FitsAcceptItem, are.each) refl c.in-Some.ensures.cut c.in_default-accept_item.ensures e
 
 pub returns-in_default-accept_item-2 : goal.returns-in_default-accept_item-2

@@ -28,7 +28,8 @@ returns-then-not-is_message c = λ m is e.
     let kind = c.in-Some-read_kind.kind in
     let parts =
     has_parts m name tx (words c.args.args.now) (words c.in-Some.rest.now) (words c.in-Some-next_word.args.now) c.in-Some.word.now
-    c.in-Some-next_word.text.now (is, c.in-Some-message_named.ensures, c.in-Some-read_tx.ensures.0, c.in-Some-read_tx.ensures.1) c.in-Some.ensures.cut
+    c.in-Some-next_word.text.now (is, c.in-Some-message_named.ensures, c.in-Some-read_tx.ensures.0, c.in-Some-read_tx.ensures.1)
+    c.in-Some.ensures.cut
     c.in-Some-next_word.ensures.cut e in
     let read = c.in-Some-read_kind.ensures in
     let same : kind ≡ m = same_kind name tx kind m (read.0, parts.0) (sym read.1 ∙ parts.1) in

@@ -9,7 +9,8 @@ use Rattle.net_script.proofs.message_words.report_items.Goals as goal
 
 pub returns-in_default-report_item : goal.returns-in_default-report_item
 returns-in_default-report_item c = λ is are e.
-    word_unread report_items_have_one_text [] is (words c.args.args.now) (words c.args.args.now) (words c.in-Some.after.now) c.in-Some.word.now
+    word_unread report_items_have_one_text [] is (words c.args.args.now) (words c.args.args.now) (words c.in-Some.after.now)
+    c.in-Some.word.now
     (All-nil FitsReportItem, are.each) refl c.in-Some.ensures.cut c.in_default-report_item.ensures e
 
 pub returns-in_default-report_item-2 : goal.returns-in_default-report_item-2

@@ -3,7 +3,8 @@ use Rattle.net_script.proofs.trace_lines.split_arrow.Goals as goal
 
 pub returns-in_default-strip_suffix : goal.returns-in_default-strip_suffix
 returns-in_default-strip_suffix c = λ f b none e.
-    suffix_fails c.args.line.now c.in-Some.front.now c.in-Some.back.now c.as_slice.result.now f b c.in-Some.ensures none e c.as_slice.ensures
+    suffix_fails c.args.line.now c.in-Some.front.now c.in-Some.back.now c.as_slice.result.now f b c.in-Some.ensures none e
+    c.as_slice.ensures
     c.in_default-strip_suffix.ensures.cases
 
 pub returns-in_default-strip_prefix : goal.returns-in_default-strip_prefix

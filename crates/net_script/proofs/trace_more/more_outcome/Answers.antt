@@ -20,9 +20,11 @@ pub returns-in-Some-served : goal.returns-in-Some-served
 returns-in-Some-served c =
     let answer = reads_some _ _ _ _ c.in-Some-2.answer c.in-Some-2.is c.in_ok-answer.ensures in
     let says =
-    serve_told c.args.line.now c.in-Some.front.now c.in-Some.back.now c.in-Some-served.node c.in-Some-2.answer c.requires c.in-Some.ensures.0
+    serve_told c.args.line.now c.in-Some.front.now c.in-Some.back.now c.in-Some-served.node c.in-Some-2.answer c.requires
+    c.in-Some.ensures.0
     c.in-Some-served.ensures answer in
-    told (Some c.args.trace) (Served c.in-Some-served.node c.in-Some-2.answer) (words c.args.line.now) c.with_serve.result outcome_line says.0
+    told (Some c.args.trace) (Served c.in-Some-served.node c.in-Some-2.answer) (words c.args.line.now) c.with_serve.result outcome_line
+    says.0
     says.1 c.with_serve.ensures
 
 pub returns-in_default-3 : goal.returns-in_default-3
@@ -35,7 +37,9 @@ returns c =
     let answer = reads_some _ _ _ _ c.in-Some-2.answer c.in-Some-2.is c.in_ok-answer.ensures in
     let event = reads_some _ _ _ _ c.in-Some-3.event c.in-Some-3.is c.in_ok-event.ensures in
     let says =
-    event_told c.args.line.now c.in-Some.front.now c.in-Some.back.now c.in-Some-3.event c.in-Some-2.answer c.requires c.in-Some.ensures.0 event
+    event_told c.args.line.now c.in-Some.front.now c.in-Some.back.now c.in-Some-3.event c.in-Some-2.answer c.requires c.in-Some.ensures.0
+    event
     answer in
-    told (Some c.args.trace) (Happened c.in-Some-3.event c.in-Some-2.answer) (words c.args.line.now) c.with_step.result outcome_line says.0 says.1
+    told (Some c.args.trace) (Happened c.in-Some-3.event c.in-Some-2.answer) (words c.args.line.now) c.with_step.result outcome_line says.0
+    says.1
     c.with_step.ensures

@@ -21,7 +21,8 @@ pub returns-in_default-2 : goal.returns-in_default-2
 returns-in_default-2 c = λ said is e.
     let only = only_final said (words c.args.args.now) is e in
     let rest = words_after c.in-Some.ensures only.4 in
-    absurd (reads_none AreFinalRows rows_words (words c.in-Some.rest.now) c.in_ok-rows.field-0 c.in_default-2.is c.in_ok-rows.ensures only.1 only.3
+    absurd (reads_none AreFinalRows rows_words (words c.in-Some.rest.now) c.in_ok-rows.field-0 c.in_default-2.is c.in_ok-rows.ensures only.1
+    only.3
     rest)
 
 pub returns : goal.returns

@@ -10,7 +10,8 @@ use Rattle.net_script.proofs.trace_more.more_table.Goals as goal
 pub returns-in_default : goal.returns-in_default
 returns-in_default c = λ said is e.
     let only = only_table said (words c.args.args.now) is e in
-    absurd (reads_none IsContents contents_words (words c.args.args.now) c.in_ok-table.field-0 c.in_default.is c.in_ok-table.ensures only.0 only.1
+    absurd (reads_none IsContents contents_words (words c.args.args.now) c.in_ok-table.field-0 c.in_default.is c.in_ok-table.ensures only.0
+    only.1
     only.2)
 
 pub returns : goal.returns

@@ -12,7 +12,8 @@ returns-then-not-is_tidy c = λ said is e u valid more parts.
 
 pub returns-in_default : goal.returns-in_default
 returns-in_default c =
-    reads_line c.args.trace None c.args.line.now c.first_line.result c.in_default.is c.requires.valid (sym c.is_tidy.ensures ∙ c.if-not-is_tidy.false)
+    reads_line c.args.trace None c.args.line.now c.first_line.result c.in_default.is c.requires.valid
+    (sym c.is_tidy.ensures ∙ c.if-not-is_tidy.false)
     c.first_line.ensures
 
 pub returns : goal.returns

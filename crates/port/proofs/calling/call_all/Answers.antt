@@ -11,7 +11,8 @@ use Rattle.port.proofs.calling.call_all.Goals as goal
 pub returns-in-Err-clause-calls : goal.returns-in-Err-clause-calls
 returns-in-Err-clause-calls g c =
     λ config m stands.
-    let groups = subst (GroupsAs config m (map input_of c.args.inputs.now) c.args.node.now c.step_all.new.self c.step_all.new.outs) c.in-Err.is
+    let groups =
+    subst (GroupsAs config m (map input_of c.args.inputs.now) c.args.node.now c.step_all.new.self c.step_all.new.outs) c.in-Err.is
     (c.step_all.ensures config m stands) in
     record {
       groups = groups;

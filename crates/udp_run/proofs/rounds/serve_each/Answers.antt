@@ -29,7 +29,8 @@ loop-at-preserved g c = record {
 pub returns-clause-ok : goal.returns-clause-ok
 returns-clause-ok g c =
     λ sizes noise.
-    let all : c.loop-at.at ≡ length c.args.nodes.now.items = omega (arith, c.loop-at-test.false, c.len-at-end.ensures, c.loop-at.auto.at-end) in
+    let all : c.loop-at.at ≡ length c.args.nodes.now.items =
+    omega (arith, c.loop-at-test.false, c.len-at-end.ensures, c.loop-at.auto.at-end) in
     subst (λ (k : ℕ). Joins (ServesFirst g.P.Port.received g.P.Port.sent k)
     (site_of sizes c.args.nodes.now.items c.args.ports.now.items noise)
     (site_of sizes c.loop-at.nodes.items c.loop-at.ports.items noise) c.args.entries.now.items c.loop-at.entries.items) all

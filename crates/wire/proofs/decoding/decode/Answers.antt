@@ -19,7 +19,8 @@ use Rattle.wire.proofs.decoding.decode.Goals as goal
 heads : (k : Kind) (bytes after : List ℕ) (code : ℕ) → bytes ≡ version_2.byte ∷ code ∷ after → bytes ≡ spelling k
     → (code ≡ kind_byte k) × (after ≡ tx_spelling version_2 (message_tx k) ++ rest_spelling version_2 k)
 heads k bytes after code read e =
-    codes version_2.byte code version_2.byte (kind_byte k) after (tx_spelling version_2 (message_tx k) ++ rest_spelling version_2 k) (sym read ∙ e)
+    codes version_2.byte code version_2.byte (kind_byte k) after (tx_spelling version_2 (message_tx k) ++ rest_spelling version_2 k)
+    (sym read ∙ e)
 
 pub returns-in_default-take_parts-clause-err : goal.returns-in_default-take_parts-clause-err
 returns-in_default-take_parts-clause-err c = (
@@ -35,7 +36,8 @@ returns-then-not-are_parts-clause-err c = (
   refl,
   λ k is e.
       let head = heads k c.args.bytes.now c.in-Some.rest.now c.in-Some.code c.in-Some.ensures e in
-      let t = same_taken c.in-Some.rest.now _ c.in-Some-take_parts.rest.now (message_tx k) (rest_spelling version_2 k) (tx_valid k is) head.1
+      let t =
+      same_taken c.in-Some.rest.now _ c.in-Some-take_parts.rest.now (message_tx k) (rest_spelling version_2 k) (tx_valid k is) head.1
       (sym c.in-Some-take_parts.ensures) in
       absurd (cc (c.are_parts.ensures.1 (subst IsTx (sym t.0) (tx_valid k is)), c.if-not-are_parts.true)),
 )

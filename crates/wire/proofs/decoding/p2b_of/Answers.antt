@@ -14,6 +14,13 @@ returns-then-not-is_p2b c =
 pub returns : goal.returns
 unfolding p2b_at
 returns c =
-    rw (c.new.ensures, sym c.in-Some.ensures, sym c.in-Some-take_vote.ensures, sym c.in-Some-take_byte.ensures, sym c.in-Some-take_end.ensures)
+    rw (
+      c.new.ensures,
+      sym c.in-Some.ensures,
+      sym c.in-Some-take_vote.ensures,
+      sym c.in-Some-take_byte.ensures,
+      sym
+          c.in-Some-take_end.ensures,
+    )
     (accepted c.is_p2b.result (P2b c.args.tx.now c.in-Some.instance c.in-Some.ballot c.in-Some-take_vote.vote c.in-Some-take_byte.acceptor)
     c.is_p2b.ensures c.if-not-is_p2b.false)

@@ -16,7 +16,8 @@ loop-i-preserved c =
     let most = (version_of c.args.version).most_managers in
     let bs = c.args.tx.now.branches in
     let next = all_next (λ b. ltb b.rm most) bs c.loop-i.i blank (omega (arith, c.loop-i-test.true, c.count-i-end.ensures.value)) in
-    let below : (get_or bs c.loop-i.i blank).rm < most = omega (arith, c.rm.ensures.branch, c.if-rm-most.false, c.most_managers-most.ensures) in
+    let below : (get_or bs c.loop-i.i blank).rm < most =
+    omega (arith, c.rm.ensures.branch, c.if-rm-most.false, c.most_managers-most.ensures) in
     let yes : ltb (get_or bs c.loop-i.i blank).rm most ≡ true = lt-ltb _ _ below in
     record { same = sym (next ∙ rw yes refl) ∙ c.loop-i.invariant.same }
 
@@ -25,7 +26,8 @@ returns-then-rm-most c =
     let most = (version_of c.args.version).most_managers in
     let bs = c.args.tx.now.branches in
     let next = all_next (λ b. ltb b.rm most) bs c.loop-i.i blank (omega (arith, c.loop-i-test.true, c.count-i-end.ensures.value)) in
-    let above : most ≤ (get_or bs c.loop-i.i blank).rm = omega (arith, c.rm.ensures.branch, c.if-rm-most.true, c.most_managers-most.ensures) in
+    let above : most ≤ (get_or bs c.loop-i.i blank).rm =
+    omega (arith, c.rm.ensures.branch, c.if-rm-most.true, c.most_managers-most.ensures) in
     let no : ltb (get_or bs c.loop-i.i blank).rm most ≡ false = le-ltb _ _ above in
     sym (next ∙ rw no refl) ∙ c.loop-i.invariant.same
 

@@ -9,7 +9,8 @@ use Rattle.wire.proofs.reading.take_branches.Goals as goal
 pub returns-in_default : goal.returns-in_default
 returns-in_default c =
     sym (ends (branch_at (version_of c.args.version)) c.loop.all c.args.count c.loop.counter c.loop.rest.now
-    (branches_at (version_of c.args.version) c.args.count c.args.bytes.now) c.loop-test.true (sym c.in_default.ensures.value) c.loop.invariant.same)
+    (branches_at (version_of c.args.version) c.args.count c.args.bytes.now) c.loop-test.true (sym c.in_default.ensures.value)
+    c.loop.invariant.same)
 
 pub loop-preserved : goal.loop-preserved
 loop-preserved c =
@@ -18,7 +19,8 @@ loop-preserved c =
       count = omega (arith, length-append c.loop.all (b ∷ []), c.loop.invariant.count);
       same =
           goes_on (branch_at (version_of c.args.version)) c.loop.all c.args.count c.loop.counter c.loop.rest.now
-          (branches_at (version_of c.args.version) c.args.count c.args.bytes.now) b c.in-Some.after.now c.loop-test.true (sym c.in-Some.ensures.value) c.loop.invariant.same;
+          (branches_at (version_of c.args.version) c.args.count c.args.bytes.now) b c.in-Some.after.now c.loop-test.true
+          (sym c.in-Some.ensures.value) c.loop.invariant.same;
     })
 
 pub returns : goal.returns

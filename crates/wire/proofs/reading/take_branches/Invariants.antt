@@ -7,5 +7,6 @@ use Rattle.wire.proofs.reading.take_branches.Given as goal
 abbrev pub invariant-loop : goal.invariant-loop
 invariant-loop l = record {
   count : length l.all ≡ l.counter;
-  same : with_front l.all (branches_at (version_of l.version) (l.count - l.counter) l.rest) ≡ branches_at (version_of l.version) l.count l.bytes;
+  same : with_front l.all (branches_at (version_of l.version) (l.count - l.counter) l.rest) ≡ branches_at (version_of l.version) l.count
+      l.bytes;
 }

@@ -8,5 +8,6 @@ returns-else-not-branch-clause-ok c =
 
 pub returns-in-Serve-clause-ok : goal.returns-in-Serve-clause-ok
 returns-in-Serve-clause-ok c =
-    serve_taken c.take_change-in-Serve.result c.args.entry.now c.in-Serve.node c.in-Serve.answer c.in-Serve.now c.in-Serve.sent c.args.self.now
+    serve_taken c.take_change-in-Serve.result c.args.entry.now c.in-Serve.node c.in-Serve.answer c.in-Serve.now c.in-Serve.sent
+    c.args.self.now
     c.take_change-in-Serve.new.self c.in-Serve.is c.take_change-in-Serve.ensures.ok

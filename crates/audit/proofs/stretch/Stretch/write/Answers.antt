@@ -16,5 +16,6 @@ invariant_of-self-2 c =
     (sym (c.push_reserved.ensures.items ∙ ap (λ ws. ws ++ t ∷ []) c.reserve.ensures.items))
     (subst (λ es. ArePlaces (λ key. key.items) es (old.writes.items ++ t ∷ []))
     (sym (c.in_ok-insert.ensures.entries
-    ∙ ap (insert_entry (λ x y. slice_cmp nat_cmp x.items y.items) old.places.entries c.in_ok-copy.copy) (c.len.ensures ∙ c.reserve.ensures.len ∙ c.self.inside.writes.ok.0)))
+    ∙ ap (insert_entry (λ x y. slice_cmp nat_cmp x.items y.items) old.places.entries c.in_ok-copy.copy)
+    (c.len.ensures ∙ c.reserve.ensures.len ∙ c.self.inside.writes.ok.0)))
     (places_after (λ key. key.items) old.places.entries old.writes.items c.in_ok-copy.copy t same c.self.invariant))

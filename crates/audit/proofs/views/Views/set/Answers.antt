@@ -11,6 +11,7 @@ returns c = λ other.
     let tx = c.args.tx.now in
     let number = subst (λ v. IsNumberOf v tx c.args.number) (sym c.self.view_is) c.requires in
     view_set ts rows c.args.number tx c.args.place c.args.view c.set.new.self number c.self.invariant
-    (c.set.ensures ∙ ap (λ vs. set vs c.args.place c.args.view) (course_is ts rows tx c.args.number number c.index_mut.result.now c.index_mut.ensures.value))
+    (c.set.ensures ∙ ap (λ vs. set vs c.args.place c.args.view)
+    (course_is ts rows tx c.args.number number c.index_mut.result.now c.index_mut.ensures.value))
     other
     ∙ (λ i. cond (tx_eq other tx) (set (views_in (c.self.view_is i) other) c.args.place c.args.view) (views_in (c.self.view_is i) other))

@@ -20,7 +20,8 @@ returns c =
     let new = (c.get_mut.follows.lender w).entries in
     let holds = c.get_mut.follows.holds w in
     let updates = holds.3 (search rules) in
-    subst (λ bs. Replaces bs (branches_of new) x (branch_named bs x) (option_map (in_state c.args.state) (branch_named bs x))) c.self.view_is
+    subst (λ bs. Replaces bs (branches_of new) x (branch_named bs x) (option_map (in_state c.args.state) (branch_named bs x)))
+    c.self.view_is
     (set_to c.self.inside.named.entries new x v w (in_state c.args.state) (sym c.in-Some.ensures.value)
     (sym (ap (branch_of x) c.set_state.ensures)) holds.0 (updates.1, updates.2)
     (subst (IsDistinct xid_eq) (sym holds.1) c.get_mut.ensures.unique))

@@ -19,11 +19,13 @@ touch-requires-clause-room c =
     let x = c.args.xid.now in
     let found = ap (λ bs. branch_named bs x) (sym c.self.view_is) ∙ named_from c.self.inside.named.entries x
     ∙ ap (option_map (branch_of x)) (sym c.in-Some.ensures.value) in
-    subst (λ o. IfSome o (λ branch. (has_key c.args.key.now branch.keys || nat_lt (length branch.keys) most_touched) ≡ true)) found c.requires.room
+    subst (λ o. IfSome o (λ branch. (has_key c.args.key.now branch.keys || nat_lt (length branch.keys) most_touched) ≡ true)) found
+    c.requires.room
 
 pub returns-in_default-clause-ok : goal.returns-in_default-clause-ok
 returns-in_default-clause-ok c =
-    absurd (not_absent c.self.inside.named.entries c.args.xid.now c.args.self.now c.self.view_is c.requires.found c.in_default.ensures.value)
+    absurd (not_absent c.self.inside.named.entries c.args.xid.now c.args.self.now c.self.view_is c.requires.found
+    c.in_default.ensures.value)
 
 pub returns-clause-ok : goal.returns-clause-ok
 returns-clause-ok c =
@@ -37,7 +39,8 @@ returns-clause-ok c =
     on_ok c.touch.result (w ≡ record v { keys = with_touched v.keys c.args.key.now c.args.act })
     (Replaces c.args.self.now (branches_of new) x (branch_named c.args.self.now x) (option_map act (branch_named c.args.self.now x)))
     (λ is. subst (λ bs. Replaces bs (branches_of new) x (branch_named bs x) (option_map act (branch_named bs x))) c.self.view_is
-    (set_to c.self.inside.named.entries new x v w act (sym c.in-Some.ensures.value) (sym (ap (branch_of x) is)) holds.0 (updates.1, updates.2)
+    (set_to c.self.inside.named.entries new x v w act (sym c.in-Some.ensures.value) (sym (ap (branch_of x) is)) holds.0
+    (updates.1, updates.2)
     (subst (IsDistinct xid_eq) (sym holds.1) c.get_mut.ensures.unique)))
     c.touch.ensures.ok
 

@@ -44,7 +44,8 @@ returns-in-Some-clause-rows c =
     let updates = (c.get_mut.follows.holds w).3 (search rules) in
     let set = set_by (λ k. k.items) old new key (Some c.in-Some.place.now) (Some w) (λ p. place_and p c.args.more) updates.3 updates.1
     c.in-Some.ensures.value (with_hold c.in-Some.place.now c.and-place.result c.args.more c.and-place.ensures) in
-    rows_set (known (λ k. k.items) old) (known (λ k. k.items) new) key Act.Read (place_and (place_at (known (λ k. k.items) old) key) c.args.more) set refl ∙ ap table_of c.self.view_is
+    rows_set (known (λ k. k.items) old) (known (λ k. k.items) new) key Act.Read
+    (place_and (place_at (known (λ k. k.items) old) key) c.args.more) set refl ∙ ap table_of c.self.view_is
 
 pub invariant_of-self : goal.invariant_of-self
 invariant_of-self c =
@@ -55,7 +56,8 @@ invariant_of-self c =
     let updates = (c.get_mut.follows.holds w).3 (search rules) in
     let set = set_by (λ k. k.items) old new key (Some c.in-Some.place.now) (Some w) (λ p. place_and p c.args.more) updates.3 updates.1
     c.in-Some.ensures.value (with_hold c.in-Some.place.now c.and-place.result c.args.more c.and-place.ensures) in
-    ap are_rows (rows_set (known (λ k. k.items) old) (known (λ k. k.items) new) key Act.Read (place_and (place_at (known (λ k. k.items) old) key) c.args.more) set refl) ∙ c.self.invariant
+    ap are_rows (rows_set (known (λ k. k.items) old) (known (λ k. k.items) new) key Act.Read
+    (place_and (place_at (known (λ k. k.items) old) key) c.args.more) set refl) ∙ c.self.invariant
 
 pub returns-clause-holds : goal.returns-clause-holds
 returns-clause-holds c =
@@ -87,7 +89,8 @@ returns-clause-rows c =
     c.in_default.ensures.value) in
     let set = set_by (λ k. k.items) old new key None (Some (held_first c.args.more)) (λ p. place_and p c.args.more)
     updates.3 updates.1 none (first_and c.args.more) in
-    rows_set (known (λ k. k.items) old) (known (λ k. k.items) new) key Act.Read (place_and (place_at (known (λ k. k.items) old) key) c.args.more) set refl ∙ ap table_of (view ∙ c.self.view_is)
+    rows_set (known (λ k. k.items) old) (known (λ k. k.items) new) key Act.Read
+    (place_and (place_at (known (λ k. k.items) old) key) c.args.more) set refl ∙ ap table_of (view ∙ c.self.view_is)
 
 pub invariant_of-self-2 : goal.invariant_of-self-2
 invariant_of-self-2 c =
@@ -102,5 +105,6 @@ invariant_of-self-2 c =
     c.in_default.ensures.value) in
     let set = set_by (λ k. k.items) old new key None (Some (held_first c.args.more)) (λ p. place_and p c.args.more)
     updates.3 updates.1 none (first_and c.args.more) in
-    ap are_rows (rows_set (known (λ k. k.items) old) (known (λ k. k.items) new) key Act.Read (place_and (place_at (known (λ k. k.items) old) key) c.args.more) set refl)
+    ap are_rows (rows_set (known (λ k. k.items) old) (known (λ k. k.items) new) key Act.Read
+    (place_and (place_at (known (λ k. k.items) old) key) c.args.more) set refl)
     ∙ ap (λ ps. are_rows (table_of ps)) view ∙ c.self.invariant

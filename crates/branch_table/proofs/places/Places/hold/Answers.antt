@@ -38,8 +38,10 @@ loop-at-preserved c = record {
       (sym c.is_err.ensures.value ∙ c.if-is_err.false) c.add.ensures.holds in
       let added = adds writes key
       ∙ (λ j. cond (bytes_eq (c.as_slice.ensures j) key)
-      (uses_held writes (hold_at c.loop-at.self key) + uses_held writes (c.by.ensures j)) (uses_held writes (hold_at c.loop-at.self key))) in
-      hold_step _ (uses_held writes (hold_at c.loop-at.self key)) (uses_by writes key (drop i keys)) (uses_by writes key (drop (i + 1) keys))
+      (uses_held writes (hold_at c.loop-at.self key) + uses_held writes (c.by.ensures j))
+      (uses_held writes (hold_at c.loop-at.self key))) in
+      hold_step _ (uses_held writes (hold_at c.loop-at.self key)) (uses_by writes key (drop i keys))
+      (uses_by writes key (drop (i + 1) keys))
       (uses_held writes (hold_by t.act)) _ (bytes_eq t.key key) added
       (uses_step writes key keys i t c.loop-at-test.true c.index-keys-at.is c.requires.ascending) (c.loop-at.invariant.holds writes key);
 }

@@ -35,7 +35,8 @@ invariant_of-self-then-not-is_empty c =
     let updates = (c.get_mut.follows.holds w).3 (search rules) in
     let set = set_by (λ k. k.items) old mid key (Some c.in-Some.place.now) (Some w) (λ p. place_left p act fewer) updates.3 updates.1
     c.in-Some.ensures.value c.leave.ensures in
-    ap are_rows (rows_set (known (λ k. k.items) old) (known (λ k. k.items) mid) key act (place_left (place_at (known (λ k. k.items) old) key) act fewer) set refl)
+    ap are_rows (rows_set (known (λ k. k.items) old) (known (λ k. k.items) mid) key act
+    (place_left (place_at (known (λ k. k.items) old) key) act fewer) set refl)
     ∙ after_fit (table_of (known (λ k. k.items) old)) key act
     (λ value e. (subst (CanLeave c.args.self.now key) e c.requires).0) c.self.invariant
 
@@ -53,7 +54,8 @@ returns-then-not-is_empty c =
     record {
       holds = subst (λ ps. Takes ps (known (λ k. k.items) mid) key fewer) c.self.view_is
           (takes (known (λ k. k.items) old) (known (λ k. k.items) mid) key act fewer set);
-      rows = rows_set (known (λ k. k.items) old) (known (λ k. k.items) mid) key act (place_left (place_at (known (λ k. k.items) old) key) act fewer) set refl
+      rows = rows_set (known (λ k. k.items) old) (known (λ k. k.items) mid) key act
+          (place_left (place_at (known (λ k. k.items) old) key) act fewer) set refl
           ∙ ap (λ ps. rows_after (table_of ps) key act) c.self.view_is;
     }
 
@@ -73,9 +75,11 @@ invariant_of-self-2 c =
     let was = ap (λ o. unwrap_or o no_place) c.in-Some.ensures.value ∙ sym (place_is (λ k. k.items) key old) in
     let left = sym (c.is_empty.ensures c.if-not-is_empty.false) ∙ c.leave.ensures ∙ ap (λ p. place_left p act fewer) was in
     let gone = subst (SetsPlace (known (λ k. k.items) old) (known (λ k. k.items) new) key) left
-    (sets_twice (known (λ k. k.items) old) (known (λ k. k.items) mid) (known (λ k. k.items) new) key (place_left (place_at (known (λ k. k.items) old) key) act fewer) no_place set
+    (sets_twice (known (λ k. k.items) old) (known (λ k. k.items) mid) (known (λ k. k.items) new) key
+    (place_left (place_at (known (λ k. k.items) old) key) act fewer) no_place set
     (sets (λ k. k.items) mid new key None removed.3 removed.1)) in
-    ap are_rows (rows_set (known (λ k. k.items) old) (known (λ k. k.items) new) key act (place_left (place_at (known (λ k. k.items) old) key) act fewer) gone refl)
+    ap are_rows (rows_set (known (λ k. k.items) old) (known (λ k. k.items) new) key act
+    (place_left (place_at (known (λ k. k.items) old) key) act fewer) gone refl)
     ∙ after_fit (table_of (known (λ k. k.items) old)) key act
     (λ value e. (subst (CanLeave c.args.self.now key) e c.requires).0) c.self.invariant
 
@@ -95,11 +99,13 @@ returns c =
     let was = ap (λ o. unwrap_or o no_place) c.in-Some.ensures.value ∙ sym (place_is (λ k. k.items) key old) in
     let left = sym (c.is_empty.ensures c.if-not-is_empty.false) ∙ c.leave.ensures ∙ ap (λ p. place_left p act fewer) was in
     let gone = subst (SetsPlace (known (λ k. k.items) old) (known (λ k. k.items) new) key) left
-    (sets_twice (known (λ k. k.items) old) (known (λ k. k.items) mid) (known (λ k. k.items) new) key (place_left (place_at (known (λ k. k.items) old) key) act fewer) no_place set
+    (sets_twice (known (λ k. k.items) old) (known (λ k. k.items) mid) (known (λ k. k.items) new) key
+    (place_left (place_at (known (λ k. k.items) old) key) act fewer) no_place set
     (sets (λ k. k.items) mid new key None removed.3 removed.1)) in
     record {
       holds = subst (λ ps. Takes ps (known (λ k. k.items) new) key fewer) c.self.view_is
           (takes (known (λ k. k.items) old) (known (λ k. k.items) new) key act fewer gone);
-      rows = rows_set (known (λ k. k.items) old) (known (λ k. k.items) new) key act (place_left (place_at (known (λ k. k.items) old) key) act fewer) gone refl
+      rows = rows_set (known (λ k. k.items) old) (known (λ k. k.items) new) key act
+          (place_left (place_at (known (λ k. k.items) old) key) act fewer) gone refl
           ∙ ap (λ ps. rows_after (table_of ps) key act) c.self.view_is;
     }

@@ -27,8 +27,10 @@ loop-touched-preserved c =
       holds = λ writes key.
           let taken = c.leave.ensures.holds writes key
           ∙ (λ j. cond (bytes_eq (c.as_slice.ensures j) key)
-          (uses_held writes (hold_at c.loop-touched.self key) - uses_held writes (c.by.ensures j)) (uses_held writes (hold_at c.loop-touched.self key))) in
-          let_step _ (uses_held writes (hold_at c.loop-touched.self key)) (uses_by writes key (drop i keys)) (uses_by writes key (drop (i + 1) keys))
+          (uses_held writes (hold_at c.loop-touched.self key) - uses_held writes (c.by.ensures j))
+          (uses_held writes (hold_at c.loop-touched.self key))) in
+          let_step _ (uses_held writes (hold_at c.loop-touched.self key)) (uses_by writes key (drop i keys))
+          (uses_by writes key (drop (i + 1) keys))
           (uses_held writes (hold_by t.act)) _ (bytes_eq t.key key) taken
           (uses_step writes key keys i t c.loop-touched-test.true c.touched-item.is c.requires) (c.loop-touched.invariant.holds writes key);
     }

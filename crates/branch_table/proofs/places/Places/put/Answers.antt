@@ -27,7 +27,8 @@ returns-clause-free c =
     let updates = c.in_ok-insert.ensures.updates in
     let key = c.into_vec.result.items in
     let place : Place = record { value = Some c.args.row.value; hold = c.free.result } in
-    free_set (known (λ k. k.items) old) (known (λ k. k.items) new) key place (sets (λ k. k.items) old new key (Some place) updates.3 updates.1)
+    free_set (known (λ k. k.items) old) (known (λ k. k.items) new) key place
+    (sets (λ k. k.items) old new key (Some place) updates.3 updates.1)
     c.free.ensures (subst (λ (places : Known). (q : List ℕ) → hold_at places q ≡ free) (sym c.self.view_is) c.requires.free)
 
 pub invariant_of-self-2 : goal.invariant_of-self-2

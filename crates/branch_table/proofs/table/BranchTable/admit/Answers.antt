@@ -38,7 +38,8 @@ returns-then-is_hindered c =
     let bs = c.args.self.now.branches in
     let found = ap (λ t. branch_named t.branches x) (sym c.self.view_is) ∙ sym c.in-Some.ensures in
     let own = ap (uses_held w) c.hold_on-own.ensures ∙ own_hold w b.keys key ∙ sym (uses_same w key b) ∙ ap (uses_of w key) (sym found) in
-    let busy = subst (λ r. Decides r (IsHindered (hinders_use w key) (view_named bs) x)) c.if-is_hindered.true (c.is_hindered.ensures x own) in
+    let busy =
+    subst (λ r. Decides r (IsHindered (hinders_use w key) (view_named bs) x)) c.if-is_hindered.true (c.is_hindered.ensures x own) in
     denies_hindered bs x w key b busy found (sym c.if-not-is_active.ensures)
 
 pub returns-then-not-has_room : goal.returns-then-not-has_room
@@ -50,7 +51,8 @@ returns-then-not-has_room c =
     let bs = c.args.self.now.branches in
     let found = ap (λ t. branch_named t.branches x) (sym c.self.view_is) ∙ sym c.in-Some.ensures in
     let own = ap (uses_held w) c.hold_on-own.ensures ∙ own_hold w b.keys key ∙ sym (uses_same w key b) ∙ ap (uses_of w key) (sym found) in
-    let busy = subst (λ r. Decides r (IsHindered (hinders_use w key) (view_named bs) x)) c.if-is_hindered.false (c.is_hindered.ensures x own) in
+    let busy =
+    subst (λ r. Decides r (IsHindered (hinders_use w key) (view_named bs) x)) c.if-is_hindered.false (c.is_hindered.ensures x own) in
     denies_full bs x w key b busy found (sym c.if-not-is_active.ensures) (sym c.if-not-has_room.ensures.value)
 
 pub returns : goal.returns
@@ -62,6 +64,7 @@ returns c =
     let bs = c.args.self.now.branches in
     let found = ap (λ t. branch_named t.branches x) (sym c.self.view_is) ∙ sym c.in-Some.ensures in
     let own = ap (uses_held w) c.hold_on-own.ensures ∙ own_hold w b.keys key ∙ sym (uses_same w key b) ∙ ap (uses_of w key) (sym found) in
-    let busy = subst (λ r. Decides r (IsHindered (hinders_use w key) (view_named bs) x)) c.if-is_hindered.false (c.is_hindered.ensures x own) in
+    let busy =
+    subst (λ r. Decides r (IsHindered (hinders_use w key) (view_named bs) x)) c.if-is_hindered.false (c.is_hindered.ensures x own) in
     admits bs x w key b c.hold_on-own.result busy found (sym c.if-not-is_active.ensures) (sym c.if-not-has_room.ensures.value)
     c.has_room.ensures.valid.ascending c.hold_on-own.ensures

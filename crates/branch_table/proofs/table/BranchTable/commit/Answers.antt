@@ -10,7 +10,8 @@ use Rattle.branch_table.proofs.table.BranchTable.commit.Goals as goal
 
 pub invariant_of-self : goal.invariant_of-self
 invariant_of-self c =
-    kept_absent c.self.inside.places c.self.inside.branches c.remove.new.self c.args.xid.now c.self.invariant (sym c.in_default.ensures.value)
+    kept_absent c.self.inside.places c.self.inside.branches c.remove.new.self c.args.xid.now c.self.invariant
+    (sym c.in_default.ensures.value)
     c.remove.ensures.left
 
 pub returns-in_default : goal.returns-in_default
@@ -27,7 +28,8 @@ returns-in_default c =
 pub settle-requires-clause-held : goal.settle-requires-clause-held
 settle-requires-clause-held c =
     let b = branch_of c.args.xid.now c.in-Some.branch in
-    λ key there. held_there c.self.inside.places c.self.inside.branches c.args.xid.now b c.self.invariant.1 (sym c.in-Some.ensures.value) key
+    λ key there. held_there c.self.inside.places c.self.inside.branches c.args.xid.now b c.self.invariant.1 (sym c.in-Some.ensures.value)
+    key
     (ap (has_key key) (sym c.into_keys.ensures.value) ∙ there)
 
 pub invariant_of-self-2 : goal.invariant_of-self-2

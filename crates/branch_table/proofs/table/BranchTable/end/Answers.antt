@@ -18,14 +18,16 @@ returns-then-not-is_active-clause-steps c =
 pub invariant_of-self : goal.invariant_of-self
 invariant_of-self c =
     let x = c.args.xid.now in
-    kept_state c.self.inside.places c.self.inside.branches c.set_state.new.self x (branch_of x c.in-Some.branch.now) c.outcome-state.result.0
+    kept_state c.self.inside.places c.self.inside.branches c.set_state.new.self x (branch_of x c.in-Some.branch.now)
+    c.outcome-state.result.0
     c.self.invariant (sym c.in-Some.ensures) c.set_state.ensures
 
 pub returns-clause-steps : goal.returns-clause-steps
 returns-clause-steps c =
     let x = c.args.xid.now in
     let b = branch_of x c.in-Some.branch.now in
-    let is = was_found c.self.inside.branches c.set_state.new.self x b (in_state c.outcome-state.result.0) (sym c.in-Some.ensures) c.set_state.ensures in
+    let is = was_found c.self.inside.branches c.set_state.new.self x b (in_state c.outcome-state.result.0) (sym c.in-Some.ensures)
+    c.set_state.ensures in
     rw (← c.self.view_is, c.outcome-state.ensures.code)
     (end_done _ _ x c.args.ending b (sym c.in-Some.ensures) (sym c.if-not-is_active.ensures)
     (rw (← c.outcome-state.ensures.state) is.only) refl)

@@ -18,5 +18,6 @@ returns-in-Err-clause-ok c =
 pub returns-clause-ok : goal.returns-clause-ok
 returns-clause-ok c =
     rw (c.in_ok-answer.ensures.ok)
-    (key_done c.args.self.now c.touch.new.self c.args.xid.now (get_call _ _ c.args.key.now (sym c.if-not-key_fits.ensures)) c.in-Ok.ensures.0
+    (key_done c.args.self.now c.touch.new.self c.args.xid.now (get_call _ _ c.args.key.now (sym c.if-not-key_fits.ensures))
+    c.in-Ok.ensures.0
     c.in_ok-touch.ensures.ok)

@@ -15,4 +15,5 @@ returns c = λ x none.
     let at = view_named c.args.self.now.branches in
     let own = ap (uses_held w) c.free.ensures ∙ no_hold w ∙ sym (ap (uses_of w q) none) in
     subst (λ key. Decides c.is_hindered.result (IsHindered (hinders_use (is_write c.args.touched.now.act) key) at x)) c.as_slice.ensures
-    (subst (λ writes. Decides c.is_hindered.result (IsHindered (hinders_use writes q) at x)) c.of-access.ensures (c.is_hindered.ensures x own))
+    (subst (λ writes. Decides c.is_hindered.result (IsHindered (hinders_use writes q) at x)) c.of-access.ensures
+    (c.is_hindered.ensures x own))

@@ -24,4 +24,5 @@ returns-clause-ok c =
     let key = c.args.key.now in
     let touched = subst (λ (value : List ℕ). Touches c.args.self.now c.touch.new.self x key (acts.Put value)) c.in_ok-copy_of.ensures.ok
     c.in_ok-touch.ensures.ok in
-    key_done c.args.self.now c.touch.new.self x (put_call _ _ key c.args.value.now (sym c.if-not-put_fits.ensures)) c.in-Ok.ensures.0 touched
+    key_done c.args.self.now c.touch.new.self x (put_call _ _ key c.args.value.now (sym c.if-not-put_fits.ensures)) c.in-Ok.ensures.0
+    touched

@@ -8,15 +8,22 @@ use Rattle.branch_table.specs.Outcomes.{AreHindered, prepared_branch}
 use Rattle.branch_table.specs.Parts.{Replaces, branch_of, hold_at, uses_by, uses_held}
 use Rattle.branch_table.specs.Tables.{ChangesOnly, TableState, branch_named, in_state}
 use Rattle.branch_table.proofs.PlaceTable.{given_on_err, given_on_ok, kept_on_err}
-use Rattle.branch_table.proofs.TableKept.{could_idle, held_small, kept_prepared, kept_state, refused_hindered, refused_keys, refused_state, same_kept, was_found}
+use Rattle.branch_table.proofs.TableKept.{could_idle, held_small, kept_prepared, kept_state, refused_hindered, refused_keys, refused_state}
+use Rattle.branch_table.proofs.TableKept.{same_kept, was_found}
 use Rattle.std.proofs.lemmas.Bool.{both_ways}
 use Rattle.branch_table.proofs.table.BranchTable.restore.Goals as goal
 
 pub returns-then-not-is_idle-clause-err : goal.returns-then-not-is_idle-clause-err
 returns-then-not-is_idle-clause-err c =
     let x = c.args.xid.now in
-    let found = ap (λ t. branch_named t.branches x) (sym c.self.view_is) ∙ sym c.in-Some.ensures in
-    (inl (refl, refused_state c.args.self.now.branches x (branch_of x c.in-Some.branch.now) c.args.keys.now found (sym c.if-not-is_idle.ensures)), refl)
+    let found = ap (λ t. branch_named t.branches x) (sym c.self.view_is) ∙ sym c.in-Some.ensures in (
+      inl (
+        refl,
+        refused_state c.args.self.now.branches x (branch_of x c.in-Some.branch.now) c.args.keys.now found
+            (sym c.if-not-is_idle.ensures),
+      ),
+      refl,
+    )
 
 pub returns-then-not-has_just-clause-err : goal.returns-then-not-has_just-clause-err
 returns-then-not-has_just-clause-err c =
@@ -45,7 +52,8 @@ returns-in-Some-clause-ok c =
     let b = c.in-Some.branch.now in
     let old = c.self.inside.branches in
     let same = c.has_just.ensures.0 c.if-not-has_just.false in
-    let is = was_found old c.set_state.new.self x (branch_of x b) (in_state BranchState.Prepared) (sym c.in-Some.ensures) c.set_state.ensures in
+    let is =
+    was_found old c.set_state.new.self x (branch_of x b) (in_state BranchState.Prepared) (sym c.in-Some.ensures) c.set_state.ensures in
     rw (← c.self.view_is)
     (record {
       could = could_idle old x b.state b.keys c.args.keys.now (sym c.in-Some.ensures) (sym c.if-not-is_idle.ensures) same;
@@ -59,8 +67,14 @@ returns-in-Some-clause-ok c =
 pub returns-then-are_hindered-clause-err : goal.returns-then-are_hindered-clause-err
 returns-then-are_hindered-clause-err c =
     let x = c.args.xid.now in
-    let none = ap (λ t. branch_named t.branches x) (sym c.self.view_is) ∙ sym c.in_default.ensures in
-    (inl (refl, refused_hindered c.args.self.now.branches x c.args.keys.now none ((c.are_hindered.ensures x none).0 c.if-are_hindered.true)), refl)
+    let none = ap (λ t. branch_named t.branches x) (sym c.self.view_is) ∙ sym c.in_default.ensures in (
+      inl (
+        refl,
+        refused_hindered c.args.self.now.branches x c.args.keys.now none
+            ((c.are_hindered.ensures x none).0 c.if-are_hindered.true),
+      ),
+      refl,
+    )
 
 pub returns-in_default-prepared-clause-err : goal.returns-in_default-prepared-clause-err
 returns-in_default-prepared-clause-err c =

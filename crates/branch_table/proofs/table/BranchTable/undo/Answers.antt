@@ -9,7 +9,8 @@ use Rattle.branch_table.proofs.table.BranchTable.undo.Goals as goal
 
 pub invariant_of-self : goal.invariant_of-self
 invariant_of-self c =
-    kept_absent c.self.inside.places c.self.inside.branches c.remove.new.self c.args.xid.now c.self.invariant (sym c.in_default.ensures.value)
+    kept_absent c.self.inside.places c.self.inside.branches c.remove.new.self c.args.xid.now c.self.invariant
+    (sym c.in_default.ensures.value)
     c.remove.ensures.left
 
 pub returns-in_default : goal.returns-in_default
@@ -37,7 +38,8 @@ returns c =
     let keys = keys_found c.self.inside.branches x (branch_of x c.in-Some.branch) (sym c.in-Some.ensures.value) in
     let looks = subst (λ (touched : List Touched). Looks c.self.inside.looks c.let_go.new.looks (length touched))
     (c.keys.ensures.value ∙ sym keys)
-    (looks_ended c.self.inside.looks c.add.new.self c.add-2.new.self c.let_go.new.looks (length c.keys.result.now) c.add.ensures c.add-2.ensures
+    (looks_ended c.self.inside.looks c.add.new.self c.add-2.new.self c.let_go.new.looks (length c.keys.result.now) c.add.ensures
+    c.add-2.ensures
     c.let_go.ensures.looks) in
     rw (← c.self.view_is)
     (record { left = record { branches = c.remove.ensures.left.only; rows = c.let_go.ensures.rows }; looks = looks })

@@ -16,6 +16,7 @@ returns-clause-now c =
     after_made c.args.self.now c.make_place.new.self
     (courses_at c.self.inside.transactions (slice_set c.self.inside.rows.items c.in-Ok.place c.on_2b.new.self) c.self.inside.begun)
     c.args.tx.now (after_2b c.args.acceptors c.args.acceptor c.args.items.now) c.in-Ok.ensures.kept
-    (changed_at c.self.inside.transactions c.self.inside.rows.items c.self.inside.begun c.self.invariant c.args.tx.now c.make_place.new.self c.self.view_is
+    (changed_at c.self.inside.transactions c.self.inside.rows.items c.self.inside.begun c.self.invariant c.args.tx.now c.make_place.new.self
+    c.self.view_is
     (after_2b c.args.acceptors c.args.acceptor c.args.items.now) c.in-Ok.place c.index_mut.result.now c.on_2b.new.self
     c.in-Ok.ensures.there c.index_mut.ensures.value is))

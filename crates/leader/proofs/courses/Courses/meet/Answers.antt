@@ -8,6 +8,7 @@ returns-clause-now c =
     after_made c.args.self.now c.make_place.new.self
     (courses_at c.self.inside.transactions (slice_set c.self.inside.rows.items c.in-Ok.place c.meet.new.self) c.self.inside.begun)
     c.args.tx.now after_meeting c.in-Ok.ensures.kept
-    (changed_at c.self.inside.transactions c.self.inside.rows.items c.self.inside.begun c.self.invariant c.args.tx.now c.make_place.new.self c.self.view_is
+    (changed_at c.self.inside.transactions c.self.inside.rows.items c.self.inside.begun c.self.invariant c.args.tx.now c.make_place.new.self
+    c.self.view_is
     after_meeting c.in-Ok.place c.index_mut-course.result.now c.meet.new.self c.in-Ok.ensures.there c.index_mut-course.ensures.value
     c.meet.ensures)

@@ -38,7 +38,8 @@ returns c = λ config number.
     (course_of (the_view c.self.inside) c.args.tx.now))))
     c.propose.new.self (λ stored memory. rules.on_1b config stored memory c.args.tx.now c.args.ballot c.args.acceptor c.args.reports.now)
     c.self.view_is
-    (c.propose.ensures ∙ ap (λ proposals. sending (proposal_messages c.args.tx.now c.args.ballot proposals)) c.hear_1b-proposals.ensures.result)
+    (c.propose.ensures ∙ ap (λ proposals. sending (proposal_messages c.args.tx.now c.args.ballot proposals))
+    c.hear_1b-proposals.ensures.result)
     c.hear_1b-proposals.ensures.now
     (reports_agree config number (the_view c.self.inside) c.args.tx.now c.args.ballot c.args.acceptor c.args.reports.now
     c.requires.message.2 c.requires.message.0.named)

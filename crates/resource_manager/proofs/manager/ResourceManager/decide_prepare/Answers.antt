@@ -26,7 +26,8 @@ tell-requires c =
 pub returns-in-Some-vote-clause-ok : goal.returns-in-Some-vote-clause-ok
 returns-in-Some-vote-clause-ok c =
     prepare_again c.args.self.now c.args.tx.now c.in-Some.xid (sym c.in-Some.ensures.value) c.of-course.result
-    (course_of _ c.args.self.now c.args.tx.now c.of-course.result c.self.view_is c.of-course.ensures) c.tell.new.decision c.in-Some-vote.vote
+    (course_of _ c.args.self.now c.args.tx.now c.of-course.result c.self.view_is c.of-course.ensures) c.tell.new.decision
+    c.in-Some-vote.vote
     (sym c.in-Some-vote.ensures)
     (told_is c.tell.new.decision c.number.result c.args.self.now.number c.args.tx.now c.in-Some-vote.vote c.tell.ensures c.number.ensures)
 
