@@ -229,7 +229,8 @@ module _ (config : Config) (number : ℕ) where
     abbrev so_far : (TxParts → ℕ → Bool) → Slots
     so_far done tx i = if done tx i then slots tx i else empty_slot
 
-    one_more : {facts : List Fact} (done : TxParts → ℕ → Bool) (tx : TxParts) (i : ℕ) → Leads facts (so_far done) → is_participant tx i ≡ true
+    one_more : {facts : List Fact} (done : TxParts → ℕ → Bool) (tx : TxParts) (i : ℕ) → Leads facts (so_far done)
+        → is_participant tx i ≡ true
         → done tx i ≡ false
         → Leads (facts ++ slot_facts tx i (slots tx i)) (so_far (λ other j. instance_eq other j tx i || done other j))
     one_more done tx i leads named new =
@@ -293,7 +294,8 @@ module _ (config : Config) (number : ℕ) where
         (leads_to_same _
         (all_more txs (facts ++ transaction_facts slots tx)
         (λ other j. list_any (λ i. instance_eq other j tx i) (participants tx) || done other j)
-        (each_more (participants tx) facts done tx leads (each_named tx.branches tx.branches (λ b e. e)) (never (participants tx)) ascending)
+        (each_more (participants tx) facts done tx leads (each_named tx.branches tx.branches (λ b e. e)) (never (participants tx))
+        ascending)
         (still_new txs new.1 (IsDistinct-head tx_eq tx txs once)) valid.1 (IsDistinct-tail tx_eq tx txs once))
         (λ other j. ap (λ t. if t then slots other j else empty_slot)
         (swap (list_any (λ i. instance_eq other j tx i) (participants tx)) (is_among txs other j) (done other j))))
@@ -329,7 +331,8 @@ module _ (config : Config) (number : ℕ) where
     compacted_leads : (txs : List TxParts) → AllByRecursion IsTx txs → IsDistinct tx_eq txs
         → ((tx : TxParts) (i : ℕ) → is_among txs tx i ≡ false → slots tx i ≡ empty_slot) → Leads (compacted txs slots) slots
     compacted_leads txs valid once outside =
-        leads_to_same slots (all_more txs [] (λ other j. false) (record { play = refl; slots_are = λ tx i. refl }) (at_start txs) valid once)
+        leads_to_same slots (all_more txs [] (λ other j. false) (record { play = refl; slots_are = λ tx i. refl }) (at_start txs) valid
+        once)
         (λ tx i. by tx i (is_among txs tx i) refl)
       where
         at_start : (ys : List TxParts) → AllByRecursion (λ y. (i : ℕ) → ◌≡◌ {A = Bool} false false) ys
@@ -369,7 +372,8 @@ module _ (config : Config) (number : ℕ) where
 
         by : (t : Bool) → tx_eq tx y ≡ t → (list_any (tx_eq tx) ys ≡ true → is_among ys tx i ≡ true) → is_among (y ∷ ys) tx i ≡ true
         by true e rest =
-            let here = there i (tx_eq tx y) y.branches e (subst (λ (x : TxParts). is_participant x i ≡ true) ((tx_decides tx y).0 e) named) in
+            let here =
+            there i (tx_eq tx y) y.branches e (subst (λ (x : TxParts). is_participant x i ≡ true) ((tx_decides tx y).0 e) named) in
             ap (λ t. t || is_among ys tx i) here
         by false e rest = later _ (is_among ys tx i) (rest (sym (ap (λ t. t || list_any (tx_eq tx) ys) e) ∙ seen))
 

@@ -96,7 +96,8 @@ module _ (ts : List TxParts) (rows : List (List Slot)) (fact : Fact) (is : IsTab
 
   other_row : (other : TxParts) → other ≢ fact_tx fact → slots_in changed other ≡ get_or rows (place_in ts other) []
   other_row other apart =
-      get_or-set_other rows (place_in ts (fact_tx fact)) (place_in ts other) changed_row [] (λ e. apart (one_at ts (fact_tx fact) other seen e))
+      get_or-set_other rows (place_in ts (fact_tx fact)) (place_in ts other) changed_row []
+      (λ e. apart (one_at ts (fact_tx fact) other seen e))
 
   pub changed_table : IsTable changed
   changed_table = record {

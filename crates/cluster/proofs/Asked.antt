@@ -113,7 +113,8 @@ module _ (config : Config) (world : World) (sizes : Sizes) (nodes : List NodePar
   who_is : node.who ≡ R rm
   who_is = ap (λ (x : NodeParts). x.who) read ∙ named config world sizes nodes network s (R rm) at (sym is) node
 
-  module _ (same : IsSameNode node new) (role_is : new.role ≡ node.role) (stands : Stands config node.who node.rows new.held node.role m) where
+  module _ (same : IsSameNode node new) (role_is : new.role ≡ node.role)
+      (stands : Stands config node.who node.rows new.held node.role m) where
     here : IsSameNode (get_or nodes at node) new
     here = subst (λ (x : NodeParts). IsSameNode x new) read same
 

@@ -110,7 +110,8 @@ module _ (config : Config) (world : World) (old new : ClusterParts) (stands : Cl
     where
       if_up : (up : Bool)
           → IsMetIf up ((at : ℕ) (d : NodeParts) → place config who ≡ Some at
-          → BefallsShorter config who m.facts (get_or old.nodes at d).held (get_or new.nodes at d).held (RecordFails whole)) (RecordFails whole)
+          → BefallsShorter config who m.facts (get_or old.nodes at d).held (get_or new.nodes at d).held (RecordFails whole))
+          (RecordFails whole)
           → ⊥
       if_up false b = absurd (cc (b))
       if_up true b =

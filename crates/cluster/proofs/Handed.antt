@@ -34,7 +34,8 @@ use Rattle.cluster.proofs.Listed.{none_sent, sent_as}
 use Rattle.cluster.proofs.Standing.{is_there, none_there}
 use Rattle.cluster.proofs.Reaching.{reached, sends_few, room_less}
 use Rattle.cluster.proofs.Occurring.{is_received, cut_is_noise, mark_absent, occurs_asked, occurs_delivered, occurs_cut, unlost}
-use Rattle.cluster.proofs.Occurring.{occurs_forged, reaches_none, refused_before, not_torn, not_restarted, not_compacted, undelivered, uncut, not_cut}
+use Rattle.cluster.proofs.Occurring.{occurs_forged, reaches_none, refused_before, not_torn, not_restarted, not_compacted, undelivered}
+use Rattle.cluster.proofs.Occurring.{uncut, not_cut}
 use Rattle.cluster.proofs.Occurring.{occurs_lost}
 use Rattle.cluster.proofs.Occurring.{with_network, with_marked}
 

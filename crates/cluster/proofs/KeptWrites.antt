@@ -77,7 +77,8 @@ among_keeps : (step : Step) (rm : ℕ) (x : XidParts) (key : List ℕ) (some all
 among_keeps step rm x key some all once among = elim (shown some x) [
   | inl one ↦
       let of = among one.0 one.1 in
-      let shows : view_named all x ≡ view_by of.0.state of.0.keys = ap (view_named all) (sym (of.2 ∙ one.2)) ∙ own_shows all of.0 once of.1 in
+      let shows : view_named all x ≡ view_by of.0.state of.0.keys =
+      ap (view_named all) (sym (of.2 ∙ one.2)) ∙ own_shows all of.0 once of.1 in
       inl (ap (λ (v : BranchView). v.act key) one.3 ∙ ap (λ (ks : List Touched). act_on ks key) (sym of.3)
       ∙ sym (ap (λ (v : BranchView). v.act key) shows))
   | inr none ↦ inr (inl none)

@@ -31,7 +31,8 @@ use Rattle.node_core.specs.Nodes.{NodeParts, datagram_input}
 use Rattle.network.specs.Networks.{NetworkParts, StandsFor}
 use Rattle.cluster.specs.declared.handing.Came.{Came}
 use Rattle.cluster.specs.Clusters.{ClusterParts, cluster_of, ClusterStands, IsSound, IsSameCluster, ReachesAs, ComesTo, BefallsAt}
-use Rattle.cluster.specs.Clusters.{BefallsReached, IsArmed, BefallsRestarted, BefallsCompacted, BefallsEvent, BefallsIn, OccursAs, Occurs, step_by, handed, handed_cut}
+use Rattle.cluster.specs.Clusters.{BefallsReached, IsArmed, BefallsRestarted, BefallsCompacted, BefallsEvent, BefallsIn, OccursAs, Occurs}
+use Rattle.cluster.specs.Clusters.{step_by, handed, handed_cut}
 use Rattle.cluster.specs.Clusters.{place_reached, StayBut}
 use Rattle.cluster.proofs.Standing.{unchanged, all_stay}
 
@@ -101,7 +102,8 @@ module _ (config : Config) (world : World) (event : Event) (old new : ClusterPar
       ∙ ap (λ (c : Option Change). step_made event result.answer c came.sent.items) comes.now_is
       ∙ ap (λ (s : List Sent). step_made event result.answer result.now s) comes.sent_is
 
-  pub occurs : IsSameCluster old new → StayBut (place_reached config world event) old.nodes new.nodes → (fault : Fault) → (fault ≡ NoMemoryBefore → ⊥)
+  pub occurs : IsSameCluster old new → StayBut (place_reached config world event) old.nodes new.nodes → (fault : Fault)
+      → (fault ≡ NoMemoryBefore → ⊥)
       → BefallsEvent config world event old.nodes new.nodes fault → (result : StepResult) → dispatch config world event fault ≡ result
       → ComesTo config (length world.net) new came result → OccursAs config world event old new (step_by event came)
   occurs same others fault apart befalls result is comes =
@@ -116,7 +118,8 @@ module _ (config : Config) (world : World) (event : Event) (old new : ClusterPar
       }
 
   -- there was no room
-  pub refused_before : new.sizes ≡ old.sizes → new.nodes ≡ old.nodes → came.answer ≡ Refused refusals.NoMemory → came.now ≡ None → came.sent.items ≡ []
+  pub refused_before : new.sizes ≡ old.sizes → new.nodes ≡ old.nodes → came.answer ≡ Refused refusals.NoMemory → came.now ≡ None
+      → came.sent.items ≡ []
       → ClusterStands config new world → OccursAs config world event old new (step_by event came)
   refused_before sizes_are nodes_are answer_is now_is sent_is stands = record {
     same = unchanged old new sizes_are nodes_are;
@@ -149,7 +152,8 @@ module _ (config : Config) (world : World) (old new : ClusterParts) (came : Came
       (at_node config world who (Asked request) r.fault) refl r.comes
 
   -- a node that isn't there is not reached
-  pub reaches_none : new.sizes ≡ old.sizes → new.nodes ≡ old.nodes → (who : NodeId) (input : Input) → node_at config world who ≡ None → came.answer ≡ Refused refusals.NoSuch
+  pub reaches_none : new.sizes ≡ old.sizes → new.nodes ≡ old.nodes → (who : NodeId) (input : Input) → node_at config world who ≡ None
+      → came.answer ≡ Refused refusals.NoSuch
       → came.now ≡ None → came.sent.items ≡ [] → ClusterStands config new world
       → ReachesAs config world who input old new came
   reaches_none sizes_are nodes_are who input none answer_is now_is sent_is stands = record {
@@ -242,7 +246,8 @@ module _ (config : Config) (world : World) (old new : ClusterParts) (came : Came
         (subst (λ (k : ℕ). ComesTo config k new came (at_node config (with_mark world n) d.receiver (Received d.message) r.fault))
         (marked_count world.net n) r.comes)
 
-    pub occurs_lost : new.sizes ≡ old.sizes → new.nodes ≡ old.nodes → came.answer ≡ Done → came.now ≡ None → came.sent.items ≡ [] → ClusterStands config new (with_mark world n)
+    pub occurs_lost : new.sizes ≡ old.sizes → new.nodes ≡ old.nodes → came.answer ≡ Done → came.now ≡ None → came.sent.items ≡ []
+        → ClusterStands config new (with_mark world n)
         → OccursAs config world (Lose n) old new (step_by (Lose n) came)
     occurs_lost sizes_are nodes_are answer_is now_is sent_is stands =
         occurs config world (Lose n) old new came (unchanged old new sizes_are nodes_are)
@@ -265,7 +270,8 @@ module _ (config : Config) (world : World) (old new : ClusterParts) (came : Came
         (Refused refusals.NoSuch)) fewer)
         r.comes
 
-    pub not_cut : new.sizes ≡ old.sizes → new.nodes ≡ old.nodes → (k : ℕ) → length (spelling d.message) ≤ k → came.answer ≡ Refused refusals.NoSuch → came.now ≡ None
+    pub not_cut : new.sizes ≡ old.sizes → new.nodes ≡ old.nodes → (k : ℕ) → length (spelling d.message) ≤ k
+        → came.answer ≡ Refused refusals.NoSuch → came.now ≡ None
         → came.sent.items ≡ [] → ClusterStands config new world → OccursAs config world (Cut n k) old new (step_by (Cut n k) came)
     not_cut sizes_are nodes_are k le =
         let all : nat_lt k (length (spelling d.message)) ≡ false = le-ltb k (length (spelling d.message)) le in

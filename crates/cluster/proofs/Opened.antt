@@ -1,6 +1,7 @@
 -- A cluster is made: node after node, and for which world it stands then.
 use Rattle.std.proofs.Common.{◌≡◌, ◌⊎◌, ◌∙◌, inl, inr, ℕ, suc, ◌+◌, ◌-◌, ◌<◌, ◌≤◌, Bool, true, false, if◌then◌else◌, List, [], ◌∷◌}
-use Rattle.std.proofs.Common.{◌++◌, length, map, get_or, Option, Some, None, refl, sym, ap, subst, append_assoc, length-append, nat_lt, arith}
+use Rattle.std.proofs.Common.{◌++◌, length, map, get_or, Option, Some, None, refl, sym, ap, subst, append_assoc, length-append, nat_lt}
+use Rattle.std.proofs.Common.{arith}
 use Rattle.std.specs.Prelude.{◌==◌, slice_get, replicate, IsTrue, Err}
 use Rattle.std.specs.List.{AllZip, slice_set}
 use Rattle.std.specs.Option.{option_and_then, option_map_or}
@@ -387,7 +388,8 @@ module _ (config : Config) where
   none_torn : (records : List Held) → NoneArmed records → map torn_node (tears_of records) ≡ replicate (length records) new_node
   none_torn [] none = refl
   none_torn (held ∷ records) none =
-      ap (λ (tear : Option ℕ). torn_node tear ∷ map torn_node (tears_of records)) (All-head (λ (h : Held). h.armed ≡ None) held records none)
+      ap (λ (tear : Option ℕ). torn_node tear ∷ map torn_node (tears_of records))
+      (All-head (λ (h : Held). h.armed ≡ None) held records none)
       ∙ ap (λ (nodes : List NodeState). new_node ∷ nodes)
       (none_torn records (All-tail (λ (h : Held). h.armed ≡ None) held records none))
 

@@ -33,7 +33,8 @@ use Rattle.cluster.proofs.Occurring.{occurs, no_fault, comes_quiet}
 
 -- ---- what a restart leaves in the machine
 
-pub restart_keeps : (config : Config) (who : NodeId) (m : NodeState) (fault : Fault) → (restart_outcome config who m fault).node.facts ≡ m.facts
+pub restart_keeps : (config : Config) (who : NodeId) (m : NodeState) (fault : Fault)
+    → (restart_outcome config who m fault).node.facts ≡ m.facts
 restart_keeps config who m NoMemoryAt = refl
 restart_keeps config who m (RecordFails whole) = refl
 restart_keeps config who m fault =
@@ -57,7 +58,8 @@ compact_silent m fault = refl
 
 -- what a compaction leaves of a record, by its fault
 leaves_shorter : (config : Config) (who : NodeId) (m : NodeState) (old new : Held) (fault : Fault) (result : Result (Unit {0}) Refusal)
-    → BefallsCompact old new fault → restart_answer result ≡ (compact_outcome m fault).answer → IsRecompacted config who m.facts old new result
+    → BefallsCompact old new fault → restart_answer result ≡ (compact_outcome m fault).answer
+    → IsRecompacted config who m.facts old new result
     → LeavesShorter config who m.facts old new fault
 leaves_shorter config who m old new NoFault (Ok done) befalls answer content = content
 leaves_shorter config who m old new NoFault (Err e) befalls answer content = absurd (cc (answer))
@@ -135,7 +137,8 @@ module _ (config : Config) (world : World) (sizes : Sizes) (nodes : List NodePar
     same = (restarts config m stands).same
 
     by_name : Restarts config who node.rows m node.held new.held new.role result
-    by_name = subst (λ (n : NodeId). Restarts config n node.rows m node.held new.held new.role result) who_is (restarts config m stands).restarts
+    by_name =
+        subst (λ (n : NodeId). Restarts config n node.rows m node.held new.held new.role result) who_is (restarts config m stands).restarts
 
     abbrev fault : Fault
     fault = by_name.fault
@@ -218,7 +221,8 @@ module _ (config : Config) (world : World) (sizes : Sizes) (nodes : List NodePar
             let m_is : m ≡ x = cc (e) in
             let off : x.up ≡ false = ap (λ (n : NodeState). n.up) (sym m_is) ∙ down.down in
             subst (λ (b : Bool). IsMetIf b ((p : ℕ) (d : NodeParts) → place config who ≡ Some p
-            → BefallsShorter config who x.facts (get_or nodes p d).held (get_or (set nodes at new) p d).held NoFault) NoFault) (sym off) refl
+            → BefallsShorter config who x.facts (get_or nodes p d).held (get_or (set nodes at new) p d).held NoFault) NoFault) (sym off)
+            refl
 
     -- of a node that is up
     up_made : IsCompactedUp config node.who node.rows m node.held new.held new.role result → (came : Came)

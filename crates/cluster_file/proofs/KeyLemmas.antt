@@ -1,5 +1,6 @@
 -- Which digits are no key's.
-use Rattle.std.proofs.Common.{◌≡◌, ◌≢◌, ◌*◌, ℕ, List, length, Result, Ok, Err, true, false, is_err, MatchResult, ap, sym, ◌∙◌, subst, refl, arith}
+use Rattle.std.proofs.Common.{◌≡◌, ◌≢◌, ◌*◌, ℕ, List, length, Result, Ok, Err, true, false, is_err, MatchResult, ap, sym, ◌∙◌, subst, refl}
+use Rattle.std.proofs.Common.{arith}
 use Rattle.hex.proofs.HexLemmas.{length-encode_with, decode_sized-encode_lower}
 use Rattle.hex.specs.Hex.{IsBytes, decode_sized, encode_lower, lower_digits}
 use Rattle.hex.specs.declared.error.FromHexError.{FromHexError}

@@ -100,7 +100,8 @@ all_done config world (command ∷ commands) one other is then unmet free =
     let first : is.0 ≡ then.0 = one_done config world command is.0 then.0 is.3 then.3 parts.0 pieces.0 in
     let rest : is.1 ≡ then.1 =
     all_done config (world_after config world is.0) commands is.1 then.1 is.4
-    (subst (λ (os : List Occurrence). AreDoneBy config (world_after config world os) commands then.1) (sym first) then.4) parts.1 pieces.1 in
+    (subst (λ (os : List Occurrence). AreDoneBy config (world_after config world os) commands then.1) (sym first) then.4) parts.1
+    pieces.1 in
     is.2 ∙ ap (λ (os : List Occurrence). os ++ is.1) first ∙ ap (λ (os : List Occurrence). then.0 ++ os) rest ∙ sym then.2
 
 -- ---- runs

@@ -84,9 +84,11 @@ module _ (config : Config) (who : NodeId) where
       let c = step_comes config machine who node is first.input (mailed world machine node is first.input some all.0) first.fault in
       let next : World = (world_step config machine c.event c.fault).world in
       let kept : IsAmong (mail machine.net) (mail next.net) = λ letter h.
-      subst (λ (ls : List Letter). IsIn ls letter) (sym c.mail_is) (IsIn-before (mail machine.net) (letters config outcome.sends) letter h) in
+      subst (λ (ls : List Letter). IsIn ls letter) (sym c.mail_is)
+      (IsIn-before (mail machine.net) (letters config outcome.sends) letter h) in
       let posted : IsAmong (letters config outcome.sends) (mail next.net) = λ letter h.
-      subst (λ (ls : List Letter). IsIn ls letter) (sym c.mail_is) (IsIn-after (mail machine.net) (letters config outcome.sends) letter h) in
+      subst (λ (ls : List Letter). IsIn ls letter) (sym c.mail_is)
+      (IsIn-after (mail machine.net) (letters config outcome.sends) letter h) in
       let r = handled rest world next outcome.node
       (there_next machine node outcome.node is next.nodes c.nodes_are) (λ letter h. kept letter (some letter h)) all.1 in
       let last : NodeState = node_after config who outcome.node rest in

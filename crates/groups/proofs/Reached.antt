@@ -16,7 +16,8 @@ use Rattle.safety.specs.Runs.{IsReachable, views_in}
 use Rattle.safety.specs.Runs as reachable
 use Rattle.safety.proofs.World.Reachable as proved
 use Rattle.safety.proofs.World.Events.{reachable_after}
-use Rattle.groups.specs.Runs.{Handed, node_after, CanBeHanded, group_result, is_upkeep, IsReached, Opening, Grouped, Kept, IsSent, IsMachines}
+use Rattle.groups.specs.Runs.{Handed, node_after, CanBeHanded, group_result, is_upkeep, IsReached, Opening, Grouped, Kept, IsSent}
+use Rattle.groups.specs.Runs.{IsMachines}
 use Rattle.groups.specs.Runs.{Happening, Upkept, all_happened}
 use Rattle.groups.proofs.Steps.{put, put_twice, step_comes}
 use Rattle.groups.proofs.Following.{Follows, led, after_append, same_append, group_followed, mailed, there_next}
@@ -96,7 +97,8 @@ step_between : (config : Config) (machine old new : World) → IsReachable confi
     → (event : Event) (fault : Fault) → (world_step config machine event fault).world.nodes ≡ new.nodes → (tx : TxParts)
     → IsCommitStep (is_participant tx) (views_in config old tx) (views_in config new tx)
 step_between config machine old new reach before event fault after tx =
-    subst (λ (nodes : List NodeState). IsCommitStep (is_participant tx) (views_in config old tx) (views_in config (with_nodes new nodes) tx))
+    subst (λ (nodes : List NodeState). IsCommitStep (is_participant tx) (views_in config old tx)
+    (views_in config (with_nodes new nodes) tx))
     after
     (subst (λ (nodes : List NodeState). IsCommitStep (is_participant tx) (views_in config (with_nodes old nodes) tx)
     (views_in config (world_step config machine event fault).world tx)) before (proved.steps config machine reach event fault tx))

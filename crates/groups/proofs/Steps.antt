@@ -42,7 +42,8 @@ set_same (z ∷ xs) zero x h = let same : z ≡ x = cc (h) in ap (λ y. y ∷ xs
 set_same (z ∷ xs) (suc p) x h = ap (λ rest. z ∷ rest) (set_same xs p x h)
 
 twice_by : (nodes : List NodeState) (x y : NodeState) (o : Option ℕ)
-    → option_map_or (λ at. slice_set (option_map_or (λ p. slice_set nodes p x) o nodes) at y) o (option_map_or (λ p. slice_set nodes p x) o nodes)
+    → option_map_or (λ at. slice_set (option_map_or (λ p. slice_set nodes p x) o nodes) at y) o
+    (option_map_or (λ p. slice_set nodes p x) o nodes)
     ≡ option_map_or (λ at. slice_set nodes at y) o nodes
 twice_by nodes x y None = refl
 twice_by nodes x y (Some p) = set_twice nodes p x y
@@ -98,7 +99,8 @@ module _ (config : Config) (machine : World) (who : NodeId) (node : NodeState) (
       ap (if_found world (λ found. outcome_result config world who found.facts (node_step config who found input fault))) here
 
   -- what it comes to, where marks are another's
-  comes_by : (input : Input) (fault : Fault) (event : Event) (net : List Datagram) → Hands machine event who input → mail net ≡ mail machine.net
+  comes_by : (input : Input) (fault : Fault) (event : Event) (net : List Datagram) → Hands machine event who input
+      → mail net ≡ mail machine.net
       → world_step config machine event fault
       ≡ outcome_result config (record machine { net = net }) who node.facts (node_step config who node input fault)
       → Comes config machine who input (node_step config who node input fault)
@@ -140,7 +142,8 @@ module _ (config : Config) (machine : World) (who : NodeId) (node : NodeState) (
       (at (Deliver d.number) ∙ to ∙ it ∙ at_it marked (Received message) fault is)
 
   noise : (fault : Fault) → IsAt fault → Comes config machine who ReceivedNoise (node_step config who node ReceivedNoise fault)
-  noise fault at = comes_by ReceivedNoise fault (Noise who []) machine.net ([], refl) refl (at (Noise who []) ∙ at_it machine ReceivedNoise fault is)
+  noise fault at =
+      comes_by ReceivedNoise fault (Noise who []) machine.net ([], refl) refl (at (Noise who []) ∙ at_it machine ReceivedNoise fault is)
 
   -- what can be received was sent
   abbrev pub IsMailed : Input → Type 0

@@ -9,7 +9,8 @@ use Rattle.protocol.specs.declared.events.Event.{Event}
 use Rattle.protocol.specs.declared.events.Event.TheVariants.{Restart, Compact, Tear}
 use Rattle.protocol.specs.declared.nodes.NodeId.{NodeId}
 use Rattle.protocol.specs.Effects.{Config}
-use Rattle.protocol.specs.Nodes.{NodeState, Fault, NoFault, NoMemoryBefore, NoMemoryAt, RecordFails, Outcome, restart_outcome, compact_outcome}
+use Rattle.protocol.specs.Nodes.{NodeState, Fault, NoFault, NoMemoryBefore, NoMemoryAt, RecordFails, Outcome, restart_outcome}
+use Rattle.protocol.specs.Nodes.{compact_outcome}
 use Rattle.protocol.specs.Nodes.{all_play, answer_outcome, down_node, empty_memory}
 use Rattle.protocol.specs.Worlds.{World, StepResult, node_at, set_node, datagrams_of, if_found, outcome_result, answer_result}
 use Rattle.protocol.specs.Worlds.{dispatch, world_step}
@@ -99,14 +100,16 @@ module _ (config : Config) (w : World) where
   found_net f each (Some node) = each node
 
   compact_net : (who : NodeId) (fault : Fault) (node : NodeState) (up : Bool)
-      → (if up then outcome_result config w who node.facts (compact_outcome node fault) else answer_result w (Refused Down)).world.net ≡ w.net
+      → (if up then outcome_result config w who node.facts (compact_outcome node fault) else answer_result w (Refused Down)).world.net ≡
+      w.net
   compact_net who fault node true = none_sent who node.facts (compact_outcome node fault) (compact_sends config who node fault)
   compact_net who fault node false = refl
 
   net_by : (event : Event) (fault : Fault) → is_upkeep event ≡ true → (dispatch config w event fault).world.net ≡ w.net
   net_by (Restart who) fault is =
       found_net (λ node. outcome_result config w who node.facts (restart_outcome config who node fault))
-      (λ node. none_sent who node.facts (restart_outcome config who node fault) (restart_sends config who node fault)) (node_at config w who)
+      (λ node. none_sent who node.facts (restart_outcome config who node fault) (restart_sends config who node fault))
+      (node_at config w who)
   net_by (Compact who) fault is =
       found_net (λ node. if node.up then outcome_result config w who node.facts (compact_outcome node fault)
       else answer_result w (Refused Down)) (λ node. compact_net who fault node node.up) (node_at config w who)

@@ -9,7 +9,8 @@ use Rattle.protocol.specs.declared.events.Event.TheVariants.{Ask, Deliver, Noise
 use Rattle.protocol.specs.declared.nodes.NodeId.{NodeId}
 use Rattle.protocol.specs.Effects.{Config}
 use Rattle.protocol.specs.Nodes.{NodeState, Input, Asked, Received, ReceivedNoise, Fault, node_step}
-use Rattle.protocol.specs.Worlds.{World, Datagram, Occurrence, opening, node_at, set_node, datagrams_of, datagram_at, world_step, world_after}
+use Rattle.protocol.specs.Worlds.{World, Datagram, Occurrence, opening, node_at, set_node, datagrams_of, datagram_at, world_step}
+use Rattle.protocol.specs.Worlds.{world_after}
 
 -- an input, and the fault that meets it
 pub record Handed : Type 0 where

@@ -1,5 +1,6 @@
 -- Frames of both versions, and those that are written today.
-use Rattle.std.proofs.Common.{◌≡◌, ◌≢◌, ◌∙◌, ℕ, ◌+◌, ◌<◌, ◌≤◌, true, false, ◌==◌, List, [], ◌∷◌, ◌++◌, length, drop, take, get_or, refl, sym, ap, subst}
+use Rattle.std.proofs.Common.{◌≡◌, ◌≢◌, ◌∙◌, ℕ, ◌+◌, ◌<◌, ◌≤◌, true, false, ◌==◌, List, [], ◌∷◌, ◌++◌, length, drop, take, get_or, refl}
+use Rattle.std.proofs.Common.{sym, ap, subst}
 use Rattle.std.proofs.Common.{append_assoc, append-nil, length-append, arith, Some, None, inl, inr}
 use Rattle.xid.specs.declared.refusals.Refusal.{Refusal}
 use Rattle.std.specs.Prelude.{◌⊎◌, map, Result, Ok, Err}
@@ -144,7 +145,8 @@ module _ (bytes rest : List ℕ) (all : List Entry) (u : IsCurrentUpTo bytes res
         let whole : front ++ rest ≡ front ++ frames_of u.left =
         sym u.bytes_are ∙ is_all ∙ ap frames_of u.all_is ∙ flat_map-append (frame version_2) u.done u.left in
         let same : rest ≡ frames_of u.left =
-        sym (drop_at front rest (length front) refl) ∙ ap (drop (length front)) whole ∙ drop_at front (frames_of u.left) (length front) refl in
+        sym (drop_at front rest (length front) refl) ∙ ap (drop (length front)) whole
+        ∙ drop_at front (frames_of u.left) (length front) refl in
         let first : rest ≡ frame version_2 f.entry ++ frames_of f.later = same ∙ ap frames_of f.left_is in
         let body_2 = body_spelling version_2 f.entry ++ frames_of f.later in
         let both = some_same (n, body) (length (body_spelling version_2 f.entry), body_2)

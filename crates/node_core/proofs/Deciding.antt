@@ -140,7 +140,8 @@ module _ (old new : LeaderParts) (d : LeaderDecision) (rule : leader_specs.Rule)
   pub leader_follows : (config : Config) (l : ℕ) (facts : List Fact) (memory : Memory)
       → NoFact (rule (last_ballot facts) memory.leader) → Follows config l old new d rule
       → leader_specs.StandsFor config l old facts memory.leader
-      → IsDecided config (L l) facts memory (Role.Leader new) (leader_decisions.shown d) (of_leader memory (rule (last_ballot facts) memory.leader))
+      → IsDecided config (L l) facts memory (Role.Leader new) (leader_decisions.shown d)
+      (of_leader memory (rule (last_ballot facts) memory.leader))
   leader_follows config l facts memory none h s =
       let is = h.decides (last_ballot facts) memory.leader s.ballots in
       record {
@@ -163,7 +164,8 @@ no_config = record { acceptors = 0; leaders = 0; managers = 0; bundled = false; 
 pub leader_decides : (old new : LeaderParts) (d : LeaderDecision) (message : Kind)
     → ((config : Config) (number : ℕ) → Follows config number old new d
     (λ stored memory. rules.on_leader_message config stored memory message))
-    → Decides (Role.Leader old) (Role.Leader new) (leader_decisions.shown d) (λ config who facts memory. on_message config who facts memory message)
+    → Decides (Role.Leader old) (Role.Leader new) (leader_decisions.shown d)
+    (λ config who facts memory. on_message config who facts memory message)
 leader_decides old new d message h config (A a) facts memory s = absurd s
 leader_decides old new d message h config (R rm) facts memory s = absurd s
 leader_decides old new d message h config (L l) facts memory s =

@@ -1,5 +1,6 @@
 -- Inputs that are handled as one group: what is gathered, and what comes of the append of all.
-use Rattle.std.proofs.Common.{◌≡◌, ◌∙◌, ℕ, ◌+◌, ◌-◌, ◌<◌, ◌≤◌, zero, suc, Bool, true, false, ◌==◌, List, [], ◌∷◌, ◌++◌, length, take, Option}
+use Rattle.std.proofs.Common.{◌≡◌, ◌∙◌, ℕ, ◌+◌, ◌-◌, ◌<◌, ◌≤◌, zero, suc, Bool, true, false, ◌==◌, List, [], ◌∷◌, ◌++◌, length, take}
+use Rattle.std.proofs.Common.{Option}
 use Rattle.std.proofs.Common.{Some, None, inl, inr, ltb, IsTrue}
 use Rattle.std.proofs.Common.{refl, sym, ap, subst, append_assoc, append-nil, arith}
 use Rattle.std.specs.Prelude.{is_some, ◌⊎◌, if◌then◌else◌, Result, Ok, Err}
@@ -189,7 +190,8 @@ module _ (config : Config) (who : NodeId) (own : List Row) where
     may_fail = new.may_fail;
   }
 
-  stopped_beyond : (first rest : List ℕ) (old next new : Held) → old.armed ≡ None → Behind old next first → IsStopped (first ++ rest) old new
+  stopped_beyond : (first rest : List ℕ) (old next new : Held) → old.armed ≡ None → Behind old next first
+      → IsStopped (first ++ rest) old new
       → length first ≤ new.kept → IsStopped rest next (counted_from first new)
   stopped_beyond first rest old next new unarmed b is le =
       let at = subst (λ armed. IsStoppedAt armed old.may_fail (length (first ++ rest)) new.kept) unarmed is.at in
@@ -325,8 +327,11 @@ module _ (config : Config) (who : NodeId) (own : List Row) (m : NodeState) (inpu
           } in
           (out, steps_up config who own m input held new role role (Err out) s accepted (inr was), refl);
       runs_out =
-          let out : Output = output_of (Refused NoMemory) None in
-          (out, steps_up config who own m input held held role role (Err out) s accepted (inl (record { same = refl; out_is = refl })), refl);
+          let out : Output = output_of (Refused NoMemory) None in (
+            out,
+            steps_up config who own m input held held role role (Err out) s accepted (inl (record { same = refl; out_is = refl })),
+            refl,
+          );
     }
 
     -- a record that stands for the frames and can't fail was handled so, and so would be the record itself
@@ -465,7 +470,8 @@ module _ (config : Config) (who : NodeId) (own : List Row) where
       let one = acts to.state to.held behind.armed g.armed_is
       (subst (λ r. Stands config who own to.held r to.state) g.role_is stands) in
       let there : Acts config who own to input out one.text one.to =
-      subst (λ r. Acts config who own (record { state = to.state; held = to.held; role = r }) input out one.text one.to) (sym g.role_is) one.acts in
+      subst (λ r. Acts config who own (record { state = to.state; held = to.held; role = r }) input out one.text one.to) (sym g.role_is)
+      one.acts in
       record {
         text = g.text ++ one.text;
         to = one.to;
@@ -492,7 +498,8 @@ module _ (config : Config) (who : NodeId) (own : List Row) where
     may_fail = is.may_fail ∙ sym b.may_fail;
   }
 
-  pub comes : (from : Place) (inputs : List Input) (outs : List Output) (role : Option Role) (frames all : Held) (text : List ℕ) (new : Held)
+  pub comes : (from : Place) (inputs : List Input) (outs : List Output) (role : Option Role) (frames all : Held) (text : List ℕ)
+      (new : Held)
       → from.held.armed ≡ None → frames.bytes ≡ [] → GathersOn config who own from inputs outs role frames all → text ≡ all.bytes
       → (result : Result (Unit {0}) RecordError) → IsStoredAll text from.held new result
       → Comes config who own from inputs outs role new result

@@ -131,7 +131,8 @@ module _ (node : NodeParts) (held : Held) (role : Option Role) (inputs : List In
   }
 
 -- the same of the node as it is seen
-pub groups_from : (inside old new : NodeParts) (inputs : List Input) (outs : List Output) (result : Result (Unit {0}) RecordError) → inside ≡ old
+pub groups_from : (inside old new : NodeParts) (inputs : List Input) (outs : List Output) (result : Result (Unit {0}) RecordError)
+    → inside ≡ old
     → ((config : Config) (m : NodeState) → NodeStands config inside m → GroupsAs config m inputs inside new outs result)
     → (config : Config) (m : NodeState) → NodeStands config old m → GroupsAs config m inputs old new outs result
 groups_from inside old new inputs outs result is h config m s =

@@ -156,7 +156,8 @@ module _ (config : Config) (who : NodeId) (compacted : Bool) (bytes : List ℕ) 
         let facts : meant all ≡ meant h.read ++ (facts_of entry ++ meant c.0) =
         ap meant c.1 ∙ flat_map-append facts_of h.read (entry ∷ c.0) in
         let fits = and_parts (all_play config who [] (meant h.read)) (all_play config who (meant h.read) (facts_of entry ++ meant c.0))
-        (sym (all_play_both config who [] (meant h.read) (facts_of entry ++ meant c.0)) ∙ ap (all_play config who []) (sym facts) ∙ g.fits) in
+        (sym (all_play_both config who [] (meant h.read) (facts_of entry ++ meant c.0)) ∙ ap (all_play config who []) (sym facts)
+        ∙ g.fits) in
         let here = and_parts (all_play config who (meant h.read) (facts_of entry))
         (all_play config who (meant h.read ++ facts_of entry) (meant c.0))
         (sym (all_play_both config who (meant h.read) (facts_of entry) (meant c.0)) ∙ fits.1) in

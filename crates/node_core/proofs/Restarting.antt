@@ -23,7 +23,8 @@ use Rattle.node_core.specs.declared.config.Sizes.{Sizes}
 use Rattle.node_core.specs.declared.role.Role.{Role}
 use Rattle.branch_table.specs.Tables.{are_rows}
 use Rattle.node_core.specs.Roles.{RoleStands}
-use Rattle.node_core.specs.Nodes.{Kept, MeansFrom, Holds, begun, AreSizes, HasRows, Keeps, SameState, Stands, NodeParts, NodeStands, IsSound}
+use Rattle.node_core.specs.Nodes.{Kept, MeansFrom, Holds, begun, AreSizes, HasRows, Keeps, SameState, Stands, NodeParts, NodeStands}
+use Rattle.node_core.specs.Nodes.{IsSound}
 use Rattle.node_core.specs.Nodes.{IsSized, IsAmong}
 use Rattle.node_core.specs.Opening.{IsLoaded, Loads, cluster_of, IsOpened, IsUnopened, BefallsRestart, Restarts, RestartsAs, frames_of}
 use Rattle.node_core.specs.Configs.{is_among}
@@ -189,7 +190,8 @@ same_contents config other number p facts branches managers rows s = record {
   branches_are = s.branches_are;
 }
 
-role_begun : (config : Config) (who : NodeId) (own : List Row) → HasRows config who own → (role : Role) (facts : List Fact) (memory : Memory)
+role_begun : (config : Config) (who : NodeId) (own : List Row) → HasRows config who own
+    → (role : Role) (facts : List Fact) (memory : Memory)
     → RoleStands (begun config who own None) who role facts memory → RoleStands config who role facts memory
 role_begun config (A a) own has role facts memory s = s
 role_begun config (L l) own has role facts memory s = s

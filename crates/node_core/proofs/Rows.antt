@@ -104,7 +104,8 @@ no_rows_read bytes = record { up_to = nothing_read bytes; ascending = refl; shor
 
 module _ (bytes rest after : List ℕ) (rows : List Row) (entry : Entry) (h : AreRowsTo bytes rest rows) (framed : IsFramed entry rest after)
   where
-    pub rows_on : (row : Row) → row_of entry ≡ Some row → may_follow rows row ≡ true → is_row row ≡ true → AreRowsTo bytes after (rows ++ row ∷ [])
+    pub rows_on : (row : Row) → row_of entry ≡ Some row → may_follow rows row ≡ true → is_row row ≡ true
+        → AreRowsTo bytes after (rows ++ row ∷ [])
     rows_on row is follows short =
         let all : map row_entry rows ++ entry ∷ [] ≡ map row_entry (rows ++ row ∷ []) =
         ap (λ e. map row_entry rows ++ e ∷ []) (entry_of_row entry row is) ∙ sym (map-append row_entry rows (row ∷ [])) in
@@ -155,7 +156,8 @@ same_rows : (seen others rows : List Row) (later more : List Entry) → map row_
     → are_ascending (seen ++ others) ≡ true → (others ≡ rows) × (later ≡ more)
 same_rows seen [] [] later more is about last ascending = (refl, is)
 same_rows seen [] (r ∷ rows) later more is about last ascending =
-    let a : list_all is_about_tx (row_entry r ∷ (map row_entry rows ++ more)) ≡ true = subst (λ es. list_all is_about_tx es ≡ true) is about in
+    let a : list_all is_about_tx (row_entry r ∷ (map row_entry rows ++ more)) ≡ true =
+    subst (λ es. list_all is_about_tx es ≡ true) is about in
     absurd (cc (a))
 same_rows seen (o ∷ others) [] later more is about last ascending =
     let f = last o (map row_entry others ++ later) (sym is) in
@@ -185,10 +187,12 @@ module _ (bytes after : List ℕ) (entry : Entry) (framed : IsFramed entry bytes
   snapshot_is (entries.PastCommitted tx) h = absurd (cc (h))
   snapshot_is (entries.PastAborted tx) h = absurd (cc (h))
 
-  pub taken_snapshot : is_snapshot entry ≡ true → (rest : List ℕ) (rows : List Row) → AreAllRows after rest rows → IsSnapshot bytes rest rows
+  pub taken_snapshot : is_snapshot entry ≡ true → (rest : List ℕ) (rows : List Row) → AreAllRows after rest rows
+      → IsSnapshot bytes rest rows
   taken_snapshot is rest rows h =
       let first : IsReadUpTo bytes after (entries.Snapshot ∷ []) =
-      subst (λ e. IsReadUpTo bytes after (e ∷ [])) (snapshot_is entry is) (read_more bytes bytes after [] entry (nothing_read bytes) framed) in
+      subst (λ e. IsReadUpTo bytes after (e ∷ [])) (snapshot_is entry is)
+      (read_more bytes bytes after [] entry (nothing_read bytes) framed) in
       let both : IsReadUpTo bytes rest (entries.Snapshot ∷ map row_entry rows) =
       read_both bytes after rest (entries.Snapshot ∷ []) (map row_entry rows) first h.read.up_to in
       let all : length bytes ≡ length (both.place.0 ++ rest) = ap length both.place.1 in
@@ -218,14 +222,16 @@ module _ (bytes after : List ℕ) (entry : Entry) (framed : IsFramed entry bytes
   -- another entry stands in front
   pub no_snapshot : is_snapshot entry ≡ false → IsUncompacted bytes
   no_snapshot not all tail rows facts stored c =
-      let front = framed_front bytes entries.Snapshot (map row_entry rows ++ c.later) tail (subst (λ es. IsStored bytes es tail) c.all_is stored) in
+      let front =
+      framed_front bytes entries.Snapshot (map row_entry rows ++ c.later) tail (subst (λ es. IsStored bytes es tail) c.all_is stored) in
       let same = (framed_same entry entries.Snapshot bytes after front.0 framed front.1).0 in
       let a : is_snapshot entry ≡ true = ap is_snapshot same in
       both_ways (is_snapshot entry) not a
 
 pub tail_uncompacted : (bytes : List ℕ) → IsTail bytes → IsUncompacted bytes
 tail_uncompacted bytes is all tail rows facts stored c =
-    let front = framed_front bytes entries.Snapshot (map row_entry rows ++ c.later) tail (subst (λ es. IsStored bytes es tail) c.all_is stored) in
+    let front =
+    framed_front bytes entries.Snapshot (map row_entry rows ++ c.later) tail (subst (λ es. IsStored bytes es tail) c.all_is stored) in
     tail_unframed entries.Snapshot bytes front.0 is front.1
 
 pub nothing_taken : (bytes : List ℕ) (e : Refusal) → ((e ≡ Damaged) × HasNoFrame bytes) ⊎ (e ≡ NoMemory) → TakesNothing bytes e

@@ -95,7 +95,8 @@ module _ (bytes : List ℕ) (all : List Entry) (frames : AreFrames bytes all) wh
       stands more (Role.Leader p) memory s = absurd s
 
   pub manager_shortens : (p : ManagerParts)
-      → ((config : Config) (number : ℕ) (facts : List Fact) (branches : List Branch) → manager_specs.StandsFor config number p facts branches
+      → ((config : Config) (number : ℕ) (facts : List Fact) (branches : List Branch)
+      → manager_specs.StandsFor config number p facts branches
       → IsShortened config number facts all)
       → Shortens (Role.Manager p) bytes
   manager_shortens p h config (R rm) facts memory s played =
@@ -144,7 +145,8 @@ shortens_so role inner r is h = subst (λ x. IfOk r (λ frames. Shortens x frame
 -- what comes of replacing it
 pub rewritten : (role : Role) (bytes : List ℕ) (old new : Held) (r : Result (Unit {0}) Refusal) → Shortens role bytes
     → IsReplaced bytes old new r → Recompacts role old new r
-rewritten role bytes old new (Ok done) shortens put config who facts memory s played = (bytes, shortens config who facts memory s played, put)
+rewritten role bytes old new (Ok done) shortens put config who facts memory s played =
+    (bytes, shortens config who facts memory s played, put)
 rewritten role bytes old new (Err Refusal.RecordFault) shortens put config who facts memory s played =
     (bytes, shortens config who facts memory s played, put)
 rewritten role bytes old new (Err Refusal.NoMemory) shortens put config who facts memory s played = put

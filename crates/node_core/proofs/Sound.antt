@@ -6,7 +6,8 @@ use Rattle.protocol.specs.Effects.{Config}
 use Rattle.protocol.specs.Nodes.{NodeState, Input, node_step, Fault, NoFault, NoMemoryBefore, NoMemoryAt, RecordFails}
 use Rattle.node_core.specs.declared.output.Output.{Output}
 use Rattle.node_core.specs.declared.role.Role.{Role}
-use Rattle.node_core.specs.Nodes.{AreSizes, Stands, Steps, StepsFreely, StepsAs, NodeParts, NodeStands, IsSound, HasMet, Befalls, fact_to_store}
+use Rattle.node_core.specs.Nodes.{AreSizes, Stands, Steps, StepsFreely, StepsAs, NodeParts, NodeStands, IsSound, HasMet, Befalls}
+use Rattle.node_core.specs.Nodes.{fact_to_store}
 use Rattle.node_core.specs.Sparing.{is_free}
 
 -- ---- whether the record may fail of itself stays
@@ -43,7 +44,8 @@ module _ (node : NodeParts) (held : Held) (role : Option Role) where
         is = record { sizes_are = sound.is.sizes_are; stands = s.shows.stands };
       }
 
-  pub steps_as : (config : Config) (m : NodeState) (input : Input) (out : Output) → Steps config node.who node.rows m input node.held held role out
+  pub steps_as : (config : Config) (m : NodeState) (input : Input) (out : Output)
+      → Steps config node.who node.rows m input node.held held role out
       → (is_free node.who input ≡ true → fact_to_store config node.who m input ≡ None
       → StepsFreely config node.who node.rows m input node.held held role out)
       → StepsAs config m input node with_state out

@@ -44,8 +44,10 @@ pub decides_nothing : (config : Config) (who : NodeId) (facts : List Fact) (memo
 decides_nothing config who facts memory role decision e is none = ap (λ (d : Decision). d.fact) is.effect_is ∙ none
 
 -- a message of the cluster has the effect of its rule
-pub heard_fact : (config : Config) (who : NodeId) (facts : List Fact) (memory : Memory) (held : Held) (role : Role) (bytes : List ℕ) (message : Kind)
-    → Spells message bytes → true ≡ is_message_inside config message → (effect_of config who facts memory (datagram_input bytes)).fact ≡ None
+pub heard_fact : (config : Config) (who : NodeId) (facts : List Fact) (memory : Memory) (held : Held) (role : Role) (bytes : List ℕ)
+    (message : Kind)
+    → Spells message bytes → true ≡ is_message_inside config message
+    → (effect_of config who facts memory (datagram_input bytes)).fact ≡ None
     → (on_message config who facts memory message).fact ≡ None
 heard_fact config who facts memory held role bytes message spells inside none =
     sym (ap (λ (e : Effect Memory). e.fact) (heard_is config who facts memory held role bytes message true spells inside)) ∙ none

@@ -129,7 +129,8 @@ module _ (config : Config) (rm : ℕ) (own : List Row) (bytes rest : List ℕ) (
         record {
           stored = only.1;
           may = means.about;
-          fits = manager_plays from config rm [] (flat_map facts_of means.later) ∙ ap (all_play config (R rm) []) (sym means.facts_are) ∙ fits;
+          fits =
+              manager_plays from config rm [] (flat_map facts_of means.later) ∙ ap (all_play config (R rm) []) (sym means.facts_are) ∙ fits;
         },
       )
 
@@ -181,7 +182,8 @@ module _ (config : Config) (who : NodeId) (own : List Row) (bytes : List ℕ) wh
         fits = begun_plays config who own None [] (flat_map facts_of h.all) ∙ ap (all_play config who []) facts ∙ h.fits;
       })
 
-  pub plain_unread : (e : Refusal) → IsPlain who bytes → IsPlayedFrom plain_from who false bytes (Err e) → Reads config who own bytes (Err e)
+  pub plain_unread : (e : Refusal) → IsPlain who bytes → IsPlayedFrom plain_from who false bytes (Err e)
+      → Reads config who own bytes (Err e)
   plain_unread Refusal.Damaged plain h = plain_bad plain h
   plain_unread Refusal.NoMemory plain h = tt
   plain_unread other plain h = absurd h

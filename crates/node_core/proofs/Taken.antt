@@ -1,5 +1,6 @@
 -- What is handed to a node, taken one by one.
-use Rattle.std.proofs.Common.{◌≡◌, ◌∙◌, ◌++◌, ◌∷◌, [], ◌+◌, ◌<◌, ◌≤◌, ℕ, suc, set, get_or, List, map, take, drop, length, sym, ap, subst, arith}
+use Rattle.std.proofs.Common.{◌≡◌, ◌∙◌, ◌++◌, ◌∷◌, [], ◌+◌, ◌<◌, ◌≤◌, ℕ, suc, set, get_or, List, map, take, drop, length, sym, ap, subst}
+use Rattle.std.proofs.Common.{arith}
 use Rattle.std.proofs.lemmas.List.{take_more, take_more_set, take_all, map-append}
 use Rattle.std.proofs.Math.Seq.{split_at}
 use Rattle.protocol.specs.Nodes.{Input}

@@ -1,5 +1,6 @@
 -- How a node reads its record.
-use Rattle.std.specs.Prelude.{◌≡◌, ◌≢◌, ◌⊎◌, ℕ, ◌≤◌, Bool, true, false, List, [], ◌∷◌, ◌++◌, length, drop, map, Option, Some, None, is_some, Result}
+use Rattle.std.specs.Prelude.{◌≡◌, ◌≢◌, ◌⊎◌, ℕ, ◌≤◌, Bool, true, false, List, [], ◌∷◌, ◌++◌, length, drop, map, Option, Some, None, is_some}
+use Rattle.std.specs.Prelude.{Result}
 use Rattle.std.specs.Prelude.{Ok, Err, IsTrue}
 use Rattle.std.specs.List.{list_all, flat_map}
 use Rattle.std.specs.Cmp.Lexicographic.{slice_cmp}
@@ -107,7 +108,8 @@ IsPlayedFrom config who compacted bytes (Err other) = ⊥
 pub record IsReadUpTo (bytes rest : List ℕ) (read : List Entry) : Type 0 where
   pub place : (before : List ℕ) × (bytes ≡ before ++ rest)
   pub goes : (more : List Entry) (tail : List ℕ) → IsStored rest more tail → IsStored bytes (read ++ more) tail
-  pub came : (all : List Entry) (tail : List ℕ) → IsStored bytes all tail → (more : List Entry) × (all ≡ read ++ more) × IsStored rest more tail
+  pub came : (all : List Entry) (tail : List ℕ) → IsStored bytes all tail → (more : List Entry) × (all ≡ read ++ more)
+      × IsStored rest more tail
 
 -- what was played so far: the entries before the rest
 pub record HasPlayedTo (config : Config) (who : NodeId) (compacted : Bool) (bytes rest : List ℕ) (role : Role) : Type 0 where

@@ -223,7 +223,8 @@ fn ask<R: Record>(
     request: &Request,
     out: &mut Output,
 )
-    ensures { (sizes : SizesParts) → Handles who sizes (Asked request.now) (R.held device.old) (R.held device.new) role.old role.new out.new }
+    ensures { (sizes : SizesParts)
+        → Handles who sizes (Asked request.now) (R.held device.old) (R.held device.new) role.old role.new out.new }
 {
     if !accepts_request(who, request) {
         out.refuse(Refusal::NoSuch);

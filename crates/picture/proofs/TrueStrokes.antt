@@ -1,7 +1,9 @@
 -- Every stroke of a datagram is true, in each part of a picture: for the law of arrows.
-use Rattle.std.proofs.Common.{◌≡◌, ℕ, ◌+◌, ◌-◌, ◌*◌, ◌^◌, ◌<◌, min, List, [], ◌∷◌, ◌++◌, Bool, true, false, not, ◌&&◌, Option, Some, None, refl, sym, ap, ◌∙◌, find, codes, decimal, unwrap_or, if◌then◌else◌, eqb, leb, ltb, get_or, arith}
+use Rattle.std.proofs.Common.{◌≡◌, ℕ, ◌+◌, ◌-◌, ◌*◌, ◌^◌, ◌<◌, min, List, [], ◌∷◌, ◌++◌, Bool, true, false, not, ◌&&◌, Option, Some, None}
+use Rattle.std.proofs.Common.{refl, sym, ap, ◌∙◌, find, codes, decimal, unwrap_or, if◌then◌else◌, eqb, leb, ltb, get_or, arith}
 use Rattle.std.specs.List.{All, AllByRecursion, Contains, flat_map, range_with_len, list_any}
-use Rattle.std.proofs.lemmas.List.Elements.{All-from_recursion, All-nil, All-cons, All-append, All-head, All-tail, Contains-get_or, Contains-append_right}
+use Rattle.std.proofs.lemmas.List.Elements.{All-from_recursion, All-nil, All-cons, All-append, All-head, All-tail, Contains-get_or}
+use Rattle.std.proofs.lemmas.List.Elements.{Contains-append_right}
 use Rattle.std.proofs.lemmas.Bool.Decides.{nat_tests}
 use Rattle.xid.proofs.Texts.{first_true, second_true}
 use Rattle.net_script.specs.declared.values.Sizes.{Sizes}
@@ -23,7 +25,8 @@ use Rattle.picture.specs.declared.rows.What.TheVariants.{At, Takes, Loses, Misse
 use Rattle.picture.specs.Places.{beside, node_x, page_of, page_top, picture_width, row_y}
 use Rattle.picture.specs.Rows.{are_several}
 use Rattle.picture.specs.Drawing.{arrow_from, arrow_pen, band_elements, carried_elements, carried_view, change_elements, half_way, is_sent}
-use Rattle.picture.specs.Drawing.{label_element, lane_on, lanes_elements, line_elements, lines_elements, linked_elements, loss_from, mark_elements}
+use Rattle.picture.specs.Drawing.{label_element, lane_on, lanes_elements, line_elements, lines_elements, linked_elements, loss_from}
+use Rattle.picture.specs.Drawing.{mark_elements}
 use Rattle.picture.specs.Drawing.{next_line, page_elements, page_note, pages_elements, point, settles, short_way, sign_elements}
 use Rattle.picture.specs.Drawing.{stroke_elements, taken_from, takes, lost_from, whole_way, work_element}
 use Rattle.picture.specs.Pictures.{backdrop_elements, elements_of, front_elements, line_count, served_note, tells_of_sockets, trace_rows}
@@ -46,7 +49,8 @@ all_of_each P f each [] = All-nil P
 all_of_each P f each (x ∷ xs) = All-append P (f x) (flat_map f xs) (each x) (all_of_each P f each xs)
 
 -- of each element of a list, by what is so of its elements
-all_of_own : {X Y : Type 0} (P : Y → Type 0) (f : X → List Y) (xs : List X) → ((x : X) → Contains xs x → All P (f x)) → All P (flat_map f xs)
+all_of_own : {X Y : Type 0} (P : Y → Type 0) (f : X → List Y) (xs : List X) → ((x : X) → Contains xs x → All P (f x))
+    → All P (flat_map f xs)
 all_of_own {X} P f xs own = all_flat P f xs (λ k d lt. own (get_or xs k d) (Contains-get_or xs k d lt))
 
 -- a choice
@@ -88,7 +92,8 @@ lines_true sizes rows number (line ∷ ls) =
     All-append (IsTrueOf sizes rows) (line_elements number line) (lines_elements (next_line number) ls) (line_true sizes rows number line)
     (lines_true sizes rows (next_line number) ls)
 
-band_true : (sizes : Sizes) (rows : List Row) (count page rm y : ℕ) (view : View) → All (IsTrueOf sizes rows) (band_elements count page rm y view)
+band_true : (sizes : Sizes) (rows : List Row) (count page rm y : ℕ) (view : View)
+    → All (IsTrueOf sizes rows) (band_elements count page rm y view)
 band_true sizes rows count page rm y View.Working = each sizes rows (band_elements count page rm y View.Working) tt
 band_true sizes rows count page rm y View.Prepared = each sizes rows (band_elements count page rm y View.Prepared) (tt, tt)
 band_true sizes rows count page rm y View.Committed = each sizes rows (band_elements count page rm y View.Committed) (tt, tt)
@@ -317,7 +322,8 @@ all_true bytes t =
     all_of_each P (change_elements count) (λ row. change_true t.sizes rows count row.line row.label row.what) rows in
     let strokes_true : All P strokes =
     all_of_own P (stroke_elements t.sizes rows) rows (λ row there. stroke_true t.sizes rows row.line row.label row.what there) in
-    let signs_true : All P signs = all_of_each P (linked_elements t.sizes rows) (λ row. linked_true t.sizes rows row.line row.label row.what) rows in
+    let signs_true : All P signs =
+    all_of_each P (linked_elements t.sizes rows) (λ row. linked_true t.sizes rows row.line row.label row.what) rows in
     let backdrop_true : All P backdrop =
     All-append P (note ++ pages) changes (All-append P note pages (served_true t.sizes rows t.entries) pages_true) changes_true in
     let front_true : All P front =

@@ -110,7 +110,8 @@ link_text address line =
 -- words at a point
 abbrev pub words_text : Lettering → Point → List ℕ → List ℕ
 words_text lettering at words =
-    opened (codes "text class") (lettering_name lettering) ++ place (codes "x") (codes "y") at ++ codes ">" ++ escaped words ++ codes "</text>\n"
+    opened (codes "text class") (lettering_name lettering) ++ place (codes "x") (codes "y") at ++ codes ">" ++ escaped words ++ codes
+    "</text>\n"
 
 -- a stroke
 abbrev pub stroke_text : Pen → Point → Point → List ℕ
@@ -121,7 +122,8 @@ stroke_text pen from to =
 -- a band, which is ten pixels broad
 abbrev pub band_text : View → Point → ℕ → List ℕ
 band_text view at height =
-    opened (codes "rect class") (view_name view) ++ place (codes "x") (codes "y") at ++ place (codes "width") (codes "height") (record { x = 10; y = height }) ++ codes "/>\n"
+    opened (codes "rect class") (view_name view) ++ place (codes "x") (codes "y") at ++ place (codes "width") (codes "height")
+    (record { x = 10; y = height }) ++ codes "/>\n"
 
 -- a mark
 abbrev pub stamp_text : Mark → Point → List ℕ

@@ -54,7 +54,8 @@ front_elements bytes t =
 -- the parts of the picture of a trace, whose text this is
 abbrev pub elements_of : List ℕ → Trace → List Element
 elements_of bytes t =
-    Head (picture_width t.sizes (are_several t.entries)) (row_y (line_count bytes) + 30) ∷ backdrop_elements (line_count bytes) t ++ front_elements bytes t
+    Head (picture_width t.sizes (are_several t.entries)) (row_y (line_count bytes) + 30) ∷ backdrop_elements (line_count bytes) t ++
+    front_elements bytes t
     ++ End ∷ []
 
 -- a text is that of the picture of the trace that some bytes spell, with links to the file of a path

@@ -1,5 +1,6 @@
 -- The lines of a trace that tell of events, each with its label and with what it adds to the picture.
-use Rattle.std.specs.Prelude.{ℕ, ◌+◌, ◌-◌, ◌^◌, Bool, true, false, not, min, if◌then◌else◌, List, [], ◌∷◌, ◌++◌, length, codes, fold, Option, Some, None}
+use Rattle.std.specs.Prelude.{ℕ, ◌+◌, ◌-◌, ◌^◌, Bool, true, false, not, min, if◌then◌else◌, List, [], ◌∷◌, ◌++◌, length, codes, fold}
+use Rattle.std.specs.Prelude.{Option, Some, None}
 use Rattle.std.specs.List.{list_any}
 use Rattle.std.specs.Option.{option_map_or}
 use Rattle.xid.specs.declared.codes.XaCode.{XaCode}
@@ -81,7 +82,8 @@ with_outcome first several rows now sent = fold (with_sent first several) (with_
 -- the rows of what happened more
 abbrev pub with_entry : ℕ → Bool → List Row → Entry → List Row
 with_entry first several rows (Entry.Step step) =
-    with_outcome first several (with_row first rows (keyword_text (keyword_of step.event)) (what_of step.event step.answer)) step.now step.sent
+    with_outcome first several (with_row first rows (keyword_text (keyword_of step.event)) (what_of step.event step.answer)) step.now
+    step.sent
 with_entry first several rows (Entry.Serve node answer now sent) =
     with_outcome first several (with_row first rows (codes "serve") (At node (mark_of Mark.Done answer))) now sent
 

@@ -1,5 +1,6 @@
 -- What is spelled is taken again: each field of an entry from the front of bytes, whatever follows it.
-use Rattle.std.proofs.Common.{◌≡◌, ℕ, ◌^◌, ◌<◌, ◌==◌, Bool, true, false, eqb-true, ltb, List, [], ◌∷◌, ◌++◌, length, Some, refl, sym, ap, ◌∙◌, append_assoc, arith}
+use Rattle.std.proofs.Common.{◌≡◌, ℕ, ◌^◌, ◌<◌, ◌==◌, Bool, true, false, eqb-true, ltb, List, [], ◌∷◌, ◌++◌, length, Some, refl, sym, ap}
+use Rattle.std.proofs.Common.{◌∙◌, append_assoc, arith}
 use Rattle.std.proofs.lemmas.Bool.{le-ltb, lt-ltb}
 use Rattle.std.proofs.lemmas.List.{append-nil, take_at, drop_at, length-append}
 use Rattle.byteorder.specs.Endian.{big_bytes}
@@ -24,9 +25,11 @@ use Rattle.stable_record.specs.declared.entry.EntryKind.{EntryKind as Entry}
 use Rattle.stable_record.specs.declared.entry.EntryKind.TheVariants.{Snapshot, Row, PastCommitted, PastAborted}
 use Rattle.stable_record.specs.Facts.{IsFact, IsKey, IsValue, IsAct, IsTouched, AreKeys, AreAscending, fact_tx}
 use Rattle.stable_record.specs.Entries.{IsEntryIn, IsInstanceIn}
-use Rattle.stable_record.specs.Grammar.{value_spelling, act_spelling, touched_spelling, keys_spelling, fact_byte, rest_spelling, entry_byte, fields_spelling, body_spelling}
+use Rattle.stable_record.specs.Grammar.{value_spelling, act_spelling, touched_spelling, keys_spelling, fact_byte, rest_spelling, entry_byte}
+use Rattle.stable_record.specs.Grammar.{fields_spelling, body_spelling}
 use Rattle.stable_record.specs.Reading.{value_at, key_at, act_at, touched_at, are_ascending, keys_at, leader_ballot_at}
-use Rattle.stable_record.specs.Reading.{promise_at, accept_at, ballot_at, promise_all_at, vote_prepared_at, fact_at, row_at, about_at, entry_at, body_at}
+use Rattle.stable_record.specs.Reading.{promise_at, accept_at, ballot_at, promise_all_at, vote_prepared_at, fact_at, row_at, about_at}
+use Rattle.stable_record.specs.Reading.{entry_at, body_at}
 
 value_again : (xs rest : List ℕ) → IsValue xs → value_at (value_spelling xs ++ rest) ≡ Some (xs, rest)
 unfolding value_at
@@ -49,7 +52,8 @@ act_again Read rest is = refl
 act_again (Act.Put value) rest is = rw (value_again value rest is) refl
 act_again Del rest is = refl
 
-touched_again : (touched : Touched) (rest : List ℕ) → IsTouched touched → touched_at (touched_spelling touched ++ rest) ≡ Some (touched, rest)
+touched_again : (touched : Touched) (rest : List ℕ) → IsTouched touched
+    → touched_at (touched_spelling touched ++ rest) ≡ Some (touched, rest)
 unfolding touched_at
 touched_again touched rest is =
     let after : List ℕ = act_spelling touched.act ++ rest in

@@ -1,5 +1,6 @@
 -- Frames one after the other: what stands at the front of bytes is known, and so what bytes hold.
-use Rattle.std.proofs.Common.{◌≡◌, ◌≢◌, ℕ, zero, suc, ◌+◌, ◌-◌, ◌<◌, ◌≤◌, Bool, true, false, cond, ltb, List, [], ◌∷◌, ◌++◌, length, take, drop, Option, Some, None}
+use Rattle.std.proofs.Common.{◌≡◌, ◌≢◌, ℕ, zero, suc, ◌+◌, ◌-◌, ◌<◌, ◌≤◌, Bool, true, false, cond, ltb, List, [], ◌∷◌, ◌++◌, length, take}
+use Rattle.std.proofs.Common.{drop, Option, Some, None}
 use Rattle.std.proofs.Common.{◌⊎◌, inl, inr, refl, sym, subst, ap, ◌∙◌, append_assoc, arith}
 use Rattle.std.proofs.lemmas.Bool.Decides.{nat_tests}
 use Rattle.std.proofs.lemmas.List.{append-nil, take_at, drop_at, length-append, length-take, length-drop, take-append-drop}
@@ -56,7 +57,12 @@ head_of : (bytes : List ℕ) (n : ℕ) (rest : List ℕ) → number_at bytes ≡
 head_of bytes n rest e =
     let t = unless (ltb (length bytes) 4) (Some (big_number 4 bytes, drop 4 bytes)) (n, rest) e in
     let same = some_same (big_number 4 bytes, drop 4 bytes) (n, rest) t.1 in
-    record { long = grind (arith, nat_tests, t.0); number = ap (λ (x : ℕ × List ℕ). x.0) same; after = sym (ap (λ (x : ℕ × List ℕ). x.1) same) }
+    record {
+      long = grind (arith, nat_tests, t.0);
+      number = ap (λ (x : ℕ × List ℕ). x.0) same;
+      after = sym
+          (ap (λ (x : ℕ × List ℕ). x.1) same);
+    }
 
 lengths : (bytes : List ℕ) (n : ℕ) (rest : List ℕ) → number_at bytes ≡ Some (n, rest) → length bytes ≡ 4 + length rest
 lengths bytes n rest e =
@@ -185,7 +191,8 @@ module _ (bytes : List ℕ) (n : ℕ) (rest : List ℕ) (e : number_at bytes ≡
       in-tail (inl short) len number = absurd (omega (arith, short, len))
       in-tail (inr t) len number = absurd (omega (arith, t.cut, len, number, whole))
 
-  pub taken_frame : (entry : Entry) → IsBytes bytes → n ≤ length rest → body_at (take n rest) ≡ Some entry → IsFramed entry bytes (drop n rest)
+  pub taken_frame : (entry : Entry) → IsBytes bytes → n ≤ length rest → body_at (take n rest) ≡ Some entry
+      → IsFramed entry bytes (drop n rest)
   taken_frame entry is whole taken =
       let front = number_spelled bytes (n, rest) is e in
       let is-body = bytes_front (take n rest) (drop n rest) (subst IsBytes (sym (take-append-drop n rest)) front.after) in
@@ -199,7 +206,8 @@ module _ (bytes : List ℕ) (n : ℕ) (rest : List ℕ) (e : number_at bytes ≡
       record {
         version = body.version;
         valid = body.valid;
-        same = front.same ∙ (λ i. number_spelling (sized i) ++ cut i) ∙ sym (append_assoc (number_spelling m) (body_spelling V entry) (drop n rest));
+        same = front.same ∙ (λ i. number_spelling (sized i) ++ cut i)
+            ∙ sym (append_assoc (number_spelling m) (body_spelling V entry) (drop n rest));
       }
 
 -- what bytes hold is known
@@ -294,7 +302,8 @@ taken_stored entries bytes tail is =
     let cut = cut_stored entries bytes tail is in
     let len : length bytes ≡ length (cut.0 ++ tail) = ap length cut.1 in
     let n : length bytes - length tail ≡ length cut.0 = omega (arith, len, length-append cut.0 tail) in
-    let same : take (length bytes - length tail) bytes ≡ cut.0 = ap (take (length bytes - length tail)) cut.1 ∙ take_at cut.0 tail _ (sym n) in
+    let same : take (length bytes - length tail) bytes ≡ cut.0 =
+    ap (take (length bytes - length tail)) cut.1 ∙ take_at cut.0 tail _ (sym n) in
     subst (λ (xs : List ℕ). IsStored xs entries []) (sym same) cut.2
 
 -- one entry more, after those that were read before
@@ -337,7 +346,8 @@ all_read bytes rest all place tail goes =
     ap (drop (length bytes - length rest)) place.1 ∙ drop_at place.0 rest _ (sym n) in
     let stored : IsStored bytes (all ++ []) rest = goes [] rest (refl, tail) in (
       omega arith,
-      subst (λ (xs : List ℕ). IsStored bytes all xs) (sym left) (subst (λ (es : List Entry). IsStored bytes es rest) (append-nil all) stored),
+      subst (λ (xs : List ℕ). IsStored bytes all xs) (sym left)
+          (subst (λ (es : List Entry). IsStored bytes es rest) (append-nil all) stored),
     )
 
 -- a torn frame after the entries that stood

@@ -23,7 +23,8 @@ use Rattle.stable_record.specs.declared.entry.EntryKind.TheVariants.{Snapshot, R
 use Rattle.stable_record.specs.Facts.{IsFact, IsAct, IsTouched, fact_tx}
 use Rattle.stable_record.specs.Frames.{act_length, touched_length, rest_length, frame_length_in}
 use Rattle.stable_record.specs.Entries.{IsEntry, IsEntryIn, IsNamedIn, IsInstanceIn}
-use Rattle.stable_record.specs.Grammar.{most_body, value_spelling, act_spelling, touched_spelling, rest_spelling, fields_spelling, body_spelling, frame}
+use Rattle.stable_record.specs.Grammar.{most_body, value_spelling, act_spelling, touched_spelling, rest_spelling, fields_spelling}
+use Rattle.stable_record.specs.Grammar.{body_spelling, frame}
 
 number_has_4 : (n : ℕ) → length (number_spelling n) ≡ 4
 number_has_4 n = length-bytes_high_first 4 n
@@ -71,7 +72,12 @@ rest_has v (PromiseAll tx ballot) = number_has_4 ballot
 
 pub frame_has : (v : Version) (e : Entry) → length (frame v e) ≡ 4 + length (body_spelling v e)
 frame_has v e =
-    omega (arith, length-append (number_spelling (length (body_spelling v e))) (body_spelling v e), number_has_4 (length (body_spelling v e)))
+    omega (
+      arith,
+      length-append (number_spelling (length (body_spelling v e))) (body_spelling v e),
+      number_has_4
+          (length (body_spelling v e)),
+    )
 
 -- the length of a fact's frame, counted field by field
 pub fact_frame_has : (v : Version) (f : Fact) → length (frame v (Entry.Fact f)) ≡ frame_length_in v f
@@ -80,11 +86,22 @@ fact_frame_has v f =
 
 branch_few : (v : VersionNumber) (b : BranchParts) → IsBranch b → length (branch_spelling (version_of v) b) ≤ 67
 branch_few First b is =
-    omega (arith, length-append (rm_spelling (version_of First) b.rm) (component_spelling b.bqual), rm_has (version_of First) b.rm, is.bqual.few)
+    omega (
+      arith,
+      length-append (rm_spelling (version_of First) b.rm) (component_spelling b.bqual),
+      rm_has (version_of First) b.rm,
+      is.bqual.few,
+    )
 branch_few Second b is =
-    omega (arith, length-append (rm_spelling (version_of Second) b.rm) (component_spelling b.bqual), rm_has (version_of Second) b.rm, is.bqual.few)
+    omega (
+      arith,
+      length-append (rm_spelling (version_of Second) b.rm) (component_spelling b.bqual),
+      rm_has (version_of Second) b.rm,
+      is.bqual.few,
+    )
 
-branches_few : (v : VersionNumber) (bs : List BranchParts) → All IsBranch bs → length (flat_map (branch_spelling (version_of v)) bs) ≤ 67 * length bs
+branches_few : (v : VersionNumber) (bs : List BranchParts) → All IsBranch bs
+    → length (flat_map (branch_spelling (version_of v)) bs) ≤ 67 * length bs
 branches_few v [] each = omega arith
 branches_few v (b ∷ bs) each =
     let spell = branch_spelling (version_of v) in
@@ -144,7 +161,14 @@ fact_valid (PromiseAll tx ballot) is = is.0
 fields_few : (v : VersionNumber) (e : Entry) → IsEntry e → length (fields_spelling (version_of v) e) ≤ 21879
 fields_few v (Entry.Fact f) is =
     let V = version_of v in
-    omega (arith, length-append (tx_spelling V (fact_tx f)) (rest_spelling V f), rest_has V f, rest_few v f is, tx_few v (fact_tx f) (fact_valid f is))
+    omega (
+      arith,
+      length-append (tx_spelling V (fact_tx f)) (rest_spelling V f),
+      rest_has V f,
+      rest_few v f is,
+      tx_few v (fact_tx f)
+          (fact_valid f is),
+    )
 fields_few v Snapshot is = omega arith
 fields_few v (Row key value) is =
     omega (arith, length-append (component_spelling key) (value_spelling value), value_has value, is.0.few, is.1.few)

@@ -53,7 +53,8 @@ value_spelled bytes x is e =
     let small : n.0 ≤ most_value = grind (arith, nat_tests, few.0) in
     let len : length (take n.0 n.1) ≡ n.0 = omega (arith, length-take n.0 n.1, le) in
     let first = short_spelled bytes n is en in
-    let sized : Front bytes (big_bytes 2 (length (take n.0 n.1))) n.1 = subst (λ (k : ℕ). Front bytes (big_bytes 2 k) n.1) (sym len) first in
+    let sized : Front bytes (big_bytes 2 (length (take n.0 n.1))) n.1 =
+    subst (λ (k : ℕ). Front bytes (big_bytes 2 k) n.1) (sym len) first in
     let cut : n.1 ≡ take n.0 n.1 ++ drop n.0 n.1 = sym (take-append-drop n.0 n.1) in
     let second = front_of n.1 (take n.0 n.1) (drop n.0 n.1) first.after cut in
     let value : IsValue (take n.0 n.1) = record {
@@ -100,7 +101,8 @@ act_spelled (n ∷ rest) x is e = by (eqb n 0) (eqb n 1) (eqb n 2) (eqb-true n 0
     head k e = front_of (n ∷ rest) (k ∷ []) rest is (ap (λ (m : ℕ). m ∷ rest) e)
 
     by : (a b c : Bool) → (a ≡ true → n ≡ 0) → (b ≡ true → n ≡ 1) → (c ≡ true → n ≡ 2)
-        → cond a (Some (Read, rest)) (cond b (value_at rest >>= λ value. Some (Act.Put value.0, value.1)) (cond c (Some (Del, rest)) None)) ≡ Some x
+        → cond a (Some (Read, rest)) (cond b (value_at rest >>= λ value. Some (Act.Put value.0, value.1)) (cond c (Some (Del, rest)) None))
+        ≡ Some x
         → Is x
     by true b c a-is b-is c-is e = subst Is (some_same (Read, rest) x e) (tt, head 0 (a-is refl))
     by false true c a-is b-is c-is e =
@@ -130,7 +132,8 @@ record Keys_front (count : ℕ) (bytes : List ℕ) (x : List Touched × List ℕ
   pub counted : length x.0 ≡ count
   pub each : AllByRecursion IsTouched x.0
 
-list_spelled : (n : ℕ) (bytes : List ℕ) (x : List Touched × List ℕ) → IsBytes bytes → list_at touched_at n bytes ≡ Some x → Keys_front n bytes x
+list_spelled : (n : ℕ) (bytes : List ℕ) (x : List Touched × List ℕ) → IsBytes bytes → list_at touched_at n bytes ≡ Some x
+    → Keys_front n bytes x
 unfolding list_at
 list_spelled zero bytes x is e =
     subst (λ (x : List Touched × List ℕ). Keys_front 0 bytes x) (some_same ([], bytes) x e)

@@ -148,12 +148,15 @@ about_spelled : (v : VersionNumber) (code : ℕ) (bytes : List ℕ) (tx : TxPart
     → Entry_front (version_of v) code bytes x
 unfolding about_at
 about_spelled v code bytes tx x in-it front e =
-    choose (code == 11) _ _ e (λ t e. past 11 (PastCommitted tx.0) (eqb-true code 11 t) front refl (record { valid = in-it.valid; named = in-it }) e) (λ e.
-    choose (code == 12) _ _ e (λ t e. past 12 (PastAborted tx.0) (eqb-true code 12 t) front refl (record { valid = in-it.valid; named = in-it }) e) (λ e.
+    choose (code == 11) _ _ e (λ t e. past 11 (PastCommitted tx.0) (eqb-true code 11 t) front refl
+    (record { valid = in-it.valid; named = in-it }) e) (λ e.
+    choose (code == 12) _ _ e (λ t e. past 12 (PastAborted tx.0) (eqb-true code 12 t) front refl
+    (record { valid = in-it.valid; named = in-it }) e) (λ e.
     step (fact_at (version_of v) code tx.0 tx.1) _ e (λ fact ef e.
     let read = rest_cases v tx.0 in-it.valid tx.1 fact front.after code ef in
     let V = version_of v in
-    let named : Front bytes (tx_spelling V (fact_tx fact.0)) tx.1 = subst (λ (t : TxParts). Front bytes (tx_spelling V t) tx.1) (sym read.about) front in
+    let named : Front bytes (tx_spelling V (fact_tx fact.0)) tx.1 =
+    subst (λ (t : TxParts). Front bytes (tx_spelling V t) tx.1) (sym read.about) front in
     subst (Entry_front V code bytes) (some_same (Entry.Fact fact.0, fact.1) x e) (record {
       front = joined bytes (tx_spelling V (fact_tx fact.0)) tx.1 (rest_spelling V fact.0) fact.1 named read.front;
       numbered = read.numbered;
@@ -166,7 +169,8 @@ about_spelled v code bytes tx x in-it front e =
         subst (Entry_front (version_of v) code bytes) (some_same (entry, tx.1) x e)
         (record { front = front; numbered = same ∙ numbered; valid = valid })
 
-entry_spelled : (v : VersionNumber) (code : ℕ) (bytes : List ℕ) (x : Entry × List ℕ) → IsBytes bytes → entry_at (version_of v) code bytes ≡ Some x
+entry_spelled : (v : VersionNumber) (code : ℕ) (bytes : List ℕ) (x : Entry × List ℕ) → IsBytes bytes
+    → entry_at (version_of v) code bytes ≡ Some x
     → Entry_front (version_of v) code bytes x
 unfolding entry_at
 entry_spelled v code bytes x is e =

@@ -114,7 +114,8 @@ vote_prepared_at tx bytes = do
 unfoldable pub fact_at : Version → ℕ → TxParts → List ℕ → Option (Fact × List ℕ)
 fact_at v code tx bytes =
     cond (code == 1) (promise_at v tx bytes) (cond (code == 2) (accept_at v tx bytes) (cond (code == 3) (ballot_at tx bytes)
-    (cond (code == 4) (vote_prepared_at tx bytes) (cond (code == 5) (Some (VoteAborted tx, bytes)) (cond (code == 6) (Some (Committed tx, bytes))
+    (cond (code == 4) (vote_prepared_at tx bytes)
+    (cond (code == 5) (Some (VoteAborted tx, bytes)) (cond (code == 6) (Some (Committed tx, bytes))
     (cond (code == 7) (Some (Aborted tx, bytes)) (cond (code == 8) (promise_all_at tx bytes) None)))))))
 
 -- a row of the table at the front, and the bytes after it

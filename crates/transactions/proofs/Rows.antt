@@ -47,7 +47,8 @@ module _ (ts : List TxParts) (tx : TxParts) (absent : place_in ts tx ≡ length 
       position_or_len_push (tx_eq other) ts tx
       ∙ ap (λ t. cond t (length ts + cond (tx_eq other tx) 0 1) (place_in ts other)) (ne_eqb _ _ (λ e. absurd (omega (arith, lt, e))))
 
-  pub place_ends : (other : TxParts) → place_in ts other ≡ length ts → place_in (ts ++ tx ∷ []) other ≡ length ts + cond (tx_eq other tx) 0 1
+  pub place_ends : (other : TxParts) → place_in ts other ≡ length ts
+      → place_in (ts ++ tx ∷ []) other ≡ length ts + cond (tx_eq other tx) 0 1
   place_ends other e =
       position_or_len_push (tx_eq other) ts tx
       ∙ ap (λ t. cond t (length ts + cond (tx_eq other tx) 0 1) (place_in ts other)) (eq-eqb _ _ e)

@@ -1,5 +1,6 @@
 -- How spelled bytes and numbers are hashed. Nothing that a contract says of transactions depends on it.
-use Rattle.std.specs.Prelude.{ℕ, ◌+◌, ◌-◌, ◌*◌, ◌/◌, ◌%◌, ◌^◌, ◌==◌, nat_lt, if◌then◌else◌, List, [], ◌∷◌, length, slice_index, bit_and, bit_xor}
+use Rattle.std.specs.Prelude.{ℕ, ◌+◌, ◌-◌, ◌*◌, ◌/◌, ◌%◌, ◌^◌, ◌==◌, nat_lt, if◌then◌else◌, List, [], ◌∷◌, length, slice_index, bit_and}
+use Rattle.std.specs.Prelude.{bit_xor}
 use Rattle.transactions.specs.declared.hasher.SpellingHasher.{SpellingHasher}
 use Rattle.transactions.specs.declared.hasher.NumberHasher.{NumberHasher}
 

@@ -25,7 +25,8 @@ pub line_made : (run udp audit named wanting one two line : App) → run ≡ fil
     → line ≡ command_line
 line_made run udp audit named wanting one two line run_is udp_is audit_is named_is wanting_is one_is two_is line_is =
     let name_made : wanting ≡ program_name = wanting_is ∙ ap wants_subcommand named_is in
-    let one_made : one ≡ with_subcommand program_name (file_app (codes "run")).top = one_is ∙ ap₂ with_subcommand name_made (ap (λ (a : App). a.top) run_is) in
+    let one_made : one ≡ with_subcommand program_name (file_app (codes "run")).top =
+    one_is ∙ ap₂ with_subcommand name_made (ap (λ (a : App). a.top) run_is) in
     let two_made : two ≡ with_subcommand (with_subcommand program_name (file_app (codes "run")).top) (folder_app (codes "udp")).top =
     two_is ∙ ap₂ with_subcommand one_made (ap (λ (a : App). a.top) udp_is) in
     line_is ∙ ap₂ with_subcommand two_made (ap (λ (a : App). a.top) audit_is)

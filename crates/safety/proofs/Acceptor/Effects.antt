@@ -33,7 +33,8 @@ use Rattle.safety.specs.Standing.{StandsBy, setting}
 use Rattle.safety.proofs.Acceptor.StandingSlots.{IsStandingSlot, IsSlotAccept, slot_may_accept, slot_may_be_reported}
 use Rattle.safety.proofs.Argument.Additions.{AreAllowed, with_item, Contains-one, Contains-head}
 use Rattle.safety.proofs.Argument.Events.{with_items}
-use Rattle.protocol.proofs.Lists.{only_one, IsIn-append, IsIn-map, IsIn-mapped, IsIn-contains, Contains-among, filter_kept, filter_map_given}
+use Rattle.protocol.proofs.Lists.{only_one, IsIn-append, IsIn-map, IsIn-mapped, IsIn-contains, Contains-among, filter_kept}
+use Rattle.protocol.proofs.Lists.{filter_map_given}
 use Rattle.safety.proofs.World.Growth.{items_of}
 use Rattle.safety.proofs.World.AllowedEffects.{NamesParticipant, IsAllowedEffect, nothing_is_allowed}
 

@@ -7,7 +7,8 @@ pub put_out-requires-clause-room : goal.put_out-requires-clause-room
 put_out-requires-clause-room g c =
     ask_room c.args.sizes c.args.nodes.now.items c.args.network.now c.make_room.new.network c.make_room.ensures.same c.args.who c.in-Some.at
     c.in-Some.ensures c.args.request.now c.index_mut-node.result.now c.step_into.new.self c.step_into.new.out c.index_mut-node.ensures.value
-    c.step_into.ensures c.requires c.most_asked.result (vec_len c.make_room.new.listed) (vec_capacity c.make_room.new.listed) c.most_asked.ensures.bound
+    c.step_into.ensures c.requires c.most_asked.result (vec_len c.make_room.new.listed) (vec_capacity c.make_room.new.listed)
+    c.most_asked.ensures.bound
     c.in-Ok.ensures.room
 
 pub returns : goal.returns

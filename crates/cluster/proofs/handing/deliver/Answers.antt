@@ -9,16 +9,20 @@ pub put_out-requires-clause-room : goal.put_out-requires-clause-room
 put_out-requires-clause-room g c =
     deliver_room c.args.sizes c.args.nodes.now.items c.args.network.now c.make_room.new.network c.mark-2.new.self c.args.number
     c.make_room.ensures.same c.mark-2.ensures.stands (shown c.in-Some.kept) c.in-Some.ensures (shown c.in-Some-get.kept)
-    c.in-Some-get.ensures c.in-Some-place_of.at c.in-Some-place_of.ensures c.index_mut-node.result.now c.step_into.new.self c.step_into.new.out
-    c.index_mut-node.ensures.value c.step_into.ensures c.requires c.most_heard.result (vec_len c.make_room.new.listed) (vec_capacity c.make_room.new.listed)
+    c.in-Some-get.ensures c.in-Some-place_of.at c.in-Some-place_of.ensures c.index_mut-node.result.now c.step_into.new.self
+    c.step_into.new.out
+    c.index_mut-node.ensures.value c.step_into.ensures c.requires c.most_heard.result (vec_len c.make_room.new.listed)
+    (vec_capacity c.make_room.new.listed)
     c.most_heard.ensures.bound c.mark-2.ensures.spare c.mark-2.ensures.spare_bytes c.in-Ok.ensures.room
 
 pub returns : goal.returns
 returns g c =
     deliver_made c.args.sizes c.args.nodes.now.items c.args.network.now c.make_room.new.network c.mark-2.new.self c.args.number
     c.make_room.ensures.same c.mark-2.ensures.stands (shown c.in-Some.kept) c.in-Some.ensures (shown c.in-Some-get.kept)
-    c.in-Some-get.ensures c.in-Some-place_of.at c.in-Some-place_of.ensures c.index_mut-node.result.now c.step_into.new.self c.step_into.new.out
-    c.index_mut-node.ensures.value c.step_into.ensures c.put_out.new.network c.put_out.new.came c.put_out.ensures.sent c.put_out.ensures.answer
+    c.in-Some-get.ensures c.in-Some-place_of.at c.in-Some-place_of.ensures c.index_mut-node.result.now c.step_into.new.self
+    c.step_into.new.out
+    c.index_mut-node.ensures.value c.step_into.ensures c.put_out.new.network c.put_out.new.came c.put_out.ensures.sent
+    c.put_out.ensures.answer
     c.put_out.ensures.now
 
 pub returns-in-None : goal.returns-in-None

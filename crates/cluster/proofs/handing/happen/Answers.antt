@@ -31,12 +31,14 @@ returns-in-Cut-clause-sound g c =
 
 pub returns-in-Noise-clause-sound : goal.returns-in-Noise-clause-sound
 returns-in-Noise-clause-sound g c =
-    sound_after (Noise c.in-Noise.node c.as_slice.result.now) _ _ (step_by (Noise c.in-Noise.node c.as_slice.result.now) c.noise.new.came) c.requires
+    sound_after (Noise c.in-Noise.node c.as_slice.result.now) _ _ (step_by (Noise c.in-Noise.node c.as_slice.result.now) c.noise.new.came)
+    c.requires
     (c.noise.ensures c.args.network.now)
 
 pub returns-in-Noise-clause-occurs : goal.returns-in-Noise-clause-occurs
 returns-in-Noise-clause-occurs g c =
-    named_as (Noise c.in-Noise.node c.as_slice.result.now) c.args.event.now (c.in-Noise.is ∙ ap (λ (bytes : List ℕ). Noise c.in-Noise.node bytes) (sym c.as_slice.ensures)) _ _ c.noise.new.came
+    named_as (Noise c.in-Noise.node c.as_slice.result.now) c.args.event.now
+    (c.in-Noise.is ∙ ap (λ (bytes : List ℕ). Noise c.in-Noise.node bytes) (sym c.as_slice.ensures)) _ _ c.noise.new.came
     (c.noise.ensures c.args.network.now)
 
 pub returns-in-Tear-clause-sound : goal.returns-in-Tear-clause-sound

@@ -9,8 +9,10 @@ use Rattle.cluster.proofs.opening.open_all.Goals as goal
 pub name_at-who-requires : goal.name_at-who-requires
 name_at-who-requires g c =
     let turn =
-    YieldsList-turn (YieldsList-from_vec {s = c.into_iter-device-iterator.result} c.args.records.items c.into_iter-device-iterator.ensures.into_iter_gives.0
-    (c.into_iter-device-iterator.ensures.into_iter_gives.1 ∙ c.args.records.ok.0)) c.loop-device.yielded c.loop-device.device-iterator c.loop-device.yielded_by c.next.result c.next.new.self
+    YieldsList-turn (YieldsList-from_vec {s = c.into_iter-device-iterator.result} c.args.records.items
+    c.into_iter-device-iterator.ensures.into_iter_gives.0
+    (c.into_iter-device-iterator.ensures.into_iter_gives.1 ∙ c.args.records.ok.0)) c.loop-device.yielded c.loop-device.device-iterator
+    c.loop-device.yielded_by c.next.result c.next.new.self
     c.in-Some.device c.in-Some.is c.next.ensures.steps in
     let here =
     count_here g.R.Record.held c.args.config.now c.args.sizes c.requires.sizes c.args.records.items c.loop-device.yielded
@@ -20,8 +22,10 @@ name_at-who-requires g c =
 pub open_new-requires : goal.open_new-requires
 open_new-requires g c =
     let turn =
-    YieldsList-turn (YieldsList-from_vec {s = c.into_iter-device-iterator.result} c.args.records.items c.into_iter-device-iterator.ensures.into_iter_gives.0
-    (c.into_iter-device-iterator.ensures.into_iter_gives.1 ∙ c.args.records.ok.0)) c.loop-device.yielded c.loop-device.device-iterator c.loop-device.yielded_by c.next.result c.next.new.self
+    YieldsList-turn (YieldsList-from_vec {s = c.into_iter-device-iterator.result} c.args.records.items
+    c.into_iter-device-iterator.ensures.into_iter_gives.0
+    (c.into_iter-device-iterator.ensures.into_iter_gives.1 ∙ c.args.records.ok.0)) c.loop-device.yielded c.loop-device.device-iterator
+    c.loop-device.yielded_by c.next.result c.next.new.self
     c.in-Some.device c.in-Some.is c.next.ensures.steps in
     let here =
     count_here g.R.Record.held c.args.config.now c.args.sizes c.requires.sizes c.args.records.items c.loop-device.yielded
@@ -32,8 +36,10 @@ open_new-requires g c =
 pub returns-in-Err-clause-err : goal.returns-in-Err-clause-err
 returns-in-Err-clause-err g c =
     let turn =
-    YieldsList-turn (YieldsList-from_vec {s = c.into_iter-device-iterator.result} c.args.records.items c.into_iter-device-iterator.ensures.into_iter_gives.0
-    (c.into_iter-device-iterator.ensures.into_iter_gives.1 ∙ c.args.records.ok.0)) c.loop-device.yielded c.loop-device.device-iterator c.loop-device.yielded_by c.next.result c.next.new.self
+    YieldsList-turn (YieldsList-from_vec {s = c.into_iter-device-iterator.result} c.args.records.items
+    c.into_iter-device-iterator.ensures.into_iter_gives.0
+    (c.into_iter-device-iterator.ensures.into_iter_gives.1 ∙ c.args.records.ok.0)) c.loop-device.yielded c.loop-device.device-iterator
+    c.loop-device.yielded_by c.next.result c.next.new.self
     c.in-Some.device c.in-Some.is c.next.ensures.steps in
     unmade_next g.R.Record.held c.args.config.now c.args.sizes c.requires.sizes c.args.records.items c.loop-device.yielded
     c.loop-device.nodes.items c.loop-device.invariant c.in-Some.device turn.0 turn.1 c.in-Err.refusal c.in-Err.ensures.err
@@ -41,8 +47,10 @@ returns-in-Err-clause-err g c =
 pub loop-device-preserved : goal.loop-device-preserved
 loop-device-preserved g c =
     let turn =
-    YieldsList-turn (YieldsList-from_vec {s = c.into_iter-device-iterator.result} c.args.records.items c.into_iter-device-iterator.ensures.into_iter_gives.0
-    (c.into_iter-device-iterator.ensures.into_iter_gives.1 ∙ c.args.records.ok.0)) c.loop-device.yielded c.loop-device.device-iterator c.loop-device.yielded_by c.next.result c.next.new.self
+    YieldsList-turn (YieldsList-from_vec {s = c.into_iter-device-iterator.result} c.args.records.items
+    c.into_iter-device-iterator.ensures.into_iter_gives.0
+    (c.into_iter-device-iterator.ensures.into_iter_gives.1 ∙ c.args.records.ok.0)) c.loop-device.yielded c.loop-device.device-iterator
+    c.loop-device.yielded_by c.next.result c.next.new.self
     c.in-Some.device c.in-Some.is c.next.ensures.steps in
     begun_next g.R.Record.held c.args.config.now c.args.sizes c.requires.sizes c.args.records.items c.loop-device.yielded
     c.loop-device.nodes.items c.loop-device.invariant c.in-Some.device turn.0 turn.1 c.name_at-who.result

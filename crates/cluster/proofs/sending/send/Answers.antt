@@ -39,7 +39,8 @@ loop-i-preserved c =
       sent =
           next_entry c.args.network.now c.loop-i.network c.put-entry.new.network c.args.listed.now.items c.loop-i.listed.items
           c.push_reserved.new.self.items c.args.entry.now.sender c.loop-i.entry.sender c.args.entry.now.message c.loop-i.entry.message to
-          c.loop-i.i c.receiver_at-entry.result (nat_lt 0 c.loop-i.i) c.put-entry.result c.loop-i.invariant.sender c.loop-i.invariant.message lt
+          c.loop-i.i c.receiver_at-entry.result (nat_lt 0 c.loop-i.i) c.put-entry.result c.loop-i.invariant.sender
+          c.loop-i.invariant.message lt
           c.receiver_at-entry.ensures refl
           (record { stands = c.put-entry.ensures.stands c.loop-i.entry.message spells; number_is = c.put-entry.ensures.number })
           c.push_reserved.ensures.items c.loop-i.invariant.sent;

@@ -12,6 +12,8 @@ loop-k-preserved c =
     let next =
     next_sent (datagrams_of (sized c.args.sizes) c.args.sender) (sent_by c.args.sends.now) c.args.network.now c.loop-k.network
     c.spell_and_send.new.network c.args.listed.now.items c.loop-k.listed.items c.spell_and_send.new.listed.items (vec_len c.loop-k.listed)
-    (vec_capacity c.loop-k.listed) (vec_len c.spell_and_send.new.listed) (vec_capacity c.spell_and_send.new.listed) c.loop-k.k c.at.result lt
-    c.at.ensures c.loop-k.invariant.sent c.loop-k.invariant.room c.spell_and_send.ensures.sent c.spell_and_send.ensures.room c.spell_and_send.ensures.capacity in
+    (vec_capacity c.loop-k.listed) (vec_len c.spell_and_send.new.listed) (vec_capacity c.spell_and_send.new.listed) c.loop-k.k c.at.result
+    lt
+    c.at.ensures c.loop-k.invariant.sent c.loop-k.invariant.room c.spell_and_send.ensures.sent c.spell_and_send.ensures.room
+    c.spell_and_send.ensures.capacity in
     record { sent = next.sent; room = next.room }

@@ -13,7 +13,8 @@ returns-in-Err-clause-err c =
 
 pub returns-clause-ok : goal.returns-clause-ok
 returns-clause-ok c =
-    ran_by c.args.script c.in_ok-config.config c.as_slice-first.result.now c.into_vec.result.items c.in_ok-config.ensures.ok.0 c.as_slice-first.ensures
+    ran_by c.args.script c.in_ok-config.config c.as_slice-first.result.now c.into_vec.result.items c.in_ok-config.ensures.ok.0
+    c.as_slice-first.ensures
     c.into_vec.ensures c.in_ok-config.ensures.ok.1 c.in_ok-cluster.cluster c.carry_out_all.new.cluster
     c.in_ok-cluster.ensures.ok c.new-out.result.items c.write_head.new.out.items c.carry_out_all.new.out.items
     c.write_finals.new.out.items c.new-out.ensures.items c.in_ok-write_head.ensures.ok c.in_ok-carry_out_all.ensures.ok

@@ -12,4 +12,5 @@ returns g c = λ config own m sizes s.
     let gathers = c.gather.ensures config own m base unarmed c.begin.ensures.unarmed sizes s in
     comes config c.args.who own (record { state = m; held = base; role = c.args.role.now }) (map input_of c.args.inputs.now)
     c.gather.new.outs c.gather.new.role (mem_held c.begin.new.frames) (mem_held c.gather.new.frames) c.as_slice.result.now
-    (g.R.Record.held c.store_all-stored.new.device) unarmed c.begin.ensures.bytes gathers c.as_slice.ensures c.store_all-stored.result c.store_all-stored.ensures
+    (g.R.Record.held c.store_all-stored.new.device) unarmed c.begin.ensures.bytes gathers c.as_slice.ensures c.store_all-stored.result
+    c.store_all-stored.ensures

@@ -8,4 +8,5 @@ returns-in-Ok c =
     (sym c.kind.ensures.value ∙ c.in-Ballot.is) c.play_by.result c.in-Ok.is c.play_by.ensures c.begin.ensures
 
 pub returns-in-Err : goal.returns-in-Err
-returns-in-Err c = leader_refused c.args.leader.now c.play_by.new.self c.args.fact.now c.play_by.result c.in-Err.refusal c.in-Err.is c.play_by.ensures
+returns-in-Err c =
+    leader_refused c.args.leader.now c.play_by.new.self c.args.fact.now c.play_by.result c.in-Err.refusal c.in-Err.is c.play_by.ensures

@@ -13,7 +13,8 @@ found bytes x = MatchOption x (IsTail bytes) (λ y. IsFramed y.0 bytes y.1.now)
 pub returns-in-Ok-clause-ok : goal.returns-in-Ok-clause-ok
 returns-in-Ok-clause-ok c =
     let framed = subst (found c.args.bytes.now) c.in-Ok-Some.field-0-is c.in-Ok-Some.ensures.ok in
-    taken_snapshot c.args.bytes.now c.in-Ok-Some.after.now c.in-Ok-Some.entry framed (sym c.if-not-is_snapshot.ensures) _ _ c.in-Ok.ensures.ok
+    taken_snapshot c.args.bytes.now c.in-Ok-Some.after.now c.in-Ok-Some.entry framed (sym c.if-not-is_snapshot.ensures) _ _
+    c.in-Ok.ensures.ok
 
 pub returns-in-Ok-Some-clause-err : goal.returns-in-Ok-Some-clause-err
 returns-in-Ok-Some-clause-err c =

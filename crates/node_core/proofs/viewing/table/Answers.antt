@@ -18,5 +18,6 @@ returns-in-Ok g c = λ config m sizes s.
 
 pub returns-in-Err : goal.returns-in-Err
 returns-in-Err g c = λ config m sizes s.
-    unread_table config c.args.who c.args.own.now m (g.R.Record.held c.args.device.now) (g.R.Record.held c.peek.new.device) c.args.role.now s
+    unread_table config c.args.who c.args.own.now m (g.R.Record.held c.args.device.now) (g.R.Record.held c.peek.new.device) c.args.role.now
+    s
     c.in-None.is c.in-Err.refusal (c.in-Err.ensures config sizes)

@@ -11,5 +11,6 @@ loop-line-preserved c =
 
 pub returns-in_ok-draw_line-2-clause-ok : goal.returns-in_ok-draw_line-2-clause-ok
 returns-in_ok-draw_line-2-clause-ok c =
-    last_step c.loop-line.number c.loop-line.rest.now _ c.loop-line.out.items c.draw_line-then-not-is_empty.new.out.items (grind (arith, nat_tests))
+    last_step c.loop-line.number c.loop-line.rest.now _ c.loop-line.out.items c.draw_line-then-not-is_empty.new.out.items
+    (grind (arith, nat_tests))
     c.in_default.ensures c.loop-line.invariant c.in_ok-draw_line-2.ensures.ok

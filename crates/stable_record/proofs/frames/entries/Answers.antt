@@ -14,7 +14,8 @@ pub loop-entry-preserved : goal.loop-entry-preserved
 loop-entry-preserved c =
     let framed = subst (found c.loop-entry.rest.now) c.in-Ok-Some.field-0-is c.in-Ok-Some.ensures.ok in
     rw c.in_ok-push-in-Ok-Some.ensures.items (record {
-      goes = goes_on c.args.bytes.now c.loop-entry.rest.now c.in-Ok-Some.after.now c.loop-entry.all.items c.in-Ok-Some.entry framed c.loop-entry.invariant.goes;
+      goes = goes_on c.args.bytes.now c.loop-entry.rest.now c.in-Ok-Some.after.now c.loop-entry.all.items c.in-Ok-Some.entry framed
+          c.loop-entry.invariant.goes;
       came = λ all tail stored.
           let before = c.loop-entry.invariant.came all tail stored in
           came_on c.loop-entry.rest.now c.in-Ok-Some.after.now c.in-Ok-Some.entry framed before.0 tail before.1;

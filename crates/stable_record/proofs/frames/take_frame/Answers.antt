@@ -21,7 +21,8 @@ pub new-requires : goal.new-requires
 new-requires c =
     let each : IsBytes c.args.bytes.now = λ i. Fits-lt-pow (c.type_inv.bytes i) in
     let framed =
-    split_frame c.args.bytes.now c.in-Some.len c.in-Some.rest.now c.split_at.result.0.now c.split_at.result.1.now c.in-Ok.kind c.in-Some.ensures
+    split_frame c.args.bytes.now c.in-Some.len c.in-Some.rest.now c.split_at.result.0.now c.split_at.result.1.now c.in-Ok.kind
+    c.in-Some.ensures
     each c.if-rest-len.false c.split_at.ensures.front c.split_at.ensures.back c.in-Ok.ensures in
     framed.valid.valid
 
@@ -29,11 +30,13 @@ pub returns-in-Ok-clause-ok : goal.returns-in-Ok-clause-ok
 returns-in-Ok-clause-ok c =
     let each : IsBytes c.args.bytes.now = λ i. Fits-lt-pow (c.type_inv.bytes i) in
     let framed =
-    split_frame c.args.bytes.now c.in-Some.len c.in-Some.rest.now c.split_at.result.0.now c.split_at.result.1.now c.in-Ok.kind c.in-Some.ensures
+    split_frame c.args.bytes.now c.in-Some.len c.in-Some.rest.now c.split_at.result.0.now c.split_at.result.1.now c.in-Ok.kind
+    c.in-Some.ensures
     each c.if-rest-len.false c.split_at.ensures.front c.split_at.ensures.back c.in-Ok.ensures in
     subst (λ (e : EntryKind). IsFramed e c.args.bytes.now c.split_at.result.1.now) (sym c.new.ensures) framed
 
 pub returns-in-Err-clause-err : goal.returns-in-Err-clause-err
 returns-in-Err-clause-err c =
-    with_no_frame (split_bad c.args.bytes.now c.in-Some.len c.in-Some.rest.now c.split_at.result.0.now c.in-Some.ensures c.if-rest-len.false c.split_at.ensures.front)
+    with_no_frame (split_bad c.args.bytes.now c.in-Some.len c.in-Some.rest.now c.split_at.result.0.now c.in-Some.ensures c.if-rest-len.false
+    c.split_at.ensures.front)
     c.in-Err.ensures

@@ -14,7 +14,8 @@ pub loop-preserved : goal.loop-preserved
 loop-preserved c =
     rw c.in_ok-push-in-Ok.ensures.items (record {
       same =
-          goes_on touched_at c.loop.keys.items c.args.count c.loop.counter c.loop.rest.now (list_at touched_at c.args.count c.args.bytes.now)
+          goes_on touched_at c.loop.keys.items c.args.count c.loop.counter c.loop.rest.now
+          (list_at touched_at c.args.count c.args.bytes.now)
           c.in-Ok.touched c.in-Ok.after.now c.loop-test.true c.in-Ok.ensures c.loop.invariant.same;
     })
 

@@ -12,7 +12,13 @@ invariant_of-self c =
     ap length c.put.ensures.items ∙ length-append c.self.inside.bytes.items c.args.bytes.now in
     subst (λ (es : List Entry). IsNetwork c.put.new.bytes.items es c.self.inside.front) (sym c.push_reserved.ensures.items)
     (network_pushed c.self.inside.bytes.items c.put.new.bytes.items c.self.inside.entries.items
-    (record { start = c.len-start.result; len = length c.args.bytes.now; sender = c.args.sender; receiver = c.args.receiver; marked = false })
+    (record {
+      start = c.len-start.result;
+      len = length c.args.bytes.now;
+      sender = c.args.sender;
+      receiver = c.args.receiver;
+      marked = false;
+    })
     c.self.inside.front c.self.invariant (omega (arith, long))
     (omega (arith, long, c.len-start.ensures, c.self.inside.bytes.ok.0))
     (omega (arith, room, c.self.inside.entries.ok.0)) refl)
