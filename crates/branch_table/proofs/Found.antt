@@ -242,14 +242,6 @@ set_to old new x v w g was to is updated distinct =
           ap (λ (es : Entries). uses_in writes key (branches_of es) + weight writes key (x, v)) is ∙ counts_set writes key old x v w was;
     }))
 
--- there is no branch of x, and nothing has changed
-pub same_none : (bs : List Branch) (x : XidParts) (g : Branch → Branch) → branch_named bs x ≡ None
-    → IsDistinct xid_eq (map (λ branch. branch.xid) bs)
-    → Replaces bs bs x (branch_named bs x) (option_map g (branch_named bs x))
-same_none bs x g none distinct =
-    subst (λ (o : Option Branch). Replaces bs bs x o (option_map g o)) (sym none)
-    (record { found = none; distinct = distinct; only = record { own = none; others = λ y apart. refl }; counts = λ writes key. refl })
-
 -- what a look-up answers
 pub found_some : (x : XidParts) (r : Option (Bor Course)) (bs : List Branch) → is_some r ≡ true
     → option_map (λ branch. branch_of x branch.now) r ≡ branch_named bs x → (b : Branch) × (branch_named bs x ≡ Some b)

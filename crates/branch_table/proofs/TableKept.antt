@@ -268,9 +268,6 @@ refused_hindered bs x given none hindered (inr is) = is.1 hindered
 pub keys_same : (bs : List Branch) (x : XidParts) (b c : Branch) → branch_named bs x ≡ Some b → branch_named bs x ≡ Some c → b.keys ≡ c.keys
 keys_same bs x b c one two = ap keys_if (sym one ∙ two)
 
-pub some_none : (o : Option Branch) (b : Branch) → o ≡ Some b → o ≡ None → ⊥
-some_none o b some none = absurd (cc (sym some ∙ none))
-
 -- holds that are the same at each key
 pub same_kept : (holds after : Known) (old new : List Branch) → IsKept holds old → new ≡ old
     → ((writes : Bool) (key : List ℕ) → uses_held writes (hold_at after key) ≡ uses_held writes (hold_at holds key)) → IsKept after new

@@ -188,9 +188,6 @@ each_touched (t ∷ keys) key act is-key is-act all =
     by false true rest = (record { key = is-key; act = is-act }, all)
     by false false rest = (all.0, rest)
 
-pub are_keys_none : AreKeys []
-are_keys_none = record { few = omega arith; each = tt; ascending = tt }
-
 pub are_keys_touched : (keys : List Touched) (key : List ℕ) (act : Act) → IsKey key → IsAct act
     → (has_key key keys || ltb (length keys) most_touched) ≡ true → AreKeys keys → AreKeys (with_touched keys key act)
 are_keys_touched keys key act is-key is-act room are = record {

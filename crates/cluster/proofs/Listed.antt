@@ -119,22 +119,6 @@ next_entry start now new x y z first sender said message to i receiver again num
 
 -- ---- room
 
-less_bytes : (rest one old new : ℕ) → rest + one ≤ old → old ≤ new + one → rest ≤ new
-less_bytes rest one old new le kept = omega (arith, le, kept)
-
-bytes_left : (more each old new : ℕ) → suc more * each ≤ old → old ≤ new + each → more * each ≤ new
-bytes_left more each old new le kept =
-    less_bytes (more * each) each old new (subst (λ (n : ℕ). n ≤ old) (suc-mul more each) le) kept
-
--- one datagram takes the room of one
-pub room_put : (old new : NetworkParts) → old.spare ≤ new.spare + 1 → old.spare_bytes ≤ new.spare_bytes + MAX_MESSAGE_BYTES
-    → (more : ℕ) → HasRoom (suc more) old 0 (suc more) → HasRoom more new 0 more
-room_put old new datagrams bytes more room = record {
-  datagrams = omega (arith, room.datagrams, datagrams);
-  bytes = bytes_left more MAX_MESSAGE_BYTES old.spare_bytes new.spare_bytes room.bytes bytes;
-  listed = omega arith;
-}
-
 -- room for one of them
 pub room_for_one : (network : NetworkParts) (count len capacity : ℕ) → 0 < count → HasRoom count network len capacity
     → HasRoom 1 network 0 1
@@ -173,12 +157,6 @@ room_next start now new first start_capacity len capacity new_len new_capacity c
     subst (λ (n : ℕ). HasRoom (count - (i + 1) + more) new new_len n) (sym as_large)
     (room_listed now new len new_len capacity put longer (count - (i + 1) + more)
     (subst (λ (n : ℕ). HasRoom n now len capacity) e (so more room)))
-
--- none was sent yet; all were
-pub room_first : (network : NetworkParts) (len capacity count more : ℕ) → HasRoom (count + more) network len capacity
-    → HasRoom (count - 0 + more) network len capacity
-room_first network len capacity count more room =
-    let e : count + more ≡ count - 0 + more = omega arith in subst (λ (n : ℕ). HasRoom n network len capacity) e room
 
 pub room_last : (network : NetworkParts) (len capacity count i more : ℕ) → count ≤ i → HasRoom (count - i + more) network len capacity
     → HasRoom more network len capacity

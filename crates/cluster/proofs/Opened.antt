@@ -223,14 +223,6 @@ zip_length P [] (y ∷ ys) all = absurd all
 zip_length P (x ∷ xs) [] all = absurd all
 zip_length P (x ∷ xs) (y ∷ ys) all = ap suc (zip_length P xs ys all.1)
 
-pub none_begun : (config : Config) → AreBegun config [] []
-none_begun config = record {
-  empty = λ k d lt. absurd (omega (arith, lt));
-  over = tt;
-  named = λ at d lt. absurd (omega (arith, lt));
-  stand = tt;
-}
-
 module _ (config : Config) (sizes : Sizes) (are : AreSizes config sizes) (records : List Held) (nodes : List NodeParts) (held : Held)
     (node : NodeParts) (so : AreBegun config records nodes) (who : NodeId) (named : who ≡ name_of (sized sizes) (length nodes))
     (begun : IsBegun config who held node) where

@@ -100,7 +100,3 @@ pub moved_as : (event : Event) (old was new : ClusterParts) (made step : Step) �
 moved_as event old was new made step is same sound happens =
     subst (λ (p : ClusterParts). MovesSafely event p new step) is
     (subst (λ (s : Step). MovesSafely event old new s) (sym same) (moves_safely event old new made sound happens))
-
-pub step_as : (event : Event) (old new : ClusterParts) (made step : Step) → step ≡ made → MovesSafely event old new made
-    → MovesSafely event old new step
-step_as event old new made step same moves = subst (λ (s : Step). MovesSafely event old new s) (sym same) moves

@@ -1,20 +1,11 @@
 -- One piece more of a text, and one element more that is put behind a list.
-use Rattle.std.proofs.Common.{◌≡◌, ◌∙◌, ◌+◌, ◌<◌, ◌==◌, ◌&&◌, true, ℕ, List, ◌++◌, length, take, get_or, ap, sym, append_assoc}
+use Rattle.std.proofs.Common.{◌≡◌, ◌∙◌, ◌+◌, ◌<◌, ◌==◌, ◌&&◌, true, ℕ, List, ◌++◌, length, take, get_or, ap, sym}
 use Rattle.std.proofs.lemmas.List.{take_more, flat_map_more}
 use Rattle.std.proofs.lemmas.Bool.{and_parts, eqb-true}
 use Rattle.std.specs.List.{flat_map, list_all}
 use Rattle.branch_table.specs.Tables.{are_rows}
 use Rattle.node_core.specs.Configs.{are_sizes, is_config}
 use Rattle.protocol.specs.Effects.{Config}
-
--- the text of one item more
-pub text_more : {X : Type 0} (f : X → List ℕ) (m head : List ℕ) (xs : List X) (i : ℕ) (d : X) → i < length xs
-    → (m ++ (head ++ flat_map f (take i xs))) ++ f (get_or xs i d) ≡ m ++ (head ++ flat_map f (take (i + 1) xs))
-text_more f m head xs i d below =
-    ap (λ t. t ++ f (get_or xs i d)) (sym (append_assoc m head (flat_map f (take i xs))))
-    ∙ flat_map_more f (m ++ head) (take i xs) (get_or xs i d)
-    ∙ ap (λ ys. (m ++ head) ++ flat_map f ys) (sym (take_more xs i d below))
-    ∙ append_assoc m head (flat_map f (take (i + 1) xs))
 
 -- the same, where nothing stands before
 pub text_more_first : {X : Type 0} (f : X → List ℕ) (head : List ℕ) (xs : List X) (i : ℕ) (d : X) → i < length xs

@@ -128,9 +128,6 @@ flow_stops config world count made cluster before after few so none = (
 
 -- ---- commands
 
-pub commands_none : (cluster : ClusterParts) (out : List ℕ) → GoesOn (λ config world. AreDoneBy config world []) cluster cluster out out
-commands_none cluster out config world running = ([], refl, none_yet config world cluster out running)
-
 pub commands_more : (commands : List Command) (command : Command) (old middle new : ClusterParts) (first before after : List ℕ)
     → GoesOn (λ config world. AreDoneBy config world commands) old middle first before
     → GoesOn (λ config world. IsDoneBy config world command) middle new before after

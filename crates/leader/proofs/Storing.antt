@@ -1,9 +1,8 @@
 -- A ballot that is made ready for, and one that is stored.
 use Rattle.std.proofs.Common.{◌≡◌, ◌∙◌, ℕ, ◌<◌, Bool, true, false, ◌&&◌, ◌||◌, List, [], ◌∷◌, ◌++◌, sym, ap, refl, subst}
-use Rattle.std.specs.Cmp.{second_so}
 use Rattle.std.specs.Prelude.{if◌then◌else◌, nat_lt, Some, Result, Ok, Err, OnOk, OnErr, IfErr}
 use Rattle.std.specs.List.{list_any}
-use Rattle.std.proofs.lemmas.Bool.{false≢true, false_from_ne_true, ltb-true, lt-ltb, eq-eqb, and_from}
+use Rattle.std.proofs.lemmas.Bool.{false≢true, lt-ltb, eq-eqb, and_from}
 use Rattle.std.proofs.lemmas.List.Folds.{list_any-append}
 use Rattle.xid.specs.Transactions.{TxParts, tx_eq}
 use Rattle.xid.specs.declared.refusals.Refusal.{Refusal}
@@ -158,12 +157,6 @@ roomed_ready made new tx place (Ok done) there is some =
     and_from (is_placed_in new tx) (nat_lt 0 new.room)
     (ap (λ (k : CoursesParts). is_placed_in k tx) is ∙ is_placed_at made tx place there) (lt-ltb 0 new.room some)
 roomed_ready made new tx place (Err e) there is some = tt
-
--- without room it wasn't ready
-pub not_roomy : (old made : CoursesParts) (tx : TxParts) → made.room ≡ old.room → (0 < made.room → ⊥) → is_ready_in old tx ≡ false
-not_roomy old made tx room none =
-    false_from_ne_true (is_ready_in old tx) (λ ready.
-    none (subst (λ n. 0 < n) (sym room) (ltb-true 0 old.room (second_so (is_placed_in old tx) (nat_lt 0 old.room) ready))))
 
 -- a ballot stored, once it has a place and is listed
 pub stored_at : (old made listed new : CoursesParts) (tx : TxParts) (f : CourseParts → CourseParts) → IsKept old made

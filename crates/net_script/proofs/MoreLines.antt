@@ -1,5 +1,5 @@
 -- What the words of one more line make of what was read so far.
-use Rattle.std.proofs.Common.{◌≡◌, ℕ, true, List, [], ◌∷◌, length, Option, None, Some, Result, Ok, Err, refl, sym, ap, subst, ◌∙◌, arith}
+use Rattle.std.proofs.Common.{◌≡◌, ℕ, true, List, ◌∷◌, Option, None, Some, Result, Ok, Err, refl, sym, ap, subst, ◌∙◌}
 use Rattle.std.specs.Prelude.{MatchResult}
 use Rattle.std.specs.Option.{ForSome}
 use Rattle.net_script.specs.Basics.{Refusal, NoMemory}
@@ -10,7 +10,7 @@ use Rattle.net_script.specs.declared.trace_lines.LineName.{LineName}
 use Rattle.net_script.specs.Lines.{words}
 use Rattle.net_script.specs.TraceLines.{IsTraceLine, IsOutcome, is_tidy, trace_line_words, line_name_text}
 use Rattle.net_script.specs.TraceReading.{IsBegun, begun_with, lines_so_far, ReadsMore, ReadsTraceLine}
-use Rattle.net_script.proofs.TraceLineLemmas.{line_injective, line_text_words, line_text_of, only_cluster, some_words}
+use Rattle.net_script.proofs.TraceLineLemmas.{line_injective, line_text_words, line_text_of}
 use Rattle.net_script.proofs.DraftLemmas.{begins, none_begins}
 
 -- what tells of an event is a line
@@ -33,14 +33,6 @@ told o said ws (Ok None) each is e h = λ other is-other f.
     h ∙ ap (begun_with o) same
 told o said ws (Err x) each is e h = h
 
--- no second line tells of the cluster
-pub one_cluster : (t : Trace) (rest : List (List ℕ)) (said : TraceLine) → IsTraceLine said
-    → line_name_text LineName.Cluster ∷ rest ≡ trace_line_words said
-    → None ≡ begun_with (Some t) said
-one_cluster t rest said is e =
-    let only = only_cluster said rest is e in
-    ap (begun_with (Some t)) (sym only.1)
-
 -- a line with a first word that is no name tells of an event
 outcome_of : (said : TraceLine) (given rest : List (List ℕ)) (word : List ℕ) → given ≡ word ∷ rest
     → ((n : LineName) → word ≡ line_name_text n → ⊥)
@@ -62,13 +54,6 @@ pub more_outcomes : (o : Option Trace) (given rest : List (List ℕ)) (word : Li
 more_outcomes o given rest word (Ok (Some t)) cut none h = (h.0, outcome_line h.0 h.1, h.2, h.3)
 more_outcomes o given rest word (Ok None) cut none h = λ said is e. h said (outcome_of said given rest word cut none is e) e
 more_outcomes o given rest word (Err x) cut none h = h
-
--- no line has no words
-pub no_words : (said : TraceLine) (given : List (List ℕ)) → given ≡ [] → given ≡ trace_line_words said → ⊥
-no_words said given none e =
-    let some = some_words said in
-    let empty : trace_line_words said ≡ [] = sym e ∙ none in
-    absurd (omega (arith, ap length empty))
 
 -- before any line there is one of the cluster alone
 pub first_alone : (said : TraceLine) → ((s : _) → said ≡ Cluster s → ⊥) → None ≡ begun_with None said

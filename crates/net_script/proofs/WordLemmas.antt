@@ -137,9 +137,6 @@ pub record AreDigits (text : List ℕ) (n : ℕ) : Type 0 where
   pub digits : AllDigits 10 text
   pub value : n ≡ digits_value 10 text
 
-pub no_digits : AreDigits [] 0
-no_digits = record { digits = tt; value = refl }
-
 pub one_digit_more : (text : List ℕ) (i n b : ℕ) → i < length text → b ≡ get_or text i 0 → 48 ≤ b → b ≤ 57 → AreDigits (take i text) n
     → AreDigits (take (i + 1) text) (n * 10 + (b - 48))
 one_digit_more text i n b at is low high are =

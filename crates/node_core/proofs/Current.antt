@@ -19,10 +19,8 @@ use Rattle.stable_record.specs.declared.fact.FactKind.{FactKind as Fact}
 use Rattle.stable_record.specs.Facts.{IsFact}
 use Rattle.stable_record.specs.Entries.{IsEntry, IsEntryIn}
 use Rattle.stable_record.specs.Grammar.{IsStored, IsDamaged, IsTail, frame, body_spelling}
-use Rattle.stable_record.specs.declared.record.RecordError.{RecordError}
-use Rattle.stable_record.specs.declared.record.RecordError.TheVariants.{Fault, Memory}
-use Rattle.stable_record.specs.Held.{Held, HasPut, refusal_of, with_bytes}
-use Rattle.stable_record.proofs.Framed.{short_tail, tail_unframed, empty_tail, one_stored, stored_joined, stored_same}
+use Rattle.stable_record.specs.Held.{Held, HasPut, with_bytes}
+use Rattle.stable_record.proofs.Framed.{short_tail, tail_unframed, one_stored, stored_joined, stored_same}
 use Rattle.stable_record.proofs.Lengths.{body_few, entry_in_version_2}
 use Rattle.node_core.specs.Opening.{frames_of, AreFrames, IsCurrent, IsReplaced, Rewrites}
 
@@ -41,9 +39,6 @@ pub record IsCurrentUpTo (bytes rest : List ℕ) (all : List Entry) : Type 0 whe
   pub all_is : all ≡ done ++ left
   pub bytes_are : bytes ≡ frames_of done ++ rest
   pub stored : IsStored rest left []
-
-pub none_current : (bytes : List ℕ) (all : List Entry) → IsStored bytes all [] → IsCurrentUpTo bytes bytes all
-none_current bytes all stored = record { done = []; left = all; all_is = refl; bytes_are = refl; stored = stored }
 
 -- the frame in front of the rest
 pub record IsFront (rest : List ℕ) (left : List Entry) (n : ℕ) (body : List ℕ) : Type 0 where
@@ -157,9 +152,6 @@ module _ (bytes rest : List ℕ) (all : List Entry) (u : IsCurrentUpTo bytes res
 
 -- ---- frames that are written
 
-pub no_frames : AreFrames [] []
-no_frames = record { bytes_are = refl; stored = (refl, empty_tail) }
-
 pub frames_on : (bytes : List ℕ) (all : List Entry) (entry : Entry) → IsEntry entry → AreFrames bytes all
     → AreFrames (bytes ++ frame version_2 entry) (all ++ entry ∷ [])
 frames_on bytes all entry valid h = record {
@@ -195,11 +187,6 @@ fact_frames_next all i fact bytes now lt is valid now_is h =
 -- a replacement, as a refusal tells it
 pub replaced : (next : List ℕ) (old new : Held) → HasPut next old new (Ok tt) → IsReplaced next old new (Ok tt)
 replaced next old new h = h
-
-pub unreplaced : (next : List ℕ) (old new : Held) (e : RecordError) (refusal : Refusal) → refusal ≡ refusal_of e
-    → HasPut next old new (Err e) → IsReplaced next old new (Err refusal)
-unreplaced next old new Fault refusal is h = subst (λ r. IsReplaced next old new (Err r)) (sym is) h
-unreplaced next old new Memory refusal is h = subst (λ r. IsReplaced next old new (Err r)) (sym is) h
 
 module _ (old new : Held) (bytes : List ℕ) (is : old.bytes ≡ bytes) where
   -- nothing is to be written anew

@@ -4,7 +4,6 @@ use Rattle.std.proofs.Common.{unwrap_or}
 use Rattle.ballot.specs.Ballots.{next_of}
 use Rattle.protocol.specs.Effects.{stores}
 use Rattle.protocol.specs.declared.decisions.Outgoing.{Outgoing}
-use Rattle.protocol.specs.declared.answers.Answer.TheVariants.{Refused}
 use Rattle.node_core.specs.Roles.{memory_after}
 use Rattle.std.proofs.Common.{◌≡◌, ◌∙◌, ℕ, true, false, not, ◌||◌, List, [], ◌∷◌, ◌++◌, Option, Some, None, refl, sym, ap, subst}
 use Rattle.std.proofs.Common.{append-nil}
@@ -21,17 +20,15 @@ use Rattle.wire.specs.declared.items.InstanceAccept.{InstanceAccept}
 use Rattle.stable_record.specs.declared.fact.FactKind.{FactKind as Fact}
 use Rattle.protocol.specs.declared.answers.Answer.{Answer}
 use Rattle.protocol.specs.declared.decisions.Decision.{Decision}
-use Rattle.protocol.specs.declared.nodes.NodeId.{NodeId}
 use Rattle.protocol.specs.declared.nodes.NodeId.TheVariants.{A, L, R}
 use Rattle.protocol.specs.declared.requests.Action.{Action}
 use Rattle.protocol.specs.declared.requests.Request.{Request}
 use Rattle.protocol.specs.declared.requests.Request.TheVariants as requests
-use Rattle.protocol.specs.Effects.{Config, Effect, decision_of, answer_only, is_inside}
+use Rattle.protocol.specs.Effects.{Config, Effect, decision_of, is_inside}
 use Rattle.protocol.specs.Facts.{slot, last_ballot, with_fact}
 use Rattle.protocol.specs.LeaderMemory.{LeaderMemory, StoredBallots, status_of, with_begun, with_met}
 use Rattle.protocol.specs.Leaders as rules
-use Rattle.protocol.specs.Managers.{Branch, stored_votes, plays_at_manager, on_manager_message, on_manager_timeout, on_recover}
-use Rattle.protocol.specs.Managers.{on_view_call}
+use Rattle.protocol.specs.Managers.{Branch, stored_votes, plays_at_manager, on_manager_message}
 use Rattle.protocol.specs.Acceptors.{on_acceptor_message, plays_at_acceptor}
 use Rattle.protocol.specs.Nodes.{Memory, on_message, on_request, in_memory, of_leader, of_manager, plays}
 use Rattle.acceptor.specs.Acceptors as acceptor_specs
@@ -42,13 +39,11 @@ use Rattle.leader.specs.Decisions as leader_decisions
 use Rattle.leader.specs.declared.decision.LeaderDecision.{LeaderDecision}
 use Rattle.resource_manager.specs.Managers as manager_specs
 use Rattle.resource_manager.specs.Managers.{ManagerParts, IsCall, call_effect}
-use Rattle.resource_manager.specs.Messages.{IsReminder}
-use Rattle.resource_manager.specs.declared.messages.Reminder.{Reminder}
 use Rattle.resource_manager.proofs.More.{unspent_all}
 use Rattle.node_core.specs.declared.role.Role.{Role}
 use Rattle.node_core.specs.declared.output.Output.{Output}
 use Rattle.node_core.specs.Sends.{led}
-use Rattle.node_core.specs.Roles.{decided, IsLeft, IsDecided, Decides, Rule, from_reminder, answering}
+use Rattle.node_core.specs.Roles.{decided, IsLeft, IsDecided, Decides, Rule, answering}
 
 -- ---- acceptors
 
@@ -274,75 +269,7 @@ call_decides old new x action answer h config (R rm) facts memory s = record {
   leaves = (h config rm).stands facts memory.branches s;
 }
 
-pub recover_decides : (p : ManagerParts) (answer : Answer)
-    → ((config : Config) (number : ℕ) (facts : List Fact) (branches : List Branch) → manager_specs.StandsFor config number p facts branches
-    → answer ≡ (on_recover number (stored_votes number facts) branches).answer)
-    → Decides (Role.Manager p) (Role.Manager p) (answering answer)
-    (λ config who facts memory. on_request config who facts memory requests.Recover)
-recover_decides p answer h config (A a) facts memory s = absurd s
-recover_decides p answer h config (L l) facts memory s = absurd s
-recover_decides p answer h config (R rm) facts memory s = record {
-  effect_is = ap (λ (a : Answer). record { answer = a; fact = None; sends = [] }) (h config rm facts memory.branches s);
-  leaves = s;
-}
-
-pub view_decides : (p : ManagerParts) (answer : Answer) (tx : TxParts)
-    → ((config : Config) (number : ℕ) (facts : List Fact) (branches : List Branch) → manager_specs.StandsFor config number p facts branches
-    → answer ≡ (on_view_call config number (stored_votes number facts) branches tx).answer)
-    → Decides (Role.Manager p) (Role.Manager p) (answering answer)
-    (λ config who facts memory. on_request config who facts memory (requests.View tx))
-view_decides p answer tx h config (A a) facts memory s = absurd s
-view_decides p answer tx h config (L l) facts memory s = absurd s
-view_decides p answer tx h config (R rm) facts memory s = record {
-  effect_is = ap (λ (a : Answer). record { answer = a; fact = None; sends = [] }) (h config rm facts memory.branches s);
-  leaves = s;
-}
-
-pub reminder_decides : (p : ManagerParts) (r : Reminder) (tx : TxParts)
-    → ((config : Config) (number : ℕ) (facts : List Fact) (branches : List Branch) → manager_specs.StandsFor config number p facts branches
-    → IsReminder r branches (on_manager_timeout config number (stored_votes number facts) branches tx))
-    → Decides (Role.Manager p) (Role.Manager p) (from_reminder r)
-    (λ config who facts memory. on_request config who facts memory (requests.Timeout tx))
-reminder_decides p r tx h config (A a) facts memory s = absurd s
-reminder_decides p r tx h config (L l) facts memory s = absurd s
-reminder_decides p r tx h config (R rm) facts memory s =
-    let is = h config rm facts memory.branches s in
-    record {
-      effect_is = λ i. record { answer = is.answer i; fact = sym is.fact i; sends = is.sends i };
-      leaves = subst (manager_specs.StandsFor config rm p facts) (sym is.memory) s;
-    }
-
 -- ---- what a kind of node isn't asked
-
-pub acceptor_refuses : (p : AcceptorParts) (request : Request)
-    → Decides (Role.Acceptor p) (Role.Acceptor p) (answering (Refused Refusal.NoSuch))
-    (λ config who facts memory. on_request config who facts memory request)
-acceptor_refuses p request config (A a) facts memory s = record { effect_is = refl; leaves = s }
-acceptor_refuses p request config (L l) facts memory s = absurd s
-acceptor_refuses p request config (R rm) facts memory s = absurd s
-
--- what a leader isn't asked
-abbrev pub IsOutside : (who : NodeId) → Request → Type 0
-IsOutside who request = (config : Config) (facts : List Fact) (memory : Memory)
-    → on_request config who facts memory request ≡ answer_only memory (Refused Refusal.NoSuch)
-
-pub leader_refuses : (p : LeaderParts) (request : Request) → ((l : ℕ) → IsOutside (L l) request)
-    → Decides (Role.Leader p) (Role.Leader p) (answering (Refused Refusal.NoSuch))
-    (λ config who facts memory. on_request config who facts memory request)
-leader_refuses p request out config (A a) facts memory s = absurd s
-leader_refuses p request out config (R rm) facts memory s = absurd s
-leader_refuses p request out config (L l) facts memory s =
-    subst (IsDecided config (L l) facts memory (Role.Leader p) (answering (Refused Refusal.NoSuch))) (sym (out l config facts memory))
-    (record { effect_is = refl; leaves = s })
-
-pub manager_refuses : (p : ManagerParts) (request : Request) → ((rm : ℕ) → IsOutside (R rm) request)
-    → Decides (Role.Manager p) (Role.Manager p) (answering (Refused Refusal.NoSuch))
-    (λ config who facts memory. on_request config who facts memory request)
-manager_refuses p request out config (A a) facts memory s = absurd s
-manager_refuses p request out config (L l) facts memory s = absurd s
-manager_refuses p request out config (R rm) facts memory s =
-    subst (IsDecided config (R rm) facts memory (Role.Manager p) (answering (Refused Refusal.NoSuch))) (sym (out rm config facts memory))
-    (record { effect_is = refl; leaves = s })
 
 -- ---- what is decided, under other names
 

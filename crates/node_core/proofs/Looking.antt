@@ -4,10 +4,7 @@ use Rattle.std.specs.Prelude.{◌⊎◌, Result, Ok, Err, drop}
 use Rattle.xid.specs.Transactions.{TxParts}
 use Rattle.xid.specs.declared.refusals.Refusal.{Refusal}
 use Rattle.stable_record.specs.declared.fact.FactKind.{FactKind as Fact}
-use Rattle.stable_record.specs.declared.record.RecordError.{RecordError}
-use Rattle.stable_record.specs.declared.record.RecordError.TheVariants as RecordErrors
-use Rattle.stable_record.specs.declared.record.RecordError.TheVariants.{Fault}
-use Rattle.stable_record.specs.Held.{Held, HasRead, refusal_of, armed_with}
+use Rattle.stable_record.specs.Held.{Held, armed_with}
 use Rattle.protocol.specs.declared.nodes.NodeId.{NodeId}
 use Rattle.protocol.specs.declared.nodes.NodeId.TheVariants.{A, L, R}
 use Rattle.protocol.specs.declared.rows.Row.{Row}
@@ -101,11 +98,6 @@ pub unpeeked : (config : Config) (who : NodeId) (own : List Row) (old new : Held
 unpeeked config who own old new bytes Refusal.Damaged is same h = (same, subst (IsBad config who) is h)
 unpeeked config who own old new bytes Refusal.NoMemory is same h = same
 unpeeked config who own old new bytes other is same h = absurd h
-
-pub peek_failed : (config : Config) (who : NodeId) (own : List Row) (T : Type 0) (old new : Held) (e : RecordError)
-    → HasRead {T = T} old new (Err e) → Peeks config who own old new (Err (refusal_of e))
-peek_failed config who own T old new Fault h = h
-peek_failed config who own T old new RecordErrors.Memory h = h
 
 module _ (config : Config) (who : NodeId) (own : List Row) (m : NodeState) (old new : Held) (role : Option Role)
     (s : Stands config who own old role m) where

@@ -197,13 +197,6 @@ no_ballot : (leaders l : ℕ) (facts : List Fact) (fact : Fact) → IsNoBallot f
 no_ballot leaders l facts (Fact.Ballot tx b) none h = none tx b refl
 no_ballot leaders l facts other none h = absurd (cc (h))
 
-pub leader_stranger : (p : LeaderParts) (fact : Fact) (r : Result (Unit {0}) Refusal) → IsNoBallot fact
-    → Takes (Role.Leader p) (Role.Leader p) fact r
-leader_stranger p fact r none config (A a) facts memory s fits idle ready = absurd s
-leader_stranger p fact r none config (R rm) facts memory s fits idle ready = absurd s
-leader_stranger p fact r none config (L l) facts memory s fits idle ready =
-    absurd (no_ballot config.leaders l facts fact none fits)
-
 -- ---- replayed
 
 abbrev PartReplays : {Value : Type 0} → Part Value → Value → List Fact → Fact → Result (Unit {0}) Refusal → Type 0

@@ -87,36 +87,6 @@ module _ (compacted : Bool) (old new : Role) where
       → PlaysEntry compacted old new entry r
   played_so entry inner r is h = subst (λ e. PlaysEntry compacted old new e r) (sym is) h
 
--- two facts, one after the other
-pub second_played : (old mid new : Role) (first second : Fact) (r : Result (Unit {0}) Refusal) → Replays old mid first (Ok tt)
-    → Replays mid new second r → ReplaysAll old new (first ∷ second ∷ []) r
-second_played old mid new first second r h k config who facts s = by r (k config who (facts ++ first ∷ []) a.1)
-  where
-    a : (plays config who facts first ≡ true) × RoleStands config who mid (facts ++ first ∷ []) empty_memory
-    a = h config who facts s
-
-    by : (r : Result (Unit {0}) Refusal) → IsReplayed config who (facts ++ first ∷ []) new second r
-        → AreReplayed config who facts (first ∷ second ∷ []) new r
-    by (Ok done) p = (
-      and_from (plays config who facts first) (all_play config who (facts ++ first ∷ []) (second ∷ [])) a.0
-          (one_plays config who (facts ++ first ∷ []) second p.0),
-      subst (λ fs. RoleStands config who new fs empty_memory) (append_assoc facts (first ∷ []) (second ∷ [])) p.1,
-    )
-    by (Err Refusal.Damaged) p =
-        ap (λ b. b && all_play config who (facts ++ first ∷ []) (second ∷ [])) a.0
-        ∙ one_fails config who (facts ++ first ∷ []) second [] p
-    by (Err Refusal.NoMemory) p = tt
-    by (Err other) p = absurd p
-
-pub first_unplayed : (old new : Role) (first second : Fact) (e : Refusal) → Replays old new first (Err e)
-    → ReplaysAll old new (first ∷ second ∷ []) (Err e)
-first_unplayed old new first second e h config who facts s = by e (h config who facts s)
-  where
-    by : (e : Refusal) → IsReplayed config who facts new first (Err e) → AreReplayed config who facts (first ∷ second ∷ []) new (Err e)
-    by Refusal.Damaged p = one_fails config who facts first (second ∷ []) p
-    by Refusal.NoMemory p = tt
-    by other p = absurd p
-
 -- ---- all of them
 
 module _ (config : Config) (who : NodeId) (compacted : Bool) (bytes : List ℕ) where

@@ -1,29 +1,26 @@
 -- The rows that stand behind a snapshot.
 use Rattle.std.proofs.Common.{◌≡◌, ◌∙◌, ℕ, suc, ◌-◌, Bool, true, false, ◌&&◌, List, [], ◌∷◌, ◌++◌, refl, sym, ap, subst}
 use Rattle.std.proofs.Common.{append_assoc, append-nil, inl, inr}
-use Rattle.std.specs.Prelude.{◌⊎◌, map, Option, Some, None, nat_lt, nat_le, length, slice_get}
+use Rattle.std.specs.Prelude.{◌⊎◌, map, Option, Some, None, length, slice_get}
 use Rattle.std.specs.Option.{option_map_or}
 use Rattle.std.specs.List.{list_all}
 use Rattle.std.specs.Cmp.Lexicographic.{slice_cmp}
 use Rattle.std.specs.Ordering.{nat_cmp, is_lt}
 use Rattle.std.proofs.lemmas.Bool.{and_parts, and_from, both_ways}
-use Rattle.std.proofs.lemmas.Bool.Decides.{nat_tests}
 use Rattle.std.proofs.Common.{arith, length-append}
 use Rattle.std.proofs.lemmas.List.{map-append}
 use Rattle.std.proofs.lemmas.List.Folds.{list_all-append}
 use Rattle.xid.specs.declared.refusals.Refusal.{Refusal}
 use Rattle.xid.specs.declared.refusals.Refusal.TheVariants.{Damaged, NoMemory}
-use Rattle.xid.specs.Limits.{most_key, most_value}
 use Rattle.stable_record.specs.declared.entry.EntryKind.{EntryKind as Entry}
 use Rattle.stable_record.specs.declared.entry.EntryKind.TheVariants as entries
-use Rattle.stable_record.specs.Entries.{IsEntry}
-use Rattle.stable_record.specs.Grammar.{IsStored, IsFramed, IsTail, HasNoFrame}
-use Rattle.stable_record.proofs.Framed.{framed_same, tail_unframed, nothing_stored}
+use Rattle.stable_record.specs.Grammar.{IsStored, IsFramed, HasNoFrame}
+use Rattle.stable_record.proofs.Framed.{framed_same, nothing_stored}
 use Rattle.protocol.specs.declared.rows.Row.{Row}
 use Rattle.resource_manager.specs.Compacted.{row_entry, are_ascending, is_about_tx}
 use Rattle.branch_table.specs.Tables.{is_row}
 use Rattle.node_core.specs.Opening.{IsReadUpTo, row_of, is_snapshot, may_follow, AreRowsTo, AreAllRows, IsSnapshot, IsUncompacted}
-use Rattle.node_core.specs.Opening.{TakesNothing, IsShort}
+use Rattle.node_core.specs.Opening.{TakesNothing}
 use Rattle.node_core.proofs.Reading.{nothing_read, read_more, read_both, damaged_on}
 
 -- ---- one row
@@ -38,19 +35,6 @@ entry_of_row (entries.Fact fact) row is = absurd (cc (is))
 entry_of_row entries.Snapshot row is = absurd (cc (is))
 entry_of_row (entries.PastCommitted tx) row is = absurd (cc (is))
 entry_of_row (entries.PastAborted tx) row is = absurd (cc (is))
-
--- a row of an entry is within the limits
-pub short_row : (entry : Entry) → IsEntry entry → IsShort (row_of entry)
-short_row (entries.Row key value) valid =
-    let some : nat_lt 0 (length key) ≡ true = grind (arith, nat_tests, valid.0.some) in
-    let few : nat_le (length key) most_key ≡ true = grind (arith, nat_tests, valid.0.few) in
-    let short : nat_le (length value) most_value ≡ true = grind (arith, nat_tests, valid.1.few) in
-    and_from (nat_lt 0 (length key) && nat_le (length key) most_key) (nat_le (length value) most_value)
-    (and_from (nat_lt 0 (length key)) (nat_le (length key) most_key) some few) short
-short_row (entries.Fact fact) valid = tt
-short_row entries.Snapshot valid = tt
-short_row (entries.PastCommitted tx) valid = tt
-short_row (entries.PastAborted tx) valid = tt
 
 pub same_row : (a b : Row) → row_entry a ≡ row_entry b → a ≡ b
 same_row a b is =
@@ -90,17 +74,7 @@ follows_last (first ∷ second ∷ rows) row =
     follows_last (second ∷ rows) row ∙ ap (λ k. test (slice_get (second ∷ rows) k)) less
     ∙ ap (λ k. test (slice_get (first ∷ second ∷ rows) k)) (sym more)
 
--- the last of rows, if there is one, is asked
-pub follows_by : (rows : List Row) (row : Row) (last : Option Row) (r : Bool) → slice_get rows (length rows - 1) ≡ last
-    → r ≡ option_map_or (λ (last : Row). is_lt (slice_cmp nat_cmp last.key row.key)) last true → r ≡ may_follow rows row
-follows_by rows row last r is r_is =
-    r_is ∙ ap (λ o. option_map_or (λ (last : Row). is_lt (slice_cmp nat_cmp last.key row.key)) o true) (sym is)
-    ∙ sym (follows_last rows row)
-
 -- ---- rows that were read
-
-pub no_rows_read : (bytes : List ℕ) → AreRowsTo bytes bytes []
-no_rows_read bytes = record { up_to = nothing_read bytes; ascending = refl; short = refl }
 
 module _ (bytes rest after : List ℕ) (rows : List Row) (entry : Entry) (h : AreRowsTo bytes rest rows) (framed : IsFramed entry rest after)
   where
@@ -137,10 +111,6 @@ module _ (bytes rest after : List ℕ) (rows : List Row) (entry : Entry) (h : Ar
           let c : row ≡ other = cc (b) in
           subst (λ r. may_follow rows r ≡ false) c not;
     }
-
-pub rows_tail : (bytes rest : List ℕ) (rows : List Row) → AreRowsTo bytes rest rows → IsTail rest → AreAllRows bytes rest rows
-rows_tail bytes rest rows h tail =
-    record { read = h; last = λ row left framed. absurd (tail_unframed (row_entry row) rest left tail framed) }
 
 pub rows_none : (bytes rest : List ℕ) (rows : List Row) (e : Refusal) → AreRowsTo bytes rest rows
     → ((e ≡ Damaged) × HasNoFrame rest) ⊎ (e ≡ NoMemory) → TakesNothing bytes e
@@ -227,12 +197,6 @@ module _ (bytes after : List ℕ) (entry : Entry) (framed : IsFramed entry bytes
       let same = (framed_same entry entries.Snapshot bytes after front.0 framed front.1).0 in
       let a : is_snapshot entry ≡ true = ap is_snapshot same in
       both_ways (is_snapshot entry) not a
-
-pub tail_uncompacted : (bytes : List ℕ) → IsTail bytes → IsUncompacted bytes
-tail_uncompacted bytes is all tail rows facts stored c =
-    let front =
-    framed_front bytes entries.Snapshot (map row_entry rows ++ c.later) tail (subst (λ es. IsStored bytes es tail) c.all_is stored) in
-    tail_unframed entries.Snapshot bytes front.0 is front.1
 
 pub nothing_taken : (bytes : List ℕ) (e : Refusal) → ((e ≡ Damaged) × HasNoFrame bytes) ⊎ (e ≡ NoMemory) → TakesNothing bytes e
 nothing_taken bytes e (inl is) = inl (is.0, nothing_stored bytes is.1)

@@ -28,17 +28,6 @@ use Rattle.resource_manager.proofs.Votes.{new_by, view_is, plays_by, can_play, c
 use Rattle.resource_manager.proofs.Ending.{refused_plays, aborted_plays, committed_plays, refused_stands, aborted_stands, undone_stands}
 use Rattle.resource_manager.proofs.Ending.{committed_stands}
 
-same_itself : (m : ManagerParts) → MeansSame m m
-same_itself m = record {
-  number = refl;
-  managers = refl;
-  courses = λ tx. refl;
-  begun = refl;
-  spent = λ x. refl;
-  rows = refl;
-  branches = λ x. refl;
-}
-
 -- a fact that doesn't play, and nothing changes
 pub refuses : (m : ManagerParts) (fact : Fact)
     → ((config : Config) (number : ℕ) (facts : List Fact) (branches : List Branch)

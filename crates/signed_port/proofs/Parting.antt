@@ -83,13 +83,6 @@ parts_sign key digest me sender datagram body code tag parts other code_is tag_i
   is = parts.whole ∙ ap (λ xs. body ++ (xs ++ tag)) code_is ∙ ap (λ xs. body ++ (node_code sender ++ xs)) tag_is;
 }
 
--- the parts of a datagram are as long as it is
-pub parts_long : (datagram body code tag : List ℕ) → AreParts datagram body code tag → length body + 34 ≡ length datagram
-parts_long datagram body code tag parts =
-    let whole : length datagram ≡ length body + length (code ++ tag) = ap length parts.whole ∙ length-append body (code ++ tag) in
-    let back : length (code ++ tag) ≡ length code + length tag = length-append code tag in
-    omega (arith, whole, back, parts.code_long, parts.tag_long)
-
 -- a code is of one node
 pub code_is_one : (a b : NodeId) → node_code a ≡ node_code b → a ≡ b
 code_is_one (A a) (A b) e = cc

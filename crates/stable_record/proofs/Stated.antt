@@ -1,9 +1,8 @@
 -- The frame of a fact by its transaction and the rest, and how long these are: for the writing of facts over spelled bytes.
 use Rattle.std.proofs.Common.{◌≡◌, ℕ, ◌+◌, List, [], ◌∷◌, ◌++◌, length, refl, ap, ◌∙◌, sym, append_assoc, arith}
 use Rattle.std.proofs.lemmas.List.{length-append}
-use Rattle.byteorder.specs.Numbers.{length-bytes_high_first}
 use Rattle.xid.specs.Transactions.{TxParts}
-use Rattle.wire.specs.Grammar.{number_spelling, rm_spelling, tx_spelling}
+use Rattle.wire.specs.Grammar.{number_spelling, tx_spelling}
 use Rattle.wire.specs.Versions.{version_2}
 use Rattle.stable_record.specs.declared.entry.EntryKind.{EntryKind as Entry}
 use Rattle.stable_record.specs.declared.spelled_fact.FactRest.{FactRest}
@@ -17,25 +16,6 @@ pub stated_body : (tx : TxParts) (rest : FactRest)
 stated_body tx (rests.Promise instance ballot) = refl
 stated_body tx (rests.Accept instance ballot vote) = refl
 stated_body tx (rests.PromiseAll ballot) = refl
-
-pub promise_has : (instance ballot : ℕ) → length (rm_spelling version_2 instance ++ number_spelling ballot) ≡ 6
-promise_has instance ballot =
-    omega (
-      arith,
-      length-append (rm_spelling version_2 instance) (number_spelling ballot),
-      length-bytes_high_first 2 instance,
-      length-bytes_high_first 4 ballot,
-    )
-
-pub accept_has : (instance ballot vote : ℕ) → length (rm_spelling version_2 instance ++ (number_spelling ballot ++ vote ∷ [])) ≡ 7
-accept_has instance ballot vote =
-    omega (
-      arith,
-      length-append (rm_spelling version_2 instance) (number_spelling ballot ++ vote ∷ []),
-      length-append (number_spelling ballot) (vote ∷ []),
-      length-bytes_high_first 2 instance,
-      length-bytes_high_first 4 ballot,
-    )
 
 -- what was put at the end, one after the other, is the frame
 pub framed : (old a b c d : List ℕ) (n : ℕ) (tx : TxParts) (spelled : List ℕ) (rest : FactRest) → spelled ≡ tx_spelling version_2 tx

@@ -6,7 +6,7 @@ use Rattle.std.specs.Prelude.{if◌then◌else◌, nat_eq, Result, Ok, Err, OnOk
 use Rattle.std.specs.Bool.{one_answer}
 use Rattle.std.specs.List.{AllByRecursion, IsDistinct, list_any}
 use Rattle.std.proofs.lemmas.Bool.{eqb-true, eq-eqb}
-use Rattle.std.proofs.lemmas.List.{map-append, length-append}
+use Rattle.std.proofs.lemmas.List.{map-append}
 use Rattle.std.proofs.lemmas.List.Sums.{passes_at_first}
 use Rattle.xid.specs.Transactions.{TxParts, IsTx, tx_eq}
 use Rattle.xid.specs.declared.refusals.Refusal.{Refusal}
@@ -32,14 +32,6 @@ at_places_seen ts tx places each = by (list_any (tx_eq tx) ts)
     by : (b : Bool) → at_places (if b then ts else ts ++ tx ∷ []) places ≡ at_places ts places
     by true = refl
     by false = at_places_grown ts tx places each
-
-pub inside_seen : (ts : List TxParts) (tx : TxParts) (places : List ℕ) → AreInside (length ts) places
-    → AreInside (length (seen_with ts tx)) places
-inside_seen ts tx places each = by (list_any (tx_eq tx) ts)
-  where
-    by : (b : Bool) → AreInside (length (if b then ts else ts ++ tx ∷ [])) places
-    by true = each
-    by false = still_inside places (length ts) (length (ts ++ tx ∷ [])) (omega (arith, length-append ts (tx ∷ []))) each
 
 module _ (ts : List TxParts) (once : IsDistinct tx_eq ts) where
   abbrev at : ℕ → TxParts

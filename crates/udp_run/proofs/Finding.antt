@@ -19,7 +19,7 @@ use Rattle.node_core.specs.Configs.{are_sizes, is_config}
 use Rattle.node_core.specs.Nodes.{AreSizes}
 use Rattle.port.specs.declared.addresses.Addresses.{Addresses}
 use Rattle.port.specs.declared.udp.UdpPort.{UdpPort}
-use Rattle.port.specs.Addresses.{no_addresses, address_of, with_address}
+use Rattle.port.specs.Addresses.{address_of, with_address}
 use Rattle.udp_run.specs.Sites.{node_count, place_in}
 use Rattle.udp_run.specs.Runs.{AreStanding, ArePorts, FindsEach, finding}
 use Rattle.udp_run.proofs.Reaching.{place_within}
@@ -118,9 +118,6 @@ pub record AreWide (addresses : Addresses) : Type 0 where
   pub leaders : length addresses.leaders ≡ 4
   pub managers : length addresses.managers ≡ 64
 
-none_wide : AreWide no_addresses
-none_wide = record { acceptors = refl; leaders = refl; managers = refl }
-
 put_wide : (addresses : Addresses) (who : NodeId) (n : ℕ) → AreWide addresses → AreWide (with_address addresses who n)
 put_wide addresses (A a) n wide =
     record { acceptors = length-set addresses.acceptors a (Some n) ∙ wide.acceptors; leaders = wide.leaders; managers = wide.managers }
@@ -171,12 +168,6 @@ put_left addresses (R r) (L k) n ne = refl
 pub record AreBound (sizes : Sizes) (at : ℕ) (ports : List UdpPort) (addresses : Addresses) : Type 0 where
   pub wide : AreWide addresses
   pub standing : AreStanding sizes at ports addresses
-
-pub none_bound : (sizes : Sizes) → AreBound sizes 0 [] no_addresses
-none_bound sizes = record {
-  wide = none_wide;
-  standing = record { number = refl; found = λ who at d lt placed. absurd (omega (arith, lt)) };
-}
 
 module _ (sizes : Sizes) (few : AreFew sizes) (at : ℕ) (ports : List UdpPort) (addresses : Addresses) (port : UdpPort) (who : NodeId)
     (placed : place_in sizes who ≡ Some at) (so : AreBound sizes at ports addresses) where
@@ -229,9 +220,6 @@ pub record AreTold (addresses : Addresses) (at : ℕ) (start now : List UdpPort)
   pub told : take at now ≡ map (finding addresses) (take at start)
   pub rest : drop at now ≡ drop at start
   pub long : length now ≡ length start
-
-pub none_told : (addresses : Addresses) (ports : List UdpPort) → AreTold addresses 0 ports ports
-none_told addresses ports = record { told = refl; rest = refl; long = refl }
 
 at_front : (n : ℕ) (xs : List UdpPort) (d : UdpPort) → get_or (drop n xs) 0 d ≡ get_or xs n d
 at_front n xs d = let e : n + 0 ≡ n = omega arith in get_or-drop n xs 0 d ∙ ap (λ (k : ℕ). get_or xs k d) e

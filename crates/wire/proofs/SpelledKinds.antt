@@ -1,9 +1,8 @@
 -- What is taken as a message was spelled, where nothing follows it.
-use Rattle.std.proofs.Common.{◌≡◌, ℕ, ◌==◌, Bool, true, false, cond, eqb, List, [], ◌∷◌, ◌++◌, length, Option, Some, None, refl, sym}
+use Rattle.std.proofs.Common.{◌≡◌, ℕ, ◌==◌, Bool, true, false, cond, eqb, List, [], ◌∷◌, ◌++◌, length, Option, Some, refl, sym}
 use Rattle.std.proofs.Common.{subst, ap}
 use Rattle.std.proofs.Common.{◌∙◌, eqb-true}
 use Rattle.std.specs.List.{flat_map}
-use Rattle.std.specs.Option.{MatchOption}
 use Rattle.std.proofs.lemmas.List.{append-nil}
 use Rattle.xid.specs.Names.{IsBytes}
 use Rattle.xid.specs.Transactions.{TxParts}
@@ -14,7 +13,7 @@ use Rattle.wire.specs.Versions.{version_2}
 use Rattle.wire.specs.Grammar.{number_spelling, rm_spelling, vote_byte, report_spelling, report_item_spelling, accept_item_spelling}
 use Rattle.wire.specs.Grammar.{kind_byte, rest_spelling}
 use Rattle.wire.specs.Reading.{byte_at, number_at, rm_at, vote_at, report_at, instance_at, report_item_at, accept_item_at, items_at}
-use Rattle.wire.specs.Reading.{p1a_at, p1b_at, p2a_at, p2b_at, ask_at, b1a_at, b1b_at, b2b_at, kind_at, whole}
+use Rattle.wire.specs.Reading.{p1a_at, p1b_at, p2a_at, p2b_at, ask_at, b1a_at, b1b_at, b2b_at, kind_at}
 use Rattle.wire.specs.declared.grammar.VersionNumber.TheVariants.{Second}
 use Rattle.wire.proofs.Spelled.{Front, joined, some_same, step, byte_spelled, number_spelled, rm_spelled, vote_spelled, report_spelled}
 use Rattle.wire.proofs.Spelled.{instance_spelled, report_item_spelled, accept_item_spelled, items_spelled}
@@ -141,14 +140,3 @@ kind_spelled code tx bytes k is e =
     by code 10 _ _ _ _ e (λ n e. at_code n (b1a_spelled tx bytes k is e)) (λ e.
     by code 11 _ _ _ _ e (λ n e. at_code n (b1b_spelled tx bytes k is e)) (λ e.
     by code 12 _ _ _ _ e (λ n e. at_code n (b2b_spelled tx bytes k is e)) (λ e. absurd (cc))))))))))))
-
--- nothing follows what was taken whole
-pub whole_at_end : (read : Option (Kind × List ℕ)) (k : Kind) → whole read ≡ Some k → read ≡ Some (k, [])
-whole_at_end None k e = absurd (cc)
-whole_at_end (Some (m, [])) k e = ap (λ (k : Kind). Some (k, [])) (some_same m k e)
-whole_at_end (Some (m, x ∷ xs)) k e = absurd (cc)
-
--- what holds of that which was taken, where something was
-pub on_some : (read : Option Kind) (P : Kind → Type 0) → ((k : Kind) → read ≡ Some k → P k) → MatchOption read (Unit {0}) P
-on_some None P go = tt
-on_some (Some k) P go = go k refl

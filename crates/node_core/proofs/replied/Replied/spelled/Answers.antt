@@ -1,4 +1,4 @@
-use Rattle.std.proofs.Common.{◌≡◌, ◌∙◌, ◌<◌, List, length, sym, subst}
+use Rattle.std.proofs.Common.{◌∙◌, ◌<◌, List, length, sym, subst}
 use Rattle.protocol.specs.declared.decisions.Outgoing.{Outgoing}
 use Rattle.node_core.proofs.Replying.{one_replied, some_replied}
 use Rattle.node_core.proofs.replied.Replied.spelled.Goals as goal
