@@ -23,30 +23,33 @@ use Rattle.audit.specs.Following.{IsHappened, IsChanged, IsChangedBy, Follows, T
 use Rattle.audit.specs.declared.ledger.Ledger.{Ledger}
 use Rattle.audit.proofs.MoveLemmas.{with_change, views_more, move_same}
 
-module _ (first : ℕ → List Row) (before : List Step) (old mid : Ledger) (follows : Follows first before old)
-    (event : Event) (answer : Answer) (sent : List Sent) (happened : IsHappened old mid event answer) where
-  abbrev bare : Step
-  bare = record { event = event; answer = answer; now = None; sent = sent }
+-- a step that changed no view
+abbrev pub bare : Event → Answer → List Sent → Step
+bare event answer sent = record { event = event; answer = answer; now = None; sent = sent }
 
+pub follows_event : (first : ℕ → List Row) (before : List Step) (old mid : Ledger) → Follows first before old
+    → (event : Event) (answer : Answer) (sent : List Sent) → IsHappened old mid event answer
+    → Follows first (bare event answer sent ∷ before) mid
+follows_event first before old mid follows event answer sent happened = record {
+  tables = λ rm. ap (λ ts. rows_of ts rm) happened.tables ∙ follows.tables rm;
+  branches = λ rm x. happened.branches rm x ∙ ap (stretch_by rm x event answer) (follows.branches rm x);
+  views = λ tx. ap (λ v. views_in v tx) happened.views ∙ follows.views tx;
+  firsts = happened.firsts ∙ follows.firsts;
+}
+
+module _ (first : ℕ → List Row) (before : List Step) (mid : Ledger) (event : Event) (answer : Answer) (sent : List Sent)
+    (at : Follows first (bare event answer sent ∷ before) mid) where
   branches_after : (rm : ℕ) (x : XidParts) → stretch_of mid.branches rm x ≡ stretch_by rm x event answer (stretch_back rm x before)
-  branches_after rm x = happened.branches rm x ∙ ap (stretch_by rm x event answer) (follows.branches rm x)
+  branches_after = at.branches
 
   tables_before : (rm : ℕ) → rows_of mid.tables rm ≡ table_told first rm before
-  tables_before rm = ap (λ ts. rows_of ts rm) happened.tables ∙ follows.tables rm
+  tables_before = at.tables
 
   views_before : (tx : TxParts) → views_in mid.views tx ≡ views_back before tx
-  views_before tx = ap (λ v. views_in v tx) happened.views ∙ follows.views tx
+  views_before = at.views
 
   firsts_before : mid.firsts ≡ first_commits before
-  firsts_before = happened.firsts ∙ follows.firsts
-
-  follows_event : Follows first (bare ∷ before) mid
-  follows_event = record {
-    tables = tables_before;
-    branches = branches_after;
-    views = views_before;
-    firsts = firsts_before;
-  }
+  firsts_before = at.firsts
 
   module _ (new : Ledger) (change : Change) (changed : IsChanged mid new change) where
     abbrev after : Step
@@ -83,7 +86,7 @@ module _ (first : ℕ → List Row) (before : List Step) (old mid : Ledger) (fol
     firsts_by txs true = refl
     firsts_by txs false = refl
 
-    follows_change : Follows first (after ∷ before) new
+    pub follows_change : Follows first (after ∷ before) new
     follows_change = record {
       tables = λ rm.
           changed.tables rm
@@ -102,10 +105,10 @@ module _ (first : ℕ → List Row) (before : List Step) (old mid : Ledger) (fol
 
   follows_now : (new : Ledger) (now : Option Change) → IsChangedBy mid new now
       → Follows first (record { event = event; answer = answer; now = now; sent = sent } ∷ before) new
-  follows_now new None same = subst (Follows first (bare ∷ before)) (sym same) follows_event
+  follows_now new None same = subst (Follows first (bare event answer sent ∷ before)) (sym same) at
   follows_now new (Some change) changed = follows_change new change changed
 
-  moves_so : (now : Option Change) → option_map_or (is_move_from mid.views) now true
+  pub moves_so : (now : Option Change) → option_map_or (is_move_from mid.views) now true
       ≡ option_map_or (is_move before) now true
   moves_so None = refl
   moves_so (Some change) = move_same mid.views before change views_before
@@ -132,9 +135,12 @@ pub taken : (first : ℕ → List Row) (before : List Step) (step : Step) (old m
     → (ok ≡ true → IsChangedBy mid new step.now) → Takes first before step ok new
 taken first before step old mid new ok follows right happened moves changed = record {
   right =
-      moves ∙ moves_so first before old mid follows step.event step.answer step.sent happened step.now
+      moves ∙ moves_so first before mid step.event step.answer step.sent
+      (follows_event first before old mid follows step.event step.answer step.sent happened) step.now
       ∙ ap (λ b. b && moves_rightly before step) (right ∙ right_so first before old step.event step.answer follows);
-  follows = λ e. follows_now first before old mid follows step.event step.answer step.sent happened new step.now (changed e);
+  follows = λ e.
+      follows_now first before mid step.event step.answer step.sent
+      (follows_event first before old mid follows step.event step.answer step.sent happened) new step.now (changed e);
 }
 
 -- a datagram from a socket changes no branch
@@ -167,13 +173,14 @@ serve_taken (Err e) entry node answer now sent old new is change = tt
 
 -- ---- histories of the first entries
 
+pub history_push : (es : List Entry) (e : Entry) → history_of (es ++ e ∷ []) ≡ step_of e ∷ history_of es
+history_push es e = ap reverse (map-append step_of es (e ∷ [])) ∙ reverse-append (map step_of es) (step_of e ∷ [])
+
 pub history_more : (entries : List Entry) (i : ℕ) (d : Entry) → i < length entries
     → history_of (take (i + 1) entries) ≡ step_of (get_or entries i d) ∷ history_of (take i entries)
 history_more entries i d lt =
     let next : i + 1 ≡ suc i = omega arith in
-    ap (λ n. history_of (take n entries)) next ∙ ap history_of (take-suc entries i d lt)
-    ∙ ap reverse (map-append step_of (take i entries) (get_or entries i d ∷ []))
-    ∙ reverse-append (map step_of (take i entries)) (step_of (get_or entries i d) ∷ [])
+    ap (λ n. history_of (take n entries)) next ∙ ap history_of (take-suc entries i d lt) ∙ history_push (take i entries) (get_or entries i d)
 
 history_parts : (n : ℕ) (entries : List Entry) → history_of entries ≡ history_of (drop n entries) ++ history_of (take n entries)
 history_parts n entries =

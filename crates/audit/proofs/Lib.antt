@@ -8,6 +8,7 @@ mod ViewLemmas
 mod ListLemmas
 mod ReplayLemmas
 mod AuditLemmas
+mod HearingLemmas
 mod CommitLemmas
 mod MachineStretches
 mod MachineGets

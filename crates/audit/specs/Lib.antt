@@ -5,3 +5,4 @@ pub mod Tables
 pub mod Consistent
 pub mod Books
 pub mod Following
+pub mod Hearing

@@ -1,10 +1,13 @@
 ghost use Rattle.std.specs.Prelude.{◌≡◌, IfOk, IfErr};
 ghost use Rattle.xid.specs.declared.refusals.Refusal.TheVariants.{NoMemory};
+ghost use Rattle.net_script.specs.TraceReading.{RefusesTrace};
 ghost use Rattle.audit.specs.Consistent.{is_consistent};
+ghost use Rattle.audit.specs.Hearing.{IsJudged};
 
+use crate::auditor::Auditor;
 use crate::ledger::Ledger;
 use crate::serial::is_serial;
-use net_script::Trace;
+use net_script::{Trace, TraceReader};
 use std::alloc::Global;
 use xid::Refusal;
 
@@ -28,4 +31,18 @@ pub fn audit(alloc: Global, trace: &Trace) -> Result<bool, Refusal>
         return Ok(false);
     }
     is_serial(alloc, &ledger, tables, finals)
+}
+
+/// Whether the trace of which this is the text keeps what was promised, as `audit` says of it, in one pass and with no trace kept. The
+/// whole text is read, whatever the answer. Refused as `read_trace` refuses it, and `NoMemory`.
+pub fn audit_text(alloc: Global, bytes: &[u8]) -> Result<bool, Refusal>
+    ensures ok { IfOk result (IsJudged bytes.now) }
+    ensures err { IfErr result (RefusesTrace bytes.now) }
+{
+    let mut reader = TraceReader::new(bytes);
+    let mut auditor = Auditor::new(alloc)?;
+    while let Some(said) = reader.next(alloc)? {
+        auditor.take(alloc, said)?;
+    }
+    auditor.verdict(alloc)
 }

@@ -1,16 +1,16 @@
 //! A trace, read entry by entry from the first on.
 
-ghost use Rattle.std.specs.Prelude.{◌≡◌, ℕ, List, [], Some, None, true, ◌==◌, if◌then◌else◌, IfOk, IfErr, OnOk};
+ghost use Rattle.std.specs.Prelude.{◌≡◌, ℕ, List, [], ◌∷◌, ◌++◌, Some, None, true, ◌==◌, if◌then◌else◌, IfOk, IfErr, OnOk};
 ghost use Rattle.std.specs.Option.{option_copied, option_map, option_map_or};
 ghost use Rattle.xid.specs.declared.refusals.Refusal.TheVariants.{NoMemory};
 ghost use Rattle.transactions.specs.Seen.{seen_with};
 ghost use Rattle.protocol.specs.Tables.{with_writes};
-ghost use Rattle.audit.specs.Words.{Row, Step};
+ghost use Rattle.audit.specs.Words.{Row, Step, Table};
 ghost use Rattle.audit.specs.Told.{step_of};
 ghost use Rattle.audit.specs.Stretches.{own_act, with_get, writes_in, writes_at};
 ghost use Rattle.audit.specs.Tables.{first_tables, shows, is_call_right, is_event_right};
 ghost use Rattle.audit.specs.Books.{rows_of, stretch_of, Called, Sets, is_move_from};
-ghost use Rattle.audit.specs.Following.{Follows, IsChangedBy, IsHappened, Takes};
+ghost use Rattle.audit.specs.Following.{Follows, IsChanged, IsChangedBy, IsHappened, Takes};
 
 use crate::branches::Branches;
 use crate::stretch::shows;
@@ -68,8 +68,22 @@ impl Ledger {
         }
     }
 
+    /// A first table more, where no entry was taken. Refused: `NoMemory` alone.
+    pub fn take_table(&mut self, alloc: Global, table: &Table) -> Result<(), Refusal>
+        ensures ok { OnOk result ((tables : List Table) → Follows (first_tables tables) [] self.old
+            → Follows (first_tables (tables ++ table.now ∷ [])) [] self.new) }
+        ensures err { IfErr result (λ e. e ≡ NoMemory) }
+    {
+        self.tables.put_all(alloc, table.rm, table.rows.as_slice())
+    }
+
     /// Whether an event was rightly answered, and if so adds it. Refused: `NoMemory` alone.
-    fn take_event(&mut self, alloc: Global, event: &Event, answer: &Answer) -> Result<bool, Refusal>
+    pub fn take_event(
+        &mut self,
+        alloc: Global,
+        event: &Event,
+        answer: &Answer,
+    ) -> Result<bool, Refusal>
         ensures ok { IfOk result (λ yes.
             (yes ≡ is_event_right (rows_of self.old.tables) (stretch_of self.old.branches) event.now answer.now)
             × (yes ≡ true → IsHappened self.old self.new event.now answer.now)) }
@@ -159,9 +173,18 @@ impl Ledger {
             × (yes ≡ true → IsChangedBy self.old self.new now.now)) }
         ensures err { IfErr result (λ e. e ≡ NoMemory) }
     {
-        let Some(change) = now else {
-            return Ok(true);
-        };
+        match now {
+            Some(change) => self.make_change(alloc, change),
+            None => Ok(true),
+        }
+    }
+
+    /// Whether a change is a step of TCommit, and if so adds it. Refused: `NoMemory` alone.
+    pub fn make_change(&mut self, alloc: Global, change: &Change) -> Result<bool, Refusal>
+        ensures ok { IfOk result (λ yes. (yes ≡ is_move_from self.old.views change.now)
+            × (yes ≡ true → IsChanged self.old self.new change.now)) }
+        ensures err { IfErr result (λ e. e ≡ NoMemory) }
+    {
         if !self.views.change(alloc, change)? {
             return Ok(false);
         }

@@ -2,6 +2,7 @@
 #![tactic(auto)]
 
 mod auditing;
+mod auditor;
 mod branches;
 /// What the questions say in the words of the paper.
 pub mod laws;
@@ -12,4 +13,4 @@ mod stretch;
 mod tables;
 mod views;
 
-pub use auditing::audit;
+pub use auditing::{audit, audit_text};

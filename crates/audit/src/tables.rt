@@ -66,7 +66,7 @@ impl Tables {
     }
 
     /// A table has these rows alone; of two with one key the later counts. Refused: `NoMemory` alone.
-    fn put_all(&mut self, alloc: Global, rm: u8, rows: &[Row]) -> Result<(), Refusal>
+    pub fn put_all(&mut self, alloc: Global, rm: u8, rows: &[Row]) -> Result<(), Refusal>
         ensures ok { OnOk result ((other : ℕ)
             → rows_of self.new other ≡ (if rm == other then fold put_row [] rows.now else rows_of self.old other)) }
         ensures err { IfErr result (λ e. e ≡ NoMemory) }

@@ -7,9 +7,10 @@ use Rattle.net_script.specs.Basics.{TxParts, number_of, Refusal, View, NodeId, R
 use Rattle.net_script.specs.Basics.{Answer, Done, Code, Value, NoValue, Xids, Stands, Refused, Change, Sent, Event, Kind}
 use Rattle.net_script.specs.declared.trace_lines.TraceLine.{TraceLine}
 use Rattle.net_script.specs.declared.trace_lines.TraceLine.TheVariants.{Cluster, Contents, Happened, Served, Changed, Datagram, Final}
+use Rattle.net_script.specs.declared.values.Sizes.{Sizes}
 use Rattle.net_script.specs.declared.values.Table.{Table}
 use Rattle.net_script.specs.Lines.{words, node_text}
-use Rattle.net_script.specs.Items.{IsContents, contents_words}
+use Rattle.net_script.specs.Items.{IsSizes, IsContents, sizes_words, contents_words}
 use Rattle.net_script.specs.Events.{IsNode, IsEvent, keyword_text, keyword_of, event_words}
 use Rattle.net_script.specs.Answers.{IsTold, IsAnswer, view_text, answer_word_text, answer_word, answer_args, answer_words}
 use Rattle.net_script.specs.Traces.{joined_words, serve_words, change_words, sent_words}
@@ -238,6 +239,12 @@ pub lines_have_one_text : HasOneText IsTraceLine whole_line
 lines_have_one_text = record { same = whole_injective }
 
 -- ---- by the first word
+
+pub only_cluster : (said : TraceLine) (rest : List (List ℕ)) → IsTraceLine said → codes "cluster" ∷ rest ≡ trace_line_words said
+    → (s : Sizes) × IsSizes s × (rest ≡ sizes_words s)
+only_cluster (Cluster s) rest is e = (s, is, cc)
+only_cluster (Happened d a) rest is e = absurd (event_apart (codes "cluster") d refl (cc))
+only_cluster said rest is e = absurd (differ _ _ (ap first_of e) refl)
 
 pub only_sent : (said : TraceLine) (rest : List (List ℕ)) → IsTraceLine said → codes "sent" ∷ rest ≡ trace_line_words said
     → (s : Sent) × IsSent s × (rest ≡ sent_words s)

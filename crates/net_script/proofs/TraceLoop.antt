@@ -1,6 +1,6 @@
 -- A trace, as far as it was read; and one reading of a text.
 use Rattle.std.proofs.Common.{◌≡◌, ℕ, ◌+◌, ◌<◌, ◌≤◌, true, false, inl, inr, List, [], ◌∷◌, ◌++◌, length, take, drop, map, Option, None}
-use Rattle.std.proofs.Common.{Some, Ok}
+use Rattle.std.proofs.Common.{Some}
 use Rattle.std.proofs.Common.{refl, sym, ap, subst, ◌∙◌, arith}
 use Rattle.std.specs.List.{flat_map}
 use Rattle.std.specs.Option.{ForSome}
@@ -12,18 +12,17 @@ use Rattle.net_script.specs.declared.trace_lines.TraceLine.{TraceLine}
 use Rattle.net_script.specs.Items.{IsSizes}
 use Rattle.net_script.specs.Traces.{trace_text}
 use Rattle.net_script.specs.TraceLines.{IsTraceLine, trace_line_text, whole_line, lines_of}
-use Rattle.net_script.specs.TraceReading.{IsBegun, IsTrace, ended_lines, CanBeginTrace, IsTraceFault, opened, lines_so_far, ReadsTraceLine}
+use Rattle.net_script.specs.TraceReading.{IsBegun, IsTrace, ended_lines, CanBeginTrace, IsTraceFault, opened, begun_with, lines_so_far}
 use Rattle.net_script.proofs.OneText.{texts_injective, texts_go_on}
 use Rattle.net_script.proofs.LawLemmas.{one_line}
 use Rattle.net_script.proofs.TraceLineLemmas.{lines_have_one_text, push_injective}
-use Rattle.net_script.proofs.DraftLemmas.{lines_same, opened_valid, lines_valid, so_far_valid}
+use Rattle.net_script.proofs.DraftLemmas.{lines_same, begins, none_begins, opened_valid, lines_valid, so_far_valid}
 use Rattle.net_script.proofs.EndedText.{ended_cut, ended_last, ended_more, ended_all, unended, text_is_lines}
 
 -- so many lines are read, which say this, and these bytes are left
 pub record Told (bytes rest : List ℕ) (number : ℕ) (trace : Option Trace) : Type 0 where
   pub text : bytes ≡ flat_map whole_line (lines_so_far trace) ++ rest
   pub counted : length (lines_so_far trace) ≡ number
-  pub short : number + length rest ≤ length bytes
   pub valid : ForSome trace IsBegun
 
 -- ---- texts of traces
@@ -134,26 +133,26 @@ unended_fault {rest = rest} so some none =
 -- no trace goes on with what the line says
 pub line_fault : {bytes rest : List ℕ} {number : ℕ} {trace : Option Trace} (line after : List ℕ) → Told bytes rest number trace
     → (rest ≡ line ++ 10 ∷ after) × (lacks 10 line ≡ true)
-    → ReadsTraceLine (lines_so_far trace) line (Ok None)
+    → ((said : TraceLine) → IsTraceLine said → line ≡ trace_line_text said → begun_with trace said ≡ None)
     → IsTraceFault bytes (number + 1)
-line_fault line after so cut read =
+line_fault {trace = trace} line after so cut none =
     fails_at (line ++ 10 ∷ []) (ended_lines after) so (ap ended_lines cut.0 ∙ ended_cut line after cut.1)
-    (λ said is e u valid more parts. read said is (push_injective line (trace_line_text said) 10 10 e) u valid more parts)
+    (λ said is e u valid more parts.
+    none_begins trace said u more so.valid valid (none said is (push_injective line (trace_line_text said) 10 10 e)) parts)
 
 -- one line more
-pub line_told : {bytes rest : List ℕ} {number : ℕ} {trace : Option Trace} (line after : List ℕ) (t : Trace) → Told bytes rest number trace
-    → (rest ≡ line ++ 10 ∷ after) × (lacks 10 line ≡ true)
-    → ReadsTraceLine (lines_so_far trace) line (Ok (Some t))
+pub line_told : {bytes rest : List ℕ} {number : ℕ} {trace : Option Trace} (line after : List ℕ) (said : TraceLine) (t : Trace)
+    → Told bytes rest number trace → (rest ≡ line ++ 10 ∷ after) × (lacks 10 line ≡ true)
+    → IsTraceLine said → line ≡ trace_line_text said → begun_with trace said ≡ Some t
     → Told bytes after (number + 1) (Some t)
-line_told {trace = trace} line after t so cut read =
+line_told {trace = trace} line after said t so cut is says grows =
     let seen : List TraceLine = lines_so_far trace in
-    let said : TraceLine = read.1 in
+    let grown = begins trace said t so.valid is grows in
     record {
-      text = so.text ∙ ap (λ (r : List ℕ). flat_map whole_line seen ++ r) (cut.0 ∙ ap (λ (l : List ℕ). l ++ 10 ∷ after) read.3)
-          ∙ one_more seen said after ∙ ap (λ (ls : List TraceLine). flat_map whole_line ls ++ after) (sym read.4);
-      counted = let before = so.counted in omega (arith, ap length read.4, length_push (lines_so_far trace) said);
-      short = let before = so.short in omega (arith, ap length cut.0, length-append line (10 ∷ after));
-      valid = λ u e. subst IsBegun (let same : t ≡ u = cc in same) read.0;
+      text = so.text ∙ ap (λ (r : List ℕ). flat_map whole_line seen ++ r) (cut.0 ∙ ap (λ (l : List ℕ). l ++ 10 ∷ after) says)
+          ∙ one_more seen said after ∙ ap (λ (ls : List TraceLine). flat_map whole_line ls ++ after) (sym grown.1);
+      counted = let before = so.counted in omega (arith, ap length grown.1, length_push (lines_so_far trace) said);
+      valid = λ u e. subst IsBegun (let same : t ≡ u = cc in same) grown.0;
     }
   where
     one_more : (seen : List TraceLine) (said : TraceLine) (after : List ℕ)
@@ -218,11 +217,3 @@ all_told t so none enough =
     let begun = so.valid t refl in
     let few = begun.few in
     (record { begun = begun; whole = omega arith }, whole_text so none ∙ sym (text_is_lines t))
-
-pub trace_unread : (before : List TraceLine) (line : List ℕ) (o : Option Trace) → o ≡ None → ReadsTraceLine before line (Ok o)
-    → ReadsTraceLine before line (Ok None)
-trace_unread before line o e read = subst (λ (p : Option Trace). ReadsTraceLine before line (Ok p)) e read
-
-pub trace_read : (before : List TraceLine) (line : List ℕ) (o : Option Trace) (t : Trace) → o ≡ Some t → ReadsTraceLine before line (Ok o)
-    → ReadsTraceLine before line (Ok (Some t))
-trace_read before line o t e read = subst (λ (p : Option Trace). ReadsTraceLine before line (Ok p)) e read

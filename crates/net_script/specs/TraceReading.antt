@@ -1,7 +1,7 @@
 -- Which texts are those of traces, and which line of one that is none is the first at fault.
 use Rattle.std.specs.Prelude.{◌≡◌, ◌≢◌, ◌⊎◌, ℕ, ◌+◌, ◌<◌, ◌≤◌, Bool, true, false, not, ◌==◌, ◌&&◌, nat_lt, if◌then◌else◌, List, [], ◌∷◌}
 use Rattle.std.specs.Prelude.{◌++◌}
-use Rattle.std.specs.Prelude.{length, Option, Some, None, Result, Ok, Err}
+use Rattle.std.specs.Prelude.{length, Option, Some, None}
 use Rattle.std.specs.List.{All, AllPairs, list_all, onto_first}
 use Rattle.std.specs.Option.{ForSome, option_map}
 use Rattle.net_script.specs.Basics.{Refusal, NoMemory, BadScript, BadConfig, Event, Answer, Change, Sent}
@@ -16,7 +16,7 @@ use Rattle.net_script.specs.Items.{IsSizes, IsContents, is_in_limits}
 use Rattle.net_script.specs.Answers.{IsAnswer}
 use Rattle.net_script.specs.Scripts.{FailsAt}
 use Rattle.net_script.specs.Traces.{trace_text}
-use Rattle.net_script.specs.TraceLines.{IsChange, IsSent, AreFinalRows, IsTraceLine, trace_line_words, trace_line_text, lines_of}
+use Rattle.net_script.specs.TraceLines.{IsChange, IsSent, AreFinalRows, lines_of}
 
 -- ---- traces
 
@@ -89,7 +89,7 @@ abbrev pub RefusesTrace : List ℕ → Refusal → Type 0
 RefusesTrace bytes e =
     (e ≡ NoMemory) ⊎ ((line : ℕ) × (e ≡ BadScript line) × IsTraceFault bytes line) ⊎ ((e ≡ BadConfig) × IsTooLarge bytes)
 
--- ---- for the reader of one line: a trace so far, and one line more
+-- ---- a trace so far, and one line more
 
 -- whether nothing stands there
 abbrev pub is_empty : {X : Type 0} → List X → Bool
@@ -153,23 +153,7 @@ begun_with None (Cluster sizes) = Some (opened sizes)
 begun_with None said = None
 begun_with (Some t) said = with_line t said
 
--- what the words of one more line make of what was read so far: they say one thing of these, with which it goes on; nothing, where it
--- goes on with none
-abbrev pub ReadsMore : (TraceLine → Type 0) → Option Trace → List (List ℕ) → Result (Option Trace) Refusal → Type 0
-ReadsMore IsIn before ws (Ok (Some t)) = (said : TraceLine) × IsIn said × (ws ≡ trace_line_words said) × (Some t ≡ begun_with before said)
-ReadsMore IsIn before ws (Ok None) = (said : TraceLine) → IsIn said → ws ≡ trace_line_words said → None ≡ begun_with before said
-ReadsMore IsIn before ws (Err e) = e ≡ NoMemory
-
 -- the lines so far
 abbrev pub lines_so_far : Option Trace → List TraceLine
 lines_so_far None = []
 lines_so_far (Some t) = lines_of t
-
--- what one more line makes of those before it; nothing, where no trace goes on with it, whole or not
-abbrev pub ReadsTraceLine : List TraceLine → List ℕ → Result (Option Trace) Refusal → Type 0
-ReadsTraceLine before line (Ok (Some t)) =
-    IsBegun t × (said : TraceLine) × IsTraceLine said × (line ≡ trace_line_text said) × (lines_of t ≡ before ++ said ∷ [])
-ReadsTraceLine before line (Ok None) =
-    (said : TraceLine) → IsTraceLine said → line ≡ trace_line_text said → (t : Trace) → IsBegun t → (more : List TraceLine)
-    → lines_of t ≢ before ++ said ∷ more
-ReadsTraceLine before line (Err e) = e ≡ NoMemory

@@ -1,11 +1,12 @@
-//! Traces as far as they were read, and what may follow.
+//! Traces made line by line.
 
 ghost use Rattle.std.specs.Prelude.{◌≡◌, [], ◌∷◌, ◌++◌, not, ◌==◌, if◌then◌else◌, Some, None, IfErr, OnOk, MatchResult};
 ghost use Rattle.std.specs.List.{list_all};
 ghost use Rattle.net_script.specs.Basics.{NoMemory};
 ghost use Rattle.net_script.specs.declared.trace_lines.TraceLine.TheVariants.{Contents, Happened, Served, Changed, Datagram, Final};
-ghost use Rattle.net_script.specs.TraceReading.{is_bare, with_now, with_sent, at_last, takes_table, takes_rows, with_line};
+ghost use Rattle.net_script.specs.TraceReading.{is_bare, with_now, with_sent, at_last, takes_table, takes_rows, with_line, begun_with};
 
+use crate::trace_lines::TraceLine;
 use crate::values::{Entry, Table, Trace};
 use protocol::{Answer, Change, Event, NodeId, Row, Sent, Step};
 use std::alloc::Global;
@@ -82,7 +83,7 @@ fn takes_table(trace: &Trace, table: &Table) -> bool
 
 /// The trace so far with the first rows of a resource manager, if they may follow.
 #[inline(never)]
-pub(crate) fn with_table(trace: Trace, table: Table) -> Result<Option<Trace>, Refusal>
+fn with_table(trace: Trace, table: Table) -> Result<Option<Trace>, Refusal>
     ensures { MatchResult result (λ r. r ≡ with_line trace (Contents table)) (λ e. e ≡ NoMemory) }
 {
     if !takes_table(&trace, &table) {
@@ -100,7 +101,7 @@ pub(crate) fn with_table(trace: Trace, table: Table) -> Result<Option<Trace>, Re
 
 /// The trace so far with an event and its answer, if it may follow.
 #[inline(never)]
-pub(crate) fn with_step(
+fn with_step(
     alloc: Global,
     trace: Trace,
     event: Event,
@@ -134,7 +135,7 @@ pub(crate) fn with_step(
 
 /// The trace so far with a serve and its answer, if it may follow.
 #[inline(never)]
-pub(crate) fn with_serve(
+fn with_serve(
     alloc: Global,
     trace: Trace,
     node: NodeId,
@@ -197,7 +198,7 @@ fn sent_by_last(
 }
 
 /// The trace so far with a changed view, if it may follow.
-pub(crate) fn with_change(trace: Trace, change: Change) -> Option<Trace>
+fn with_change(trace: Trace, change: Change) -> Option<Trace>
     ensures { result ≡ with_line trace (Changed change) }
 {
     let Trace {
@@ -221,11 +222,7 @@ pub(crate) fn with_change(trace: Trace, change: Change) -> Option<Trace>
 }
 
 /// The trace so far with a datagram, if it may follow.
-pub(crate) fn with_one_sent(
-    alloc: Global,
-    trace: Trace,
-    datagram: Sent,
-) -> Result<Option<Trace>, Refusal>
+fn with_one_sent(alloc: Global, trace: Trace, datagram: Sent) -> Result<Option<Trace>, Refusal>
     ensures { MatchResult result (λ r. r ≡ with_line trace (Datagram datagram)) (λ e. e ≡ NoMemory) }
 {
     let Trace {
@@ -258,7 +255,7 @@ fn takes_rows(trace: &Trace, rm: u8) -> bool
 
 /// The trace so far with the last rows of a resource manager, if they may follow.
 #[inline(never)]
-pub(crate) fn with_rows(trace: Trace, rm: u8, rows: Sequence<Row>) -> Result<Option<Trace>, Refusal>
+fn with_rows(trace: Trace, rm: u8, rows: Sequence<Row>) -> Result<Option<Trace>, Refusal>
     ensures { MatchResult result (λ r. r ≡ with_line trace (Final rm rows)) (λ e. e ≡ NoMemory) }
 {
     if !takes_rows(&trace, rm) {
@@ -272,4 +269,41 @@ pub(crate) fn with_rows(trace: Trace, rm: u8, rows: Sequence<Row>) -> Result<Opt
         entries: trace.entries,
         finals: Sequence::new(finals),
     }))
+}
+
+/// The trace of which this is the first line, if it may be that.
+fn opened(alloc: Global, said: TraceLine) -> Option<Trace>
+    ensures { result ≡ begun_with None said }
+{
+    let TraceLine::Cluster(sizes) = said else {
+        return None;
+    };
+    Some(Trace {
+        sizes,
+        tables: Sequence::new(Vec::new(alloc)),
+        entries: Sequence::new(Vec::new(alloc)),
+        finals: Sequence::new(Vec::new(alloc)),
+    })
+}
+
+/// The trace so far with one line more, if it may follow. Refused: `NoMemory` alone.
+pub(crate) fn with_line(
+    alloc: Global,
+    trace: Option<Trace>,
+    said: TraceLine,
+) -> Result<Option<Trace>, Refusal>
+    ensures { MatchResult result (λ r. r ≡ begun_with trace said) (λ e. e ≡ NoMemory) }
+{
+    let Some(trace) = trace else {
+        return Ok(opened(alloc, said));
+    };
+    match said {
+        TraceLine::Cluster(_) => Ok(None),
+        TraceLine::Contents(table) => with_table(trace, table),
+        TraceLine::Happened(event, answer) => with_step(alloc, trace, event, answer),
+        TraceLine::Served(node, answer) => with_serve(alloc, trace, node, answer),
+        TraceLine::Changed(change) => Ok(with_change(trace, change)),
+        TraceLine::Datagram(sent) => with_one_sent(alloc, trace, sent),
+        TraceLine::Final(rm, rows) => with_rows(trace, rm, rows),
+    }
 }

@@ -15,7 +15,7 @@ use crate::words::next_word;
 use protocol::{Answer, Change, Event, NodeId, Row, Sent};
 use xid::{Sequence, text};
 
-/// What one line of a trace says: the contracts of its readers speak of it.
+/// What one line of a trace says.
 #[derive(Debug, Drop)]
 pub enum TraceLine {
     /// How many nodes there are.

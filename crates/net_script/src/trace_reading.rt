@@ -2,23 +2,14 @@
 
 ghost use Rattle.std.specs.Prelude.{◌≡◌, ℕ, List, IfOk, IfErr};
 ghost use Rattle.net_script.specs.declared.values.Trace.{Trace};
-ghost use Rattle.net_script.specs.Items.{is_in_limits};
 ghost use Rattle.net_script.specs.Traces.{trace_text};
 ghost use Rattle.net_script.specs.TraceReading.{IsTrace, IsTraceFault, SpellsTrace, RefusesTrace};
 
-use crate::trace_more::read_more;
-use crate::values::{Sizes, Trace};
+use crate::trace_drafts::with_line;
+use crate::trace_readers::TraceReader;
+use crate::values::Trace;
 use std::alloc::Global;
-use xid::{MAX_LEADERS, MAX_MANAGERS, Refusal, text};
-
-/// Whether there may be so many nodes.
-fn is_in_limits(sizes: Sizes) -> bool
-    ensures { result ≡ is_in_limits sizes }
-{
-    matches!(sizes.acceptors, 1 | 3 | 5 | 7)
-        && (1..=u32::from(MAX_LEADERS)).contains(&sizes.leaders)
-        && (1..=u32::from(MAX_MANAGERS)).contains(&sizes.rms)
-}
+use xid::Refusal;
 
 /// The trace of which this is the text, as `write_trace` writes it. Refused: `BadScript` with the first line at fault, counted from 1
 /// (a last line without its end is at fault; where all lines are right, but some are missing, it is the one after the last; last rows of
@@ -29,30 +20,12 @@ pub fn read_trace(alloc: Global, bytes: &[u8]) -> Result<Trace, Refusal>
     ensures ok { IfOk result (λ t. SpellsTrace bytes.now t) }
     ensures err { IfErr result (λ e. RefusesTrace bytes.now e) }
 {
-    let mut known = None;
+    let mut reader = TraceReader::new(bytes);
     let mut trace = None;
-    let mut number = 0;
-    let mut rest = bytes;
-    'lines: while !rest.is_empty() {
-        number += 1;
-        let Some((line, after)) = text::split_once(rest, b'\n') else {
-            return Err(Refusal::BadScript { line: number });
-        };
-        let Some(longer) = read_more(alloc, &mut known, trace, line)? else {
-            return Err(Refusal::BadScript { line: number });
-        };
-        trace = Some(longer);
-        rest = after;
+    while let Some(said) = reader.next(alloc)? {
+        trace = with_line(alloc, trace, said)?;
     }
-    let Some(trace) = trace else {
-        return Err(Refusal::BadScript { line: number + 1 });
-    };
-    if trace.finals.as_slice().len() < trace.sizes.rms as usize {
-        return Err(Refusal::BadScript { line: number + 1 });
-    }
-    if !is_in_limits(trace.sizes) {
-        return Err(Refusal::BadConfig);
-    }
+    let Some(trace) = trace else { unreachable!() };
     Ok(trace)
 }
 

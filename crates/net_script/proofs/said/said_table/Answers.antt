@@ -1,11 +1,8 @@
-use Rattle.std.proofs.Common.{Some}
-use Rattle.net_script.specs.declared.trace_lines.TraceLine.TheVariants.{Contents}
 use Rattle.net_script.specs.Lines.{words}
 use Rattle.net_script.specs.Items.{IsContents, contents_words}
 use Rattle.net_script.proofs.WordLemmas.{reads_none, reads_some}
 use Rattle.net_script.proofs.TraceLineLemmas.{only_table}
-use Rattle.net_script.proofs.MoreLines.{told, same_line}
-use Rattle.net_script.proofs.trace_more.more_table.Goals as goal
+use Rattle.net_script.proofs.said.said_table.Goals as goal
 
 pub returns-in_default : goal.returns-in_default
 returns-in_default c = λ said is e.
@@ -17,4 +14,4 @@ returns-in_default c = λ said is e.
 pub returns : goal.returns
 returns c =
     let table = reads_some _ _ _ _ c.in-Some.table c.in-Some.is c.in_ok-table.ensures in
-    told (Some c.args.trace) (Contents c.in-Some.table) _ c.with_table.result same_line table.0 (cc (table.1)) c.with_table.ensures
+    (table.0, cc (table.1))

@@ -1,12 +1,10 @@
-use Rattle.std.proofs.Common.{rules, ◌≡◌, ◌<◌, ◌∷◌, List, ℕ, Some, codes}
-use Rattle.net_script.specs.declared.trace_lines.TraceLine.TheVariants.{Final}
+use Rattle.std.proofs.Common.{rules, ◌≡◌, ◌<◌, ◌∷◌, List, ℕ, codes}
 use Rattle.net_script.specs.Lines.{words}
 use Rattle.net_script.specs.Items.{rows_words}
 use Rattle.net_script.specs.TraceLines.{AreFinalRows}
 use Rattle.net_script.proofs.WordLemmas.{reads_none, reads_some}
 use Rattle.net_script.proofs.TraceLineLemmas.{only_final, words_after}
-use Rattle.net_script.proofs.MoreLines.{told, same_line}
-use Rattle.net_script.proofs.trace_more.more_rows.Goals as goal
+use Rattle.net_script.proofs.said.said_rows.Goals as goal
 
 rows_told : {args rest others : List (List ℕ)} {word : List ℕ} → args ≡ word ∷ rest → rest ≡ others
     → codes "final" ∷ args ≡ codes "final" ∷ word ∷ others
@@ -29,5 +27,4 @@ pub returns : goal.returns
 returns c =
     let rows = reads_some _ _ _ _ c.in-Some-2.rows c.in-Some-2.is c.in_ok-rows.ensures in
     let small : c.in-Some.rm < 256 = search rules in
-    told (Some c.args.trace) (Final c.in-Some.rm c.in-Some-2.rows) _ c.with_rows.result same_line (small, rows.0)
-    (rows_told c.in-Some.ensures rows.1) c.with_rows.ensures
+    ((small, rows.0), rows_told c.in-Some.ensures rows.1)

@@ -1,12 +1,9 @@
-use Rattle.std.proofs.Common.{Some}
-use Rattle.net_script.specs.declared.trace_lines.TraceLine.TheVariants.{Happened, Served}
 use Rattle.net_script.specs.Lines.{words}
 use Rattle.net_script.specs.Events.{IsEvent, event_words}
 use Rattle.net_script.specs.Answers.{IsAnswer, answer_words}
 use Rattle.net_script.proofs.WordLemmas.{reads_none, reads_some}
 use Rattle.net_script.proofs.OutcomeLemmas.{arrow_fails, answer_fails, event_fails, event_told, serve_told}
-use Rattle.net_script.proofs.MoreLines.{told, outcome_line}
-use Rattle.net_script.proofs.trace_more.more_outcome.Goals as goal
+use Rattle.net_script.proofs.said.said_outcome.Goals as goal
 
 pub returns-in_default : goal.returns-in_default
 returns-in_default c = λ said is e. absurd (arrow_fails c.args.line.now c.requires c.in_default.ensures said is e)
@@ -23,9 +20,7 @@ returns-in-Some-served c =
     serve_told c.args.line.now c.in-Some.front.now c.in-Some.back.now c.in-Some-served.node c.in-Some-2.answer c.requires
     c.in-Some.ensures.0
     c.in-Some-served.ensures answer in
-    told (Some c.args.trace) (Served c.in-Some-served.node c.in-Some-2.answer) (words c.args.line.now) c.with_serve.result outcome_line
-    says.0
-    says.1 c.with_serve.ensures
+    (says.0, says.1)
 
 pub returns-in_default-3 : goal.returns-in_default-3
 returns-in_default-3 c = λ said is e.
@@ -40,6 +35,4 @@ returns c =
     event_told c.args.line.now c.in-Some.front.now c.in-Some.back.now c.in-Some-3.event c.in-Some-2.answer c.requires c.in-Some.ensures.0
     event
     answer in
-    told (Some c.args.trace) (Happened c.in-Some-3.event c.in-Some-2.answer) (words c.args.line.now) c.with_step.result outcome_line says.0
-    says.1
-    c.with_step.ensures
+    (says.0, says.1)

@@ -1,0 +1,123 @@
+//! An auditor, who hears a trace line by line.
+
+ghost use Rattle.std.specs.Prelude.{◌≡◌, List, [], ◌∷◌, ◌++◌, Option, None, Some, IfOk, IfErr, OnOk};
+ghost use Rattle.xid.specs.declared.refusals.Refusal.TheVariants.{NoMemory};
+ghost use Rattle.net_script.specs.TraceReading.{bare_step, with_now, begun_with};
+ghost use Rattle.audit.specs.Words.{Entry, Table, Trace, Row};
+ghost use Rattle.audit.specs.Consistent.{is_consistent};
+ghost use Rattle.audit.specs.Hearing.{Hears, HasHeard};
+
+use crate::ledger::Ledger;
+use crate::serial::is_serial;
+use net_script::{Table, TraceLine};
+use protocol::{Answer, Change, Event, Row};
+use std::alloc::Global;
+use xid::{Refusal, Sequence};
+
+/// What the lines so far come to. Where one of them isn't right, no more is kept.
+#[derive(Debug, Drop)]
+pub struct Auditor {
+    /// The first tables.
+    tables: Vec<Table>,
+    /// What the entries come to.
+    ledger: Ledger,
+    /// The last rows.
+    finals: Vec<Sequence<Row>>,
+    /// Whether each entry is right.
+    pub(crate) is_right: bool,
+}
+
+impl Auditor {
+    /// No line yet. Refused: `NoMemory` alone.
+    pub fn new(alloc: Global) -> Result<Auditor, Refusal>
+        ensures ok { IfOk result (λ auditor. HasHeard auditor None) }
+        ensures err { IfErr result (λ e. e ≡ NoMemory) }
+    {
+        Ok(Auditor {
+            tables: Vec::new(alloc),
+            ledger: Ledger::new(alloc, &[])?,
+            finals: Vec::new(alloc),
+            is_right: true,
+        })
+    }
+
+    /// Hears one line more. Refused: `NoMemory` alone.
+    pub fn take(&mut self, alloc: Global, said: TraceLine) -> Result<(), Refusal>
+        ensures ok { OnOk result ((before : Option Trace) (after : Trace) → HasHeard self.old before
+            → Some after ≡ begun_with before said → HasHeard self.new (Some after)) }
+        ensures err { IfErr result (λ e. e ≡ NoMemory) }
+    {
+        match said {
+            TraceLine::Cluster(_) => Ok(()),
+            TraceLine::Contents(table) => self.take_table(alloc, table),
+            TraceLine::Happened(event, answer) => self.take_event(alloc, &event, &answer),
+            TraceLine::Served(..) => Ok(()),
+            TraceLine::Changed(change) => self.take_change(alloc, &change),
+            TraceLine::Datagram(_) => Ok(()),
+            TraceLine::Final(_, rows) => self.take_rows(rows),
+        }
+    }
+
+    /// Hears of a first table. Refused: `NoMemory` alone.
+    fn take_table(&mut self, alloc: Global, table: Table) -> Result<(), Refusal>
+        ensures ok { OnOk result ((tables : List Table) → Hears self.old tables [] [] → Hears self.new (tables ++ table ∷ []) [] []) }
+        ensures err { IfErr result (λ e. e ≡ NoMemory) }
+    {
+        self.ledger.take_table(alloc, &table)?;
+        self.tables.push(table)?;
+        Ok(())
+    }
+
+    /// Hears of an event and its answer. Refused: `NoMemory` alone.
+    fn take_event(&mut self, alloc: Global, event: &Event, answer: &Answer) -> Result<(), Refusal>
+        ensures ok { OnOk result ((tables : List Table) (entries : List Entry) (finals : List (List Row))
+            → Hears self.old tables entries finals → Hears self.new tables (entries ++ bare_step event.now answer.now ∷ []) finals) }
+        ensures err { IfErr result (λ e. e ≡ NoMemory) }
+    {
+        if !self.is_right {
+            return Ok(());
+        }
+        self.is_right = self.ledger.take_event(alloc, event, answer)?;
+        Ok(())
+    }
+
+    /// Hears of a changed view. Refused: `NoMemory` alone.
+    fn take_change(&mut self, alloc: Global, change: &Change) -> Result<(), Refusal>
+        ensures ok { OnOk result ((tables : List Table) (entries : List Entry) (finals : List (List Row)) (a b : Entry)
+            → with_now change.now a ≡ Some b
+            → Hears self.old tables (entries ++ a ∷ []) finals → Hears self.new tables (entries ++ b ∷ []) finals) }
+        ensures err { IfErr result (λ e. e ≡ NoMemory) }
+    {
+        if !self.is_right {
+            return Ok(());
+        }
+        self.is_right = self.ledger.make_change(alloc, change)?;
+        Ok(())
+    }
+
+    /// Hears of the last rows of the next resource manager. Refused: `NoMemory` alone.
+    fn take_rows(&mut self, rows: Sequence<Row>) -> Result<(), Refusal>
+        ensures ok { OnOk result ((tables : List Table) (entries : List Entry) (finals : List (List Row))
+            → Hears self.old tables entries finals → Hears self.new tables entries (finals ++ rows ∷ [])) }
+        ensures err { IfErr result (λ e. e ≡ NoMemory) }
+    {
+        if self.is_right {
+            self.finals.push(rows)?;
+        }
+        Ok(())
+    }
+
+    /// Whether the trace is consistent that was heard. Refused: `NoMemory` alone.
+    pub fn verdict(&self, alloc: Global) -> Result<bool, Refusal>
+        ensures ok { IfOk result (λ yes. (t : Trace) → HasHeard self.now (Some t) → yes ≡ is_consistent t) }
+        ensures err { IfErr result (λ e. e ≡ NoMemory) }
+    {
+        if !self.is_right {
+            return Ok(false);
+        }
+        if !self.ledger.tables.are(&self.finals) {
+            return Ok(false);
+        }
+        is_serial(alloc, &self.ledger, &self.tables, &self.finals)
+    }
+}

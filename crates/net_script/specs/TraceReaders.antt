@@ -1,0 +1,113 @@
+-- What a reader of a trace's lines keeps, and what it gives.
+use Rattle.std.specs.Prelude.{◌≡◌, ℕ, ◌+◌, ◌<◌, Bool, true, false, not, ◌==◌, ◌&&◌, nat_lt, if◌then◌else◌, List, [], ◌∷◌, ◌++◌, length, map}
+use Rattle.std.specs.Prelude.{Option, Some, None, Result, Ok, Err}
+use Rattle.std.specs.List.{list_all, flat_map}
+use Rattle.std.specs.Option.{ForSome, option_map}
+use Rattle.net_script.specs.Basics.{Refusal}
+use Rattle.net_script.specs.declared.values.Sizes.{Sizes}
+use Rattle.net_script.specs.declared.values.Entry.{Entry}
+use Rattle.net_script.specs.declared.values.Table.{Table}
+use Rattle.net_script.specs.declared.values.Trace.{Trace}
+use Rattle.net_script.specs.declared.so_far.LastEntry.{LastEntry}
+use Rattle.net_script.specs.declared.so_far.SoFar.{SoFar}
+use Rattle.net_script.specs.declared.trace_lines.TraceLine.{TraceLine}
+use Rattle.net_script.specs.declared.trace_lines.TraceLine.TheVariants.{Cluster, Contents, Happened, Served, Changed, Datagram, Final}
+use Rattle.net_script.specs.TraceLines.{whole_line}
+use Rattle.net_script.specs.TraceReading.{IsBegun, is_bare, lines_so_far, begun_with, SpellsTrace, RefusesTrace}
+
+-- ---- which lines may follow
+
+-- how much an entry tells
+abbrev pub told_by : Entry → LastEntry
+told_by (Entry.Step step) = if is_bare step.now step.sent then LastEntry.Bare else LastEntry.Full
+told_by (Entry.Serve node answer now sent) = if is_bare now sent then LastEntry.Bare else LastEntry.Full
+
+-- how much the last of some entries tells
+abbrev pub last_of : List Entry → LastEntry
+last_of [] = LastEntry.Missing
+last_of (entry ∷ []) = told_by entry
+last_of (entry ∷ next ∷ rest) = last_of (next ∷ rest)
+
+-- what of a trace so far says which lines may follow
+abbrev pub so_far_of : Trace → SoFar
+so_far_of t = record { sizes = t.sizes; managers = map (λ (table : Table). table.rm) t.tables; last = last_of t.entries; finals = length t.finals }
+
+-- the same where the cluster alone was told
+abbrev pub opened_so_far : Sizes → SoFar
+opened_so_far sizes = record { sizes = sizes; managers = []; last = LastEntry.Missing; finals = 0 }
+
+-- whether nothing happened yet
+abbrev pub is_missing : LastEntry → Bool
+is_missing LastEntry.Missing = true
+is_missing other = false
+
+-- whether the last that happened has its answer alone
+abbrev pub is_alone : LastEntry → Bool
+is_alone LastEntry.Bare = true
+is_alone other = false
+
+-- whether a first table of this resource manager may follow
+abbrev pub takes_table_of : SoFar → ℕ → Bool
+takes_table_of s rm = is_missing s.last && (s.finals == 0) && nat_lt rm s.sizes.rms && list_all (λ other. not (other == rm)) s.managers
+
+-- whether a line may follow
+abbrev pub may_follow : SoFar → TraceLine → Bool
+may_follow s (Cluster sizes) = false
+may_follow s (Contents table) = takes_table_of s table.rm
+may_follow s (Happened event answer) = s.finals == 0
+may_follow s (Served node answer) = s.finals == 0
+may_follow s (Changed change) = (s.finals == 0) && is_alone s.last
+may_follow s (Datagram sent) = (s.finals == 0) && not (is_missing s.last)
+may_follow s (Final rm rows) = (rm == s.finals) && nat_lt s.finals s.sizes.rms
+
+-- the same after a line that may follow
+abbrev pub after_line : SoFar → TraceLine → SoFar
+after_line s (Cluster sizes) = s
+after_line s (Contents table) = record s { managers = s.managers ++ table.rm ∷ [] }
+after_line s (Happened event answer) = record s { last = LastEntry.Bare }
+after_line s (Served node answer) = record s { last = LastEntry.Bare }
+after_line s (Changed change) = record s { last = LastEntry.Full }
+after_line s (Datagram sent) = record s { last = LastEntry.Full }
+after_line s (Final rm rows) = record s { finals = rm + 1 }
+
+-- the same after one more line, the first or another; none, where it can't follow
+abbrev pub follow : Option SoFar → TraceLine → Option SoFar
+follow None (Cluster sizes) = Some (opened_so_far sizes)
+follow None said = None
+follow (Some s) said = if may_follow s said then Some (after_line s said) else None
+
+-- ---- readers
+
+-- a reader: all bytes, those that are left, how many lines it has read, and what it keeps of them
+pub record ReaderParts : Type 0 where
+  pub bytes : List ℕ
+  pub rest : List ℕ
+  pub number : ℕ
+  pub so_far : Option SoFar
+
+-- a reader has read the lines of this trace so far; none, where it has read no line
+pub record HasRead (reader : ReaderParts) (trace : Option Trace) : Type 0 where
+  pub text : reader.bytes ≡ flat_map whole_line (lines_so_far trace) ++ reader.rest
+  pub counted : length (lines_so_far trace) ≡ reader.number
+  pub valid : ForSome trace IsBegun
+  pub kept : reader.so_far ≡ option_map so_far_of trace
+
+-- a reader with one line more, with which the trace so far goes on
+pub record ReadsOn (old new : ReaderParts) (trace : Option Trace) (said : TraceLine) : Type 0 where
+  pub bytes : new.bytes ≡ old.bytes
+  pub shorter : length new.rest < length old.rest
+  pub longer : Trace
+  pub grown : Some longer ≡ begun_with trace said
+  pub read : HasRead new (Some longer)
+
+-- the bytes are the text of the trace so far
+pub record IsRead (bytes : List ℕ) (trace : Option Trace) : Type 0 where
+  pub whole : Trace
+  pub is : trace ≡ Some whole
+  pub spelled : SpellsTrace bytes whole
+
+-- what a reader gives next, where it has read this
+abbrev pub GivesNext : (old new : ReaderParts) → Option Trace → Result (Option TraceLine) Refusal → Type 0
+GivesNext old new trace (Ok (Some said)) = ReadsOn old new trace said
+GivesNext old new trace (Ok None) = IsRead old.bytes trace
+GivesNext old new trace (Err e) = RefusesTrace old.bytes e

@@ -1,0 +1,105 @@
+//! A trace's text, read a line at a time.
+
+ghost use Rattle.std.specs.Prelude.{◌≡◌, [], None, Option, MatchResult};
+ghost use Rattle.net_script.specs.declared.values.Trace.{Trace};
+ghost use Rattle.net_script.specs.Items.{is_in_limits};
+ghost use Rattle.net_script.specs.TraceReading.{RefusesTrace};
+ghost use Rattle.net_script.specs.TraceReaders.{HasRead, IsRead, GivesNext};
+
+use crate::known::KnownTx;
+use crate::said::read_said;
+use crate::so_far::{SoFar, follow};
+use crate::trace_lines::TraceLine;
+use crate::values::Sizes;
+use std::alloc::Global;
+use std::marker::Model;
+use xid::{MAX_LEADERS, MAX_MANAGERS, Refusal, text};
+
+/// A reader of a trace's text, which gives one line after another and keeps none of them.
+#[derive(Debug, Drop)]
+pub struct TraceReader<'a> {
+    bytes: &'a [u8],
+    rest: &'a [u8],
+    number: usize,
+    known: Option<KnownTx>,
+    so_far: Option<SoFar>,
+}
+
+impl<'a> Model for TraceReader<'a> {
+    ghost use Rattle.std.specs.Prelude.{◌+◌, ◌≤◌, length};
+    ghost use Rattle.net_script.specs.TraceReaders.{ReaderParts};
+
+    ghost Value = { ReaderParts };
+
+    ghost view = { λ r. record { bytes = r.bytes.now; rest = r.rest.now; number = r.number; so_far = r.so_far } };
+
+    ghost invariant = { λ r. r.number + length r.rest.now ≤ length r.bytes.now };
+}
+
+/// Whether there may be so many nodes.
+fn is_in_limits(sizes: Sizes) -> bool
+    ensures { result ≡ is_in_limits sizes }
+{
+    matches!(sizes.acceptors, 1 | 3 | 5 | 7)
+        && (1..=u32::from(MAX_LEADERS)).contains(&sizes.leaders)
+        && (1..=u32::from(MAX_MANAGERS)).contains(&sizes.rms)
+}
+
+impl<'a> TraceReader<'a> {
+    /// A reader of these bytes, none of which it has read.
+    pub fn new(bytes: &'a [u8]) -> TraceReader<'a>
+        ensures bytes { result.bytes ≡ bytes.now }
+        ensures none { HasRead result None }
+    {
+        TraceReader {
+            bytes,
+            rest: bytes,
+            number: 0,
+            known: None,
+            so_far: None,
+        }
+    }
+
+    /// The next line, or none where all bytes are read, and are the text of the trace that the lines so far tell. Refused at the same
+    /// places as `read_trace`, and by the same refusals.
+    pub fn next(&mut self, alloc: Global) -> Result<Option<TraceLine>, Refusal>
+        ensures { (trace : Option Trace) → HasRead self.old trace → GivesNext self.old self.new trace result }
+    {
+        if self.rest.is_empty() {
+            self.end()?;
+            return Ok(None);
+        }
+        let line = self.number + 1;
+        let Some((text, after)) = text::split_once(self.rest, b'\n') else {
+            return Err(Refusal::BadScript { line });
+        };
+        let Some(said) = read_said(alloc, &mut self.known, text)? else {
+            return Err(Refusal::BadScript { line });
+        };
+        if !follow(alloc, &mut self.so_far, &said)? {
+            return Err(Refusal::BadScript { line });
+        }
+        self.rest = after;
+        self.number = line;
+        Ok(Some(said))
+    }
+
+    /// Whether nothing is missing where all bytes are read.
+    fn end(&self) -> Result<(), Refusal>
+        requires { self.now.rest ≡ [] }
+        ensures { (trace : Option Trace) → HasRead self.now trace
+            → MatchResult result (λ _. IsRead self.now.bytes trace) (λ e. RefusesTrace self.now.bytes e) }
+    {
+        let line = self.number + 1;
+        let Some(so_far) = &self.so_far else {
+            return Err(Refusal::BadScript { line });
+        };
+        if so_far.finals < so_far.sizes.rms as usize {
+            return Err(Refusal::BadScript { line });
+        }
+        if !is_in_limits(so_far.sizes) {
+            return Err(Refusal::BadConfig);
+        }
+        Ok(())
+    }
+}
