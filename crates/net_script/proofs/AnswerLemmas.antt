@@ -1,51 +1,49 @@
 -- Answers: one value for one list of words.
-use Rattle.std.proofs.Common.{◌≡◌, ℕ, ◌<◌, ◌^◌, Bool, true, false, ◌||◌, List, [], ◌∷◌, refl, sym, ap, ◌∙◌, arith, decimal, codes}
+use Rattle.std.proofs.Common.{◌≡◌, ℕ, ◌<◌, ◌^◌, Bool, true, false, cond, eqb, ◌||◌, List, ◌∷◌, refl, sym, ap, subst, ◌∙◌, arith, decimal, codes}
 use Rattle.std.specs.Fmt.{digits, signed_decimal}
 use Rattle.std.specs.Str.{bytes_eq}
 use Rattle.std.proofs.lemmas.Fmt.{decimal_injective}
-use Rattle.net_script.specs.Basics.{IsXid, xid_text, code_number, number_of, XaCode, Refusal, Standing, Answer, Refused}
-use Rattle.net_script.specs.declared.answer_words.AnswerWord.{AnswerWord}
-use Rattle.net_script.specs.Answers.{IsTold, IsAnswer, IsAnswerBy, standing_text, code_text, answer_word_text, answer_word, answer_args}
-use Rattle.net_script.specs.Answers.{answer_words}
+use Rattle.net_script.specs.Basics.{code_number, number_of, XaCode, Refusal, Standing}
+use Rattle.net_script.specs.Basics.{Answer, Done, Code, Value, NoValue, Xids, Stands, Refused}
+use Rattle.net_script.specs.Answers.{IsTold, IsAnswer, standing_text, code_text, answer_words}
+use Rattle.net_script.specs.Spelling.{IsCommon, IsSpelling, no_words, ◌&◌, list_of_words}
+use Rattle.net_script.specs.Laws.{literal, number_common, bytes_spelling, xid_spelling}
 use Rattle.net_script.proofs.WordLemmas.{differ}
-use Rattle.net_script.proofs.NameLemmas.{xid_injective}
-use Rattle.net_script.proofs.OneText.{HasOneText}
-
-pub xids_have_one_text : HasOneText IsXid xid_text
-xids_have_one_text = record { same = xid_injective }
+use Rattle.net_script.proofs.Arms.{Arm, IsSaid, arm_said, apart, first_word}
 
 pub code_digits : (c : XaCode) → signed_decimal (code_number c) ≡ code_text c
 unfolding digits
 code_digits XaCode.Ok = refl
-code_digits XaCode.RbRollback = refl
-code_digits XaCode.Nota = refl
-code_digits XaCode.Inval = refl
-code_digits XaCode.Proto = refl
-code_digits XaCode.RmFail = refl
-code_digits XaCode.DupId = refl
+code_digits c = refl
 
 pub refusal_small : (r : Refusal) → IsTold r → number_of r < 2 ^ 32
 refusal_small Refusal.BadTx is = omega arith
-refusal_small Refusal.BadMessage is = omega arith
-refusal_small Refusal.Damaged is = omega arith
-refusal_small Refusal.RecordFault is = omega arith
-refusal_small Refusal.NoBallot is = omega arith
-refusal_small Refusal.Down is = omega arith
-refusal_small Refusal.Busy is = omega arith
-refusal_small Refusal.Full is = omega arith
-refusal_small Refusal.NoMemory is = omega arith
-refusal_small Refusal.PortFault is = omega arith
-refusal_small Refusal.Forged is = omega arith
-refusal_small Refusal.NoSuch is = omega arith
-refusal_small r is = absurd is
+refusal_small r is = omega arith
 
--- a refusal whose number isn't one
-pub refusal_fails : {args : List (List ℕ)} (n : ℕ) → n < 2 ^ 32 → args ≡ decimal n ∷ [] → ((r : Refusal) → IsTold r → n ≡ number_of r → ⊥)
-    → (a : Answer) → IsAnswerBy AnswerWord.Refused a → args ≡ answer_args a → ⊥
-refusal_fails n lt cut none (Refused r) is e =
-    let small = refusal_small r is.range in
-    none r is.range (decimal_injective n (number_of r) (omega arith) (omega arith) (cc))
-refusal_fails n lt cut none a is e = absurd (cc (is.word_is))
+-- the refusal of a number that is told
+abbrev told_of : ℕ → Refusal
+told_of n =
+    cond (eqb n 2) Refusal.BadTx (cond (eqb n 3) Refusal.BadMessage (cond (eqb n 4) Refusal.Damaged (cond (eqb n 5) Refusal.RecordFault
+    (cond (eqb n 6) Refusal.NoBallot (cond (eqb n 8) Refusal.Down (cond (eqb n 9) Refusal.Busy (cond (eqb n 10) Refusal.Full
+    (cond (eqb n 11) Refusal.NoMemory (cond (eqb n 12) Refusal.PortFault (cond (eqb n 14) Refusal.Forged Refusal.NoSuch))))))))))
+
+told_same : (r : Refusal) → IsTold r → told_of (number_of r) ≡ r
+told_same Refusal.BadTx is = refl
+told_same Refusal.BadMessage is = refl
+told_same Refusal.Damaged is = refl
+told_same Refusal.RecordFault is = refl
+told_same Refusal.NoBallot is = refl
+told_same Refusal.Down is = refl
+told_same Refusal.Busy is = refl
+told_same Refusal.Full is = refl
+told_same Refusal.NoMemory is = refl
+told_same Refusal.PortFault is = refl
+told_same Refusal.Forged is = refl
+told_same Refusal.NoSuch is = refl
+told_same r is = absurd is
+
+refusal_injective : (r s : Refusal) → IsTold r → IsTold s → number_of r ≡ number_of s → r ≡ s
+refusal_injective r s p q e = sym (told_same r p) ∙ ap told_of e ∙ told_same s q
 
 -- ---- first words
 
@@ -76,12 +74,7 @@ is_code word =
 
 code_is : (c : XaCode) → is_code (code_text c) ≡ true
 code_is XaCode.Ok = refl
-code_is XaCode.RbRollback = refl
-code_is XaCode.Nota = refl
-code_is XaCode.Inval = refl
-code_is XaCode.Proto = refl
-code_is XaCode.RmFail = refl
-code_is XaCode.DupId = refl
+code_is c = refl
 
 code_apart : (c : XaCode) (word : List ℕ) → is_code word ≡ false → code_text c ≡ word → ⊥
 code_apart c word none e =
@@ -96,11 +89,7 @@ is_standing word =
 
 standing_is : (s : Standing) → (is_standing (standing_text s) ≡ true) × (is_code (standing_text s) ≡ false)
 standing_is Standing.Unknown = (refl, refl)
-standing_is Standing.Undecided = (refl, refl)
-standing_is Standing.Working = (refl, refl)
-standing_is Standing.Prepared = (refl, refl)
-standing_is Standing.Committed = (refl, refl)
-standing_is Standing.Aborted = (refl, refl)
+standing_is s = (refl, refl)
 
 standing_apart : (s : Standing) (word : List ℕ) → is_standing word ≡ false → standing_text s ≡ word → ⊥
 standing_apart s word none e =
@@ -108,40 +97,90 @@ standing_apart s word none e =
     let same : is_standing (standing_text s) ≡ is_standing word = ap is_standing e in
     absurd (cc)
 
--- the first word of an answer, with codes digit by digit
-abbrev plain_text : AnswerWord → List ℕ
-plain_text (AnswerWord.Code code) = code_text code
-plain_text word = answer_word_text word
+-- a first word that no code has, and one that says no standing
+not_code : (c : XaCode) (word : List ℕ) (v w : List (List ℕ)) → is_code word ≡ false → word ∷ v ≡ signed_decimal (code_number c) ∷ w → ⊥
+not_code c word v w none e = code_apart c word none (sym (code_digits c) ∙ sym (ap first_word e))
 
-plain_same : (w : AnswerWord) → answer_word_text w ≡ plain_text w
-plain_same (AnswerWord.Code code) = code_digits code
-plain_same w = refl
+not_standing : (s : Standing) (word : List ℕ) (v w : List (List ℕ)) → is_standing word ≡ false → word ∷ v ≡ standing_text s ∷ w → ⊥
+not_standing s word v w none e = standing_apart s word none (sym (ap first_word e))
 
-plain_injective : (v w : AnswerWord) → plain_text v ≡ plain_text w → v ≡ w
-plain_injective (AnswerWord.Code c) (AnswerWord.Code d) e = ap AnswerWord.Code (code_text_injective c d e)
-plain_injective (AnswerWord.Code c) (AnswerWord.Stands s) e = absurd (code_apart c (standing_text s) (standing_is s).1 e)
-plain_injective (AnswerWord.Stands s) (AnswerWord.Code c) e = absurd (code_apart c (standing_text s) (standing_is s).1 (sym e))
-plain_injective (AnswerWord.Stands s) (AnswerWord.Stands t) e = ap AnswerWord.Stands (standing_injective s t e)
-plain_injective (AnswerWord.Code c) w e = absurd (code_apart c _ refl e)
-plain_injective v (AnswerWord.Code d) e = absurd (code_apart d _ refl (sym e))
-plain_injective (AnswerWord.Stands s) w e = absurd (standing_apart s _ refl e)
-plain_injective v (AnswerWord.Stands t) e = absurd (standing_apart t _ refl (sym e))
-plain_injective AnswerWord.Done AnswerWord.Done e = refl
-plain_injective AnswerWord.Value AnswerWord.Value e = refl
-plain_injective AnswerWord.NoValue AnswerWord.NoValue e = refl
-plain_injective AnswerWord.Xids AnswerWord.Xids e = refl
-plain_injective AnswerWord.Refused AnswerWord.Refused e = refl
-plain_injective v w e = absurd (differ _ _ e refl)
+-- the number of a refusal that is told
+pub refusal_spelling : IsSpelling IsTold (λ r. decimal (number_of r))
+refusal_spelling = record {
+  one = λ r s p q e.
+      let small-r = refusal_small r p in
+      let small-s = refusal_small s q in
+      refusal_injective r s p q (decimal_injective (number_of r) (number_of s) (omega arith) (omega arith) e);
+  common = λ r p. number_common (number_of r) (refusal_small r p);
+}
 
-pub answer_word_injective : (v w : AnswerWord) → answer_word_text v ≡ answer_word_text w → v ≡ w
-answer_word_injective v w e = plain_injective v w (sym (plain_same v) ∙ e ∙ plain_same w)
+-- ---- what comes after each first word
 
--- an answer of these words has this first word
-pub answer_parts : (a : Answer) (word : AnswerWord) (given rest : List (List ℕ)) (first : List ℕ) → IsAnswer a → given ≡ first ∷ rest
-    → first ≡ answer_word_text word → given ≡ answer_words a
-    → IsAnswerBy word a × (rest ≡ answer_args a)
-answer_parts a word given rest first is cut named e =
-    let same : answer_word_text (answer_word a) ≡ answer_word_text word = cc in
-    let others : rest ≡ answer_args a = cc in
-    let by : IsAnswerBy word a = record { range = is; word_is = answer_word_injective (answer_word a) word same } in
-    (by, others)
+pub ok_arm : Arm no_words IsAnswer answer_words (codes "ok") (λ _. Done)
+ok_arm Done p args e = record { value = tt; fits = tt; says = cc; made = refl }
+ok_arm (Code c) p args e = absurd (not_code c _ _ _ refl e)
+ok_arm (Stands s) p args e = absurd (not_standing s _ _ _ refl e)
+ok_arm line p args e = absurd (apart _ _ e refl)
+
+pub value_arm : Arm (bytes_spelling & no_words) IsAnswer answer_words (codes "value") (λ said. Value said.0)
+value_arm (Value xs) p args e = record { value = (xs, tt); fits = (p, tt); says = cc; made = refl }
+value_arm (Code c) p args e = absurd (not_code c _ _ _ refl e)
+value_arm (Stands s) p args e = absurd (not_standing s _ _ _ refl e)
+value_arm line p args e = absurd (apart _ _ e refl)
+
+pub none_arm : Arm no_words IsAnswer answer_words (codes "none") (λ _. NoValue)
+none_arm NoValue p args e = record { value = tt; fits = tt; says = cc; made = refl }
+none_arm (Code c) p args e = absurd (not_code c _ _ _ refl e)
+none_arm (Stands s) p args e = absurd (not_standing s _ _ _ refl e)
+none_arm line p args e = absurd (apart _ _ e refl)
+
+pub xids_arm : Arm (list_of_words xid_spelling) IsAnswer answer_words (codes "xids") (λ said. Xids said)
+xids_arm (Xids xs) p args e = record { value = xs; fits = p; says = cc; made = refl }
+xids_arm (Code c) p args e = absurd (not_code c _ _ _ refl e)
+xids_arm (Stands s) p args e = absurd (not_standing s _ _ _ refl e)
+xids_arm line p args e = absurd (apart _ _ e refl)
+
+pub refused_arm : Arm (refusal_spelling & no_words) IsAnswer answer_words (codes "refused") (λ said. Refused said.0)
+refused_arm (Refused r) p args e = record { value = (r, tt); fits = (p, tt); says = cc; made = refl }
+refused_arm (Code c) p args e = absurd (not_code c _ _ _ refl e)
+refused_arm (Stands s) p args e = absurd (not_standing s _ _ _ refl e)
+refused_arm line p args e = absurd (apart _ _ e refl)
+
+pub code_arm : (c : XaCode) → Arm no_words IsAnswer answer_words (signed_decimal (code_number c)) (λ _. Code c)
+code_arm c (Code d) p args e = record {
+  value = tt;
+  fits = tt;
+  says = cc;
+  made = ap Code (code_text_injective c d (sym (code_digits c) ∙ ap first_word e ∙ code_digits d));
+}
+code_arm c (Stands s) p args e = absurd (not_code c _ _ _ (standing_is s).1 (sym e))
+code_arm c line p args e = absurd (not_code c _ _ _ refl (sym e))
+
+pub standing_arm : (s : Standing) → Arm no_words IsAnswer answer_words (standing_text s) (λ _. Stands s)
+standing_arm s (Stands t) p args e =
+    record { value = tt; fits = tt; says = cc; made = ap Stands (standing_injective s t (ap first_word e)) }
+standing_arm s (Code c) p args e = absurd (not_code c _ _ _ (standing_is s).1 e)
+standing_arm s line p args e = absurd (not_standing s _ _ _ refl (sym e))
+
+code_text_common : (c : XaCode) → IsCommon (code_text c)
+code_text_common XaCode.Ok = literal refl refl
+code_text_common c = literal refl refl
+
+code_common : (c : XaCode) → IsCommon (signed_decimal (code_number c))
+code_common c = subst IsCommon (sym (code_digits c)) (code_text_common c)
+
+standing_common : (s : Standing) → IsCommon (standing_text s)
+standing_common Standing.Unknown = literal refl refl
+standing_common s = literal refl refl
+
+pub answer_said : (a : Answer) → IsAnswer a → IsSaid IsAnswer answer_words a
+answer_said Done p = arm_said no_words ok_arm (literal refl refl) tt tt _ refl refl
+answer_said (Value xs) p = arm_said (bytes_spelling & no_words) value_arm (literal refl refl) (xs, tt) (p, tt) _ refl refl
+answer_said NoValue p = arm_said no_words none_arm (literal refl refl) tt tt _ refl refl
+answer_said (Xids xs) p = arm_said (list_of_words xid_spelling) xids_arm (literal refl refl) xs p _ refl refl
+answer_said (Refused r) p = arm_said (refusal_spelling & no_words) refused_arm (literal refl refl) (r, tt) (p, tt) _ refl refl
+answer_said (Code c) p = arm_said no_words (code_arm c) (code_common c) tt tt _ refl refl
+answer_said (Stands s) p = arm_said no_words (standing_arm s) (standing_common s) tt tt _ refl refl
+
+pub answer_injective : (a b : Answer) → IsAnswer a → IsAnswer b → answer_words a ≡ answer_words b → a ≡ b
+answer_injective a b p q e = (answer_said a p).one b q e

@@ -1,8 +1,8 @@
 pub mod OneText
 pub mod WordLemmas
-pub mod NameLemmas
 pub mod TableLemmas
-pub mod ItemLemmas
+pub mod Arms
+pub mod EventLemmas
 pub mod AnswerLemmas
 pub mod MessageLemmas
 pub mod ScriptLemmas

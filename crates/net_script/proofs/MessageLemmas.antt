@@ -1,215 +1,78 @@
--- Messages: one value for one list of words.
-use Rattle.std.proofs.Common.{◌≡◌, ℕ, ◌<◌, ◌≤◌, ◌^◌, true, not, eqb, List, [], ◌∷◌, ◌++◌, length, map, Option, None, Some, refl, sym, ap}
-use Rattle.std.proofs.Common.{subst, ◌∙◌, arith, decimal, codes}
+-- Messages: what comes after each first word, and one value for one list of words.
+use Rattle.std.proofs.Common.{◌≡◌, ℕ, ◌<◌, ◌^◌, List, [], ◌∷◌, map, Option, None, Some, refl, sym, ap, arith, codes}
 use Rattle.std.specs.List.{AllByRecursion}
-use Rattle.std.proofs.lemmas.Bool.Decides.{nat_tests}
-use Rattle.std.proofs.lemmas.Fmt.{decimal_injective}
-use Rattle.std.proofs.lemmas.List.{length-append, length-map}
-use Rattle.std.proofs.lemmas.List.Elements.{All-from_recursion, All-push}
-use Rattle.xid.specs.Limits.{most_managers, most_branches}
-use Rattle.xid.specs.Text.{lacks}
-use Rattle.xid.proofs.Texts.{both_true, cut_same, decimal_lacks_colon, lacks_not, list_all-decimal}
+use Rattle.std.proofs.lemmas.List.{length-map}
+use Rattle.std.proofs.lemmas.List.Elements.{All-from_recursion}
+use Rattle.xid.specs.Limits.{most_managers}
 use Rattle.wire.specs.Messages.{IsInstance, IsReportBelow}
 use Rattle.wire.proofs.Instances.{instance_below, instances_below, few_instances}
 use Rattle.net_script.specs.Basics.{TxParts, IsTx, tx_text, IsMessage, message_tx, Vote, Kind, Prepare, P1a, P1b, P2a, P2b, Commit, Abort}
-use Rattle.net_script.specs.Basics.{B1a, B1b, B2b}
-use Rattle.net_script.specs.Basics.{InstanceReport, InstanceAccept, A, R}
-use Rattle.net_script.specs.declared.message_words.MessageName.{MessageName}
-use Rattle.net_script.specs.Lines.{node_text}
-use Rattle.net_script.specs.Messages.{vote_text, report_words, accepted_text, report_text, report_item_text, accept_item_text}
-use Rattle.net_script.specs.Messages.{message_name_text, message_name, message_args, message_words}
-use Rattle.net_script.specs.Messages.{FitsReport, FitsReportItem, FitsAcceptItem, AreReportItems, AreAcceptItems, FitsKind, IsKindBy}
-use Rattle.net_script.proofs.WordLemmas.{differ}
-use Rattle.net_script.proofs.NameLemmas.{node_injective, manager_injective, tx_injective}
-use Rattle.net_script.proofs.OneText.{HasOneText, texts_injective}
+use Rattle.net_script.specs.Basics.{B1a, B1b, B2b, InstanceReport, InstanceAccept}
+use Rattle.net_script.specs.Messages.{message_words, kind_words, FitsReport, FitsReportItem, FitsAcceptItem, FitsKind, IsAbout}
+use Rattle.net_script.specs.Spelling.{no_words, ◌&◌, items_of_words}
+use Rattle.net_script.specs.Laws.{number_spelling, manager_of, manager_spelling, acceptor_of, acceptor_spelling, literal}
+use Rattle.net_script.specs.MessageLaws.{vote_spelling, report_item_spelling, accept_item_spelling, reported, reported_spelling}
+use Rattle.net_script.proofs.Arms.{Arm, IsSaid, arm_said, apart}
+use Rattle.net_script.specs.NameLemmas.{tx_injective}
 
--- ---- votes, reports and items
+-- ---- the first words, and what comes after each
 
-vote_injective : (v w : Vote) → vote_text v ≡ vote_text w → v ≡ w
-vote_injective Vote.Prepared Vote.Prepared e = refl
-vote_injective Vote.Aborted Vote.Aborted e = refl
-vote_injective v w e = absurd (differ _ _ e refl)
+pub prepare_arm : (tx : TxParts) → Arm no_words (IsAbout tx) kind_words (codes "prepare") (λ _. Prepare tx)
+prepare_arm tx (Prepare t) p args e = record { value = tt; fits = tt; says = cc; made = ap Prepare (sym p.about) }
+prepare_arm tx line p args e = absurd (apart _ _ e refl)
 
-ballot_injective : (m n : ℕ) → m < 2 ^ 32 → n < 2 ^ 32 → decimal m ≡ decimal n → m ≡ n
-ballot_injective m n p q e = decimal_injective m n (omega arith) (omega arith) e
+pub p1a_arm : (tx : TxParts) → Arm (manager_spelling & number_spelling & no_words) (IsAbout tx) kind_words (codes "p1a") (λ said. P1a tx said.0.0 said.1.0)
+p1a_arm tx (P1a t rm n) p args e = record { value = (manager_of rm, (n, tt)); fits = (p.fits.0, (p.fits.1, tt)); says = cc; made = ap (λ (x : TxParts). P1a x rm n) (sym p.about) }
+p1a_arm tx line p args e = absurd (apart _ _ e refl)
 
-manager_lacks_colon : (n : ℕ) → n < 256 → lacks 58 (node_text (R n)) ≡ true
-manager_lacks_colon n lt = both_true (not (eqb 114 58)) (lacks 58 (decimal n)) refl (decimal_lacks_colon n (omega arith))
+pub p1b_arm : (tx : TxParts) → Arm (manager_spelling & number_spelling & reported_spelling) (IsAbout tx) kind_words (codes "p1b") (λ said. P1b tx said.0.0 said.1.0 said.1.1.report said.1.1.acceptor)
+p1b_arm tx (P1b t rm n r a) p args e = record { value = (manager_of rm, (n, reported r a)); fits = (p.fits.0, (p.fits.1, (p.fits.2, p.fits.3))); says = cc; made = ap (λ (x : TxParts). P1b x rm n r a) (sym p.about) }
+p1b_arm tx line p args e = absurd (apart _ _ e refl)
 
--- a text with a ballot and a vote is cut at its colon in one way
-pub cut_accepted : (n : ℕ) (v : Vote) (text front back : List ℕ) → n < 2 ^ 32 → text ≡ accepted_text n v
-    → (text ≡ front ++ 58 ∷ back) × (lacks 58 front ≡ true)
-    → (front ≡ decimal n) × (back ≡ vote_text v)
-cut_accepted n v text front back lt e cut =
-    cut_same 58 front back (decimal n) (vote_text v) cut.1 (decimal_lacks_colon n lt) (sym cut.0 ∙ e)
+pub p2a_arm : (tx : TxParts) → Arm (manager_spelling & number_spelling & vote_spelling & no_words) (IsAbout tx) kind_words (codes "p2a") (λ said. P2a tx said.0.0 said.1.0 said.1.1.0)
+p2a_arm tx (P2a t rm n v) p args e = record { value = (manager_of rm, (n, (v, tt))); fits = (p.fits.0, (p.fits.1, (tt, tt))); says = cc; made = ap (λ (x : TxParts). P2a x rm n v) (sym p.about) }
+p2a_arm tx line p args e = absurd (apart _ _ e refl)
 
--- a word of an item is cut at its first colon in one way
-pub cut_item : (n : ℕ) (item text front back : List ℕ) → n < 256 → text ≡ node_text (R n) ++ 58 ∷ item
-    → (text ≡ front ++ 58 ∷ back) × (lacks 58 front ≡ true)
-    → (front ≡ node_text (R n)) × (back ≡ item)
-cut_item n item text front back lt e cut = cut_same 58 front back (node_text (R n)) item cut.1 (manager_lacks_colon n lt) (sym cut.0 ∙ e)
+pub p2b_arm : (tx : TxParts) → Arm (manager_spelling & number_spelling & vote_spelling & acceptor_spelling & no_words) (IsAbout tx) kind_words (codes "p2b") (λ said. P2b tx said.0.0 said.1.0 said.1.1.0 said.1.1.1.0.0)
+p2b_arm tx (P2b t rm n v a) p args e = record { value = (manager_of rm, (n, (v, (acceptor_of a, tt)))); fits = (p.fits.0, (p.fits.1, (tt, (p.fits.2, tt)))); says = cc; made = ap (λ (x : TxParts). P2b x rm n v a) (sym p.about) }
+p2b_arm tx line p args e = absurd (apart _ _ e refl)
 
-accepted_injective : (m n : ℕ) (v w : Vote) → m < 2 ^ 32 → n < 2 ^ 32 → accepted_text m v ≡ accepted_text n w → (m ≡ n) × (v ≡ w)
-accepted_injective m n v w p q e =
-    let cut = cut_accepted n w (accepted_text m v) (decimal m) (vote_text v) q e (refl, decimal_lacks_colon m p) in
-    (ballot_injective m n p q cut.0, vote_injective v w cut.1)
+pub commit_arm : (tx : TxParts) → Arm no_words (IsAbout tx) kind_words (codes "commit") (λ _. Commit tx)
+commit_arm tx (Commit t) p args e = record { value = tt; fits = tt; says = cc; made = ap Commit (sym p.about) }
+commit_arm tx line p args e = absurd (apart _ _ e refl)
 
-none_lacks_colon : (n : ℕ) (v : Vote) → codes "none" ≡ accepted_text n v → ⊥
-none_lacks_colon n v e = lacks_not 58 (decimal n) (vote_text v) (subst (λ (t : List ℕ). lacks 58 t ≡ true) e refl)
+pub abort_arm : (tx : TxParts) → Arm no_words (IsAbout tx) kind_words (codes "abort") (λ _. Abort tx)
+abort_arm tx (Abort t) p args e = record { value = tt; fits = tt; says = cc; made = ap Abort (sym p.about) }
+abort_arm tx line p args e = absurd (apart _ _ e refl)
 
-same_report : (a b : ℕ × Vote) → a.0 ≡ b.0 → a.1 ≡ b.1 → Some a ≡ Some b
-same_report (m, v) (n, w) p q = ap (λ (k : ℕ). Some (k, v)) p ∙ ap (λ (u : Vote). Some (n, u)) q
+pub ask_arm : (tx : TxParts) → Arm (manager_spelling & no_words) (IsAbout tx) kind_words (codes "ask") (λ said. Kind.Ask tx said.0.0)
+ask_arm tx (Kind.Ask t rm) p args e = record { value = (manager_of rm, tt); fits = (p.fits, tt); says = cc; made = ap (λ (x : TxParts). Kind.Ask x rm) (sym p.about) }
+ask_arm tx line p args e = absurd (apart _ _ e refl)
 
-report_text_injective : (r s : Option (ℕ × Vote)) → FitsReport r → FitsReport s → report_text r ≡ report_text s → r ≡ s
-report_text_injective None None p q e = refl
-report_text_injective None (Some b) p q e = absurd (none_lacks_colon b.0 b.1 e)
-report_text_injective (Some a) None p q e = absurd (none_lacks_colon a.0 a.1 (sym e))
-report_text_injective (Some a) (Some b) p q e =
-    let same = accepted_injective a.0 b.0 a.1 b.1 p q e in
-    same_report a b same.0 same.1
+pub b1a_arm : (tx : TxParts) → Arm (number_spelling & no_words) (IsAbout tx) kind_words (codes "b1a") (λ said. B1a tx said.0)
+b1a_arm tx (B1a t n) p args e = record { value = (n, tt); fits = (p.fits, tt); says = cc; made = ap (λ (x : TxParts). B1a x n) (sym p.about) }
+b1a_arm tx line p args e = absurd (apart _ _ e refl)
 
--- an item of these parts
-abbrev report_item : (instance : ℕ) (report : Option (ℕ × Vote)) → InstanceReport
-report_item instance report = record { instance = instance; report = report }
+pub b1b_arm : (tx : TxParts) → Arm (number_spelling & acceptor_spelling & items_of_words report_item_spelling) (IsAbout tx) kind_words (codes "b1b") (λ said. B1b tx said.0 said.1.0.0 said.1.1)
+b1b_arm tx (B1b t n a rs) p args e = record { value = (n, (acceptor_of a, rs)); fits = (p.fits.0, (p.fits.1, p.fits.2)); says = cc; made = ap (λ (x : TxParts). B1b x n a rs) (sym p.about) }
+b1b_arm tx line p args e = absurd (apart _ _ e refl)
 
-abbrev accept_item : (instance ballot : ℕ) (vote : Vote) → InstanceAccept
-accept_item instance ballot vote = record { instance = instance; ballot = ballot; vote = vote }
+pub b2b_arm : (tx : TxParts) → Arm (acceptor_spelling & items_of_words accept_item_spelling) (IsAbout tx) kind_words (codes "b2b") (λ said. B2b tx said.0.0 said.1)
+b2b_arm tx (B2b t a vs) p args e = record { value = (acceptor_of a, vs); fits = (p.fits.0, p.fits.1); says = cc; made = ap (λ (x : TxParts). B2b x a vs) (sym p.about) }
+b2b_arm tx line p args e = absurd (apart _ _ e refl)
 
-report_item_injective : (a b : InstanceReport) → FitsReportItem a → FitsReportItem b → report_item_text a ≡ report_item_text b → a ≡ b
-report_item_injective a b p q e =
-    let cut = cut_item b.instance (report_text b.report) (report_item_text a) (node_text (R a.instance)) (report_text a.report) q.instance e
-    (refl, manager_lacks_colon a.instance p.instance) in
-    let instance : a.instance ≡ b.instance = manager_injective a.instance b.instance p.instance q.instance cut.0 in
-    let report : a.report ≡ b.report = report_text_injective a.report b.report p.report q.report cut.1 in
-    let same : report_item a.instance a.report ≡ report_item b.instance b.report = cc in
-    same
-
-accept_item_injective : (a b : InstanceAccept) → FitsAcceptItem a → FitsAcceptItem b → accept_item_text a ≡ accept_item_text b → a ≡ b
-accept_item_injective a b p q e =
-    let cut = cut_item b.instance (accepted_text b.ballot b.vote) (accept_item_text a) (node_text (R a.instance))
-    (accepted_text a.ballot a.vote) q.instance e (refl, manager_lacks_colon a.instance p.instance) in
-    let instance : a.instance ≡ b.instance = manager_injective a.instance b.instance p.instance q.instance cut.0 in
-    let accepted = accepted_injective a.ballot b.ballot a.vote b.vote p.ballot q.ballot cut.1 in
-    let ballot : a.ballot ≡ b.ballot = accepted.0 in
-    let vote : a.vote ≡ b.vote = accepted.1 in
-    let same : accept_item a.instance a.ballot a.vote ≡ accept_item b.instance b.ballot b.vote = cc in
-    same
-
-pub report_items_have_one_text : HasOneText FitsReportItem report_item_text
-report_items_have_one_text = record { same = report_item_injective }
-
-pub accept_items_have_one_text : HasOneText FitsAcceptItem accept_item_text
-accept_items_have_one_text = record { same = accept_item_injective }
-
--- one item more
-pub report_items_push : (items : List InstanceReport) (item : InstanceReport) → AreReportItems items → FitsReportItem item
-    → length items < most_branches
-    → AreReportItems (items ++ item ∷ [])
-report_items_push items item are fits room = record {
-  some = omega (arith, length-append items (item ∷ []));
-  few = omega (arith, length-append items (item ∷ []));
-  each = All-push FitsReportItem items item are.each fits;
-}
-
-pub accept_items_push : (items : List InstanceAccept) (item : InstanceAccept) → AreAcceptItems items → FitsAcceptItem item
-    → length items < most_branches
-    → AreAcceptItems (items ++ item ∷ [])
-accept_items_push items item are fits room = record {
-  some = omega (arith, length-append items (item ∷ []));
-  few = omega (arith, length-append items (item ∷ []));
-  each = All-push FitsAcceptItem items item are.each fits;
-}
-
--- ---- messages
-
--- a number's text isn't the word for none
-no_digit : (c : ℕ) → 48 ≤ c → c ≤ 57 → not (eqb c 110) ≡ true
-no_digit c low high = grind (arith, nat_tests)
-
-decimal_not_none : (n : ℕ) → n < 2 ^ 32 → codes "none" ≡ decimal n → ⊥
-decimal_not_none n lt e =
-    let digits : lacks 110 (decimal n) ≡ true = list_all-decimal (λ byte. not (eqb byte 110)) n no_digit lt in
-    let none : lacks 110 (codes "none") ≡ true = subst (λ (t : List ℕ). lacks 110 t ≡ true) (sym e) digits in
-    absurd (cc)
-
--- words begin with a report in one way
-report_front : (r s : Option (ℕ × Vote)) (vs ws : List (List ℕ)) → FitsReport r → FitsReport s → report_words r ++ vs ≡ report_words s ++ ws
-    → (r ≡ s) × (vs ≡ ws)
-report_front None None vs ws p q e =
-    let rest : vs ≡ ws = cc in
-    (refl, rest)
-report_front None (Some y) vs ws p q e = absurd (decimal_not_none y.0 q (cc))
-report_front (Some x) None vs ws p q e = absurd (decimal_not_none x.0 p (cc))
-report_front (Some x) (Some y) vs ws p q e =
-    let ballot : x.0 ≡ y.0 = ballot_injective x.0 y.0 p q (cc) in
-    let vote : x.1 ≡ y.1 = vote_injective x.1 y.1 (cc) in
-    let rest : vs ≡ ws = cc in
-    (same_report x y ballot vote, rest)
-
-acceptor_injective : (m n : ℕ) → m < 256 → n < 256 → node_text (A m) ≡ node_text (A n) → m ≡ n
-acceptor_injective m n p q e =
-    let same : A m ≡ A n = node_injective (A m) (A n) p q e in
-    cc
-
-pub kind_injective : (a b : Kind) → FitsKind a × FitsKind b → message_name a ≡ message_name b → message_tx a ≡ message_tx b
-    → message_args a ≡ message_args b
-    → a ≡ b
-kind_injective (Prepare x) (Prepare y) fit name tx e = ap Prepare tx
-kind_injective (P1a x i m) (P1a y j n) fit name tx e =
-    let rm : i ≡ j = manager_injective i j fit.0.0 fit.1.0 (cc) in
-    let ballot : m ≡ n = ballot_injective m n fit.0.1 fit.1.1 (cc) in
-    cc
-kind_injective (P1b x i m r a) (P1b y j n s b) fit name tx e =
-    let rm : i ≡ j = manager_injective i j fit.0.0 fit.1.0 (cc) in
-    let ballot : m ≡ n = ballot_injective m n fit.0.1 fit.1.1 (cc) in
-    let rest = report_front r s (node_text (A a) ∷ []) (node_text (A b) ∷ []) fit.0.2 fit.1.2 (cc) in
-    let report : r ≡ s = rest.0 in
-    let last : node_text (A a) ∷ [] ≡ node_text (A b) ∷ [] = rest.1 in
-    let acceptor : a ≡ b = acceptor_injective a b fit.0.3 fit.1.3 (cc) in
-    cc
-kind_injective (P2a x i m v) (P2a y j n w) fit name tx e =
-    let rm : i ≡ j = manager_injective i j fit.0.0 fit.1.0 (cc) in
-    let ballot : m ≡ n = ballot_injective m n fit.0.1 fit.1.1 (cc) in
-    let vote : v ≡ w = vote_injective v w (cc) in
-    cc
-kind_injective (P2b x i m v a) (P2b y j n w b) fit name tx e =
-    let rm : i ≡ j = manager_injective i j fit.0.0 fit.1.0 (cc) in
-    let ballot : m ≡ n = ballot_injective m n fit.0.1 fit.1.1 (cc) in
-    let vote : v ≡ w = vote_injective v w (cc) in
-    let acceptor : a ≡ b = acceptor_injective a b fit.0.2 fit.1.2 (cc) in
-    cc
-kind_injective (Commit x) (Commit y) fit name tx e = ap Commit tx
-kind_injective (Abort x) (Abort y) fit name tx e = ap Abort tx
-kind_injective (Kind.Ask x i) (Kind.Ask y j) fit name tx e =
-    let rm : i ≡ j = manager_injective i j fit.0 fit.1 (cc) in
-    cc
-kind_injective (B1a x m) (B1a y n) fit name tx e =
-    let ballot : m ≡ n = ballot_injective m n fit.0 fit.1 (cc) in
-    cc
-kind_injective (B1b x m a r) (B1b y n b s) fit name tx e =
-    let ballot : m ≡ n = ballot_injective m n fit.0.0 fit.1.0 (cc) in
-    let acceptor : a ≡ b = acceptor_injective a b fit.0.1 fit.1.1 (cc) in
-    let reports : r ≡ s = texts_injective report_items_have_one_text r s fit.0.2.each fit.1.2.each (cc) in
-    cc
-kind_injective (B2b x a r) (B2b y b s) fit name tx e =
-    let acceptor : a ≡ b = acceptor_injective a b fit.0.0 fit.1.0 (cc) in
-    let accepts : r ≡ s = texts_injective accept_items_have_one_text r s fit.0.1.each fit.1.1.each (cc) in
-    cc
-kind_injective a b fit name tx e = absurd (cc)
-
-name_injective : (m n : MessageName) → message_name_text m ≡ message_name_text n → m ≡ n
-name_injective MessageName.Prepare MessageName.Prepare e = refl
-name_injective MessageName.P1a MessageName.P1a e = refl
-name_injective MessageName.P1b MessageName.P1b e = refl
-name_injective MessageName.P2a MessageName.P2a e = refl
-name_injective MessageName.P2b MessageName.P2b e = refl
-name_injective MessageName.Commit MessageName.Commit e = refl
-name_injective MessageName.Abort MessageName.Abort e = refl
-name_injective MessageName.Ask MessageName.Ask e = refl
-name_injective MessageName.B1a MessageName.B1a e = refl
-name_injective MessageName.B1b MessageName.B1b e = refl
-name_injective MessageName.B2b MessageName.B2b e = refl
-name_injective m n e = absurd (differ _ _ e refl)
+pub kind_said : (tx : TxParts) (k : Kind) → IsAbout tx k → IsSaid (IsAbout tx) kind_words k
+kind_said tx (Prepare t) p = arm_said no_words (prepare_arm tx) (literal refl refl) tt tt _ (ap Prepare (sym p.about)) refl
+kind_said tx (P1a t rm n) p = arm_said (manager_spelling & number_spelling & no_words) (p1a_arm tx) (literal refl refl) (manager_of rm, (n, tt)) (p.fits.0, (p.fits.1, tt)) _ (ap (λ (x : TxParts). P1a x rm n) (sym p.about)) refl
+kind_said tx (P1b t rm n r a) p = arm_said (manager_spelling & number_spelling & reported_spelling) (p1b_arm tx) (literal refl refl) (manager_of rm, (n, reported r a)) (p.fits.0, (p.fits.1, (p.fits.2, p.fits.3))) _ (ap (λ (x : TxParts). P1b x rm n r a) (sym p.about)) refl
+kind_said tx (P2a t rm n v) p = arm_said (manager_spelling & number_spelling & vote_spelling & no_words) (p2a_arm tx) (literal refl refl) (manager_of rm, (n, (v, tt))) (p.fits.0, (p.fits.1, (tt, tt))) _ (ap (λ (x : TxParts). P2a x rm n v) (sym p.about)) refl
+kind_said tx (P2b t rm n v a) p = arm_said (manager_spelling & number_spelling & vote_spelling & acceptor_spelling & no_words) (p2b_arm tx) (literal refl refl) (manager_of rm, (n, (v, (acceptor_of a, tt)))) (p.fits.0, (p.fits.1, (tt, (p.fits.2, tt)))) _ (ap (λ (x : TxParts). P2b x rm n v a) (sym p.about)) refl
+kind_said tx (Commit t) p = arm_said no_words (commit_arm tx) (literal refl refl) tt tt _ (ap Commit (sym p.about)) refl
+kind_said tx (Abort t) p = arm_said no_words (abort_arm tx) (literal refl refl) tt tt _ (ap Abort (sym p.about)) refl
+kind_said tx (Kind.Ask t rm) p = arm_said (manager_spelling & no_words) (ask_arm tx) (literal refl refl) (manager_of rm, tt) (p.fits, tt) _ (ap (λ (x : TxParts). Kind.Ask x rm) (sym p.about)) refl
+kind_said tx (B1a t n) p = arm_said (number_spelling & no_words) (b1a_arm tx) (literal refl refl) (n, tt) (p.fits, tt) _ (ap (λ (x : TxParts). B1a x n) (sym p.about)) refl
+kind_said tx (B1b t n a rs) p = arm_said (number_spelling & acceptor_spelling & items_of_words report_item_spelling) (b1b_arm tx) (literal refl refl) (n, (acceptor_of a, rs)) (p.fits.0, (p.fits.1, p.fits.2)) _ (ap (λ (x : TxParts). B1b x n a rs) (sym p.about)) refl
+kind_said tx (B2b t a vs) p = arm_said (acceptor_spelling & items_of_words accept_item_spelling) (b2b_arm tx) (literal refl refl) (acceptor_of a, vs) (p.fits.0, p.fits.1) _ (ap (λ (x : TxParts). B2b x a vs) (sym p.about)) refl
 
 -- ---- a message's numbers are those of words
 
@@ -285,7 +148,7 @@ message_tx_valid (B1a tx ballot) is = is.0
 message_tx_valid (B1b tx ballot acceptor reports) is = is.0.valid
 message_tx_valid (B2b tx acceptor accepts) is = is.0.valid
 
--- ---- for the readers of messages
+-- ---- for the reader of messages
 
 -- the word of its transaction
 pub tx_word : (m : Kind) (given rest after : List (List ℕ)) (first word : List ℕ) → IsMessage m → given ≡ first ∷ rest → rest ≡ word ∷ after
@@ -293,41 +156,19 @@ pub tx_word : (m : Kind) (given rest after : List (List ℕ)) (first word : List
     → IsTx (message_tx m) × (word ≡ tx_text (message_tx m))
 tx_word m given rest after first word is cut next e = (message_tx_valid m is, cc)
 
--- it has this name and this transaction
-pub has_parts : (m : Kind) (name : MessageName) (tx : TxParts) (given rest after : List (List ℕ)) (first word : List ℕ)
-    → IsMessage m × (first ≡ message_name_text name) × IsTx tx × (word ≡ tx_text tx)
-    → given ≡ first ∷ rest → rest ≡ word ∷ after → given ≡ message_words m
-    → IsKindBy name tx m × (after ≡ message_args m)
-has_parts m name tx given rest after first word is cut next e =
-    let named : message_name_text (message_name m) ≡ message_name_text name = let n = is.1 in cc in
-    let about : tx_text (message_tx m) ≡ tx_text tx = let t = is.3 in cc in
-    let others : after ≡ message_args m = cc in
-    let by : IsKindBy name tx m = record {
-      fits = message_fits m is.0;
-      named = name_injective (message_name m) name named;
-      about = tx_injective (message_tx m) tx (message_tx_valid m is.0) is.2 about;
-    } in
-    (by, others)
-
--- there is one of these parts
-pub same_kind : (name : MessageName) (tx : TxParts) (k m : Kind) → IsKindBy name tx k × IsKindBy name tx m → message_args k ≡ message_args m
-    → k ≡ m
-same_kind name tx k m by e =
-    kind_injective k m (by.0.fits, by.1.fits) (by.0.named ∙ sym by.1.named) (by.0.about ∙ sym by.1.about) e
+-- it is about this transaction, and its other words are these
+pub about : (m : Kind) (tx : TxParts) (given rest after : List (List ℕ)) (name word : List ℕ) → IsMessage m → IsTx tx × (word ≡ tx_text tx)
+    → given ≡ name ∷ rest → rest ≡ word ∷ after → given ≡ message_words m
+    → IsAbout tx m × (name ∷ after ≡ kind_words m)
+about m tx given rest after name word is read cut next e =
+    let about : tx_text (message_tx m) ≡ tx_text tx = let t = read.1 in cc in
+    let kind : name ∷ after ≡ kind_words m = cc in
+    (record { fits = message_fits m is; about = tx_injective (message_tx m) tx (message_tx_valid m is) read.0 about }, kind)
 
 pub message_injective : (a b : Kind) → IsMessage a → IsMessage b → message_words a ≡ message_words b → a ≡ b
 message_injective a b p q e =
-    let name : message_name_text (message_name a) ≡ message_name_text (message_name b) = cc in
     let tx : tx_text (message_tx a) ≡ tx_text (message_tx b) = cc in
-    kind_injective a b (message_fits a p, message_fits b q) (name_injective (message_name a) (message_name b) name)
-    (tx_injective (message_tx a) (message_tx b) (message_tx_valid a p) (message_tx_valid b q) tx) (cc)
-
--- phase 1b whose acceptor can't be read
-pub acceptor_fails : {args rest after : List (List ℕ)} {tx : TxParts} {first second : List ℕ} (r : Option (ℕ × Vote))
-    → args ≡ first ∷ second ∷ rest → FitsReport r × (rest ≡ report_words r ++ after)
-    → ((n : ℕ) → n < 256 → after ≡ node_text (A n) ∷ [] → ⊥) → (k : Kind) → IsKindBy MessageName.P1b tx k
-    → args ≡ message_args k → ⊥
-acceptor_fails r cut read none (P1b tx i m s a) is e =
-    let tail : report_words r ++ _ ≡ report_words s ++ node_text (A a) ∷ [] = let says = read.1 in cc in
-    none a is.fits.3 (report_front r s _ _ read.0 is.fits.2 tail).1
-acceptor_fails r cut read none k is e = absurd (cc (is.named))
+    let kind : kind_words a ≡ kind_words b = cc in
+    let same = tx_injective (message_tx a) (message_tx b) (message_tx_valid a p) (message_tx_valid b q) tx in
+    let said = kind_said (message_tx a) a (record { fits = message_fits a p; about = refl }) in
+    said.one b (record { fits = message_fits b q; about = sym same }) kind

@@ -7,10 +7,7 @@ use Rattle.std.proofs.lemmas.Fmt.{decimal_injective}
 use Rattle.std.proofs.lemmas.List.{length-append, get_or_at, get_or_append_left, append-nil, map_push}
 use Rattle.std.proofs.lemmas.List.Elements.{All-cons, All-append, All-map, All-push}
 use Rattle.std.proofs.lemmas.List.Quantifiers.{all_pairs_push}
-use Rattle.net_script.specs.Basics.{IsXid, IsTx, NodeId, L, R, Row, Action, Start, Put, Del, Get, End, EndFail}
-use Rattle.net_script.specs.Basics.{Rollback, Request, Call, Recover, Timeout, Event, Ask, Deliver, Lose, Cut, Noise, Tear, Restart}
-use Rattle.net_script.specs.Basics.{Compact}
-use Rattle.net_script.specs.declared.keywords.Keyword.{Keyword}
+use Rattle.net_script.specs.Basics.{Row}
 use Rattle.net_script.specs.declared.values.Sizes.{Sizes}
 use Rattle.net_script.specs.declared.values.Table.{Table}
 use Rattle.net_script.specs.declared.values.Command.{Command}
@@ -18,120 +15,23 @@ use Rattle.net_script.specs.declared.values.Command.TheVariants.{Do, Flow}
 use Rattle.net_script.specs.declared.values.Script.{Script}
 use Rattle.net_script.specs.declared.items.Item.{Item}
 use Rattle.net_script.specs.declared.items.Item.TheVariants.{Cluster, Contents, Then}
-use Rattle.net_script.specs.Events.{IsAction, IsAsked, IsEvent, verb_of, action_words, request_keyword, request_args, keyword_of}
-use Rattle.net_script.specs.Events.{event_args, event_words}
 use Rattle.net_script.specs.Items.{IsSizes, IsContents, IsCommand, IsItem, bundled_words, sizes_words, contents_words, command_words}
 use Rattle.net_script.specs.Items.{item_words}
 use Rattle.net_script.specs.Scripts.{script_items, IsScript}
-use Rattle.net_script.proofs.WordLemmas.{bytes_injective, differ}
-use Rattle.net_script.proofs.NameLemmas.{node_injective, manager_injective, xid_injective, tx_injective}
+use Rattle.net_script.proofs.WordLemmas.{differ}
+use Rattle.net_script.specs.NameLemmas.{manager_injective}
 use Rattle.net_script.proofs.TableLemmas.{rows_have_one_text}
 use Rattle.net_script.proofs.OneText.{HasOneText, texts_injective}
-use Rattle.net_script.proofs.ItemLemmas.{is_other, event_apart, keyword_injective}
+use Rattle.net_script.proofs.EventLemmas.{is_other, event_apart, event_injective}
 
 -- ---- one value for one list of words
 
-action_injective : (a b : Action) → IsAction a → IsAction b → verb_of a ≡ verb_of b → action_words a ≡ action_words b → a ≡ b
-action_injective Start Start p q v e = refl
-action_injective End End p q v e = refl
-action_injective EndFail EndFail p q v e = refl
-action_injective Rollback Rollback p q v e = refl
-action_injective (Del k) (Del l) p q v e = ap Del (bytes_injective k l p q (cc))
-action_injective (Get k) (Get l) p q v e = ap Get (bytes_injective k l p q (cc))
-action_injective (Put k x) (Put l y) p q v e =
-    ap (λ (z : List ℕ). Put z x) (bytes_injective k l p.0 q.0 (cc)) ∙ ap (Put l) (bytes_injective x y p.1 q.1 (cc))
-action_injective a b p q v e = absurd (cc)
-
--- what a request is in range of, whichever node is asked
-abbrev pub IsRequest : Request → Type 0
-IsRequest (Call xid action) = IsXid xid × IsAction action
-IsRequest Recover = Unit {0}
-IsRequest (Request.View tx) = IsTx tx
-IsRequest (Request.Commit tx) = IsTx tx
-IsRequest (Request.Status tx) = IsTx tx
-IsRequest (Timeout tx) = IsTx tx
-
-pub asked : (n : NodeId) (r : Request) → IsAsked n r → IsRequest r
-asked (R n) (Call x a) is = is
-asked (R n) Recover is = is
-asked (R n) (Request.View tx) is = is
-asked (R n) (Timeout tx) is = is
-asked (L n) (Request.Commit tx) is = is
-asked (L n) (Request.Status tx) is = is
-asked (L n) (Timeout tx) is = is
-asked n r is = absurd is
-
-request_injective : (r s : Request) → IsRequest r → IsRequest s → request_keyword r ≡ request_keyword s → request_args r ≡ request_args s
-    → r ≡ s
-request_injective Recover Recover p q w e = refl
-request_injective (Call x a) (Call y b) p q w e =
-    let xid : x ≡ y = xid_injective x y p.0 q.0 (cc) in
-    let act : a ≡ b = action_injective a b p.1 q.1 (cc) (cc) in
-    cc
-request_injective (Request.View x) (Request.View y) p q w e = ap Request.View (tx_injective x y p q (cc))
-request_injective (Request.Commit x) (Request.Commit y) p q w e = ap Request.Commit (tx_injective x y p q (cc))
-request_injective (Request.Status x) (Request.Status y) p q w e = ap Request.Status (tx_injective x y p q (cc))
-request_injective (Timeout x) (Timeout y) p q w e = ap Timeout (tx_injective x y p q (cc))
-request_injective r s p q w e = absurd (cc)
-
--- whether a keyword is that of a request
-abbrev is_request : Keyword → Bool
-is_request (Keyword.Call verb) = true
-is_request Keyword.Recover = true
-is_request Keyword.View = true
-is_request Keyword.Commit = true
-is_request Keyword.Status = true
-is_request Keyword.Timeout = true
-is_request keyword = false
-
-request_is : (r : Request) → is_request (request_keyword r) ≡ true
-request_is (Call x a) = refl
-request_is Recover = refl
-request_is (Request.View tx) = refl
-request_is (Request.Commit tx) = refl
-request_is (Request.Status tx) = refl
-request_is (Timeout tx) = refl
-
-request_apart : (r : Request) (k : Keyword) → is_request k ≡ false → request_keyword r ≡ k → ⊥
-request_apart r k other e =
-    let is = request_is r in
-    let same : is_request (request_keyword r) ≡ is_request k = ap is_request e in
-    absurd (cc)
-
-numbers_same : (m n : ℕ) → m < 2 ^ 32 → n < 2 ^ 32 → decimal m ≡ decimal n → m ≡ n
-numbers_same m n p q e = decimal_injective m n (omega arith) (omega arith) e
-
-args_injective : (a b : Event) → IsEvent a → IsEvent b → keyword_of a ≡ keyword_of b → event_args a ≡ event_args b → a ≡ b
-args_injective (Ask m r) (Ask n s) p q k e =
-    let node : m ≡ n = node_injective m n p.0 q.0 (cc) in
-    let request : r ≡ s = request_injective r s (asked m r p.1) (asked n s q.1) k (cc) in
-    cc
-args_injective (Ask m r) b p q k e = absurd (request_apart r _ refl k)
-args_injective a (Ask n s) p q k e = absurd (request_apart s _ refl (sym k))
-args_injective (Deliver m) (Deliver n) p q k e = ap Deliver (numbers_same m n p q (cc))
-args_injective (Lose m) (Lose n) p q k e = ap Lose (numbers_same m n p q (cc))
-args_injective (Cut m x) (Cut n y) p q k e =
-    let number : m ≡ n = numbers_same m n p.0 q.0 (cc) in
-    let bytes : x ≡ y = numbers_same x y p.1 q.1 (cc) in
-    cc
-args_injective (Noise m x) (Noise n y) p q k e =
-    let node : m ≡ n = node_injective m n p.0 q.0 (cc) in
-    let bytes : x ≡ y = bytes_injective x y p.1 q.1 (cc) in
-    cc
-args_injective (Tear m x) (Tear n y) p q k e =
-    let node : m ≡ n = node_injective m n p.0 q.0 (cc) in
-    let bytes : x ≡ y = numbers_same x y p.1 q.1 (cc) in
-    cc
-args_injective (Restart m) (Restart n) p q k e = ap Restart (node_injective m n p q (cc))
-args_injective (Compact m) (Compact n) p q k e = ap Compact (node_injective m n p q (cc))
-args_injective a b p q k e = absurd (cc)
-
-pub event_injective : (a b : Event) → IsEvent a → IsEvent b → event_words a ≡ event_words b → a ≡ b
-event_injective a b p q e = args_injective a b p q (keyword_injective (keyword_of a) (keyword_of b) (cc)) (cc)
+number_injective : (m n : ℕ) → m < 2 ^ 32 → n < 2 ^ 32 → decimal m ≡ decimal n → m ≡ n
+number_injective m n p q e = decimal_injective m n (omega arith) (omega arith) e
 
 command_injective : (a b : Command) → IsCommand a → IsCommand b → command_words a ≡ command_words b → a ≡ b
 command_injective (Do a) (Do b) p q e = ap Do (event_injective a b p q e)
-command_injective (Flow m) (Flow n) p q e = ap Flow (numbers_same m n p q (cc))
+command_injective (Flow m) (Flow n) p q e = ap Flow (number_injective m n p q (cc))
 command_injective (Do a) (Flow n) p q e = absurd (event_apart (codes "flow") a refl (cc))
 command_injective (Flow m) (Do b) p q e = absurd (event_apart (codes "flow") b refl (cc))
 

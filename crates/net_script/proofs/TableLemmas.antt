@@ -1,24 +1,23 @@
 -- Rows of a table's line.
-use Rattle.std.proofs.Common.{◌≡◌, ℕ, ◌<◌, true, not, eqb, List, [], ◌∷◌, ◌++◌, length, get_or, map, refl, sym, ap}
+use Rattle.std.proofs.Common.{suc, take, drop, ◌-◌, ◌≡◌, ℕ, ◌<◌, true, List, [], ◌∷◌, ◌++◌, length, get_or, map, sym, ap}
 use Rattle.std.proofs.Common.{subst, ◌∙◌, arith}
 use Rattle.std.specs.List.{All, AllPairs}
-use Rattle.std.proofs.lemmas.List.{length-append, get_or_at, get_or_append_left, append_assoc, map_push}
-use Rattle.std.proofs.lemmas.List.Elements.{All-push}
-use Rattle.std.proofs.lemmas.List.Quantifiers.{all_pairs_push}
+use Rattle.std.proofs.lemmas.List.{take_all}
+use Rattle.std.proofs.lemmas.List.Kept.{AllPairs-cons}
 use Rattle.xid.specs.Text.{lacks}
-use Rattle.xid.proofs.Texts.{list_all-hex_text, cut_same}
+use Rattle.xid.proofs.Texts.{cut_same}
 use Rattle.stable_record.specs.Facts.{IsKey}
 use Rattle.net_script.specs.Basics.{IsBytes, hex_text, Row}
+use Rattle.net_script.specs.RowLaws.{hex_lacks_equals, row_spelling}
 use Rattle.net_script.specs.Lines.{IsSome, bytes_text, row_text}
-use Rattle.net_script.specs.Items.{IsRow, AreRows}
+use Rattle.net_script.specs.declared.values.Table.{Table}
+use Rattle.net_script.specs.Items.{IsRow, IsContents, contents_words}
+use Rattle.net_script.specs.Spelling.{one_list}
 use Rattle.net_script.proofs.WordLemmas.{hex_injective, bytes_injective}
 use Rattle.net_script.proofs.OneText.{HasOneText}
 
 pub key_some : (xs : List ℕ) → IsKey xs → IsSome xs
 key_some xs is = (is.some, is.bytes)
-
-hex_lacks_equals : (xs : List ℕ) → IsBytes xs → lacks 61 (hex_text xs) ≡ true
-hex_lacks_equals xs bytes = list_all-hex_text (λ byte. not (eqb byte 61)) xs refl bytes
 
 -- a row's text is cut at its first `=` in one way
 pub cut_row : (row : Row) (text front back : List ℕ) → IsRow row → text ≡ row_text row
@@ -41,49 +40,37 @@ long_value row back bytes is e read long =
     let few = is.value.few in
     omega (arith, ap length same)
 
--- a row of these parts
-abbrev row : (key value : List ℕ) → Row
-row key value = record { key = key; value = value }
-
-row_injective : (a b : Row) → IsRow a → IsRow b → row_text a ≡ row_text b → a ≡ b
-row_injective a b is-a is-b e =
-    let cut =
-    cut_same 61 (hex_text a.key) (bytes_text a.value) (hex_text b.key) (bytes_text b.value) (hex_lacks_equals a.key is-a.key.bytes)
-    (hex_lacks_equals b.key is-b.key.bytes) e in
-    let key : a.key ≡ b.key = hex_injective a.key b.key is-a.key.bytes is-b.key.bytes cut.0 in
-    let value : a.value ≡ b.value = bytes_injective a.value b.value is-a.value.bytes is-b.value.bytes cut.1 in
-    let same : row a.key a.value ≡ row b.key b.value = cc in
-    same
-
 pub rows_have_one_text : HasOneText IsRow row_text
-rows_have_one_text = record { same = row_injective }
+rows_have_one_text = record { same = row_spelling.one }
 
--- in rows of distinct keys, none before a row has its key
-pub keys_before : (xs zs : List Row) (r : Row) → AllPairs (λ (a b : Row). a.key ≡ b.key → ⊥) (xs ++ r ∷ zs)
-    → All (λ (x : Row). x.key ≡ r.key → ⊥) xs
-keys_before xs zs r pairs k d lt e =
-    let at : get_or (xs ++ r ∷ zs) k d ≡ get_or xs k d = get_or_append_left xs (r ∷ zs) d k lt in
-    let here : get_or (xs ++ r ∷ zs) (length xs) d ≡ r = get_or_at xs r zs d (length xs) refl in
-    pairs k (length xs) d lt (omega (arith, length-append xs (r ∷ zs)))
-    (ap (λ (x : Row). x.key) at ∙ e ∙ ap (λ (x : Row). x.key) (sym here))
+pub table_rows : (rows : List Row) (t : Table) {rm : List ℕ} → All IsRow rows → IsContents t → rm ∷ map row_text rows ≡ contents_words t
+    → rows ≡ t.rows
+table_rows rows t each is e = one_list row_spelling rows t.rows each is.rows.each (cc)
 
--- the same key in the same rows
-pub keys_moved : (xs ys : List Row) (k l : List ℕ) → xs ≡ ys → k ≡ l → All (λ (x : Row). x.key ≡ k → ⊥) xs
-    → All (λ (x : Row). x.key ≡ l → ⊥) ys
-keys_moved xs ys k l e h all =
-    subst (λ (m : List ℕ). All (λ (x : Row). x.key ≡ m → ⊥) ys) h (subst (λ (zs : List Row). All (λ (x : Row). x.key ≡ k → ⊥) zs) e all)
+-- ---- the first row, and those after it
 
--- one more row, of a new key
-pub rows_push : (xs : List Row) (r : Row) → AreRows xs → IsRow r → All (λ (x : Row). x.key ≡ r.key → ⊥) xs → AreRows (xs ++ r ∷ [])
-rows_push xs r are is new = record {
-  each = All-push IsRow xs r are.each is;
-  keys = all_pairs_push (λ (a b : Row). a.key ≡ b.key → ⊥) xs r are.keys new;
-}
+rest_is : (x : Row) (xs : List Row) → take (length (x ∷ xs) - 1) xs ≡ xs
+rest_is x xs = take_all (length (x ∷ xs) - 1) xs (omega arith)
 
--- the words of one more row
-pub words_more : (xs : List Row) (r : Row) (rest : List (List ℕ)) (word : List ℕ) (after : List (List ℕ)) → rest ≡ word ∷ after
-    → word ≡ row_text r
-    → map row_text xs ++ rest ≡ map row_text (xs ++ r ∷ []) ++ after
-words_more xs r rest word after cut text =
-    ap (λ (ws : List (List ℕ)). map row_text xs ++ ws) (cut ∙ ap (λ (w : List ℕ). w ∷ after) text)
-    ∙ sym (append_assoc (map row_text xs) (row_text r ∷ []) after) ∙ ap (λ (ws : List (List ℕ)). ws ++ after) (sym (map_push row_text xs r))
+pub more_rows : (rows : List Row) (first : Row) (key : List ℕ) → 0 < length rows → first ≡ get_or rows 0 first → key ≡ first.key
+    → All (λ (row : Row). row.key ≡ key → ⊥) (take (length rows - 1) (drop 1 rows))
+    → AllPairs (λ (a b : Row). a.key ≡ b.key → ⊥) (take (length rows - 1) (drop 1 rows))
+    → AllPairs (λ (a b : Row). a.key ≡ b.key → ⊥) rows
+more_rows [] first key some at is new pairs = absurd (omega arith)
+more_rows (x ∷ xs) first key some at is new pairs =
+    let others = subst (λ (ys : List Row). All (λ (row : Row). row.key ≡ key → ⊥) ys) (rest_is x xs) new in
+    AllPairs-cons (λ (a b : Row). a.key ≡ b.key → ⊥) x xs
+    (λ i d lt e. others i d lt (sym e ∙ sym (is ∙ ap (λ (row : Row). row.key) at)))
+    (subst (λ (ys : List Row). AllPairs (λ (a b : Row). a.key ≡ b.key → ⊥) ys) (rest_is x xs) pairs)
+
+pub first_row : (rows : List Row) (first : Row) (key : List ℕ) → 0 < length rows → first ≡ get_or rows 0 first → key ≡ first.key
+    → AllPairs (λ (a b : Row). a.key ≡ b.key → ⊥) rows
+    → All (λ (row : Row). row.key ≡ key → ⊥) (take (length rows - 1) (drop 1 rows))
+    × AllPairs (λ (a b : Row). a.key ≡ b.key → ⊥) (take (length rows - 1) (drop 1 rows))
+first_row [] first key some at is pairs = absurd (omega arith)
+first_row (x ∷ xs) first key some at is pairs = (
+  subst (λ (ys : List Row). All (λ (row : Row). row.key ≡ key → ⊥) ys) (sym (rest_is x xs))
+      (λ i d lt e. pairs 0 (suc i) d (omega arith) (omega arith) (sym (is ∙ ap (λ (row : Row). row.key) at) ∙ sym e)),
+  subst (λ (ys : List Row). AllPairs (λ (a b : Row). a.key ≡ b.key → ⊥) ys) (sym (rest_is x xs))
+      (λ i j d lt within. pairs (suc i) (suc j) d (omega arith) (omega arith)),
+)

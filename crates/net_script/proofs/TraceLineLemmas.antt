@@ -1,81 +1,30 @@
 -- Each line of a trace says one thing.
-use Rattle.std.proofs.Common.{◌≡◌, ℕ, ◌<◌, Bool, true, false, cond, eqb, List, [], ◌∷◌, ◌++◌, length, refl, sym, ap, subst}
+use Rattle.std.proofs.Common.{◌≡◌, ℕ, ◌<◌, Bool, true, false, List, [], ◌∷◌, ◌++◌, length, refl, sym, ap, subst}
 use Rattle.std.proofs.Common.{◌∙◌, arith, codes}
 use Rattle.std.specs.List.{AllByRecursion}
 use Rattle.std.proofs.lemmas.Fmt.{decimal_injective}
-use Rattle.net_script.specs.Basics.{TxParts, number_of, Refusal, View, NodeId, R, Row}
-use Rattle.net_script.specs.Basics.{Answer, Done, Code, Value, NoValue, Xids, Stands, Refused, Change, Sent, Event, Kind}
+use Rattle.net_script.specs.Basics.{TxParts, View, NodeId, R, Row, Answer, Change, Sent, Event, Kind}
 use Rattle.net_script.specs.declared.trace_lines.TraceLine.{TraceLine}
 use Rattle.net_script.specs.declared.trace_lines.TraceLine.TheVariants.{Cluster, Contents, Happened, Served, Changed, Datagram, Final}
 use Rattle.net_script.specs.declared.values.Sizes.{Sizes}
 use Rattle.net_script.specs.declared.values.Table.{Table}
 use Rattle.net_script.specs.Lines.{words, node_text}
 use Rattle.net_script.specs.Items.{IsSizes, IsContents, sizes_words, contents_words}
-use Rattle.net_script.specs.Events.{IsNode, IsEvent, keyword_text, keyword_of, event_words}
-use Rattle.net_script.specs.Answers.{IsTold, IsAnswer, view_text, answer_word_text, answer_word, answer_args, answer_words}
+use Rattle.net_script.specs.Events.{IsNode, IsEvent, event_word, event_words}
+use Rattle.net_script.specs.Answers.{IsAnswer, view_text, answer_words}
 use Rattle.net_script.specs.Traces.{joined_words, serve_words, change_words, sent_words}
 use Rattle.net_script.specs.TraceLines.{IsChange, IsSent, AreFinalRows, IsTraceLine, final_words, trace_line_words, trace_line_text}
 use Rattle.net_script.specs.TraceLines.{whole_line, is_tidy}
-use Rattle.net_script.proofs.WordLemmas.{bytes_injective, differ}
-use Rattle.net_script.proofs.NameLemmas.{node_injective, manager_injective, tx_injective}
+use Rattle.net_script.proofs.WordLemmas.{differ}
+use Rattle.net_script.specs.NameLemmas.{node_injective, manager_injective, tx_injective}
 use Rattle.net_script.proofs.OneText.{HasOneText, texts_injective}
 use Rattle.net_script.proofs.TableLemmas.{rows_have_one_text}
-use Rattle.net_script.proofs.ItemLemmas.{event_apart}
-use Rattle.net_script.proofs.ScriptLemmas.{event_injective, sizes_injective, table_injective}
-use Rattle.net_script.proofs.AnswerLemmas.{xids_have_one_text, refusal_small, answer_word_injective}
+use Rattle.net_script.proofs.EventLemmas.{event_apart, event_injective}
+use Rattle.net_script.proofs.ScriptLemmas.{sizes_injective, table_injective}
+use Rattle.net_script.proofs.AnswerLemmas.{answer_injective}
 use Rattle.net_script.proofs.MessageLemmas.{message_injective}
 use Rattle.net_script.proofs.CleanWords.{IsClean, IsCommon, event_common, line_clean}
 use Rattle.net_script.proofs.TidyText.{words_joined, tidy_joined, tidy_is_joined}
-
--- ---- answers
-
--- the refusal of a number that is told
-abbrev told_of : ℕ → Refusal
-told_of n =
-    cond (eqb n 2) Refusal.BadTx (cond (eqb n 3) Refusal.BadMessage (cond (eqb n 4) Refusal.Damaged (cond (eqb n 5) Refusal.RecordFault
-    (cond (eqb n 6) Refusal.NoBallot (cond (eqb n 8) Refusal.Down (cond (eqb n 9) Refusal.Busy (cond (eqb n 10) Refusal.Full
-    (cond (eqb n 11) Refusal.NoMemory (cond (eqb n 12) Refusal.PortFault (cond (eqb n 14) Refusal.Forged Refusal.NoSuch))))))))))
-
-told_same : (r : Refusal) → IsTold r → told_of (number_of r) ≡ r
-told_same Refusal.BadTx is = refl
-told_same Refusal.BadMessage is = refl
-told_same Refusal.Damaged is = refl
-told_same Refusal.RecordFault is = refl
-told_same Refusal.NoBallot is = refl
-told_same Refusal.Down is = refl
-told_same Refusal.Busy is = refl
-told_same Refusal.Full is = refl
-told_same Refusal.NoMemory is = refl
-told_same Refusal.PortFault is = refl
-told_same Refusal.Forged is = refl
-told_same Refusal.NoSuch is = refl
-told_same r is = absurd is
-
-refusal_injective : (r s : Refusal) → IsTold r → IsTold s → number_of r ≡ number_of s → r ≡ s
-refusal_injective r s p q e = sym (told_same r p) ∙ ap told_of e ∙ told_same s q
-
-args_injective : (a b : Answer) → IsAnswer a → IsAnswer b → answer_word a ≡ answer_word b → answer_args a ≡ answer_args b → a ≡ b
-args_injective Done Done p q w e = refl
-args_injective (Code c) (Code d) p q w e =
-    let same : c ≡ d = cc in
-    ap Code same
-args_injective (Value x) (Value y) p q w e = ap Value (bytes_injective x y p q (cc))
-args_injective NoValue NoValue p q w e = refl
-args_injective (Xids xs) (Xids ys) p q w e = ap Xids (texts_injective xids_have_one_text xs ys p q e)
-args_injective (Stands s) (Stands t) p q w e =
-    let same : s ≡ t = cc in
-    ap Stands same
-args_injective (Refused r) (Refused s) p q w e =
-    let small-r = refusal_small r p in
-    let small-s = refusal_small s q in
-    ap Refused (refusal_injective r s p q (decimal_injective (number_of r) (number_of s) (omega arith) (omega arith) (cc)))
-args_injective a b p q w e = absurd (cc)
-
-pub answer_injective : (a b : Answer) → IsAnswer a → IsAnswer b → answer_words a ≡ answer_words b → a ≡ b
-answer_injective a b p q e =
-    let first : answer_word_text (answer_word a) ≡ answer_word_text (answer_word b) = cc in
-    let word = answer_word_injective (answer_word a) (answer_word b) first in
-    args_injective a b p q word (cc)
 
 -- ---- lines
 
@@ -168,7 +117,7 @@ is_happened said = false
 
 -- the first word of an event begins no other line
 pub happened_apart : (said : TraceLine) (e : Event) (rest : List (List ℕ)) → is_happened said ≡ false
-    → trace_line_words said ≡ keyword_text (keyword_of e) ∷ rest → ⊥
+    → trace_line_words said ≡ event_word e ∷ rest → ⊥
 happened_apart (Cluster s) e rest h x = event_apart (codes "cluster") e refl (cc)
 happened_apart (Contents t) e rest h x = event_apart (codes "table") e refl (cc)
 happened_apart (Happened d a) e rest h x = absurd (cc)

@@ -1,13 +1,12 @@
 -- Pieces, lines and words of a text, and the texts of nodes and bytes.
 use Rattle.std.proofs.Common.{eq-eqb, ◌≡◌, ℕ, ◌*◌, ◌<◌, ◌^◌, Bool, true, false, cond, not, ◌⊎◌, inl, inr, eqb, List, [], ◌∷◌}
-use Rattle.std.proofs.Common.{◌+◌, ◌-◌, ◌≤◌, take, get_or, ◌++◌, length, Ok, Err, Option, None, Some, refl, sym, ap, subst, ◌∙◌, arith}
+use Rattle.std.proofs.Common.{◌+◌, ◌-◌, ◌≤◌, take, get_or, ◌++◌, length, Ok, Option, None, Some, refl, sym, ap, subst, ◌∙◌, arith}
 use Rattle.std.proofs.Common.{decimal}
 use Rattle.std.proofs.lemmas.List.{length-append}
 use Rattle.std.specs.List.{onto_first}
 use Rattle.std.proofs.lemmas.Bool.{not-true, not-false}
 use Rattle.std.specs.Str.{bytes_eq}
 use Rattle.std.proofs.lemmas.Slice.Eq.{bytes_eq-Decides}
-use Rattle.std.proofs.lemmas.Bool.Decides.{nat_tests}
 use Rattle.std.proofs.lemmas.Fmt.{decimal_injective, decimal-digits_value}
 use Rattle.std.proofs.lemmas.Int.Digits.{digits_value_more, digits_more}
 use Rattle.std.proofs.lemmas.Str.{digit_value_digit}
@@ -15,21 +14,14 @@ use Rattle.std.proofs.lemmas.Str.Parse.{numerals_by_value, tells_digits}
 use Rattle.std.specs.Char.{digit_value}
 use Rattle.std.specs.Int.{IsInRange}
 use Rattle.std.specs.Str.Parse.{AllDigits, digits_value}
-use Rattle.hex.proofs.HexLemmas.{decode_of-encode_lower}
-use Rattle.hex.specs.Hex.{decode_of}
-use Rattle.hex.specs.declared.error.FromHexError.{FromHexError}
 use Rattle.xid.specs.Text.{lacks}
-use Rattle.xid.proofs.Texts.{first_true, second_true, length-hex_text}
-use Rattle.net_script.specs.Basics.{IsBytes, hex_text}
-use Rattle.net_script.specs.Lines.{pieces, IsFirstPiece, IsSome, Reads, bytes_text}
+use Rattle.xid.proofs.Texts.{first_true, second_true}
+use Rattle.net_script.specs.Lines.{pieces, IsFirstPiece, Reads}
+pub use Rattle.net_script.specs.HexLemmas.{differ, hex_some, hex_decodes, hex_again, hex_injective, bytes_are_hex, bytes_injective, hex_long}
 
 pub second_holds : {A B : Type 0} → A ⊎ B → (A → ⊥) → B
 second_holds (inl a) other = absurd (other a)
 second_holds (inr b) other = b
-
--- two literals that differ
-pub differ : (a b : List ℕ) → a ≡ b → bytes_eq a b ≡ false → ⊥
-differ a b e h = let same : bytes_eq a b ≡ true = (bytes_eq-Decides a b).1 e in absurd (cc)
 
 -- what `==` and `!=` of two texts say
 pub texts_differ : (a b : List ℕ) (r : Bool) → r ≡ bytes_eq a b → r ≡ false → a ≡ b → ⊥
@@ -90,45 +82,6 @@ pub large_number : (m n : ℕ) → m < 2 ^ 32 → 255 < m → n < 256 → decima
 large_number m n small large lt e =
     let same : m ≡ n = decimal_injective m n (omega arith) (omega arith) e in
     omega arith
-
--- ---- bytes
-
-pub hex_some : (y text : List ℕ) → IsSome y → length text ≡ 0 → text ≡ hex_text y → ⊥
-hex_some y text is none e = let some = is.0 in omega (arith, ap length e, length-hex_text y)
-
-pub hex_decodes : (y text : List ℕ) (e : FromHexError) → IsSome y → text ≡ hex_text y → decode_of text ≡ Err e → ⊥
-hex_decodes y text e is same h =
-    let d : decode_of text ≡ Ok y = ap decode_of same ∙ decode_of-encode_lower y is.1 in absurd (cc)
-
-pub hex_again : (y text bytes : List ℕ) → IsSome y → text ≡ hex_text y → decode_of text ≡ Ok bytes → hex_text bytes ≡ text
-hex_again y text bytes is same h =
-    let d : decode_of text ≡ Ok y = ap decode_of same ∙ decode_of-encode_lower y is.1 in
-    let b : bytes ≡ y = cc in
-    ap hex_text b ∙ sym same
-
-pub hex_injective : (a b : List ℕ) → IsBytes a → IsBytes b → hex_text a ≡ hex_text b → a ≡ b
-hex_injective a b bytes-a bytes-b e =
-    let left : decode_of (hex_text a) ≡ Ok a = decode_of-encode_lower a bytes-a in
-    let right : decode_of (hex_text b) ≡ Ok b = decode_of-encode_lower b bytes-b in
-    let both : decode_of (hex_text a) ≡ decode_of (hex_text b) = ap decode_of e in
-    cc
-
-pub hex_not_dash : (y : List ℕ) → hex_text y ≡ 45 ∷ [] → ⊥
-hex_not_dash y e = omega (arith, ap length e, length-hex_text y)
-
--- bytes that aren't `-` are hex
-pub bytes_are_hex : (y text : List ℕ) → IsBytes y → (text ≡ 45 ∷ [] → ⊥) → text ≡ bytes_text y → IsSome y × (text ≡ hex_text y)
-bytes_are_hex [] text bytes other e = absurd (other e)
-bytes_are_hex (x ∷ y) text bytes other e = ((omega arith, bytes), e)
-
-pub bytes_injective : (a b : List ℕ) → IsBytes a → IsBytes b → bytes_text a ≡ bytes_text b → a ≡ b
-bytes_injective [] [] p q e = refl
-bytes_injective [] (y ∷ b) p q e = absurd (hex_not_dash (y ∷ b) (sym e))
-bytes_injective (x ∷ a) [] p q e = absurd (hex_not_dash (x ∷ a) e)
-bytes_injective (x ∷ a) (y ∷ b) p q e = hex_injective (x ∷ a) (y ∷ b) p q e
-
-pub hex_long : (text bytes : List ℕ) (r : Bool) → r ≡ eqb (length text) 0 → r ≡ false → length text ≡ 2 * length bytes → 0 < length bytes
-hex_long text bytes r is no' len = grind (arith, nat_tests)
 
 -- ---- numbers
 

@@ -1,10 +1,9 @@
 -- What an event may be answered in a trace, and the words of an answer.
-use Rattle.std.specs.Prelude.{◌≡◌, ℕ, List, [], ◌∷◌, map, codes, decimal}
+use Rattle.std.specs.Prelude.{ℕ, List, [], ◌∷◌, map, codes, decimal}
 use Rattle.std.specs.Fmt.{signed_decimal}
 use Rattle.std.specs.List.{All}
 use Rattle.net_script.specs.Basics.{IsBytes, IsXid, xid_text, code_number, number_of, XaCode, Refusal, Standing, View}
 use Rattle.net_script.specs.Basics.{Answer, Done, Code, Value, NoValue, Xids, Stands, Refused}
-use Rattle.net_script.specs.declared.answer_words.AnswerWord.{AnswerWord}
 use Rattle.net_script.specs.Lines.{bytes_text}
 
 -- ---- what is in range
@@ -54,24 +53,14 @@ view_text View.Committed = codes "committed"
 view_text View.Aborted = codes "aborted"
 
 -- the first word of an answer
-abbrev pub answer_word_text : AnswerWord → List ℕ
-answer_word_text AnswerWord.Done = codes "ok"
-answer_word_text (AnswerWord.Code code) = signed_decimal (code_number code)
-answer_word_text AnswerWord.Value = codes "value"
-answer_word_text AnswerWord.NoValue = codes "none"
-answer_word_text AnswerWord.Xids = codes "xids"
-answer_word_text (AnswerWord.Stands standing) = standing_text standing
-answer_word_text AnswerWord.Refused = codes "refused"
-
--- which first word an answer has
-abbrev pub answer_word : Answer → AnswerWord
-answer_word Done = AnswerWord.Done
-answer_word (Code code) = AnswerWord.Code code
-answer_word (Value bytes) = AnswerWord.Value
-answer_word NoValue = AnswerWord.NoValue
-answer_word (Xids xids) = AnswerWord.Xids
-answer_word (Stands standing) = AnswerWord.Stands standing
-answer_word (Refused refusal) = AnswerWord.Refused
+abbrev pub answer_word : Answer → List ℕ
+answer_word Done = codes "ok"
+answer_word (Code code) = signed_decimal (code_number code)
+answer_word (Value bytes) = codes "value"
+answer_word NoValue = codes "none"
+answer_word (Xids xids) = codes "xids"
+answer_word (Stands standing) = standing_text standing
+answer_word (Refused refusal) = codes "refused"
 
 -- the words of an answer after its first
 abbrev pub answer_args : Answer → List (List ℕ)
@@ -85,7 +74,7 @@ answer_args (Refused refusal) = decimal (number_of refusal) ∷ []
 
 -- the words of an answer
 abbrev pub answer_words : Answer → List (List ℕ)
-answer_words answer = answer_word_text (answer_word answer) ∷ answer_args answer
+answer_words answer = answer_word answer ∷ answer_args answer
 
 -- ---- for the readers of answers
 
@@ -98,8 +87,3 @@ code_text XaCode.Inval = codes "-5"
 code_text XaCode.Proto = codes "-6"
 code_text XaCode.RmFail = codes "-7"
 code_text XaCode.DupId = codes "-8"
-
--- an answer in range that has this first word
-pub record IsAnswerBy (word : AnswerWord) (answer : Answer) : Type 0 where
-  pub range : IsAnswer answer
-  pub word_is : answer_word answer ≡ word

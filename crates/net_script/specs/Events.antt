@@ -1,10 +1,8 @@
 -- What may happen in a script, and the one list of words of each event: those of traces too.
-use Rattle.std.specs.Prelude.{◌≡◌, ℕ, ◌<◌, ◌^◌, List, [], ◌∷◌, codes, decimal}
+use Rattle.std.specs.Prelude.{ℕ, ◌<◌, ◌^◌, List, [], ◌∷◌, codes, decimal}
 use Rattle.net_script.specs.Basics.{IsBytes, IsXid, IsTx, xid_text, tx_text, NodeId, A, L, R, Action, Start, Put, Del, Get, End}
 use Rattle.net_script.specs.Basics.{EndFail, Rollback, Request, Call, Recover, Timeout, Event, Ask, Deliver, Lose, Cut, Noise}
 use Rattle.net_script.specs.Basics.{Tear, Restart, Compact}
-use Rattle.net_script.specs.declared.keywords.Verb.{Verb}
-use Rattle.net_script.specs.declared.keywords.Keyword.{Keyword}
 use Rattle.net_script.specs.Lines.{bytes_text, node_text}
 
 -- ---- what is in range
@@ -50,60 +48,35 @@ IsEvent (Compact node) = IsNode node
 
 -- ---- the first words
 
--- the first word of a call
-abbrev pub verb_text : Verb → List ℕ
-verb_text Verb.Start = codes "start"
-verb_text Verb.Put = codes "put"
-verb_text Verb.Del = codes "del"
-verb_text Verb.Get = codes "get"
-verb_text Verb.End = codes "end"
-verb_text Verb.Rollback = codes "rollback"
+-- of a call; that of an end with `fail` is the one of an end
+abbrev pub action_word : Action → List ℕ
+action_word Start = codes "start"
+action_word (Put key value) = codes "put"
+action_word (Del key) = codes "del"
+action_word (Get key) = codes "get"
+action_word End = codes "end"
+action_word EndFail = codes "end"
+action_word Rollback = codes "rollback"
 
--- the verb of a call; that of an end with `fail` is the one of an end
-abbrev pub verb_of : Action → Verb
-verb_of Start = Verb.Start
-verb_of (Put key value) = Verb.Put
-verb_of (Del key) = Verb.Del
-verb_of (Get key) = Verb.Get
-verb_of End = Verb.End
-verb_of EndFail = Verb.End
-verb_of Rollback = Verb.Rollback
+-- of a request
+abbrev pub request_word : Request → List ℕ
+request_word (Call xid action) = action_word action
+request_word Recover = codes "recover"
+request_word (Request.View tx) = codes "view"
+request_word (Request.Commit tx) = codes "commit"
+request_word (Request.Status tx) = codes "status"
+request_word (Timeout tx) = codes "timeout"
 
--- the first word of an event
-abbrev pub keyword_text : Keyword → List ℕ
-keyword_text (Keyword.Call verb) = verb_text verb
-keyword_text Keyword.Recover = codes "recover"
-keyword_text Keyword.View = codes "view"
-keyword_text Keyword.Commit = codes "commit"
-keyword_text Keyword.Status = codes "status"
-keyword_text Keyword.Timeout = codes "timeout"
-keyword_text Keyword.Deliver = codes "deliver"
-keyword_text Keyword.Lose = codes "lose"
-keyword_text Keyword.Cut = codes "cut"
-keyword_text Keyword.Noise = codes "noise"
-keyword_text Keyword.Tear = codes "tear"
-keyword_text Keyword.Restart = codes "restart"
-keyword_text Keyword.Compact = codes "compact"
-
--- the keyword of a request
-abbrev pub request_keyword : Request → Keyword
-request_keyword (Call xid action) = Keyword.Call (verb_of action)
-request_keyword Recover = Keyword.Recover
-request_keyword (Request.View tx) = Keyword.View
-request_keyword (Request.Commit tx) = Keyword.Commit
-request_keyword (Request.Status tx) = Keyword.Status
-request_keyword (Timeout tx) = Keyword.Timeout
-
--- the keyword of an event
-abbrev pub keyword_of : Event → Keyword
-keyword_of (Ask node request) = request_keyword request
-keyword_of (Deliver number) = Keyword.Deliver
-keyword_of (Lose number) = Keyword.Lose
-keyword_of (Cut number bytes) = Keyword.Cut
-keyword_of (Noise node bytes) = Keyword.Noise
-keyword_of (Tear node bytes) = Keyword.Tear
-keyword_of (Restart node) = Keyword.Restart
-keyword_of (Compact node) = Keyword.Compact
+-- of an event
+abbrev pub event_word : Event → List ℕ
+event_word (Ask node request) = request_word request
+event_word (Deliver number) = codes "deliver"
+event_word (Lose number) = codes "lose"
+event_word (Cut number bytes) = codes "cut"
+event_word (Noise node bytes) = codes "noise"
+event_word (Tear node bytes) = codes "tear"
+event_word (Restart node) = codes "restart"
+event_word (Compact node) = codes "compact"
 
 -- ---- the words after the first
 
@@ -139,16 +112,17 @@ event_args (Compact node) = node_text node ∷ []
 
 -- the words of an event
 abbrev pub event_words : Event → List (List ℕ)
-event_words event = keyword_text (keyword_of event) ∷ event_args event
+event_words event = event_word event ∷ event_args event
 
 -- ---- for the readers of events
 
--- an action in range that has this first word
-pub record IsCall (v : Verb) (action : Action) : Type 0 where
-  pub range : IsAction action
-  pub word : verb_of action ≡ v
+-- a node that has timeouts
+abbrev pub IsParty : NodeId → Type 0
+IsParty (A number) = ⊥
+IsParty node = IsNode node
 
--- an event in range that has this first word
-pub record IsEventBy (word : Keyword) (event : Event) : Type 0 where
-  pub range : IsEvent event
-  pub word_is : keyword_of event ≡ word
+-- how an end ends
+abbrev pub IsEnding : Action → Type 0
+IsEnding End = Unit {0}
+IsEnding EndFail = Unit {0}
+IsEnding action = ⊥

@@ -1,10 +1,16 @@
 pub mod Basics
 pub mod Lines
+pub mod Spelling
 pub mod Events
+pub mod HexLemmas
+pub mod NameLemmas
+pub mod Laws
 pub mod Items
+pub mod RowLaws
 pub mod Answers
 pub mod Scripts
 pub mod Messages
+pub mod MessageLaws
 pub mod Traces
 pub mod TraceLines
 pub mod TraceReading

@@ -1,12 +1,11 @@
 -- The words of messages, as a trace prints them.
-use Rattle.std.specs.Prelude.{◌≡◌, ℕ, ◌<◌, ◌≤◌, ◌^◌, List, [], ◌∷◌, ◌++◌, length, map, codes, decimal, Option, Some, None}
-use Rattle.std.specs.List.{All}
-use Rattle.xid.specs.Limits.{most_branches}
+use Rattle.std.specs.Prelude.{◌≡◌, ℕ, ◌<◌, ◌^◌, List, [], ◌∷◌, ◌++◌, map, codes, decimal, Option, Some, None}
 use Rattle.net_script.specs.Basics.{TxParts, tx_text, message_tx, Vote, Kind, Prepare, P1a, P1b, P2a, P2b, Commit, Abort, B1a, B1b, B2b, A}
 use Rattle.net_script.specs.Basics.{R}
 use Rattle.net_script.specs.Basics.{InstanceReport, InstanceAccept}
-use Rattle.net_script.specs.declared.message_words.MessageName.{MessageName}
+use Rattle.net_script.specs.declared.message_words.Reported.{Reported}
 use Rattle.net_script.specs.Lines.{node_text}
+use Rattle.net_script.specs.Spelling.{AreItems}
 
 -- a vote
 abbrev pub vote_text : Vote → List ℕ
@@ -39,37 +38,19 @@ report_item_text item = node_text (R item.instance) ++ 58 ∷ report_text item.r
 abbrev pub accept_item_text : InstanceAccept → List ℕ
 accept_item_text item = node_text (R item.instance) ++ 58 ∷ accepted_text item.ballot item.vote
 
--- the first words of messages
-abbrev pub message_name_text : MessageName → List ℕ
-message_name_text MessageName.Prepare = codes "prepare"
-message_name_text MessageName.P1a = codes "p1a"
-message_name_text MessageName.P1b = codes "p1b"
-message_name_text MessageName.P2a = codes "p2a"
-message_name_text MessageName.P2b = codes "p2b"
-message_name_text MessageName.Commit = codes "commit"
-message_name_text MessageName.Abort = codes "abort"
-message_name_text MessageName.Ask = codes "ask"
-message_name_text MessageName.B1a = codes "b1a"
-message_name_text MessageName.B1b = codes "b1b"
-message_name_text MessageName.B2b = codes "b2b"
-
--- which first word a message has
-abbrev pub message_name : Kind → MessageName
-message_name (Prepare tx) = MessageName.Prepare
-message_name (P1a tx rm ballot) = MessageName.P1a
-message_name (P1b tx rm ballot report acceptor) = MessageName.P1b
-message_name (P2a tx rm ballot vote) = MessageName.P2a
-message_name (P2b tx rm ballot vote acceptor) = MessageName.P2b
-message_name (Commit tx) = MessageName.Commit
-message_name (Abort tx) = MessageName.Abort
-message_name (Kind.Ask tx rm) = MessageName.Ask
-message_name (B1a tx ballot) = MessageName.B1a
-message_name (B1b tx ballot acceptor reports) = MessageName.B1b
-message_name (B2b tx acceptor accepts) = MessageName.B2b
-
 -- the first word of a message
 abbrev pub message_word : Kind → List ℕ
-message_word message = message_name_text (message_name message)
+message_word (Prepare tx) = codes "prepare"
+message_word (P1a tx rm ballot) = codes "p1a"
+message_word (P1b tx rm ballot report acceptor) = codes "p1b"
+message_word (P2a tx rm ballot vote) = codes "p2a"
+message_word (P2b tx rm ballot vote acceptor) = codes "p2b"
+message_word (Commit tx) = codes "commit"
+message_word (Abort tx) = codes "abort"
+message_word (Kind.Ask tx rm) = codes "ask"
+message_word (B1a tx ballot) = codes "b1a"
+message_word (B1b tx ballot acceptor reports) = codes "b1b"
+message_word (B2b tx acceptor accepts) = codes "b2b"
 
 -- the words of a message after its transaction
 abbrev pub message_args : Kind → List (List ℕ)
@@ -106,18 +87,6 @@ pub record FitsAcceptItem (item : InstanceAccept) : Type 0 where
   pub instance : item.instance < 256
   pub ballot : item.ballot < 2 ^ 32
 
--- items of phase 1b: one at least, and no more than a bundle holds
-pub record AreReportItems (items : List InstanceReport) : Type 0 where
-  pub some : 0 < length items
-  pub few : length items ≤ most_branches
-  pub each : All FitsReportItem items
-
--- items of phase 2b: one at least, and no more than a bundle holds
-pub record AreAcceptItems (items : List InstanceAccept) : Type 0 where
-  pub some : 0 < length items
-  pub few : length items ≤ most_branches
-  pub each : All FitsAcceptItem items
-
 -- a message, or what has the form of one: its numbers are those of words
 abbrev pub FitsKind : Kind → Type 0
 FitsKind (Prepare tx) = Unit {0}
@@ -129,11 +98,21 @@ FitsKind (Commit tx) = Unit {0}
 FitsKind (Abort tx) = Unit {0}
 FitsKind (Kind.Ask tx rm) = rm < 256
 FitsKind (B1a tx ballot) = ballot < 2 ^ 32
-FitsKind (B1b tx ballot acceptor reports) = (ballot < 2 ^ 32) × (acceptor < 256) × AreReportItems reports
-FitsKind (B2b tx acceptor accepts) = (acceptor < 256) × AreAcceptItems accepts
+FitsKind (B1b tx ballot acceptor reports) = (ballot < 2 ^ 32) × (acceptor < 256) × AreItems FitsReportItem reports
+FitsKind (B2b tx acceptor accepts) = (acceptor < 256) × AreItems FitsAcceptItem accepts
 
--- what has the form of a message of this name, about this transaction
-pub record IsKindBy (name : MessageName) (tx : TxParts) (kind : Kind) : Type 0 where
+-- the words of a message without its transaction
+abbrev pub kind_words : Kind → List (List ℕ)
+kind_words kind = message_word kind ∷ message_args kind
+
+-- what has the form of a message about this transaction
+pub record IsAbout (tx : TxParts) (kind : Kind) : Type 0 where
   pub fits : FitsKind kind
-  pub named : message_name kind ≡ name
   pub about : message_tx kind ≡ tx
+
+-- the words of phase 1b after its ballot
+abbrev pub FitsReported : Reported → Type 0
+FitsReported r = FitsReport r.report × (r.acceptor < 256)
+
+abbrev pub reported_words : Reported → List (List ℕ)
+reported_words r = report_words r.report ++ node_text (A r.acceptor) ∷ []

@@ -1,37 +1,18 @@
 //! Words that say what an event was answered.
 
-ghost use Rattle.std.specs.Prelude.{◌≡◌, ◌≢◌, [], MatchOption, map};
+ghost use Rattle.std.specs.Prelude.{◌≡◌, ◌≢◌, ◌∷◌, true, MatchOption};
 ghost use Rattle.std.specs.Fmt.{signed_decimal};
-ghost use Rattle.std.specs.List.{All};
-ghost use Rattle.net_script.specs.Basics.{IsXid, Answer, Refusal, XaCode, Standing, View, xid_text, code_number, number_of};
+ghost use Rattle.net_script.specs.Basics.{Refusal, XaCode, Standing, View, code_number, number_of};
 ghost use Rattle.net_script.specs.Lines.{Reads, words};
-ghost use Rattle.net_script.specs.Answers.{IsTold, IsAnswer, IsAnswerBy, standing_text, view_text, code_text, answer_word_text};
-ghost use Rattle.net_script.specs.Answers.{answer_args, answer_words};
+ghost use Rattle.net_script.specs.Spelling.{Finds};
+ghost use Rattle.net_script.specs.Answers.{IsTold, IsAnswer, standing_text, view_text, code_text, answer_words};
 
-use crate::args::{last_bytes, last_number};
-use crate::words::{is_over, next_word};
+use crate::stop::{Stop, or_none};
+use crate::word::{Words, is_word};
+use crate::words::next_word;
 use protocol::{Answer, Standing, View};
 use std::alloc::Global;
-use xid::{Refusal, Sequence, XaCode, Xid};
-
-/// The first word of an answer.
-#[derive(Clone, Copy, Debug)]
-pub enum AnswerWord {
-    /// `ok`
-    Done,
-    /// The number of a code.
-    Code(XaCode),
-    /// `value`
-    Value,
-    /// `none`
-    NoValue,
-    /// `xids`
-    Xids,
-    /// Where a transaction stands.
-    Stands(Standing),
-    /// `refused`
-    Refused,
-}
+use xid::{Refusal, XaCode};
 
 /// The code of this text.
 fn code_of(word: &[u8]) -> Option<XaCode>
@@ -140,91 +121,42 @@ fn refusal_numbered(number: u32) -> Option<Refusal>
     }
 }
 
-/// The first word of an answer that this word is.
-fn answer_word_named(word: &[u8]) -> Option<AnswerWord>
-    ensures { MatchOption result ((w : AnswerWord) → word.now ≢ answer_word_text w) (λ w. word.now ≡ answer_word_text w) }
+/// The answer of this first word, by those after it.
+fn answer_by(alloc: Global, name: &[u8], args: &[u8]) -> Result<Answer, Stop>
+    ensures { Finds true IsAnswer answer_words (name.now ∷ words args.now) result }
 {
-    if word == b"ok".as_slice() {
-        return Some(AnswerWord::Done);
+    if is_word(name, b"ok") {
+        let () = Words::read(alloc, args)?;
+        return Ok(Answer::Done);
     }
-    if let Some(code) = code_named(word) {
-        return Some(AnswerWord::Code(code));
+    if let Some(code) = code_named(name) {
+        let () = Words::read(alloc, args)?;
+        return Ok(Answer::Code(code));
     }
-    if word == b"value".as_slice() {
-        return Some(AnswerWord::Value);
+    if is_word(name, b"value") {
+        let (bytes, ()) = Words::read(alloc, args)?;
+        return Ok(Answer::Value(bytes));
     }
-    if word == b"none".as_slice() {
-        return Some(AnswerWord::NoValue);
+    if is_word(name, b"none") {
+        let () = Words::read(alloc, args)?;
+        return Ok(Answer::NoValue);
     }
-    if word == b"xids".as_slice() {
-        return Some(AnswerWord::Xids);
+    if is_word(name, b"xids") {
+        let xids = Words::read(alloc, args)?;
+        return Ok(Answer::Xids(xids));
     }
-    if let Some(standing) = standing_named(word) {
-        return Some(AnswerWord::Stands(standing));
+    if let Some(standing) = standing_named(name) {
+        let () = Words::read(alloc, args)?;
+        return Ok(Answer::Stands(standing));
     }
-    if word == b"refused".as_slice() {
-        return Some(AnswerWord::Refused);
-    }
-    None
-}
-
-/// The XIDs of the words.
-fn read_xids(alloc: Global, args: &[u8]) -> Result<Option<Sequence<Xid>>, Refusal>
-    ensures { Reads (All IsXid) (map xid_text) (words args.now) result }
-{
-    let mut xids = Vec::new(alloc);
-    let mut rest = args;
-    while let Some((word, after)) = next_word(rest) {
-        let Ok(xid) = Xid::read(word) else {
-            return Ok(None);
+    if is_word(name, b"refused") {
+        let (number, ()) = Words::read(alloc, args)?;
+        let Some(refusal) = refusal_numbered(number) else {
+            return Err(Stop::Wrong);
         };
-        xids.push(xid)?;
-        rest = after;
+        return Ok(Answer::Refused(refusal));
     }
-    Ok(Some(Sequence::new(xids)))
-}
-
-/// An answer that is one word.
-fn read_plain(answer: Answer, args: &[u8]) -> Option<Answer>
-    ensures { MatchOption result (words args.now ≢ []) (λ a. (a ≡ answer) × (words args.now ≡ [])) }
-{
-    if is_over(args) {
-        return Some(answer);
-    }
-    None
-}
-
-/// An answer of this first word.
-fn read_by(alloc: Global, word: AnswerWord, args: &[u8]) -> Result<Option<Answer>, Refusal>
-    ensures { Reads (IsAnswerBy word) answer_args (words args.now) result }
-{
-    match word {
-        AnswerWord::Done => Ok(read_plain(Answer::Done, args)),
-        AnswerWord::Code(code) => Ok(read_plain(Answer::Code(code), args)),
-        AnswerWord::Value => {
-            let Some(bytes) = last_bytes(alloc, args)? else {
-                return Ok(None);
-            };
-            Ok(Some(Answer::Value(bytes)))
-        }
-        AnswerWord::NoValue => Ok(read_plain(Answer::NoValue, args)),
-        AnswerWord::Xids => {
-            let Some(xids) = read_xids(alloc, args)? else {
-                return Ok(None);
-            };
-            Ok(Some(Answer::Xids(xids)))
-        }
-        AnswerWord::Stands(standing) => Ok(read_plain(Answer::Stands(standing), args)),
-        AnswerWord::Refused => {
-            let Some(number) = last_number(args) else {
-                return Ok(None);
-            };
-            let Some(refusal) = refusal_numbered(number) else {
-                return Ok(None);
-            };
-            Ok(Some(Answer::Refused(refusal)))
-        }
-    }
+    Err(Stop::Wrong)
 }
 
 /// The answer of these words.
@@ -232,14 +164,8 @@ fn read_by(alloc: Global, word: AnswerWord, args: &[u8]) -> Result<Option<Answer
 pub(crate) fn read_answer(alloc: Global, args: &[u8]) -> Result<Option<Answer>, Refusal>
     ensures { Reads IsAnswer answer_words (words args.now) result }
 {
-    let Some((first, rest)) = next_word(args) else {
+    let Some((name, args)) = next_word(args) else {
         return Ok(None);
     };
-    let Some(word) = answer_word_named(first) else {
-        return Ok(None);
-    };
-    let Some(answer) = read_by(alloc, word, rest)? else {
-        return Ok(None);
-    };
-    Ok(Some(answer))
+    or_none(answer_by(alloc, name, args))
 }

@@ -1,228 +1,149 @@
 //! Events, and what else a script asks for.
 
-ghost use Rattle.std.specs.Prelude.{◌≡◌, ◌≢◌, MatchOption};
-ghost use Rattle.net_script.specs.Basics.{Event};
-ghost use Rattle.net_script.specs.declared.keywords.Keyword.{Keyword};
+ghost use Rattle.std.specs.Prelude.{◌≡◌, ◌∷◌, false, true};
+ghost use Rattle.net_script.specs.Basics.{R, Ask, Call};
 ghost use Rattle.net_script.specs.Lines.{Reads, words};
-ghost use Rattle.net_script.specs.Events.{IsEvent, IsEventBy, event_args, event_words};
+ghost use Rattle.net_script.specs.Spelling.{Finds};
+ghost use Rattle.net_script.specs.Events.{IsEvent, IsEnding, action_words, event_words};
 ghost use Rattle.net_script.specs.Items.{IsCommand, command_words};
+ghost use Rattle.net_script.specs.Laws.{ending_spelling};
 
-use crate::args::{last_bytes, last_node, last_number, last_tx, leader, manager, node, number};
-use crate::calls::read_call;
-use crate::keywords::{Keyword, keyword_named};
+use crate::nodes::{Leader, Manager, Party};
+use crate::stop::{Stop, or_none};
 use crate::values::Command;
+use crate::word::{Words, is_word};
 use crate::words::{is_over, next_word};
-use protocol::{Event, NodeId, Request};
+use protocol::{Action, Event, NodeId, Request};
 use std::alloc::Global;
-use xid::Refusal;
+use xid::{Refusal, Xid};
 
-/// Which branches of the only node are prepared.
-#[inline(never)]
-fn read_recover(args: &[u8]) -> Option<Event>
-    ensures { MatchOption result
-        ((e : Event) → IsEventBy Keyword.Recover e → words args.now ≢ event_args e)
-        (λ e. IsEventBy Keyword.Recover e × (words args.now ≡ event_args e)) }
-{
-    let Some((rm, rest)) = manager(args) else {
-        return None;
-    };
-    if !is_over(rest) {
-        return None;
+/// How an end ends: with no word more, or with `fail`.
+#[derive(Drop)]
+pub struct Ending(Action);
+
+impl Words for Ending {
+    ghost fit = { λ ending. IsEnding ending.0 };
+
+    ghost texts = { λ ending. action_words ending.0 };
+
+    ghost allocate = { false };
+
+    ghost spellings = { ending_spelling };
+
+    fn read(_alloc: Global, args: &[u8]) -> Result<Ending, Stop> {
+        let Some((word, rest)) = next_word(args) else {
+            return Ok(Ending(Action::End));
+        };
+        if !is_word(word, b"fail") || !is_over(rest) {
+            return Err(Stop::Wrong);
+        }
+        Ok(Ending(Action::EndFail))
     }
-    Some(Event::Ask {
-        node: NodeId::R(rm),
-        request: Request::Recover,
-    })
 }
 
-/// Where a resource manager stands in a transaction.
-#[inline(never)]
-fn read_view(alloc: Global, args: &[u8]) -> Result<Option<Event>, Refusal>
-    ensures { Reads (IsEventBy Keyword.View) event_args (words args.now) result }
+/// A request of a node.
+fn ask(node: NodeId, request: Request) -> Event
+    ensures { result ≡ Ask node request }
 {
-    let Some((rm, rest)) = manager(args) else {
-        return Ok(None);
-    };
-    let Some(tx) = last_tx(alloc, rest)? else {
-        return Ok(None);
-    };
-    Ok(Some(Event::Ask {
-        node: NodeId::R(rm),
-        request: Request::View { tx },
-    }))
+    Event::Ask { node, request }
 }
 
-/// That a leader is to commit a transaction.
-#[inline(never)]
-fn read_commit(alloc: Global, args: &[u8]) -> Result<Option<Event>, Refusal>
-    ensures { Reads (IsEventBy Keyword.Commit) event_args (words args.now) result }
+/// A call of a resource manager.
+fn call(rm: u8, xid: Xid, action: Action) -> Event
+    ensures { result ≡ Ask (R rm) (Call xid action) }
 {
-    let Some((number, rest)) = leader(args) else {
-        return Ok(None);
-    };
-    let Some(tx) = last_tx(alloc, rest)? else {
-        return Ok(None);
-    };
-    Ok(Some(Event::Ask {
-        node: NodeId::L(number),
-        request: Request::Commit { tx },
-    }))
+    ask(NodeId::R(rm), Request::Call { xid, action })
 }
 
-/// What a leader knows of a transaction.
+/// The event of this first word, by those after it.
 #[inline(never)]
-fn read_status(alloc: Global, args: &[u8]) -> Result<Option<Event>, Refusal>
-    ensures { Reads (IsEventBy Keyword.Status) event_args (words args.now) result }
+pub(crate) fn event_by(alloc: Global, name: &[u8], args: &[u8]) -> Result<Event, Stop>
+    ensures { Finds true IsEvent event_words (name.now ∷ words args.now) result }
 {
-    let Some((number, rest)) = leader(args) else {
-        return Ok(None);
-    };
-    let Some(tx) = last_tx(alloc, rest)? else {
-        return Ok(None);
-    };
-    Ok(Some(Event::Ask {
-        node: NodeId::L(number),
-        request: Request::Status { tx },
-    }))
-}
-
-/// That a leader or a resource manager waited too long.
-#[inline(never)]
-fn read_timeout(alloc: Global, args: &[u8]) -> Result<Option<Event>, Refusal>
-    ensures { Reads (IsEventBy Keyword.Timeout) event_args (words args.now) result }
-{
-    let Some((node, rest)) = node(args) else {
-        return Ok(None);
-    };
-    if let NodeId::A(_) = node {
-        return Ok(None);
+    if is_word(name, b"deliver") {
+        let (number, ()) = Words::read(alloc, args)?;
+        return Ok(Event::Deliver { number });
     }
-    let Some(tx) = last_tx(alloc, rest)? else {
-        return Ok(None);
-    };
-    Ok(Some(Event::Ask {
-        node,
-        request: Request::Timeout { tx },
-    }))
-}
-
-/// A datagram, and how many of its bytes.
-#[inline(never)]
-fn read_cut(args: &[u8]) -> Option<Event>
-    ensures { MatchOption result
-        ((e : Event) → IsEventBy Keyword.Cut e → words args.now ≢ event_args e)
-        (λ e. IsEventBy Keyword.Cut e × (words args.now ≡ event_args e)) }
-{
-    let Some((number, rest)) = number(args) else {
-        return None;
-    };
-    let Some(bytes) = last_number(rest) else {
-        return None;
-    };
-    Some(Event::Cut { number, bytes })
-}
-
-/// A node, and bytes that come to it.
-#[inline(never)]
-fn read_noise(alloc: Global, args: &[u8]) -> Result<Option<Event>, Refusal>
-    ensures { Reads (IsEventBy Keyword.Noise) event_args (words args.now) result }
-{
-    let Some((node, rest)) = node(args) else {
-        return Ok(None);
-    };
-    let Some(bytes) = last_bytes(alloc, rest)? else {
-        return Ok(None);
-    };
-    Ok(Some(Event::Noise { node, bytes }))
-}
-
-/// A node, and how many bytes of its next frame are kept.
-#[inline(never)]
-fn read_tear(args: &[u8]) -> Option<Event>
-    ensures { MatchOption result
-        ((e : Event) → IsEventBy Keyword.Tear e → words args.now ≢ event_args e)
-        (λ e. IsEventBy Keyword.Tear e × (words args.now ≡ event_args e)) }
-{
-    let Some((node, rest)) = node(args) else {
-        return None;
-    };
-    let Some(bytes) = last_number(rest) else {
-        return None;
-    };
-    Some(Event::Tear { node, bytes })
-}
-
-/// A datagram to deliver.
-#[inline(never)]
-fn read_deliver(args: &[u8]) -> Option<Event>
-    ensures { MatchOption result
-        ((e : Event) → IsEventBy Keyword.Deliver e → words args.now ≢ event_args e)
-        (λ e. IsEventBy Keyword.Deliver e × (words args.now ≡ event_args e)) }
-{
-    let Some(number) = last_number(args) else {
-        return None;
-    };
-    Some(Event::Deliver { number })
-}
-
-/// A datagram to lose.
-#[inline(never)]
-fn read_lose(args: &[u8]) -> Option<Event>
-    ensures { MatchOption result
-        ((e : Event) → IsEventBy Keyword.Lose e → words args.now ≢ event_args e)
-        (λ e. IsEventBy Keyword.Lose e × (words args.now ≡ event_args e)) }
-{
-    let Some(number) = last_number(args) else {
-        return None;
-    };
-    Some(Event::Lose { number })
-}
-
-/// A node to restart.
-#[inline(never)]
-fn read_restart(args: &[u8]) -> Option<Event>
-    ensures { MatchOption result
-        ((e : Event) → IsEventBy Keyword.Restart e → words args.now ≢ event_args e)
-        (λ e. IsEventBy Keyword.Restart e × (words args.now ≡ event_args e)) }
-{
-    let Some(node) = last_node(args) else {
-        return None;
-    };
-    Some(Event::Restart { node })
-}
-
-/// A node to compact.
-#[inline(never)]
-fn read_compact(args: &[u8]) -> Option<Event>
-    ensures { MatchOption result
-        ((e : Event) → IsEventBy Keyword.Compact e → words args.now ≢ event_args e)
-        (λ e. IsEventBy Keyword.Compact e × (words args.now ≡ event_args e)) }
-{
-    let Some(node) = last_node(args) else {
-        return None;
-    };
-    Some(Event::Compact { node })
-}
-
-/// An event of this first word.
-fn read_by(alloc: Global, keyword: Keyword, args: &[u8]) -> Result<Option<Event>, Refusal>
-    ensures { Reads (IsEventBy keyword) event_args (words args.now) result }
-{
-    match keyword {
-        Keyword::Call(verb) => read_call(alloc, verb, args),
-        Keyword::Recover => Ok(read_recover(args)),
-        Keyword::View => read_view(alloc, args),
-        Keyword::Commit => read_commit(alloc, args),
-        Keyword::Status => read_status(alloc, args),
-        Keyword::Timeout => read_timeout(alloc, args),
-        Keyword::Deliver => Ok(read_deliver(args)),
-        Keyword::Lose => Ok(read_lose(args)),
-        Keyword::Cut => Ok(read_cut(args)),
-        Keyword::Noise => read_noise(alloc, args),
-        Keyword::Tear => Ok(read_tear(args)),
-        Keyword::Restart => Ok(read_restart(args)),
-        Keyword::Compact => Ok(read_compact(args)),
+    if is_word(name, b"lose") {
+        let (number, ()) = Words::read(alloc, args)?;
+        return Ok(Event::Lose { number });
     }
+    if is_word(name, b"cut") {
+        let (number, (bytes, ())) = Words::read(alloc, args)?;
+        return Ok(Event::Cut { number, bytes });
+    }
+    if is_word(name, b"noise") {
+        let (node, (bytes, ())) = Words::read(alloc, args)?;
+        return Ok(Event::Noise { node, bytes });
+    }
+    if is_word(name, b"tear") {
+        let (node, (bytes, ())) = Words::read(alloc, args)?;
+        return Ok(Event::Tear { node, bytes });
+    }
+    if is_word(name, b"restart") {
+        let (node, ()) = Words::read(alloc, args)?;
+        return Ok(Event::Restart { node });
+    }
+    if is_word(name, b"compact") {
+        let (node, ()) = Words::read(alloc, args)?;
+        return Ok(Event::Compact { node });
+    }
+    if is_word(name, b"start") {
+        let (Manager(rm), (xid, ())) = Words::read(alloc, args)?;
+        return Ok(call(rm, xid, Action::Start));
+    }
+    if is_word(name, b"put") {
+        let (Manager(rm), (xid, (key, (value, ())))) = Words::read(alloc, args)?;
+        return Ok(call(rm, xid, Action::Put { key, value }));
+    }
+    if is_word(name, b"del") {
+        let (Manager(rm), (xid, (key, ()))) = Words::read(alloc, args)?;
+        return Ok(call(rm, xid, Action::Del { key }));
+    }
+    if is_word(name, b"get") {
+        let (Manager(rm), (xid, (key, ()))) = Words::read(alloc, args)?;
+        return Ok(call(rm, xid, Action::Get { key }));
+    }
+    if is_word(name, b"end") {
+        let (Manager(rm), (xid, Ending(action))) = Words::read(alloc, args)?;
+        return Ok(call(rm, xid, action));
+    }
+    if is_word(name, b"rollback") {
+        let (Manager(rm), (xid, ())) = Words::read(alloc, args)?;
+        return Ok(call(rm, xid, Action::Rollback));
+    }
+    if is_word(name, b"recover") {
+        let (Manager(rm), ()) = Words::read(alloc, args)?;
+        return Ok(ask(NodeId::R(rm), Request::Recover));
+    }
+    if is_word(name, b"view") {
+        let (Manager(rm), (tx, ())) = Words::read(alloc, args)?;
+        return Ok(ask(NodeId::R(rm), Request::View { tx }));
+    }
+    if is_word(name, b"commit") {
+        let (Leader(leader), (tx, ())) = Words::read(alloc, args)?;
+        return Ok(ask(NodeId::L(leader), Request::Commit { tx }));
+    }
+    if is_word(name, b"status") {
+        let (Leader(leader), (tx, ())) = Words::read(alloc, args)?;
+        return Ok(ask(NodeId::L(leader), Request::Status { tx }));
+    }
+    if is_word(name, b"timeout") {
+        let (Party(node), (tx, ())) = Words::read(alloc, args)?;
+        return Ok(ask(node, Request::Timeout { tx }));
+    }
+    Err(Stop::Wrong)
+}
+
+/// The command of this first word, by those after it.
+pub(crate) fn command_by(alloc: Global, name: &[u8], args: &[u8]) -> Result<Command, Stop>
+    ensures { Finds true IsCommand command_words (name.now ∷ words args.now) result }
+{
+    if is_word(name, b"flow") {
+        let (most, ()) = Words::read(alloc, args)?;
+        return Ok(Command::Flow(most));
+    }
+    Ok(Command::Do(event_by(alloc, name, args)?))
 }
 
 /// The event of these words.
@@ -230,33 +151,18 @@ fn read_by(alloc: Global, keyword: Keyword, args: &[u8]) -> Result<Option<Event>
 pub(crate) fn read_event(alloc: Global, text: &[u8]) -> Result<Option<Event>, Refusal>
     ensures { Reads IsEvent event_words (words text.now) result }
 {
-    let Some((word, args)) = next_word(text) else {
+    let Some((name, args)) = next_word(text) else {
         return Ok(None);
     };
-    let Some(keyword) = keyword_named(word) else {
-        return Ok(None);
-    };
-    let Some(event) = read_by(alloc, keyword, args)? else {
-        return Ok(None);
-    };
-    Ok(Some(event))
+    or_none(event_by(alloc, name, args))
 }
 
 /// The command of these words.
 pub fn read_command(alloc: Global, line: &[u8]) -> Result<Option<Command>, Refusal>
     ensures { Reads IsCommand command_words (words line.now) result }
 {
-    let Some((word, args)) = next_word(line) else {
+    let Some((name, args)) = next_word(line) else {
         return Ok(None);
     };
-    if word == b"flow".as_slice() {
-        let Some(most) = last_number(args) else {
-            return Ok(None);
-        };
-        return Ok(Some(Command::Flow(most)));
-    }
-    let Some(event) = read_event(alloc, line)? else {
-        return Ok(None);
-    };
-    Ok(Some(Command::Do(event)))
+    or_none(command_by(alloc, name, args))
 }

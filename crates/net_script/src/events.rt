@@ -2,26 +2,25 @@
 
 ghost use Rattle.std.specs.Prelude.{◌≡◌, ◌++◌, IfErr, OnOk};
 ghost use Rattle.net_script.specs.Basics.{NoMemory};
-ghost use Rattle.net_script.specs.Events.{verb_of, action_words, request_keyword, request_args, keyword_of, event_args, event_words};
+ghost use Rattle.net_script.specs.Events.{action_word, action_words, request_word, request_args, event_word, event_args, event_words};
 ghost use Rattle.net_script.specs.Traces.{spaced_words, joined_words};
 
-use crate::keywords::{Keyword, Verb, keyword_word};
 use crate::pieces::{put_bytes_word, put_node, put_number, put_tx, put_word, put_xid};
 use protocol::{Action, Event, Request};
 use std::alloc::Global;
 use xid::Refusal;
 
-/// The verb of a call.
-fn verb_of(action: &Action) -> Verb
-    ensures { result ≡ verb_of action.now }
+/// The first word of a call.
+fn action_word(action: &Action) -> &'static [u8]
+    ensures { result.now ≡ action_word action.now }
 {
     match action {
-        Action::Start => Verb::Start,
-        Action::Put { .. } => Verb::Put,
-        Action::Del { .. } => Verb::Del,
-        Action::Get { .. } => Verb::Get,
-        Action::End | Action::EndFail => Verb::End,
-        Action::Rollback => Verb::Rollback,
+        Action::Start => b"start",
+        Action::Put { .. } => b"put",
+        Action::Del { .. } => b"del",
+        Action::Get { .. } => b"get",
+        Action::End | Action::EndFail => b"end",
+        Action::Rollback => b"rollback",
     }
 }
 
@@ -42,17 +41,17 @@ fn put_action(alloc: Global, out: &mut Vec<u8>, action: &Action) -> Result<(), R
     Ok(())
 }
 
-/// The keyword of a request.
-fn request_keyword(request: &Request) -> Keyword
-    ensures { result ≡ request_keyword request.now }
+/// The first word of a request.
+fn request_word(request: &Request) -> &'static [u8]
+    ensures { result.now ≡ request_word request.now }
 {
     match request {
-        Request::Call { action, .. } => Keyword::Call(verb_of(action)),
-        Request::Recover => Keyword::Recover,
-        Request::View { .. } => Keyword::View,
-        Request::Commit { .. } => Keyword::Commit,
-        Request::Status { .. } => Keyword::Status,
-        Request::Timeout { .. } => Keyword::Timeout,
+        Request::Call { action, .. } => action_word(action),
+        Request::Recover => b"recover",
+        Request::View { .. } => b"view",
+        Request::Commit { .. } => b"commit",
+        Request::Status { .. } => b"status",
+        Request::Timeout { .. } => b"timeout",
     }
 }
 
@@ -75,19 +74,19 @@ fn put_request(alloc: Global, out: &mut Vec<u8>, request: &Request) -> Result<()
     Ok(())
 }
 
-/// The keyword of an event.
-fn keyword_of(event: &Event) -> Keyword
-    ensures { result ≡ keyword_of event.now }
+/// The first word of an event.
+fn event_word(event: &Event) -> &'static [u8]
+    ensures { result.now ≡ event_word event.now }
 {
     match event {
-        Event::Ask { request, .. } => request_keyword(request),
-        Event::Deliver { .. } => Keyword::Deliver,
-        Event::Lose { .. } => Keyword::Lose,
-        Event::Cut { .. } => Keyword::Cut,
-        Event::Noise { .. } => Keyword::Noise,
-        Event::Tear { .. } => Keyword::Tear,
-        Event::Restart { .. } => Keyword::Restart,
-        Event::Compact { .. } => Keyword::Compact,
+        Event::Ask { request, .. } => request_word(request),
+        Event::Deliver { .. } => b"deliver",
+        Event::Lose { .. } => b"lose",
+        Event::Cut { .. } => b"cut",
+        Event::Noise { .. } => b"noise",
+        Event::Tear { .. } => b"tear",
+        Event::Restart { .. } => b"restart",
+        Event::Compact { .. } => b"compact",
     }
 }
 
@@ -124,7 +123,7 @@ pub(crate) fn put_event(alloc: Global, out: &mut Vec<u8>, event: &Event) -> Resu
     ensures ok { OnOk result (out.new.items ≡ out.old.items ++ joined_words (event_words event.now)) }
     ensures err { IfErr result (λ e. e ≡ NoMemory) }
 {
-    out.extend_from_slice(keyword_word(keyword_of(event)))?;
+    out.extend_from_slice(event_word(event))?;
     put_event_args(alloc, out, event)?;
     Ok(())
 }

@@ -1,222 +1,73 @@
 //! Words that are messages.
 
-ghost use Rattle.std.specs.Prelude.{◌≡◌, ◌≢◌, [], ◌∷◌, ◌++◌, ℕ, ◌<◌, ◌^◌, List, Option, MatchOption, decimal, map};
-ghost use Rattle.net_script.specs.Basics.{IsMessage, A, R, Kind, Vote, InstanceReport, InstanceAccept};
+ghost use Rattle.std.specs.Prelude.{◌≡◌, ◌≢◌, ◌∷◌, ◌++◌, ℕ, ◌<◌, ◌^◌, false, List, MatchOption};
+ghost use Rattle.net_script.specs.Basics.{IsMessage, Kind, R};
 ghost use Rattle.net_script.specs.Lines.{words, node_text};
-ghost use Rattle.net_script.specs.Messages.{vote_text, report_words, accepted_text, report_text, report_item_text, accept_item_text};
-ghost use Rattle.net_script.specs.Messages.{message_name_text, message_args, message_words};
-ghost use Rattle.net_script.specs.Messages.{FitsReport, FitsReportItem, FitsAcceptItem, AreReportItems, AreAcceptItems, IsKindBy};
+ghost use Rattle.net_script.specs.Spelling.{Finds};
+ghost use Rattle.net_script.specs.Messages.{vote_text, accepted_text, report_text, report_item_text, accept_item_text, message_words};
+ghost use Rattle.net_script.specs.Messages.{FitsReport, FitsReportItem, FitsAcceptItem, IsAbout, kind_words, FitsReported, reported_words};
+ghost use Rattle.net_script.specs.MessageLaws.{vote_spelling, report_item_spelling, accept_item_spelling, reported_spelling};
 
-use crate::args::{last_number, manager, number};
 use crate::known::{KnownTx, read_tx};
+use crate::nodes::{Acceptor, Manager};
 use crate::numbers;
-use crate::words::{acceptor_word, is_over, manager_word, next_word};
+use crate::stop::Stop;
+use crate::word::{Word, Words, is_word};
+use crate::words::{manager_word, next_word};
 use std::alloc::Global;
-use wire::{InstanceAccept, InstanceReport, Items, Kind, Message, is_message};
-use xid::{Ballot, MAX_BRANCHES, ManagerNumber, Tx, Vote, text};
+use wire::{InstanceAccept, InstanceReport, Kind, Message, is_message};
+use xid::{Ballot, ManagerNumber, Tx, Vote, text};
 
-/// The first word of a message.
-#[derive(Clone, Copy, Debug)]
-pub enum MessageName {
-    /// `prepare`
-    Prepare,
-    /// `p1a`
-    P1a,
-    /// `p1b`
-    P1b,
-    /// `p2a`
-    P2a,
-    /// `p2b`
-    P2b,
-    /// `commit`
-    Commit,
-    /// `abort`
-    Abort,
-    /// `ask`
-    Ask,
-    /// `b1a`
-    B1a,
-    /// `b1b`
-    B1b,
-    /// `b2b`
-    B2b,
-}
+impl Word for Vote {
+    ghost fits = { λ vote. Unit {0} };
 
-/// The name that this word is.
-fn message_named(word: &[u8]) -> Option<MessageName>
-    ensures { MatchOption result ((n : MessageName) → word.now ≢ message_name_text n) (λ n. word.now ≡ message_name_text n) }
-{
-    if word == b"prepare".as_slice() {
-        return Some(MessageName::Prepare);
-    }
-    if word == b"p1a".as_slice() {
-        return Some(MessageName::P1a);
-    }
-    if word == b"p1b".as_slice() {
-        return Some(MessageName::P1b);
-    }
-    if word == b"p2a".as_slice() {
-        return Some(MessageName::P2a);
-    }
-    if word == b"p2b".as_slice() {
-        return Some(MessageName::P2b);
-    }
-    if word == b"commit".as_slice() {
-        return Some(MessageName::Commit);
-    }
-    if word == b"abort".as_slice() {
-        return Some(MessageName::Abort);
-    }
-    if word == b"ask".as_slice() {
-        return Some(MessageName::Ask);
-    }
-    if word == b"b1a".as_slice() {
-        return Some(MessageName::B1a);
-    }
-    if word == b"b1b".as_slice() {
-        return Some(MessageName::B1b);
-    }
-    if word == b"b2b".as_slice() {
-        return Some(MessageName::B2b);
-    }
-    None
-}
+    ghost text = { vote_text };
 
-/// The vote of this word.
-fn vote_named(word: &[u8]) -> Option<Vote>
-    ensures { MatchOption result ((v : Vote) → word.now ≢ vote_text v) (λ v. word.now ≡ vote_text v) }
-{
-    if word == b"prepared".as_slice() {
-        return Some(Vote::Prepared);
+    ghost allocates = { false };
+
+    ghost spelling = { vote_spelling };
+
+    fn read(_alloc: Global, word: &[u8]) -> Result<Vote, Stop> {
+        if is_word(word, b"prepared") {
+            return Ok(Vote::Prepared);
+        }
+        if is_word(word, b"aborted") {
+            return Ok(Vote::Aborted);
+        }
+        Err(Stop::Wrong)
     }
-    if word == b"aborted".as_slice() {
-        return Some(Vote::Aborted);
-    }
-    None
-}
-
-/// The vote that is the first word, and the rest.
-fn vote(args: &[u8]) -> Option<(Vote, &[u8])>
-    ensures { MatchOption result
-        ((v : Vote) (ws : List (List ℕ)) → words args.now ≢ vote_text v ∷ ws)
-        (λ found. words args.now ≡ vote_text found.0 ∷ words found.1.now) }
-{
-    let Some((word, rest)) = next_word(args) else {
-        return None;
-    };
-    let Some(vote) = vote_named(word) else {
-        return None;
-    };
-    Some((vote, rest))
-}
-
-/// The acceptor that is the only word.
-fn last_acceptor(args: &[u8]) -> Option<u8>
-    ensures { MatchOption result
-        ((n : ℕ) → n < 256 → words args.now ≢ node_text (A n) ∷ [])
-        (λ n. words args.now ≡ node_text (A n) ∷ []) }
-{
-    let Some((word, rest)) = next_word(args) else {
-        return None;
-    };
-    let Some(acceptor) = acceptor_word(word) else {
-        return None;
-    };
-    if !is_over(rest) {
-        return None;
-    }
-    Some(acceptor)
-}
-
-/// The acceptor that is the first word, and the rest.
-fn acceptor(args: &[u8]) -> Option<(u8, &[u8])>
-    ensures { MatchOption result
-        ((n : ℕ) (ws : List (List ℕ)) → n < 256 → words args.now ≢ node_text (A n) ∷ ws)
-        (λ found. words args.now ≡ node_text (A found.0) ∷ words found.1.now) }
-{
-    let Some((word, rest)) = next_word(args) else {
-        return None;
-    };
-    let Some(acceptor) = acceptor_word(word) else {
-        return None;
-    };
-    Some((acceptor, rest))
-}
-
-/// The instance and the ballot of the first words, and the rest.
-fn instance(args: &[u8]) -> Option<(u8, Ballot, &[u8])>
-    ensures { MatchOption result
-        ((rm ballot : ℕ) (ws : List (List ℕ)) → rm < 256 → ballot < 2 ^ 32 → words args.now ≢ node_text (R rm) ∷ decimal ballot ∷ ws)
-        (λ found. words args.now ≡ node_text (R found.0) ∷ decimal found.1 ∷ words found.2.now) }
-{
-    let Some((rm, rest)) = manager(args) else {
-        return None;
-    };
-    let Some((ballot, rest)) = number(rest) else {
-        return None;
-    };
-    Some((rm, ballot, rest))
-}
-
-/// The report of the first words, and the rest.
-fn report(args: &[u8]) -> Option<(Option<(Ballot, Vote)>, &[u8])>
-    ensures { MatchOption result
-        ((r : Option (ℕ × Vote)) (ws : List (List ℕ)) → FitsReport r → words args.now ≢ report_words r ++ ws)
-        (λ found. FitsReport found.0 × (words args.now ≡ report_words found.0 ++ words found.1.now)) }
-{
-    let Some((word, after)) = next_word(args) else {
-        return None;
-    };
-    if word == b"none".as_slice() {
-        return Some((None, after));
-    }
-    let Some((ballot, rest)) = number(args) else {
-        return None;
-    };
-    let Some((vote, rest)) = vote(rest) else {
-        return None;
-    };
-    Some((Some((ballot, vote)), rest))
 }
 
 /// The ballot and the vote of this text.
-fn accepted_of(text: &[u8]) -> Option<(Ballot, Vote)>
-    ensures { MatchOption result
-        ((ballot : ℕ) (v : Vote) → ballot < 2 ^ 32 → text.now ≢ accepted_text ballot v)
-        (λ a. text.now ≡ accepted_text a.0 a.1) }
+fn accepted_of(alloc: Global, text: &[u8]) -> Result<(Ballot, Vote), Stop>
+    ensures { Finds false (λ a. a.0 < 2 ^ 32) (λ a. accepted_text a.0 a.1) text.now result }
 {
     let Some((digits, word)) = text::split_once(text, b':') else {
-        return None;
+        return Err(Stop::Wrong);
     };
     let Some(ballot) = numbers::number(digits) else {
-        return None;
+        return Err(Stop::Wrong);
     };
-    let Some(vote) = vote_named(word) else {
-        return None;
-    };
-    Some((ballot, vote))
+    let vote = Vote::read(alloc, word)?;
+    Ok((ballot, vote))
 }
 
 /// The report of this text.
-fn report_of(text: &[u8]) -> Option<Option<(Ballot, Vote)>>
-    ensures { MatchOption result
-        ((r : Option (ℕ × Vote)) → FitsReport r → text.now ≢ report_text r)
-        (λ r. FitsReport r × (text.now ≡ report_text r)) }
+fn report_of(alloc: Global, text: &[u8]) -> Result<Option<(Ballot, Vote)>, Stop>
+    ensures { Finds false FitsReport report_text text.now result }
 {
-    if text == b"none".as_slice() {
-        return Some(None);
+    if is_word(text, b"none") {
+        return Ok(None);
     }
-    let Some(accepted) = accepted_of(text) else {
-        return None;
-    };
-    Some(Some(accepted))
+    let accepted = accepted_of(alloc, text)?;
+    Ok(Some(accepted))
 }
 
-/// The item of phase 1b of this word.
-fn report_item(word: &[u8]) -> Option<InstanceReport>
+/// The resource manager before a colon, and the text after it.
+fn item_of(word: &[u8]) -> Option<(u8, &[u8])>
     ensures { MatchOption result
-        ((i : InstanceReport) → FitsReportItem i → word.now ≢ report_item_text i)
-        (λ i. FitsReportItem i × (word.now ≡ report_item_text i)) }
+        ((n : ℕ) (item : List ℕ) → n < 256 → word.now ≢ node_text (R n) ++ 58 ∷ item)
+        (λ found. (found.0 < 256) × (word.now ≡ node_text (R found.0) ++ 58 ∷ found.1.now)) }
 {
     let Some((node, text)) = text::split_once(word, b':') else {
         return None;
@@ -224,321 +75,170 @@ fn report_item(word: &[u8]) -> Option<InstanceReport>
     let Some(rm) = manager_word(node) else {
         return None;
     };
-    let Some(report) = report_of(text) else {
-        return None;
-    };
-    Some(InstanceReport {
-        instance: ManagerNumber::from(rm),
-        report,
-    })
+    Some((rm, text))
 }
 
-/// The item of phase 2b of this word.
-fn accept_item(word: &[u8]) -> Option<InstanceAccept>
-    ensures { MatchOption result
-        ((i : InstanceAccept) → FitsAcceptItem i → word.now ≢ accept_item_text i)
-        (λ i. FitsAcceptItem i × (word.now ≡ accept_item_text i)) }
-{
-    let Some((node, text)) = text::split_once(word, b':') else {
-        return None;
-    };
-    let Some(rm) = manager_word(node) else {
-        return None;
-    };
-    let Some((ballot, vote)) = accepted_of(text) else {
-        return None;
-    };
-    Some(InstanceAccept {
-        instance: ManagerNumber::from(rm),
-        ballot,
-        vote,
-    })
-}
+impl Word for InstanceReport {
+    ghost fits = { FitsReportItem };
 
-/// The items of phase 1b of the words.
-#[inline(never)]
-fn report_items(args: &[u8]) -> Option<Items<InstanceReport>>
-    ensures { MatchOption result
-        ((is : List InstanceReport) → AreReportItems is → words args.now ≢ map report_item_text is)
-        (λ is. AreReportItems is × (words args.now ≡ map report_item_text is)) }
-{
-    let Some((word, after)) = next_word(args) else {
-        return None;
-    };
-    let Some(first) = report_item(word) else {
-        return None;
-    };
-    let mut items = Items::one(first);
-    let mut rest = after;
-    while let Some((word, after)) = next_word(rest) {
-        let Some(item) = report_item(word) else {
-            return None;
+    ghost text = { report_item_text };
+
+    ghost allocates = { false };
+
+    ghost spelling = { report_item_spelling };
+
+    fn read(alloc: Global, word: &[u8]) -> Result<InstanceReport, Stop> {
+        let Some((rm, text)) = item_of(word) else {
+            return Err(Stop::Wrong);
         };
-        if items.as_slice().len() >= MAX_BRANCHES {
-            return None;
-        }
-        items.push(item);
-        rest = after;
+        let report = report_of(alloc, text)?;
+        Ok(InstanceReport {
+            instance: ManagerNumber::from(rm),
+            report,
+        })
     }
-    Some(items)
 }
 
-/// The items of phase 2b of the words.
-#[inline(never)]
-fn accept_items(args: &[u8]) -> Option<Items<InstanceAccept>>
-    ensures { MatchOption result
-        ((is : List InstanceAccept) → AreAcceptItems is → words args.now ≢ map accept_item_text is)
-        (λ is. AreAcceptItems is × (words args.now ≡ map accept_item_text is)) }
-{
-    let Some((word, after)) = next_word(args) else {
-        return None;
-    };
-    let Some(first) = accept_item(word) else {
-        return None;
-    };
-    let mut items = Items::one(first);
-    let mut rest = after;
-    while let Some((word, after)) = next_word(rest) {
-        let Some(item) = accept_item(word) else {
-            return None;
+impl Word for InstanceAccept {
+    ghost fits = { FitsAcceptItem };
+
+    ghost text = { accept_item_text };
+
+    ghost allocates = { false };
+
+    ghost spelling = { accept_item_spelling };
+
+    fn read(alloc: Global, word: &[u8]) -> Result<InstanceAccept, Stop> {
+        let Some((rm, text)) = item_of(word) else {
+            return Err(Stop::Wrong);
         };
-        if items.as_slice().len() >= MAX_BRANCHES {
-            return None;
+        let (ballot, vote) = accepted_of(alloc, text)?;
+        Ok(InstanceAccept {
+            instance: ManagerNumber::from(rm),
+            ballot,
+            vote,
+        })
+    }
+}
+
+/// What phase 1b says after its ballot.
+#[derive(Drop)]
+pub struct Reported {
+    report: Option<(Ballot, Vote)>,
+    acceptor: u8,
+}
+
+impl Words for Reported {
+    ghost fit = { FitsReported };
+
+    ghost texts = { reported_words };
+
+    ghost allocate = { false };
+
+    ghost spellings = { reported_spelling };
+
+    fn read(alloc: Global, args: &[u8]) -> Result<Reported, Stop> {
+        let Some((word, rest)) = next_word(args) else {
+            return Err(Stop::Wrong);
+        };
+        if is_word(word, b"none") {
+            let (Acceptor(acceptor), ()) = Words::read(alloc, rest)?;
+            return Ok(Reported {
+                report: None,
+                acceptor,
+            });
         }
-        items.push(item);
-        rest = after;
+        let (ballot, (vote, (Acceptor(acceptor), ()))) = Words::read(alloc, args)?;
+        Ok(Reported {
+            report: Some((ballot, vote)),
+            acceptor,
+        })
     }
-    Some(items)
 }
 
-/// Phase 1a, by the words after its transaction.
+/// The message of this name about this transaction, by the words after it.
 #[inline(never)]
-fn read_p1a(tx: &Tx, args: &[u8]) -> Option<Kind>
-    ensures { MatchOption result
-        ((k : Kind) → IsKindBy MessageName.P1a tx.now k → words args.now ≢ message_args k)
-        (λ k. IsKindBy MessageName.P1a tx.now k × (words args.now ≡ message_args k)) }
+fn read_kind(alloc: Global, name: &[u8], tx: &Tx, args: &[u8]) -> Result<Kind, Stop>
+    ensures { Finds false (IsAbout tx.now) kind_words (name.now ∷ words args.now) result }
 {
-    let Some((rm, ballot, rest)) = instance(args) else {
-        return None;
-    };
-    if !is_over(rest) {
-        return None;
+    if is_word(name, b"prepare") {
+        let () = Words::read(alloc, args)?;
+        return Ok(Kind::Prepare(*tx));
     }
-    Some(Kind::P1a {
-        tx: *tx,
-        instance: ManagerNumber::from(rm),
-        ballot,
-    })
-}
-
-/// Phase 1b, by the words after its transaction.
-#[inline(never)]
-fn read_p1b(tx: &Tx, args: &[u8]) -> Option<Kind>
-    ensures { MatchOption result
-        ((k : Kind) → IsKindBy MessageName.P1b tx.now k → words args.now ≢ message_args k)
-        (λ k. IsKindBy MessageName.P1b tx.now k × (words args.now ≡ message_args k)) }
-{
-    let Some((rm, ballot, rest)) = instance(args) else {
-        return None;
-    };
-    let Some((report, rest)) = report(rest) else {
-        return None;
-    };
-    let Some(acceptor) = last_acceptor(rest) else {
-        return None;
-    };
-    Some(Kind::P1b {
-        tx: *tx,
-        instance: ManagerNumber::from(rm),
-        ballot,
-        report,
-        acceptor,
-    })
-}
-
-/// Phase 2a, by the words after its transaction.
-#[inline(never)]
-fn read_p2a(tx: &Tx, args: &[u8]) -> Option<Kind>
-    ensures { MatchOption result
-        ((k : Kind) → IsKindBy MessageName.P2a tx.now k → words args.now ≢ message_args k)
-        (λ k. IsKindBy MessageName.P2a tx.now k × (words args.now ≡ message_args k)) }
-{
-    let Some((rm, ballot, rest)) = instance(args) else {
-        return None;
-    };
-    let Some((vote, rest)) = vote(rest) else {
-        return None;
-    };
-    if !is_over(rest) {
-        return None;
+    if is_word(name, b"p1a") {
+        let (Manager(rm), (ballot, ())) = Words::read(alloc, args)?;
+        return Ok(Kind::P1a {
+            tx: *tx,
+            instance: ManagerNumber::from(rm),
+            ballot,
+        });
     }
-    Some(Kind::P2a {
-        tx: *tx,
-        instance: ManagerNumber::from(rm),
-        ballot,
-        vote,
-    })
-}
-
-/// Phase 2b, by the words after its transaction.
-#[inline(never)]
-fn read_p2b(tx: &Tx, args: &[u8]) -> Option<Kind>
-    ensures { MatchOption result
-        ((k : Kind) → IsKindBy MessageName.P2b tx.now k → words args.now ≢ message_args k)
-        (λ k. IsKindBy MessageName.P2b tx.now k × (words args.now ≡ message_args k)) }
-{
-    let Some((rm, ballot, rest)) = instance(args) else {
-        return None;
-    };
-    let Some((vote, rest)) = vote(rest) else {
-        return None;
-    };
-    let Some(acceptor) = last_acceptor(rest) else {
-        return None;
-    };
-    Some(Kind::P2b {
-        tx: *tx,
-        instance: ManagerNumber::from(rm),
-        ballot,
-        vote,
-        acceptor,
-    })
-}
-
-/// An ask, by the words after its transaction.
-#[inline(never)]
-fn read_ask(tx: &Tx, args: &[u8]) -> Option<Kind>
-    ensures { MatchOption result
-        ((k : Kind) → IsKindBy MessageName.Ask tx.now k → words args.now ≢ message_args k)
-        (λ k. IsKindBy MessageName.Ask tx.now k × (words args.now ≡ message_args k)) }
-{
-    let Some((rm, rest)) = manager(args) else {
-        return None;
-    };
-    if !is_over(rest) {
-        return None;
+    if is_word(name, b"p1b") {
+        let (Manager(rm), (ballot, Reported { report, acceptor })) = Words::read(alloc, args)?;
+        return Ok(Kind::P1b {
+            tx: *tx,
+            instance: ManagerNumber::from(rm),
+            ballot,
+            report,
+            acceptor,
+        });
     }
-    Some(Kind::Ask {
-        tx: *tx,
-        rm: ManagerNumber::from(rm),
-    })
-}
-
-/// A bundle of phase 1a, by the words after its transaction.
-#[inline(never)]
-fn read_b1a(tx: &Tx, args: &[u8]) -> Option<Kind>
-    ensures { MatchOption result
-        ((k : Kind) → IsKindBy MessageName.B1a tx.now k → words args.now ≢ message_args k)
-        (λ k. IsKindBy MessageName.B1a tx.now k × (words args.now ≡ message_args k)) }
-{
-    let Some(ballot) = last_number(args) else {
-        return None;
-    };
-    Some(Kind::B1a { tx: *tx, ballot })
-}
-
-/// A bundle of phase 1b, by the words after its transaction.
-#[inline(never)]
-fn read_b1b(tx: &Tx, args: &[u8]) -> Option<Kind>
-    ensures { MatchOption result
-        ((k : Kind) → IsKindBy MessageName.B1b tx.now k → words args.now ≢ message_args k)
-        (λ k. IsKindBy MessageName.B1b tx.now k × (words args.now ≡ message_args k)) }
-{
-    let Some((ballot, rest)) = number(args) else {
-        return None;
-    };
-    let Some((acceptor, rest)) = acceptor(rest) else {
-        return None;
-    };
-    let Some(reports) = report_items(rest) else {
-        return None;
-    };
-    Some(Kind::B1b {
-        tx: *tx,
-        ballot,
-        acceptor,
-        reports,
-    })
-}
-
-/// A bundle of phase 2b, by the words after its transaction.
-#[inline(never)]
-fn read_b2b(tx: &Tx, args: &[u8]) -> Option<Kind>
-    ensures { MatchOption result
-        ((k : Kind) → IsKindBy MessageName.B2b tx.now k → words args.now ≢ message_args k)
-        (λ k. IsKindBy MessageName.B2b tx.now k × (words args.now ≡ message_args k)) }
-{
-    let Some((acceptor, rest)) = acceptor(args) else {
-        return None;
-    };
-    let Some(accepts) = accept_items(rest) else {
-        return None;
-    };
-    Some(Kind::B2b {
-        tx: *tx,
-        acceptor,
-        accepts,
-    })
-}
-
-/// A prepare, which no word follows after its transaction.
-#[inline(never)]
-fn read_prepare(tx: &Tx, args: &[u8]) -> Option<Kind>
-    ensures { MatchOption result
-        ((k : Kind) → IsKindBy MessageName.Prepare tx.now k → words args.now ≢ message_args k)
-        (λ k. IsKindBy MessageName.Prepare tx.now k × (words args.now ≡ message_args k)) }
-{
-    if !is_over(args) {
-        return None;
+    if is_word(name, b"p2a") {
+        let (Manager(rm), (ballot, (vote, ()))) = Words::read(alloc, args)?;
+        return Ok(Kind::P2a {
+            tx: *tx,
+            instance: ManagerNumber::from(rm),
+            ballot,
+            vote,
+        });
     }
-    Some(Kind::Prepare(*tx))
-}
-
-/// A commit, which no word follows after its transaction.
-#[inline(never)]
-fn read_commit(tx: &Tx, args: &[u8]) -> Option<Kind>
-    ensures { MatchOption result
-        ((k : Kind) → IsKindBy MessageName.Commit tx.now k → words args.now ≢ message_args k)
-        (λ k. IsKindBy MessageName.Commit tx.now k × (words args.now ≡ message_args k)) }
-{
-    if !is_over(args) {
-        return None;
+    if is_word(name, b"p2b") {
+        let (Manager(rm), (ballot, (vote, (Acceptor(acceptor), ())))) = Words::read(alloc, args)?;
+        return Ok(Kind::P2b {
+            tx: *tx,
+            instance: ManagerNumber::from(rm),
+            ballot,
+            vote,
+            acceptor,
+        });
     }
-    Some(Kind::Commit(*tx))
-}
-
-/// An abort, which no word follows after its transaction.
-#[inline(never)]
-fn read_abort(tx: &Tx, args: &[u8]) -> Option<Kind>
-    ensures { MatchOption result
-        ((k : Kind) → IsKindBy MessageName.Abort tx.now k → words args.now ≢ message_args k)
-        (λ k. IsKindBy MessageName.Abort tx.now k × (words args.now ≡ message_args k)) }
-{
-    if !is_over(args) {
-        return None;
+    if is_word(name, b"commit") {
+        let () = Words::read(alloc, args)?;
+        return Ok(Kind::Commit(*tx));
     }
-    Some(Kind::Abort(*tx))
-}
-
-/// A kind of this name, by its transaction and the words after it.
-fn read_kind(name: MessageName, tx: &Tx, args: &[u8]) -> Option<Kind>
-    ensures { MatchOption result
-        ((k : Kind) → IsKindBy name tx.now k → words args.now ≢ message_args k)
-        (λ k. IsKindBy name tx.now k × (words args.now ≡ message_args k)) }
-{
-    match name {
-        MessageName::Prepare => read_prepare(tx, args),
-        MessageName::P1a => read_p1a(tx, args),
-        MessageName::P1b => read_p1b(tx, args),
-        MessageName::P2a => read_p2a(tx, args),
-        MessageName::P2b => read_p2b(tx, args),
-        MessageName::Commit => read_commit(tx, args),
-        MessageName::Abort => read_abort(tx, args),
-        MessageName::Ask => read_ask(tx, args),
-        MessageName::B1a => read_b1a(tx, args),
-        MessageName::B1b => read_b1b(tx, args),
-        MessageName::B2b => read_b2b(tx, args),
+    if is_word(name, b"abort") {
+        let () = Words::read(alloc, args)?;
+        return Ok(Kind::Abort(*tx));
     }
+    if is_word(name, b"ask") {
+        let (Manager(rm), ()) = Words::read(alloc, args)?;
+        return Ok(Kind::Ask {
+            tx: *tx,
+            rm: ManagerNumber::from(rm),
+        });
+    }
+    if is_word(name, b"b1a") {
+        let (ballot, ()) = Words::read(alloc, args)?;
+        return Ok(Kind::B1a { tx: *tx, ballot });
+    }
+    if is_word(name, b"b1b") {
+        let (ballot, (Acceptor(acceptor), reports)) = Words::read(alloc, args)?;
+        return Ok(Kind::B1b {
+            tx: *tx,
+            ballot,
+            acceptor,
+            reports,
+        });
+    }
+    if is_word(name, b"b2b") {
+        let (Acceptor(acceptor), accepts) = Words::read(alloc, args)?;
+        return Ok(Kind::B2b {
+            tx: *tx,
+            acceptor,
+            accepts,
+        });
+    }
+    Err(Stop::Wrong)
 }
 
 /// The message of these words.
@@ -551,10 +251,7 @@ pub(crate) fn read_message(
         ((m : Kind) → IsMessage m → words args.now ≢ message_words m)
         (λ m. IsMessage m × (words args.now ≡ message_words m)) }
 {
-    let Some((word, rest)) = next_word(args) else {
-        return None;
-    };
-    let Some(name) = message_named(word) else {
+    let Some((name, rest)) = next_word(args) else {
         return None;
     };
     let Some((text, args)) = next_word(rest) else {
@@ -563,7 +260,7 @@ pub(crate) fn read_message(
     let Some(tx) = read_tx(alloc, known, text) else {
         return None;
     };
-    let Some(kind) = read_kind(name, &tx, args) else {
+    let Ok(kind) = read_kind(alloc, name, &tx, args) else {
         return None;
     };
     if !is_message(&kind) {

@@ -1,8 +1,9 @@
 //! Words that say what came of an event: a changed view, a datagram that was sent, and last rows.
 
-ghost use Rattle.std.specs.Prelude.{◌≡◌, ◌≢◌, MatchOption};
+ghost use Rattle.std.specs.Prelude.{◌≡◌, ◌≢◌, true, MatchOption};
 ghost use Rattle.net_script.specs.Basics.{Change, Sent, Row};
 ghost use Rattle.net_script.specs.Lines.{Reads, words};
+ghost use Rattle.net_script.specs.Spelling.{Finds};
 ghost use Rattle.net_script.specs.Items.{rows_words};
 ghost use Rattle.net_script.specs.Traces.{change_words, sent_words};
 ghost use Rattle.net_script.specs.TraceLines.{IsChange, IsSent, AreFinalRows, are_ascending};
@@ -11,7 +12,8 @@ use crate::answer_words::view_named;
 use crate::args::{manager, node, number};
 use crate::known::{KnownTx, read_tx};
 use crate::message_words::read_message;
-use crate::tables::read_plain_rows;
+use crate::stop::{Stop, or_none};
+use crate::word::Words;
 use crate::words::{is_over, next_word};
 use protocol::{Change, Row, Sent};
 use std::alloc::Global;
@@ -88,15 +90,20 @@ fn are_ascending(rows: &[Row]) -> bool
 }
 
 /// The last rows of the words.
+fn final_rows(alloc: Global, args: &[u8]) -> Result<Sequence<Row>, Stop>
+    ensures { Finds true AreFinalRows rows_words (words args.now) result }
+{
+    let rows: Sequence<Row> = Words::read(alloc, args)?;
+    if !are_ascending(rows.as_slice()) {
+        return Err(Stop::Wrong);
+    }
+    Ok(rows)
+}
+
+/// The last rows of the words, if they are some.
 #[inline(never)]
 pub(crate) fn read_final_rows(alloc: Global, args: &[u8]) -> Result<Option<Sequence<Row>>, Refusal>
     ensures { Reads AreFinalRows rows_words (words args.now) result }
 {
-    let Some(rows) = read_plain_rows(alloc, args)? else {
-        return Ok(None);
-    };
-    if !are_ascending(rows.as_slice()) {
-        return Ok(None);
-    }
-    Ok(Some(rows))
+    or_none(final_rows(alloc, args))
 }

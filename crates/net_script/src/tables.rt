@@ -1,54 +1,44 @@
 //! The lines of first tables.
 
-ghost use Rattle.std.specs.Prelude.{◌≢◌, ◌↔◌, IsTrue};
-ghost use Rattle.std.specs.List.{All};
+ghost use Rattle.std.specs.Prelude.{◌≢◌, ◌↔◌, IsTrue, true};
+ghost use Rattle.std.specs.List.{All, AllPairs};
 ghost use Rattle.net_script.specs.Lines.{Reads, words, row_text};
-ghost use Rattle.net_script.specs.Items.{IsRow, AreRows, IsContents, rows_words, contents_words};
+ghost use Rattle.net_script.specs.Spelling.{Finds};
+ghost use Rattle.net_script.specs.Items.{IsRow, IsContents, contents_words};
+ghost use Rattle.net_script.specs.RowLaws.{row_spelling};
 
-use crate::args::manager;
+use crate::byte_words::Hex;
+use crate::nodes::Manager;
+use crate::stop::{Stop, or_none};
 use crate::values::Table;
-use crate::words::{bytes_word, hex_word, next_word};
+use crate::word::{Word, Words};
 use protocol::Row;
 use std::alloc::Global;
-use xid::{MAX_KEY, MAX_VALUE, Refusal, Sequence, text};
+use xid::{Bytes, MAX_KEY, MAX_VALUE, Refusal, Sequence, text};
 
-/// The row of this word.
-fn read_row(alloc: Global, word: &[u8]) -> Result<Option<Row>, Refusal>
-    ensures { Reads IsRow row_text word.now result }
-{
-    let Some((key, value)) = text::split_once(word, b'=') else {
-        return Ok(None);
-    };
-    let Some(key) = hex_word(alloc, key)? else {
-        return Ok(None);
-    };
-    if key.as_slice().len() > MAX_KEY {
-        return Ok(None);
-    }
-    let Some(value) = bytes_word(alloc, value)? else {
-        return Ok(None);
-    };
-    if value.as_slice().len() > MAX_VALUE {
-        return Ok(None);
-    }
-    Ok(Some(Row { key, value }))
-}
+impl Word for Row {
+    ghost fits = { IsRow };
 
-/// The rows of the words, in any order.
-#[inline(never)]
-pub(crate) fn read_plain_rows(alloc: Global, args: &[u8]) -> Result<Option<Sequence<Row>>, Refusal>
-    ensures { Reads (All IsRow) rows_words (words args.now) result }
-{
-    let mut rows = Vec::new(alloc);
-    let mut rest = args;
-    while let Some((word, after)) = next_word(rest) {
-        let Some(row) = read_row(alloc, word)? else {
-            return Ok(None);
+    ghost text = { row_text };
+
+    ghost allocates = { true };
+
+    ghost spelling = { row_spelling };
+
+    fn read(alloc: Global, word: &[u8]) -> Result<Row, Stop> {
+        let Some((key, value)) = text::split_once(word, b'=') else {
+            return Err(Stop::Wrong);
         };
-        rows.push(row)?;
-        rest = after;
+        let Hex(key) = Hex::read(alloc, key)?;
+        if key.as_slice().len() > MAX_KEY {
+            return Err(Stop::Wrong);
+        }
+        let value = <Bytes as Word>::read(alloc, value)?;
+        if value.as_slice().len() > MAX_VALUE {
+            return Err(Stop::Wrong);
+        }
+        Ok(Row { key, value })
     }
-    Ok(Some(Sequence::new(rows)))
 }
 
 /// Whether no row has this key.
@@ -63,35 +53,34 @@ fn is_new(rows: &[Row], key: &[u8]) -> bool
     true
 }
 
-/// The rows of the words, with distinct keys.
-fn read_rows(alloc: Global, args: &[u8]) -> Result<Option<Sequence<Row>>, Refusal>
-    ensures { Reads AreRows rows_words (words args.now) result }
+/// Whether keys are distinct.
+fn are_distinct(rows: &[Row]) -> bool
+    ensures { IsTrue result ↔ AllPairs (λ a b. a.key ≢ b.key) rows.now }
 {
-    let mut rows = Vec::new(alloc);
-    let mut rest = args;
-    while let Some((word, after)) = next_word(rest) {
-        let Some(row) = read_row(alloc, word)? else {
-            return Ok(None);
-        };
-        if !is_new(&rows, row.key.as_slice()) {
-            return Ok(None);
-        }
-        rows.push(row)?;
-        rest = after;
+    let [first, rest @ ..] = rows else {
+        return true;
+    };
+    if !is_new(rest, first.key.as_slice()) {
+        return false;
     }
-    Ok(Some(Sequence::new(rows)))
+    are_distinct(rest)
 }
 
 /// The first table of these words.
+fn table_by(alloc: Global, args: &[u8]) -> Result<Table, Stop>
+    ensures { Finds true IsContents contents_words (words args.now) result }
+{
+    let (Manager(rm), rows): (Manager, Sequence<Row>) = Words::read(alloc, args)?;
+    if !are_distinct(rows.as_slice()) {
+        return Err(Stop::Wrong);
+    }
+    Ok(Table { rm, rows })
+}
+
+/// The first table of these words, if they are one.
 #[inline(never)]
 pub(crate) fn read_table(alloc: Global, args: &[u8]) -> Result<Option<Table>, Refusal>
     ensures { Reads IsContents contents_words (words args.now) result }
 {
-    let Some((rm, rest)) = manager(args) else {
-        return Ok(None);
-    };
-    let Some(rows) = read_rows(alloc, rest)? else {
-        return Ok(None);
-    };
-    Ok(Some(Table { rm, rows }))
+    or_none(table_by(alloc, args))
 }

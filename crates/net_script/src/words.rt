@@ -1,15 +1,13 @@
 //! Lines and words of a text, and words that are nodes and bytes.
 
 ghost use Rattle.std.specs.Prelude.{◌≡◌, ◌≢◌, ℕ, ◌<◌, ◌^◌, [], ◌∷◌, ◌↔◌, IsTrue, MatchOption, decimal};
-ghost use Rattle.net_script.specs.Basics.{IsBytes, NodeId, A, L, R, hex_text};
+ghost use Rattle.net_script.specs.Basics.{NodeId, A, L, R};
 ghost use Rattle.net_script.specs.Events.{IsNode};
-ghost use Rattle.net_script.specs.Lines.{IsFirstPiece, IsFirstWord, IsSome, Reads, words, bytes_text, node_text};
+ghost use Rattle.net_script.specs.Lines.{IsFirstPiece, IsFirstWord, words, node_text};
 
 use crate::numbers;
-use hex::FromHexError;
 use protocol::NodeId;
-use std::alloc::Global;
-use xid::{Bytes, Refusal, Sequence, text};
+use xid::text;
 
 /// The text up to its first mark, or all of it, and the text after that mark.
 pub(crate) fn next_piece(text: &[u8], mark: u8) -> Option<(&[u8], &[u8])>
@@ -62,7 +60,7 @@ fn lettered_number(word: &[u8], letter: u8) -> Option<u32>
 }
 
 /// The number below 256 behind this letter.
-fn lettered_word(word: &[u8], letter: u8) -> Option<u8>
+pub(crate) fn lettered_word(word: &[u8], letter: u8) -> Option<u8>
     ensures { MatchOption result ((n : ℕ) → n < 256 → word.now ≢ letter ∷ decimal n) (λ n. word.now ≡ letter ∷ decimal n) }
 {
     let Some(number) = lettered_number(word, letter) else {
@@ -81,20 +79,6 @@ pub(crate) fn manager_word(word: &[u8]) -> Option<u8>
     lettered_word(word, b'r')
 }
 
-/// The acceptor whose text this is.
-pub(crate) fn acceptor_word(word: &[u8]) -> Option<u8>
-    ensures { MatchOption result ((n : ℕ) → n < 256 → word.now ≢ node_text (A n)) (λ n. word.now ≡ node_text (A n)) }
-{
-    lettered_word(word, b'a')
-}
-
-/// The leader whose text this is.
-pub(crate) fn leader_word(word: &[u8]) -> Option<u8>
-    ensures { MatchOption result ((n : ℕ) → n < 256 → word.now ≢ node_text (L n)) (λ n. word.now ≡ node_text (L n)) }
-{
-    lettered_word(word, b'l')
-}
-
 /// The node whose text this is.
 pub(crate) fn node_word(word: &[u8]) -> Option<NodeId>
     ensures { MatchOption result ((n : NodeId) → IsNode n → word.now ≢ node_text n) (λ n. IsNode n × (word.now ≡ node_text n)) }
@@ -102,47 +86,11 @@ pub(crate) fn node_word(word: &[u8]) -> Option<NodeId>
     if let Some(rm) = manager_word(word) {
         return Some(NodeId::R(rm));
     }
-    if let Some(acceptor) = acceptor_word(word) {
+    if let Some(acceptor) = lettered_word(word, b'a') {
         return Some(NodeId::A(acceptor));
     }
-    if let Some(leader) = leader_word(word) {
+    if let Some(leader) = lettered_word(word, b'l') {
         return Some(NodeId::L(leader));
     }
     None
-}
-
-/// The bytes whose hex text this is, at least one.
-pub(crate) fn hex_word(alloc: Global, word: &[u8]) -> Result<Option<Bytes>, Refusal>
-    ensures { Reads IsSome hex_text word.now result }
-{
-    if word.is_empty() {
-        return Ok(None);
-    }
-    let bytes = match hex::decode(alloc, word) {
-        Ok(bytes) => bytes,
-        Err(error) => {
-            return match error {
-                FromHexError::OutOfMemory => Err(Refusal::NoMemory),
-                _ => Ok(None),
-            };
-        }
-    };
-    let again = hex::encode(alloc, bytes.as_slice())?;
-    if again.as_bytes() != word {
-        return Ok(None);
-    }
-    Ok(Some(Sequence::new(bytes)))
-}
-
-/// The bytes of this word, `-` for none.
-pub(crate) fn bytes_word(alloc: Global, word: &[u8]) -> Result<Option<Bytes>, Refusal>
-    ensures { Reads IsBytes bytes_text word.now result }
-{
-    if word == b"-".as_slice() {
-        return Ok(Some(Sequence::new(Vec::new(alloc))));
-    }
-    let Some(bytes) = hex_word(alloc, word)? else {
-        return Ok(None);
-    };
-    Ok(Some(bytes))
 }

@@ -9,7 +9,7 @@ use Rattle.xid.specs.Transactions.{TxParts, tx_eq}
 use Rattle.net_script.specs.Basics.{message_tx, Answer, Code, Refused}
 use Rattle.net_script.specs.Basics.{Event, Ask, Deliver, Lose, Cut, Noise, Tear, Restart, Compact, Change, Sent}
 use Rattle.net_script.specs.declared.values.Entry.{Entry}
-use Rattle.net_script.specs.Events.{keyword_of, keyword_text}
+use Rattle.net_script.specs.Events.{event_word}
 use Rattle.picture.specs.declared.elements.Mark.{Mark}
 use Rattle.picture.specs.declared.rows.Row.{Row}
 use Rattle.picture.specs.declared.rows.What.{What}
@@ -82,7 +82,7 @@ with_outcome first several rows now sent = fold (with_sent first several) (with_
 -- the rows of what happened more
 abbrev pub with_entry : ℕ → Bool → List Row → Entry → List Row
 with_entry first several rows (Entry.Step step) =
-    with_outcome first several (with_row first rows (keyword_text (keyword_of step.event)) (what_of step.event step.answer)) step.now
+    with_outcome first several (with_row first rows (event_word step.event) (what_of step.event step.answer)) step.now
     step.sent
 with_entry first several rows (Entry.Serve node answer now sent) =
     with_outcome first several (with_row first rows (codes "serve") (At node (mark_of Mark.Done answer))) now sent

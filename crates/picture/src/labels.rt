@@ -4,7 +4,7 @@ ghost use Rattle.std.specs.Prelude.{◌≡◌, ◌++◌, ◌∷◌, decimal, IfO
 ghost use Rattle.xid.specs.declared.refusals.Refusal.TheVariants.{NoMemory};
 ghost use Rattle.net_script.specs.Basics.{R};
 ghost use Rattle.net_script.specs.Lines.{node_text};
-ghost use Rattle.net_script.specs.Events.{verb_of, verb_text, request_keyword, keyword_of, keyword_text};
+ghost use Rattle.net_script.specs.Events.{action_word, request_word, event_word};
 ghost use Rattle.net_script.specs.Answers.{view_text};
 ghost use Rattle.net_script.specs.Messages.{ballot_words, message_word, report_words, vote_text};
 ghost use Rattle.net_script.specs.Traces.{spaced_words};
@@ -19,7 +19,7 @@ use xid::{Ballot, Bytes, ManagerNumber, Refusal, Sequence, Tx, Vote};
 
 /// The word of a call.
 fn action_word(action: &Action) -> &'static [u8]
-    ensures { result.now ≡ verb_text (verb_of action.now) }
+    ensures { result.now ≡ action_word action.now }
 {
     match action {
         Action::Start => b"start",
@@ -33,7 +33,7 @@ fn action_word(action: &Action) -> &'static [u8]
 
 /// The word of a request.
 fn request_word(request: &Request) -> &'static [u8]
-    ensures { result.now ≡ keyword_text (request_keyword request.now) }
+    ensures { result.now ≡ request_word request.now }
 {
     match request {
         Request::Call { action, .. } => action_word(action),
@@ -47,7 +47,7 @@ fn request_word(request: &Request) -> &'static [u8]
 
 /// The word of an event.
 pub(crate) fn event_word(event: &Event) -> &'static [u8]
-    ensures { result.now ≡ keyword_text (keyword_of event.now) }
+    ensures { result.now ≡ event_word event.now }
 {
     match event {
         Event::Ask { request, .. } => request_word(request),

@@ -1,0 +1,89 @@
+-- Lines of several kinds, each begun by a word of its own: what comes after it. The readers of such lines need it, and their laws.
+use Rattle.std.proofs.Common.{◌≡◌, ℕ, Bool, true, false, List, [], ◌∷◌, Result, Err, sym, ap, ◌∙◌}
+use Rattle.std.specs.List.{AllByRecursion}
+use Rattle.std.specs.Result.{IsErrAnd}
+use Rattle.std.proofs.lemmas.Result.{err_from_is_err_and}
+use Rattle.std.specs.Str.{bytes_eq}
+use Rattle.net_script.specs.declared.stop.Stop.{Stop}
+use Rattle.net_script.specs.declared.stop.Stop.TheVariants.{Wrong, Memory}
+use Rattle.net_script.specs.Spelling.{Finds, IsCommon, AreSpellings}
+use Rattle.net_script.proofs.WordLemmas.{differ}
+
+-- a line that is made of a value, whose words these are
+pub record IsMadeOf {X Y : Type 0} (fit : X → Type 0) (texts : X → List (List ℕ)) (make : X → Y) (args : List (List ℕ)) (line : Y) : Type 0 where
+  pub value : X
+  pub fits : fit value
+  pub says : args ≡ texts value
+  pub made : make value ≡ line
+
+-- the lines that begin with this word are made of values whose words come after it
+abbrev pub IsArm : {X Y : Type 0} → (X → Type 0) → (X → List (List ℕ)) → (Y → Type 0) → (Y → List (List ℕ)) → List ℕ → (X → Y) → Type 0
+IsArm {Y = Y} fit texts IsIn words name make =
+    (line : Y) → IsIn line → (args : List (List ℕ)) → name ∷ args ≡ words line → IsMadeOf fit texts make args line
+
+abbrev pub Arm : {X Y : Type 0} {fit : X → Type 0} {texts : X → List (List ℕ)} → AreSpellings fit texts → (Y → Type 0) → (Y → List (List ℕ))
+    → List ℕ → (X → Y)
+    → Type 0
+Arm {fit = fit} {texts = texts} law IsIn words name make = IsArm fit texts IsIn words name make
+
+-- a line that no other has the words of, which are words
+pub record IsSaid {Y : Type 0} (IsIn : Y → Type 0) (words : Y → List (List ℕ)) (line : Y) : Type 0 where
+  pub one : (other : Y) → IsIn other → words line ≡ words other → line ≡ other
+  pub common : AllByRecursion IsCommon (words line)
+
+pub arm_said : {X Y : Type 0} {fit : X → Type 0} {texts : X → List (List ℕ)} {IsIn : Y → Type 0} {words : Y → List (List ℕ)} {name : List ℕ}
+    {make : X → Y} (law : AreSpellings fit texts) → IsArm fit texts IsIn words name make → IsCommon name → (x : X) → fit x → (line : Y)
+    → make x ≡ line → name ∷ texts x ≡ words line
+    → IsSaid IsIn words line
+arm_said {texts = texts} {words = words} {name = name} {make = make} law arm is x p line made says = record {
+  one = λ other q e.
+      let found = arm other q (texts x) (says ∙ e) in
+      let same : x ≡ found.value = law.one x found.value p found.fits found.says in
+      let other_made : make found.value ≡ other = found.made in
+      cc;
+  common = let first : AllByRecursion IsCommon (name ∷ texts x) = (is, law.common x p) in
+      rw (sym says) first;
+}
+
+-- the first of some words
+abbrev pub first_word : List (List ℕ) → List ℕ
+first_word [] = []
+first_word (word ∷ rest) = word
+
+-- two lines whose first words differ
+pub apart : (v w : List (List ℕ)) → v ≡ w → bytes_eq (first_word v) (first_word w) ≡ false → ⊥
+apart v w e off = differ (first_word v) (first_word w) (ap first_word e) off
+
+-- ---- where nothing was read of a part, nothing is read of the whole
+
+stops : {X Y V W : Type 0} {a b : Bool} {fit : X → Type 0} {text : X → V} {IsIn : Y → Type 0} {words : Y → W} {args : V} {given : W}
+    → (a ≡ true → b ≡ true) → (((x : X) → fit x → args ≡ text x → ⊥) → (y : Y) → IsIn y → given ≡ words y → ⊥) → (d : Stop)
+    → Finds a fit text args (Err d)
+    → Finds b IsIn words given (Err d)
+stops more fails Wrong none = fails none
+stops more fails Memory none = more none
+
+pub passes : {X Y V W : Type 0} {a b : Bool} {fit : X → Type 0} {text : X → V} {IsIn : Y → Type 0} {words : Y → W} {args : V} {given : W}
+    → (a ≡ true → b ≡ true) → (((x : X) → fit x → args ≡ text x → ⊥) → (y : Y) → IsIn y → given ≡ words y → ⊥) → (d : Stop)
+    (r : Result Y Stop)
+    → IsErrAnd r (λ e. e ≡ d) → Finds a fit text args (Err d)
+    → Finds b IsIn words given r
+passes more fails d r from none = let p = err_from_is_err_and r from in rw (p.1, p.2) (stops more fails d none)
+
+-- the words after a first one
+pub arm_stops : {X Y : Type 0} {a b : Bool} {fit : X → Type 0} {texts : X → List (List ℕ)} {IsIn : Y → Type 0} {words : Y → List (List ℕ)}
+    {name : List ℕ} {make : X → Y}
+    → (a ≡ true → b ≡ true) → IsArm fit texts IsIn words name make → (verb : List ℕ) (args : List (List ℕ)) (d : Stop) (r : Result Y Stop)
+    → verb ≡ name → IsErrAnd r (λ e. e ≡ d) → Finds a fit texts args (Err d)
+    → Finds b IsIn words (verb ∷ args) r
+arm_stops more arm verb args d r same from none =
+    passes more
+    (λ fails y q e.
+    let found = arm y q args (ap (λ (word : List ℕ). word ∷ args) (sym same) ∙ e) in fails found.value found.fits found.says)
+    d r from none
+
+-- where memory can't run out, nothing was found as no value has the text
+pub none_found : {X W : Type 0} (fits : X → Type 0) (text : X → W) (given : W) (d : Stop) → Finds false fits text given (Err d) → (x : X)
+    → fits x → given ≡ text x → ⊥
+none_found fits text given Wrong none = none
+none_found fits text given Memory none = absurd (cc)

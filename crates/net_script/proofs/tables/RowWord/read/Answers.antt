@@ -1,0 +1,30 @@
+use Rattle.std.proofs.Common.{length, refl, ap, arith}
+use Rattle.net_script.specs.Laws.{hex_of}
+use Rattle.net_script.proofs.Arms.{passes}
+use Rattle.net_script.proofs.TableLemmas.{cut_row, key_some, long_key, long_value}
+use Rattle.net_script.proofs.tables.RowWord.read.Goals as goal
+
+pub returns-in_err-key : goal.returns-in_err-key
+returns-in_err-key c =
+    passes (λ e. refl)
+    (λ none y is e.
+    let cut = cut_row y c.args.word.now c.in-Some.key.now c.in-Some.value.now is e c.in-Some.ensures in
+    none (hex_of y.key) (key_some y.key is.key) cut.0)
+    c.in_err-key.field-0.0 c.from_residual.result c.from_residual.ensures.1 c.in_err-key.ensures
+
+pub returns-in_err-value : goal.returns-in_err-value
+returns-in_err-value c =
+    passes (λ e. refl)
+    (λ none y is e.
+    let cut = cut_row y c.args.word.now c.in-Some.key.now c.in-Some.value.now is e c.in-Some.ensures in none y.value is.value.bytes cut.1)
+    c.in_err-value.field-0.0 c.from_residual-in_err-value.result c.from_residual-in_err-value.ensures.1 c.in_err-value.ensures
+
+pub returns-then-as_slice-gt-MAX_KEY : goal.returns-then-as_slice-gt-MAX_KEY
+returns-then-as_slice-gt-MAX_KEY c = λ y is e.
+    let cut = cut_row y c.args.word.now c.in-Some.key.now c.in-Some.value.now is e c.in-Some.ensures in
+    long_key y c.in-Some.key.now c.in_ok-key.field-0.0 is cut.0 c.in_ok-key.ensures (omega (arith, ap length c.as_slice.ensures))
+
+pub returns-then-as_slice-gt-MAX_VALUE : goal.returns-then-as_slice-gt-MAX_VALUE
+returns-then-as_slice-gt-MAX_VALUE c = λ y is e.
+    let cut = cut_row y c.args.word.now c.in-Some.key.now c.in-Some.value.now is e c.in-Some.ensures in
+    long_value y c.in-Some.value.now c.in_ok-value.value is cut.1 c.in_ok-value.ensures (omega (arith, ap length c.as_slice-2.ensures))

@@ -1,0 +1,198 @@
+-- The words of numbers, nodes, bytes, XIDs and transactions: one text each, which is a word.
+use Rattle.std.proofs.Common.{◌≡◌, ℕ, ◌<◌, ◌≤◌, ◌^◌, true, List, [], ◌∷◌, ◌++◌, length, drop, refl, sym, ap, ◌∙◌, decimal, arith}
+use Rattle.std.specs.List.{All, AllByRecursion, list_all, flat_map}
+use Rattle.std.proofs.lemmas.Bool.Decides.{nat_tests}
+use Rattle.std.proofs.lemmas.Fmt.{decimal_nonempty, decimal_injective}
+use Rattle.std.proofs.lemmas.List.Elements.{All-head, All-tail}
+use Rattle.xid.specs.Transactions.{BranchParts, IsBranch, branch_text, branches_text}
+use Rattle.xid.proofs.Texts.{list_all_join, list_all-hex_text, list_all-decimal, length-hex_text}
+use Rattle.net_script.specs.Basics.{Action, End, EndFail}
+use Rattle.net_script.specs.Basics.{IsBytes, XidParts, IsXid, TxParts, IsTx, hex_text, xid_text, tx_text, NodeId, A, L, R}
+use Rattle.net_script.specs.declared.nodes.Manager.{Manager}
+use Rattle.net_script.specs.declared.nodes.Acceptor.{Acceptor}
+use Rattle.net_script.specs.declared.nodes.Leader.{Leader}
+use Rattle.net_script.specs.declared.nodes.Party.{Party}
+use Rattle.net_script.specs.declared.byte_words.Hex.{Hex}
+use Rattle.net_script.specs.declared.commands.Ending.{Ending}
+use Rattle.net_script.specs.Lines.{is_word, IsSome, bytes_text, node_text}
+use Rattle.net_script.specs.Events.{IsNode, IsParty, IsEnding, action_words}
+use Rattle.net_script.specs.Spelling.{is_common, IsCommon, IsSpelling, AreSpellings}
+use Rattle.net_script.specs.HexLemmas.{hex_injective, bytes_injective}
+use Rattle.net_script.specs.NameLemmas.{node_injective, xid_injective, tx_injective}
+
+-- ---- words
+
+pub literal : {w : List ℕ} → is_word w ≡ true → list_all is_common w ≡ true → IsCommon w
+literal some bytes = record { some = some; bytes = bytes }
+
+pub all_join : (P : List ℕ → Type 0) (vs ws : List (List ℕ)) → AllByRecursion P vs → AllByRecursion P ws → AllByRecursion P (vs ++ ws)
+all_join P [] ws p q = q
+all_join P (v ∷ vs) ws p q = (p.0, all_join P vs ws p.1 q)
+
+pub some_word : (w : List ℕ) → 0 < length w → is_word w ≡ true
+some_word [] some = absurd (omega arith)
+some_word (x ∷ w) some = refl
+
+pub digit_common : (c : ℕ) → 48 ≤ c → c ≤ 57 → is_common c ≡ true
+digit_common c low high = grind (arith, nat_tests)
+
+pub number_bytes : (n : ℕ) → n < 2 ^ 32 → list_all is_common (decimal n) ≡ true
+number_bytes n lt = list_all-decimal is_common n digit_common lt
+
+pub hex_bytes : (xs : List ℕ) → IsBytes xs → list_all is_common (hex_text xs) ≡ true
+hex_bytes xs bytes = list_all-hex_text is_common xs refl bytes
+
+-- a common word with more of its kind behind it
+pub joined : (v w : List ℕ) → IsCommon v → list_all is_common w ≡ true → IsCommon (v ++ w)
+joined [] w is more = absurd (cc (is.some))
+joined (x ∷ v) w is more = record { some = refl; bytes = list_all_join is_common (x ∷ v) w is.bytes more }
+
+pub number_common : (n : ℕ) → n < 2 ^ 32 → IsCommon (decimal n)
+number_common n lt = record { some = some_word (decimal n) (decimal_nonempty n (omega arith)); bytes = number_bytes n lt }
+
+pub hex_common : (xs : List ℕ) → IsSome xs → IsCommon (hex_text xs)
+hex_common xs is = record {
+  some = let some = is.0 in some_word (hex_text xs) (omega (arith, length-hex_text xs));
+  bytes = hex_bytes xs is.1;
+}
+
+pub bytes_common : (xs : List ℕ) → IsBytes xs → IsCommon (bytes_text xs)
+bytes_common [] bytes = record { some = refl; bytes = refl }
+bytes_common (x ∷ xs) bytes = hex_common (x ∷ xs) (omega arith, bytes)
+
+pub node_common : (n : NodeId) → IsNode n → IsCommon (node_text n)
+node_common (A n) lt = record { some = refl; bytes = number_bytes n (omega arith) }
+node_common (L n) lt = record { some = refl; bytes = number_bytes n (omega arith) }
+node_common (R n) lt = record { some = refl; bytes = number_bytes n (omega arith) }
+
+pub xid_common : (x : XidParts) → IsXid x → IsCommon (xid_text x)
+xid_common x is =
+    joined (decimal x.format) (58 ∷ (hex_text x.gtrid ++ 58 ∷ hex_text x.bqual)) (number_common x.format (omega (arith, is.format)))
+    (list_all_join is_common (hex_text x.gtrid) (58 ∷ hex_text x.bqual) (hex_bytes x.gtrid is.gtrid.bytes)
+    (hex_bytes x.bqual is.bqual.bytes))
+
+pub branch_bytes : (b : BranchParts) → IsBranch b → list_all is_common (branch_text b) ≡ true
+branch_bytes b is =
+    list_all_join is_common (decimal b.rm) (61 ∷ hex_text b.bqual) (number_bytes b.rm (omega (arith, is.rm)))
+    (hex_bytes b.bqual is.bqual.bytes)
+
+pub later_branches : (bs : List BranchParts) → All IsBranch bs → list_all is_common (flat_map (λ b. (44 ∷ []) ++ branch_text b) bs) ≡ true
+later_branches [] are = refl
+later_branches (b ∷ bs) are =
+    list_all_join is_common (44 ∷ branch_text b) (flat_map (λ y. (44 ∷ []) ++ branch_text y) bs)
+    (branch_bytes b (All-head IsBranch b bs are))
+    (later_branches bs (All-tail IsBranch b bs are))
+
+pub branches_bytes : (bs : List BranchParts) → All IsBranch bs → list_all is_common (branches_text bs) ≡ true
+branches_bytes [] are = refl
+branches_bytes (b ∷ bs) are =
+    list_all_join is_common (branch_text b) (flat_map (λ y. (44 ∷ []) ++ branch_text y) bs) (branch_bytes b (All-head IsBranch b bs are))
+    (later_branches bs (All-tail IsBranch b bs are))
+
+pub tx_common : (tx : TxParts) → IsTx tx → IsCommon (tx_text tx)
+tx_common tx is =
+    joined (decimal tx.format) (58 ∷ (hex_text tx.gtrid ++ 47 ∷ branches_text tx.branches))
+    (number_common tx.format (omega (arith, is.format)))
+    (list_all_join is_common (hex_text tx.gtrid) (47 ∷ branches_text tx.branches) (hex_bytes tx.gtrid is.gtrid.bytes)
+    (branches_bytes tx.branches is.branches.each))
+
+-- ---- one text each
+
+number_one : (m n : ℕ) → m < 2 ^ 32 → n < 2 ^ 32 → decimal m ≡ decimal n → m ≡ n
+number_one m n p q e = decimal_injective m n (omega arith) (omega arith) e
+
+pub number_spelling : IsSpelling (λ (n : ℕ). n < 2 ^ 32) decimal
+number_spelling = record { one = number_one; common = number_common }
+
+pub node_spelling : IsSpelling IsNode node_text
+node_spelling = record { one = node_injective; common = node_common }
+
+pub bytes_spelling : IsSpelling IsBytes bytes_text
+bytes_spelling = record { one = bytes_injective; common = bytes_common }
+
+pub xid_spelling : IsSpelling IsXid xid_text
+xid_spelling = record { one = xid_injective; common = xid_common }
+
+pub tx_spelling : IsSpelling IsTx tx_text
+tx_spelling = record { one = tx_injective; common = tx_common }
+
+-- words that say a value of another kind in a way of their own
+wrapped : {X Y : Type 0} {fits : X → Type 0} {text : X → List ℕ} (wrap : X → Y) (inner : Y → X) → IsSpelling fits text
+    → ((y : Y) → wrap (inner y) ≡ y)
+    → IsSpelling (λ y. fits (inner y)) (λ y. text (inner y))
+wrapped wrap inner law back = record {
+  one = λ y z p q e. sym (back y) ∙ ap wrap (law.one (inner y) (inner z) p q e) ∙ back z;
+  common = λ y p. law.common (inner y) p;
+}
+
+-- a resource manager, an acceptor, a leader, a node that has timeouts, and bytes of which there is one at least
+abbrev pub manager_of : ℕ → Manager
+manager_of number = record { 0 = number }
+
+abbrev pub acceptor_of : ℕ → Acceptor
+acceptor_of number = record { 0 = number }
+
+abbrev pub leader_of : ℕ → Leader
+leader_of number = record { 0 = number }
+
+abbrev pub party_of : NodeId → Party
+party_of node = record { 0 = node }
+
+abbrev pub hex_of : List ℕ → Hex
+hex_of bytes = record { 0 = bytes }
+
+manager_numbers : IsSpelling (λ (n : ℕ). n < 256) (λ n. node_text (R n))
+manager_numbers = record { one = λ m n p q e. number_one m n (omega arith) (omega arith) (ap (drop 1) e); common = λ n p. node_common (R n) p }
+
+acceptor_numbers : IsSpelling (λ (n : ℕ). n < 256) (λ n. node_text (A n))
+acceptor_numbers = record { one = λ m n p q e. number_one m n (omega arith) (omega arith) (ap (drop 1) e); common = λ n p. node_common (A n) p }
+
+leader_numbers : IsSpelling (λ (n : ℕ). n < 256) (λ n. node_text (L n))
+leader_numbers = record { one = λ m n p q e. number_one m n (omega arith) (omega arith) (ap (drop 1) e); common = λ n p. node_common (L n) p }
+
+is_node : (n : NodeId) → IsParty n → IsNode n
+is_node (A n) p = absurd p
+is_node (L n) p = p
+is_node (R n) p = p
+
+parties : IsSpelling IsParty node_text
+parties = record { one = λ m n p q e. node_injective m n (is_node m p) (is_node n q) e; common = λ n p. node_common n (is_node n p) }
+
+hexes : IsSpelling IsSome hex_text
+hexes = record { one = λ a b p q e. hex_injective a b p.1 q.1 e; common = hex_common }
+
+pub manager_spelling : IsSpelling (λ (m : Manager). m.0 < 256) (λ m. node_text (R m.0))
+manager_spelling = wrapped manager_of (λ m. m.0) manager_numbers (λ m. refl)
+
+pub acceptor_spelling : IsSpelling (λ (m : Acceptor). m.0 < 256) (λ m. node_text (A m.0))
+acceptor_spelling = wrapped acceptor_of (λ m. m.0) acceptor_numbers (λ m. refl)
+
+pub leader_spelling : IsSpelling (λ (m : Leader). m.0 < 256) (λ m. node_text (L m.0))
+leader_spelling = wrapped leader_of (λ m. m.0) leader_numbers (λ m. refl)
+
+pub party_spelling : IsSpelling (λ (p : Party). IsParty p.0) (λ p. node_text p.0)
+party_spelling = wrapped party_of (λ p. p.0) parties (λ p. refl)
+
+pub hex_spelling : IsSpelling (λ (h : Hex). IsSome h.0) (λ h. hex_text h.0)
+hex_spelling = wrapped hex_of (λ h. h.0) hexes (λ h. refl)
+
+-- how an end ends
+abbrev pub ending_of : Action → Ending
+ending_of action = record { 0 = action }
+
+ending_one : (a b : Action) → IsEnding a → IsEnding b → action_words a ≡ action_words b → a ≡ b
+ending_one End End p q e = refl
+ending_one EndFail EndFail p q e = refl
+ending_one End EndFail p q e = absurd (cc)
+ending_one EndFail End p q e = absurd (cc)
+ending_one End b p q e = absurd q
+ending_one EndFail b p q e = absurd q
+ending_one a b p q e = absurd p
+
+ending_common : (a : Action) → IsEnding a → AllByRecursion IsCommon (action_words a)
+ending_common End p = tt
+ending_common EndFail p = (literal refl refl, tt)
+ending_common a p = absurd p
+
+pub ending_spelling : AreSpellings (λ (e : Ending). IsEnding e.0) (λ e. action_words e.0)
+ending_spelling = record { one = λ x y p q e. ap ending_of (ending_one x.0 y.0 p q e); common = λ x p. ending_common x.0 p }

@@ -1,0 +1,102 @@
+//! Words that are bytes, XIDs and transactions.
+
+ghost use Rattle.std.specs.Prelude.{true, false};
+ghost use Rattle.net_script.specs.Basics.{IsBytes, IsXid, IsTx, hex_text, xid_text, tx_text};
+ghost use Rattle.net_script.specs.Lines.{IsSome, bytes_text};
+ghost use Rattle.net_script.specs.Laws.{hex_spelling, bytes_spelling, xid_spelling, tx_spelling};
+
+use crate::stop::Stop;
+use crate::word::{Word, is_word};
+use hex::FromHexError;
+use protocol::Boxed;
+use std::alloc::Global;
+use xid::{Bytes, Sequence, Tx, Xid};
+
+/// Bytes of which there is at least one.
+#[derive(Drop)]
+pub struct Hex(pub Bytes);
+
+impl Word for Hex {
+    ghost fits = { λ hex. IsSome hex.0 };
+
+    ghost text = { λ hex. hex_text hex.0 };
+
+    ghost allocates = { true };
+
+    ghost spelling = { hex_spelling };
+
+    fn read(alloc: Global, word: &[u8]) -> Result<Hex, Stop> {
+        if word.is_empty() {
+            return Err(Stop::Wrong);
+        }
+        let bytes = match hex::decode(alloc, word) {
+            Ok(bytes) => bytes,
+            Err(error) => {
+                return match error {
+                    FromHexError::OutOfMemory => Err(Stop::Memory),
+                    _ => Err(Stop::Wrong),
+                };
+            }
+        };
+        let again = hex::encode(alloc, bytes.as_slice())?;
+        if again.as_bytes() != word {
+            return Err(Stop::Wrong);
+        }
+        Ok(Hex(Sequence::new(bytes)))
+    }
+}
+
+impl Word for Sequence<u8> {
+    ghost fits = { IsBytes };
+
+    ghost text = { bytes_text };
+
+    ghost allocates = { true };
+
+    ghost spelling = { bytes_spelling };
+
+    fn read(alloc: Global, word: &[u8]) -> Result<Bytes, Stop> {
+        if is_word(word, b"-") {
+            return Ok(Sequence::new(Vec::new(alloc)));
+        }
+        let Hex(bytes) = Hex::read(alloc, word)?;
+        Ok(bytes)
+    }
+}
+
+impl Word for Xid {
+    ghost fits = { IsXid };
+
+    ghost text = { xid_text };
+
+    ghost allocates = { false };
+
+    ghost spelling = { xid_spelling };
+
+    fn read(_alloc: Global, word: &[u8]) -> Result<Xid, Stop> {
+        let Ok(xid) = Xid::read(word) else {
+            return Err(Stop::Wrong);
+        };
+        Ok(xid)
+    }
+}
+
+impl Word for Boxed<Tx> {
+    ghost fits = { IsTx };
+
+    ghost text = { tx_text };
+
+    ghost allocates = { true };
+
+    ghost spelling = { tx_spelling };
+
+    fn read(alloc: Global, word: &[u8]) -> Result<Boxed<Tx>, Stop> {
+        let Ok(tx) = Tx::read(word) else {
+            return Err(Stop::Wrong);
+        };
+        let Ok(tx) = Boxed::new(alloc, tx) else {
+            return Err(Stop::Memory);
+        };
+        Ok(tx)
+    }
+}

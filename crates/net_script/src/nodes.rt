@@ -1,0 +1,129 @@
+//! Words that are numbers and nodes.
+
+ghost use Rattle.std.specs.Prelude.{◌<◌, ◌^◌, false, decimal};
+ghost use Rattle.net_script.specs.Basics.{A, L, R};
+ghost use Rattle.net_script.specs.Lines.{node_text};
+ghost use Rattle.net_script.specs.Events.{IsNode, IsParty};
+ghost use Rattle.net_script.specs.Laws.{number_spelling, manager_spelling, acceptor_spelling, leader_spelling, node_spelling, party_spelling};
+
+use crate::numbers;
+use crate::stop::Stop;
+use crate::word::Word;
+use crate::words::{lettered_word, manager_word, node_word};
+use protocol::NodeId;
+use std::alloc::Global;
+
+impl Word for u32 {
+    ghost fits = { λ n. n < 2 ^ 32 };
+
+    ghost text = { decimal };
+
+    ghost allocates = { false };
+
+    ghost spelling = { number_spelling };
+
+    fn read(_alloc: Global, word: &[u8]) -> Result<u32, Stop> {
+        numbers::number(word).ok_or(Stop::Wrong)
+    }
+}
+
+/// A resource manager by its number.
+#[derive(Drop)]
+pub struct Manager(pub u8);
+
+impl Word for Manager {
+    ghost fits = { λ manager. manager.0 < 256 };
+
+    ghost text = { λ manager. node_text (R manager.0) };
+
+    ghost allocates = { false };
+
+    ghost spelling = { manager_spelling };
+
+    fn read(_alloc: Global, word: &[u8]) -> Result<Manager, Stop> {
+        let Some(number) = manager_word(word) else {
+            return Err(Stop::Wrong);
+        };
+        Ok(Manager(number))
+    }
+}
+
+/// An acceptor by its number.
+#[derive(Drop)]
+pub struct Acceptor(pub u8);
+
+impl Word for Acceptor {
+    ghost fits = { λ acceptor. acceptor.0 < 256 };
+
+    ghost text = { λ acceptor. node_text (A acceptor.0) };
+
+    ghost allocates = { false };
+
+    ghost spelling = { acceptor_spelling };
+
+    fn read(_alloc: Global, word: &[u8]) -> Result<Acceptor, Stop> {
+        let Some(number) = lettered_word(word, b'a') else {
+            return Err(Stop::Wrong);
+        };
+        Ok(Acceptor(number))
+    }
+}
+
+/// A leader by its number.
+#[derive(Drop)]
+pub struct Leader(pub u8);
+
+impl Word for Leader {
+    ghost fits = { λ leader. leader.0 < 256 };
+
+    ghost text = { λ leader. node_text (L leader.0) };
+
+    ghost allocates = { false };
+
+    ghost spelling = { leader_spelling };
+
+    fn read(_alloc: Global, word: &[u8]) -> Result<Leader, Stop> {
+        let Some(number) = lettered_word(word, b'l') else {
+            return Err(Stop::Wrong);
+        };
+        Ok(Leader(number))
+    }
+}
+
+impl Word for NodeId {
+    ghost fits = { IsNode };
+
+    ghost text = { node_text };
+
+    ghost allocates = { false };
+
+    ghost spelling = { node_spelling };
+
+    fn read(_alloc: Global, word: &[u8]) -> Result<NodeId, Stop> {
+        node_word(word).ok_or(Stop::Wrong)
+    }
+}
+
+/// A node that has timeouts: a leader or a resource manager.
+#[derive(Drop)]
+pub struct Party(pub NodeId);
+
+impl Word for Party {
+    ghost fits = { λ party. IsParty party.0 };
+
+    ghost text = { λ party. node_text party.0 };
+
+    ghost allocates = { false };
+
+    ghost spelling = { party_spelling };
+
+    fn read(_alloc: Global, word: &[u8]) -> Result<Party, Stop> {
+        if let Some(rm) = manager_word(word) {
+            return Ok(Party(NodeId::R(rm)));
+        }
+        if let Some(leader) = lettered_word(word, b'l') {
+            return Ok(Party(NodeId::L(leader)));
+        }
+        Err(Stop::Wrong)
+    }
+}

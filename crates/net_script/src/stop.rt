@@ -1,0 +1,44 @@
+//! Why a text is not read.
+
+ghost use Rattle.std.specs.Prelude.{◌≡◌};
+ghost use Rattle.net_script.specs.declared.stop.Stop.TheVariants.{Memory};
+ghost use Rattle.net_script.specs.Spelling.{or_none};
+
+use std::alloc::{AllocError, AllocFailed};
+use xid::Refusal;
+
+/// Why nothing was read.
+#[derive(Drop)]
+pub enum Stop {
+    /// No value has this text.
+    Wrong,
+    /// Memory ran out.
+    Memory,
+}
+
+impl From<AllocError> for Stop {
+    ghost from_gives = { λ _ e. e ≡ Memory };
+
+    fn from(_error: AllocError) -> Stop {
+        Stop::Memory
+    }
+}
+
+impl<T: Drop> From<AllocFailed<T>> for Stop {
+    ghost from_gives = { λ _ e. e ≡ Memory };
+
+    fn from(_error: AllocFailed<T>) -> Stop {
+        Stop::Memory
+    }
+}
+
+/// What was found, or none where no value has the text.
+pub(crate) fn or_none<X: Drop>(found: Result<X, Stop>) -> Result<Option<X>, Refusal>
+    ensures { result ≡ or_none found }
+{
+    match found {
+        Ok(value) => Ok(Some(value)),
+        Err(Stop::Wrong) => Ok(None),
+        Err(Stop::Memory) => Err(Refusal::NoMemory),
+    }
+}
