@@ -1,5 +1,6 @@
 -- Answers: one value for one list of words.
-use Rattle.std.proofs.Common.{◌≡◌, ℕ, ◌<◌, ◌^◌, Bool, true, false, cond, eqb, ◌||◌, List, ◌∷◌, refl, sym, ap, subst, ◌∙◌, arith, decimal, codes}
+use Rattle.std.proofs.Common.{◌≡◌, ℕ, ◌<◌, ◌^◌, Bool, true, false, cond, eqb, ◌||◌}
+use Rattle.std.proofs.Common.{List, ◌∷◌, refl, sym, ap, subst, ◌∙◌, arith, decimal, codes}
 use Rattle.std.specs.Fmt.{digits, signed_decimal}
 use Rattle.std.specs.Str.{bytes_eq}
 use Rattle.std.proofs.lemmas.Fmt.{decimal_injective}
@@ -7,9 +8,9 @@ use Rattle.net_script.specs.Basics.{code_number, number_of, XaCode, Refusal, Sta
 use Rattle.net_script.specs.Basics.{Answer, Done, Code, Value, NoValue, Xids, Stands, Refused}
 use Rattle.net_script.specs.Answers.{IsTold, IsAnswer, standing_text, code_text, answer_words}
 use Rattle.net_script.specs.Spelling.{IsCommon, IsSpelling, no_words, ◌&◌, list_of_words}
-use Rattle.net_script.specs.Laws.{literal, number_common, bytes_spelling, xid_spelling}
+use Rattle.net_script.specs.Laws.{literal, number_common, some_bytes, an_xid}
 use Rattle.net_script.proofs.WordLemmas.{differ}
-use Rattle.net_script.proofs.Arms.{Arm, IsSaid, arm_said, apart, first_word}
+use Rattle.net_script.proofs.Arms.{Arm, made_of, IsSaid, arm_said, apart, first_word}
 
 pub code_digits : (c : XaCode) → signed_decimal (code_number c) ≡ code_text c
 unfolding digits
@@ -105,8 +106,8 @@ not_standing : (s : Standing) (word : List ℕ) (v w : List (List ℕ)) → is_s
 not_standing s word v w none e = standing_apart s word none (sym (ap first_word e))
 
 -- the number of a refusal that is told
-pub refusal_spelling : IsSpelling IsTold (λ r. decimal (number_of r))
-refusal_spelling = record {
+pub a_refusal : IsSpelling IsTold (λ r. decimal (number_of r))
+a_refusal = record {
   one = λ r s p q e.
       let small-r = refusal_small r p in
       let small-s = refusal_small s q in
@@ -117,48 +118,44 @@ refusal_spelling = record {
 -- ---- what comes after each first word
 
 pub ok_arm : Arm no_words IsAnswer answer_words (codes "ok") (λ _. Done)
-ok_arm Done p args e = record { value = tt; fits = tt; says = cc; made = refl }
+ok_arm Done p args e = made_of tt tt (cc) refl
 ok_arm (Code c) p args e = absurd (not_code c _ _ _ refl e)
 ok_arm (Stands s) p args e = absurd (not_standing s _ _ _ refl e)
 ok_arm line p args e = absurd (apart _ _ e refl)
 
-pub value_arm : Arm (bytes_spelling & no_words) IsAnswer answer_words (codes "value") (λ said. Value said.0)
-value_arm (Value xs) p args e = record { value = (xs, tt); fits = (p, tt); says = cc; made = refl }
+pub value_arm : Arm (some_bytes & no_words) IsAnswer answer_words (codes "value") (λ said. Value said.0)
+value_arm (Value xs) p args e = made_of (xs, tt) (p, tt) (cc) refl
 value_arm (Code c) p args e = absurd (not_code c _ _ _ refl e)
 value_arm (Stands s) p args e = absurd (not_standing s _ _ _ refl e)
 value_arm line p args e = absurd (apart _ _ e refl)
 
 pub none_arm : Arm no_words IsAnswer answer_words (codes "none") (λ _. NoValue)
-none_arm NoValue p args e = record { value = tt; fits = tt; says = cc; made = refl }
+none_arm NoValue p args e = made_of tt tt (cc) refl
 none_arm (Code c) p args e = absurd (not_code c _ _ _ refl e)
 none_arm (Stands s) p args e = absurd (not_standing s _ _ _ refl e)
 none_arm line p args e = absurd (apart _ _ e refl)
 
-pub xids_arm : Arm (list_of_words xid_spelling) IsAnswer answer_words (codes "xids") (λ said. Xids said)
-xids_arm (Xids xs) p args e = record { value = xs; fits = p; says = cc; made = refl }
+pub xids_arm : Arm (list_of_words an_xid) IsAnswer answer_words (codes "xids") (λ said. Xids said)
+xids_arm (Xids xs) p args e = made_of xs p (cc) refl
 xids_arm (Code c) p args e = absurd (not_code c _ _ _ refl e)
 xids_arm (Stands s) p args e = absurd (not_standing s _ _ _ refl e)
 xids_arm line p args e = absurd (apart _ _ e refl)
 
-pub refused_arm : Arm (refusal_spelling & no_words) IsAnswer answer_words (codes "refused") (λ said. Refused said.0)
-refused_arm (Refused r) p args e = record { value = (r, tt); fits = (p, tt); says = cc; made = refl }
+pub refused_arm : Arm (a_refusal & no_words) IsAnswer answer_words (codes "refused") (λ said. Refused said.0)
+refused_arm (Refused r) p args e = made_of (r, tt) (p, tt) (cc) refl
 refused_arm (Code c) p args e = absurd (not_code c _ _ _ refl e)
 refused_arm (Stands s) p args e = absurd (not_standing s _ _ _ refl e)
 refused_arm line p args e = absurd (apart _ _ e refl)
 
 pub code_arm : (c : XaCode) → Arm no_words IsAnswer answer_words (signed_decimal (code_number c)) (λ _. Code c)
-code_arm c (Code d) p args e = record {
-  value = tt;
-  fits = tt;
-  says = cc;
-  made = ap Code (code_text_injective c d (sym (code_digits c) ∙ ap first_word e ∙ code_digits d));
-}
+code_arm c (Code d) p args e =
+    made_of tt tt (cc) (ap Code (code_text_injective c d (sym (code_digits c) ∙ ap first_word e ∙ code_digits d)))
 code_arm c (Stands s) p args e = absurd (not_code c _ _ _ (standing_is s).1 (sym e))
 code_arm c line p args e = absurd (not_code c _ _ _ refl (sym e))
 
 pub standing_arm : (s : Standing) → Arm no_words IsAnswer answer_words (standing_text s) (λ _. Stands s)
 standing_arm s (Stands t) p args e =
-    record { value = tt; fits = tt; says = cc; made = ap Stands (standing_injective s t (ap first_word e)) }
+    made_of tt tt (cc) (ap Stands (standing_injective s t (ap first_word e)))
 standing_arm s (Code c) p args e = absurd (not_code c _ _ _ (standing_is s).1 e)
 standing_arm s line p args e = absurd (not_standing s _ _ _ refl (sym e))
 
@@ -174,13 +171,13 @@ standing_common Standing.Unknown = literal refl refl
 standing_common s = literal refl refl
 
 pub answer_said : (a : Answer) → IsAnswer a → IsSaid IsAnswer answer_words a
-answer_said Done p = arm_said no_words ok_arm (literal refl refl) tt tt _ refl refl
-answer_said (Value xs) p = arm_said (bytes_spelling & no_words) value_arm (literal refl refl) (xs, tt) (p, tt) _ refl refl
-answer_said NoValue p = arm_said no_words none_arm (literal refl refl) tt tt _ refl refl
-answer_said (Xids xs) p = arm_said (list_of_words xid_spelling) xids_arm (literal refl refl) xs p _ refl refl
-answer_said (Refused r) p = arm_said (refusal_spelling & no_words) refused_arm (literal refl refl) (r, tt) (p, tt) _ refl refl
-answer_said (Code c) p = arm_said no_words (code_arm c) (code_common c) tt tt _ refl refl
-answer_said (Stands s) p = arm_said no_words (standing_arm s) (standing_common s) tt tt _ refl refl
+answer_said Done p = arm_said no_words ok_arm (literal refl refl) _ p _ refl
+answer_said (Value xs) p = arm_said (some_bytes & no_words) value_arm (literal refl refl) _ p _ refl
+answer_said NoValue p = arm_said no_words none_arm (literal refl refl) _ p _ refl
+answer_said (Xids xs) p = arm_said (list_of_words an_xid) xids_arm (literal refl refl) _ p _ refl
+answer_said (Refused r) p = arm_said (a_refusal & no_words) refused_arm (literal refl refl) _ p _ refl
+answer_said (Code c) p = arm_said no_words (code_arm c) (code_common c) _ p _ refl
+answer_said (Stands s) p = arm_said no_words (standing_arm s) (standing_common s) _ p _ refl
 
 pub answer_injective : (a b : Answer) → IsAnswer a → IsAnswer b → answer_words a ≡ answer_words b → a ≡ b
 answer_injective a b p q e = (answer_said a p).one b q e

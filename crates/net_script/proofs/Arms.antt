@@ -10,19 +10,25 @@ use Rattle.net_script.specs.Spelling.{Finds, IsCommon, AreSpellings}
 use Rattle.net_script.proofs.WordLemmas.{differ}
 
 -- a line that is made of a value, whose words these are
-pub record IsMadeOf {X Y : Type 0} (fit : X → Type 0) (texts : X → List (List ℕ)) (make : X → Y) (args : List (List ℕ)) (line : Y) : Type 0 where
+pub record IsMadeOf {X Y : Type 0} (fit : X → Type 0) (texts : X → List (List ℕ)) (make : X → Y) (args : List (List ℕ)) (line : Y)
+    : Type 0 where
   pub value : X
   pub fits : fit value
   pub says : args ≡ texts value
   pub made : make value ≡ line
+
+pub made_of : {X Y : Type 0} {fit : X → Type 0} {texts : X → List (List ℕ)} {make : X → Y} {args : List (List ℕ)} {line : Y} (value : X)
+    → fit value → args ≡ texts value → make value ≡ line
+    → IsMadeOf fit texts make args line
+made_of value fits says made = record { value = value; fits = fits; says = says; made = made }
 
 -- the lines that begin with this word are made of values whose words come after it
 abbrev pub IsArm : {X Y : Type 0} → (X → Type 0) → (X → List (List ℕ)) → (Y → Type 0) → (Y → List (List ℕ)) → List ℕ → (X → Y) → Type 0
 IsArm {Y = Y} fit texts IsIn words name make =
     (line : Y) → IsIn line → (args : List (List ℕ)) → name ∷ args ≡ words line → IsMadeOf fit texts make args line
 
-abbrev pub Arm : {X Y : Type 0} {fit : X → Type 0} {texts : X → List (List ℕ)} → AreSpellings fit texts → (Y → Type 0) → (Y → List (List ℕ))
-    → List ℕ → (X → Y)
+abbrev pub Arm : {X Y : Type 0} {fit : X → Type 0} {texts : X → List (List ℕ)} → AreSpellings fit texts → (Y → Type 0)
+    → (Y → List (List ℕ)) → List ℕ → (X → Y)
     → Type 0
 Arm {fit = fit} {texts = texts} law IsIn words name make = IsArm fit texts IsIn words name make
 
@@ -32,18 +38,20 @@ pub record IsSaid {Y : Type 0} (IsIn : Y → Type 0) (words : Y → List (List �
   pub common : AllByRecursion IsCommon (words line)
 
 pub arm_said : {X Y : Type 0} {fit : X → Type 0} {texts : X → List (List ℕ)} {IsIn : Y → Type 0} {words : Y → List (List ℕ)} {name : List ℕ}
-    {make : X → Y} (law : AreSpellings fit texts) → IsArm fit texts IsIn words name make → IsCommon name → (x : X) → fit x → (line : Y)
-    → make x ≡ line → name ∷ texts x ≡ words line
+    {make : X → Y} (law : AreSpellings fit texts) → IsArm fit texts IsIn words name make → IsCommon name → (line : Y) → IsIn line
+    → (args : List (List ℕ)) → name ∷ args ≡ words line
     → IsSaid IsIn words line
-arm_said {texts = texts} {words = words} {name = name} {make = make} law arm is x p line made says = record {
-  one = λ other q e.
-      let found = arm other q (texts x) (says ∙ e) in
-      let same : x ≡ found.value = law.one x found.value p found.fits found.says in
-      let other_made : make found.value ≡ other = found.made in
-      cc;
-  common = let first : AllByRecursion IsCommon (name ∷ texts x) = (is, law.common x p) in
-      rw (sym says) first;
-}
+arm_said {name = name} {make = make} law arm is line p args says =
+    let own = arm line p args says in
+    record {
+      one = λ other q e.
+          let found = arm other q args (says ∙ e) in
+          let same : own.value ≡ found.value = law.one own.value found.value own.fits found.fits (sym own.says ∙ found.says) in
+          sym own.made ∙ ap make same ∙ found.made;
+      common =
+          let first : AllByRecursion IsCommon (name ∷ args) = (is, rw own.says (law.common own.value own.fits)) in
+          rw (sym says) first;
+    }
 
 -- the first of some words
 abbrev pub first_word : List (List ℕ) → List ℕ

@@ -8,7 +8,7 @@ use Rattle.xid.proofs.Texts.{first_true, second_true, both_true}
 use Rattle.net_script.specs.Basics.{NodeId}
 use Rattle.net_script.specs.Basics.{R}
 use Rattle.net_script.specs.Basics.{View, Kind}
-use Rattle.net_script.specs.Basics.{IsMessage, message_tx, Change, Sent}
+use Rattle.net_script.specs.Basics.{IsMessage, Change, Sent}
 use Rattle.net_script.specs.Basics.{Answer, Event}
 use Rattle.net_script.specs.declared.values.Sizes.{Sizes}
 use Rattle.net_script.specs.declared.trace_lines.TraceLine.{TraceLine}
@@ -21,10 +21,10 @@ use Rattle.net_script.specs.Traces.{serve_words, change_words, sent_words}
 use Rattle.net_script.specs.TraceLines.{IsChange, IsSent, IsTraceLine, final_words, trace_line_words}
 pub use Rattle.net_script.specs.Spelling.{is_clean, is_common, IsClean, IsCommon}
 pub use Rattle.net_script.specs.Laws.{all_join}
-use Rattle.net_script.specs.RowLaws.{row_spelling}
-use Rattle.net_script.specs.Laws.{literal, number_common, node_common, tx_common}
+use Rattle.net_script.specs.RowLaws.{a_row}
+use Rattle.net_script.specs.Laws.{literal, a_number, a_node, a_tx}
 use Rattle.net_script.proofs.AnswerLemmas.{answer_said}
-use Rattle.net_script.proofs.MessageLemmas.{message_fits, message_tx_valid, kind_said}
+use Rattle.net_script.proofs.MessageLemmas.{message_form, message_said}
 use Rattle.net_script.proofs.EventLemmas.{event_said}
 
 -- ---- weaker tests
@@ -69,7 +69,7 @@ pub event_common : (e : Event) → IsEvent e → AllByRecursion IsCommon (event_
 event_common e is = (event_said e is).common
 
 pub serve_common : (n : NodeId) → IsNode n → AllByRecursion IsCommon (serve_words n)
-serve_common n is = (literal refl refl, (node_common n is, tt))
+serve_common n is = (literal refl refl, (a_node.common n is, tt))
 
 -- ---- answers and views
 
@@ -83,9 +83,7 @@ answer_common a is = (answer_said a is).common
 -- ---- messages
 
 message_common : (m : Kind) → IsMessage m → AllByRecursion IsCommon (message_words m)
-message_common m is =
-    let said = kind_said (message_tx m) m (record { fits = message_fits m is; about = refl }) in
-    (said.common.0, (tx_common (message_tx m) (message_tx_valid m is), said.common.1))
+message_common m is = (message_said m (message_form m is)).common
 
 -- ---- lines
 
@@ -97,21 +95,21 @@ sizes_common : (s : Sizes) → IsSizes s → AllByRecursion IsCommon (sizes_word
 sizes_common s is = (
   literal refl refl,
   (
-    number_common s.acceptors is.acceptors,
+    a_number.common s.acceptors is.acceptors,
     (
       literal refl refl,
-      (number_common s.leaders is.leaders, (literal refl refl, (number_common s.rms is.rms, bundled_common s.bundled))),
+      (a_number.common s.leaders is.leaders, (literal refl refl, (a_number.common s.rms is.rms, bundled_common s.bundled))),
     ),
   ),
 )
 
 change_common : (c : Change) → IsChange c → AllByRecursion IsCommon (change_words c)
-change_common c is = (node_common (R c.rm) is.rm, (tx_common c.tx is.tx, (view_common c.view, tt)))
+change_common c is = (a_node.common (R c.rm) is.rm, (a_tx.common c.tx is.tx, (view_common c.view, tt)))
 
 sent_common : (s : Sent) → IsSent s → AllByRecursion IsCommon (sent_words s)
 sent_common s is = (
-  number_common s.number is.number,
-  (node_common s.sender is.sender, (node_common s.receiver is.receiver, message_common s.message is.message)),
+  a_number.common s.number is.number,
+  (a_node.common s.sender is.sender, (a_node.common s.receiver is.receiver, message_common s.message is.message)),
 )
 
 -- what happened, and its answer behind the arrow
@@ -125,7 +123,7 @@ pub line_clean : (said : TraceLine) → IsTraceLine said → AllByRecursion IsCl
 line_clean (Cluster s) is = (record { some = refl; bytes = refl }, all_clean (sizes_words s) (sizes_common s is))
 line_clean (Contents t) is = (
   record { some = refl; bytes = refl },
-  all_clean (contents_words t) (node_common (R t.rm) is.rm, mapped row_spelling.common t.rows is.rows.each),
+  all_clean (contents_words t) (a_node.common (R t.rm) is.rm, mapped a_row.common t.rows is.rows.each),
 )
 line_clean (Happened e a) is = outcome_clean (event_words e) a (event_common e is.0) is.1
 line_clean (Served n a) is = outcome_clean (serve_words n) a (serve_common n is.0) is.1
@@ -133,5 +131,5 @@ line_clean (Changed c) is = (record { some = refl; bytes = refl }, all_clean (ch
 line_clean (Datagram s) is = (record { some = refl; bytes = refl }, all_clean (sent_words s) (sent_common s is))
 line_clean (Final rm rows) is = (
   record { some = refl; bytes = refl },
-  all_clean (final_words rm rows) (node_common (R rm) is.0, mapped row_spelling.common rows is.1.each),
+  all_clean (final_words rm rows) (a_node.common (R rm) is.0, mapped a_row.common rows is.1.each),
 )

@@ -7,131 +7,137 @@ use Rattle.net_script.specs.declared.values.Command.TheVariants.{Do, Flow}
 use Rattle.net_script.specs.Events.{IsEvent, event_word, event_words}
 use Rattle.net_script.specs.Items.{IsCommand, command_words}
 use Rattle.net_script.specs.Spelling.{no_words, ◌&◌}
-use Rattle.net_script.specs.Laws.{literal, number_spelling, node_spelling, bytes_spelling, xid_spelling, tx_spelling, manager_of}
-use Rattle.net_script.specs.Laws.{manager_spelling, leader_of, leader_spelling, party_of, party_spelling, ending_of, ending_spelling}
-use Rattle.net_script.proofs.Arms.{Arm, IsSaid, arm_said, apart}
+use Rattle.net_script.specs.Laws.{literal, a_number, a_node, some_bytes, an_xid, a_tx, manager_of}
+use Rattle.net_script.specs.Laws.{a_manager, leader_of, a_leader, party_of, a_party, ending_of, an_ending}
+use Rattle.net_script.proofs.Arms.{Arm, made_of, IsSaid, arm_said, apart}
 
 -- ---- the first words, and what comes after each
 
-pub deliver_arm : Arm (number_spelling & no_words) IsEvent event_words (codes "deliver") (λ said. Deliver said.0)
-deliver_arm (Deliver n) p args e = record { value = (n, tt); fits = (p, tt); says = cc; made = refl }
+pub deliver_arm : Arm (a_number & no_words) IsEvent event_words (codes "deliver") (λ said. Deliver said.0)
+deliver_arm (Deliver n) p args e = made_of (n, tt) (p, tt) (cc) refl
 deliver_arm (Ask n (Call x Start)) p args e = absurd (apart _ _ e refl)
 deliver_arm line p args e = absurd (apart _ _ e refl)
 
-pub lose_arm : Arm (number_spelling & no_words) IsEvent event_words (codes "lose") (λ said. Lose said.0)
-lose_arm (Lose n) p args e = record { value = (n, tt); fits = (p, tt); says = cc; made = refl }
+pub lose_arm : Arm (a_number & no_words) IsEvent event_words (codes "lose") (λ said. Lose said.0)
+lose_arm (Lose n) p args e = made_of (n, tt) (p, tt) (cc) refl
 lose_arm (Ask n (Call x Start)) p args e = absurd (apart _ _ e refl)
 lose_arm line p args e = absurd (apart _ _ e refl)
 
-pub cut_arm : Arm (number_spelling & number_spelling & no_words) IsEvent event_words (codes "cut") (λ said. Cut said.0 said.1.0)
-cut_arm (Cut n m) p args e = record { value = (n, (m, tt)); fits = (p.0, (p.1, tt)); says = cc; made = refl }
+pub cut_arm : Arm (a_number & a_number & no_words) IsEvent event_words (codes "cut") (λ said. Cut said.0 said.1.0)
+cut_arm (Cut n m) p args e = made_of (n, (m, tt)) (p.0, (p.1, tt)) (cc) refl
 cut_arm (Ask n (Call x Start)) p args e = absurd (apart _ _ e refl)
 cut_arm line p args e = absurd (apart _ _ e refl)
 
-pub noise_arm : Arm (node_spelling & bytes_spelling & no_words) IsEvent event_words (codes "noise") (λ said. Noise said.0 said.1.0)
-noise_arm (Noise n xs) p args e = record { value = (n, (xs, tt)); fits = (p.0, (p.1, tt)); says = cc; made = refl }
+pub noise_arm : Arm (a_node & some_bytes & no_words) IsEvent event_words (codes "noise") (λ said. Noise said.0 said.1.0)
+noise_arm (Noise n xs) p args e = made_of (n, (xs, tt)) (p.0, (p.1, tt)) (cc) refl
 noise_arm (Ask n (Call x Start)) p args e = absurd (apart _ _ e refl)
 noise_arm line p args e = absurd (apart _ _ e refl)
 
-pub tear_arm : Arm (node_spelling & number_spelling & no_words) IsEvent event_words (codes "tear") (λ said. Tear said.0 said.1.0)
-tear_arm (Tear n m) p args e = record { value = (n, (m, tt)); fits = (p.0, (p.1, tt)); says = cc; made = refl }
+pub tear_arm : Arm (a_node & a_number & no_words) IsEvent event_words (codes "tear") (λ said. Tear said.0 said.1.0)
+tear_arm (Tear n m) p args e = made_of (n, (m, tt)) (p.0, (p.1, tt)) (cc) refl
 tear_arm (Ask n (Call x Start)) p args e = absurd (apart _ _ e refl)
 tear_arm line p args e = absurd (apart _ _ e refl)
 
-pub restart_arm : Arm (node_spelling & no_words) IsEvent event_words (codes "restart") (λ said. Restart said.0)
-restart_arm (Restart n) p args e = record { value = (n, tt); fits = (p, tt); says = cc; made = refl }
+pub restart_arm : Arm (a_node & no_words) IsEvent event_words (codes "restart") (λ said. Restart said.0)
+restart_arm (Restart n) p args e = made_of (n, tt) (p, tt) (cc) refl
 restart_arm (Ask n (Call x Start)) p args e = absurd (apart _ _ e refl)
 restart_arm line p args e = absurd (apart _ _ e refl)
 
-pub compact_arm : Arm (node_spelling & no_words) IsEvent event_words (codes "compact") (λ said. Compact said.0)
-compact_arm (Compact n) p args e = record { value = (n, tt); fits = (p, tt); says = cc; made = refl }
+pub compact_arm : Arm (a_node & no_words) IsEvent event_words (codes "compact") (λ said. Compact said.0)
+compact_arm (Compact n) p args e = made_of (n, tt) (p, tt) (cc) refl
 compact_arm (Ask n (Call x Start)) p args e = absurd (apart _ _ e refl)
 compact_arm line p args e = absurd (apart _ _ e refl)
 
-pub start_arm : Arm (manager_spelling & xid_spelling & no_words) IsEvent event_words (codes "start") (λ said. Ask (R said.0.0) (Call said.1.0 Start))
-start_arm (Ask (R m) (Call x Start)) p args e = record { value = (manager_of m, (x, tt)); fits = (p.0, (p.1.0, tt)); says = cc; made = refl }
+pub start_arm : Arm (a_manager & an_xid & no_words) IsEvent event_words (codes "start") (λ said. Ask (R said.0.0) (Call said.1.0 Start))
+start_arm (Ask (R m) (Call x Start)) p args e = made_of (manager_of m, (x, tt)) (p.0, (p.1.0, tt)) (cc) refl
 start_arm (Ask n (Call x Start)) p args e = absurd (p.1)
 start_arm line p args e = absurd (apart _ _ e refl)
 
-pub put_arm : Arm (manager_spelling & xid_spelling & bytes_spelling & bytes_spelling & no_words) IsEvent event_words (codes "put") (λ said. Ask (R said.0.0) (Call said.1.0 (Put said.1.1.0 said.1.1.1.0)))
-put_arm (Ask (R m) (Call x (Put k v))) p args e = record { value = (manager_of m, (x, (k, (v, tt)))); fits = (p.0, (p.1.0, (p.1.1.0, (p.1.1.1, tt)))); says = cc; made = refl }
+pub put_arm : Arm (a_manager & an_xid & some_bytes & some_bytes & no_words) IsEvent event_words (codes "put")
+    (λ said. Ask (R said.0.0) (Call said.1.0 (Put said.1.1.0 said.1.1.1.0)))
+put_arm (Ask (R m) (Call x (Put k v))) p args e =
+    made_of (manager_of m, (x, (k, (v, tt)))) (p.0, (p.1.0, (p.1.1.0, (p.1.1.1, tt)))) (cc) refl
 put_arm (Ask n (Call x (Put k v))) p args e = absurd (p.1)
 put_arm line p args e = absurd (apart _ _ e refl)
 
-pub del_arm : Arm (manager_spelling & xid_spelling & bytes_spelling & no_words) IsEvent event_words (codes "del") (λ said. Ask (R said.0.0) (Call said.1.0 (Del said.1.1.0)))
-del_arm (Ask (R m) (Call x (Del k))) p args e = record { value = (manager_of m, (x, (k, tt))); fits = (p.0, (p.1.0, (p.1.1, tt))); says = cc; made = refl }
+pub del_arm : Arm (a_manager & an_xid & some_bytes & no_words) IsEvent event_words (codes "del")
+    (λ said. Ask (R said.0.0) (Call said.1.0 (Del said.1.1.0)))
+del_arm (Ask (R m) (Call x (Del k))) p args e = made_of (manager_of m, (x, (k, tt))) (p.0, (p.1.0, (p.1.1, tt))) (cc) refl
 del_arm (Ask n (Call x (Del k))) p args e = absurd (p.1)
 del_arm line p args e = absurd (apart _ _ e refl)
 
-pub get_arm : Arm (manager_spelling & xid_spelling & bytes_spelling & no_words) IsEvent event_words (codes "get") (λ said. Ask (R said.0.0) (Call said.1.0 (Get said.1.1.0)))
-get_arm (Ask (R m) (Call x (Get k))) p args e = record { value = (manager_of m, (x, (k, tt))); fits = (p.0, (p.1.0, (p.1.1, tt))); says = cc; made = refl }
+pub get_arm : Arm (a_manager & an_xid & some_bytes & no_words) IsEvent event_words (codes "get")
+    (λ said. Ask (R said.0.0) (Call said.1.0 (Get said.1.1.0)))
+get_arm (Ask (R m) (Call x (Get k))) p args e = made_of (manager_of m, (x, (k, tt))) (p.0, (p.1.0, (p.1.1, tt))) (cc) refl
 get_arm (Ask n (Call x (Get k))) p args e = absurd (p.1)
 get_arm line p args e = absurd (apart _ _ e refl)
 
-pub end_arm : Arm (manager_spelling & xid_spelling & ending_spelling) IsEvent event_words (codes "end") (λ said. Ask (R said.0.0) (Call said.1.0 said.1.1.0))
-end_arm (Ask (R m) (Call x End)) p args e = record { value = (manager_of m, (x, ending_of End)); fits = (p.0, (p.1.0, tt)); says = cc; made = refl }
-end_arm (Ask (R m) (Call x EndFail)) p args e = record { value = (manager_of m, (x, ending_of EndFail)); fits = (p.0, (p.1.0, tt)); says = cc; made = refl }
+pub end_arm : Arm (a_manager & an_xid & an_ending) IsEvent event_words (codes "end") (λ said. Ask (R said.0.0) (Call said.1.0 said.1.1.0))
+end_arm (Ask (R m) (Call x End)) p args e = made_of (manager_of m, (x, ending_of End)) (p.0, (p.1.0, tt)) (cc) refl
+end_arm (Ask (R m) (Call x EndFail)) p args e = made_of (manager_of m, (x, ending_of EndFail)) (p.0, (p.1.0, tt)) (cc) refl
 end_arm (Ask n (Call x End)) p args e = absurd (p.1)
 end_arm (Ask n (Call x EndFail)) p args e = absurd (p.1)
 end_arm line p args e = absurd (apart _ _ e refl)
 
-pub rollback_arm : Arm (manager_spelling & xid_spelling & no_words) IsEvent event_words (codes "rollback") (λ said. Ask (R said.0.0) (Call said.1.0 Rollback))
-rollback_arm (Ask (R m) (Call x Rollback)) p args e = record { value = (manager_of m, (x, tt)); fits = (p.0, (p.1.0, tt)); says = cc; made = refl }
+pub rollback_arm : Arm (a_manager & an_xid & no_words) IsEvent event_words (codes "rollback")
+    (λ said. Ask (R said.0.0) (Call said.1.0 Rollback))
+rollback_arm (Ask (R m) (Call x Rollback)) p args e = made_of (manager_of m, (x, tt)) (p.0, (p.1.0, tt)) (cc) refl
 rollback_arm (Ask n (Call x Rollback)) p args e = absurd (p.1)
 rollback_arm line p args e = absurd (apart _ _ e refl)
 
-pub recover_arm : Arm (manager_spelling & no_words) IsEvent event_words (codes "recover") (λ said. Ask (R said.0.0) Recover)
-recover_arm (Ask (R m) Recover) p args e = record { value = (manager_of m, tt); fits = (p.0, tt); says = cc; made = refl }
+pub recover_arm : Arm (a_manager & no_words) IsEvent event_words (codes "recover") (λ said. Ask (R said.0.0) Recover)
+recover_arm (Ask (R m) Recover) p args e = made_of (manager_of m, tt) (p.0, tt) (cc) refl
 recover_arm (Ask n Recover) p args e = absurd (p.1)
 recover_arm (Ask n (Call x Start)) p args e = absurd (apart _ _ e refl)
 recover_arm line p args e = absurd (apart _ _ e refl)
 
-pub view_arm : Arm (manager_spelling & tx_spelling & no_words) IsEvent event_words (codes "view") (λ said. Ask (R said.0.0) (Request.View said.1.0))
-view_arm (Ask (R m) (Request.View t)) p args e = record { value = (manager_of m, (t, tt)); fits = (p.0, (p.1, tt)); says = cc; made = refl }
+pub view_arm : Arm (a_manager & a_tx & no_words) IsEvent event_words (codes "view") (λ said. Ask (R said.0.0) (Request.View said.1.0))
+view_arm (Ask (R m) (Request.View t)) p args e = made_of (manager_of m, (t, tt)) (p.0, (p.1, tt)) (cc) refl
 view_arm (Ask n (Request.View t)) p args e = absurd (p.1)
 view_arm (Ask n (Call x Start)) p args e = absurd (apart _ _ e refl)
 view_arm line p args e = absurd (apart _ _ e refl)
 
-pub commit_arm : Arm (leader_spelling & tx_spelling & no_words) IsEvent event_words (codes "commit") (λ said. Ask (L said.0.0) (Request.Commit said.1.0))
-commit_arm (Ask (L l) (Request.Commit t)) p args e = record { value = (leader_of l, (t, tt)); fits = (p.0, (p.1, tt)); says = cc; made = refl }
+pub commit_arm : Arm (a_leader & a_tx & no_words) IsEvent event_words (codes "commit") (λ said. Ask (L said.0.0) (Request.Commit said.1.0))
+commit_arm (Ask (L l) (Request.Commit t)) p args e = made_of (leader_of l, (t, tt)) (p.0, (p.1, tt)) (cc) refl
 commit_arm (Ask n (Request.Commit t)) p args e = absurd (p.1)
 commit_arm (Ask n (Call x Start)) p args e = absurd (apart _ _ e refl)
 commit_arm line p args e = absurd (apart _ _ e refl)
 
-pub status_arm : Arm (leader_spelling & tx_spelling & no_words) IsEvent event_words (codes "status") (λ said. Ask (L said.0.0) (Request.Status said.1.0))
-status_arm (Ask (L l) (Request.Status t)) p args e = record { value = (leader_of l, (t, tt)); fits = (p.0, (p.1, tt)); says = cc; made = refl }
+pub status_arm : Arm (a_leader & a_tx & no_words) IsEvent event_words (codes "status") (λ said. Ask (L said.0.0) (Request.Status said.1.0))
+status_arm (Ask (L l) (Request.Status t)) p args e = made_of (leader_of l, (t, tt)) (p.0, (p.1, tt)) (cc) refl
 status_arm (Ask n (Request.Status t)) p args e = absurd (p.1)
 status_arm (Ask n (Call x Start)) p args e = absurd (apart _ _ e refl)
 status_arm line p args e = absurd (apart _ _ e refl)
 
-pub timeout_arm : Arm (party_spelling & tx_spelling & no_words) IsEvent event_words (codes "timeout") (λ said. Ask said.0.0 (Timeout said.1.0))
-timeout_arm (Ask (R m) (Timeout t)) p args e = record { value = (party_of (R m), (t, tt)); fits = (p.0, (p.1, tt)); says = cc; made = refl }
-timeout_arm (Ask (L l) (Timeout t)) p args e = record { value = (party_of (L l), (t, tt)); fits = (p.0, (p.1, tt)); says = cc; made = refl }
+pub timeout_arm : Arm (a_party & a_tx & no_words) IsEvent event_words (codes "timeout") (λ said. Ask said.0.0 (Timeout said.1.0))
+timeout_arm (Ask (R m) (Timeout t)) p args e = made_of (party_of (R m), (t, tt)) (p.0, (p.1, tt)) (cc) refl
+timeout_arm (Ask (L l) (Timeout t)) p args e = made_of (party_of (L l), (t, tt)) (p.0, (p.1, tt)) (cc) refl
 timeout_arm (Ask (A n) (Timeout t)) p args e = absurd (p.1)
 timeout_arm (Ask n (Call x Start)) p args e = absurd (apart _ _ e refl)
 timeout_arm line p args e = absurd (apart _ _ e refl)
 
 pub event_said : (e : Event) → IsEvent e → IsSaid IsEvent event_words e
-event_said (Deliver n) p = arm_said (number_spelling & no_words) deliver_arm (literal refl refl) (n, tt) (p, tt) _ refl refl
-event_said (Lose n) p = arm_said (number_spelling & no_words) lose_arm (literal refl refl) (n, tt) (p, tt) _ refl refl
-event_said (Cut n m) p = arm_said (number_spelling & number_spelling & no_words) cut_arm (literal refl refl) (n, (m, tt)) (p.0, (p.1, tt)) _ refl refl
-event_said (Noise n xs) p = arm_said (node_spelling & bytes_spelling & no_words) noise_arm (literal refl refl) (n, (xs, tt)) (p.0, (p.1, tt)) _ refl refl
-event_said (Tear n m) p = arm_said (node_spelling & number_spelling & no_words) tear_arm (literal refl refl) (n, (m, tt)) (p.0, (p.1, tt)) _ refl refl
-event_said (Restart n) p = arm_said (node_spelling & no_words) restart_arm (literal refl refl) (n, tt) (p, tt) _ refl refl
-event_said (Compact n) p = arm_said (node_spelling & no_words) compact_arm (literal refl refl) (n, tt) (p, tt) _ refl refl
-event_said (Ask (R m) (Call x Start)) p = arm_said (manager_spelling & xid_spelling & no_words) start_arm (literal refl refl) (manager_of m, (x, tt)) (p.0, (p.1.0, tt)) _ refl refl
-event_said (Ask (R m) (Call x (Put k v))) p = arm_said (manager_spelling & xid_spelling & bytes_spelling & bytes_spelling & no_words) put_arm (literal refl refl) (manager_of m, (x, (k, (v, tt)))) (p.0, (p.1.0, (p.1.1.0, (p.1.1.1, tt)))) _ refl refl
-event_said (Ask (R m) (Call x (Del k))) p = arm_said (manager_spelling & xid_spelling & bytes_spelling & no_words) del_arm (literal refl refl) (manager_of m, (x, (k, tt))) (p.0, (p.1.0, (p.1.1, tt))) _ refl refl
-event_said (Ask (R m) (Call x (Get k))) p = arm_said (manager_spelling & xid_spelling & bytes_spelling & no_words) get_arm (literal refl refl) (manager_of m, (x, (k, tt))) (p.0, (p.1.0, (p.1.1, tt))) _ refl refl
-event_said (Ask (R m) (Call x End)) p = arm_said (manager_spelling & xid_spelling & ending_spelling) end_arm (literal refl refl) (manager_of m, (x, ending_of End)) (p.0, (p.1.0, tt)) _ refl refl
-event_said (Ask (R m) (Call x EndFail)) p = arm_said (manager_spelling & xid_spelling & ending_spelling) end_arm (literal refl refl) (manager_of m, (x, ending_of EndFail)) (p.0, (p.1.0, tt)) _ refl refl
-event_said (Ask (R m) (Call x Rollback)) p = arm_said (manager_spelling & xid_spelling & no_words) rollback_arm (literal refl refl) (manager_of m, (x, tt)) (p.0, (p.1.0, tt)) _ refl refl
-event_said (Ask (R m) Recover) p = arm_said (manager_spelling & no_words) recover_arm (literal refl refl) (manager_of m, tt) (p.0, tt) _ refl refl
-event_said (Ask (R m) (Request.View t)) p = arm_said (manager_spelling & tx_spelling & no_words) view_arm (literal refl refl) (manager_of m, (t, tt)) (p.0, (p.1, tt)) _ refl refl
-event_said (Ask (L l) (Request.Commit t)) p = arm_said (leader_spelling & tx_spelling & no_words) commit_arm (literal refl refl) (leader_of l, (t, tt)) (p.0, (p.1, tt)) _ refl refl
-event_said (Ask (L l) (Request.Status t)) p = arm_said (leader_spelling & tx_spelling & no_words) status_arm (literal refl refl) (leader_of l, (t, tt)) (p.0, (p.1, tt)) _ refl refl
-event_said (Ask (R m) (Timeout t)) p = arm_said (party_spelling & tx_spelling & no_words) timeout_arm (literal refl refl) (party_of (R m), (t, tt)) (p.0, (p.1, tt)) _ refl refl
-event_said (Ask (L l) (Timeout t)) p = arm_said (party_spelling & tx_spelling & no_words) timeout_arm (literal refl refl) (party_of (L l), (t, tt)) (p.0, (p.1, tt)) _ refl refl
+event_said (Deliver n) p = arm_said (a_number & no_words) deliver_arm (literal refl refl) _ p _ refl
+event_said (Lose n) p = arm_said (a_number & no_words) lose_arm (literal refl refl) _ p _ refl
+event_said (Cut n m) p = arm_said (a_number & a_number & no_words) cut_arm (literal refl refl) _ p _ refl
+event_said (Noise n xs) p = arm_said (a_node & some_bytes & no_words) noise_arm (literal refl refl) _ p _ refl
+event_said (Tear n m) p = arm_said (a_node & a_number & no_words) tear_arm (literal refl refl) _ p _ refl
+event_said (Restart n) p = arm_said (a_node & no_words) restart_arm (literal refl refl) _ p _ refl
+event_said (Compact n) p = arm_said (a_node & no_words) compact_arm (literal refl refl) _ p _ refl
+event_said (Ask (R m) (Call x Start)) p = arm_said (a_manager & an_xid & no_words) start_arm (literal refl refl) _ p _ refl
+event_said (Ask (R m) (Call x (Put k v))) p =
+    arm_said (a_manager & an_xid & some_bytes & some_bytes & no_words) put_arm (literal refl refl) _ p _ refl
+event_said (Ask (R m) (Call x (Del k))) p = arm_said (a_manager & an_xid & some_bytes & no_words) del_arm (literal refl refl) _ p _ refl
+event_said (Ask (R m) (Call x (Get k))) p = arm_said (a_manager & an_xid & some_bytes & no_words) get_arm (literal refl refl) _ p _ refl
+event_said (Ask (R m) (Call x End)) p = arm_said (a_manager & an_xid & an_ending) end_arm (literal refl refl) _ p _ refl
+event_said (Ask (R m) (Call x EndFail)) p = arm_said (a_manager & an_xid & an_ending) end_arm (literal refl refl) _ p _ refl
+event_said (Ask (R m) (Call x Rollback)) p = arm_said (a_manager & an_xid & no_words) rollback_arm (literal refl refl) _ p _ refl
+event_said (Ask (R m) Recover) p = arm_said (a_manager & no_words) recover_arm (literal refl refl) _ p _ refl
+event_said (Ask (R m) (Request.View t)) p = arm_said (a_manager & a_tx & no_words) view_arm (literal refl refl) _ p _ refl
+event_said (Ask (L l) (Request.Commit t)) p = arm_said (a_leader & a_tx & no_words) commit_arm (literal refl refl) _ p _ refl
+event_said (Ask (L l) (Request.Status t)) p = arm_said (a_leader & a_tx & no_words) status_arm (literal refl refl) _ p _ refl
+event_said (Ask (R m) (Timeout t)) p = arm_said (a_party & a_tx & no_words) timeout_arm (literal refl refl) _ p _ refl
+event_said (Ask (L l) (Timeout t)) p = arm_said (a_party & a_tx & no_words) timeout_arm (literal refl refl) _ p _ refl
 event_said (Ask n r) p = absurd (p.1)
 
 pub event_injective : (a b : Event) → IsEvent a → IsEvent b → event_words a ≡ event_words b → a ≡ b
@@ -154,6 +160,6 @@ event_apart word y other e =
     let same : is_other word ≡ is_other (event_word y) = ap is_other e in
     absurd (cc)
 
-pub flow_arm : Arm (number_spelling & no_words) IsCommand command_words (codes "flow") (λ said. Flow said.0)
-flow_arm (Flow n) p args e = record { value = (n, tt); fits = (p, tt); says = cc; made = refl }
+pub flow_arm : Arm (a_number & no_words) IsCommand command_words (codes "flow") (λ said. Flow said.0)
+flow_arm (Flow n) p args e = made_of (n, tt) (p, tt) (cc) refl
 flow_arm (Do y) p args e = absurd (event_apart (codes "flow") y refl (cc))

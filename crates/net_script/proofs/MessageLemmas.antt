@@ -1,5 +1,5 @@
 -- Messages: what comes after each first word, and one value for one list of words.
-use Rattle.std.proofs.Common.{◌≡◌, ℕ, ◌<◌, ◌^◌, List, [], ◌∷◌, map, Option, None, Some, refl, sym, ap, arith, codes}
+use Rattle.std.proofs.Common.{◌≡◌, ℕ, ◌<◌, ◌^◌, Bool, List, [], ◌∷◌, map, Option, None, Some, Err, refl, arith, codes}
 use Rattle.std.specs.List.{AllByRecursion}
 use Rattle.std.proofs.lemmas.List.{length-map}
 use Rattle.std.proofs.lemmas.List.Elements.{All-from_recursion}
@@ -8,71 +8,80 @@ use Rattle.wire.specs.Messages.{IsInstance, IsReportBelow}
 use Rattle.wire.proofs.Instances.{instance_below, instances_below, few_instances}
 use Rattle.net_script.specs.Basics.{TxParts, IsTx, tx_text, IsMessage, message_tx, Vote, Kind, Prepare, P1a, P1b, P2a, P2b, Commit, Abort}
 use Rattle.net_script.specs.Basics.{B1a, B1b, B2b, InstanceReport, InstanceAccept}
-use Rattle.net_script.specs.Messages.{message_words, kind_words, FitsReport, FitsReportItem, FitsAcceptItem, FitsKind, IsAbout}
-use Rattle.net_script.specs.Spelling.{no_words, ◌&◌, items_of_words}
-use Rattle.net_script.specs.Laws.{number_spelling, manager_of, manager_spelling, acceptor_of, acceptor_spelling, literal}
-use Rattle.net_script.specs.MessageLaws.{vote_spelling, report_item_spelling, accept_item_spelling, reported, reported_spelling}
-use Rattle.net_script.proofs.Arms.{Arm, IsSaid, arm_said, apart}
-use Rattle.net_script.specs.NameLemmas.{tx_injective}
+use Rattle.net_script.specs.declared.stop.Stop.{Stop}
+use Rattle.net_script.specs.declared.stop.Stop.TheVariants.{Wrong, Memory}
+use Rattle.net_script.specs.Messages.{message_words, FitsReport, FitsReportItem, FitsAcceptItem, FitsKind, IsForm}
+use Rattle.net_script.specs.Spelling.{Finds, no_words, ◌&◌, items_of_words}
+use Rattle.net_script.specs.Laws.{a_number, manager_of, a_manager, acceptor_of, an_acceptor, a_tx, literal}
+use Rattle.net_script.specs.MessageLaws.{a_vote, a_report_item, an_accept_item, reported, a_report}
+use Rattle.net_script.proofs.Arms.{Arm, made_of, IsSaid, arm_said, apart}
 
 -- ---- the first words, and what comes after each
 
-pub prepare_arm : (tx : TxParts) → Arm no_words (IsAbout tx) kind_words (codes "prepare") (λ _. Prepare tx)
-prepare_arm tx (Prepare t) p args e = record { value = tt; fits = tt; says = cc; made = ap Prepare (sym p.about) }
-prepare_arm tx line p args e = absurd (apart _ _ e refl)
+pub prepare_arm : Arm (a_tx & no_words) IsForm message_words (codes "prepare") (λ said. Prepare said.0)
+prepare_arm (Prepare t) p args e = made_of (t, tt) (p.0, tt) (cc) refl
+prepare_arm line p args e = absurd (apart _ _ e refl)
 
-pub p1a_arm : (tx : TxParts) → Arm (manager_spelling & number_spelling & no_words) (IsAbout tx) kind_words (codes "p1a") (λ said. P1a tx said.0.0 said.1.0)
-p1a_arm tx (P1a t rm n) p args e = record { value = (manager_of rm, (n, tt)); fits = (p.fits.0, (p.fits.1, tt)); says = cc; made = ap (λ (x : TxParts). P1a x rm n) (sym p.about) }
-p1a_arm tx line p args e = absurd (apart _ _ e refl)
+pub p1a_arm : Arm (a_tx & a_manager & a_number & no_words) IsForm message_words (codes "p1a") (λ said. P1a said.0 said.1.0.0 said.1.1.0)
+p1a_arm (P1a t rm n) p args e = made_of (t, (manager_of rm, (n, tt))) (p.0, (p.1.0, (p.1.1, tt))) (cc) refl
+p1a_arm line p args e = absurd (apart _ _ e refl)
 
-pub p1b_arm : (tx : TxParts) → Arm (manager_spelling & number_spelling & reported_spelling) (IsAbout tx) kind_words (codes "p1b") (λ said. P1b tx said.0.0 said.1.0 said.1.1.report said.1.1.acceptor)
-p1b_arm tx (P1b t rm n r a) p args e = record { value = (manager_of rm, (n, reported r a)); fits = (p.fits.0, (p.fits.1, (p.fits.2, p.fits.3))); says = cc; made = ap (λ (x : TxParts). P1b x rm n r a) (sym p.about) }
-p1b_arm tx line p args e = absurd (apart _ _ e refl)
+pub p1b_arm : Arm (a_tx & a_manager & a_number & a_report) IsForm message_words (codes "p1b")
+    (λ said. P1b said.0 said.1.0.0 said.1.1.0 said.1.1.1.report said.1.1.1.acceptor)
+p1b_arm (P1b t rm n r a) p args e = made_of (t, (manager_of rm, (n, reported r a))) (p.0, (p.1.0, (p.1.1, (p.1.2, p.1.3)))) (cc) refl
+p1b_arm line p args e = absurd (apart _ _ e refl)
 
-pub p2a_arm : (tx : TxParts) → Arm (manager_spelling & number_spelling & vote_spelling & no_words) (IsAbout tx) kind_words (codes "p2a") (λ said. P2a tx said.0.0 said.1.0 said.1.1.0)
-p2a_arm tx (P2a t rm n v) p args e = record { value = (manager_of rm, (n, (v, tt))); fits = (p.fits.0, (p.fits.1, (tt, tt))); says = cc; made = ap (λ (x : TxParts). P2a x rm n v) (sym p.about) }
-p2a_arm tx line p args e = absurd (apart _ _ e refl)
+pub p2a_arm : Arm (a_tx & a_manager & a_number & a_vote & no_words) IsForm message_words (codes "p2a")
+    (λ said. P2a said.0 said.1.0.0 said.1.1.0 said.1.1.1.0)
+p2a_arm (P2a t rm n v) p args e = made_of (t, (manager_of rm, (n, (v, tt)))) (p.0, (p.1.0, (p.1.1, (tt, tt)))) (cc) refl
+p2a_arm line p args e = absurd (apart _ _ e refl)
 
-pub p2b_arm : (tx : TxParts) → Arm (manager_spelling & number_spelling & vote_spelling & acceptor_spelling & no_words) (IsAbout tx) kind_words (codes "p2b") (λ said. P2b tx said.0.0 said.1.0 said.1.1.0 said.1.1.1.0.0)
-p2b_arm tx (P2b t rm n v a) p args e = record { value = (manager_of rm, (n, (v, (acceptor_of a, tt)))); fits = (p.fits.0, (p.fits.1, (tt, (p.fits.2, tt)))); says = cc; made = ap (λ (x : TxParts). P2b x rm n v a) (sym p.about) }
-p2b_arm tx line p args e = absurd (apart _ _ e refl)
+pub p2b_arm : Arm (a_tx & a_manager & a_number & a_vote & an_acceptor & no_words) IsForm message_words (codes "p2b")
+    (λ said. P2b said.0 said.1.0.0 said.1.1.0 said.1.1.1.0 said.1.1.1.1.0.0)
+p2b_arm (P2b t rm n v a) p args e =
+    made_of (t, (manager_of rm, (n, (v, (acceptor_of a, tt))))) (p.0, (p.1.0, (p.1.1, (tt, (p.1.2, tt))))) (cc) refl
+p2b_arm line p args e = absurd (apart _ _ e refl)
 
-pub commit_arm : (tx : TxParts) → Arm no_words (IsAbout tx) kind_words (codes "commit") (λ _. Commit tx)
-commit_arm tx (Commit t) p args e = record { value = tt; fits = tt; says = cc; made = ap Commit (sym p.about) }
-commit_arm tx line p args e = absurd (apart _ _ e refl)
+pub commit_arm : Arm (a_tx & no_words) IsForm message_words (codes "commit") (λ said. Commit said.0)
+commit_arm (Commit t) p args e = made_of (t, tt) (p.0, tt) (cc) refl
+commit_arm line p args e = absurd (apart _ _ e refl)
 
-pub abort_arm : (tx : TxParts) → Arm no_words (IsAbout tx) kind_words (codes "abort") (λ _. Abort tx)
-abort_arm tx (Abort t) p args e = record { value = tt; fits = tt; says = cc; made = ap Abort (sym p.about) }
-abort_arm tx line p args e = absurd (apart _ _ e refl)
+pub abort_arm : Arm (a_tx & no_words) IsForm message_words (codes "abort") (λ said. Abort said.0)
+abort_arm (Abort t) p args e = made_of (t, tt) (p.0, tt) (cc) refl
+abort_arm line p args e = absurd (apart _ _ e refl)
 
-pub ask_arm : (tx : TxParts) → Arm (manager_spelling & no_words) (IsAbout tx) kind_words (codes "ask") (λ said. Kind.Ask tx said.0.0)
-ask_arm tx (Kind.Ask t rm) p args e = record { value = (manager_of rm, tt); fits = (p.fits, tt); says = cc; made = ap (λ (x : TxParts). Kind.Ask x rm) (sym p.about) }
-ask_arm tx line p args e = absurd (apart _ _ e refl)
+pub ask_arm : Arm (a_tx & a_manager & no_words) IsForm message_words (codes "ask") (λ said. Kind.Ask said.0 said.1.0.0)
+ask_arm (Kind.Ask t rm) p args e = made_of (t, (manager_of rm, tt)) (p.0, (p.1, tt)) (cc) refl
+ask_arm line p args e = absurd (apart _ _ e refl)
 
-pub b1a_arm : (tx : TxParts) → Arm (number_spelling & no_words) (IsAbout tx) kind_words (codes "b1a") (λ said. B1a tx said.0)
-b1a_arm tx (B1a t n) p args e = record { value = (n, tt); fits = (p.fits, tt); says = cc; made = ap (λ (x : TxParts). B1a x n) (sym p.about) }
-b1a_arm tx line p args e = absurd (apart _ _ e refl)
+pub b1a_arm : Arm (a_tx & a_number & no_words) IsForm message_words (codes "b1a") (λ said. B1a said.0 said.1.0)
+b1a_arm (B1a t n) p args e = made_of (t, (n, tt)) (p.0, (p.1, tt)) (cc) refl
+b1a_arm line p args e = absurd (apart _ _ e refl)
 
-pub b1b_arm : (tx : TxParts) → Arm (number_spelling & acceptor_spelling & items_of_words report_item_spelling) (IsAbout tx) kind_words (codes "b1b") (λ said. B1b tx said.0 said.1.0.0 said.1.1)
-b1b_arm tx (B1b t n a rs) p args e = record { value = (n, (acceptor_of a, rs)); fits = (p.fits.0, (p.fits.1, p.fits.2)); says = cc; made = ap (λ (x : TxParts). B1b x n a rs) (sym p.about) }
-b1b_arm tx line p args e = absurd (apart _ _ e refl)
+pub b1b_arm : Arm (a_tx & a_number & an_acceptor & items_of_words a_report_item) IsForm message_words (codes "b1b")
+    (λ said. B1b said.0 said.1.0 said.1.1.0.0 said.1.1.1)
+b1b_arm (B1b t n a rs) p args e = made_of (t, (n, (acceptor_of a, rs))) (p.0, (p.1.0, (p.1.1, p.1.2))) (cc) refl
+b1b_arm line p args e = absurd (apart _ _ e refl)
 
-pub b2b_arm : (tx : TxParts) → Arm (acceptor_spelling & items_of_words accept_item_spelling) (IsAbout tx) kind_words (codes "b2b") (λ said. B2b tx said.0.0 said.1)
-b2b_arm tx (B2b t a vs) p args e = record { value = (acceptor_of a, vs); fits = (p.fits.0, p.fits.1); says = cc; made = ap (λ (x : TxParts). B2b x a vs) (sym p.about) }
-b2b_arm tx line p args e = absurd (apart _ _ e refl)
+pub b2b_arm : Arm (a_tx & an_acceptor & items_of_words an_accept_item) IsForm message_words (codes "b2b")
+    (λ said. B2b said.0 said.1.0.0 said.1.1)
+b2b_arm (B2b t a vs) p args e = made_of (t, (acceptor_of a, vs)) (p.0, (p.1.0, p.1.1)) (cc) refl
+b2b_arm line p args e = absurd (apart _ _ e refl)
 
-pub kind_said : (tx : TxParts) (k : Kind) → IsAbout tx k → IsSaid (IsAbout tx) kind_words k
-kind_said tx (Prepare t) p = arm_said no_words (prepare_arm tx) (literal refl refl) tt tt _ (ap Prepare (sym p.about)) refl
-kind_said tx (P1a t rm n) p = arm_said (manager_spelling & number_spelling & no_words) (p1a_arm tx) (literal refl refl) (manager_of rm, (n, tt)) (p.fits.0, (p.fits.1, tt)) _ (ap (λ (x : TxParts). P1a x rm n) (sym p.about)) refl
-kind_said tx (P1b t rm n r a) p = arm_said (manager_spelling & number_spelling & reported_spelling) (p1b_arm tx) (literal refl refl) (manager_of rm, (n, reported r a)) (p.fits.0, (p.fits.1, (p.fits.2, p.fits.3))) _ (ap (λ (x : TxParts). P1b x rm n r a) (sym p.about)) refl
-kind_said tx (P2a t rm n v) p = arm_said (manager_spelling & number_spelling & vote_spelling & no_words) (p2a_arm tx) (literal refl refl) (manager_of rm, (n, (v, tt))) (p.fits.0, (p.fits.1, (tt, tt))) _ (ap (λ (x : TxParts). P2a x rm n v) (sym p.about)) refl
-kind_said tx (P2b t rm n v a) p = arm_said (manager_spelling & number_spelling & vote_spelling & acceptor_spelling & no_words) (p2b_arm tx) (literal refl refl) (manager_of rm, (n, (v, (acceptor_of a, tt)))) (p.fits.0, (p.fits.1, (tt, (p.fits.2, tt)))) _ (ap (λ (x : TxParts). P2b x rm n v a) (sym p.about)) refl
-kind_said tx (Commit t) p = arm_said no_words (commit_arm tx) (literal refl refl) tt tt _ (ap Commit (sym p.about)) refl
-kind_said tx (Abort t) p = arm_said no_words (abort_arm tx) (literal refl refl) tt tt _ (ap Abort (sym p.about)) refl
-kind_said tx (Kind.Ask t rm) p = arm_said (manager_spelling & no_words) (ask_arm tx) (literal refl refl) (manager_of rm, tt) (p.fits, tt) _ (ap (λ (x : TxParts). Kind.Ask x rm) (sym p.about)) refl
-kind_said tx (B1a t n) p = arm_said (number_spelling & no_words) (b1a_arm tx) (literal refl refl) (n, tt) (p.fits, tt) _ (ap (λ (x : TxParts). B1a x n) (sym p.about)) refl
-kind_said tx (B1b t n a rs) p = arm_said (number_spelling & acceptor_spelling & items_of_words report_item_spelling) (b1b_arm tx) (literal refl refl) (n, (acceptor_of a, rs)) (p.fits.0, (p.fits.1, p.fits.2)) _ (ap (λ (x : TxParts). B1b x n a rs) (sym p.about)) refl
-kind_said tx (B2b t a vs) p = arm_said (acceptor_spelling & items_of_words accept_item_spelling) (b2b_arm tx) (literal refl refl) (acceptor_of a, vs) (p.fits.0, p.fits.1) _ (ap (λ (x : TxParts). B2b x a vs) (sym p.about)) refl
+pub message_said : (m : Kind) → IsForm m → IsSaid IsForm message_words m
+message_said (Prepare t) p = arm_said (a_tx & no_words) prepare_arm (literal refl refl) _ p _ refl
+message_said (P1a t rm n) p = arm_said (a_tx & a_manager & a_number & no_words) p1a_arm (literal refl refl) _ p _ refl
+message_said (P1b t rm n r a) p = arm_said (a_tx & a_manager & a_number & a_report) p1b_arm (literal refl refl) _ p _ refl
+message_said (P2a t rm n v) p = arm_said (a_tx & a_manager & a_number & a_vote & no_words) p2a_arm (literal refl refl) _ p _ refl
+message_said (P2b t rm n v a) p =
+    arm_said (a_tx & a_manager & a_number & a_vote & an_acceptor & no_words) p2b_arm (literal refl refl) _ p _ refl
+message_said (Commit t) p = arm_said (a_tx & no_words) commit_arm (literal refl refl) _ p _ refl
+message_said (Abort t) p = arm_said (a_tx & no_words) abort_arm (literal refl refl) _ p _ refl
+message_said (Kind.Ask t rm) p = arm_said (a_tx & a_manager & no_words) ask_arm (literal refl refl) _ p _ refl
+message_said (B1a t n) p = arm_said (a_tx & a_number & no_words) b1a_arm (literal refl refl) _ p _ refl
+message_said (B1b t n a rs) p =
+    arm_said (a_tx & a_number & an_acceptor & items_of_words a_report_item) b1b_arm (literal refl refl) _ p _ refl
+message_said (B2b t a vs) p = arm_said (a_tx & an_acceptor & items_of_words an_accept_item) b2b_arm (literal refl refl) _ p _ refl
 
 -- ---- a message's numbers are those of words
 
@@ -148,27 +157,29 @@ message_tx_valid (B1a tx ballot) is = is.0
 message_tx_valid (B1b tx ballot acceptor reports) is = is.0.valid
 message_tx_valid (B2b tx acceptor accepts) is = is.0.valid
 
+pub message_form : (m : Kind) → IsMessage m → IsForm m
+message_form m is = (message_tx_valid m is, message_fits m is)
+
+pub message_injective : (a b : Kind) → IsMessage a → IsMessage b → message_words a ≡ message_words b → a ≡ b
+message_injective a b p q e = (message_said a (message_form a p)).one b (message_form b q) e
+
 -- ---- for the reader of messages
 
 -- the word of its transaction
-pub tx_word : (m : Kind) (given rest after : List (List ℕ)) (first word : List ℕ) → IsMessage m → given ≡ first ∷ rest → rest ≡ word ∷ after
+pub its_tx : (m : Kind) (given rest after : List (List ℕ)) (first word : List ℕ) → IsMessage m → given ≡ first ∷ rest → rest ≡ word ∷ after
     → given ≡ message_words m
     → IsTx (message_tx m) × (word ≡ tx_text (message_tx m))
-tx_word m given rest after first word is cut next e = (message_tx_valid m is, cc)
+its_tx m given rest after first word is cut next e = (message_tx_valid m is, cc)
 
--- it is about this transaction, and its other words are these
-pub about : (m : Kind) (tx : TxParts) (given rest after : List (List ℕ)) (name word : List ℕ) → IsMessage m → IsTx tx × (word ≡ tx_text tx)
-    → given ≡ name ∷ rest → rest ≡ word ∷ after → given ≡ message_words m
-    → IsAbout tx m × (name ∷ after ≡ kind_words m)
-about m tx given rest after name word is read cut next e =
-    let about : tx_text (message_tx m) ≡ tx_text tx = let t = read.1 in cc in
-    let kind : name ∷ after ≡ kind_words m = cc in
-    (record { fits = message_fits m is; about = tx_injective (message_tx m) tx (message_tx_valid m is) read.0 about }, kind)
+-- the words of a transaction that was read
+pub with_tx : (tx : TxParts) {given rest after : List (List ℕ)} {first word : List ℕ} → word ≡ tx_text tx → given ≡ first ∷ rest
+    → rest ≡ word ∷ after
+    → given ≡ first ∷ tx_text tx ∷ after
+with_tx tx read cut next = cc
 
-pub message_injective : (a b : Kind) → IsMessage a → IsMessage b → message_words a ≡ message_words b → a ≡ b
-message_injective a b p q e =
-    let tx : tx_text (message_tx a) ≡ tx_text (message_tx b) = cc in
-    let kind : kind_words a ≡ kind_words b = cc in
-    let same = tx_injective (message_tx a) (message_tx b) (message_tx_valid a p) (message_tx_valid b q) tx in
-    let said = kind_said (message_tx a) a (record { fits = message_fits a p; about = refl }) in
-    said.one b (record { fits = message_fits b q; about = sym same }) kind
+-- where nothing is read of the words after it, nothing is of these with it
+pub after_tx : {X : Type 0} (a : Bool) (fit : X → Type 0) (texts : X → List (List ℕ)) (args : List (List ℕ)) (tx : TxParts) (d : Stop)
+    → Finds a fit texts args (Err d)
+    → Finds a (λ (said : TxParts × X). IsTx said.0 × fit said.1) (λ said. tx_text said.0 ∷ texts said.1) (tx_text tx ∷ args) (Err d)
+after_tx a fit texts args tx Wrong none = λ said p e. none said.1 p.1 (cc)
+after_tx a fit texts args tx Memory none = none

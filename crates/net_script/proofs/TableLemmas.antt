@@ -8,7 +8,7 @@ use Rattle.xid.specs.Text.{lacks}
 use Rattle.xid.proofs.Texts.{cut_same}
 use Rattle.stable_record.specs.Facts.{IsKey}
 use Rattle.net_script.specs.Basics.{IsBytes, hex_text, Row}
-use Rattle.net_script.specs.RowLaws.{hex_lacks_equals, row_spelling}
+use Rattle.net_script.specs.RowLaws.{hex_lacks_equals, a_row}
 use Rattle.net_script.specs.Lines.{IsSome, bytes_text, row_text}
 use Rattle.net_script.specs.declared.values.Table.{Table}
 use Rattle.net_script.specs.Items.{IsRow, IsContents, contents_words}
@@ -41,11 +41,11 @@ long_value row back bytes is e read long =
     omega (arith, ap length same)
 
 pub rows_have_one_text : HasOneText IsRow row_text
-rows_have_one_text = record { same = row_spelling.one }
+rows_have_one_text = record { same = a_row.one }
 
 pub table_rows : (rows : List Row) (t : Table) {rm : List ℕ} → All IsRow rows → IsContents t → rm ∷ map row_text rows ≡ contents_words t
     → rows ≡ t.rows
-table_rows rows t each is e = one_list row_spelling rows t.rows each is.rows.each (cc)
+table_rows rows t each is e = one_list a_row rows t.rows each is.rows.each (cc)
 
 -- ---- the first row, and those after it
 

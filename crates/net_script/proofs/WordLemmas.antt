@@ -17,7 +17,8 @@ use Rattle.std.specs.Str.Parse.{AllDigits, digits_value}
 use Rattle.xid.specs.Text.{lacks}
 use Rattle.xid.proofs.Texts.{first_true, second_true}
 use Rattle.net_script.specs.Lines.{pieces, IsFirstPiece, Reads}
-pub use Rattle.net_script.specs.HexLemmas.{differ, hex_some, hex_decodes, hex_again, hex_injective, bytes_are_hex, bytes_injective, hex_long}
+pub use Rattle.net_script.specs.HexLemmas.{differ, hex_some, hex_decodes, hex_again}
+pub use Rattle.net_script.specs.HexLemmas.{hex_injective, bytes_are_hex, bytes_injective, hex_long}
 
 pub second_holds : {A B : Type 0} → A ⊎ B → (A → ⊥) → B
 second_holds (inl a) other = absurd (other a)

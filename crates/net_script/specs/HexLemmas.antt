@@ -14,19 +14,23 @@ use Rattle.net_script.specs.Lines.{IsSome, bytes_text}
 pub differ : (a b : List ℕ) → a ≡ b → bytes_eq a b ≡ false → ⊥
 differ a b e h = let same : bytes_eq a b ≡ true = (bytes_eq-Decides a b).1 e in absurd (cc)
 
+-- hex of some bytes is not empty
 pub hex_some : (y text : List ℕ) → IsSome y → length text ≡ 0 → text ≡ hex_text y → ⊥
 hex_some y text is none e = let some = is.0 in omega (arith, ap length e, length-hex_text y)
 
+-- hex is decoded
 pub hex_decodes : (y text : List ℕ) (e : FromHexError) → IsSome y → text ≡ hex_text y → decode_of text ≡ Err e → ⊥
 hex_decodes y text e is same h =
     let d : decode_of text ≡ Ok y = ap decode_of same ∙ decode_of-encode_lower y is.1 in absurd (cc)
 
+-- and encoding what was decoded gives it back
 pub hex_again : (y text bytes : List ℕ) → IsSome y → text ≡ hex_text y → decode_of text ≡ Ok bytes → hex_text bytes ≡ text
 hex_again y text bytes is same h =
     let d : decode_of text ≡ Ok y = ap decode_of same ∙ decode_of-encode_lower y is.1 in
     let b : bytes ≡ y = cc in
     ap hex_text b ∙ sym same
 
+-- bytes are the only ones of their hex
 pub hex_injective : (a b : List ℕ) → IsBytes a → IsBytes b → hex_text a ≡ hex_text b → a ≡ b
 hex_injective a b bytes-a bytes-b e =
     let left : decode_of (hex_text a) ≡ Ok a = decode_of-encode_lower a bytes-a in
@@ -34,7 +38,8 @@ hex_injective a b bytes-a bytes-b e =
     let both : decode_of (hex_text a) ≡ decode_of (hex_text b) = ap decode_of e in
     cc
 
-pub hex_not_dash : (y : List ℕ) → hex_text y ≡ 45 ∷ [] → ⊥
+-- hex is no dash
+hex_not_dash : (y : List ℕ) → hex_text y ≡ 45 ∷ [] → ⊥
 hex_not_dash y e = omega (arith, ap length e, length-hex_text y)
 
 -- bytes that aren't `-` are hex
@@ -42,11 +47,13 @@ pub bytes_are_hex : (y text : List ℕ) → IsBytes y → (text ≡ 45 ∷ [] �
 bytes_are_hex [] text bytes other e = absurd (other e)
 bytes_are_hex (x ∷ y) text bytes other e = ((omega arith, bytes), e)
 
+-- bytes are the only ones of their text
 pub bytes_injective : (a b : List ℕ) → IsBytes a → IsBytes b → bytes_text a ≡ bytes_text b → a ≡ b
 bytes_injective [] [] p q e = refl
 bytes_injective [] (y ∷ b) p q e = absurd (hex_not_dash (y ∷ b) (sym e))
 bytes_injective (x ∷ a) [] p q e = absurd (hex_not_dash (x ∷ a) e)
 bytes_injective (x ∷ a) (y ∷ b) p q e = hex_injective (x ∷ a) (y ∷ b) p q e
 
+-- what is decoded of a text that is not empty is not empty
 pub hex_long : (text bytes : List ℕ) (r : Bool) → r ≡ eqb (length text) 0 → r ≡ false → length text ≡ 2 * length bytes → 0 < length bytes
 hex_long text bytes r is no' len = grind (arith, nat_tests)

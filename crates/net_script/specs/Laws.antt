@@ -22,24 +22,27 @@ use Rattle.net_script.specs.NameLemmas.{node_injective, xid_injective, tx_inject
 
 -- ---- words
 
+-- a text that is written out is a word, by computing
 pub literal : {w : List ℕ} → is_word w ≡ true → list_all is_common w ≡ true → IsCommon w
 literal some bytes = record { some = some; bytes = bytes }
 
+-- what holds of the words of two lists holds of those of both
 pub all_join : (P : List ℕ → Type 0) (vs ws : List (List ℕ)) → AllByRecursion P vs → AllByRecursion P ws → AllByRecursion P (vs ++ ws)
 all_join P [] ws p q = q
 all_join P (v ∷ vs) ws p q = (p.0, all_join P vs ws p.1 q)
 
-pub some_word : (w : List ℕ) → 0 < length w → is_word w ≡ true
+some_word : (w : List ℕ) → 0 < length w → is_word w ≡ true
 some_word [] some = absurd (omega arith)
 some_word (x ∷ w) some = refl
 
-pub digit_common : (c : ℕ) → 48 ≤ c → c ≤ 57 → is_common c ≡ true
+digit_common : (c : ℕ) → 48 ≤ c → c ≤ 57 → is_common c ≡ true
 digit_common c low high = grind (arith, nat_tests)
 
+-- a number's digits are common
 pub number_bytes : (n : ℕ) → n < 2 ^ 32 → list_all is_common (decimal n) ≡ true
 number_bytes n lt = list_all-decimal is_common n digit_common lt
 
-pub hex_bytes : (xs : List ℕ) → IsBytes xs → list_all is_common (hex_text xs) ≡ true
+hex_bytes : (xs : List ℕ) → IsBytes xs → list_all is_common (hex_text xs) ≡ true
 hex_bytes xs bytes = list_all-hex_text is_common xs refl bytes
 
 -- a common word with more of its kind behind it
@@ -47,49 +50,52 @@ pub joined : (v w : List ℕ) → IsCommon v → list_all is_common w ≡ true �
 joined [] w is more = absurd (cc (is.some))
 joined (x ∷ v) w is more = record { some = refl; bytes = list_all_join is_common (x ∷ v) w is.bytes more }
 
+-- a number's text is a word
 pub number_common : (n : ℕ) → n < 2 ^ 32 → IsCommon (decimal n)
 number_common n lt = record { some = some_word (decimal n) (decimal_nonempty n (omega arith)); bytes = number_bytes n lt }
 
+-- hex of some bytes is a word
 pub hex_common : (xs : List ℕ) → IsSome xs → IsCommon (hex_text xs)
 hex_common xs is = record {
   some = let some = is.0 in some_word (hex_text xs) (omega (arith, length-hex_text xs));
   bytes = hex_bytes xs is.1;
 }
 
-pub bytes_common : (xs : List ℕ) → IsBytes xs → IsCommon (bytes_text xs)
+bytes_common : (xs : List ℕ) → IsBytes xs → IsCommon (bytes_text xs)
 bytes_common [] bytes = record { some = refl; bytes = refl }
 bytes_common (x ∷ xs) bytes = hex_common (x ∷ xs) (omega arith, bytes)
 
+-- a node's text is a word
 pub node_common : (n : NodeId) → IsNode n → IsCommon (node_text n)
 node_common (A n) lt = record { some = refl; bytes = number_bytes n (omega arith) }
 node_common (L n) lt = record { some = refl; bytes = number_bytes n (omega arith) }
 node_common (R n) lt = record { some = refl; bytes = number_bytes n (omega arith) }
 
-pub xid_common : (x : XidParts) → IsXid x → IsCommon (xid_text x)
+xid_common : (x : XidParts) → IsXid x → IsCommon (xid_text x)
 xid_common x is =
     joined (decimal x.format) (58 ∷ (hex_text x.gtrid ++ 58 ∷ hex_text x.bqual)) (number_common x.format (omega (arith, is.format)))
     (list_all_join is_common (hex_text x.gtrid) (58 ∷ hex_text x.bqual) (hex_bytes x.gtrid is.gtrid.bytes)
     (hex_bytes x.bqual is.bqual.bytes))
 
-pub branch_bytes : (b : BranchParts) → IsBranch b → list_all is_common (branch_text b) ≡ true
+branch_bytes : (b : BranchParts) → IsBranch b → list_all is_common (branch_text b) ≡ true
 branch_bytes b is =
     list_all_join is_common (decimal b.rm) (61 ∷ hex_text b.bqual) (number_bytes b.rm (omega (arith, is.rm)))
     (hex_bytes b.bqual is.bqual.bytes)
 
-pub later_branches : (bs : List BranchParts) → All IsBranch bs → list_all is_common (flat_map (λ b. (44 ∷ []) ++ branch_text b) bs) ≡ true
+later_branches : (bs : List BranchParts) → All IsBranch bs → list_all is_common (flat_map (λ b. (44 ∷ []) ++ branch_text b) bs) ≡ true
 later_branches [] are = refl
 later_branches (b ∷ bs) are =
     list_all_join is_common (44 ∷ branch_text b) (flat_map (λ y. (44 ∷ []) ++ branch_text y) bs)
     (branch_bytes b (All-head IsBranch b bs are))
     (later_branches bs (All-tail IsBranch b bs are))
 
-pub branches_bytes : (bs : List BranchParts) → All IsBranch bs → list_all is_common (branches_text bs) ≡ true
+branches_bytes : (bs : List BranchParts) → All IsBranch bs → list_all is_common (branches_text bs) ≡ true
 branches_bytes [] are = refl
 branches_bytes (b ∷ bs) are =
     list_all_join is_common (branch_text b) (flat_map (λ y. (44 ∷ []) ++ branch_text y) bs) (branch_bytes b (All-head IsBranch b bs are))
     (later_branches bs (All-tail IsBranch b bs are))
 
-pub tx_common : (tx : TxParts) → IsTx tx → IsCommon (tx_text tx)
+tx_common : (tx : TxParts) → IsTx tx → IsCommon (tx_text tx)
 tx_common tx is =
     joined (decimal tx.format) (58 ∷ (hex_text tx.gtrid ++ 47 ∷ branches_text tx.branches))
     (number_common tx.format (omega (arith, is.format)))
@@ -101,20 +107,25 @@ tx_common tx is =
 number_one : (m n : ℕ) → m < 2 ^ 32 → n < 2 ^ 32 → decimal m ≡ decimal n → m ≡ n
 number_one m n p q e = decimal_injective m n (omega arith) (omega arith) e
 
-pub number_spelling : IsSpelling (λ (n : ℕ). n < 2 ^ 32) decimal
-number_spelling = record { one = number_one; common = number_common }
+-- a number of 32 bits
+pub a_number : IsSpelling (λ (n : ℕ). n < 2 ^ 32) decimal
+a_number = record { one = number_one; common = number_common }
 
-pub node_spelling : IsSpelling IsNode node_text
-node_spelling = record { one = node_injective; common = node_common }
+-- a node
+pub a_node : IsSpelling IsNode node_text
+a_node = record { one = node_injective; common = node_common }
 
-pub bytes_spelling : IsSpelling IsBytes bytes_text
-bytes_spelling = record { one = bytes_injective; common = bytes_common }
+-- bytes, which may be none
+pub some_bytes : IsSpelling IsBytes bytes_text
+some_bytes = record { one = bytes_injective; common = bytes_common }
 
-pub xid_spelling : IsSpelling IsXid xid_text
-xid_spelling = record { one = xid_injective; common = xid_common }
+-- an XID
+pub an_xid : IsSpelling IsXid xid_text
+an_xid = record { one = xid_injective; common = xid_common }
 
-pub tx_spelling : IsSpelling IsTx tx_text
-tx_spelling = record { one = tx_injective; common = tx_common }
+-- a transaction
+pub a_tx : IsSpelling IsTx tx_text
+a_tx = record { one = tx_injective; common = tx_common }
 
 -- words that say a value of another kind in a way of their own
 wrapped : {X Y : Type 0} {fits : X → Type 0} {text : X → List ℕ} (wrap : X → Y) (inner : Y → X) → IsSpelling fits text
@@ -125,30 +136,37 @@ wrapped wrap inner law back = record {
   common = λ y p. law.common (inner y) p;
 }
 
--- a resource manager, an acceptor, a leader, a node that has timeouts, and bytes of which there is one at least
+-- a resource manager by its number
 abbrev pub manager_of : ℕ → Manager
 manager_of number = record { 0 = number }
 
+-- an acceptor by its number
 abbrev pub acceptor_of : ℕ → Acceptor
 acceptor_of number = record { 0 = number }
 
+-- a leader by its number
 abbrev pub leader_of : ℕ → Leader
 leader_of number = record { 0 = number }
 
+-- a node that has timeouts
 abbrev pub party_of : NodeId → Party
 party_of node = record { 0 = node }
 
+-- bytes of which there is one at least
 abbrev pub hex_of : List ℕ → Hex
 hex_of bytes = record { 0 = bytes }
 
 manager_numbers : IsSpelling (λ (n : ℕ). n < 256) (λ n. node_text (R n))
-manager_numbers = record { one = λ m n p q e. number_one m n (omega arith) (omega arith) (ap (drop 1) e); common = λ n p. node_common (R n) p }
+manager_numbers =
+    record { one = λ m n p q e. number_one m n (omega arith) (omega arith) (ap (drop 1) e); common = λ n p. node_common (R n) p }
 
 acceptor_numbers : IsSpelling (λ (n : ℕ). n < 256) (λ n. node_text (A n))
-acceptor_numbers = record { one = λ m n p q e. number_one m n (omega arith) (omega arith) (ap (drop 1) e); common = λ n p. node_common (A n) p }
+acceptor_numbers =
+    record { one = λ m n p q e. number_one m n (omega arith) (omega arith) (ap (drop 1) e); common = λ n p. node_common (A n) p }
 
 leader_numbers : IsSpelling (λ (n : ℕ). n < 256) (λ n. node_text (L n))
-leader_numbers = record { one = λ m n p q e. number_one m n (omega arith) (omega arith) (ap (drop 1) e); common = λ n p. node_common (L n) p }
+leader_numbers =
+    record { one = λ m n p q e. number_one m n (omega arith) (omega arith) (ap (drop 1) e); common = λ n p. node_common (L n) p }
 
 is_node : (n : NodeId) → IsParty n → IsNode n
 is_node (A n) p = absurd p
@@ -161,20 +179,25 @@ parties = record { one = λ m n p q e. node_injective m n (is_node m p) (is_node
 hexes : IsSpelling IsSome hex_text
 hexes = record { one = λ a b p q e. hex_injective a b p.1 q.1 e; common = hex_common }
 
-pub manager_spelling : IsSpelling (λ (m : Manager). m.0 < 256) (λ m. node_text (R m.0))
-manager_spelling = wrapped manager_of (λ m. m.0) manager_numbers (λ m. refl)
+-- a resource manager
+pub a_manager : IsSpelling (λ (m : Manager). m.0 < 256) (λ m. node_text (R m.0))
+a_manager = wrapped manager_of (λ m. m.0) manager_numbers (λ m. refl)
 
-pub acceptor_spelling : IsSpelling (λ (m : Acceptor). m.0 < 256) (λ m. node_text (A m.0))
-acceptor_spelling = wrapped acceptor_of (λ m. m.0) acceptor_numbers (λ m. refl)
+-- an acceptor
+pub an_acceptor : IsSpelling (λ (m : Acceptor). m.0 < 256) (λ m. node_text (A m.0))
+an_acceptor = wrapped acceptor_of (λ m. m.0) acceptor_numbers (λ m. refl)
 
-pub leader_spelling : IsSpelling (λ (m : Leader). m.0 < 256) (λ m. node_text (L m.0))
-leader_spelling = wrapped leader_of (λ m. m.0) leader_numbers (λ m. refl)
+-- a leader
+pub a_leader : IsSpelling (λ (m : Leader). m.0 < 256) (λ m. node_text (L m.0))
+a_leader = wrapped leader_of (λ m. m.0) leader_numbers (λ m. refl)
 
-pub party_spelling : IsSpelling (λ (p : Party). IsParty p.0) (λ p. node_text p.0)
-party_spelling = wrapped party_of (λ p. p.0) parties (λ p. refl)
+-- a node that has timeouts
+pub a_party : IsSpelling (λ (p : Party). IsParty p.0) (λ p. node_text p.0)
+a_party = wrapped party_of (λ p. p.0) parties (λ p. refl)
 
-pub hex_spelling : IsSpelling (λ (h : Hex). IsSome h.0) (λ h. hex_text h.0)
-hex_spelling = wrapped hex_of (λ h. h.0) hexes (λ h. refl)
+-- bytes of which there is one at least
+pub a_hex : IsSpelling (λ (h : Hex). IsSome h.0) (λ h. hex_text h.0)
+a_hex = wrapped hex_of (λ h. h.0) hexes (λ h. refl)
 
 -- how an end ends
 abbrev pub ending_of : Action → Ending
@@ -194,5 +217,6 @@ ending_common End p = tt
 ending_common EndFail p = (literal refl refl, tt)
 ending_common a p = absurd p
 
-pub ending_spelling : AreSpellings (λ (e : Ending). IsEnding e.0) (λ e. action_words e.0)
-ending_spelling = record { one = λ x y p q e. ap ending_of (ending_one x.0 y.0 p q e); common = λ x p. ending_common x.0 p }
+-- how an end ends
+pub an_ending : AreSpellings (λ (e : Ending). IsEnding e.0) (λ e. action_words e.0)
+an_ending = record { one = λ x y p q e. ap ending_of (ending_one x.0 y.0 p q e); common = λ x p. ending_common x.0 p }

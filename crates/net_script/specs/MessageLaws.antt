@@ -120,14 +120,17 @@ accept_item_common i is =
     joined (node_text (R i.instance)) (58 ∷ accepted_text i.ballot i.vote) (node_common (R i.instance) is.instance)
     (accepted_bytes i.ballot i.vote is.ballot)
 
-pub vote_spelling : IsSpelling (λ (v : Vote). Unit {0}) vote_text
-vote_spelling = record { one = λ v w p q e. vote_injective v w e; common = λ v p. vote_common v }
+-- a vote
+pub a_vote : IsSpelling (λ (v : Vote). Unit {0}) vote_text
+a_vote = record { one = λ v w p q e. vote_injective v w e; common = λ v p. vote_common v }
 
-pub report_item_spelling : IsSpelling FitsReportItem report_item_text
-report_item_spelling = record { one = report_item_injective; common = report_item_common }
+-- an item of phase 1b
+pub a_report_item : IsSpelling FitsReportItem report_item_text
+a_report_item = record { one = report_item_injective; common = report_item_common }
 
-pub accept_item_spelling : IsSpelling FitsAcceptItem accept_item_text
-accept_item_spelling = record { one = accept_item_injective; common = accept_item_common }
+-- an item of phase 2b
+pub an_accept_item : IsSpelling FitsAcceptItem accept_item_text
+an_accept_item = record { one = accept_item_injective; common = accept_item_common }
 
 -- ---- a report and its acceptor
 
@@ -142,7 +145,8 @@ decimal_not_none n lt e =
     absurd (cc)
 
 -- words begin with a report in one way
-pub report_front : (r s : Option (ℕ × Vote)) (vs ws : List (List ℕ)) → FitsReport r → FitsReport s → report_words r ++ vs ≡ report_words s ++ ws
+pub report_front : (r s : Option (ℕ × Vote)) (vs ws : List (List ℕ)) → FitsReport r → FitsReport s
+    → report_words r ++ vs ≡ report_words s ++ ws
     → (r ≡ s) × (vs ≡ ws)
 report_front None None vs ws p q e =
     let rest : vs ≡ ws = cc in
@@ -170,7 +174,10 @@ reported_one a b p q e =
     same
 
 reported_common : (a : Reported) → FitsReported a → AllByRecursion IsCommon (reported_words a)
-reported_common a p = all_join IsCommon (report_words a.report) (node_text (A a.acceptor) ∷ []) (report_common a.report p.0) (node_common (A a.acceptor) p.1, tt)
+reported_common a p =
+    all_join IsCommon (report_words a.report) (node_text (A a.acceptor) ∷ []) (report_common a.report p.0)
+    (node_common (A a.acceptor) p.1, tt)
 
-pub reported_spelling : AreSpellings FitsReported reported_words
-reported_spelling = record { one = reported_one; common = reported_common }
+-- a report and its acceptor
+pub a_report : AreSpellings FitsReported reported_words
+a_report = record { one = reported_one; common = reported_common }

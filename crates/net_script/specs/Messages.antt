@@ -1,6 +1,6 @@
 -- The words of messages, as a trace prints them.
-use Rattle.std.specs.Prelude.{◌≡◌, ℕ, ◌<◌, ◌^◌, List, [], ◌∷◌, ◌++◌, map, codes, decimal, Option, Some, None}
-use Rattle.net_script.specs.Basics.{TxParts, tx_text, message_tx, Vote, Kind, Prepare, P1a, P1b, P2a, P2b, Commit, Abort, B1a, B1b, B2b, A}
+use Rattle.std.specs.Prelude.{ℕ, ◌<◌, ◌^◌, List, [], ◌∷◌, ◌++◌, map, codes, decimal, Option, Some, None}
+use Rattle.net_script.specs.Basics.{IsTx, tx_text, message_tx, Vote, Kind, Prepare, P1a, P1b, P2a, P2b, Commit, Abort, B1a, B1b, B2b, A}
 use Rattle.net_script.specs.Basics.{R}
 use Rattle.net_script.specs.Basics.{InstanceReport, InstanceAccept}
 use Rattle.net_script.specs.declared.message_words.Reported.{Reported}
@@ -101,18 +101,14 @@ FitsKind (B1a tx ballot) = ballot < 2 ^ 32
 FitsKind (B1b tx ballot acceptor reports) = (ballot < 2 ^ 32) × (acceptor < 256) × AreItems FitsReportItem reports
 FitsKind (B2b tx acceptor accepts) = (acceptor < 256) × AreItems FitsAcceptItem accepts
 
--- the words of a message without its transaction
-abbrev pub kind_words : Kind → List (List ℕ)
-kind_words kind = message_word kind ∷ message_args kind
-
--- what has the form of a message about this transaction
-pub record IsAbout (tx : TxParts) (kind : Kind) : Type 0 where
-  pub fits : FitsKind kind
-  pub about : message_tx kind ≡ tx
+-- what has the form of a message
+abbrev pub IsForm : Kind → Type 0
+IsForm kind = IsTx (message_tx kind) × FitsKind kind
 
 -- the words of phase 1b after its ballot
 abbrev pub FitsReported : Reported → Type 0
 FitsReported r = FitsReport r.report × (r.acceptor < 256)
 
+-- a report, and the acceptor that gives it
 abbrev pub reported_words : Reported → List (List ℕ)
 reported_words r = report_words r.report ++ node_text (A r.acceptor) ∷ []

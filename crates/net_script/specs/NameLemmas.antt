@@ -20,12 +20,14 @@ use Rattle.net_script.specs.HexLemmas.{hex_injective, differ}
 number_injective : (m n : ℕ) → m < 256 → n < 256 → decimal m ≡ decimal n → m ≡ n
 number_injective m n p q e = decimal_injective m n (omega arith) (omega arith) e
 
+-- a node is the only one of its text
 pub node_injective : (m n : NodeId) → IsNode m → IsNode n → node_text m ≡ node_text n → m ≡ n
 node_injective (A m) (A n) p q e = ap A (number_injective m n p q (ap (drop 1) e))
 node_injective (L m) (L n) p q e = ap L (number_injective m n p q (ap (drop 1) e))
 node_injective (R m) (R n) p q e = ap R (number_injective m n p q (ap (drop 1) e))
 node_injective m n p q e = absurd (differ _ _ e refl)
 
+-- a resource manager is the only one of its text
 pub manager_injective : (m n : ℕ) → m < 256 → n < 256 → node_text (R m) ≡ node_text (R n) → m ≡ n
 manager_injective m n p q e = number_injective m n p q (ap (drop 1) e)
 
@@ -33,6 +35,7 @@ manager_injective m n p q e = number_injective m n p q (ap (drop 1) e)
 abbrev xid : (format : ℕ) (gtrid bqual : List ℕ) → XidParts
 xid format gtrid bqual = record { format = format; gtrid = gtrid; bqual = bqual }
 
+-- an XID is the only one of its text
 pub xid_injective : (x y : XidParts) → IsXid x → IsXid y → xid_text x ≡ xid_text y → x ≡ y
 xid_injective x y p q e =
     let front =
@@ -114,6 +117,7 @@ some_branches bs [] m n p q e = absurd (omega arith)
 abbrev tx : (format : ℕ) (gtrid : List ℕ) (branches : List BranchParts) → TxParts
 tx format gtrid branches = record { format = format; gtrid = gtrid; branches = branches }
 
+-- a transaction is the only one of its text
 pub tx_injective : (x y : TxParts) → IsTx x → IsTx y → tx_text x ≡ tx_text y → x ≡ y
 tx_injective x y p q e =
     let front =

@@ -7,8 +7,9 @@ use Rattle.net_script.specs.Lines.{bytes_text, row_text}
 use Rattle.net_script.specs.Items.{IsRow}
 use Rattle.net_script.specs.Spelling.{IsCommon, IsSpelling}
 use Rattle.net_script.specs.HexLemmas.{hex_injective, bytes_injective}
-use Rattle.net_script.specs.Laws.{joined, hex_common, bytes_common}
+use Rattle.net_script.specs.Laws.{joined, hex_common, some_bytes}
 
+-- hex has no `=`
 pub hex_lacks_equals : (xs : List ℕ) → IsBytes xs → lacks 61 (hex_text xs) ≡ true
 hex_lacks_equals xs bytes = list_all-hex_text (λ byte. not (eqb byte 61)) xs refl bytes
 
@@ -28,8 +29,9 @@ row_injective a b is-a is-b e =
 
 row_common : (row : Row) → IsRow row → IsCommon (row_text row)
 row_common row is =
-    let value = bytes_common row.value is.value.bytes in
+    let value = some_bytes.common row.value is.value.bytes in
     joined (hex_text row.key) (61 ∷ bytes_text row.value) (hex_common row.key (is.key.some, is.key.bytes)) value.bytes
 
-pub row_spelling : IsSpelling IsRow row_text
-row_spelling = record { one = row_injective; common = row_common }
+-- a row
+pub a_row : IsSpelling IsRow row_text
+a_row = record { one = row_injective; common = row_common }

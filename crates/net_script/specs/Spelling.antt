@@ -17,10 +17,12 @@ is_clean byte = not (byte == 10) && not (byte == 32)
 abbrev pub is_common : ℕ → Bool
 is_common byte = not (byte == 62) && is_clean byte
 
+-- a word of a line: it has a byte, and each is clean
 pub record IsClean (word : List ℕ) : Type 0 where
   pub some : is_word word ≡ true
   pub bytes : list_all is_clean word ≡ true
 
+-- a word that is no arrow: it has a byte, and each is common
 pub record IsCommon (word : List ℕ) : Type 0 where
   pub some : is_word word ≡ true
   pub bytes : list_all is_common word ≡ true
@@ -53,10 +55,12 @@ or_none (Err Memory) = Err NoMemory
 one_unit : (x y : Unit {0}) → x ≡ y
 one_unit x y = refl
 
+-- no words: the words of the one value of no parts
 pub no_words : AreSpellings {X = Unit {0}} (λ _. Unit {0}) (λ _. [])
 no_words = record { one = λ x y p q e. one_unit x y; common = λ x p. tt }
 
 infixr 20 ◌&◌
+-- a word before others: the words of a pair
 pub ◌&◌ : {X Y : Type 0} {fits : X → Type 0} {text : X → List ℕ} {fit : Y → Type 0} {texts : Y → List (List ℕ)} → IsSpelling fits text
     → AreSpellings fit texts
     → AreSpellings {X = X × Y} (λ said. fits said.0 × fit said.1) (λ said. text said.0 ∷ texts said.1)
@@ -69,6 +73,7 @@ first & others = record {
   common = λ x p. (first.common x.0 p.0, others.common x.1 p.1);
 }
 
+-- a list of values is the only one with its words
 pub one_list : {X : Type 0} {fits : X → Type 0} {text : X → List ℕ} → IsSpelling fits text → (xs ys : List X) → All fits xs → All fits ys
     → map text xs ≡ map text ys
     → xs ≡ ys
@@ -80,6 +85,7 @@ one_list {fits = fits} each (x ∷ xs) (y ∷ ys) p q e =
     let tail : xs ≡ ys = one_list each xs ys (All-tail fits x xs p) (All-tail fits y ys q) (cc) in
     cc
 
+-- and each of its words is one
 pub common_list : {X : Type 0} {fits : X → Type 0} {text : X → List ℕ} → IsSpelling fits text → (xs : List X) → All fits xs
     → AllByRecursion IsCommon (map text xs)
 common_list each [] p = tt
@@ -91,10 +97,12 @@ pub record AreItems {X : Type 0} (fits : X → Type 0) (items : List X) : Type 0
   pub few : length items ≤ most_branches
   pub each : All fits items
 
+-- a bundle's items, one word each
 pub items_of_words : {X : Type 0} {fits : X → Type 0} {text : X → List ℕ} → IsSpelling fits text
     → AreSpellings {X = List X} (AreItems fits) (map text)
 items_of_words each = record { one = λ x y p q e. one_list each x y p.each q.each e; common = λ x p. common_list each x p.each }
 
+-- any number of values, one word each
 pub list_of_words : {X : Type 0} {fits : X → Type 0} {text : X → List ℕ} → IsSpelling fits text
     → AreSpellings {X = List X} (All fits) (map text)
 list_of_words each = record { one = one_list each; common = common_list each }

@@ -3,7 +3,7 @@
 ghost use Rattle.std.specs.Prelude.{true, false};
 ghost use Rattle.net_script.specs.Basics.{IsBytes, IsXid, IsTx, hex_text, xid_text, tx_text};
 ghost use Rattle.net_script.specs.Lines.{IsSome, bytes_text};
-ghost use Rattle.net_script.specs.Laws.{hex_spelling, bytes_spelling, xid_spelling, tx_spelling};
+ghost use Rattle.net_script.specs.Laws.{a_hex, some_bytes, an_xid, a_tx};
 
 use crate::stop::Stop;
 use crate::word::{Word, is_word};
@@ -23,7 +23,7 @@ impl Word for Hex {
 
     ghost allocates = { true };
 
-    ghost spelling = { hex_spelling };
+    ghost spelling = { a_hex };
 
     fn read(alloc: Global, word: &[u8]) -> Result<Hex, Stop> {
         if word.is_empty() {
@@ -53,7 +53,7 @@ impl Word for Sequence<u8> {
 
     ghost allocates = { true };
 
-    ghost spelling = { bytes_spelling };
+    ghost spelling = { some_bytes };
 
     fn read(alloc: Global, word: &[u8]) -> Result<Bytes, Stop> {
         if is_word(word, b"-") {
@@ -71,7 +71,7 @@ impl Word for Xid {
 
     ghost allocates = { false };
 
-    ghost spelling = { xid_spelling };
+    ghost spelling = { an_xid };
 
     fn read(_alloc: Global, word: &[u8]) -> Result<Xid, Stop> {
         let Ok(xid) = Xid::read(word) else {
@@ -88,7 +88,7 @@ impl Word for Boxed<Tx> {
 
     ghost allocates = { true };
 
-    ghost spelling = { tx_spelling };
+    ghost spelling = { a_tx };
 
     fn read(alloc: Global, word: &[u8]) -> Result<Boxed<Tx>, Stop> {
         let Ok(tx) = Tx::read(word) else {

@@ -6,7 +6,7 @@ ghost use Rattle.net_script.specs.Lines.{Reads, words};
 ghost use Rattle.net_script.specs.Spelling.{Finds};
 ghost use Rattle.net_script.specs.Events.{IsEvent, IsEnding, action_words, event_words};
 ghost use Rattle.net_script.specs.Items.{IsCommand, command_words};
-ghost use Rattle.net_script.specs.Laws.{ending_spelling};
+ghost use Rattle.net_script.specs.Laws.{an_ending};
 
 use crate::nodes::{Leader, Manager, Party};
 use crate::stop::{Stop, or_none};
@@ -28,7 +28,7 @@ impl Words for Ending {
 
     ghost allocate = { false };
 
-    ghost spellings = { ending_spelling };
+    ghost spellings = { an_ending };
 
     fn read(_alloc: Global, args: &[u8]) -> Result<Ending, Stop> {
         let Some((word, rest)) = next_word(args) else {
@@ -63,30 +63,6 @@ pub(crate) fn event_by(alloc: Global, name: &[u8], args: &[u8]) -> Result<Event,
     if is_word(name, b"deliver") {
         let (number, ()) = Words::read(alloc, args)?;
         return Ok(Event::Deliver { number });
-    }
-    if is_word(name, b"lose") {
-        let (number, ()) = Words::read(alloc, args)?;
-        return Ok(Event::Lose { number });
-    }
-    if is_word(name, b"cut") {
-        let (number, (bytes, ())) = Words::read(alloc, args)?;
-        return Ok(Event::Cut { number, bytes });
-    }
-    if is_word(name, b"noise") {
-        let (node, (bytes, ())) = Words::read(alloc, args)?;
-        return Ok(Event::Noise { node, bytes });
-    }
-    if is_word(name, b"tear") {
-        let (node, (bytes, ())) = Words::read(alloc, args)?;
-        return Ok(Event::Tear { node, bytes });
-    }
-    if is_word(name, b"restart") {
-        let (node, ()) = Words::read(alloc, args)?;
-        return Ok(Event::Restart { node });
-    }
-    if is_word(name, b"compact") {
-        let (node, ()) = Words::read(alloc, args)?;
-        return Ok(Event::Compact { node });
     }
     if is_word(name, b"start") {
         let (Manager(rm), (xid, ())) = Words::read(alloc, args)?;
@@ -131,6 +107,30 @@ pub(crate) fn event_by(alloc: Global, name: &[u8], args: &[u8]) -> Result<Event,
     if is_word(name, b"timeout") {
         let (Party(node), (tx, ())) = Words::read(alloc, args)?;
         return Ok(ask(node, Request::Timeout { tx }));
+    }
+    if is_word(name, b"lose") {
+        let (number, ()) = Words::read(alloc, args)?;
+        return Ok(Event::Lose { number });
+    }
+    if is_word(name, b"cut") {
+        let (number, (bytes, ())) = Words::read(alloc, args)?;
+        return Ok(Event::Cut { number, bytes });
+    }
+    if is_word(name, b"noise") {
+        let (node, (bytes, ())) = Words::read(alloc, args)?;
+        return Ok(Event::Noise { node, bytes });
+    }
+    if is_word(name, b"tear") {
+        let (node, (bytes, ())) = Words::read(alloc, args)?;
+        return Ok(Event::Tear { node, bytes });
+    }
+    if is_word(name, b"restart") {
+        let (node, ()) = Words::read(alloc, args)?;
+        return Ok(Event::Restart { node });
+    }
+    if is_word(name, b"compact") {
+        let (node, ()) = Words::read(alloc, args)?;
+        return Ok(Event::Compact { node });
     }
     Err(Stop::Wrong)
 }

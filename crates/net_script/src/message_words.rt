@@ -1,12 +1,12 @@
 //! Words that are messages.
 
 ghost use Rattle.std.specs.Prelude.{◌≡◌, ◌≢◌, ◌∷◌, ◌++◌, ℕ, ◌<◌, ◌^◌, false, List, MatchOption};
-ghost use Rattle.net_script.specs.Basics.{IsMessage, Kind, R};
+ghost use Rattle.net_script.specs.Basics.{IsMessage, IsTx, tx_text, Kind, R};
 ghost use Rattle.net_script.specs.Lines.{words, node_text};
 ghost use Rattle.net_script.specs.Spelling.{Finds};
 ghost use Rattle.net_script.specs.Messages.{vote_text, accepted_text, report_text, report_item_text, accept_item_text, message_words};
-ghost use Rattle.net_script.specs.Messages.{FitsReport, FitsReportItem, FitsAcceptItem, IsAbout, kind_words, FitsReported, reported_words};
-ghost use Rattle.net_script.specs.MessageLaws.{vote_spelling, report_item_spelling, accept_item_spelling, reported_spelling};
+ghost use Rattle.net_script.specs.Messages.{FitsReport, FitsReportItem, FitsAcceptItem, IsForm, FitsReported, reported_words};
+ghost use Rattle.net_script.specs.MessageLaws.{a_vote, a_report_item, an_accept_item, a_report};
 
 use crate::known::{KnownTx, read_tx};
 use crate::nodes::{Acceptor, Manager};
@@ -25,7 +25,7 @@ impl Word for Vote {
 
     ghost allocates = { false };
 
-    ghost spelling = { vote_spelling };
+    ghost spelling = { a_vote };
 
     fn read(_alloc: Global, word: &[u8]) -> Result<Vote, Stop> {
         if is_word(word, b"prepared") {
@@ -85,7 +85,7 @@ impl Word for InstanceReport {
 
     ghost allocates = { false };
 
-    ghost spelling = { report_item_spelling };
+    ghost spelling = { a_report_item };
 
     fn read(alloc: Global, word: &[u8]) -> Result<InstanceReport, Stop> {
         let Some((rm, text)) = item_of(word) else {
@@ -106,7 +106,7 @@ impl Word for InstanceAccept {
 
     ghost allocates = { false };
 
-    ghost spelling = { accept_item_spelling };
+    ghost spelling = { an_accept_item };
 
     fn read(alloc: Global, word: &[u8]) -> Result<InstanceAccept, Stop> {
         let Some((rm, text)) = item_of(word) else {
@@ -135,7 +135,7 @@ impl Words for Reported {
 
     ghost allocate = { false };
 
-    ghost spellings = { reported_spelling };
+    ghost spellings = { a_report };
 
     fn read(alloc: Global, args: &[u8]) -> Result<Reported, Stop> {
         let Some((word, rest)) = next_word(args) else {
@@ -159,7 +159,8 @@ impl Words for Reported {
 /// The message of this name about this transaction, by the words after it.
 #[inline(never)]
 fn read_kind(alloc: Global, name: &[u8], tx: &Tx, args: &[u8]) -> Result<Kind, Stop>
-    ensures { Finds false (IsAbout tx.now) kind_words (name.now ∷ words args.now) result }
+    requires { IsTx tx.now }
+    ensures { Finds false IsForm message_words (name.now ∷ tx_text tx.now ∷ words args.now) result }
 {
     if is_word(name, b"prepare") {
         let () = Words::read(alloc, args)?;

@@ -4,7 +4,7 @@ ghost use Rattle.std.specs.Prelude.{◌<◌, ◌^◌, false, decimal};
 ghost use Rattle.net_script.specs.Basics.{A, L, R};
 ghost use Rattle.net_script.specs.Lines.{node_text};
 ghost use Rattle.net_script.specs.Events.{IsNode, IsParty};
-ghost use Rattle.net_script.specs.Laws.{number_spelling, manager_spelling, acceptor_spelling, leader_spelling, node_spelling, party_spelling};
+ghost use Rattle.net_script.specs.Laws.{a_number, a_manager, an_acceptor, a_leader, a_node, a_party};
 
 use crate::numbers;
 use crate::stop::Stop;
@@ -20,7 +20,7 @@ impl Word for u32 {
 
     ghost allocates = { false };
 
-    ghost spelling = { number_spelling };
+    ghost spelling = { a_number };
 
     fn read(_alloc: Global, word: &[u8]) -> Result<u32, Stop> {
         numbers::number(word).ok_or(Stop::Wrong)
@@ -38,7 +38,7 @@ impl Word for Manager {
 
     ghost allocates = { false };
 
-    ghost spelling = { manager_spelling };
+    ghost spelling = { a_manager };
 
     fn read(_alloc: Global, word: &[u8]) -> Result<Manager, Stop> {
         let Some(number) = manager_word(word) else {
@@ -59,7 +59,7 @@ impl Word for Acceptor {
 
     ghost allocates = { false };
 
-    ghost spelling = { acceptor_spelling };
+    ghost spelling = { an_acceptor };
 
     fn read(_alloc: Global, word: &[u8]) -> Result<Acceptor, Stop> {
         let Some(number) = lettered_word(word, b'a') else {
@@ -80,7 +80,7 @@ impl Word for Leader {
 
     ghost allocates = { false };
 
-    ghost spelling = { leader_spelling };
+    ghost spelling = { a_leader };
 
     fn read(_alloc: Global, word: &[u8]) -> Result<Leader, Stop> {
         let Some(number) = lettered_word(word, b'l') else {
@@ -97,7 +97,7 @@ impl Word for NodeId {
 
     ghost allocates = { false };
 
-    ghost spelling = { node_spelling };
+    ghost spelling = { a_node };
 
     fn read(_alloc: Global, word: &[u8]) -> Result<NodeId, Stop> {
         node_word(word).ok_or(Stop::Wrong)
@@ -115,7 +115,7 @@ impl Word for Party {
 
     ghost allocates = { false };
 
-    ghost spelling = { party_spelling };
+    ghost spelling = { a_party };
 
     fn read(_alloc: Global, word: &[u8]) -> Result<Party, Stop> {
         if let Some(rm) = manager_word(word) {

@@ -5,7 +5,7 @@ ghost use Rattle.std.specs.List.{All, AllPairs};
 ghost use Rattle.net_script.specs.Lines.{Reads, words, row_text};
 ghost use Rattle.net_script.specs.Spelling.{Finds};
 ghost use Rattle.net_script.specs.Items.{IsRow, IsContents, contents_words};
-ghost use Rattle.net_script.specs.RowLaws.{row_spelling};
+ghost use Rattle.net_script.specs.RowLaws.{a_row};
 
 use crate::byte_words::Hex;
 use crate::nodes::Manager;
@@ -23,7 +23,7 @@ impl Word for Row {
 
     ghost allocates = { true };
 
-    ghost spelling = { row_spelling };
+    ghost spelling = { a_row };
 
     fn read(alloc: Global, word: &[u8]) -> Result<Row, Stop> {
         let Some((key, value)) = text::split_once(word, b'=') else {

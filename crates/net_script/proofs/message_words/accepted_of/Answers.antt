@@ -4,7 +4,8 @@ use Rattle.net_script.proofs.message_words.accepted_of.Goals as goal
 
 pub returns-in_default-number : goal.returns-in_default-number
 returns-in_default-number c = λ a lt e.
-    c.in_default-number.ensures a.0 lt (cut_accepted a.0 a.1 c.args.text.now c.in-Some.digits.now c.in-Some.word.now lt e c.in-Some.ensures).0
+    c.in_default-number.ensures a.0 lt
+    (cut_accepted a.0 a.1 c.args.text.now c.in-Some.digits.now c.in-Some.word.now lt e c.in-Some.ensures).0
 
 pub returns-in_err-vote : goal.returns-in_err-vote
 returns-in_err-vote c =

@@ -1,6 +1,6 @@
 use Rattle.std.proofs.Common.{◌≡◌, ◌∙◌, true, false, refl, ap, sym}
 use Rattle.net_script.specs.TraceLines.{are_ascending}
-use Rattle.net_script.specs.RowLaws.{row_spelling}
+use Rattle.net_script.specs.RowLaws.{a_row}
 use Rattle.net_script.specs.Spelling.{one_list}
 use Rattle.net_script.proofs.Arms.{passes}
 use Rattle.net_script.proofs.outcome_words.final_rows.Goals as goal
@@ -13,7 +13,7 @@ returns-in_err-rows c =
 pub returns-then-not-are_ascending : goal.returns-then-not-are_ascending
 returns-then-not-are_ascending c = λ y are e.
     let read = c.in_ok-rows.ensures in
-    let same : c.in_ok-rows.rows ≡ y = one_list row_spelling c.in_ok-rows.rows y read.0 are.each (sym read.1 ∙ e) in
+    let same : c.in_ok-rows.rows ≡ y = one_list a_row c.in_ok-rows.rows y read.0 are.each (sym read.1 ∙ e) in
     let no' : are_ascending c.in_ok-rows.rows ≡ false =
     ap are_ascending (sym c.as_slice.ensures) ∙ sym c.are_ascending.ensures ∙ c.if-not-are_ascending.true in
     let up : are_ascending c.in_ok-rows.rows ≡ true = ap are_ascending same ∙ are.ascending in

@@ -11,7 +11,8 @@ pub returns-in_err-read : goal.returns-in_err-read
 returns-in_err-read g c =
     passes (λ e. e)
     (λ none is are e.
-    word_unread (record { same = g.met.W.Word.spelling.one }) [] is (words c.args.args.now) (words c.args.args.now) (words c.in-Some.after.now)
+    word_unread (record { same = g.met.W.Word.spelling.one }) [] is (words c.args.args.now) (words c.args.args.now)
+    (words c.in-Some.after.now)
     c.in-Some.word.now (All-nil g.W.Word.fits, are.each) refl c.in-Some.ensures.cut none e)
     c.in_err-read.field-0.0 c.from_residual.result c.from_residual.ensures.1 c.in_err-read.ensures
 
