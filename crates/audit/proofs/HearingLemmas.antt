@@ -1,11 +1,8 @@
 -- What an auditor holds after each kind of line: for `Auditor::take` and its parts.
-use Rattle.std.proofs.Common.{◌≡◌, ◌∙◌, ℕ, Bool, true, false, ◌==◌, ◌&&◌, cond, List, [], ◌∷◌, ◌++◌, Option, Some, None, Result, Ok, Err}
+use Rattle.std.proofs.Common.{◌≡◌, ◌∙◌, ℕ, Bool, true, false, ◌&&◌, cond, List, [], ◌∷◌, ◌++◌, Option, Some, None, Result, Ok, Err}
 use Rattle.std.proofs.Common.{refl, sym, ap, subst, length, inl, suc, arith, eqb-true}
 use Rattle.std.specs.Prelude.{IfOk, IfErr, OnOk}
-use Rattle.std.specs.List.{fold}
 use Rattle.std.specs.Option.{option_map, option_map_or}
-use Rattle.std.proofs.lemmas.List.Sums.{fold-append}
-use Rattle.protocol.specs.Tables.{put_row}
 use Rattle.std.proofs.lemmas.Bool.{and_parts}
 use Rattle.net_script.specs.declared.values.Sizes.{Sizes}
 use Rattle.net_script.specs.declared.trace_lines.TraceLine.TheVariants.{Cluster, Contents, Happened, Served, Changed, Datagram, Final}
@@ -19,17 +16,16 @@ use Rattle.protocol.specs.declared.nodes.NodeId.{NodeId}
 use Rattle.audit.specs.Words.{Answer, Event, Deliver, Change, Step, Entry, Row, Table, Trace}
 use Rattle.audit.specs.Told.{step_of, history_of, each_step, is_move}
 use Rattle.audit.specs.Stretches.{stretches_back}
-use Rattle.audit.specs.Tables.{first_rows_of, first_tables, table_told, is_event_right, shows_rightly, are_tables}
-use Rattle.audit.specs.Books.{rows_of, stretch_of, views_in, is_move_from, has_committed}
+use Rattle.audit.specs.Tables.{first_tables, table_told, shows_rightly, are_tables}
+use Rattle.audit.specs.Books.{rows_of, stretch_of, is_move_from, has_committed}
 use Rattle.audit.specs.Consistent.{committed_back, is_order_kept, is_consistent}
 use Rattle.history.specs.SerialOrder.{first_commits}
-use Rattle.audit.specs.Following.{Follows, IsHappened, IsChanged}
+use Rattle.audit.specs.Following.{Follows, IsChanged}
 use Rattle.audit.specs.Hearing.{are_right, Hears, HasHeard, IsJudged}
 use Rattle.audit.specs.declared.ledger.Ledger.{Ledger}
 use Rattle.audit.specs.declared.auditor.Auditor.{Auditor}
 use Rattle.audit.proofs.AuditLemmas.{is_right, by_result}
-use Rattle.audit.proofs.ListLemmas.{chosen}
-use Rattle.audit.proofs.LedgerLemmas.{bare, follows_event, follows_change, moves_so, right_so, nothing_happened, history_push}
+use Rattle.audit.proofs.LedgerLemmas.{bare, follows_event, follows_change, moves_so, nothing_happened, history_push}
 
 wrong_is : (b : Bool) → b ≡ false → b ≡ true → ⊥
 wrong_is b wrong right = absurd (cc (sym wrong ∙ right))
@@ -50,39 +46,9 @@ right_push : (tables : List Table) (entries : List Entry) (e : Entry)
     → are_right tables (entries ++ e ∷ []) ≡ (are_right tables entries && is_right (first_tables tables) (history_of entries) (step_of e))
 right_push tables entries e = ap (each_step (is_right (first_tables tables))) (history_push entries e)
 
-pub event_unheard : (auditor : Auditor) (tables : List Table) (entries : List Entry) (finals : List (List Row)) (e : Entry)
-    → auditor.is_right ≡ false → Hears auditor tables entries finals → Hears auditor tables (entries ++ e ∷ []) finals
-event_unheard auditor tables entries finals e wrong heard =
-    unheard auditor tables entries (entries ++ e ∷ []) finals finals wrong
-    (right_push tables entries e
-    ∙ ap (λ b. b && is_right (first_tables tables) (history_of entries) (step_of e)) (sym heard.right ∙ wrong)) heard
-
 and_true : (b : Bool) → b ≡ (b && true)
 and_true true = refl
 and_true false = refl
-
-pub event_heard : (old new : Auditor) (event : Event) (answer : Answer) (ok : Bool) → old.is_right ≡ true
-    → (ok ≡ is_event_right (rows_of old.ledger.tables) (stretch_of old.ledger.branches) event answer)
-    × (ok ≡ true → IsHappened old.ledger new.ledger event answer)
-    → new.is_right ≡ ok → new.tables ≡ old.tables → new.finals ≡ old.finals
-    → (tables : List Table) (entries : List Entry) (finals : List (List Row)) → Hears old tables entries finals
-    → Hears new tables (entries ++ bare_step event answer ∷ []) finals
-event_heard old new event answer ok right event_is now same others tables entries finals heard =
-    let first = first_tables tables in
-    let before = history_of entries in
-    let follows = heard.follows right in
-    let shown : ok ≡ shows_rightly first before (bare event answer []) =
-    event_is.0 ∙ right_so first before old.ledger event answer follows in
-    record {
-      tables_are = ap (λ v. v.items) same ∙ heard.tables_are;
-      right = now ∙ and_true ok
-          ∙ (λ i. (sym right ∙ heard.right) i && (shown i && true))
-          ∙ sym (right_push tables entries (bare_step event answer));
-      follows = λ e.
-          subst (λ h. Follows first h new.ledger) (sym (history_push entries (bare_step event answer)))
-          (follows_event first before old.ledger new.ledger follows event answer [] (event_is.1 (sym now ∙ e)));
-      finals_are = λ e. ap (λ v. v.items) others ∙ heard.finals_are right;
-    }
 
 serve_heard : (auditor : Auditor) (node : NodeId) (answer : Answer) (tables : List Table) (entries : List Entry) (finals : List (List Row))
     → Hears auditor tables entries finals → Hears auditor tables (entries ++ Entry.Serve node answer None [] ∷ []) finals
@@ -228,27 +194,6 @@ module _ (change : Change) (tables : List Table) (entries : List Entry) (a b : E
       }
 
 -- ---- tables
-
-first_push : (tables : List Table) (t : Table) (rm : ℕ)
-    → first_tables (tables ++ t ∷ []) rm ≡ cond (t.rm == rm) (fold put_row [] t.rows) (first_tables tables rm)
-first_push tables t rm =
-    ap (fold put_row []) (fold-append (chosen rm) [] tables (t ∷ [])) ∙ by (t.rm == rm)
-  where
-    by : (b : Bool) → fold put_row [] (cond b t.rows (first_rows_of tables rm)) ≡ cond b (fold put_row [] t.rows) (first_tables tables rm)
-    by true = refl
-    by false = refl
-
-pub table_follows : (tables : List Table) (t : Table) (old new : Ledger)
-    → ((rm : ℕ) → rows_of new.tables rm ≡ cond (t.rm == rm) (fold put_row [] t.rows) (rows_of old.tables rm))
-    → new.branches ≡ old.branches → new.views ≡ old.views → new.firsts ≡ old.firsts
-    → Follows (first_tables tables) [] old → Follows (first_tables (tables ++ t ∷ [])) [] new
-table_follows tables t old new put branches views firsts follows = record {
-  tables = λ rm.
-      put rm ∙ ap (λ rows. cond (t.rm == rm) (fold put_row [] t.rows) rows) (follows.tables rm) ∙ sym (first_push tables t rm);
-  branches = λ rm x. ap (λ bs. stretch_of bs rm x) branches ∙ follows.branches rm x;
-  views = λ tx. ap (λ v. views_in v tx) views ∙ follows.views tx;
-  firsts = firsts ∙ follows.firsts;
-}
 
 pub table_heard : (old new : Auditor) (t : Table) (tables : List Table)
     → (Follows (first_tables tables) [] old.ledger → Follows (first_tables (tables ++ t ∷ [])) [] new.ledger)

@@ -43,7 +43,7 @@ working_more ps i lt =
     sym (map-append (λ _. View.Working) (take i ps) (get_or ps i 0 ∷ [])) ∙ ap (map (λ _. View.Working)) (sym (take-suc ps i 0 lt))
     ∙ ap (λ n. map (λ _. View.Working) (take n ps)) next
 
-abbrev pub chosen : ℕ → List Row → Table → List Row
+abbrev chosen : ℕ → List Row → Table → List Row
 chosen rm rows table = cond (table.rm == rm) table.rows rows
 
 -- the first contents by one line more
