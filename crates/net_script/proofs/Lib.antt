@@ -17,3 +17,4 @@ pub mod DraftLemmas
 pub mod MoreLines
 pub mod EndedText
 pub mod TraceLoop
+pub mod WritingLemmas

@@ -8,3 +8,4 @@ pub mod Messages
 pub mod Traces
 pub mod TraceLines
 pub mod TraceReading
+pub mod Writing

@@ -25,6 +25,7 @@ mod trace_reading;
 mod traces;
 mod values;
 mod words;
+mod writing;
 
 pub use answers::put_answer;
 pub use args::{last_node, last_tx, node};
@@ -35,3 +36,4 @@ pub use trace_reading::{one_trace, read_trace};
 pub use traces::{write_finals, write_head, write_step, write_trace};
 pub use values::{Command, Entry, Script, Sizes, Table, Trace};
 pub use words::{is_over, next_word};
+pub use writing::{file_refusal, write_number, write_text};
