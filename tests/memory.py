@@ -1,9 +1,10 @@
 #!/usr/bin/env python3
 """Refuses each block of memory that runs and an audit ask for, one after the other: `tests/memory.py [PROGRAM]`. The program answers 11 as
-a whole and prints nothing else, or prints a trace in which one event is answered 11. All other lines are then those of a run with ample
-memory without that event, or with its node taken down before it (by a torn append of another transaction, which stores nothing). Such a
-trace is consistent; and once all nodes are restarted, they serve calls, and each transaction is ended. Or, where a map asked again for less
-room, the trace is that of the run with ample memory. The last line is 'N passed, M failed'."""
+a whole and prints nothing else (or a beginning of the text, where its first piece was printed by then), or prints a trace in which one
+event is answered 11. All other lines are then those of a run with ample memory without that event, or with its node taken down before it
+(by a torn append of another transaction, which stores nothing). Such a trace is consistent; and once all nodes are restarted, they serve
+calls, and each transaction is ended. Or, where a map asked again for less room, the trace is that of the run with ample memory. The last
+line is 'N passed, M failed'."""
 import concurrent.futures
 import os
 import re
@@ -245,6 +246,23 @@ def audits(name):
     check(f"audit of {name} is refused", whole > 20, whole)
 
 
+def later_pieces():
+    """Refuses the last blocks of a run whose text has more than one piece: once the first is printed, a run that is out of memory as a
+    whole has printed a beginning of its text."""
+    starts = "".join(f"start r0 1:{number:04x}:00\n" for number in range(4000))
+    path = written("pieces", f"cluster acceptors 1 leaders 1 rms 1\ntable r0 6b=76 6c=77\n{starts}")
+    status, ample, said = call("run", path)
+    check("a run in pieces", status == 0 and not said and len(ample) > 65536)
+    begun = 0
+    last = blocks("run", path)
+    for number in range(last - 30, last + 1):
+        status, out, said = call("run", path, number)
+        is_begun = (status, said) == (3, "pcommit: refused 11\n") and len(out) > 65536 and out != ample and ample.startswith(out)
+        begun += is_begun
+        check(f"a run in pieces at block {number}", is_begun or (status, said) == (0, ""), f"status {status}, {said}, {len(out)} bytes")
+    check("a run in pieces is refused", begun > 0)
+
+
 subprocess.run(["cc", "-shared", "-fPIC", "-o", library, os.path.join(TESTS, "refuse_memory.c"), "-ldl"], check=True)
 os.dup2(os.open(os.devnull, os.O_WRONLY), 9)
 totals = dict.fromkeys(KINDS, 0)
@@ -255,5 +273,6 @@ print(f"refused as a whole {totals['whole']}, an event that then didn't happen {
       f"{totals['down']}, an event after the row {totals['late']}, asked again {totals['again']}")
 check("each kind is seen", min(totals[verdict] for verdict in ("whole", "nothing", "down")) > 0)
 audits("takeover_finds_prepared")
+later_pieces()
 print(f"{passed} passed, {failed} failed")
 sys.exit(1 if failed else 0)

@@ -281,6 +281,13 @@ written=$(wc -c <out)
 [ "$written" -gt 0 ] && [ "$written" -lt "$(wc -c <large.out)" ] || fail broken_off_output "$written bytes were written"
 head -c "$written" large.out >large.beginning
 compare broken_off_output large.beginning refused 3
+# in a later piece than the first
+(ulimit -f 160 && trap '' XFSZ && exec "$program" run large >out 2>err)
+got=$?
+written=$(wc -c <out)
+[ "$written" -gt 65536 ] && [ "$written" -lt "$(wc -c <large.out)" ] || fail broken_off_later "$written bytes were written"
+head -c "$written" large.out >large.beginning
+compare broken_off_later large.beginning refused 3
 
 # a standard error that can't be written changes no status
 : >err

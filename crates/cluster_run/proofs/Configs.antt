@@ -1,12 +1,13 @@
 -- The cluster that a script asks for.
-use Rattle.std.proofs.Common.{◌≡◌, ◌∙◌, inl, inr, ℕ, ◌&&◌, Bool, true, false, List, [], ◌∷◌, length, refl, sym, ap, subst, Result, Err}
+use Rattle.std.proofs.Common.{◌≡◌, ◌∙◌, inl, inr, ℕ, ◌&&◌, ◌||◌, ◌<◌, Bool, true, false, List, [], ◌∷◌, length, refl, sym, ap, subst, Result, Err}
 use Rattle.std.specs.Prelude.{◌==◌, nat_lt, nat_le, IfErr, MatchResult}
 use Rattle.std.specs.List.{All, AllByRecursion, list_all, range_with_len}
-use Rattle.std.proofs.lemmas.Bool.{and_cases, and_from, both_ways, cond_both, eq-eqb, le-leb, lt-ltb}
+use Rattle.std.proofs.lemmas.Bool.{and_cases, and_from, both_ways, cond_both, eq-eqb, le-leb, lt-ltb, ltb-true}
 use Rattle.std.proofs.lemmas.List.Elements.{recursion_from_All}
 use Rattle.std.proofs.lemmas.List.Folds.{list_all-map}
 use Rattle.std.proofs.lemmas.List.FromFn.{length-map-range_with_len}
-use Rattle.xid.specs.Limits.{most_key, most_value}
+use Rattle.xid.specs.Limits.{most_key, most_value, most_leaders, most_managers}
+use Rattle.xid.proofs.Texts.{first_true, second_true}
 use Rattle.xid.specs.declared.refusals.Refusal.{Refusal}
 use Rattle.cluster_run.specs.Words.{Row}
 use Rattle.cluster_run.specs.Runs.{is_in_limits}
@@ -49,6 +50,15 @@ tables_within tables are count =
     (range_with_len 0 count)
 
 -- ---- the cluster
+
+-- within the limits there is a resource manager
+pub some_managers : (sizes : Sizes) → is_in_limits sizes ≡ true → 0 < sizes.rms
+some_managers sizes limits =
+    let kinds = (sizes.acceptors == 1 || sizes.acceptors == 3 || sizes.acceptors == 5 || sizes.acceptors == 7)
+    && (nat_lt 0 sizes.leaders && nat_le sizes.leaders most_leaders) in
+    ltb-true 0 sizes.rms
+    (first_true (nat_lt 0 sizes.rms) (nat_le sizes.rms most_managers)
+    (second_true kinds (nat_lt 0 sizes.rms && nat_le sizes.rms most_managers) limits))
 
 module _ (sizes : Sizes) (tables : List Table) (a l m : ℕ) (first : List (List Row)) (acceptors : a ≡ sizes.acceptors)
     (leaders : l ≡ sizes.leaders) (managers : m ≡ sizes.rms) (rows : first ≡ each_manager (first_rows_of tables) m) where

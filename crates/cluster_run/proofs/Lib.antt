@@ -1,3 +1,5 @@
+pub mod Printing
+pub mod Completing
 pub mod MachineCalls
 pub mod Safe
 pub mod Traces

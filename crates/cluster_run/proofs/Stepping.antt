@@ -1,16 +1,16 @@
 -- One event of a run, and one after another: the cluster stands for the world of the machine.
-use Rattle.std.proofs.Common.{◌≡◌, ◌∙◌, ℕ, List, [], ◌∷◌, ◌++◌, length, Some, None, refl, sym, ap, subst}
-use Rattle.std.proofs.Common.{append_assoc, ◌+◌, ◌≤◌, inl, inr, arith}
-use Rattle.std.specs.List.{flat_map}
-use Rattle.std.proofs.lemmas.Grind.{flat_map-append}
+use Rattle.std.proofs.Common.{◌≡◌, ◌∙◌, ℕ, List, [], ◌∷◌, ◌++◌, length, Option, Some, None, refl, sym, ap, subst}
+use Rattle.std.proofs.Common.{◌+◌, ◌-◌, ◌<◌, ◌≤◌, inl, inr, arith}
 use Rattle.std.proofs.lemmas.List.{append-nil, length_push}
 use Rattle.cluster_run.specs.Words.{Deliver, Event, Step}
-use Rattle.cluster_run.specs.Happenings.{IsOfMemory, IsNext, AreNext, IsFlow, IsDoneBy, AreDoneBy}
-use Rattle.cluster_run.specs.Running.{IsRunning, ComesTo, GoesOn}
-use Rattle.cluster_run.proofs.Happening.{after_more, trace_more, memory_more, next_more, done_more}
+use Rattle.cluster_run.specs.Happenings.{IsOfMemory, AreOfMemory, IsNext, AreNext, IsFlow, IsDoneBy, AreDoneBy}
+use Rattle.cluster_run.specs.Running.{IsRunning, Printed, Prints, PrintsShort, ComesTo, GoesOn, FallsShort, lines_from, so_far}
+use Rattle.cluster_run.proofs.Completing.{commands_on, done_on, flow_after, flow_on, lines_more, next_on}
+use Rattle.cluster_run.proofs.Happening.{after_more, memory_more, next_more, done_more}
+use Rattle.cluster_run.proofs.Printing.{prints_later, prints_more, prints_no_more, prints_none, short_after, short_before}
 use Rattle.protocol.specs.Effects.{Config}
 use Rattle.protocol.specs.Nodes.{Fault, NoFault, NoMemoryBefore, NoMemoryAt, RecordFails}
-use Rattle.protocol.specs.Worlds.{World, Occurrence, step_of, trace, world_after, world_step}
+use Rattle.protocol.specs.Worlds.{World, Occurrence, step_of, world_after, world_step}
 use Rattle.network.specs.Networks.{least_unmarked}
 use Rattle.cluster.specs.Clusters.{BefallsIn, ClusterParts, ClusterStands, Occurs}
 use Rattle.cluster.proofs.Following.{no_failure, still_firm}
@@ -19,25 +19,36 @@ use Rattle.net_script.specs.declared.values.Command.TheVariants.{Do}
 use Rattle.net_script.specs.Traces.{step_text}
 
 -- a run goes on from where it has come to
-pub comes_on : (config : Config) (world : World) (old new : ClusterParts) (first before after : List ℕ) (happened more : List Occurrence)
+pub comes_on : (config : Config) (world : World) (old new : ClusterParts) (first before after : Printed) (happened more : List Occurrence)
     → ComesTo config world old first before happened → ComesTo config (world_after config world happened) new before after more
     → ComesTo config world new first after (happened ++ more)
 comes_on config world old new first before after happened more so then = record {
   running = subst (λ (w : World). IsRunning config w new) (sym (after_more config world happened more)) then.running;
   faults = memory_more happened more so.faults then.faults;
-  text =
-      let at = world_after config world happened in
-      let text = λ (steps : List Step). flat_map step_text steps in
-      then.text ∙ ap (λ (t : List ℕ). t ++ text (trace config at more)) so.text
-      ∙ append_assoc first (text (trace config world happened)) (text (trace config at more))
-      ∙ ap (λ (t : List ℕ). first ++ t) (sym (flat_map-append step_text (trace config world happened) (trace config at more)))
-      ∙ ap (λ (steps : List Step). first ++ text steps) (sym (trace_more config world happened more));
+  prints =
+      subst (Prints first after) (sym (lines_more config world happened more))
+      (prints_more first before after (lines_from config world happened) (lines_from config (world_after config world happened) more)
+      so.prints then.prints);
 }
 
 -- nothing has happened yet
-pub none_yet : (config : Config) (world : World) (cluster : ClusterParts) (out : List ℕ) → IsRunning config world cluster
-    → ComesTo config world cluster out out []
-none_yet config world cluster out running = record { running = running; faults = tt; text = sym (append-nil out) }
+pub none_yet : (config : Config) (world : World) (cluster : ClusterParts) (at : Printed) → IsRunning config world cluster
+    → ComesTo config world cluster at at []
+none_yet config world cluster at running = record { running = running; faults = tt; prints = prints_none at }
+
+-- what was printed on the way to more events falls short of these, and of others after them
+pub short_on : (config : Config) (world : World) (first before : Printed) (out : Option (List ℕ)) (happened more others : List Occurrence)
+    → Prints first before (lines_from config world happened)
+    → PrintsShort before out (lines_from config (world_after config world happened) more)
+    → PrintsShort first out (lines_from config world ((happened ++ more) ++ others))
+short_on config world first before out happened more others so then =
+    let at = world_after config world happened in
+    let both : PrintsShort first out (lines_from config world (happened ++ more)) =
+    subst (PrintsShort first out) (sym (lines_more config world happened more))
+    (short_after first before out (lines_from config world happened) (lines_from config at more) so then) in
+    subst (PrintsShort first out) (sym (lines_more config world (happened ++ more) others))
+    (short_before first out (lines_from config world (happened ++ more))
+    (lines_from config (world_after config world (happened ++ more)) others) both)
 
 -- ---- an event
 
@@ -50,39 +61,75 @@ of_memory config world event old new NoMemoryAt running befalls = tt
 of_memory config world event old new (RecordFails whole) running befalls =
     no_failure config world old new running.stands running.firm whole event befalls
 
--- what came of an event of the machine, and its lines
-pub happened_one : (config : Config) (world : World) (old new : ClusterParts) (event : Event) (step : Step) (before after : List ℕ)
-    → IsRunning config world old → Occurs event old new step → after ≡ before ++ step_text step
-    → (happened : List Occurrence) × IsDoneBy config world (Do event) happened × ComesTo config world new before after happened
-happened_one config world old new event step before after running occurs text =
+-- what came of an event of the machine, and its lines, of which some text was printed
+pub happened_one : (config : Config) (world : World) (old new : ClusterParts) (event : Event) (step : Step)
+    → IsRunning config world old → Occurs event old new step
+    → (happened : List Occurrence) × IsDoneBy config world (Do event) happened × AreOfMemory happened
+    × IsRunning config (world_after config world happened) new × (lines_from config world happened ≡ step_text step)
+happened_one config world old new event step running occurs =
     let o = occurs config world running.stands in
     let one : Occurrence = record { event = event; fault = o.fault } in (
       one ∷ [],
       (o.fault, refl),
+      (of_memory config world event old new o.fault running o.befalls, tt),
+      record { stands = o.stands; firm = still_firm old new o.same running.firm },
+      append-nil (step_text (step_of world event (world_step config world event o.fault))) ∙ sym (ap step_text o.step_is),
+    )
+
+-- an event whose lines joined the piece, of which a beginning was printed then
+pub happens_on : (old new : ClusterParts) (event : Event) (step : Step) (before after : List ℕ) (out_old out_new : Option (List ℕ))
+    (last : List ℕ) → Occurs event old new step → after ≡ before ++ step_text step → Prints (so_far after out_old) (so_far last out_new) []
+    → GoesOn (λ config world. IsDoneBy config world (Do event)) old new (so_far before out_old) (so_far last out_new)
+happens_on old new event step before after out_old out_new last occurs text printed config world running =
+    let one = happened_one config world old new event step running occurs in (
+      one.0,
+      one.1,
       record {
-        running = record { stands = o.stands; firm = still_firm old new o.same running.firm };
-        faults = (of_memory config world event old new o.fault running o.befalls, tt);
-        text =
-            text ∙ ap (λ (s : Step). before ++ step_text s) o.step_is
-            ∙ ap (λ (t : List ℕ). before ++ t) (sym (append-nil (step_text (step_of world event (world_step config world event o.fault)))));
+        running = one.3;
+        faults = one.2;
+        prints =
+            subst (Prints (so_far before out_old) (so_far last out_new)) (append-nil (step_text step) ∙ sym one.4)
+            (prints_more (so_far before out_old) (so_far after out_old) (so_far last out_new) (step_text step) []
+            (prints_later before after (step_text step) out_old text) printed);
       },
+    )
+
+-- an event whose lines aren't written
+pub happens_unwritten : (old new : ClusterParts) (event : Event) (step : Step) (before : List ℕ) (out : Option (List ℕ))
+    → Occurs event old new step → FallsShort (λ config world. IsDoneBy config world (Do event)) old (so_far before out) out
+happens_unwritten old new event step before out occurs config world running =
+    let one = happened_one config world old new event step running occurs in
+    (one.0, one.1, one.2, prints_no_more (so_far before out) (lines_from config world one.0))
+
+-- an event whose lines joined the piece, which isn't printed whole then
+pub happens_unprinted : (old new : ClusterParts) (event : Event) (step : Step) (before after : List ℕ) (out_old out_new : Option (List ℕ))
+    → Occurs event old new step → after ≡ before ++ step_text step → PrintsShort (so_far after out_old) out_new []
+    → FallsShort (λ config world. IsDoneBy config world (Do event)) old (so_far before out_old) out_new
+happens_unprinted old new event step before after out_old out_new occurs text short config world running =
+    let one = happened_one config world old new event step running occurs in (
+      one.0,
+      one.1,
+      one.2,
+      subst (PrintsShort (so_far before out_old) out_new) (append-nil (step_text step) ∙ sym one.4)
+          (short_after (so_far before out_old) (so_far after out_old) out_new (step_text step) []
+          (prints_later before after (step_text step) out_old text) short),
     )
 
 -- ---- a flow
 
 -- so many deliveries so far
-pub record HasFlown (config : Config) (world : World) (count : ℕ) (cluster : ClusterParts) (before after : List ℕ) : Type 0 where
+pub record HasFlown (config : Config) (world : World) (count : ℕ) (cluster : ClusterParts) (before after : Printed) : Type 0 where
   pub happened : List Occurrence
   pub next : AreNext config world happened
   pub made : length happened ≡ count
   pub comes : ComesTo config world cluster before after happened
 
-pub flown_none : (config : Config) (world : World) (cluster : ClusterParts) (out : List ℕ) → IsRunning config world cluster
+pub flown_none : (config : Config) (world : World) (cluster : ClusterParts) (out : Printed) → IsRunning config world cluster
     → HasFlown config world 0 cluster out out
 flown_none config world cluster out running =
     record { happened = []; next = tt; made = refl; comes = none_yet config world cluster out running }
 
-pub flown_more : (config : Config) (world : World) (count number : ℕ) (old new : ClusterParts) (first before after : List ℕ)
+pub flown_more : (config : Config) (world : World) (count number : ℕ) (old new : ClusterParts) (first before after : Printed)
     → HasFlown config world count old first before → ((c : Config) (w : World) → ClusterStands c old w → Some number ≡ least_unmarked w.net)
     → GoesOn (λ c w. IsDoneBy c w (Do (Deliver number))) old new before after
     → HasFlown config world (count + 1) new first after
@@ -103,7 +150,7 @@ flown_more config world count number old new first before after so least goes =
     }
 
 -- it has made all, or none is left
-pub flow_all : (config : Config) (world : World) (count : ℕ) (cluster : ClusterParts) (before after : List ℕ)
+pub flow_all : (config : Config) (world : World) (count : ℕ) (cluster : ClusterParts) (before after : Printed)
     → HasFlown config world count cluster before after
     → (happened : List Occurrence) × IsFlow config world count happened × ComesTo config world cluster before after happened
 flow_all config world count cluster before after so = (
@@ -112,7 +159,7 @@ flow_all config world count cluster before after so = (
   so.comes,
 )
 
-pub flow_stops : (config : Config) (world : World) (count made : ℕ) (cluster : ClusterParts) (before after : List ℕ) → made ≤ count
+pub flow_stops : (config : Config) (world : World) (count made : ℕ) (cluster : ClusterParts) (before after : Printed) → made ≤ count
     → HasFlown config world made cluster before after
     → ((c : Config) (w : World) → ClusterStands c cluster w → None ≡ least_unmarked w.net)
     → (happened : List Occurrence) × IsFlow config world count happened × ComesTo config world cluster before after happened
@@ -126,9 +173,35 @@ flow_stops config world count made cluster before after few so none = (
   so.comes,
 )
 
+-- a delivery whose lines aren't printed whole
+pub flow_short : (config : Config) (world : World) (count made number : ℕ) (cluster : ClusterParts) (first before : Printed)
+    (out : Option (List ℕ)) → made < count → HasFlown config world made cluster first before
+    → ((c : Config) (w : World) → ClusterStands c cluster w → Some number ≡ least_unmarked w.net)
+    → FallsShort (λ c w. IsDoneBy c w (Do (Deliver number))) cluster before out
+    → (happened : List Occurrence) × IsFlow config world count happened × AreOfMemory happened
+    × PrintsShort first out (lines_from config world happened)
+flow_short config world count made number cluster first before out few so least short =
+    let at = world_after config world so.happened in
+    let (one, (fault, is), memory, printed) = short config at so.comes.running in
+    let next : IsNext at (record { event = Deliver number; fault = fault }) =
+    (number, sym (least config at so.comes.running.stands), refl) in
+    let some = so.happened ++ one in
+    let are : AreNext config world some =
+    subst (λ (os : List Occurrence). AreNext config world (so.happened ++ os)) (sym is)
+    (next_more config world so.happened (record { event = Deliver number; fault = fault }) so.next next) in
+    let long : length some ≡ made + 1 =
+    ap (λ (os : List Occurrence). length (so.happened ++ os)) is
+    ∙ length_push so.happened (record { event = Deliver number; fault = fault }) ∙ ap (λ (n : ℕ). n + 1) so.made in
+    let (others, flow, unmet) = flow_on config (world_after config world some) (count - (made + 1)) in (
+      some ++ others,
+      flow_after config world count (made + 1) some others are long (omega (arith, few)) flow,
+      memory_more some others (memory_more so.happened one so.comes.faults memory) unmet,
+      short_on config world first before out so.happened one others so.comes.prints printed,
+    )
+
 -- ---- commands
 
-pub commands_more : (commands : List Command) (command : Command) (old middle new : ClusterParts) (first before after : List ℕ)
+pub commands_more : (commands : List Command) (command : Command) (old middle new : ClusterParts) (first before after : Printed)
     → GoesOn (λ config world. AreDoneBy config world commands) old middle first before
     → GoesOn (λ config world. IsDoneBy config world command) middle new before after
     → GoesOn (λ config world. AreDoneBy config world (commands ++ command ∷ [])) old new first after
@@ -138,4 +211,20 @@ commands_more commands command old middle new first before after so then config 
       done.0 ++ more.0,
       done_more config world commands done.0 command more.0 done.1 more.1,
       comes_on config world middle new first before after done.0 more.0 done.2 more.2,
+    )
+
+-- a command on the way to which printing stops, and those after it
+pub commands_short : (commands : List Command) (command : Command) (others : List Command) (old middle : ClusterParts)
+    (first before : Printed) (out : Option (List ℕ)) → GoesOn (λ config world. AreDoneBy config world commands) old middle first before
+    → FallsShort (λ config world. IsDoneBy config world command) middle before out
+    → FallsShort (λ config world. AreDoneBy config world ((commands ++ command ∷ []) ++ others)) old first out
+commands_short commands command others old middle first before out so short config world running =
+    let (done, are, comes) = so config world running in
+    let (one, is, memory, printed) = short config (world_after config world done) comes.running in
+    let (rest, then, unmet) = commands_on config (world_after config world (done ++ one)) others in (
+      (done ++ one) ++ rest,
+      done_on config world (commands ++ command ∷ []) others (done ++ one) rest (done_more config world commands done command one are is)
+          then,
+      memory_more (done ++ one) rest (memory_more done one comes.faults memory) unmet,
+      short_on config world first before out done one rest comes.prints printed,
     )

@@ -1,5 +1,6 @@
 -- What a script's run is: what its commands make happen, as the machine takes it, the text of that, and what looking back over it says.
-use Rattle.std.specs.Prelude.{◌≡◌, ◌⊎◌, ℕ, Bool, false, true, List}
+use Rattle.std.specs.Prelude.{◌≡◌, ◌⊎◌, ℕ, Bool, false, true, List, Option}
+use Rattle.std.specs.Io.KnownBytes.{Appends, Keeps}
 use Rattle.xid.specs.declared.refusals.Refusal.{Refusal}
 use Rattle.xid.specs.declared.refusals.Refusal.TheVariants.{NoMemory, BadConfig}
 use Rattle.cluster_run.specs.Happenings.{AreOfMemory, AreDoneBy}
@@ -13,6 +14,7 @@ use Rattle.net_script.specs.declared.values.Script.{Script}
 use Rattle.net_script.specs.declared.values.Trace.{Trace}
 use Rattle.net_script.specs.Scripts.{SpellsScript, Refuses}
 use Rattle.net_script.specs.Traces.{trace_text}
+use Rattle.net_script.specs.Writing.{BreaksOff, IsFileRefusal}
 
 -- whether there may be so many nodes of each kind
 abbrev pub is_in_limits : Sizes → Bool
@@ -46,3 +48,39 @@ RefusesSizes sizes e = (e ≡ NoMemory) ⊎ ((e ≡ BadConfig) × (is_in_limits 
 -- why a run is refused: memory, the first line at fault, or, where all lines are right, sizes outside the limits
 abbrev pub RefusesRun : List ℕ → Refusal → Type 0
 RefusesRun bytes e = Refuses bytes e ⊎ ((script : Script) × SpellsScript bytes script × RefusesSizes script.sizes e)
+
+-- ---- runs that are printed as they go on
+
+-- the text of a script's run joins what a writer has
+pub record PrintsRunOf (script : Script) (old new : Option (List ℕ)) : Type 0 where
+  pub text : List ℕ
+  pub is : IsRunOf script text
+  pub printed : Appends old new text
+
+-- a beginning of it, and not all of it, joins what a writer has
+pub record BreaksRunOff (script : Script) (old new : Option (List ℕ)) : Type 0 where
+  pub text : List ℕ
+  pub is : IsRunOf script text
+  pub broken : BreaksOff old new text
+
+-- why the run of a script isn't printed whole, and what the writer has then: its sizes are refused, or there is no memory to begin, and
+-- nothing was printed; or memory ran out later, or the writer fails, and a beginning of the text was
+abbrev pub StopsRunOf : Script → Refusal → (old new : Option (List ℕ)) → Type 0
+StopsRunOf script e old new = (RefusesSizes script.sizes e × Keeps old new) ⊎ (IsFileRefusal e × BreaksRunOff script old new)
+
+-- the text of the run of the script that the bytes spell joins what a writer has
+pub record PrintsRun (bytes : List ℕ) (old new : Option (List ℕ)) : Type 0 where
+  pub text : List ℕ
+  pub is : IsRun bytes text
+  pub printed : Appends old new text
+
+-- a beginning of it, and not all of it, joins what a writer has
+pub record BreaksRun (bytes : List ℕ) (old new : Option (List ℕ)) : Type 0 where
+  pub text : List ℕ
+  pub is : IsRun bytes text
+  pub broken : BreaksOff old new text
+
+-- why a run isn't printed whole, and what the writer has then: the run is refused, and nothing was printed; or memory ran out later, or
+-- the writer fails, and a beginning of the text was
+abbrev pub StopsRun : List ℕ → Refusal → (old new : Option (List ℕ)) → Type 0
+StopsRun bytes e old new = (RefusesRun bytes e × Keeps old new) ⊎ (IsFileRefusal e × BreaksRun bytes old new)

@@ -7,4 +7,4 @@ pub mod laws;
 mod runs;
 
 pub use clusters::config_of;
-pub use runs::run;
+pub use runs::{run, run_to};

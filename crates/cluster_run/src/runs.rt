@@ -1,13 +1,14 @@
 //! The run of a script.
 
-ghost use Rattle.std.specs.Prelude.{IfOk, IfErr};
+ghost use Rattle.std.specs.Prelude.{IfOk, IfErr, OnOk};
 ghost use Rattle.net_script.specs.Scripts.{IsScript};
-ghost use Rattle.cluster_run.specs.Runs.{IsRun, IsRunOf, RefusesRun, RefusesSizes};
+ghost use Rattle.cluster_run.specs.Runs.{IsRun, PrintsRun, PrintsRunOf, RefusesRun, StopsRun, StopsRunOf};
 
 use crate::clusters::{config_of, final_rows, opened};
 use crate::happenings::carry_out_all;
-use net_script::{Script, read_script, write_finals, write_head};
+use net_script::{Script, read_script, write_finals, write_head, write_text};
 use std::alloc::Global;
+use std::io::Write;
 use xid::Refusal;
 
 /// Runs a script over a whole cluster, whose nodes have records in memory, and gives the text of its trace: that of the machine for what
@@ -19,15 +20,31 @@ pub fn run(alloc: Global, script: &[u8]) -> Result<Vec<u8>, Refusal>
     ensures ok { IfOk result (λ output. IsRun script.now output.items) }
     ensures err { IfErr result (RefusesRun script.now) }
 {
-    let script = read_script(alloc, script)?;
-    run_script(alloc, script)
+    let mut output = Vec::new(alloc);
+    match run_to(alloc, script, &mut output) {
+        Ok(()) => Ok(output),
+        // a vector refuses what is written for want of memory alone
+        Err(Refusal::FileFault) => Err(Refusal::NoMemory),
+        Err(refusal) => Err(refusal),
+    }
 }
 
-/// The text of the trace of a script. Refused: sizes outside the limits (`BadConfig`), or `NoMemory`.
-fn run_script(alloc: Global, script: Script) -> Result<Vec<u8>, Refusal>
+/// Runs a script as `run` does, and prints the text on a writer, in pieces of 64 KiB, as events are done, so that no more of it is kept.
+/// Refused as a run is, with nothing printed; and `NoMemory`, where memory runs out later, or as `write_text` is: then a beginning of the
+/// text is printed, and nothing else.
+pub fn run_to<W: Write>(alloc: Global, script: &[u8], out: &mut W) -> Result<(), Refusal>
+    ensures ok { OnOk result (PrintsRun script.now (W.contents out.old) (W.contents out.new)) }
+    ensures err { IfErr result (λ e. StopsRun script.now e (W.contents out.old) (W.contents out.new)) }
+{
+    let script = read_script(alloc, script)?;
+    run_script(alloc, script, out)
+}
+
+/// Prints the text of the trace of a script. Refused: sizes outside the limits (`BadConfig`), `NoMemory`, and as `write_text` is.
+fn run_script<W: Write>(alloc: Global, script: Script, out: &mut W) -> Result<(), Refusal>
     requires { IsScript script }
-    ensures ok { IfOk result (λ output. IsRunOf script output.items) }
-    ensures err { IfErr result (RefusesSizes script.sizes) }
+    ensures ok { OnOk result (PrintsRunOf script (W.contents out.old) (W.contents out.new)) }
+    ensures err { IfErr result (λ e. StopsRunOf script e (W.contents out.old) (W.contents out.new)) }
 {
     let Script {
         sizes,
@@ -37,13 +54,13 @@ fn run_script(alloc: Global, script: Script) -> Result<Vec<u8>, Refusal>
     let first = tables.as_slice();
     let config = config_of(alloc, sizes, first)?;
     let mut cluster = opened(alloc, &config)?;
-    let mut out = Vec::new(alloc);
-    write_head(alloc, &mut out, sizes, first)?;
-    carry_out_all(alloc, &mut cluster, &mut out, commands.into_vec())?;
+    let mut piece = Vec::new(alloc);
+    write_head(alloc, &mut piece, sizes, first)?;
+    carry_out_all(alloc, &mut cluster, &mut piece, out, commands.into_vec())?;
     let finals = match final_rows(alloc, &mut cluster, config.sizes().managers) {
         Ok(finals) => finals,
         Err(refusal) => return Err(refusal),
     };
-    write_finals(alloc, &mut out, &finals)?;
-    Ok(out)
+    write_finals(alloc, &mut piece, &finals)?;
+    write_text(&piece, out)
 }

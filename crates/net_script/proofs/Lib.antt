@@ -18,3 +18,4 @@ pub mod MoreLines
 pub mod EndedText
 pub mod TraceLoop
 pub mod ReaderLemmas
+pub mod WritingLemmas

@@ -15,3 +15,4 @@ pub mod Traces
 pub mod TraceLines
 pub mod TraceReading
 pub mod TraceReaders
+pub mod Writing

@@ -29,6 +29,7 @@ mod traces;
 mod values;
 mod word;
 mod words;
+mod writing;
 
 pub use answers::put_answer;
 pub use args::{last_node, last_tx, node};
@@ -41,3 +42,4 @@ pub use trace_reading::{one_trace, read_trace};
 pub use traces::{write_finals, write_head, write_step, write_trace};
 pub use values::{Command, Entry, Script, Sizes, Table, Trace};
 pub use words::{is_over, next_word};
+pub use writing::{file_refusal, write_number, write_text};

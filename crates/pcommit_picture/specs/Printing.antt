@@ -1,30 +1,14 @@
 -- What the program is asked, and what it prints.
-use Rattle.std.specs.Prelude.{◌≡◌, ◌⊎◌, ℕ, ◌<◌, List, [], ◌∷◌, ◌++◌, length, Option, Result, MatchResult, codes, decimal}
+use Rattle.std.specs.Prelude.{◌≡◌, ◌⊎◌, ℕ, List, [], ◌∷◌, ◌++◌, Option, codes, decimal}
 use Rattle.std.specs.Io.KnownBytes.{Appends, Keeps}
 use Rattle.xid.specs.declared.refusals.Refusal.{Refusal}
-use Rattle.xid.specs.declared.refusals.Refusal.TheVariants.{BadScript, NoMemory, FileFault}
+use Rattle.xid.specs.declared.refusals.Refusal.TheVariants.{BadScript}
 use Rattle.xid.specs.Refusals.{number_of}
 use Rattle.net_script.specs.TraceReading.{RefusesTrace}
+use Rattle.net_script.specs.Writing.{BreaksOff, IsFileRefusal, TriesToAppend}
 use Rattle.picture.specs.Pictures.{IsPictureOf}
 
--- ---- texts that are written
-
--- a beginning of the text, and not all of it, joins what a writer has
-abbrev pub BreaksOff : (old new : Option (List ℕ)) → (text : List ℕ) → Type 0
-BreaksOff old new text =
-    (written : List ℕ) × (rest : List ℕ) × (text ≡ written ++ rest) × (0 < length rest) × Appends old new written
-
--- the text joins what a writer has, or a beginning of it where the writer fails
-abbrev pub TriesToAppend : (old new : Option (List ℕ)) → (text : List ℕ) → Type 0
-TriesToAppend old new text = Appends old new text ⊎ BreaksOff old new text
-
--- the refusals of a file that can't be read or written: its own, and want of memory
-abbrev pub IsFileRefusal : Refusal → Type 0
-IsFileRefusal refusal = (refusal ≡ NoMemory) ⊎ (refusal ≡ FileFault)
-
--- the text joins what a writer has, or the writer fails, and then a beginning of the text joins it and nothing else
-abbrev pub WritesText : {X : Type 0} → (old new : Option (List ℕ)) → Result X Refusal → (text : List ℕ) → Type 0
-WritesText old new result text = MatchResult result (λ _. Appends old new text) (λ e. IsFileRefusal e × BreaksOff old new text)
+-- ---- lines
 
 -- the line of a refusal, with the line at fault where there is one
 abbrev pub refusal_line : Refusal → List ℕ

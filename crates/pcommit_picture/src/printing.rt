@@ -1,15 +1,15 @@
 //! The edge of the program: its command line, its file, and what it prints.
 
-ghost use Rattle.std.specs.Prelude.{◌≡◌, ◌≤◌, ◌++◌, ◌∷◌, [], map, decimal, IfErr, MatchOption, OnOk};
+ghost use Rattle.std.specs.Prelude.{◌≡◌, ◌≤◌, map, IfErr, MatchOption, OnOk};
 ghost use Rattle.std.specs.Io.KnownBytes.{Keeps};
-ghost use Rattle.pcommit_picture.specs.Printing.{Draws, DrawsFile, IsFileRefusal, IsMisuse, IsRefused, Names, RefusesFile};
-ghost use Rattle.pcommit_picture.specs.Printing.{TriesToAppend, WritesText, refusal_line, usage_line};
+ghost use Rattle.net_script.specs.Writing.{TriesToAppend, WritesText};
+ghost use Rattle.pcommit_picture.specs.Printing.{Draws, DrawsFile, IsMisuse, IsRefused, Names, RefusesFile, refusal_line, usage_line};
 
-use itoa::Buffer;
+use net_script::{file_refusal, write_number, write_text};
 use picture::picture;
 use std::convert::AsStr;
+use std::fs;
 use std::io::Write;
-use std::{fs, io};
 use xid::Refusal;
 
 /// The line for a command line that is refused.
@@ -104,49 +104,5 @@ fn report<E: Write>(refusal: Refusal, err: &mut E) -> Result<(), Refusal>
             usize::from(other.number()),
             err,
         ),
-    }
-}
-
-/// Writes a line that ends in a number.
-fn write_number<E: Write>(head: &str, number: usize, err: &mut E) -> Result<(), Refusal>
-    ensures { WritesText (E.contents err.old) (E.contents err.new) result (head.now ++ decimal number ++ 10 ∷ []) }
-{
-    let mut digits = Buffer::new();
-    write_text(head.as_bytes(), err)?;
-    write_text(digits.format(number).as_bytes(), err)?;
-    write_text(b"\n", err)
-}
-
-/// Writes a text, one `write` after another: `write_all` doesn't say what stands after it failed.
-fn write_text<W: Write>(text: &[u8], out: &mut W) -> Result<(), Refusal>
-    ensures { WritesText (W.contents out.old) (W.contents out.new) result text.now }
-{
-    let mut rest = text;
-    for _ in 0..u64::MAX {
-        if rest.is_empty() {
-            return Ok(());
-        }
-        match out.write(rest) {
-            Ok(0) => return Err(Refusal::FileFault),
-            Ok(count) => rest = &rest[count..],
-            Err(error) => {
-                if error.kind() != io::ErrorKind::Interrupted {
-                    return Err(file_refusal(error));
-                }
-            }
-        }
-    }
-    if rest.is_empty() {
-        return Ok(());
-    }
-    Err(Refusal::FileFault)
-}
-
-fn file_refusal(error: io::Error) -> Refusal
-    ensures { IsFileRefusal result }
-{
-    match error.kind() {
-        io::ErrorKind::OutOfMemory => Refusal::NoMemory,
-        _ => Refusal::FileFault,
     }
 }

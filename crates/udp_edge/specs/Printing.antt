@@ -1,37 +1,21 @@
 -- What is printed.
-use Rattle.std.specs.Prelude.{◌≡◌, ◌⊎◌, ℕ, ◌<◌, Bool, true, false, List, [], ◌∷◌, ◌++◌, length, Option, Result, MatchResult, codes, decimal}
+use Rattle.std.specs.Prelude.{◌≡◌, ◌⊎◌, ℕ, Bool, true, false, List, [], ◌∷◌, ◌++◌, Option, codes, decimal}
 use Rattle.std.specs.Io.KnownBytes.{Appends, Keeps}
 use Rattle.clap.specs.Words.{Text}
 use Rattle.xid.specs.declared.refusals.Refusal.{Refusal}
-use Rattle.xid.specs.declared.refusals.Refusal.TheVariants.{BadScript, NoMemory, FileFault}
+use Rattle.xid.specs.declared.refusals.Refusal.TheVariants.{BadScript, NoMemory}
 use Rattle.xid.specs.Refusals.{number_of}
 use Rattle.cluster_run.specs.Runs.{IsRun, RefusesRun}
 use Rattle.udp_run.specs.Runs.{IsUdpRun, RefusesUdp}
 use Rattle.net_script.specs.declared.values.Trace.{Trace}
 use Rattle.net_script.specs.TraceReading.{SpellsTrace, RefusesTrace}
+use Rattle.net_script.specs.Writing.{BreaksOff, IsFileRefusal, TriesToAppend}
 use Rattle.audit.specs.Consistent.{is_consistent}
 use Rattle.udp_edge.specs.CommandLines.{AsksFor}
 use Rattle.udp_edge.specs.declared.command.Subcommand.{Subcommand}
 use Rattle.udp_edge.specs.declared.command.Subcommand.TheVariants.{Run, Udp, Audit}
 use Rattle.udp_edge.specs.declared.command.Rejected.{Rejected}
 use Rattle.udp_edge.specs.declared.command.Rejected.TheVariants as rejected
-
--- a beginning of the text, and not all of it, joins what a writer has
-abbrev pub BreaksOff : (old new : Option (List ℕ)) → (text : List ℕ) → Type 0
-BreaksOff old new text =
-    (written : List ℕ) × (rest : List ℕ) × (text ≡ written ++ rest) × (0 < length rest) × Appends old new written
-
--- the text joins what a writer has, or a beginning of it where the writer fails
-abbrev pub TriesToAppend : (old new : Option (List ℕ)) → (text : List ℕ) → Type 0
-TriesToAppend old new text = Appends old new text ⊎ BreaksOff old new text
-
--- the refusals of a file that can't be read or written: its own, and want of memory
-abbrev pub IsFileRefusal : Refusal → Type 0
-IsFileRefusal refusal = (refusal ≡ NoMemory) ⊎ (refusal ≡ FileFault)
-
--- the text joins what a writer has, or the writer fails, and then a beginning of the text joins it and nothing else
-abbrev pub WritesText : {X : Type 0} → (old new : Option (List ℕ)) → Result X Refusal → (text : List ℕ) → Type 0
-WritesText old new result text = MatchResult result (λ _. Appends old new text) (λ e. IsFileRefusal e × BreaksOff old new text)
 
 -- what the auditor says of a trace, and the exit status
 abbrev pub IsVerdict : Bool → (status : ℕ) → (text : List ℕ) → Type 0
@@ -70,7 +54,7 @@ pub record BreaksOffIn (subcommand : Subcommand) (bytes : List ℕ) (old new : O
   pub broken : BreaksOff old new text
 
 -- why a subcommand is refused over some bytes, and what a writer has then: nothing new where the bytes are refused, and a beginning of
--- the text where that can't be written
+-- the text where that can't be written, or a run is out of memory once its first piece was
 abbrev pub Refuses : Subcommand → (bytes : List ℕ) → Refusal → (old new : Option (List ℕ)) → Type 0
 Refuses subcommand bytes refusal old new =
     (RefusesBytes subcommand bytes refusal × Keeps old new) ⊎ (IsFileRefusal refusal × BreaksOffIn subcommand bytes old new)

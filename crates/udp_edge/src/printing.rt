@@ -1,19 +1,19 @@
-ghost use Rattle.std.specs.Prelude.{◌≡◌, ◌<◌, ◌≤◌, ◌++◌, ◌∷◌, [], map, decimal, IfOk, IfErr};
+ghost use Rattle.std.specs.Prelude.{◌≡◌, ◌<◌, ◌≤◌, map, IfOk, IfErr};
 ghost use Rattle.std.specs.Io.KnownBytes.{Keeps};
 ghost use Rattle.net_script.specs.TraceReading.{RefusesTrace};
-ghost use Rattle.udp_edge.specs.Printing.{IsOutput, IsAudited, RefusesBytes, PrintsOf, Refuses, PrintsFile, RefusesFile, CarriesOut};
-ghost use Rattle.udp_edge.specs.Printing.{IsRefused, IsFileRefusal, TriesToAppend, WritesText, refusal_line, rejection_line, usage_line};
+ghost use Rattle.net_script.specs.Writing.{TriesToAppend, WritesText};
+ghost use Rattle.udp_edge.specs.Printing.{IsAudited, PrintsOf, Refuses, PrintsFile, RefusesFile, CarriesOut, IsRefused};
+ghost use Rattle.udp_edge.specs.Printing.{refusal_line, rejection_line, usage_line};
 ghost use Rattle.udp_edge.specs.CommandLines.{IsMisuse, exit_status};
 
 use crate::command::{Rejected, Subcommand, action};
 use audit::audit;
-use cluster_run::run;
-use itoa::Buffer;
-use net_script::read_trace;
+use cluster_run::run_to;
+use net_script::{file_refusal, read_trace, write_number, write_text};
 use std::alloc::Global;
 use std::convert::AsStr;
+use std::fs;
 use std::io::Write;
-use std::{fs, io};
 use udp_run::udp;
 use xid::Refusal;
 
@@ -89,16 +89,6 @@ fn report<E: Write>(refusal: Refusal, err: &mut E) -> Result<(), Refusal>
     }
 }
 
-/// Writes a line that ends in a number.
-fn write_number<E: Write>(head: &str, number: usize, err: &mut E) -> Result<(), Refusal>
-    ensures { WritesText (E.contents err.old) (E.contents err.new) result (head.now ++ decimal number ++ 10 ∷ []) }
-{
-    let mut digits = Buffer::new();
-    write_text(head.as_bytes(), err)?;
-    write_text(digits.format(number).as_bytes(), err)?;
-    write_text(b"\n", err)
-}
-
 /// The file of a subcommand.
 fn file_of<'a>(subcommand: Subcommand<'a>) -> &'a str {
     match subcommand {
@@ -123,7 +113,7 @@ fn answer_file<W: Write>(
 
 /// Carries out a subcommand over the bytes of its file, and gives the exit status: 0, or 1 where a trace was audited that doesn't keep
 /// what was promised. Refused as the run or the audit is, with nothing printed; and `FileFault`, or want of memory, where the output
-/// can't be written, of which a beginning, and nothing else, stands then.
+/// can't be written, or a run is out of memory once its first piece was: a beginning of the text, and nothing else, stands then.
 pub fn answer<W: Write>(
     rt: HostRuntime,
     subcommand: Subcommand,
@@ -134,35 +124,30 @@ pub fn answer<W: Write>(
         (λ status. (status < 2) × PrintsOf subcommand.entry bytes.now status (W.contents out.old) (W.contents out.new)) }
     ensures err { IfErr result (λ e. Refuses subcommand.entry bytes.now e (W.contents out.old) (W.contents out.new)) }
 {
-    let (text, status) = match output_of(rt, subcommand, bytes) {
-        Ok(output) => output,
-        Err(refusal) => return Err(refusal),
-    };
-    match write_text(&text, out) {
-        Ok(()) => Ok(status),
-        Err(refusal) => Err(refusal),
-    }
-}
-
-/// What a subcommand makes of the bytes of its file: the text to print, and the exit status.
-fn output_of(
-    rt: HostRuntime,
-    subcommand: Subcommand,
-    bytes: &[u8],
-) -> Result<(Vec<u8>, u8), Refusal>
-    ensures ok { IfOk result (λ output. (output.1 < 2) × IsOutput subcommand.entry bytes.now output.1 output.0.items) }
-    ensures err { IfErr result (RefusesBytes subcommand.entry bytes.now) }
-{
     match subcommand {
-        Subcommand::Run { .. } => match run(rt.alloc(), bytes) {
-            Ok(text) => Ok((text, DONE)),
+        Subcommand::Run { .. } => match run_to(rt.alloc(), bytes, out) {
+            Ok(()) => Ok(DONE),
             Err(refusal) => Err(refusal),
         },
         Subcommand::Udp { folder, .. } => match udp(rt, bytes, folder) {
-            Ok(text) => Ok((text, DONE)),
+            Ok(text) => print_whole(&text, DONE, out),
             Err(refusal) => Err(refusal),
         },
-        Subcommand::Audit { .. } => audited(rt.alloc(), bytes),
+        Subcommand::Audit { .. } => match audited(rt.alloc(), bytes) {
+            Ok((text, status)) => print_whole(&text, status, out),
+            Err(refusal) => Err(refusal),
+        },
+    }
+}
+
+/// Prints a text, and gives the exit status.
+fn print_whole<W: Write>(text: &[u8], status: u8, out: &mut W) -> Result<u8, Refusal>
+    ensures status { IfOk result (λ given. given ≡ status) }
+    ensures text { WritesText (W.contents out.old) (W.contents out.new) result text.now }
+{
+    match write_text(text, out) {
+        Ok(()) => Ok(status),
+        Err(refusal) => Err(refusal),
     }
 }
 
@@ -183,38 +168,4 @@ fn audited(alloc: Global, bytes: &[u8]) -> Result<(Vec<u8>, u8), Refusal>
         return Ok((Vec::from_slice(alloc, b"consistent\n")?, DONE));
     }
     Ok((Vec::from_slice(alloc, b"inconsistent\n")?, INCONSISTENT))
-}
-
-/// Writes a text, one `write` after another: `write_all` doesn't say what stands after it failed.
-fn write_text<W: Write>(text: &[u8], out: &mut W) -> Result<(), Refusal>
-    ensures { WritesText (W.contents out.old) (W.contents out.new) result text.now }
-{
-    let mut rest = text;
-    for _ in 0..u64::MAX {
-        if rest.is_empty() {
-            return Ok(());
-        }
-        match out.write(rest) {
-            Ok(0) => return Err(Refusal::FileFault),
-            Ok(count) => rest = &rest[count..],
-            Err(error) => {
-                if error.kind() != io::ErrorKind::Interrupted {
-                    return Err(file_refusal(error));
-                }
-            }
-        }
-    }
-    if rest.is_empty() {
-        return Ok(());
-    }
-    Err(Refusal::FileFault)
-}
-
-fn file_refusal(error: io::Error) -> Refusal
-    ensures { IsFileRefusal result }
-{
-    match error.kind() {
-        io::ErrorKind::OutOfMemory => Refusal::NoMemory,
-        _ => Refusal::FileFault,
-    }
 }

@@ -2,7 +2,8 @@ use Rattle.std.proofs.Common.{Option, rules, ℕ, List, [], ◌∷◌, ◌++◌,
 use Rattle.xid.specs.Refusals.{number_of}
 use Rattle.xid.specs.declared.refusals.Refusal.{Refusal}
 use Rattle.xid.specs.declared.refusals.Refusal.TheVariants.{BadScript}
-use Rattle.pcommit_picture.specs.Printing.{WritesText, refusal_line}
+use Rattle.net_script.specs.Writing.{WritesText}
+use Rattle.pcommit_picture.specs.Printing.{refusal_line}
 use Rattle.pcommit_picture.proofs.printing.report.Goals as goal
 
 -- any other refusal has its number in its line, and no more

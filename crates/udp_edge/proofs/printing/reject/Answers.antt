@@ -1,6 +1,7 @@
 use Rattle.std.proofs.Common.{◌≡◌, sym, ◌∙◌, ap, subst, List, ℕ, Option}
-use Rattle.udp_edge.specs.Printing.{TriesToAppend, rejection_line}
-use Rattle.udp_edge.proofs.PrintingLemmas.{tries_to_append}
+use Rattle.net_script.specs.Writing.{TriesToAppend}
+use Rattle.net_script.proofs.WritingLemmas.{tries_to_append}
+use Rattle.udp_edge.specs.Printing.{rejection_line}
 use Rattle.udp_edge.proofs.printing.reject.Goals as goal
 
 pub returns-in-Usage-clause-line : goal.returns-in-Usage-clause-line

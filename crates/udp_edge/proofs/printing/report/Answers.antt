@@ -2,7 +2,8 @@ use Rattle.std.proofs.Common.{Option, rules, ℕ, List, [], ◌∷◌, ◌++◌,
 use Rattle.xid.specs.Refusals.{number_of}
 use Rattle.xid.specs.declared.refusals.Refusal.{Refusal}
 use Rattle.xid.specs.declared.refusals.Refusal.TheVariants.{BadScript}
-use Rattle.udp_edge.specs.Printing.{WritesText, refusal_line}
+use Rattle.net_script.specs.Writing.{WritesText}
+use Rattle.udp_edge.specs.Printing.{refusal_line}
 use Rattle.udp_edge.proofs.printing.report.Goals as goal
 
 -- any other refusal has its number in its line, and no more

@@ -1,11 +1,11 @@
--- What several writes leave together.
+-- What several writes of a text leave together: for `write_text`, `write_number` and those who print lines.
 use Rattle.std.proofs.Common.{arith, sym, ap, subst, inl, inr, ◌≡◌, ◌∙◌, ℕ, ◌<◌, ◌-◌, Option, Result, Ok, Err}
 use Rattle.std.proofs.Common.{List, ◌++◌, length, length-append, append_assoc, take, drop, take-append-drop}
 use Rattle.std.proofs.lemmas.List.{take_rest}
 use Rattle.std.specs.Io.KnownBytes.{Appends, Keeps}
 use Rattle.std.proofs.KnownBytes.{Appends-trans, Appends-kept}
 use Rattle.xid.specs.declared.refusals.Refusal.{Refusal}
-use Rattle.pcommit_picture.specs.Printing.{BreaksOff, TriesToAppend, WritesText}
+use Rattle.net_script.specs.Writing.{BreaksOff, TriesToAppend, WritesText}
 
 -- a text is written but for this rest
 abbrev pub IsWrittenBut : (old new : Option (List ℕ)) (text rest : List ℕ) → Type 0

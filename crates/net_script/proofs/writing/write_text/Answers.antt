@@ -1,7 +1,7 @@
 use Rattle.std.proofs.Common.{sym, subst, Bor, List, ℕ, Option}
-use Rattle.udp_edge.proofs.PrintingLemmas.{IsWrittenBut, writes_front, writes_nothing}
-use Rattle.udp_edge.proofs.printing.write_text.Goals.{in-Ok, in-Err+else-ne}
-use Rattle.udp_edge.proofs.printing.write_text.Goals as goal
+use Rattle.net_script.proofs.WritingLemmas.{IsWrittenBut, writes_front, writes_nothing}
+use Rattle.net_script.proofs.writing.write_text.Goals.{in-Ok, in-Err+else-ne}
+use Rattle.net_script.proofs.writing.write_text.Goals as goal
 
 pub loop-preserved : goal.loop-preserved
 loop-preserved g c =

@@ -1,5 +1,0 @@
-use Rattle.pcommit_picture.proofs.PrintingLemmas.{IsWrittenBut}
-use Rattle.pcommit_picture.proofs.printing.write_text.Given as goal
-
-abbrev pub invariant-loop : goal.invariant-loop
-invariant-loop g l = IsWrittenBut (g.W.Write.contents l.initial.out) (g.W.Write.contents l.out) l.text l.rest
