@@ -7,9 +7,9 @@ ghost use Rattle.udp_edge.specs.Printing.{refusal_line, rejection_line, usage_li
 ghost use Rattle.udp_edge.specs.CommandLines.{IsMisuse, exit_status};
 
 use crate::command::{Rejected, Subcommand, action};
-use audit::audit;
+use audit::audit_text;
 use cluster_run::run_to;
-use net_script::{file_refusal, read_trace, write_number, write_text};
+use net_script::{file_refusal, write_number, write_text};
 use std::alloc::Global;
 use std::convert::AsStr;
 use std::fs;
@@ -156,11 +156,7 @@ fn audited(alloc: Global, bytes: &[u8]) -> Result<(Vec<u8>, u8), Refusal>
     ensures ok { IfOk result (λ output. (output.1 < 2) × IsAudited bytes.now output.1 output.0.items) }
     ensures err { IfErr result (RefusesTrace bytes.now) }
 {
-    let trace = match read_trace(alloc, bytes) {
-        Ok(trace) => trace,
-        Err(refusal) => return Err(refusal),
-    };
-    let is_consistent = match audit(alloc, &trace) {
+    let is_consistent = match audit_text(alloc, bytes) {
         Ok(is_consistent) => is_consistent,
         Err(refusal) => return Err(refusal),
     };
