@@ -12,7 +12,7 @@ use common::{message_of, sum_of, tx_of};
 use leader::{Leader, LeaderDecision, LeaderSends};
 use std::alloc::Global;
 use std::env;
-use wire::{InstanceAccept, InstanceReport, Items, Kind, Message};
+use wire::{InstanceAccept, InstanceReport, Items, Kind, MAX_DATAGRAM, encode, view_of};
 use xid::{MAX_BRANCHES, ManagerNumber, Refusal, Tx, Vote};
 
 const USAGE: &str =
@@ -90,22 +90,25 @@ fn bundle(course: Course, tx: Tx, acceptor: u8) -> Kind {
     }
 }
 
+/// The bytes of a message.
+fn bytes_of(alloc: Global, kind: Kind) -> anyhow::Result<Vec<u8>> {
+    let mut bytes = [0; MAX_DATAGRAM];
+    let len = encode(&message_of(kind)?, &mut bytes);
+    Ok(Vec::from_slice(alloc, &bytes[..len])?)
+}
+
 /// The messages of both acceptors, one acceptor after the other.
-fn messages_of(
-    alloc: Global,
-    course: Course,
-    transactions: u32,
-) -> Result<Vec<Message>, Refusal> {
+fn messages_of(alloc: Global, course: Course, transactions: u32) -> anyhow::Result<Vec<Vec<u8>>> {
     let mut messages = Vec::new(alloc);
     for acceptor in 0..2 {
         for number in 0..transactions {
             let tx = tx_of(number, course.branches)?;
             if course.bundled {
-                messages.push(message_of(bundle(course, tx, acceptor))?)?;
+                messages.push(bytes_of(alloc, bundle(course, tx, acceptor))?)?;
             } else {
                 for place in 0..tx.count() {
                     let instance = place as ManagerNumber;
-                    messages.push(message_of(single(course, tx, instance, acceptor))?)?;
+                    messages.push(bytes_of(alloc, single(course, tx, instance, acceptor))?)?;
                 }
             }
         }
@@ -137,7 +140,7 @@ fn take_over(leader: &mut Leader, tx: &Tx, decision: &mut LeaderDecision) -> Res
 fn play_all(
     leader: &mut Leader,
     timeouts: &[Tx],
-    messages: &[Message],
+    messages: &[Vec<u8>],
     decision: &mut LeaderDecision,
 ) -> Result<(u64, u64), Refusal> {
     let mut events: u64 = 0;
@@ -147,8 +150,8 @@ fn play_all(
         sent = sent.wrapping_add(decision.sends.count() as u64);
         events = events.wrapping_add(1);
     }
-    for message in messages {
-        leader.decide(message, decision)?;
+    for bytes in messages {
+        leader.decide(&view_of(bytes)?, decision)?;
         sent = sent.wrapping_add(decision.sends.count() as u64);
         events = events.wrapping_add(1);
     }

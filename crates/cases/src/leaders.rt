@@ -7,6 +7,7 @@ use crate::{codec, records, words};
 use leader::{Leader, LeaderDecision};
 use stable_record::FactKind;
 use std::alloc::Global;
+use wire::{MAX_DATAGRAM, encode, view_of};
 
 /// Runs the calls of a case: `NUMBER ACCEPTORS LEADERS MANAGERS`, and `bundled` in a bundled cluster.
 pub fn run(alloc: Global, rest: &[u8], calls: &[String], page: &mut Page) -> Result<(), Stop> {
@@ -51,6 +52,16 @@ fn time_out(leader: &mut Leader, tx: &[u8], page: &mut Page) -> Result<(), Stop>
     say(decision, page)
 }
 
+/// A message comes.
+fn hear(leader: &mut Leader, alloc: Global, words: &[u8], page: &mut Page) -> Result<(), Stop> {
+    let mut bytes = [0; MAX_DATAGRAM];
+    let len = encode(&codec::message(alloc, words)?, &mut bytes);
+    let Ok(message) = view_of(&bytes[..len]) else {
+        return Err(Stop::Unread);
+    };
+    say(wanted(leader.on_message(&message))?, page)
+}
+
 impl Part for Leader {
     fn call(&mut self, alloc: Global, line: &[u8], page: &mut Page) -> Result<(), Stop> {
         let (verb, rest) = words::cut(line);
@@ -61,10 +72,7 @@ impl Part for Leader {
             }
             b"timeout" => time_out(self, rest, page),
             b"status" => say(self.status(&words::tx(rest)?), page),
-            b"hear" => {
-                let decision = wanted(self.on_message(&codec::message(alloc, rest)?))?;
-                say(decision, page)
-            }
+            b"hear" => hear(self, alloc, rest, page),
             b"play" => {
                 let played = self.play(records::fact(alloc, rest)?);
                 page.played(played)

@@ -1,3 +1,4 @@
+pub mod Bundled
 pub mod Basics
 pub mod Choosing
 pub mod PlaceSteps

@@ -1,12 +1,12 @@
 -- A ballot that is made ready for, and one that is stored.
-use Rattle.std.proofs.Common.{◌≡◌, ◌∙◌, ℕ, ◌<◌, Bool, true, false, ◌&&◌, ◌||◌, List, [], ◌∷◌, ◌++◌, sym, ap, refl, subst}
+use Rattle.std.proofs.Common.{◌≡◌, ◌∙◌, ℕ, ◌<◌, ◌≤◌, ◌==◌, Bool, true, false, ◌&&◌, ◌||◌, List, [], ◌∷◌, ◌++◌, sym, ap, refl, subst}
 use Rattle.std.specs.Prelude.{if◌then◌else◌, nat_lt, Some, Result, Ok, Err, OnOk, OnErr, IfErr}
 use Rattle.std.specs.List.{list_any}
-use Rattle.std.proofs.lemmas.Bool.{false≢true, lt-ltb, eq-eqb, and_from}
+use Rattle.std.proofs.lemmas.Bool.{false≢true, lt-ltb, le-ltb, eq-eqb, and_from}
 use Rattle.std.proofs.lemmas.List.Folds.{list_any-append}
 use Rattle.xid.specs.Transactions.{TxParts, tx_eq}
 use Rattle.xid.specs.declared.refusals.Refusal.{Refusal}
-use Rattle.xid.specs.declared.refusals.Refusal.TheVariants.{NoMemory}
+use Rattle.xid.specs.declared.refusals.Refusal.TheVariants.{Damaged, NoMemory}
 use Rattle.ballot.specs.Ballots.{owner_of}
 use Rattle.stable_record.specs.declared.fact.FactKind.{FactKind as Fact}
 use Rattle.stable_record.specs.Parts.{IsPlayed, IsMadeReady}
@@ -119,6 +119,19 @@ played config number memory inner old courses tx b fact r is names more owned ch
               stands_still config number old (with_courses inner courses) (kept_same config number inner old courses is kept) facts memory
               stands,
         )
+
+-- a ballot that is no greater than the greatest stored one doesn't play
+pub too_low : (config : Config) (number : ℕ) (memory : LeaderMemory) (inner old : LeaderParts) (tx : TxParts) (b : ℕ) (fact : Fact)
+    → inner ≡ old → fact ≡ Fact.Ballot tx b → b ≤ (course_of inner tx).greatest
+    → IsPlayed (leader_part config number memory) old old fact (Err Damaged)
+too_low config number memory inner old tx b fact is names low = (
+  λ facts stands.
+      ap (λ f. rules.plays_at_leader config.leaders number (last_ballot facts) f) names
+      ∙ plays_here config number inner tx b (last_ballot facts) memory
+      (moved config number inner old (last_ballot facts) memory is stands.ballots)
+      ∙ (λ k. le-ltb (course_of inner tx).greatest b low k && (owner_of inner.leaders b == inner.number)),
+  λ facts stands. stands,
+)
 
 -- a place made for a fact, or not for want of memory
 pub made_ready : (config : Config) (number : ℕ) (memory : LeaderMemory) (inner old : LeaderParts) (courses : CoursesParts)

@@ -6,6 +6,7 @@ ghost use Rattle.leader.specs.Compaction.{ballot_facts, compacted};
 use crate::courses::Courses;
 use stable_record::{Fact, FactKind};
 use std::alloc::Global;
+use wire::{MAX_TX_BYTES, SpelledTx};
 use xid::{Ballot, Refusal, Tx};
 
 /// Puts the greatest ballot of a transaction, if it has one, after other facts.
@@ -26,12 +27,14 @@ pub fn facts_of(alloc: Global, courses: &Courses) -> Result<Vec<Fact>, Refusal>
     ensures err { IfErr result (λ e. e ≡ NoMemory) }
 {
     let mut facts = Vec::new(alloc);
+    let mut buffer = [0; MAX_TX_BYTES];
     for i in 0..courses.begun_count() {
         let Some(tx) = courses.begun_at(i) else {
             unreachable!();
         };
-        let place = courses.place_of(&tx);
-        put_ballot(&mut facts, &tx, courses.greatest_at(&tx, place))?;
+        let spelled = SpelledTx::of(&tx, &mut buffer);
+        let place = courses.place_of(&spelled);
+        put_ballot(&mut facts, &tx, courses.greatest_at(&spelled, place))?;
     }
     Ok(facts)
 }

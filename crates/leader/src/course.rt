@@ -19,8 +19,8 @@ use ballot::Quorum;
 use protocol::Status;
 use std::alloc::Global;
 use std::marker::Model;
-use wire::{InstanceAccept, InstanceReport};
-use xid::{Ballot, ManagerNumber, Refusal, Tx, Vote};
+use wire::{InstanceAccept, InstanceReport, SpelledTx};
+use xid::{Ballot, ManagerNumber, Refusal, Vote};
 
 /// One transaction at a leader.
 #[derive(Debug, Drop)]
@@ -46,7 +46,7 @@ impl Model for Course {
     } };
 }
 
-fn instances_of(alloc: Global, tx: &Tx) -> Result<Vec<InstanceCourse>, Refusal>
+fn instances_of(alloc: Global, tx: &SpelledTx<'_>) -> Result<Vec<InstanceCourse>, Refusal>
     ensures ok { IfOk result (λ rows. rows.items ≡ map fresh_instance (participants tx.now)) }
     ensures err { IfErr result (λ e. e ≡ NoMemory) }
 {
@@ -59,7 +59,7 @@ fn instances_of(alloc: Global, tx: &Tx) -> Result<Vec<InstanceCourse>, Refusal>
 
 impl Course {
     /// A transaction that the leader doesn't know.
-    pub fn new(alloc: Global, tx: &Tx) -> Result<Course, Refusal>
+    pub fn new(alloc: Global, tx: &SpelledTx<'_>) -> Result<Course, Refusal>
         ensures ok { IfOk result (λ c. c ≡ fresh tx.now) }
         ensures err { IfErr result (λ e. e ≡ NoMemory) }
     {

@@ -18,7 +18,7 @@ use stable_record::Fact;
 use std::alloc::Global;
 use std::marker::Model;
 use transactions::{Order, Transactions};
-use wire::{InstanceAccept, InstanceReport};
+use wire::{InstanceAccept, InstanceReport, SpelledTx};
 use xid::{Ballot, Refusal, Tx};
 
 /// The transactions that a leader has to do with, in the order of first sight, and the course of each. A transaction's place is its
@@ -67,14 +67,14 @@ impl Courses {
     }
 
     /// The place of a transaction, where it has one.
-    pub fn place_of(&self, tx: &Tx) -> Option<usize>
+    pub fn place_of(&self, tx: &SpelledTx<'_>) -> Option<usize>
         ensures { IsPlaceOf self.now tx.now result }
     {
-        self.transactions.number_near(tx, self.near)
+        self.transactions.number_of_view(tx, self.near)
     }
 
     /// A place for a transaction that has none. At `NoMemory`, the only refusal, nothing changes.
-    fn add_place(&mut self, tx: &Tx) -> Result<usize, Refusal>
+    fn add_place(&mut self, tx: &SpelledTx<'_>) -> Result<usize, Refusal>
         requires { place_in self.old.transactions tx.now ≡ length self.old.transactions }
         ensures there { IfOk result (λ place. IsPlaceOf self.new tx.now (Some place)) }
         ensures kept { IsKept self.old self.new }
@@ -87,7 +87,7 @@ impl Courses {
         if self.rows.reserve(1).is_err() {
             return Err(Refusal::NoMemory);
         }
-        let Ok(place) = self.transactions.insert(tx) else {
+        let Ok(place) = self.transactions.insert_view(tx) else {
             return Err(Refusal::NoMemory);
         };
         self.rows.push_reserved(course);
@@ -96,7 +96,7 @@ impl Courses {
     }
 
     /// A place for a transaction. At `NoMemory`, the only refusal, it has none, and nothing changes.
-    pub fn make_place(&mut self, tx: &Tx) -> Result<usize, Refusal>
+    pub fn make_place(&mut self, tx: &SpelledTx<'_>) -> Result<usize, Refusal>
         ensures there { IfOk result (λ place. IsPlaceOf self.new tx.now (Some place)) }
         ensures kept { IsKept self.old self.new }
         ensures room { self.new.room ≡ self.old.room }
@@ -108,7 +108,7 @@ impl Courses {
     }
 
     /// A place for a transaction whose place was looked up. At `NoMemory`, the only refusal, it has none, and nothing changes.
-    fn place_or_new(&mut self, tx: &Tx, place: Option<usize>) -> Result<usize, Refusal>
+    fn place_or_new(&mut self, tx: &SpelledTx<'_>, place: Option<usize>) -> Result<usize, Refusal>
         requires { IsPlaceOf self.old tx.now place }
         ensures there { IfOk result (λ place. IsPlaceOf self.new tx.now (Some place)) }
         ensures kept { IsKept self.old self.new }
@@ -126,7 +126,7 @@ impl Courses {
     }
 
     /// The status of a transaction whose place was looked up.
-    pub fn status_at(&self, tx: &Tx, place: Option<usize>) -> Status
+    pub fn status_at(&self, tx: &SpelledTx<'_>, place: Option<usize>) -> Status
         requires { IsPlaceOf self.now tx.now place }
         ensures { result ≡ status_in (course_in self.now tx.now) }
     {
@@ -138,7 +138,7 @@ impl Courses {
     }
 
     /// The greatest stored ballot of a transaction whose place was looked up, 0 where there is none.
-    pub fn greatest_at(&self, tx: &Tx, place: Option<usize>) -> Ballot
+    pub fn greatest_at(&self, tx: &SpelledTx<'_>, place: Option<usize>) -> Ballot
         requires { IsPlaceOf self.now tx.now place }
         ensures { result ≡ (course_in self.now tx.now).greatest }
     {
@@ -149,7 +149,7 @@ impl Courses {
     }
 
     /// The leader knows a transaction. It gives the status then. At `NoMemory`, the only refusal, nothing changes.
-    pub fn meet(&mut self, tx: &Tx) -> Result<Status, Refusal>
+    pub fn meet(&mut self, tx: &SpelledTx<'_>) -> Result<Status, Refusal>
         ensures status { IfOk result (λ status. status ≡ status_in (after_meeting (course_in self.old tx.now))) }
         ensures now { OnOk result (IsChanged self.old self.new tx.now (after_meeting (course_in self.old tx.now))) }
         ensures err { IfErr result (λ e. e ≡ NoMemory) }
@@ -165,7 +165,7 @@ impl Courses {
     }
 
     /// The leader knows a transaction that has an outcome, and whose place was looked up.
-    pub fn mark_known(&mut self, tx: &Tx, place: Option<usize>)
+    pub fn mark_known(&mut self, tx: &SpelledTx<'_>, place: Option<usize>)
         requires { IsPlaceOf self.old tx.now place }
         ensures { is_final (status_in (course_in self.old tx.now)) ≡ true
             → IsChanged self.old self.new tx.now (after_meeting (course_in self.old tx.now)) }
@@ -178,7 +178,7 @@ impl Courses {
 
     /// Puts a transaction among those that begin, unless it is there. At `NoMemory`, the only refusal, there was no room for it, and
     /// nothing else changes.
-    fn list(&mut self, tx: &Tx, place: usize) -> Result<(), Refusal>
+    fn list(&mut self, tx: &SpelledTx<'_>, place: usize) -> Result<(), Refusal>
         requires { IsPlaceOf self.old tx.now (Some place) }
         ensures ok { OnOk result (self.new ≡ with_room (with_beginning self.old tx.now) self.new.room) }
         ensures err { IfErr result (λ e. (e ≡ NoMemory) × (¬ (0 < self.old.room))) }
@@ -199,7 +199,7 @@ impl Courses {
 
     /// A place for a transaction, and room for it among those that begin. At `NoMemory`, the only refusal, it may have a place. Each course
     /// stays, and those that begin.
-    pub fn make_ready(&mut self, tx: &Tx) -> Result<(), Refusal>
+    pub fn make_ready(&mut self, tx: &SpelledTx<'_>) -> Result<(), Refusal>
         ensures ready { OnOk result (is_ready_in self.new tx.now ≡ true) }
         ensures kept { IsKept self.old self.new }
         ensures err { IfErr result (λ e. e ≡ NoMemory) }
@@ -212,7 +212,12 @@ impl Courses {
 
     /// A greater ballot of a transaction was stored, whose place was looked up. At `NoMemory`, the only refusal, it wasn't ready, and
     /// its course stays.
-    pub fn store(&mut self, tx: &Tx, place: Option<usize>, ballot: Ballot) -> Result<(), Refusal>
+    pub fn store(
+        &mut self,
+        tx: &SpelledTx<'_>,
+        place: Option<usize>,
+        ballot: Ballot,
+    ) -> Result<(), Refusal>
         requires { IsPlaceOf self.old tx.now place }
         ensures now { OnOk result (IsChanged (with_beginning self.old tx.now) self.new tx.now
             (after_ballot ballot (course_in self.old tx.now))) }
@@ -232,7 +237,7 @@ impl Courses {
     }
 
     /// A ballot of a transaction begins, after it was stored.
-    pub fn begin(&mut self, tx: &Tx, ballot: Ballot)
+    pub fn begin(&mut self, tx: &SpelledTx<'_>, ballot: Ballot)
         ensures { 0 < (course_in self.old tx.now).greatest
             → IsChanged self.old self.new tx.now (after_beginning ballot (course_in self.old tx.now)) }
     {
@@ -244,7 +249,7 @@ impl Courses {
     /// Phase 1b of an acceptor for some instances of a transaction. It gives what is proposed then.
     pub fn hear_1b(
         &mut self,
-        tx: &Tx,
+        tx: &SpelledTx<'_>,
         acceptors: u8,
         ballot: Ballot,
         acceptor: u8,
@@ -267,7 +272,7 @@ impl Courses {
     /// nothing changes.
     pub fn hear_2b(
         &mut self,
-        tx: &Tx,
+        tx: &SpelledTx<'_>,
         acceptors: u8,
         acceptor: u8,
         items: &[InstanceAccept],

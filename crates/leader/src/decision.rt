@@ -6,10 +6,12 @@ ghost use Rattle.protocol.specs.Leaders.{outcome_messages};
 ghost use Rattle.leader.specs.Decisions.{shown};
 ghost use Rattle.leader.specs.Orders.{AreOf, phase_1a_by, proposal_messages};
 
+use crate::course::is_final;
 use crate::orders::LeaderSends;
 use crate::proposals::Proposals;
 use protocol::{Address, Answer, Status};
 use stable_record::{Fact, FactKind};
+use wire::{SpelledTx, VersionNumber, take_tx};
 use xid::{Ballot, Refusal, Tx};
 
 /// What a leader decides on an input.
@@ -81,22 +83,40 @@ impl LeaderDecision {
     }
 
     /// Ok, nothing to store, and the outcome to send, where there is one, in place of what was decided before.
-    pub(crate) fn tell(&mut self, tx: &Tx, outcome: Status, to: Address)
+    pub(crate) fn tell(&mut self, tx: &SpelledTx<'_>, outcome: Status, to: Address)
         ensures { shown self.new ≡ record { answer = Done; fact = None; sends = outcome_messages outcome tx.now to } }
     {
         self.store_nothing();
-        self.sends.tell(tx, outcome, to);
+        if !is_final(outcome) {
+            self.sends.clear();
+            return;
+        }
+        self.sends.tell(&owned(tx), outcome, to);
     }
 
     /// Ok, nothing to store, and phase 2a of each proposal to send, in place of what was decided before.
-    pub(crate) fn propose(&mut self, tx: &Tx, ballot: Ballot, proposals: Proposals)
+    pub(crate) fn propose(&mut self, tx: &SpelledTx<'_>, ballot: Ballot, proposals: Proposals)
         requires ballot { IsBallot ballot }
         requires named { AreOf tx.now proposals }
         ensures { shown self.new ≡ record { answer = Done; fact = None; sends = proposal_messages tx.now ballot proposals } }
     {
         self.store_nothing();
-        self.sends.propose(tx, ballot, proposals);
+        if proposals.as_slice().is_empty() {
+            self.sends.clear();
+            return;
+        }
+        self.sends.propose(&owned(tx), ballot, proposals);
     }
+}
+
+/// A transaction by its parts, for what is sent.
+fn owned(tx: &SpelledTx<'_>) -> Tx
+    ensures { result ≡ tx.now }
+{
+    let Some(taken) = take_tx(VersionNumber::Second, tx.as_bytes()) else {
+        unreachable!();
+    };
+    taken.0
 }
 
 /// No fact any more.

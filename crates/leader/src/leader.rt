@@ -14,6 +14,7 @@ ghost use Rattle.leader.specs.Compaction.{Compacts};
 ghost use Rattle.leader.specs.Decisions.{shown};
 ghost use Rattle.protocol.specs.declared.decisions.Address.TheVariants.{Managers};
 
+use crate::bundles::{accepts_of, reports_of};
 use crate::course::is_final;
 use crate::courses::Courses;
 use crate::decision::LeaderDecision;
@@ -23,7 +24,7 @@ use protocol::{Address, Answer, NodeId, Standing, Status};
 use stable_record::{Fact, FactKind};
 use std::alloc::Global;
 use std::marker::Model;
-use wire::{InstanceAccept, InstanceReport, Kind, Message};
+use wire::{InstanceAccept, InstanceReport, MAX_TX_BYTES, MessageView, Rest, SpelledTx};
 use xid::{Ballot, ManagerNumber, Refusal, Tx};
 
 /// A leader: its number, the sizes of its cluster, and the transactions that it has to do with. Contracts say which stored ballots, and
@@ -89,10 +90,12 @@ impl Leader {
         ensures { (config : Config) (number : ℕ) → FollowsOrRefuses config number self.old self.new result
             (λ stored memory. rules.on_commit_call config stored memory tx.now) }
     {
-        if !is_inside(self.managers, tx) {
+        let mut buffer = [0; MAX_TX_BYTES];
+        let spelled = SpelledTx::of(tx, &mut buffer);
+        if !is_inside(self.managers, &spelled) {
             return Ok(LeaderDecision::answers(Answer::Refused(Refusal::BadTx)));
         }
-        match self.courses.meet(tx) {
+        match self.courses.meet(&spelled) {
             Ok(status) => Ok(LeaderDecision {
                 answer: Answer::Stands(standing_of(status)),
                 fact: None,
@@ -138,18 +141,20 @@ impl Leader {
             → StandsForBallots config number self.old stored memory
             → StandsForBallots config number self.new stored (rules.on_leader_timeout config number stored memory tx.now).memory) }
     {
-        if !is_inside(self.managers, tx) {
+        let mut buffer = [0; MAX_TX_BYTES];
+        let spelled = SpelledTx::of(tx, &mut buffer);
+        if !is_inside(self.managers, &spelled) {
             decision.refuse(Refusal::BadTx);
             return;
         }
-        let place = self.courses.place_of(tx);
-        let status = self.courses.status_at(tx, place);
+        let place = self.courses.place_of(&spelled);
+        let status = self.courses.status_at(&spelled, place);
         if is_final(status) {
-            self.courses.mark_known(tx, place);
-            decision.tell(tx, status, Address::Managers);
+            self.courses.mark_known(&spelled, place);
+            decision.tell(&spelled, status, Address::Managers);
             return;
         }
-        let last = self.courses.greatest_at(tx, place);
+        let last = self.courses.greatest_at(&spelled, place);
         take_over(self.number, self.leaders, self.bundled, tx, last, decision);
     }
 
@@ -160,14 +165,15 @@ impl Leader {
             → StandsForBallots config number self.new stored (with_begun tx.now ballot (with_met tx.now memory))
             × (self.new.courses.begun ≡ self.old.courses.begun) }
     {
-        self.courses.begin(tx, ballot);
+        let mut buffer = [0; MAX_TX_BYTES];
+        self.courses.begin(&SpelledTx::of(tx, &mut buffer), ballot);
     }
 
     /// Phase 1b of an acceptor for some instances: it counts in the current ballot while undecided, all items at once; then each instance
     /// of which a majority has reported, and nothing was proposed, is proposed. It takes no memory.
     pub fn on_1b(
         &mut self,
-        tx: &Tx,
+        tx: &SpelledTx<'_>,
         ballot: Ballot,
         acceptor: u8,
         reports: &[InstanceReport],
@@ -185,7 +191,7 @@ impl Leader {
     /// Decides as `on_1b` does, in place of what was decided before.
     fn decide_1b(
         &mut self,
-        tx: &Tx,
+        tx: &SpelledTx<'_>,
         ballot: Ballot,
         acceptor: u8,
         reports: &[InstanceReport],
@@ -208,7 +214,7 @@ impl Leader {
     /// for.
     pub fn on_2b(
         &mut self,
-        tx: &Tx,
+        tx: &SpelledTx<'_>,
         acceptor: u8,
         accepts: &[InstanceAccept],
     ) -> Result<LeaderDecision, Refusal>
@@ -226,7 +232,7 @@ impl Leader {
     /// Decides as `on_2b` does, in place of what was decided before. After a refusal what stands there is no decision.
     fn decide_2b(
         &mut self,
-        tx: &Tx,
+        tx: &SpelledTx<'_>,
         acceptor: u8,
         accepts: &[InstanceAccept],
         decision: &mut LeaderDecision,
@@ -246,7 +252,11 @@ impl Leader {
 
     /// A resource manager asks, which makes the leader know the transaction: it is told the outcome, where there is one. At `NoMemory`,
     /// the only refusal, it stands for what it stood for.
-    pub fn on_ask(&mut self, tx: &Tx, rm: ManagerNumber) -> Result<LeaderDecision, Refusal>
+    pub fn on_ask(
+        &mut self,
+        tx: &SpelledTx<'_>,
+        rm: ManagerNumber,
+    ) -> Result<LeaderDecision, Refusal>
         requires { rm < 256 }
         ensures { (config : Config) (number : ℕ) → FollowsOrRefuses config number self.old self.new result
             (λ stored memory. rules.on_ask config stored memory tx.now rm) }
@@ -261,7 +271,7 @@ impl Leader {
     /// Decides as `on_ask` does, in place of what was decided before. After a refusal what stands there is no decision.
     fn decide_ask(
         &mut self,
-        tx: &Tx,
+        tx: &SpelledTx<'_>,
         rm: ManagerNumber,
         decision: &mut LeaderDecision,
     ) -> Result<(), Refusal>
@@ -284,17 +294,20 @@ impl Leader {
         ensures { (config : Config) (number : ℕ) → Follows config number self.now self.now result
             (λ stored memory. rules.on_status_call config stored memory tx.now) }
     {
-        if !is_inside(self.managers, tx) {
+        let mut buffer = [0; MAX_TX_BYTES];
+        let spelled = SpelledTx::of(tx, &mut buffer);
+        if !is_inside(self.managers, &spelled) {
             return LeaderDecision::answers(Answer::Refused(Refusal::BadTx));
         }
-        let place = self.courses.place_of(tx);
-        LeaderDecision::answers(Answer::Stands(standing_of(self.courses.status_at(tx, place))))
+        let place = self.courses.place_of(&spelled);
+        let status = self.courses.status_at(&spelled, place);
+        LeaderDecision::answers(Answer::Stands(standing_of(status)))
     }
 
     /// What it does on a message: on phase 1b and 2b, single or in bundles, and on a question, what `on_1b`, `on_2b` and `on_ask` say, on
     /// every other nothing. A single one is a bundle of one. That the message names none but nodes of the cluster, and has the form that
     /// goes there, is asked before, by the node. At `NoMemory`, the only refusal, it stands for what it stood for.
-    pub fn on_message(&mut self, message: &Message) -> Result<LeaderDecision, Refusal>
+    pub fn on_message(&mut self, message: &MessageView<'_>) -> Result<LeaderDecision, Refusal>
         ensures { (config : Config) (number : ℕ) → FollowsOrRefuses config number self.old self.new result
             (λ stored memory. rules.on_leader_message config stored memory message.now) }
     {
@@ -309,56 +322,51 @@ impl Leader {
     /// refusal what stands there is no decision.
     pub fn decide(
         &mut self,
-        message: &Message,
+        message: &MessageView<'_>,
         decision: &mut LeaderDecision,
     ) -> Result<(), Refusal>
         ensures { (config : Config) (number : ℕ) → FollowsOrRefuses config number self.old self.new (decided decision.new result)
             (λ stored memory. rules.on_leader_message config stored memory message.now) }
     {
-        match message.kind() {
-            Kind::P1b {
-                tx,
+        let tx = message.tx();
+        match message.rest() {
+            Rest::P1b {
                 instance,
                 ballot,
                 report,
                 acceptor,
             } => {
-                let item = InstanceReport {
-                    instance: *instance,
-                    report: *report,
-                };
-                self.decide_1b(tx, *ballot, *acceptor, &[item], decision);
+                let item = InstanceReport { instance, report };
+                self.decide_1b(tx, ballot, acceptor, &[item], decision);
                 Ok(())
             }
-            Kind::B1b {
-                tx,
+            Rest::B1b {
                 ballot,
                 acceptor,
                 reports,
             } => {
-                self.decide_1b(tx, *ballot, *acceptor, reports.as_slice(), decision);
+                let reports = reports_of(reports);
+                self.decide_1b(tx, ballot, acceptor, reports.as_slice(), decision);
                 Ok(())
             }
-            Kind::P2b {
-                tx,
+            Rest::P2b {
                 instance,
                 ballot,
                 vote,
                 acceptor,
             } => {
                 let item = InstanceAccept {
-                    instance: *instance,
-                    ballot: *ballot,
-                    vote: *vote,
+                    instance,
+                    ballot,
+                    vote,
                 };
-                self.decide_2b(tx, *acceptor, &[item], decision)
+                self.decide_2b(tx, acceptor, &[item], decision)
             }
-            Kind::B2b {
-                tx,
-                acceptor,
-                accepts,
-            } => self.decide_2b(tx, *acceptor, accepts.as_slice(), decision),
-            Kind::Ask { tx, rm } => self.decide_ask(tx, *rm, decision),
+            Rest::B2b { acceptor, accepts } => {
+                let accepts = accepts_of(accepts);
+                self.decide_2b(tx, acceptor, accepts.as_slice(), decision)
+            }
+            Rest::Ask { rm } => self.decide_ask(tx, rm, decision),
             _ => {
                 decision.clear();
                 Ok(())
@@ -375,7 +383,8 @@ impl Leader {
         let FactKind::Ballot { tx, .. } = fact.kind() else {
             return Ok(());
         };
-        self.courses.make_ready(tx)
+        let mut buffer = [0; MAX_TX_BYTES];
+        self.courses.make_ready(&SpelledTx::of(tx, &mut buffer))
     }
 
     /// Plays a ballot that is stored: it is the transaction's greatest, but isn't current before `begin`. Refused (`Damaged`) where it
@@ -396,14 +405,16 @@ impl Leader {
         let FactKind::Ballot { tx, ballot } = fact.kind() else {
             return Err(Refusal::Damaged);
         };
-        let place = self.courses.place_of(tx);
-        if *ballot <= self.courses.greatest_at(tx, place) {
+        let mut buffer = [0; MAX_TX_BYTES];
+        let spelled = SpelledTx::of(tx, &mut buffer);
+        let place = self.courses.place_of(&spelled);
+        if *ballot <= self.courses.greatest_at(&spelled, place) {
             return Err(Refusal::Damaged);
         }
         if owner(*ballot, self.leaders) != self.number {
             return Err(Refusal::Damaged);
         }
-        self.courses.store(tx, place, *ballot)
+        self.courses.store(&spelled, place, *ballot)
     }
 
     /// The facts of a shorter record that says the same: the greatest ballot of each transaction that has one, in the order of the first
@@ -417,15 +428,10 @@ impl Leader {
 }
 
 /// Whether a transaction names only resource managers of the cluster.
-fn is_inside(managers: u8, tx: &Tx) -> bool
+fn is_inside(managers: u8, tx: &SpelledTx<'_>) -> bool
     ensures { result ≡ are_below managers (participants tx.now) }
 {
-    for i in 0..tx.count() {
-        if tx.rm(i) >= u16::from(managers) {
-            return false;
-        }
-    }
-    true
+    tx.are_below(u16::from(managers))
 }
 
 /// The leader's next ballot after the last, to be stored, and its phase 1a; or that there is none. It stands in place of what was decided

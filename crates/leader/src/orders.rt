@@ -101,10 +101,6 @@ impl LeaderSends {
         ensures { self.new ≡ outcome_messages outcome tx.now to }
     {
         let _ = tx.count();
-        if !is_final(outcome) {
-            self.clear();
-            return;
-        }
         self.put(tx, Words::Tells { outcome, to });
     }
 
@@ -124,10 +120,6 @@ impl LeaderSends {
         ensures { self.new ≡ proposal_messages tx.now ballot proposals }
     {
         let _ = tx.count();
-        if proposals.as_slice().is_empty() {
-            self.clear();
-            return;
-        }
         self.put(tx, Words::Proposes { ballot, proposals });
     }
 

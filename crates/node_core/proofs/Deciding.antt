@@ -7,7 +7,7 @@ use Rattle.protocol.specs.declared.decisions.Outgoing.{Outgoing}
 use Rattle.node_core.specs.Roles.{memory_after}
 use Rattle.std.proofs.Common.{◌≡◌, ◌∙◌, ℕ, true, false, not, ◌||◌, List, [], ◌∷◌, ◌++◌, Option, Some, None, refl, sym, ap, subst}
 use Rattle.std.proofs.Common.{append-nil}
-use Rattle.std.specs.Prelude.{IfSome, IfNone, IfErr, OnOk, Result, Ok, Err, nat_lt, ◌^◌}
+use Rattle.std.specs.Prelude.{IfSome, IfNone, OnOk, Result, Ok, Err, nat_lt, ◌^◌}
 use Rattle.xid.specs.Names.{XidParts}
 use Rattle.xid.specs.Transactions.{TxParts, xid_at}
 use Rattle.xid.specs.declared.refusals.Refusal.{Refusal}
@@ -20,6 +20,7 @@ use Rattle.wire.specs.declared.items.InstanceAccept.{InstanceAccept}
 use Rattle.stable_record.specs.declared.fact.FactKind.{FactKind as Fact}
 use Rattle.protocol.specs.declared.answers.Answer.{Answer}
 use Rattle.protocol.specs.declared.decisions.Decision.{Decision}
+use Rattle.protocol.specs.declared.nodes.NodeId.{NodeId}
 use Rattle.protocol.specs.declared.nodes.NodeId.TheVariants.{A, L, R}
 use Rattle.protocol.specs.declared.requests.Action.{Action}
 use Rattle.protocol.specs.declared.requests.Request.{Request}
@@ -42,8 +43,7 @@ use Rattle.resource_manager.specs.Managers.{ManagerParts, IsCall, call_effect}
 use Rattle.resource_manager.proofs.More.{unspent_all}
 use Rattle.node_core.specs.declared.role.Role.{Role}
 use Rattle.node_core.specs.declared.output.Output.{Output}
-use Rattle.node_core.specs.Sends.{led}
-use Rattle.node_core.specs.Roles.{decided, IsLeft, IsDecided, Decides, Rule, answering}
+use Rattle.node_core.specs.Roles.{RoleStands, decided, IsLeft, IsDecided, Decides, Rule, answering}
 
 -- ---- acceptors
 
@@ -166,6 +166,13 @@ leader_decides old new d message h config (R rm) facts memory s = absurd s
 leader_decides old new d message h config (L l) facts memory s =
     leader_follows old new d (λ stored memory. rules.on_leader_message config stored memory message) config l facts memory
     (message_stores_nothing config (last_ballot facts) memory.leader message) (h config l) s
+
+-- and stores nothing
+pub leader_stores_nothing : (config : Config) (who : NodeId) (facts : List Fact) (memory : Memory) (p : LeaderParts) (message : Kind)
+    → RoleStands config who (Role.Leader p) facts memory → (on_message config who facts memory message).fact ≡ None
+leader_stores_nothing config (A a) facts memory p message s = absurd s
+leader_stores_nothing config (R rm) facts memory p message s = absurd s
+leader_stores_nothing config (L l) facts memory p message s = message_stores_nothing config (last_ballot facts) memory.leader message
 
 pub commit_decides : (old new : LeaderParts) (d : LeaderDecision) (tx : TxParts)
     → ((config : Config) (number : ℕ) → Follows config number old new d
@@ -316,22 +323,3 @@ led_follows config number old new rule d answer fact replied first question answ
       fact = sym fact_is i;
       sends = sym replied_is i ++ (sym first_is i ++ sym question_is i ++ d.sends);
     }) h
-
--- a leader that left what it decided in a place, or refused
-pub led_so : (old : Role) (inner new : LeaderParts) (message : Kind) → old ≡ Role.Leader inner → (result : Result (Unit {0}) Refusal)
-    (fact : Option Fact) (out : Output)
-    → ((config : Config) (number : ℕ) → FollowsOrRefuses config number inner new (led out.reply fact out.sends result)
-    (λ stored memory. rules.on_leader_message config stored memory message))
-    → OnOk result (Decides old (Role.Leader new) (decided fact out)
-    (λ config who facts memory. on_message config who facts memory message))
-led_so old inner new message is (Ok done) fact out h =
-    told_so old (Role.Leader inner) (Role.Leader new) _ _ _ is refl
-    (leader_decides inner new (record { answer = out.reply; fact = fact; sends = out.sends }) message h)
-led_so old inner new message is (Err refusal) fact out h = tt
-
-pub led_refused : (old new : LeaderParts) (message : Kind) (result : Result (Unit {0}) Refusal) (fact : Option Fact) (out : Output)
-    → ((config : Config) (number : ℕ) → FollowsOrRefuses config number old new (led out.reply fact out.sends result)
-    (λ stored memory. rules.on_leader_message config stored memory message)) → IfErr result (λ e. e ≡ NoMemory)
-led_refused old new message (Ok done) fact out h = tt
-led_refused old new message (Err refusal) fact out h =
-    refused_memory no_config 0 old new (λ stored memory. rules.on_leader_message no_config stored memory message) refusal (h no_config 0)

@@ -12,6 +12,7 @@ use Rattle.stable_record.specs.declared.fact.FactKind.{FactKind as Fact}
 use Rattle.stable_record.specs.Held.{Held}
 use Rattle.protocol.specs.declared.answers.Answer.{Answer}
 use Rattle.protocol.specs.declared.answers.Answer.TheVariants.{Refused}
+use Rattle.protocol.specs.declared.decisions.Decision.{Decision}
 use Rattle.protocol.specs.declared.nodes.NodeId.{NodeId}
 use Rattle.protocol.specs.Effects.{Config, Effect, answer_only, no_effect}
 use Rattle.protocol.specs.Nodes.{Memory, Input, Received, ReceivedNoise, accepts_input, down_answer, effect_of}
@@ -20,8 +21,8 @@ use Rattle.protocol.specs.Nodes.{on_message}
 use Rattle.node_core.specs.declared.output.Output.{Output}
 use Rattle.node_core.specs.declared.role.Role.{Role}
 use Rattle.node_core.specs.Sends.{sent}
-use Rattle.node_core.specs.Roles.{RoleStands}
-use Rattle.node_core.specs.Storing.{IsDone, Carries, output_of}
+use Rattle.node_core.specs.Roles.{RoleStands, IsDecided, IsLeft, decided}
+use Rattle.node_core.specs.Storing.{IsDone, IsKept, Carries, output_of}
 use Rattle.node_core.specs.Nodes.{datagram_input}
 
 abbrev handed : Option Kind → Input
@@ -82,3 +83,17 @@ module _ (config : Config) (who : NodeId) (facts : List Fact) (memory : Memory) 
       → Carries config who facts memory (heard bytes) held new now done
   inside_carries bytes k new now done spells is h =
       subst (λ e. Carries config who facts memory e held new now done) (sym (heard_is bytes k true spells is)) h
+
+  -- what was decided is done where there is nothing to store, with the record as it is
+  pub nothing_stored : (e : Effect Memory) (fact : Option Fact) (out new : Output) → e.fact ≡ None
+      → IsDecided config who facts memory role (decided fact out) e
+      → new ≡ record { reply = out.reply; now = None; sends = out.sends } → IsDone config who facts e held held role new
+  nothing_stored e fact out new none is new_is = record {
+    reply_is = ap (λ (o : Output). o.reply) new_is ∙ ap (λ (d : Decision). d.answer) is.effect_is;
+    sends_are = ap (λ (o : Output). sent o.sends) new_is ∙ ap (λ (d : Decision). d.sends) is.effect_is;
+    kept = subst (λ o. IsKept config who facts e held held role new.now o) (sym none) (record {
+      same = refl;
+      now_is = ap (λ (o : Output). o.now) new_is;
+      stands = subst (IsLeft config who facts memory role e) (ap (λ (d : Decision). d.fact) is.effect_is ∙ none) is.leaves;
+    });
+  }

@@ -1,5 +1,6 @@
 -- Inputs that want no memory and store nothing are handled without a fault: what was decided is carried out, and the node stays up.
-use Rattle.std.proofs.Common.{◌≡◌, ◌∙◌, ℕ, true, List, None, refl, sym, ap}
+use Rattle.std.proofs.Common.{◌≡◌, ◌∙◌, ℕ, true, false, List, None, refl, sym, ap}
+use Rattle.std.proofs.lemmas.Bool.{false≢true}
 use Rattle.wire.specs.Grammar.{Spells}
 use Rattle.wire.specs.declared.message.Kind.{Kind}
 use Rattle.stable_record.specs.declared.fact.FactKind.{FactKind as Fact}
@@ -11,7 +12,7 @@ use Rattle.protocol.specs.declared.requests.Request.{Request}
 use Rattle.protocol.specs.Effects.{Config, Effect}
 use Rattle.protocol.specs.Nodes.{Memory, Received, effect_of, is_message_inside, on_message}
 use Rattle.node_core.specs.declared.role.Role.{Role}
-use Rattle.node_core.specs.Roles.{RoleStands, IsDecided}
+use Rattle.node_core.specs.Roles.{RoleStands, IsDecided, is_manager}
 use Rattle.node_core.specs.Nodes.{datagram_input}
 use Rattle.node_core.specs.Sparing.{asks_freely, hears_freely, is_free, serves_freely}
 use Rattle.node_core.proofs.Hearing.{heard_is, is_received}
@@ -37,6 +38,12 @@ pub hears_so : (config : Config) (who : NodeId) (role : Role) (facts : List Fact
     → hears_freely role ≡ true
 hears_so config who role facts memory bytes message spells s is =
     hears_by config who role facts memory message s (sym (ap (is_free who) (is_received bytes message spells)) ∙ is)
+
+-- a resource manager may want it
+pub manager_asks : (role : Role) → is_manager role ≡ true → hears_freely role ≡ false
+manager_asks (Role.Manager p) is = refl
+manager_asks (Role.Acceptor p) is = absurd (false≢true is)
+manager_asks (Role.Leader p) is = absurd (false≢true is)
 
 -- where the effect stores nothing, nothing was decided that is to be stored
 pub decides_nothing : (config : Config) (who : NodeId) (facts : List Fact) (memory : Memory) (role : Role) (decision : Decision)

@@ -43,7 +43,7 @@ fn has_form(sizes: Sizes, rest: Rest<'_>) -> bool
 }
 
 /// Whether a message is one of the cluster: it names none but its nodes, and has the form that goes there.
-fn is_of_cluster(sizes: Sizes, message: &MessageView<'_>) -> bool
+pub(crate) fn is_of_cluster(sizes: Sizes, message: &MessageView<'_>) -> bool
     ensures { (config : Config) → AreSizes config sizes → result ≡ is_message_inside config message.now }
 {
     if !message.tx().are_below(u16::from(sizes.managers)) {

@@ -7,15 +7,16 @@ ghost use Rattle.xid.specs.Transactions.{participants};
 ghost use Rattle.resource_manager.specs.Messages.{are_below};
 ghost use Rattle.protocol.specs.Effects.{Config};
 ghost use Rattle.protocol.specs.Nodes.{Memory, Asked, effect_of, is_message_inside, down_answer as down_answer_of};
-ghost use Rattle.node_core.specs.Roles.{RoleStands};
+ghost use Rattle.node_core.specs.Roles.{RoleStands, is_manager};
 ghost use Rattle.node_core.specs.Storing.{Carries, carried};
 ghost use Rattle.node_core.specs.declared.config.Sizes.{Sizes as SizesParts};
 ghost use Rattle.node_core.specs.Nodes.{AreSizes, datagram_input, input_of, role_settled};
-ghost use Rattle.node_core.specs.Sparing.{asks_freely, hears_freely, is_free};
+ghost use Rattle.node_core.specs.Sparing.{asks_freely, is_free};
 ghost use Rattle.node_core.specs.Handling.{Handles};
 
 use crate::accepting::accept_bytes;
 use crate::config::Sizes;
+use crate::leading::lead_bytes;
 use crate::output::{Input, Output};
 use crate::requests::accepts_request;
 use crate::role::Role;
@@ -60,7 +61,7 @@ fn is_of_cluster(sizes: Sizes, message: &Message) -> bool
     }
 }
 
-/// What a node that is up and no acceptor does on a message, whatever bytes spelled it. False where it goes down.
+/// What a resource manager that is up does on a message, whatever bytes spelled it. False where it goes down.
 fn hear_message<R: Record>(
     work: &mut Workspace,
     device: &mut R,
@@ -70,7 +71,7 @@ fn hear_message<R: Record>(
     message: &Message,
     out: &mut Output,
 ) -> bool
-    requires { hears_freely role.old ≡ false }
+    requires { is_manager role.old ≡ true }
     ensures { (config : Config) (facts : List FactKind) (memory : Memory) (bytes : List ℕ) → AreSizes config sizes
         → Spells message.now bytes → RoleStands config who role.old facts memory
         → Carries config who facts memory (effect_of config who facts memory (datagram_input bytes))
@@ -89,7 +90,7 @@ fn hear_message<R: Record>(
     }
 }
 
-/// What a node that is up and no acceptor does on the bytes of a datagram. False where it goes down.
+/// What a resource manager that is up does on the bytes of a datagram. False where it goes down.
 fn hear_bytes<R: Record>(
     work: &mut Workspace,
     device: &mut R,
@@ -99,7 +100,7 @@ fn hear_bytes<R: Record>(
     bytes: &[u8],
     out: &mut Output,
 ) -> bool
-    requires { hears_freely role.old ≡ false }
+    requires { is_manager role.old ≡ true }
     ensures carries { (config : Config) (facts : List FactKind) (memory : Memory) → AreSizes config sizes
         → RoleStands config who role.old facts memory
         → Carries config who facts memory (effect_of config who facts memory (datagram_input bytes.now))
@@ -139,7 +140,7 @@ fn hear<R: Record>(
         Role::Acceptor(acceptor) => {
             accept_bytes(&mut work.frame, device, who, sizes, acceptor, bytes, out)
         }
-        Role::Leader(_) => hear_bytes(work, device, who, sizes, role, bytes, out),
+        Role::Leader(leader) => lead_bytes(sizes, leader, bytes, out),
         Role::Manager(_) => hear_bytes(work, device, who, sizes, role, bytes, out),
     }
 }

@@ -5,8 +5,8 @@ ghost use Rattle.acceptor.specs.Acceptors.{acceptor_part};
 ghost use Rattle.protocol.specs.Effects.{Config};
 ghost use Rattle.protocol.specs.Nodes.{on_message as on_message_of, on_request as on_request_of, empty_memory};
 ghost use Rattle.node_core.specs.declared.role.Role.TheVariants as roles;
-ghost use Rattle.node_core.specs.Roles.{Decides, HasRoomFor, IsSame, Replays, Takes, decided};
-ghost use Rattle.node_core.specs.Sparing.{hears_freely, serves_freely};
+ghost use Rattle.node_core.specs.Roles.{Decides, HasRoomFor, IsSame, Replays, Takes, decided, is_manager};
+ghost use Rattle.node_core.specs.Sparing.{serves_freely};
 
 use crate::output::Output;
 use crate::requests::{at_leader, at_manager, not_taken};
@@ -47,23 +47,23 @@ fn let_leader_go(_: Leader) {}
 fn let_manager_go(_: ResourceManager) {}
 
 impl Role {
-    /// What it does, if it is no acceptor, on a message of the cluster: the answer and what to send are put out, and in the place of
-    /// `fact` stands the one that is to be stored before, if there is one. Its caller makes ready for it, stores it and then has it
+    /// What it does, if it is a resource manager, on a message of the cluster: the answer and what to send are put out, and in the place
+    /// of `fact` stands the one that is to be stored before, if there is one. Its caller makes ready for it, stores it and then has it
     /// taken. Refused: `NoMemory` alone, and then the role is of no use any more.
-    pub fn on_message(
+    pub(crate) fn on_message(
         &mut self,
         message: &Message,
         out: &mut Output,
         fact: &mut Option<Fact>,
     ) -> Result<(), Refusal>
-        requires { hears_freely self.old ≡ false }
+        requires { is_manager self.old ≡ true }
         ensures ok { OnOk result (Decides self.old self.new (decided fact.new out.new)
             (λ config who facts memory. on_message_of config who facts memory message.now)) }
         ensures err { IfErr result (λ e. e ≡ NoMemory) }
     {
         match self {
             Role::Acceptor(_) => unreachable!(),
-            Role::Leader(leader) => out.sends.lead(leader, message, &mut out.reply, fact),
+            Role::Leader(_) => unreachable!(),
             Role::Manager(manager) => out.sends.manage(manager, message, &mut out.reply, fact),
         }
     }

@@ -1,9 +1,10 @@
-ghost use Rattle.std.specs.Prelude.{◌≡◌, ℕ, ◌<◌, [], ◌++◌, ◌≤◌, ◌∷◌, length, slice_index_or, IfErr, IfSome, OnOk, None};
+ghost use Rattle.std.specs.Prelude.{◌≡◌, ℕ, ◌<◌, [], ◌++◌, ◌≤◌, ◌∷◌, length, slice_index_or, IfErr, IfSome, OnOk, Option, None};
 ghost use Rattle.xid.specs.Transactions.{xid_at};
 ghost use Rattle.xid.specs.declared.refusals.Refusal.TheVariants.{NoMemory};
 ghost use Rattle.wire.specs.declared.message.Kind.{Kind};
 ghost use Rattle.wire.specs.Grammar.{Spells};
 ghost use Rattle.wire.specs.Messages.{message_tx};
+ghost use Rattle.stable_record.specs.declared.fact.FactKind.{FactKind};
 ghost use Rattle.protocol.specs.Effects.{Config};
 ghost use Rattle.protocol.specs.Leaders.{on_leader_message};
 ghost use Rattle.protocol.specs.Managers.{on_manager_message};
@@ -20,7 +21,7 @@ use resource_manager::ResourceManager;
 use stable_record::Fact;
 use std::marker::Model;
 use std::mem;
-use wire::{MAX_MESSAGE_BYTES, Message};
+use wire::{MAX_MESSAGE_BYTES, Message, MessageView};
 use xid::Refusal;
 
 /// The messages that a node sends, in order, which a contract sees as the list of them. To make them takes no memory. There is a place
@@ -153,18 +154,17 @@ impl NodeSends {
         }
     }
 
-    /// What a leader sends on a message, in place of what was sent before; beside it the answer and the fact are left that is to be
-    /// stored. Refused as the leader refuses.
+    /// What a leader sends on a message, in place of what was sent before; beside it the answer is left. What it decided to store is
+    /// nothing, whatever it stands for. Refused as the leader refuses.
     pub(crate) fn lead(
         &mut self,
         leader: &mut Leader,
-        message: &Message,
+        message: &MessageView<'_>,
         reply: &mut Answer,
-        fact: &mut Option<Fact>,
     ) -> Result<(), Refusal>
-        ensures { (config : Config) (number : ℕ) → FollowsOrRefuses config number leader.old leader.new
-            (led reply.new fact.new self.new result)
-            (λ stored memory. on_leader_message config stored memory message.now) }
+        ensures { (fact : Option FactKind) × ((config : Config) (number : ℕ) → FollowsOrRefuses config number leader.old leader.new
+            (led reply.new fact self.new result)
+            (λ stored memory. on_leader_message config stored memory message.now)) }
     {
         self.replied.clear();
         self.decided.sends.clear();
@@ -172,7 +172,6 @@ impl NodeSends {
         match leader.decide(message, &mut self.led) {
             Ok(()) => {
                 *reply = mem::replace(&mut self.led.answer, Answer::Done);
-                hand_over(&mut self.led.fact, fact);
                 Ok(())
             }
             Err(refusal) => Err(refusal),

@@ -6,7 +6,7 @@ use Rattle.wire.specs.Messages.{IsMessage}
 use Rattle.wire.specs.Grammar.{Spells, spelling}
 use Rattle.std.specs.Prelude.{◌≢◌}
 use Rattle.node_core.proofs.Hearing.{noise_done}
-use Rattle.node_core.proofs.Sparing.{hears_so}
+use Rattle.node_core.proofs.Sparing.{hears_so, manager_asks}
 use Rattle.node_core.proofs.acting.hear_bytes.Goals as goal
 
 pub returns-in-Err-clause-carries : goal.returns-in-Err-clause-carries
@@ -23,4 +23,4 @@ returns-in-Ok-clause-carries g c = λ config facts memory sizes s.
 pub returns-in-Ok-clause-free : goal.returns-in-Ok-clause-free
 returns-in-Ok-clause-free g c = λ is config facts memory sizes s none.
     let spelled : Spells _ c.args.bytes.now = subst (λ r. IfOk r (λ m. Spells m c.args.bytes.now)) c.in-Ok.is c.decode.ensures.ok in
-    absurd (true≢false (sym (hears_so config c.args.who c.args.role.now facts memory c.args.bytes.now _ spelled s is) ∙ c.requires))
+    absurd (true≢false (sym (hears_so config c.args.who c.args.role.now facts memory c.args.bytes.now _ spelled s is) ∙ manager_asks c.args.role.now c.requires))
