@@ -1,5 +1,5 @@
 -- What several writes leave together.
-use Rattle.std.proofs.Common.{Bool, arith, refl, sym, ap, subst, inl, inr, ◌≡◌, ◌∙◌, ℕ, ◌<◌, ◌-◌, Option, Result, Ok, Err}
+use Rattle.std.proofs.Common.{arith, refl, sym, ap, subst, inl, inr, ◌≡◌, ◌∙◌, ℕ, ◌<◌, ◌-◌, Option, Result, Ok, Err}
 use Rattle.std.proofs.Common.{List, ◌++◌, length, length-append, append_assoc, take, drop, take-append-drop}
 use Rattle.std.proofs.lemmas.List.{take_rest}
 use Rattle.std.specs.Io.KnownBytes.{Appends, Keeps}
@@ -7,9 +7,8 @@ use Rattle.std.proofs.KnownBytes.{Appends-trans, Appends-kept, Keeps-refl}
 use Rattle.xid.specs.declared.refusals.Refusal.{Refusal}
 use Rattle.xid.specs.declared.refusals.Refusal.TheVariants as refusal
 use Rattle.clap.specs.Words.{Text}
-use Rattle.audit.specs.Hearing.{IsJudged}
 use Rattle.udp_edge.specs.CommandLines.{IsMisuse, RejectsLine, exit_status}
-use Rattle.udp_edge.specs.Printing.{BreaksOff, IsAudited, IsRefused, IsVerdict, TriesToAppend, WritesText, rejection_line, usage_line}
+use Rattle.udp_edge.specs.Printing.{BreaksOff, IsRefused, TriesToAppend, WritesText, rejection_line, usage_line}
 use Rattle.udp_edge.specs.declared.command.Rejected.{Rejected}
 use Rattle.udp_edge.specs.declared.command.Rejected.TheVariants.{Usage, NoMemory}
 
@@ -83,11 +82,3 @@ pub wants_memory : (words : List Text) (r : Rejected) (out old new : Option (Lis
     → TriesToAppend old new (rejection_line r) → IsRefused words out out old new
 wants_memory words Usage out old new three p = absurd (omega (arith, three))
 wants_memory words NoMemory out old new three p = record { refusal = refusal.NoMemory; line = p; cause = inl (refl, Keeps-refl out) }
-
--- what the auditor says of a text, said of its trace
-pub audited_as : (bytes text : List ℕ) (b : Bool) (status : ℕ) → IsJudged bytes b → IsVerdict b status text → IsAudited bytes status text
-audited_as bytes text b status judged verdict = record {
-  trace = judged.trace;
-  spelled = judged.spelled;
-  verdict = subst (λ (c : Bool). IsVerdict c status text) judged.verdict verdict;
-}
