@@ -161,7 +161,8 @@ module _ (change : Change) (tables : List Table) (entries : List Entry) (a b : E
   right_after : are_right tables (entries ++ b ∷ [])
       ≡ (each_step (is_right first) before && (shows_rightly first before step && is_move before change))
   right_after =
-      right_push tables entries b ∙ ap (λ s. each_step (is_right first) before && is_right first before s) ((step_changed change a b changed).is)
+      right_push tables entries b
+      ∙ ap (λ s. each_step (is_right first) before && is_right first before s) ((step_changed change a b changed).is)
 
   pub change_unheard : (auditor : Auditor) (finals : List (List Row)) → auditor.is_right ≡ false
       → Hears auditor tables (entries ++ a ∷ []) finals → Hears auditor tables (entries ++ b ∷ []) finals
@@ -258,7 +259,8 @@ entries_after t after o e = by (is_empty t.finals) (sym e)
     by true e = map_some (λ es. record t { entries = es }) o after e
     by false e = absurd (cc)
 
-pub table_line : (old new : Auditor) (table : Table) → ((tables : List Table) → Hears old tables [] [] → Hears new (tables ++ table ∷ []) [] [])
+pub table_line : (old new : Auditor) (table : Table)
+    → ((tables : List Table) → Hears old tables [] [] → Hears new (tables ++ table ∷ []) [] [])
     → (before : Option Trace) (after : Trace) → HasHeard old before → Some after ≡ begun_with before (Contents table)
     → HasHeard new (Some after)
 table_line old new table step None after heard e = absurd (cc)

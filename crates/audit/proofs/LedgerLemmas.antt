@@ -180,7 +180,8 @@ pub history_more : (entries : List Entry) (i : ℕ) (d : Entry) → i < length e
     → history_of (take (i + 1) entries) ≡ step_of (get_or entries i d) ∷ history_of (take i entries)
 history_more entries i d lt =
     let next : i + 1 ≡ suc i = omega arith in
-    ap (λ n. history_of (take n entries)) next ∙ ap history_of (take-suc entries i d lt) ∙ history_push (take i entries) (get_or entries i d)
+    ap (λ n. history_of (take n entries)) next ∙ ap history_of (take-suc entries i d lt)
+    ∙ history_push (take i entries) (get_or entries i d)
 
 history_parts : (n : ℕ) (entries : List Entry) → history_of entries ≡ history_of (drop n entries) ++ history_of (take n entries)
 history_parts n entries =

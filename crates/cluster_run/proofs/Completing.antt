@@ -1,5 +1,6 @@
 -- Each run can be gone on with to the end of its commands, meeting no more faults: for a run that breaks off while it is printed.
-use Rattle.std.proofs.Common.{◌≡◌, ◌∙◌, ℕ, zero, suc, ◌+◌, ◌-◌, ◌≤◌, ◌<◌, List, [], ◌∷◌, ◌++◌, length, length-append, Option, Some, None, refl, sym}
+use Rattle.std.proofs.Common.{◌≡◌, ◌∙◌, ℕ, zero, suc, ◌+◌, ◌-◌, ◌≤◌, ◌<◌, List, [], ◌∷◌, ◌++◌}
+use Rattle.std.proofs.Common.{length, length-append, Option, Some, None, refl, sym}
 use Rattle.std.proofs.Common.{ap, subst, append_assoc, inl, inr, arith, ◌⊎◌, map, take, drop, get_or, take-append-drop}
 use Rattle.std.specs.List.{flat_map}
 use Rattle.std.proofs.lemmas.Grind.{flat_map-append, take_at_read}
@@ -50,7 +51,8 @@ flow_longer config world count number least (rest, flow, memory) = (
   },
   (tt, memory),
 ) where
-  longer : (length rest ≡ count) ⊎ (least_unmarked (world_after config (world_step config world (Deliver number) NoFault).world rest).net ≡ None)
+  longer : (length rest ≡ count)
+      ⊎ (least_unmarked (world_after config (world_step config world (Deliver number) NoFault).world rest).net ≡ None)
       → (length (unmet (Deliver number) ∷ rest) ≡ suc count)
       ⊎ (least_unmarked (world_after config world (unmet (Deliver number) ∷ rest)).net ≡ None)
   longer (inl all) = inl (ap suc all)

@@ -1,5 +1,6 @@
 -- The cluster that a script asks for.
-use Rattle.std.proofs.Common.{◌≡◌, ◌∙◌, inl, inr, ℕ, ◌&&◌, ◌||◌, ◌<◌, Bool, true, false, List, [], ◌∷◌, length, refl, sym, ap, subst, Result, Err}
+use Rattle.std.proofs.Common.{◌≡◌, ◌∙◌, inl, inr, ℕ, ◌&&◌, ◌||◌, ◌<◌, Bool, true, false, List, [], ◌∷◌}
+use Rattle.std.proofs.Common.{length, refl, sym, ap, subst, Result, Err}
 use Rattle.std.specs.Prelude.{◌==◌, nat_lt, nat_le, IfErr, MatchResult}
 use Rattle.std.specs.List.{All, AllByRecursion, list_all, range_with_len}
 use Rattle.std.proofs.lemmas.Bool.{and_cases, and_from, both_ways, cond_both, eq-eqb, le-leb, lt-ltb, ltb-true}

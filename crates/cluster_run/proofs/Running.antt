@@ -1,5 +1,6 @@
 -- A script's run, from what its parts have made and printed.
-use Rattle.std.proofs.Common.{◌≡◌, ◌∙◌, ℕ, ◌<◌, ◌≤◌, true, List, [], ◌∷◌, ◌++◌, length, length-append, map, Option, Result, Ok, Err, refl, sym, ap}
+use Rattle.std.proofs.Common.{◌≡◌, ◌∙◌, ℕ, ◌<◌, ◌≤◌, true, List, [], ◌∷◌, ◌++◌, length, length-append, map}
+use Rattle.std.proofs.Common.{Option, Result, Ok, Err, refl, sym, ap}
 use Rattle.std.proofs.Common.{subst, append_assoc, inl, inr, arith}
 use Rattle.std.specs.Io.KnownBytes.{Appends}
 use Rattle.std.specs.Prelude.{IfErr, OnOk}
@@ -203,7 +204,8 @@ module _ (s : Script) (config : Config) (first : ClusterParts) (piece : List ℕ
 
   -- the same, from what was printed before it
   pub ends_by : {X : Type 0} (last : ClusterParts) (body text : List ℕ) (middle new : Option (List ℕ))
-      → GoesOn AreDone first last (so_far piece out) (so_far body middle) → (count : ℕ) → count ≡ config.managers → (finals : List (List Row))
+      → GoesOn AreDone first last (so_far piece out) (so_far body middle) → (count : ℕ) → count ≡ config.managers
+      → (finals : List (List Row))
       → ((other : Config) (world : World) → IsRunning other world last → count ≡ other.managers
       → finals ≡ each_manager (table_at other world) count)
       → text ≡ body ++ final_lines 0 finals → (result : Result X Refusal) → WritesText middle new result text → Ends result new

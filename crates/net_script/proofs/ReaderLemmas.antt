@@ -1,6 +1,7 @@
 -- What a reader of lines keeps says which line may follow as the trace so far does, and what it gives and refuses is right: for
 -- `TraceReader`.
-use Rattle.std.proofs.Common.{◌≡◌, ℕ, ◌+◌, ◌<◌, ◌≤◌, Bool, true, false, not, ◌&&◌, cond, eqb, ltb, List, [], ◌∷◌, ◌++◌, length, map, inl, inr}
+use Rattle.std.proofs.Common.{◌≡◌, ℕ, ◌+◌, ◌<◌, ◌≤◌, Bool, true, false, not, ◌&&◌, cond, eqb, ltb}
+use Rattle.std.proofs.Common.{List, [], ◌∷◌, ◌++◌, length, map, inl, inr}
 use Rattle.std.proofs.Common.{Option, None, Some, refl, sym, ap, subst, ◌∙◌, arith, eqb-true}
 use Rattle.std.specs.Prelude.{Result, Ok, Err, is_some, IfErr}
 use Rattle.std.specs.List.{list_all}
@@ -232,7 +233,8 @@ unfit_line {r = r} {trace = trace} line after said so cut is says unfit =
       r.number + 1,
       refl,
       line_fault line after (told so) cut (λ other range e.
-          let same : said ≡ other = line_injective said other is range (sym (line_text_words said line is says) ∙ line_text_words other line range e) in
+          let same : said ≡ other =
+          line_injective said other is range (sym (line_text_words said line is says) ∙ line_text_words other line range e) in
           none_kept (begun_with trace other)
           (follows_so trace other ∙ ap (λ s. follow s other) (sym so.kept) ∙ ap (follow r.so_far) (sym same) ∙ nothing _ unfit)),
     ))

@@ -30,7 +30,12 @@ last_of (entry ∷ next ∷ rest) = last_of (next ∷ rest)
 
 -- what of a trace so far says which lines may follow
 abbrev pub so_far_of : Trace → SoFar
-so_far_of t = record { sizes = t.sizes; managers = map (λ (table : Table). table.rm) t.tables; last = last_of t.entries; finals = length t.finals }
+so_far_of t = record {
+  sizes = t.sizes;
+  managers = map (λ (table : Table). table.rm) t.tables;
+  last = last_of t.entries;
+  finals = length t.finals;
+}
 
 -- the same where the cluster alone was told
 abbrev pub opened_so_far : Sizes → SoFar

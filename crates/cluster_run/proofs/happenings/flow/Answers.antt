@@ -14,7 +14,8 @@ returns-in_default-clause-ok g c =
     let few : c.loop-made._made ≤ c.args.count = omega arith in
     λ config world running.
     flow_stops config world c.args.count c.loop-made._made c.loop-made.cluster
-    (so_far c.args.piece.now.items (g.W.Write.contents c.args.out.now)) (so_far c.loop-made.piece.items (g.W.Write.contents c.loop-made.out))
+    (so_far c.args.piece.now.items (g.W.Write.contents c.args.out.now))
+    (so_far c.loop-made.piece.items (g.W.Write.contents c.loop-made.out))
     few (c.loop-made.invariant config world running) c.in_default.ensures
 
 pub returns-in_err-happen-clause-err : goal.returns-in_err-happen-clause-err
@@ -35,7 +36,8 @@ returns-in_err-happen-clause-err g c =
 pub loop-made-preserved : goal.loop-made-preserved
 loop-made-preserved g c = λ config world running.
     flown_more config world c.loop-made._made c.in-Some.number c.loop-made.cluster c.happen.new.cluster
-    (so_far c.args.piece.now.items (g.W.Write.contents c.args.out.now)) (so_far c.loop-made.piece.items (g.W.Write.contents c.loop-made.out))
+    (so_far c.args.piece.now.items (g.W.Write.contents c.args.out.now))
+    (so_far c.loop-made.piece.items (g.W.Write.contents c.loop-made.out))
     (so_far c.happen.new.piece.items (g.W.Write.contents c.happen.new.out)) (c.loop-made.invariant config world running) c.in-Some.ensures
     c.in_ok-happen.ensures.ok
 

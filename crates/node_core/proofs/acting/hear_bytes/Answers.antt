@@ -23,4 +23,5 @@ returns-in-Ok-clause-carries g c = λ config facts memory sizes s.
 pub returns-in-Ok-clause-free : goal.returns-in-Ok-clause-free
 returns-in-Ok-clause-free g c = λ is config facts memory sizes s none.
     let spelled : Spells _ c.args.bytes.now = subst (λ r. IfOk r (λ m. Spells m c.args.bytes.now)) c.in-Ok.is c.decode.ensures.ok in
-    absurd (true≢false (sym (hears_so config c.args.who c.args.role.now facts memory c.args.bytes.now _ spelled s is) ∙ manager_asks c.args.role.now c.requires))
+    absurd (true≢false (sym (hears_so config c.args.who c.args.role.now facts memory c.args.bytes.now _ spelled s is)
+    ∙ manager_asks c.args.role.now c.requires))

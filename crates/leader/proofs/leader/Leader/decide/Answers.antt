@@ -32,7 +32,8 @@ decide_1b-requires-clause-message c =
 pub reports_of-reports-requires : goal.reports_of-reports-requires
 reports_of-reports-requires c =
     let whole : B1b c.tx-tx.result.now c.in-B1b.ballot c.in-B1b.acceptor (reports_spelled c.in-B1b.reports.now) ≡ c.args.message.now =
-    ap (λ tx. B1b tx c.in-B1b.ballot c.in-B1b.acceptor (reports_spelled c.in-B1b.reports.now)) c.tx-tx.ensures.value ∙ c.in-B1b.ensures.value in
+    ap (λ tx. B1b tx c.in-B1b.ballot c.in-B1b.acceptor (reports_spelled c.in-B1b.reports.now)) c.tx-tx.ensures.value
+    ∙ c.in-B1b.ensures.value in
     let is : IsMessage (B1b c.tx-tx.result.now c.in-B1b.ballot c.in-B1b.acceptor (reports_spelled c.in-B1b.reports.now)) =
     subst IsMessage (sym whole) c.tx-tx.ensures.valid in
     some_reports c.tx-tx.result.now c.in-B1b.ballot c.in-B1b.acceptor (reports_spelled c.in-B1b.reports.now) is
@@ -40,7 +41,8 @@ reports_of-reports-requires c =
 pub decide_1b-requires-in-B1b-clause-message : goal.decide_1b-requires-in-B1b-clause-message
 decide_1b-requires-in-B1b-clause-message c =
     let whole : B1b c.tx-tx.result.now c.in-B1b.ballot c.in-B1b.acceptor (reports_spelled c.in-B1b.reports.now) ≡ c.args.message.now =
-    ap (λ tx. B1b tx c.in-B1b.ballot c.in-B1b.acceptor (reports_spelled c.in-B1b.reports.now)) c.tx-tx.ensures.value ∙ c.in-B1b.ensures.value in
+    ap (λ tx. B1b tx c.in-B1b.ballot c.in-B1b.acceptor (reports_spelled c.in-B1b.reports.now)) c.tx-tx.ensures.value
+    ∙ c.in-B1b.ensures.value in
     let is : IsMessage (B1b c.tx-tx.result.now c.in-B1b.ballot c.in-B1b.acceptor (reports_spelled c.in-B1b.reports.now)) =
     subst IsMessage (sym whole) c.tx-tx.ensures.valid in
     subst (λ items. IsMessage (B1b c.tx-tx.result.now c.in-B1b.ballot c.in-B1b.acceptor items))
