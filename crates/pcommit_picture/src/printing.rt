@@ -82,7 +82,10 @@ fn draw_file<W: Write>(rt: HostRuntime, path: &str, out: &mut W) -> Result<(), R
     ensures ok { OnOk result (DrawsFile path.now (W.contents out.old) (W.contents out.new)) }
     ensures err { IfErr result (λ e. RefusesFile path.now e (W.contents out.old) (W.contents out.new)) }
 {
-    let bytes = fs::read(&rt, path).map_err(file_refusal)?;
+    let bytes = match fs::read(&rt, path) {
+        Ok(bytes) => bytes,
+        Err(error) => return Err(file_refusal(error)),
+    };
     let text = match picture(rt.alloc(), path.as_bytes(), &bytes) {
         Ok(text) => text,
         Err(refusal) => return Err(refusal),

@@ -107,8 +107,10 @@ fn answer_file<W: Write>(
     ensures ok { IfOk result (λ status. (status < 2) × PrintsFile subcommand.entry status (W.contents out.old) (W.contents out.new)) }
     ensures err { IfErr result (λ e. RefusesFile subcommand.entry e (W.contents out.old) (W.contents out.new)) }
 {
-    let bytes = fs::read(&rt, file_of(subcommand)).map_err(file_refusal)?;
-    answer(rt, subcommand, &bytes, out)
+    match fs::read(&rt, file_of(subcommand)) {
+        Ok(bytes) => answer(rt, subcommand, &bytes, out),
+        Err(error) => Err(file_refusal(error)),
+    }
 }
 
 /// Carries out a subcommand over the bytes of its file, and gives the exit status: 0, or 1 where a trace was audited that doesn't keep

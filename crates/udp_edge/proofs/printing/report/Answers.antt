@@ -19,5 +19,5 @@ returns-in_default g c =
     ap (λ (n : ℕ). codes "pcommit: refused " ++ decimal n ++ 10 ∷ []) number_is
     ∙ sym (line_of c.args.refusal c.in_default.not-BadScript) in
     let old : Option (List ℕ) = g.E.Write.contents c.args.err.now in
-    let new : Option (List ℕ) = g.E.Write.contents c.write_number-in_default.new.err in
+    let new : Option (List ℕ) = g.E.Write.contents c.write_number-in_default.new.out in
     subst (λ (line : List ℕ). WritesText old new c.write_number-in_default.result line) line_is c.write_number-in_default.ensures

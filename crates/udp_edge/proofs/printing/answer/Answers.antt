@@ -1,0 +1,18 @@
+use Rattle.std.proofs.Common.{List, ℕ, Option, sym, subst}
+use Rattle.udp_run.specs.Runs.{IsUdpRun}
+use Rattle.udp_edge.proofs.PrintingLemmas.{IsOfRun, IsOfUdp, run_stops, text_stops, udp_output}
+use Rattle.udp_edge.proofs.printing.answer.Goals as goal
+
+pub returns-in-Err-clause-err : goal.returns-in-Err-clause-err
+returns-in-Err-clause-err g c =
+    run_stops c.args.subcommand c.args.bytes.now c.in-Err.refusal (g.W.Write.contents c.args.out.now)
+    (g.W.Write.contents c.run_to.new.out) (subst IsOfRun (sym c.in-Run.is) tt) c.in-Err.ensures.err
+
+pub returns-in-Ok-udp-clause-err : goal.returns-in-Ok-udp-clause-err
+returns-in-Ok-udp-clause-err g c =
+    let is : IsUdpRun c.args.bytes.now c.deref.result.now =
+    subst (IsUdpRun c.args.bytes.now) (sym c.deref.ensures.value) c.in-Ok-udp.ensures.ok in
+    text_stops c.args.subcommand c.args.bytes.now 0 c.deref.result.now (g.W.Write.contents c.args.out.now)
+    (g.W.Write.contents c.print_whole.new.out) c.print_whole.result
+    (udp_output c.args.subcommand c.args.bytes.now c.deref.result.now (subst IsOfUdp (sym c.in-Udp.is) tt) is)
+    c.print_whole.ensures.text
