@@ -275,19 +275,17 @@ compare full_output /dev/null refused 3
 "$program" run large >&- 2>err
 got=$?
 compare closed_output /dev/null refused 3
-(ulimit -f 64 && trap '' XFSZ && exec "$program" run large >out 2>err)
-got=$?
-written=$(wc -c <out)
-[ "$written" -gt 0 ] && [ "$written" -lt "$(wc -c <large.out)" ] || fail broken_off_output "$written bytes were written"
-head -c "$written" large.out >large.beginning
-compare broken_off_output large.beginning refused 3
-# in a later piece than the first
-(ulimit -f 160 && trap '' XFSZ && exec "$program" run large >out 2>err)
-got=$?
-written=$(wc -c <out)
-[ "$written" -gt 65536 ] && [ "$written" -lt "$(wc -c <large.out)" ] || fail broken_off_later "$written bytes were written"
-head -c "$written" large.out >large.beginning
-compare broken_off_later large.beginning refused 3
+# in the first piece of the output, and in a later one
+breaks_off() { # NAME BLOCKS MORE_THAN
+    (ulimit -f "$2" && trap '' XFSZ && exec "$program" run large >out 2>err)
+    got=$?
+    written=$(wc -c <out)
+    [ "$written" -gt "$3" ] && [ "$written" -lt "$(wc -c <large.out)" ] || fail "$1" "$written bytes were written"
+    head -c "$written" large.out >large.beginning
+    compare "$1" large.beginning refused 3
+}
+breaks_off broken_off_output 64 0
+breaks_off broken_off_later 160 65536
 
 # a standard error that can't be written changes no status
 : >err

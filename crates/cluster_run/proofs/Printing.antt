@@ -27,14 +27,6 @@ pub prints_later : (before after text : List ℕ) (out : Option (List ℕ)) → 
     → Prints (so_far before out) (so_far after out) text
 prints_later before after text out is = ([], sym is, Appends-nil out)
 
--- the piece joins what the writer has
-pub prints_all : (piece : List ℕ) (old new : Option (List ℕ)) → Appends old new piece → Prints (so_far piece old) (so_far [] new) []
-prints_all piece old new p = (piece, refl, p)
-
--- a beginning of it does
-pub prints_some : (piece : List ℕ) (old new : Option (List ℕ)) → BreaksOff old new piece → PrintsShort (so_far piece old) new []
-prints_some piece old new (written, rest, split, some, p) = (rest, (written, append-nil piece ∙ split, p))
-
 -- nothing more is printed
 pub prints_no_more : (at : Printed) (text : List ℕ) → PrintsShort at at.out text
 prints_no_more at text = (at.piece ++ text, ([], refl, Appends-nil at.out))
