@@ -20,6 +20,7 @@ use stable_record::{Entry, EntryKind, Fact, take_frame};
 use std::alloc::Global;
 use std::env;
 use std::time::Instant;
+use wire::{MAX_TX_BYTES, SpelledTx};
 use xid::{MAX_TOUCHED, Refusal, Tx, XaCode, Xid};
 
 const USAGE: &str =
@@ -162,9 +163,21 @@ fn play_ready(manager: &mut ResourceManager, fact: Fact) -> Result<u64, Refusal>
     Ok(1)
 }
 
+/// What is decided on a Prepare.
+fn on_prepare(manager: &ResourceManager, tx: &Tx) -> Result<Decision, Refusal> {
+    let mut buffer = [0; MAX_TX_BYTES];
+    manager.on_prepare(&SpelledTx::of(tx, &mut buffer))
+}
+
+/// What is decided on a Commit.
+fn on_commit(manager: &ResourceManager, tx: &Tx) -> Decision {
+    let mut buffer = [0; MAX_TX_BYTES];
+    manager.on_commit(&SpelledTx::of(tx, &mut buffer))
+}
+
 /// Votes on a transaction.
 fn vote(manager: &mut ResourceManager, tx: &Tx) -> Result<u64, Refusal> {
-    let decision = manager.on_prepare(tx)?;
+    let decision = on_prepare(manager, tx)?;
     store(manager, decision)
 }
 
@@ -191,7 +204,7 @@ fn fill_some(manager: &mut ResourceManager, first: u32, count: u32) -> Result<()
     let _ = manager.end(&xid, Ending::Success);
     let tx = tx_of(number, 1)?;
     let _ = vote(manager, &tx)?;
-    let decision = manager.on_commit(&tx);
+    let decision = on_commit(manager, &tx);
     let _ = store(manager, decision)?;
     Ok(())
 }
@@ -210,7 +223,7 @@ fn fill(manager: &mut ResourceManager, count: u32) -> Result<(), Refusal> {
 fn commit_all(manager: &mut ResourceManager, txs: &[Tx], count: usize) -> Result<u64, Refusal> {
     let mut committed: u64 = 0;
     for tx in txs.iter().take(count) {
-        let decision = manager.on_commit(tx);
+        let decision = on_commit(manager, tx);
         committed = committed.wrapping_add(store(manager, decision)?);
     }
     Ok(committed)
@@ -290,9 +303,9 @@ fn record_tx(
 ) -> Result<(), Refusal> {
     let _ = manager.end(&xid_of(number)?, Ending::Success);
     let tx = tx_of(number, 1)?;
-    let vote = manager.on_prepare(&tx)?;
+    let vote = on_prepare(manager, &tx)?;
     let _ = record(alloc, manager, vote, bytes)?;
-    let commit = manager.on_commit(&tx);
+    let commit = on_commit(manager, &tx);
     let _ = record(alloc, manager, commit, bytes)?;
     Ok(())
 }

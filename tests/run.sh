@@ -87,7 +87,6 @@ run_audit() { # NAME EXPECTED_OUT EXPECTED_ERR EXPECTED_STATUS TRACE
 }
 
 echo consistent >"$scratch/consistent"
-echo inconsistent >"$scratch/inconsistent"
 each "$golden" script run_golden
 each "$tests/udp" script run_udp
 each "$tests/audit" trace run_audit

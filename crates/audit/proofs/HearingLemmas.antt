@@ -1,14 +1,18 @@
 -- What an auditor holds after each kind of line: for `Auditor::take` and its parts.
-use Rattle.std.proofs.Common.{◌≡◌, ◌∙◌, ℕ, Bool, true, false, ◌&&◌, cond, List, [], ◌∷◌, ◌++◌, Option, Some, None, Result, Ok, Err}
+use Rattle.std.proofs.Common.{◌≡◌, ◌∙◌, ℕ, Bool, true, false, not, ◌&&◌, eqb, cond, List, [], ◌∷◌, ◌++◌, Option, Some, None}
+use Rattle.std.proofs.Common.{Result, Ok, Err}
 use Rattle.std.proofs.Common.{refl, sym, ap, subst, length, inl, suc, arith, eqb-true}
-use Rattle.std.specs.Prelude.{IfOk, IfErr, OnOk}
-use Rattle.std.specs.Option.{option_map, option_map_or}
+use Rattle.std.specs.Prelude.{IfErr, OnOk}
+use Rattle.std.specs.Option.{option_map_or}
 use Rattle.std.proofs.lemmas.Bool.{and_parts}
 use Rattle.net_script.specs.declared.values.Sizes.{Sizes}
 use Rattle.net_script.specs.declared.trace_lines.TraceLine.TheVariants.{Cluster, Contents, Happened, Served, Changed, Datagram, Final}
-use Rattle.net_script.specs.TraceReading.{is_empty, is_bare, with_now, with_sent, at_last, with_entries, bare_step, takes_table, takes_rows}
-use Rattle.net_script.specs.TraceReading.{begun_with, SpellsTrace, RefusesTrace}
-use Rattle.net_script.specs.TraceReaders.{IsRead}
+use Rattle.net_script.specs.TraceReading.{RefusesTrace}
+use Rattle.net_script.specs.declared.so_far.LastEntry.{LastEntry}
+use Rattle.net_script.specs.TraceReaders.{told_of, told_by, last_of, so_far_of, is_missing, is_alone, may_follow, bare_step}
+use Rattle.net_script.specs.TraceReaders.{with_now, with_sent}
+use Rattle.net_script.specs.TraceReaders.{at_last, grown, begun_with}
+use Rattle.net_script.specs.declared.trace_lines.TraceLine.{TraceLine}
 use Rattle.xid.specs.declared.refusals.Refusal.{Refusal}
 use Rattle.xid.specs.declared.refusals.Refusal.TheVariants.{NoMemory}
 use Rattle.protocol.specs.declared.events.Sent.{Sent}
@@ -17,14 +21,14 @@ use Rattle.audit.specs.Words.{Answer, Event, Deliver, Change, Step, Entry, Row, 
 use Rattle.audit.specs.Told.{step_of, history_of, each_step, is_move}
 use Rattle.audit.specs.Stretches.{stretches_back}
 use Rattle.audit.specs.Tables.{first_tables, table_told, shows_rightly, are_tables}
-use Rattle.audit.specs.Books.{rows_of, stretch_of, is_move_from, has_committed}
+use Rattle.audit.specs.Books.{is_move_from}
 use Rattle.audit.specs.Consistent.{committed_back, is_order_kept, is_consistent}
 use Rattle.history.specs.SerialOrder.{first_commits}
 use Rattle.audit.specs.Following.{Follows, IsChanged}
-use Rattle.audit.specs.Hearing.{are_right, Hears, HasHeard, IsJudged}
+use Rattle.audit.specs.Hearing.{are_right, Hears, HasHeard}
 use Rattle.audit.specs.declared.ledger.Ledger.{Ledger}
 use Rattle.audit.specs.declared.auditor.Auditor.{Auditor}
-use Rattle.audit.proofs.AuditLemmas.{is_right, by_result}
+use Rattle.audit.proofs.AuditLemmas.{is_right}
 use Rattle.audit.proofs.LedgerLemmas.{bare, follows_event, follows_change, moves_so, nothing_happened, history_push}
 
 wrong_is : (b : Bool) → b ≡ false → b ≡ true → ⊥
@@ -42,11 +46,11 @@ unheard auditor tables entries new finals others wrong still heard = record {
 
 -- ---- events
 
-right_push : (tables : List Table) (entries : List Entry) (e : Entry)
+pub right_push : (tables : List Table) (entries : List Entry) (e : Entry)
     → are_right tables (entries ++ e ∷ []) ≡ (are_right tables entries && is_right (first_tables tables) (history_of entries) (step_of e))
 right_push tables entries e = ap (each_step (is_right (first_tables tables))) (history_push entries e)
 
-and_true : (b : Bool) → b ≡ (b && true)
+pub and_true : (b : Bool) → b ≡ (b && true)
 and_true true = refl
 and_true false = refl
 
@@ -68,7 +72,7 @@ serve_heard auditor node answer tables entries finals heard =
 
 -- ---- datagrams
 
-step_sent : (sent : Sent) (a : Entry) → step_of (with_sent sent a) ≡ record (step_of a) { sent = (step_of a).sent ++ sent ∷ [] }
+pub step_sent : (sent : Sent) (a : Entry) → step_of (with_sent sent a) ≡ record (step_of a) { sent = (step_of a).sent ++ sent ∷ [] }
 step_sent sent (Entry.Step step) = refl
 step_sent sent (Entry.Serve node answer now others) = refl
 
@@ -104,30 +108,13 @@ sent_heard sent auditor tables entries a finals heard =
 
 -- ---- changes of views
 
-some_same : {X : Type 0} (a b : X) → Some a ≡ Some b → a ≡ b
+pub some_same : {X : Type 0} (a b : X) → Some a ≡ Some b → a ≡ b
 some_same a b e = cc
 
-cond_some : {X : Type 0} (b : Bool) (x y : X) → cond b (Some x) None ≡ Some y → (b ≡ true) × (x ≡ y)
-cond_some true x y e = (refl, some_same x y e)
-cond_some false x y e = absurd (cc)
-
 -- the step of an entry with a changed view
-record IsStepChanged (change : Change) (old new : Step) : Type 0 where
-  none : old.now ≡ None
-  is : new ≡ record old { now = Some change }
-
-bare_none : {X : Type 0} (now : Option Change) (sent : List Sent) (x y : X) → cond (is_bare now sent) (Some x) None ≡ Some y
-    → (now ≡ None) × (x ≡ y)
-bare_none None sent x y e = (refl, (cond_some (is_empty sent) x y e).1)
-bare_none (Some c) sent x y e = absurd (cc)
-
-step_changed : (change : Change) (a b : Entry) → with_now change a ≡ Some b → IsStepChanged change (step_of a) (step_of b)
-step_changed change (Entry.Step step) b e =
-    let got = bare_none step.now step.sent (Entry.Step (record step { now = Some change })) b e in
-    record { none = got.0; is = ap step_of (sym got.1) }
-step_changed change (Entry.Serve node answer now sent) b e =
-    let got = bare_none now sent (Entry.Serve node answer (Some change) sent) b e in
-    record { none = got.0; is = ap step_of (sym got.1) }
+pub step_changed : (change : Change) (last : Entry) → step_of (with_now change last) ≡ record (step_of last) { now = Some change }
+step_changed change (Entry.Step step) = refl
+step_changed change (Entry.Serve node answer now sent) = refl
 
 -- what was wrong without a change is wrong with it
 still_wrong : (a b c : Bool) → (a && (b && true)) ≡ false → (a && (b && c)) ≡ false
@@ -135,7 +122,10 @@ still_wrong true true c e = absurd (cc (e))
 still_wrong true false c e = refl
 still_wrong false b c e = refl
 
-module _ (change : Change) (tables : List Table) (entries : List Entry) (a b : Entry) (changed : with_now change a ≡ Some b) where
+module _ (change : Change) (tables : List Table) (entries : List Entry) (a : Entry) (none : (step_of a).now ≡ None) where
+  abbrev b : Entry
+  b = with_now change a
+
   abbrev first : ℕ → List Row
   first = first_tables tables
 
@@ -149,20 +139,20 @@ module _ (change : Change) (tables : List Table) (entries : List Entry) (a b : E
   after = record step { now = Some change }
 
   step_is : step ≡ bare step.event step.answer step.sent
-  step_is = ap (λ now. record step { now = now }) ((step_changed change a b changed).none)
+  step_is = ap (λ now. record step { now = now }) none
 
   -- by the entry without its change
   right_before : are_right tables (entries ++ a ∷ []) ≡ (each_step (is_right first) before && (shows_rightly first before step && true))
   right_before =
       right_push tables entries a
       ∙ ap (λ now. each_step (is_right first) before && (shows_rightly first before step && option_map_or (is_move before) now true))
-      (step_changed change a b changed).none
+      none
 
   right_after : are_right tables (entries ++ b ∷ [])
       ≡ (each_step (is_right first) before && (shows_rightly first before step && is_move before change))
   right_after =
       right_push tables entries b
-      ∙ ap (λ s. each_step (is_right first) before && is_right first before s) ((step_changed change a b changed).is)
+      ∙ ap (λ s. each_step (is_right first) before && is_right first before s) (step_changed change a)
 
   pub change_unheard : (auditor : Auditor) (finals : List (List Row)) → auditor.is_right ≡ false
       → Hears auditor tables (entries ++ a ∷ []) finals → Hears auditor tables (entries ++ b ∷ []) finals
@@ -189,7 +179,7 @@ module _ (change : Change) (tables : List Table) (entries : List Entry) (a b : E
             ∙ (λ i. sym parts.0 i && (sym shown.0 i && is_move before change)) ∙ sym right_after;
         follows = λ e.
             subst (λ h. Follows first h new.ledger)
-            (ap (λ s. s ∷ before) (sym (step_changed change a b changed).is) ∙ sym (history_push entries b))
+            (ap (λ s. s ∷ before) (sym (step_changed change a)) ∙ sym (history_push entries b))
             (follows_change first before old.ledger step.event step.answer step.sent at new.ledger change (change_is.1 (sym now ∙ e)));
         finals_are = λ e. ap (λ v. v.items) others ∙ heard.finals_are right;
       }
@@ -213,51 +203,88 @@ pub on_ok : {X E A B : Type 0} (r : Result X E) → (A → B) → OnOk r A → O
 on_ok (Ok x) f a = f a
 on_ok (Err e) f a = tt
 
-none_left : {X : Type 0} (xs : List X) → is_empty xs ≡ true → xs ≡ []
+-- what follows the lines so far, may follow them
+pub after_is : (t after : Trace) (said : TraceLine) → Some after ≡ begun_with (Some t) said
+    → (may_follow (so_far_of t) said ≡ true) × (grown t said ≡ after)
+after_is t after said e = by (may_follow (so_far_of t) said) (sym e)
+  where
+    by : (may : Bool) → cond may (Some (grown t said)) None ≡ Some after → (may ≡ true) × (grown t said ≡ after)
+    by true h = (refl, some_same (grown t said) after h)
+    by false h = absurd (cc (h))
+
+pub none_left : {X : Type 0} (xs : List X) → eqb (length xs) 0 ≡ true → xs ≡ []
 none_left [] h = refl
 none_left (x ∷ xs) h =
     let none : suc (length xs) ≡ 0 = eqb-true (suc (length xs)) 0 h in
     absurd (omega arith)
 
-map_some : {X Y : Type 0} (g : X → Y) (o : Option X) (y : Y) → option_map g o ≡ Some y → (x : X) × (o ≡ Some x) × (g x ≡ y)
-map_some g None y e = absurd (cc)
-map_some g (Some x) y e = (x, refl, some_same (g x) y e)
-
 -- entries of which the last is made anew
-record IsMade (f : Entry → Option Entry) (old new : List Entry) : Type 0 where
-  before : List Entry
-  a : Entry
-  b : Entry
-  old_is : old ≡ before ++ a ∷ []
-  makes : f a ≡ Some b
-  new_is : new ≡ before ++ b ∷ []
+pub record IsMade (make : Entry → Entry) (old : List Entry) : Type 0 where
+  pub before : List Entry
+  pub last : Entry
+  pub told : last_of old ≡ told_by last
+  pub old_is : old ≡ before ++ last ∷ []
+  pub new_is : at_last make old ≡ before ++ make last ∷ []
 
-is_made : (f : Entry → Option Entry) (old new : List Entry) → at_last f old ≡ Some new → IsMade f old new
-is_made f [] new e = absurd (cc)
-is_made f (x ∷ []) new e =
-    let got = map_some (λ y. y ∷ []) (f x) new e in
-    record { before = []; a = x; b = got.0; old_is = refl; makes = got.1; new_is = sym got.2 }
-is_made f (x ∷ y ∷ rest) new e =
-    let got = map_some (λ others. x ∷ others) (at_last f (y ∷ rest)) new e in
-    let made = is_made f (y ∷ rest) got.0 got.1 in
+is_made : (make : Entry → Entry) (old : List Entry) → is_missing (last_of old) ≡ false → IsMade make old
+is_made make [] some = absurd (cc (some))
+is_made make (e ∷ []) some = record { before = []; last = e; told = refl; old_is = refl; new_is = refl }
+is_made make (e ∷ f ∷ rest) some =
+    let made = is_made make (f ∷ rest) some in
     record {
-      before = x ∷ made.before;
-      a = made.a;
-      b = made.b;
-      old_is = ap (λ l. x ∷ l) made.old_is;
-      makes = made.makes;
-      new_is = sym got.2 ∙ ap (λ l. x ∷ l) made.new_is;
+      before = e ∷ made.before;
+      last = made.last;
+      told = made.told;
+      old_is = ap (λ l. e ∷ l) made.old_is;
+      new_is = ap (λ l. e ∷ l) made.new_is;
     }
 
--- the trace after a line that tells of an entry
-entries_after : (t after : Trace) (o : Option (List Entry)) → Some after ≡ with_entries t o
-    → (new : List Entry) × (o ≡ Some new) × (record t { entries = new } ≡ after)
-entries_after t after o e = by (is_empty t.finals) (sym e)
+-- what a change and a datagram do to the last entry, where they may follow
+pub change_made : (t : Trace) (change : Change) → may_follow (so_far_of t) (Changed change) ≡ true → IsMade (with_now change) t.entries
+change_made t change may =
+    is_made (with_now change) t.entries
+    (some (last_of t.entries) (and_parts (eqb (length t.finals) 0) (is_alone (last_of t.entries)) may).1)
   where
-    by : (b : Bool) → cond b (option_map (λ es. record t { entries = es }) o) None ≡ Some after
-        → (new : List Entry) × (o ≡ Some new) × (record t { entries = new } ≡ after)
-    by true e = map_some (λ es. record t { entries = es }) o after e
-    by false e = absurd (cc)
+    some : (l : LastEntry) → is_alone l ≡ true → is_missing l ≡ false
+    some LastEntry.Missing h = absurd (cc (h))
+    some LastEntry.Bare h = refl
+    some LastEntry.Full h = refl
+
+pub sent_made : (t : Trace) (sent : Sent) → may_follow (so_far_of t) (Datagram sent) ≡ true → IsMade (with_sent sent) t.entries
+sent_made t sent may =
+    is_made (with_sent sent) t.entries
+    (off (is_missing (last_of t.entries)) (and_parts (eqb (length t.finals) 0) (not (is_missing (last_of t.entries))) may).1)
+  where
+    off : (b : Bool) → not b ≡ true → b ≡ false
+    off true h = absurd (cc (h))
+    off false h = refl
+
+no_entries : (es : List Entry) → is_missing (last_of es) ≡ true → es ≡ []
+no_entries [] h = refl
+no_entries (e ∷ []) h = by e h
+  where
+    told : (now : Option Change) (sent : List Sent) → is_missing (told_of now sent) ≡ true → e ∷ [] ≡ []
+    told None [] h = absurd (cc (h))
+    told None (d ∷ sent) h = absurd (cc (h))
+    told (Some c) sent h = absurd (cc (h))
+
+    by : (x : Entry) → is_missing (told_by x) ≡ true → e ∷ [] ≡ []
+    by (Entry.Step step) h = told step.now step.sent h
+    by (Entry.Serve node answer now sent) h = told now sent h
+no_entries (e ∷ f ∷ es) h = absurd (cc (sym (ap length (no_entries (f ∷ es) h))))
+
+-- an entry with its answer alone changed no view
+bare_none : (last : Entry) → is_alone (told_by last) ≡ true → (step_of last).now ≡ None
+bare_none (Entry.Step step) h = of step.now step.sent h
+  where
+    of : (now : Option Change) (sent : List Sent) → is_alone (told_of now sent) ≡ true → now ≡ None
+    of None sent h = refl
+    of (Some c) sent h = absurd (cc (h))
+bare_none (Entry.Serve node answer now sent) h = of now sent h
+  where
+    of : (now : Option Change) (sent : List Sent) → is_alone (told_of now sent) ≡ true → now ≡ None
+    of None sent h = refl
+    of (Some c) sent h = absurd (cc (h))
 
 pub table_line : (old new : Auditor) (table : Table)
     → ((tables : List Table) → Hears old tables [] [] → Hears new (tables ++ table ∷ []) [] [])
@@ -265,10 +292,10 @@ pub table_line : (old new : Auditor) (table : Table)
     → HasHeard new (Some after)
 table_line old new table step None after heard e = absurd (cc)
 table_line old new table step (Some t) after heard e =
-    let got = cond_some (takes_table t table) (record t { tables = t.tables ++ table ∷ [] }) after (sym e) in
+    let got = after_is t after (Contents table) e in
     let front = and_parts _ _ (and_parts _ _ got.0).0 in
-    let bare = and_parts (is_empty t.entries) (is_empty t.finals) front.0 in
-    let entries = none_left t.entries bare.0 in
+    let bare = and_parts (is_missing (last_of t.entries)) (eqb (length t.finals) 0) front.0 in
+    let entries = no_entries t.entries bare.0 in
     let finals = none_left t.finals bare.1 in
     let before : Hears old t.tables [] [] =
     subst (λ es. Hears old t.tables es []) entries (subst (λ fs. Hears old t.tables t.entries fs) finals heard) in
@@ -284,43 +311,40 @@ pub event_line : (old new : Auditor) (event : Event) (answer : Answer)
     → HasHeard new (Some after)
 event_line old new event answer step None after heard e = absurd (cc)
 event_line old new event answer step (Some t) after heard e =
-    let got = entries_after t after (Some (t.entries ++ bare_step event answer ∷ [])) e in
-    let same = some_same _ _ got.1 in
-    subst (λ u. HasHeard new (Some u)) got.2
-    (subst (λ es. Hears new t.tables es t.finals) same (step t.tables t.entries t.finals heard))
+    subst (λ u. HasHeard new (Some u)) (after_is t after (Happened event answer) e).1 (step t.tables t.entries t.finals heard)
 
 pub serve_line : (auditor : Auditor) (node : NodeId) (answer : Answer) (before : Option Trace) (after : Trace) → HasHeard auditor before
     → Some after ≡ begun_with before (Served node answer) → HasHeard auditor (Some after)
 serve_line auditor node answer None after heard e = absurd (cc)
 serve_line auditor node answer (Some t) after heard e =
-    let got = entries_after t after (Some (t.entries ++ Entry.Serve node answer None [] ∷ [])) e in
-    let same = some_same _ _ got.1 in
-    subst (λ u. HasHeard auditor (Some u)) got.2
-    (subst (λ es. Hears auditor t.tables es t.finals) same (serve_heard auditor node answer t.tables t.entries t.finals heard))
+    subst (λ u. HasHeard auditor (Some u)) (after_is t after (Served node answer) e).1
+    (serve_heard auditor node answer t.tables t.entries t.finals heard)
 
 pub change_line : (old new : Auditor) (change : Change)
-    → ((tables : List Table) (entries : List Entry) (finals : List (List Row)) (a b : Entry) → with_now change a ≡ Some b
-    → Hears old tables (entries ++ a ∷ []) finals → Hears new tables (entries ++ b ∷ []) finals)
+    → ((tables : List Table) (entries : List Entry) (finals : List (List Row)) (last : Entry) → (step_of last).now ≡ None
+    → Hears old tables (entries ++ last ∷ []) finals → Hears new tables (entries ++ with_now change last ∷ []) finals)
     → (before : Option Trace) (after : Trace) → HasHeard old before → Some after ≡ begun_with before (Changed change)
     → HasHeard new (Some after)
 change_line old new change step None after heard e = absurd (cc)
 change_line old new change step (Some t) after heard e =
-    let got = entries_after t after (at_last (with_now change) t.entries) e in
-    let made = is_made (with_now change) t.entries got.0 got.1 in
-    subst (λ u. HasHeard new (Some u)) got.2
+    let got = after_is t after (Changed change) e in
+    let alone = (and_parts (eqb (length t.finals) 0) (is_alone (last_of t.entries)) got.0).1 in
+    let made = change_made t change got.0 in
+    subst (λ u. HasHeard new (Some u)) got.1
     (subst (λ es. Hears new t.tables es t.finals) (sym made.new_is)
-    (step t.tables made.before t.finals made.a made.b made.makes (subst (λ es. Hears old t.tables es t.finals) made.old_is heard)))
+    (step t.tables made.before t.finals made.last (bare_none made.last (ap is_alone (sym made.told) ∙ alone))
+    (subst (λ es. Hears old t.tables es t.finals) made.old_is heard)))
 
 pub sent_line : (auditor : Auditor) (sent : Sent) (before : Option Trace) (after : Trace) → HasHeard auditor before
     → Some after ≡ begun_with before (Datagram sent) → HasHeard auditor (Some after)
 sent_line auditor sent None after heard e = absurd (cc)
 sent_line auditor sent (Some t) after heard e =
-    let got = entries_after t after (at_last (λ entry. Some (with_sent sent entry)) t.entries) e in
-    let made = is_made (λ entry. Some (with_sent sent entry)) t.entries got.0 got.1 in
-    let same = some_same (with_sent sent made.a) made.b made.makes in
-    subst (λ u. HasHeard auditor (Some u)) got.2
-    (subst (λ es. Hears auditor t.tables es t.finals) (ap (λ e. made.before ++ e ∷ []) same ∙ sym made.new_is)
-    (sent_heard sent auditor t.tables made.before made.a t.finals (subst (λ es. Hears auditor t.tables es t.finals) made.old_is heard)))
+    let got = after_is t after (Datagram sent) e in
+    let made = sent_made t sent got.0 in
+    subst (λ u. HasHeard auditor (Some u)) got.1
+    (subst (λ es. Hears auditor t.tables es t.finals) (sym made.new_is)
+    (sent_heard sent auditor t.tables made.before made.last t.finals
+    (subst (λ es. Hears auditor t.tables es t.finals) made.old_is heard)))
 
 pub rows_line : (old new : Auditor) (rm : ℕ) (rows : List Row)
     → ((tables : List Table) (entries : List Entry) (finals : List (List Row)) → Hears old tables entries finals
@@ -329,8 +353,7 @@ pub rows_line : (old new : Auditor) (rm : ℕ) (rows : List Row)
     → HasHeard new (Some after)
 rows_line old new rm rows step None after heard e = absurd (cc)
 rows_line old new rm rows step (Some t) after heard e =
-    let got = cond_some (takes_rows t rm) (record t { finals = t.finals ++ rows ∷ [] }) after (sym e) in
-    subst (λ u. HasHeard new (Some u)) got.1 (step t.tables t.entries t.finals heard)
+    subst (λ u. HasHeard new (Some u)) (after_is t after (Final rm rows) e).1 (step t.tables t.entries t.finals heard)
 
 pub cluster_line : (auditor : Auditor) (sizes : Sizes) (before : Option Trace) (after : Trace) → HasHeard auditor before
     → Some after ≡ begun_with before (Cluster sizes) → HasHeard auditor (Some after)
@@ -347,28 +370,6 @@ wrong_trace t wrong = sym (ap (λ b. b && are_tables (λ rm. table_told (first_t
     && is_order_kept (first_tables t.tables) (stretches_back (history_of t.entries)) (committed_back (history_of t.entries))
     (first_commits (history_of t.entries)) t.finals) wrong)
 
-pub judged : (auditor : Auditor) (tables : List Table) (finals : List (List Row)) (r : Result Bool Refusal) → auditor.is_right ≡ true
-    → tables ≡ auditor.tables.items → finals ≡ auditor.finals.items
-    → true ≡ are_tables (rows_of auditor.ledger.tables) 0 auditor.finals.items
-    → IfOk r (λ b. b ≡ is_order_kept (first_tables tables) (stretch_of auditor.ledger.branches) (has_committed auditor.ledger.views)
-    auditor.ledger.firsts finals)
-    → IfOk r (λ b. (t : Trace) → HasHeard auditor (Some t) → b ≡ is_consistent t)
-judged auditor tables finals (Ok b) right tables_are finals_are same order = λ t heard.
-    by_result t auditor.ledger (heard.follows right) (sym heard.right ∙ right)
-    (same ∙ ap (are_tables (rows_of auditor.ledger.tables) 0) (heard.finals_are right)) tables (tables_are ∙ heard.tables_are) finals
-    (finals_are ∙ heard.finals_are right) (Ok b) order
-judged auditor tables finals (Err e) right tables_are finals_are same order = tt
-
-pub judged_text : (bytes all : List ℕ) (auditor : Auditor) (trace : Option Trace) (r : Result Bool Refusal) → all ≡ bytes
-    → IsRead all trace → HasHeard auditor trace → IfOk r (λ b. (t : Trace) → HasHeard auditor (Some t) → b ≡ is_consistent t)
-    → IfOk r (IsJudged bytes)
-judged_text bytes all auditor trace (Ok b) same read heard says = record {
-  trace = read.whole;
-  spelled = subst (λ (bs : List ℕ). SpellsTrace bs read.whole) same read.spelled;
-  verdict = says read.whole (subst (HasHeard auditor) read.is heard);
-}
-judged_text bytes all auditor trace (Err e) same read heard says = tt
-
-pub wants_memory : (bytes : List ℕ) (r : Result Bool Refusal) → IfErr r (λ e. e ≡ NoMemory) → IfErr r (RefusesTrace bytes)
+pub wants_memory : {X : Type 0} (bytes : List ℕ) (r : Result X Refusal) → IfErr r (λ e. e ≡ NoMemory) → IfErr r (RefusesTrace bytes)
 wants_memory bytes (Ok b) wants = tt
 wants_memory bytes (Err e) wants = inl wants

@@ -14,3 +14,8 @@ mod MachineStretches
 mod MachineGets
 mod MachineTables
 mod MachineTraces
+mod GrownLines
+mod FaultLemmas
+mod NotedLemmas
+mod RowTests
+mod EndLemmas

@@ -1,6 +1,6 @@
 -- What the parts of an audit hold, question by question.
-use Rattle.std.specs.Prelude.{◌≡◌, ℕ, ◌<◌, Bool, false, ◌&&◌, ◌==◌, if◌then◌else◌, List, [], map, length, slice_set, position, Option, Some}
-use Rattle.std.specs.Prelude.{None}
+use Rattle.std.specs.Prelude.{◌≡◌, ℕ, ◌+◌, ◌<◌, ◌≤◌, Bool, true, false, ◌&&◌, ◌==◌, if◌then◌else◌, List, [], map, length, slice_set}
+use Rattle.std.specs.Prelude.{filter, position, take, Option, Some, None}
 use Rattle.std.specs.List.{slice_index_or, position_or_len}
 use Rattle.std.specs.Map.{lookup}
 use Rattle.std.specs.Cmp.Lexicographic.{slice_cmp}
@@ -15,6 +15,7 @@ use Rattle.audit.specs.declared.branches.Name.{Name}
 use Rattle.transactions.specs.Seen.{place_in, seen_with}
 use Rattle.xid.specs.Transactions.{is_at}
 use Rattle.protocol.specs.Tables.{with_writes}
+use Rattle.audit.specs.Consistent.{serial_table}
 
 -- the rows of entries by key
 abbrev pub rows_in : {K : Type 0} → (K → List ℕ) → List (K × List ℕ) → List Row
@@ -111,3 +112,13 @@ rows_changed tables done change rm =
 -- the order of first commits after a change
 abbrev pub firsts_changed : List TxParts → Change → List TxParts
 firsts_changed firsts change = if is_committed_view change.view then seen_with firsts change.tx else firsts
+
+-- a test holds of so many last rows, from the first on, and not of one more
+pub record Reaches (test : List (List Row) → Bool) (finals : List (List Row)) (count : ℕ) : Type 0 where
+  pub within : count ≤ length finals
+  pub kept : 0 < count → test (take count finals) ≡ true
+  pub next : count < length finals → test (take (count + 1) finals) ≡ false
+
+-- the tables after an order of transactions, each by those that its resource manager has committed
+abbrev pub IsReplayed : (first : ℕ → List Row) → Stretches → (committed : ℕ → TxParts → Bool) → List TxParts → List (List Row) → Type 0
+IsReplayed first done committed order tables = (rm : ℕ) → rows_of tables rm ≡ serial_table first done rm (filter (committed rm) order)

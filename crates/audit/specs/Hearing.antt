@@ -1,10 +1,8 @@
--- What an auditor holds after each line of a trace, and what a text's verdict is.
-use Rattle.std.specs.Prelude.{◌≡◌, ℕ, Bool, true, ◌&&◌, List, [], Option, Some, None}
-use Rattle.net_script.specs.TraceReading.{SpellsTrace}
+-- What an auditor holds after each line of a trace.
+use Rattle.std.specs.Prelude.{◌≡◌, Bool, true, ◌&&◌, List, [], Option, Some, None}
 use Rattle.audit.specs.Words.{Entry, Row, Table, Trace}
 use Rattle.audit.specs.Told.{history_of, each_step, moves_rightly}
 use Rattle.audit.specs.Tables.{first_tables, shows_rightly}
-use Rattle.audit.specs.Consistent.{is_consistent}
 use Rattle.audit.specs.Following.{Follows}
 use Rattle.audit.specs.declared.auditor.Auditor.{Auditor}
 
@@ -24,9 +22,3 @@ pub record Hears (auditor : Auditor) (tables : List Table) (entries : List Entry
 abbrev pub HasHeard : Auditor → Option Trace → Type 0
 HasHeard auditor None = Hears auditor [] [] []
 HasHeard auditor (Some t) = Hears auditor t.tables t.entries t.finals
-
--- bytes spell a trace, which is consistent or isn't
-pub record IsJudged (bytes : List ℕ) (yes : Bool) : Type 0 where
-  pub trace : Trace
-  pub spelled : SpellsTrace bytes trace
-  pub verdict : yes ≡ is_consistent trace

@@ -6,3 +6,5 @@ pub mod Consistent
 pub mod Books
 pub mod Following
 pub mod Hearing
+pub mod Faults
+pub mod Noting

@@ -2,9 +2,10 @@ ghost use Rattle.std.specs.Prelude.{◌≡◌, IfOk, IfErr};
 ghost use Rattle.xid.specs.declared.refusals.Refusal.TheVariants.{NoMemory};
 ghost use Rattle.net_script.specs.TraceReading.{RefusesTrace};
 ghost use Rattle.audit.specs.Consistent.{is_consistent};
-ghost use Rattle.audit.specs.Hearing.{IsJudged};
+ghost use Rattle.audit.specs.Faults.{IsJudged};
 
-use crate::auditor::Auditor;
+use crate::faults::Fault;
+use crate::judge::Judge;
 use crate::ledger::Ledger;
 use crate::serial::is_serial;
 use net_script::{Trace, TraceReader};
@@ -33,16 +34,20 @@ pub fn audit(alloc: Global, trace: &Trace) -> Result<bool, Refusal>
     is_serial(alloc, &ledger, tables, finals)
 }
 
-/// Whether the trace of which this is the text keeps what was promised, as `audit` says of it, in one pass and with no trace kept. The
-/// whole text is read, whatever the answer. Refused as `read_trace` refuses it, and `NoMemory`.
-pub fn audit_text(alloc: Global, bytes: &[u8]) -> Result<bool, Refusal>
+/// The first fault of the trace of which this is the text, in one pass and with no trace kept; none exactly where `audit` says yes of it.
+/// It is at the first line with which the trace so far doesn't keep a question, and names the first that it doesn't; one serial order is
+/// asked for from the first of the last rows on. The whole text is read, whatever the answer. Refused as `read_trace` refuses it, and
+/// `NoMemory`.
+pub fn audit_text(alloc: Global, bytes: &[u8]) -> Result<Option<Fault>, Refusal>
     ensures ok { IfOk result (IsJudged bytes.now) }
     ensures err { IfErr result (RefusesTrace bytes.now) }
 {
     let mut reader = TraceReader::new(bytes);
-    let mut auditor = Auditor::new(alloc)?;
+    let mut judge = Judge::new(alloc)?;
+    let mut lines = 0;
     while let Some(said) = reader.next(alloc)? {
-        auditor.take(alloc, said)?;
+        lines += 1;
+        judge.take(alloc, lines, said)?;
     }
-    auditor.verdict(alloc)
+    judge.verdict(alloc, lines)
 }

@@ -1,14 +1,13 @@
 //! An auditor, who hears a trace line by line.
 
-ghost use Rattle.std.specs.Prelude.{◌≡◌, List, [], ◌∷◌, ◌++◌, Option, None, Some, IfOk, IfErr, OnOk};
+ghost use Rattle.std.specs.Prelude.{◌≡◌, List, false, [], ◌∷◌, ◌++◌, Option, None, Some, IfOk, IfErr, OnOk};
 ghost use Rattle.xid.specs.declared.refusals.Refusal.TheVariants.{NoMemory};
-ghost use Rattle.net_script.specs.TraceReading.{bare_step, with_now, begun_with};
+ghost use Rattle.net_script.specs.TraceReaders.{bare_step, with_now, begun_with};
 ghost use Rattle.audit.specs.Words.{Entry, Table, Trace, Row};
-ghost use Rattle.audit.specs.Consistent.{is_consistent};
+ghost use Rattle.audit.specs.Told.{step_of};
 ghost use Rattle.audit.specs.Hearing.{Hears, HasHeard};
 
 use crate::ledger::Ledger;
-use crate::serial::is_serial;
 use net_script::{Table, TraceLine};
 use protocol::{Answer, Change, Event, Row};
 use std::alloc::Global;
@@ -18,11 +17,11 @@ use xid::{Refusal, Sequence};
 #[derive(Debug, Drop)]
 pub struct Auditor {
     /// The first tables.
-    tables: Vec<Table>,
+    pub(crate) tables: Vec<Table>,
     /// What the entries come to.
-    ledger: Ledger,
+    pub(crate) ledger: Ledger,
     /// The last rows.
-    finals: Vec<Sequence<Row>>,
+    pub(crate) finals: Vec<Sequence<Row>>,
     /// Whether each entry is right.
     pub(crate) is_right: bool,
 }
@@ -45,6 +44,7 @@ impl Auditor {
     pub fn take(&mut self, alloc: Global, said: TraceLine) -> Result<(), Refusal>
         ensures ok { OnOk result ((before : Option Trace) (after : Trace) → HasHeard self.old before
             → Some after ≡ begun_with before said → HasHeard self.new (Some after)) }
+        ensures wrong { OnOk result (self.old.is_right ≡ false → self.new.is_right ≡ false) }
         ensures err { IfErr result (λ e. e ≡ NoMemory) }
     {
         match said {
@@ -52,7 +52,7 @@ impl Auditor {
             TraceLine::Contents(table) => self.take_table(alloc, table),
             TraceLine::Happened(event, answer) => self.take_event(alloc, &event, &answer),
             TraceLine::Served(..) => Ok(()),
-            TraceLine::Changed(change) => self.take_change(alloc, &change),
+            TraceLine::Changed(change) => self.take_change(alloc, change.get()),
             TraceLine::Datagram(_) => Ok(()),
             TraceLine::Final(_, rows) => self.take_rows(rows),
         }
@@ -61,6 +61,7 @@ impl Auditor {
     /// Hears of a first table. Refused: `NoMemory` alone.
     fn take_table(&mut self, alloc: Global, table: Table) -> Result<(), Refusal>
         ensures ok { OnOk result ((tables : List Table) → Hears self.old tables [] [] → Hears self.new (tables ++ table ∷ []) [] []) }
+        ensures wrong { OnOk result (self.old.is_right ≡ false → self.new.is_right ≡ false) }
         ensures err { IfErr result (λ e. e ≡ NoMemory) }
     {
         self.ledger.take_table(alloc, &table)?;
@@ -72,6 +73,7 @@ impl Auditor {
     fn take_event(&mut self, alloc: Global, event: &Event, answer: &Answer) -> Result<(), Refusal>
         ensures ok { OnOk result ((tables : List Table) (entries : List Entry) (finals : List (List Row))
             → Hears self.old tables entries finals → Hears self.new tables (entries ++ bare_step event.now answer.now ∷ []) finals) }
+        ensures wrong { OnOk result (self.old.is_right ≡ false → self.new.is_right ≡ false) }
         ensures err { IfErr result (λ e. e ≡ NoMemory) }
     {
         if !self.is_right {
@@ -83,9 +85,11 @@ impl Auditor {
 
     /// Hears of a changed view. Refused: `NoMemory` alone.
     fn take_change(&mut self, alloc: Global, change: &Change) -> Result<(), Refusal>
-        ensures ok { OnOk result ((tables : List Table) (entries : List Entry) (finals : List (List Row)) (a b : Entry)
-            → with_now change.now a ≡ Some b
-            → Hears self.old tables (entries ++ a ∷ []) finals → Hears self.new tables (entries ++ b ∷ []) finals) }
+        ensures ok { OnOk result ((tables : List Table) (entries : List Entry) (finals : List (List Row)) (last : Entry)
+            → (step_of last).now ≡ None
+            → Hears self.old tables (entries ++ last ∷ []) finals
+            → Hears self.new tables (entries ++ with_now change.now last ∷ []) finals) }
+        ensures wrong { OnOk result (self.old.is_right ≡ false → self.new.is_right ≡ false) }
         ensures err { IfErr result (λ e. e ≡ NoMemory) }
     {
         if !self.is_right {
@@ -99,25 +103,12 @@ impl Auditor {
     fn take_rows(&mut self, rows: Sequence<Row>) -> Result<(), Refusal>
         ensures ok { OnOk result ((tables : List Table) (entries : List Entry) (finals : List (List Row))
             → Hears self.old tables entries finals → Hears self.new tables entries (finals ++ rows ∷ [])) }
+        ensures wrong { OnOk result (self.old.is_right ≡ false → self.new.is_right ≡ false) }
         ensures err { IfErr result (λ e. e ≡ NoMemory) }
     {
         if self.is_right {
             self.finals.push(rows)?;
         }
         Ok(())
-    }
-
-    /// Whether the trace is consistent that was heard. Refused: `NoMemory` alone.
-    pub fn verdict(&self, alloc: Global) -> Result<bool, Refusal>
-        ensures ok { IfOk result (λ yes. (t : Trace) → HasHeard self.now (Some t) → yes ≡ is_consistent t) }
-        ensures err { IfErr result (λ e. e ≡ NoMemory) }
-    {
-        if !self.is_right {
-            return Ok(false);
-        }
-        if !self.ledger.tables.are(&self.finals) {
-            return Ok(false);
-        }
-        is_serial(alloc, &self.ledger, &self.tables, &self.finals)
     }
 }

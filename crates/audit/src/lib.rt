@@ -4,6 +4,8 @@
 mod auditing;
 mod auditor;
 mod branches;
+mod faults;
+mod judge;
 /// What the questions say in the words of the paper.
 pub mod laws;
 mod ledger;
@@ -14,3 +16,4 @@ mod tables;
 mod views;
 
 pub use auditing::{audit, audit_text};
+pub use faults::{Fault, Question};

@@ -1,6 +1,6 @@
 //! One serial order: committed transactions one after another, in the order of their first commits.
 
-ghost use Rattle.std.specs.Prelude.{◌≡◌, ℕ, ◌<◌, ◌&&◌, ◌==◌, length, if◌then◌else◌, IfOk, IfErr, OnOk};
+ghost use Rattle.std.specs.Prelude.{◌≡◌, ℕ, ◌<◌, ◌&&◌, ◌==◌, length, true, false, if◌then◌else◌, MatchOption, IfOk, IfErr, OnOk};
 ghost use Rattle.std.specs.List.{list_all};
 ghost use Rattle.std.specs.Option.{option_copied};
 ghost use Rattle.xid.specs.Transactions.{nth_branch};
@@ -10,8 +10,8 @@ ghost use Rattle.history.specs.Writes.{is_committed_view};
 ghost use Rattle.audit.specs.Words.{participants};
 ghost use Rattle.audit.specs.Stretches.{branch_at, gets_in, writes_at};
 ghost use Rattle.audit.specs.Tables.{first_tables, shows};
-ghost use Rattle.audit.specs.Consistent.{are_shown, is_order_kept};
-ghost use Rattle.audit.specs.Books.{rows_of, stretch_of, has_committed, view_in};
+ghost use Rattle.audit.specs.Consistent.{are_shown, is_order_kept, reads_are_serial};
+ghost use Rattle.audit.specs.Books.{rows_of, stretch_of, has_committed, view_in, IsReplayed};
 
 use crate::branches::Branches;
 use crate::ledger::Ledger;
@@ -137,6 +137,30 @@ impl Replay {
     }
 }
 
+/// The tables after the order of first commits, where it explains the gets. Refused: `NoMemory` alone.
+pub fn replayed(alloc: Global, ledger: &Ledger, tables: &[Table]) -> Result<Option<Tables>, Refusal>
+    ensures ok { IfOk result (λ last. let first = first_tables tables.now in let done = stretch_of ledger.now.branches in
+        MatchOption last (reads_are_serial first done ledger.now.firsts ≡ false)
+        (λ last. (reads_are_serial first done ledger.now.firsts ≡ true)
+        × IsReplayed first done (has_committed ledger.now.views) ledger.now.firsts last)) }
+    ensures err { IfErr result (λ e. e ≡ NoMemory) }
+{
+    let mut replay = Replay {
+        all: Tables::first(alloc, tables)?,
+        committed: Tables::first(alloc, tables)?,
+    };
+    for number in 0..ledger.firsts.len() {
+        let Some(tx) = ledger.firsts.get(number) else {
+            return Ok(None);
+        };
+        if !reads_serially(&replay.all, &ledger.branches, &tx) {
+            return Ok(None);
+        }
+        replay.add(alloc, ledger, &tx)?;
+    }
+    Ok(Some(replay.committed))
+}
+
 /// Whether the order of first commits explains the last rows and the gets. Refused: `NoMemory` alone.
 pub fn is_serial(
     alloc: Global,
@@ -148,18 +172,8 @@ pub fn is_serial(
         (has_committed ledger.now.views) ledger.now.firsts finals.now) }
     ensures err { IfErr result (λ e. e ≡ NoMemory) }
 {
-    let mut replay = Replay {
-        all: Tables::first(alloc, tables)?,
-        committed: Tables::first(alloc, tables)?,
-    };
-    for number in 0..ledger.firsts.len() {
-        let Some(tx) = ledger.firsts.get(number) else {
-            return Ok(false);
-        };
-        if !reads_serially(&replay.all, &ledger.branches, &tx) {
-            return Ok(false);
-        }
-        replay.add(alloc, ledger, &tx)?;
+    match replayed(alloc, ledger, tables)? {
+        Some(last) => Ok(last.are(finals)),
+        None => Ok(false),
     }
-    Ok(replay.committed.are(finals))
 }

@@ -6,7 +6,7 @@ ghost use Rattle.xid.specs.declared.refusals.Refusal.TheVariants.{NoMemory};
 ghost use Rattle.protocol.specs.Rows.{row_eq};
 ghost use Rattle.protocol.specs.Tables.{put_row, with_writes};
 ghost use Rattle.audit.specs.Tables.{first_tables, are_tables};
-ghost use Rattle.audit.specs.Books.{rows_of};
+ghost use Rattle.audit.specs.Books.{rows_of, Reaches};
 
 use crate::rows::Rows;
 use net_script::Table;
@@ -88,16 +88,23 @@ impl Tables {
         self.rows[rm as usize].write_all(alloc, writes)
     }
 
+    /// How many of these, from the first on, are the rows of the first tables.
+    pub fn count_right(&self, finals: &[Sequence<Row>]) -> usize
+        ensures { Reaches (are_tables (rows_of self.now) 0) finals.now result }
+    {
+        for (rm, rows) in finals.iter().enumerate() {
+            if !self.are_at(rm, rows.as_slice()) {
+                return rm;
+            }
+        }
+        finals.len()
+    }
+
     /// Whether these are the rows of the first tables.
     pub fn are(&self, finals: &[Sequence<Row>]) -> bool
         ensures { result ≡ are_tables (rows_of self.now) 0 finals.now }
     {
-        for (rm, rows) in finals.iter().enumerate() {
-            if !self.are_at(rm, rows.as_slice()) {
-                return false;
-            }
-        }
-        true
+        self.count_right(finals) == finals.len()
     }
 
     /// Whether these are the rows of a table.

@@ -7,6 +7,7 @@ use crate::{codec, records, tables, words};
 use protocol::{Answer, View};
 use resource_manager::ResourceManager;
 use std::alloc::Global;
+use wire::{MAX_DATAGRAM, encode, view_of};
 use xid::Xid;
 
 /// Runs the calls of a case: `NUMBER MANAGERS`, and the first rows.
@@ -49,7 +50,11 @@ fn hear(
     words: &[u8],
     page: &mut Page,
 ) -> Result<(), Stop> {
-    let message = codec::message(alloc, words)?;
+    let mut bytes = [0; MAX_DATAGRAM];
+    let len = encode(&codec::message(alloc, words)?, &mut bytes);
+    let Ok(message) = view_of(&bytes[..len]) else {
+        return Err(Stop::Unread);
+    };
     let decision = wanted(manager.on_message(&message))?;
     if let Some(fact) = &decision.fact {
         wanted(manager.ready(fact))?;

@@ -35,7 +35,7 @@ fn put(network: &mut Network, sender: NodeId, receiver: NodeId, bytes: &[u8], ag
     if again {
         return network.push_again(receiver);
     }
-    network.push_spelled(sender, receiver, bytes)
+    network.push(sender, receiver, bytes)
 }
 
 /// Sends a message to each of its receivers, by the bytes that spell it. The entry of the list has the sender and the message, and of the

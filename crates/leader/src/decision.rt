@@ -11,7 +11,7 @@ use crate::orders::LeaderSends;
 use crate::proposals::Proposals;
 use protocol::{Address, Answer, Status};
 use stable_record::{Fact, FactKind};
-use wire::{SpelledTx, VersionNumber, take_tx};
+use wire::SpelledTx;
 use xid::{Ballot, Refusal, Tx};
 
 /// What a leader decides on an input.
@@ -91,7 +91,7 @@ impl LeaderDecision {
             self.sends.clear();
             return;
         }
-        self.sends.tell(&owned(tx), outcome, to);
+        self.sends.tell(&tx.to_tx(), outcome, to);
     }
 
     /// Ok, nothing to store, and phase 2a of each proposal to send, in place of what was decided before.
@@ -105,18 +105,8 @@ impl LeaderDecision {
             self.sends.clear();
             return;
         }
-        self.sends.propose(&owned(tx), ballot, proposals);
+        self.sends.propose(&tx.to_tx(), ballot, proposals);
     }
-}
-
-/// A transaction by its parts, for what is sent.
-fn owned(tx: &SpelledTx<'_>) -> Tx
-    ensures { result ≡ tx.now }
-{
-    let Some(taken) = take_tx(VersionNumber::Second, tx.as_bytes()) else {
-        unreachable!();
-    };
-    taken.0
 }
 
 /// No fact any more.

@@ -14,7 +14,6 @@ ghost use Rattle.leader.specs.Compaction.{Compacts};
 ghost use Rattle.leader.specs.Decisions.{shown};
 ghost use Rattle.protocol.specs.declared.decisions.Address.TheVariants.{Managers};
 
-use crate::bundles::{accepts_of, reports_of};
 use crate::course::is_final;
 use crate::courses::Courses;
 use crate::decision::LeaderDecision;
@@ -24,7 +23,10 @@ use protocol::{Address, Answer, NodeId, Standing, Status};
 use stable_record::{Fact, FactKind};
 use std::alloc::Global;
 use std::marker::Model;
-use wire::{InstanceAccept, InstanceReport, MAX_TX_BYTES, MessageView, Rest, SpelledTx};
+use wire::{
+    InstanceAccept, InstanceReport, MAX_TX_BYTES, MessageView, Rest, SpelledTx, accepts_of,
+    reports_of,
+};
 use xid::{Ballot, ManagerNumber, Refusal, Tx};
 
 /// A leader: its number, the sizes of its cluster, and the transactions that it has to do with. Contracts say which stored ballots, and

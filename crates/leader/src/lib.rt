@@ -2,7 +2,6 @@
 //! the greatest stored ballot, the current one, and for each instance who reported and told what.
 #![tactic(auto)]
 
-mod bundles;
 mod compaction;
 mod course;
 mod courses;

@@ -1,5 +1,6 @@
 pub mod OneText
 pub mod WordLemmas
+mod LowerHex
 pub mod TableLemmas
 pub mod Arms
 pub mod EventLemmas
@@ -9,7 +10,8 @@ pub mod ScriptLemmas
 pub mod LineLemmas
 pub mod LawLemmas
 pub mod TraceLemmas
-pub mod CleanWords
+pub mod CutLemmas
+mod CleanWords
 pub mod TidyText
 pub mod TraceLineLemmas
 pub mod OutcomeLemmas

@@ -165,12 +165,6 @@ message_injective a b p q e = (message_said a (message_form a p)).one b (message
 
 -- ---- for the reader of messages
 
--- the word of its transaction
-pub its_tx : (m : Kind) (given rest after : List (List ℕ)) (first word : List ℕ) → IsMessage m → given ≡ first ∷ rest → rest ≡ word ∷ after
-    → given ≡ message_words m
-    → IsTx (message_tx m) × (word ≡ tx_text (message_tx m))
-its_tx m given rest after first word is cut next e = (message_tx_valid m is, cc)
-
 -- the words of a transaction that was read
 pub with_tx : (tx : TxParts) {given rest after : List (List ℕ)} {first word : List ℕ} → word ≡ tx_text tx → given ≡ first ∷ rest
     → rest ≡ word ∷ after

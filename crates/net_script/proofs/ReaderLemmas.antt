@@ -1,15 +1,13 @@
 -- What a reader of lines keeps says which line may follow as the trace so far does, and what it gives and refuses is right: for
 -- `TraceReader`.
-use Rattle.std.proofs.Common.{◌≡◌, ℕ, ◌+◌, ◌<◌, ◌≤◌, Bool, true, false, not, ◌&&◌, cond, eqb, ltb}
-use Rattle.std.proofs.Common.{List, [], ◌∷◌, ◌++◌, length, map, inl, inr}
+use Rattle.std.proofs.Common.{◌≡◌, ℕ, ◌+◌, ◌<◌, ◌≤◌, Bool, true, false, not, cond, eqb, ltb}
+use Rattle.std.proofs.Common.{List, [], ◌∷◌, ◌++◌, length, inl, inr}
 use Rattle.std.proofs.Common.{Option, None, Some, refl, sym, ap, subst, ◌∙◌, arith, eqb-true}
 use Rattle.std.specs.Prelude.{Result, Ok, Err, is_some, IfErr}
-use Rattle.std.specs.List.{list_all}
 use Rattle.std.specs.Option.{option_map}
-use Rattle.std.proofs.lemmas.Bool.Decides.{nat_tests}
+use Rattle.std.proofs.lemmas.Bool.{and_parts}
 use Rattle.std.proofs.lemmas.List.{length-append, length_push, map_push}
 use Rattle.xid.specs.Text.{lacks}
-use Rattle.xid.proofs.Texts.{first_true}
 use Rattle.net_script.specs.Basics.{Refusal, Change, Sent, BadScript, BadConfig}
 use Rattle.net_script.specs.declared.values.Table.{Table}
 use Rattle.net_script.specs.declared.values.Entry.{Entry}
@@ -20,152 +18,73 @@ use Rattle.net_script.specs.declared.trace_lines.TraceLine.{TraceLine}
 use Rattle.net_script.specs.declared.trace_lines.TraceLine.TheVariants.{Cluster, Contents, Happened, Served, Changed, Datagram, Final}
 use Rattle.net_script.specs.Items.{is_in_limits}
 use Rattle.net_script.specs.TraceLines.{IsTraceLine, trace_line_text}
-use Rattle.net_script.specs.TraceReading.{RefusesTrace, is_empty, is_bare, with_now, with_sent, at_last, with_entries}
-use Rattle.net_script.specs.TraceReading.{takes_table, takes_rows, begun_with, bare_step}
-use Rattle.net_script.specs.TraceReaders.{told_by, last_of, so_far_of, is_missing, is_alone, takes_table_of, after_line, follow}
+use Rattle.net_script.specs.TraceReading.{RefusesTrace}
+use Rattle.net_script.specs.TraceReaders.{told_of, told_by, last_of, so_far_of, is_missing, is_alone, may_follow, after_line, follow}
+use Rattle.net_script.specs.TraceReaders.{bare_step, with_now, with_sent, at_last, grown, begun_with}
 use Rattle.net_script.specs.TraceReaders.{ReaderParts, HasRead, ReadsOn, IsRead, GivesNext}
 use Rattle.net_script.proofs.TraceLineLemmas.{line_text_words, line_injective}
+use Rattle.net_script.proofs.DraftLemmas.{last_push}
 use Rattle.net_script.proofs.TraceLoop.{Told, unended_fault, line_fault, line_told, nothing_fault, missing_fault, all_told}
 
 -- ---- which lines may follow
 
-cond_map : {X Y : Type 0} (f : X → Y) (b : Bool) (x : X) → option_map f (cond b (Some x) None) ≡ cond b (Some (f x)) None
-cond_map f true x = refl
-cond_map f false x = refl
+-- the last of some entries, made anew so that it tells all
+last_full : (make : Entry → Entry) (es : List Entry) → is_missing (last_of es) ≡ false → ((e : Entry) → told_by (make e) ≡ LastEntry.Full)
+    → last_of (at_last make es) ≡ LastEntry.Full
+last_full make [] some full = absurd (cc (some))
+last_full make (e ∷ []) some full = full e
+last_full make (e ∷ f ∷ []) some full = full f
+last_full make (e ∷ f ∷ g ∷ es) some full = last_full make (f ∷ g ∷ es) some full
 
-off_none : (n : ℕ) → 0 < n → eqb n 0 ≡ false
-off_none n some = grind (arith, nat_tests)
+now_full : (c : Change) (e : Entry) → told_by (with_now c e) ≡ LastEntry.Full
+now_full c (Entry.Step step) = refl
+now_full c (Entry.Serve node answer now sent) = refl
 
-some_full : {X : Type 0} (x : X) (xs : List X) → is_empty (x ∷ xs) ≡ false
-some_full x xs = off_none (length (x ∷ xs)) (omega arith)
-
-no_entries : (es : List Entry) → is_empty es ≡ is_missing (last_of es)
-no_entries [] = refl
-no_entries (e ∷ []) = some_full e [] ∙ not_missing e
+sent_full : (d : Sent) (e : Entry) → told_by (with_sent d e) ≡ LastEntry.Full
+sent_full d (Entry.Step step) = of step.now step.sent
   where
-    by : (b : Bool) → false ≡ is_missing (cond b LastEntry.Bare LastEntry.Full)
-    by true = refl
-    by false = refl
-
-    not_missing : (e : Entry) → false ≡ is_missing (told_by e)
-    not_missing (Entry.Step step) = by (is_bare step.now step.sent)
-    not_missing (Entry.Serve node answer now sent) = by (is_bare now sent)
-no_entries (e ∷ f ∷ es) = some_full e (f ∷ es) ∙ sym (some_full f es) ∙ no_entries (f ∷ es)
-
-others_same : (rm : ℕ) (ts : List Table) → list_all (λ (t : Table). not (eqb t.rm rm)) ts
-    ≡ list_all (λ n. not (eqb n rm)) (map (λ (t : Table). t.rm) ts)
-others_same rm [] = refl
-others_same rm (t ∷ ts) = ap (λ b. not (eqb t.rm rm) && b) (others_same rm ts)
-
-takes_same : (t : Trace) (table : Table) → takes_table t table ≡ takes_table_of (so_far_of t) table.rm
-takes_same t table =
-    λ i. no_entries t.entries i && is_empty t.finals && ltb table.rm t.sizes.rms && others_same table.rm t.tables i
-
-last_push : (es : List Entry) (e : Entry) → last_of (es ++ e ∷ []) ≡ told_by e
-last_push [] e = refl
-last_push (x ∷ []) e = refl
-last_push (x ∷ y ∷ es) e = last_push (y ∷ es) e
-
--- the last of entries, made anew
-last_made : (f : Entry → Option Entry) (test : LastEntry → Bool) → test LastEntry.Missing ≡ false
-    → ((e : Entry) → option_map told_by (f e) ≡ cond (test (told_by e)) (Some LastEntry.Full) None)
-    → (es : List Entry) → option_map last_of (at_last f es) ≡ cond (test (last_of es)) (Some LastEntry.Full) None
-last_made f test none each [] = ap (λ b. cond b (Some LastEntry.Full) None) (sym none)
-last_made f test none each (e ∷ []) = one (f e) ∙ each e
+    of : (now : Option Change) (sent : List Sent) → told_of now (sent ++ d ∷ []) ≡ LastEntry.Full
+    of None [] = refl
+    of None (s ∷ sent) = refl
+    of (Some c) sent = refl
+sent_full d (Entry.Serve node answer now sent) = of now sent
   where
-    one : (o : Option Entry) → option_map last_of (option_map (λ y. y ∷ []) o) ≡ option_map told_by o
-    one None = refl
-    one (Some x) = refl
-last_made f test none each (e ∷ x ∷ es) = more (at_last f (x ∷ es)) made ∙ last_made f test none each (x ∷ es)
+    of : (now : Option Change) (sent : List Sent) → told_of now (sent ++ d ∷ []) ≡ LastEntry.Full
+    of None [] = refl
+    of None (s ∷ sent) = refl
+    of (Some c) sent = refl
+
+-- a reader keeps of the trace after a line what it kept before, and of the line
+kept_after : (t : Trace) (said : TraceLine) → may_follow (so_far_of t) said ≡ true
+    → so_far_of (grown t said) ≡ after_line (so_far_of t) said
+kept_after t (Cluster sizes) may = absurd (cc (may))
+kept_after t (Contents table) may =
+    ap (λ ms. record (so_far_of t) { managers = ms }) (map_push (λ (other : Table). other.rm) t.tables table)
+kept_after t (Happened event answer) may =
+    ap (λ l. record (so_far_of t) { last = l }) (last_push t.entries (bare_step event answer))
+kept_after t (Served node answer) may =
+    ap (λ l. record (so_far_of t) { last = l }) (last_push t.entries (Entry.Serve node answer None []))
+kept_after t (Changed change) may =
+    let parts = and_parts (eqb (length t.finals) 0) (is_alone (last_of t.entries)) may in
+    ap (λ l. record (so_far_of t) { last = l }) (last_full (with_now change) t.entries (some (last_of t.entries) parts.1) (now_full change))
   where
-    some_made : (g : Entry → Option Entry) (y : Entry) (ys : List Entry) (new : List Entry) → at_last g (y ∷ ys) ≡ Some new
-        → (first : Entry) × (rest : List Entry) × (new ≡ first ∷ rest)
-    some_made g y [] new e = by (g y) e
-      where
-        by : (o : Option Entry) → option_map (λ z. z ∷ []) o ≡ Some new → (first : Entry) × (rest : List Entry) × (new ≡ first ∷ rest)
-        by None h = absurd (cc)
-        by (Some z) h = (z, [], cc)
-    some_made g y (w ∷ ys) new e = by (at_last g (w ∷ ys)) e
-      where
-        by : (o : Option (List Entry)) → option_map (λ others. y ∷ others) o ≡ Some new
-            → (first : Entry) × (rest : List Entry) × (new ≡ first ∷ rest)
-        by None h = absurd (cc)
-        by (Some others) h = (y, others, cc)
-
-    made : (new : List Entry) → at_last f (x ∷ es) ≡ Some new → (first : Entry) × (rest : List Entry) × (new ≡ first ∷ rest)
-    made new h = some_made f x es new h
-
-    more : (o : Option (List Entry)) → ((new : List Entry) → o ≡ Some new → (first : Entry) × (rest : List Entry) × (new ≡ first ∷ rest))
-        → option_map last_of (option_map (λ others. e ∷ others) o) ≡ option_map last_of o
-    more None _ = refl
-    more (Some new) some =
-        let got = some new refl in
-        ap (λ l. Some (last_of (e ∷ l))) got.2 ∙ ap (λ l. Some (last_of l)) (sym got.2)
-
-now_made : (c : Change) (e : Entry) → option_map told_by (with_now c e) ≡ cond (is_alone (told_by e)) (Some LastEntry.Full) None
-now_made c (Entry.Step step) = by (is_bare step.now step.sent)
+    some : (l : LastEntry) → is_alone l ≡ true → is_missing l ≡ false
+    some LastEntry.Missing h = absurd (cc (h))
+    some LastEntry.Bare h = refl
+    some LastEntry.Full h = refl
+kept_after t (Datagram sent) may =
+    let parts = and_parts (eqb (length t.finals) 0) (not (is_missing (last_of t.entries))) may in
+    ap (λ l. record (so_far_of t) { last = l })
+    (last_full (with_sent sent) t.entries (off (is_missing (last_of t.entries)) parts.1) (sent_full sent))
   where
-    by : (b : Bool) → option_map told_by (cond b (Some (Entry.Step (record step { now = Some c }))) None)
-        ≡ cond (is_alone (cond b LastEntry.Bare LastEntry.Full)) (Some LastEntry.Full) None
-    by true = refl
-    by false = refl
-now_made c (Entry.Serve node answer now sent) = by (is_bare now sent)
-  where
-    by : (b : Bool) → option_map told_by (cond b (Some (Entry.Serve node answer (Some c) sent)) None)
-        ≡ cond (is_alone (cond b LastEntry.Bare LastEntry.Full)) (Some LastEntry.Full) None
-    by true = refl
-    by false = refl
-
-not_bare : (now : Option Change) (sent : List Sent) (d : Sent) → is_bare now (sent ++ d ∷ []) ≡ false
-not_bare None [] d = some_full d []
-not_bare None (s ∷ sent) d = some_full s (sent ++ d ∷ [])
-not_bare (Some c) sent d = refl
-
-sent_made : (d : Sent) (e : Entry) → option_map told_by (Some (with_sent d e))
-    ≡ cond (not (is_missing (told_by e))) (Some LastEntry.Full) None
-sent_made d (Entry.Step step) =
-    ap (λ b. Some (cond b LastEntry.Bare LastEntry.Full)) (not_bare step.now step.sent d) ∙ by (is_bare step.now step.sent)
-  where
-    by : (b : Bool) → Some LastEntry.Full ≡ cond (not (is_missing (cond b LastEntry.Bare LastEntry.Full))) (Some LastEntry.Full) None
-    by true = refl
-    by false = refl
-sent_made d (Entry.Serve node answer now sent) =
-    ap (λ b. Some (cond b LastEntry.Bare LastEntry.Full)) (not_bare now sent d) ∙ by (is_bare now sent)
-  where
-    by : (b : Bool) → Some LastEntry.Full ≡ cond (not (is_missing (cond b LastEntry.Bare LastEntry.Full))) (Some LastEntry.Full) None
-    by true = refl
-    by false = refl
-
--- entries made anew, seen by what is kept
-entries_made : (t : Trace) (o : Option (List Entry)) (test : Bool) → option_map last_of o ≡ cond test (Some LastEntry.Full) None
-    → option_map so_far_of (with_entries t o)
-    ≡ cond (is_empty t.finals && test) (Some (record (so_far_of t) { last = LastEntry.Full })) None
-entries_made t o test made = by (is_empty t.finals) o ∙ ap kept made ∙ joined (is_empty t.finals) test
-  where
-    with_last : LastEntry → SoFar
-    with_last last = record (so_far_of t) { last = last }
-
-    kept : Option LastEntry → Option SoFar
-    kept l = cond (is_empty t.finals) (option_map with_last l) None
-
-    by : (b : Bool) (o : Option (List Entry)) → option_map so_far_of (cond b (option_map (λ es. record t { entries = es }) o) None)
-        ≡ cond b (option_map with_last (option_map last_of o)) None
-    by true None = refl
-    by true (Some es) = refl
-    by false o = refl
-
-    joined : (b c : Bool) → cond b (option_map with_last (cond c (Some LastEntry.Full) None)) None
-        ≡ cond (b && c) (Some (with_last LastEntry.Full)) None
-    joined true true = refl
-    joined true false = refl
-    joined false c = refl
-
-bare_made : (t : Trace) (e : Entry) → told_by e ≡ LastEntry.Bare
-    → option_map so_far_of (with_entries t (Some (t.entries ++ e ∷ [])))
-    ≡ cond (is_empty t.finals) (Some (record (so_far_of t) { last = LastEntry.Bare })) None
-bare_made t e bare =
-    cond_map so_far_of (is_empty t.finals) (record t { entries = t.entries ++ e ∷ [] })
-    ∙ ap (λ l. cond (is_empty t.finals) (Some (record (so_far_of t) { last = l })) None) (last_push t.entries e ∙ bare)
+    off : (b : Bool) → not b ≡ true → b ≡ false
+    off true h = absurd (cc (h))
+    off false h = refl
+kept_after t (Final rm rows) may =
+    let parts = and_parts (eqb rm (length t.finals)) (ltb (length t.finals) t.sizes.rms) may in
+    let same : rm ≡ length t.finals = eqb-true rm (length t.finals) parts.0 in
+    let many : length (t.finals ++ rows ∷ []) ≡ rm + 1 = omega (arith, length_push t.finals rows, same) in
+    ap (λ n. record (so_far_of t) { finals = n }) many
 
 pub follows_so : (o : Option Trace) (said : TraceLine) → option_map so_far_of (begun_with o said) ≡ follow (option_map so_far_of o) said
 follows_so None (Cluster sizes) = refl
@@ -175,32 +94,12 @@ follows_so None (Served node answer) = refl
 follows_so None (Changed change) = refl
 follows_so None (Datagram sent) = refl
 follows_so None (Final rm rows) = refl
-follows_so (Some t) (Cluster sizes) = refl
-follows_so (Some t) (Contents table) =
-    cond_map so_far_of (takes_table t table) (record t { tables = t.tables ++ table ∷ [] })
-    ∙ ap (λ ms. cond (takes_table t table) (Some (record (so_far_of t) { managers = ms })) None)
-    (map_push (λ (other : Table). other.rm) t.tables table)
-    ∙ ap (λ b. cond b (Some (after_line (so_far_of t) (Contents table))) None) (takes_same t table)
-follows_so (Some t) (Happened event answer) = bare_made t (bare_step event answer) refl
-follows_so (Some t) (Served node answer) = bare_made t (Entry.Serve node answer None []) refl
-follows_so (Some t) (Changed change) =
-    entries_made t (at_last (with_now change) t.entries) (is_alone (last_of t.entries))
-    (last_made (with_now change) is_alone refl (now_made change) t.entries)
-follows_so (Some t) (Datagram sent) =
-    entries_made t (at_last (λ entry. Some (with_sent sent entry)) t.entries) (not (is_missing (last_of t.entries)))
-    (last_made (λ entry. Some (with_sent sent entry)) (λ l. not (is_missing l)) refl (sent_made sent) t.entries)
-follows_so (Some t) (Final rm rows) =
-    cond_map so_far_of (takes_rows t rm) (record t { finals = t.finals ++ rows ∷ [] }) ∙ by (takes_rows t rm) refl
+follows_so (Some t) said = by (may_follow (so_far_of t) said) (kept_after t said)
   where
-    by : (b : Bool) → takes_rows t rm ≡ b
-        → cond b (Some (so_far_of (record t { finals = t.finals ++ rows ∷ [] }))) None
-        ≡ cond b (Some (after_line (so_far_of t) (Final rm rows))) None
-    by true e =
-        let same : rm ≡ length t.finals =
-        eqb-true rm (length t.finals) (first_true (eqb rm (length t.finals)) (ltb (length t.finals) t.sizes.rms) e) in
-        let many : length (t.finals ++ rows ∷ []) ≡ rm + 1 = omega (arith, length_push t.finals rows, same) in
-        ap (λ n. Some (record (so_far_of t) { finals = n })) many
-    by false e = refl
+    by : (b : Bool) → (b ≡ true → so_far_of (grown t said) ≡ after_line (so_far_of t) said)
+        → option_map so_far_of (cond b (Some (grown t said)) None) ≡ cond b (Some (after_line (so_far_of t) said)) None
+    by true same = ap (λ (s : SoFar). Some s) (same refl)
+    by false same = refl
 
 -- ---- what a reader refuses, and what it gives
 

@@ -221,3 +221,14 @@ only_final said rest is e = absurd (differ _ _ (ap first_of e) refl)
 
 pub words_after : {given rest others : List (List ℕ)} {a b : List ℕ} → given ≡ a ∷ rest → given ≡ b ∷ others → rest ≡ others
 words_after p q = cc
+
+-- what the words after a first one say, in a block of its own
+pub change_said : {args : List (List ℕ)} (boxed change : Change) → boxed ≡ change → IsChange change × (args ≡ change_words change)
+    → IsTraceLine (Changed boxed) × (codes "now" ∷ args ≡ trace_line_words (Changed boxed))
+change_said {args = args} boxed change same says =
+    subst (λ c. IsChange c × (codes "now" ∷ args ≡ codes "now" ∷ change_words c)) (sym same)
+    (says.0, ap (λ (ws : List (List ℕ)). codes "now" ∷ ws) says.1)
+
+pub sent_said : {args : List (List ℕ)} (sent : Sent) → IsSent sent × (args ≡ sent_words sent)
+    → IsTraceLine (Datagram sent) × (codes "sent" ∷ args ≡ trace_line_words (Datagram sent))
+sent_said sent says = (says.0, ap (λ (ws : List (List ℕ)). codes "sent" ∷ ws) says.1)

@@ -12,7 +12,8 @@ use Rattle.net_script.specs.declared.trace_lines.TraceLine.{TraceLine}
 use Rattle.net_script.specs.Items.{IsSizes}
 use Rattle.net_script.specs.Traces.{trace_text}
 use Rattle.net_script.specs.TraceLines.{IsTraceLine, trace_line_text, whole_line, lines_of}
-use Rattle.net_script.specs.TraceReading.{IsBegun, IsTrace, ended_lines, CanBeginTrace, IsTraceFault, opened, begun_with, lines_so_far}
+use Rattle.net_script.specs.TraceReading.{IsBegun, IsTrace, ended_lines, CanBeginTrace, IsTraceFault}
+use Rattle.net_script.specs.TraceReaders.{opened, begun_with, lines_so_far}
 use Rattle.net_script.proofs.OneText.{texts_injective, texts_go_on}
 use Rattle.net_script.proofs.LawLemmas.{one_line}
 use Rattle.net_script.proofs.TraceLineLemmas.{lines_have_one_text, push_injective}

@@ -4,7 +4,7 @@ use Rattle.std.proofs.Common.{◌+◌, ◌-◌, ◌≤◌, take, get_or, ◌++�
 use Rattle.std.proofs.Common.{decimal}
 use Rattle.std.proofs.lemmas.List.{length-append}
 use Rattle.std.specs.List.{onto_first}
-use Rattle.std.proofs.lemmas.Bool.{not-true, not-false}
+use Rattle.std.proofs.lemmas.Bool.{not-true}
 use Rattle.std.specs.Str.{bytes_eq}
 use Rattle.std.proofs.lemmas.Slice.Eq.{bytes_eq-Decides}
 use Rattle.std.proofs.lemmas.Fmt.{decimal_injective, decimal-digits_value}
@@ -17,7 +17,7 @@ use Rattle.std.specs.Str.Parse.{AllDigits, digits_value}
 use Rattle.xid.specs.Text.{lacks}
 use Rattle.xid.proofs.Texts.{first_true, second_true}
 use Rattle.net_script.specs.Lines.{pieces, IsFirstPiece, Reads}
-pub use Rattle.net_script.specs.HexLemmas.{differ, hex_some, hex_decodes, hex_again}
+pub use Rattle.net_script.specs.HexLemmas.{differ, hex_some, hex_decodes}
 pub use Rattle.net_script.specs.HexLemmas.{hex_injective, bytes_are_hex, bytes_injective, hex_long}
 
 pub second_holds : {A B : Type 0} → A ⊎ B → (A → ⊥) → B
@@ -27,15 +27,6 @@ second_holds (inr b) other = b
 -- what `==` and `!=` of two texts say
 pub texts_differ : (a b : List ℕ) (r : Bool) → r ≡ bytes_eq a b → r ≡ false → a ≡ b → ⊥
 texts_differ a b r is no' e = let same : bytes_eq a b ≡ true = (bytes_eq-Decides a b).1 e in absurd (cc)
-
-pub texts_same_not : (a b : List ℕ) (r : Bool) → r ≡ not (bytes_eq a b) → r ≡ false → a ≡ b
-texts_same_not a b r is no' = (bytes_eq-Decides a b).0 (not-false (bytes_eq a b) (sym is ∙ no'))
-
-pub texts_differ_not : (a b : List ℕ) (r : Bool) → r ≡ not (bytes_eq a b) → r ≡ true → a ≡ b → ⊥
-texts_differ_not a b r is said e =
-    let same : bytes_eq a b ≡ true = (bytes_eq-Decides a b).1 e in
-    let off : bytes_eq a b ≡ false = not-true (bytes_eq a b) (sym is ∙ said) in
-    absurd (cc)
 
 -- where nothing was read
 pub reads_none : {X W : Type 0} (IsIn : X → Type 0) (text : X → W) (given : W) (o : Option X) → o ≡ None → Reads IsIn text given (Ok o)

@@ -23,13 +23,6 @@ pub hex_decodes : (y text : List ℕ) (e : FromHexError) → IsSome y → text �
 hex_decodes y text e is same h =
     let d : decode_of text ≡ Ok y = ap decode_of same ∙ decode_of-encode_lower y is.1 in absurd (cc)
 
--- and encoding what was decoded gives it back
-pub hex_again : (y text bytes : List ℕ) → IsSome y → text ≡ hex_text y → decode_of text ≡ Ok bytes → hex_text bytes ≡ text
-hex_again y text bytes is same h =
-    let d : decode_of text ≡ Ok y = ap decode_of same ∙ decode_of-encode_lower y is.1 in
-    let b : bytes ≡ y = cc in
-    ap hex_text b ∙ sym same
-
 -- bytes are the only ones of their hex
 pub hex_injective : (a b : List ℕ) → IsBytes a → IsBytes b → hex_text a ≡ hex_text b → a ≡ b
 hex_injective a b bytes-a bytes-b e =

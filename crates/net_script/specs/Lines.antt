@@ -1,5 +1,5 @@
 -- Lines and words of a text, and the one text of each value that a word can have.
-use Rattle.std.specs.Prelude.{◌≡◌, ◌≢◌, ℕ, ◌<◌, List, [], ◌∷◌, ◌++◌, length, Bool, true, false, ◌==◌, ◌&&◌, nat_le, if◌then◌else◌}
+use Rattle.std.specs.Prelude.{◌≡◌, ◌≢◌, ℕ, ◌<◌, List, [], ◌∷◌, ◌++◌, length, Bool, true, false, not, ◌==◌, ◌&&◌, nat_le, if◌then◌else◌}
 use Rattle.std.specs.Prelude.{codes, decimal, Result, Ok, Err, Option, Some, None}
 use Rattle.std.specs.List.{filter, onto_first}
 use Rattle.net_script.specs.Basics.{IsBytes, hex_text, Refusal, NoMemory, NodeId, A, L, R, Row}
@@ -35,6 +35,10 @@ pub record IsFirstWord (line word rest : List ℕ) : Type 0 where
 -- whether a byte is printed ASCII, as the space is
 abbrev pub is_plain : ℕ → Bool
 is_plain byte = nat_le 32 byte && nat_le byte 126
+
+-- whether a byte is no capital letter: hex has none
+abbrev pub is_no_capital : ℕ → Bool
+is_no_capital byte = not (nat_le 65 byte && nat_le byte 90)
 
 -- BYTES: `-` for none
 abbrev pub bytes_text : List ℕ → List ℕ

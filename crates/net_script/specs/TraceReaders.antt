@@ -1,9 +1,9 @@
--- What a reader of a trace's lines keeps, and what it gives.
+-- Which lines may follow others in a trace, what a reader of lines keeps of them, and what it gives.
 use Rattle.std.specs.Prelude.{◌≡◌, ℕ, ◌+◌, ◌<◌, Bool, true, false, not, ◌==◌, ◌&&◌, nat_lt, if◌then◌else◌, List, [], ◌∷◌, ◌++◌, length, map}
 use Rattle.std.specs.Prelude.{Option, Some, None, Result, Ok, Err}
 use Rattle.std.specs.List.{list_all, flat_map}
 use Rattle.std.specs.Option.{ForSome, option_map}
-use Rattle.net_script.specs.Basics.{Refusal}
+use Rattle.net_script.specs.Basics.{Refusal, Event, Answer, Change, Sent}
 use Rattle.net_script.specs.declared.values.Sizes.{Sizes}
 use Rattle.net_script.specs.declared.values.Entry.{Entry}
 use Rattle.net_script.specs.declared.values.Table.{Table}
@@ -12,15 +12,21 @@ use Rattle.net_script.specs.declared.so_far.LastEntry.{LastEntry}
 use Rattle.net_script.specs.declared.so_far.SoFar.{SoFar}
 use Rattle.net_script.specs.declared.trace_lines.TraceLine.{TraceLine}
 use Rattle.net_script.specs.declared.trace_lines.TraceLine.TheVariants.{Cluster, Contents, Happened, Served, Changed, Datagram, Final}
-use Rattle.net_script.specs.TraceLines.{whole_line}
-use Rattle.net_script.specs.TraceReading.{IsBegun, is_bare, lines_so_far, begun_with, SpellsTrace, RefusesTrace}
+use Rattle.net_script.specs.TraceLines.{whole_line, lines_of}
+use Rattle.net_script.specs.TraceReading.{IsBegun, SpellsTrace, RefusesTrace}
 
 -- ---- which lines may follow
 
+-- how much a changed view and datagrams tell
+abbrev pub told_of : Option Change → List Sent → LastEntry
+told_of None [] = LastEntry.Bare
+told_of None (datagram ∷ sent) = LastEntry.Full
+told_of (Some change) sent = LastEntry.Full
+
 -- how much an entry tells
 abbrev pub told_by : Entry → LastEntry
-told_by (Entry.Step step) = if is_bare step.now step.sent then LastEntry.Bare else LastEntry.Full
-told_by (Entry.Serve node answer now sent) = if is_bare now sent then LastEntry.Bare else LastEntry.Full
+told_by (Entry.Step step) = told_of step.now step.sent
+told_by (Entry.Serve node answer now sent) = told_of now sent
 
 -- how much the last of some entries tells
 abbrev pub last_of : List Entry → LastEntry
@@ -52,13 +58,13 @@ is_alone LastEntry.Bare = true
 is_alone other = false
 
 -- whether a first table of this resource manager may follow
-abbrev pub takes_table_of : SoFar → ℕ → Bool
-takes_table_of s rm = is_missing s.last && (s.finals == 0) && nat_lt rm s.sizes.rms && list_all (λ other. not (other == rm)) s.managers
+abbrev pub takes_table : SoFar → ℕ → Bool
+takes_table s rm = is_missing s.last && (s.finals == 0) && nat_lt rm s.sizes.rms && list_all (λ other. not (other == rm)) s.managers
 
 -- whether a line may follow
 abbrev pub may_follow : SoFar → TraceLine → Bool
 may_follow s (Cluster sizes) = false
-may_follow s (Contents table) = takes_table_of s table.rm
+may_follow s (Contents table) = takes_table s table.rm
 may_follow s (Happened event answer) = s.finals == 0
 may_follow s (Served node answer) = s.finals == 0
 may_follow s (Changed change) = (s.finals == 0) && is_alone s.last
@@ -80,6 +86,53 @@ abbrev pub follow : Option SoFar → TraceLine → Option SoFar
 follow None (Cluster sizes) = Some (opened_so_far sizes)
 follow None said = None
 follow (Some s) said = if may_follow s said then Some (after_line s said) else None
+
+-- ---- a trace so far, and one line more
+
+-- what an event and its answer are alone
+abbrev pub bare_step : Event → Answer → Entry
+bare_step event answer = Entry.Step (record { event = event; answer = answer; now = None; sent = [] })
+
+-- an entry that changed this view
+abbrev pub with_now : Change → Entry → Entry
+with_now change (Entry.Step step) = Entry.Step (record step { now = Some change })
+with_now change (Entry.Serve node answer now sent) = Entry.Serve node answer (Some change) sent
+
+-- an entry with one more datagram
+abbrev pub with_sent : Sent → Entry → Entry
+with_sent datagram (Entry.Step step) = Entry.Step (record step { sent = step.sent ++ datagram ∷ [] })
+with_sent datagram (Entry.Serve node answer now sent) = Entry.Serve node answer now (sent ++ datagram ∷ [])
+
+-- entries of which the last is made anew
+abbrev pub at_last : (Entry → Entry) → List Entry → List Entry
+at_last make [] = []
+at_last make (entry ∷ []) = make entry ∷ []
+at_last make (entry ∷ next ∷ rest) = entry ∷ at_last make (next ∷ rest)
+
+-- the trace so far after one more line that may follow
+abbrev pub grown : Trace → TraceLine → Trace
+grown t (Cluster sizes) = t
+grown t (Contents table) = record t { tables = t.tables ++ table ∷ [] }
+grown t (Happened event answer) = record t { entries = t.entries ++ bare_step event answer ∷ [] }
+grown t (Served node answer) = record t { entries = t.entries ++ Entry.Serve node answer None [] ∷ [] }
+grown t (Changed change) = record t { entries = at_last (with_now change) t.entries }
+grown t (Datagram sent) = record t { entries = at_last (with_sent sent) t.entries }
+grown t (Final rm rows) = record t { finals = t.finals ++ rows ∷ [] }
+
+-- a trace of which only the cluster was told
+abbrev pub opened : Sizes → Trace
+opened sizes = record { sizes = sizes; tables = []; entries = []; finals = [] }
+
+-- the trace so far after one more line, the first or another; none, where it can't follow
+abbrev pub begun_with : Option Trace → TraceLine → Option Trace
+begun_with None (Cluster sizes) = Some (opened sizes)
+begun_with None said = None
+begun_with (Some t) said = if may_follow (so_far_of t) said then Some (grown t said) else None
+
+-- the lines so far
+abbrev pub lines_so_far : Option Trace → List TraceLine
+lines_so_far None = []
+lines_so_far (Some t) = lines_of t
 
 -- ---- readers
 

@@ -1,8 +1,9 @@
 //! Words that are bytes, XIDs and transactions.
 
-ghost use Rattle.std.specs.Prelude.{true, false};
+ghost use Rattle.std.specs.Prelude.{◌≡◌, true, false};
+ghost use Rattle.std.specs.List.{list_all};
 ghost use Rattle.net_script.specs.Basics.{IsBytes, IsXid, IsTx, hex_text, xid_text, tx_text};
-ghost use Rattle.net_script.specs.Lines.{IsSome, bytes_text};
+ghost use Rattle.net_script.specs.Lines.{IsSome, is_no_capital, bytes_text};
 ghost use Rattle.net_script.specs.Laws.{a_hex, some_bytes, an_xid, a_tx};
 
 use crate::stop::Stop;
@@ -11,6 +12,18 @@ use hex::FromHexError;
 use protocol::Boxed;
 use std::alloc::Global;
 use xid::{Bytes, Sequence, Tx, Xid};
+
+/// Whether a text has no capital letter.
+fn lacks_capitals(text: &[u8]) -> bool
+    ensures { result ≡ list_all is_no_capital text.now }
+{
+    for byte in text {
+        if (b'A'..=b'Z').contains(byte) {
+            return false;
+        }
+    }
+    true
+}
 
 /// Bytes of which there is at least one.
 #[derive(Drop)]
@@ -26,7 +39,7 @@ impl Word for Hex {
     ghost spelling = { a_hex };
 
     fn read(alloc: Global, word: &[u8]) -> Result<Hex, Stop> {
-        if word.is_empty() {
+        if word.is_empty() || !lacks_capitals(word) {
             return Err(Stop::Wrong);
         }
         let bytes = match hex::decode(alloc, word) {
@@ -38,10 +51,6 @@ impl Word for Hex {
                 };
             }
         };
-        let again = hex::encode(alloc, bytes.as_slice())?;
-        if again.as_bytes() != word {
-            return Err(Stop::Wrong);
-        }
         Ok(Hex(Sequence::new(bytes)))
     }
 }

@@ -1,22 +1,21 @@
 //! Words that are messages.
 
 ghost use Rattle.std.specs.Prelude.{◌≡◌, ◌≢◌, ◌∷◌, ◌++◌, ℕ, ◌<◌, ◌^◌, false, List, MatchOption};
-ghost use Rattle.net_script.specs.Basics.{IsMessage, IsTx, tx_text, Kind, R};
+ghost use Rattle.net_script.specs.Basics.{IsTx, tx_text, R};
 ghost use Rattle.net_script.specs.Lines.{words, node_text};
 ghost use Rattle.net_script.specs.Spelling.{Finds};
 ghost use Rattle.net_script.specs.Messages.{vote_text, accepted_text, report_text, report_item_text, accept_item_text, message_words};
 ghost use Rattle.net_script.specs.Messages.{FitsReport, FitsReportItem, FitsAcceptItem, IsForm, FitsReported, reported_words};
 ghost use Rattle.net_script.specs.MessageLaws.{a_vote, a_report_item, an_accept_item, a_report};
 
-use crate::known::{KnownTx, read_tx};
 use crate::nodes::{Acceptor, Manager};
 use crate::numbers;
 use crate::stop::Stop;
 use crate::word::{Word, Words, is_word};
-use crate::words::{manager_word, next_word};
+use crate::words::{manager_word, next_word, split_once};
 use std::alloc::Global;
-use wire::{InstanceAccept, InstanceReport, Kind, Message, is_message};
-use xid::{Ballot, ManagerNumber, Tx, Vote, text};
+use wire::{InstanceAccept, InstanceReport, Kind};
+use xid::{Ballot, ManagerNumber, Tx, Vote};
 
 impl Word for Vote {
     ghost fits = { λ vote. Unit {0} };
@@ -42,7 +41,7 @@ impl Word for Vote {
 fn accepted_of(alloc: Global, text: &[u8]) -> Result<(Ballot, Vote), Stop>
     ensures { Finds false (λ a. a.0 < 2 ^ 32) (λ a. accepted_text a.0 a.1) text.now result }
 {
-    let Some((digits, word)) = text::split_once(text, b':') else {
+    let Some((digits, word)) = split_once(text, b':') else {
         return Err(Stop::Wrong);
     };
     let Some(ballot) = numbers::number(digits) else {
@@ -69,7 +68,7 @@ fn item_of(word: &[u8]) -> Option<(u8, &[u8])>
         ((n : ℕ) (item : List ℕ) → n < 256 → word.now ≢ node_text (R n) ++ 58 ∷ item)
         (λ found. (found.0 < 256) × (word.now ≡ node_text (R found.0) ++ 58 ∷ found.1.now)) }
 {
-    let Some((node, text)) = text::split_once(word, b':') else {
+    let Some((node, text)) = split_once(word, b':') else {
         return None;
     };
     let Some(rm) = manager_word(node) else {
@@ -156,9 +155,9 @@ impl Words for Reported {
     }
 }
 
-/// The message of this name about this transaction, by the words after it.
+/// The message of this name about this transaction, by the words after it; it may be one of no bundle that is one.
 #[inline(never)]
-fn read_kind(alloc: Global, name: &[u8], tx: &Tx, args: &[u8]) -> Result<Kind, Stop>
+pub(crate) fn read_kind(alloc: Global, name: &[u8], tx: &Tx, args: &[u8]) -> Result<Kind, Stop>
     requires { IsTx tx.now }
     ensures { Finds false IsForm message_words (name.now ∷ tx_text tx.now ∷ words args.now) result }
 {
@@ -240,32 +239,4 @@ fn read_kind(alloc: Global, name: &[u8], tx: &Tx, args: &[u8]) -> Result<Kind, S
         });
     }
     Err(Stop::Wrong)
-}
-
-/// The message of these words.
-pub(crate) fn read_message(
-    alloc: Global,
-    known: &mut Option<KnownTx>,
-    args: &[u8],
-) -> Option<Message>
-    ensures { MatchOption result
-        ((m : Kind) → IsMessage m → words args.now ≢ message_words m)
-        (λ m. IsMessage m × (words args.now ≡ message_words m)) }
-{
-    let Some((name, rest)) = next_word(args) else {
-        return None;
-    };
-    let Some((text, args)) = next_word(rest) else {
-        return None;
-    };
-    let Some(tx) = read_tx(alloc, known, text) else {
-        return None;
-    };
-    let Ok(kind) = read_kind(alloc, name, &tx, args) else {
-        return None;
-    };
-    if !is_message(&kind) {
-        return None;
-    }
-    Some(Message::new(kind))
 }

@@ -1,7 +1,7 @@
 //! Words that say what came of an event: a changed view, a datagram that was sent, and last rows.
 
 ghost use Rattle.std.specs.Prelude.{◌≡◌, ◌≢◌, true, MatchOption};
-ghost use Rattle.net_script.specs.Basics.{Change, Sent, Row};
+ghost use Rattle.net_script.specs.Basics.{Change, Row};
 ghost use Rattle.net_script.specs.Lines.{Reads, words};
 ghost use Rattle.net_script.specs.Spelling.{Finds};
 ghost use Rattle.net_script.specs.Items.{rows_words};
@@ -11,13 +11,14 @@ ghost use Rattle.net_script.specs.TraceLines.{IsChange, IsSent, AreFinalRows, ar
 use crate::answer_words::view_named;
 use crate::args::{manager, node, number};
 use crate::known::{KnownTx, read_tx};
-use crate::message_words::read_message;
+use crate::message_words::read_kind;
 use crate::stop::{Stop, or_none};
 use crate::word::Words;
 use crate::words::{is_over, next_word};
-use protocol::{Change, Row, Sent};
+use protocol::{Boxed, Change, Row, Sent};
 use std::alloc::Global;
 use std::cmp::Ordering;
+use wire::{Message, is_message};
 use xid::{Refusal, Sequence};
 
 /// The changed view of these words.
@@ -47,30 +48,46 @@ pub(crate) fn read_change(alloc: Global, known: &mut Option<KnownTx>, args: &[u8
     Some(Change { rm, tx, view })
 }
 
-/// The datagram of these words.
-pub(crate) fn read_sent(alloc: Global, known: &mut Option<KnownTx>, args: &[u8]) -> Option<Sent>
-    ensures { MatchOption result
-        ((s : Sent) → IsSent s → words args.now ≢ sent_words s)
-        (λ s. IsSent s × (words args.now ≡ sent_words s)) }
+/// The datagram of these words. What is large is moved as little as can be, since most lines of a trace are datagrams.
+#[inline(never)]
+pub(crate) fn read_sent(
+    alloc: Global,
+    known: &mut Option<KnownTx>,
+    args: &[u8],
+) -> Result<Option<Boxed<Sent>>, Refusal>
+    ensures { Reads IsSent sent_words (words args.now) result }
 {
     let Some((number, rest)) = number(args) else {
-        return None;
+        return Ok(None);
     };
     let Some((sender, rest)) = node(rest) else {
-        return None;
+        return Ok(None);
     };
     let Some((receiver, rest)) = node(rest) else {
-        return None;
+        return Ok(None);
     };
-    let Some(message) = read_message(alloc, known, rest) else {
-        return None;
+    let Some((name, rest)) = next_word(rest) else {
+        return Ok(None);
     };
-    Some(Sent {
+    let Some((text, rest)) = next_word(rest) else {
+        return Ok(None);
+    };
+    let Some(tx) = read_tx(alloc, known, text) else {
+        return Ok(None);
+    };
+    let Ok(kind) = read_kind(alloc, name, &tx, rest) else {
+        return Ok(None);
+    };
+    if !is_message(&kind) {
+        return Ok(None);
+    }
+    let sent = Sent {
         number,
         sender,
         receiver,
-        message,
-    })
+        message: Message::new(kind),
+    };
+    Ok(Some(Boxed::new(alloc, sent)?))
 }
 
 /// Whether keys ascend strictly by their bytes.

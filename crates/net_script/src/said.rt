@@ -14,6 +14,7 @@ use crate::outcome_words::{read_change, read_final_rows, read_sent};
 use crate::tables::read_table;
 use crate::trace_lines::{LineName, TraceLine, is_tidy, line_named, served, split_arrow};
 use crate::words::next_word;
+use protocol::Boxed;
 use std::alloc::Global;
 use xid::Refusal;
 
@@ -30,24 +31,32 @@ fn said_sizes(args: &[u8]) -> Option<TraceLine>
 
 /// The datagram of these words.
 #[inline(never)]
-fn said_sent(alloc: Global, known: &mut Option<KnownTx>, args: &[u8]) -> Option<TraceLine>
-    ensures { Reads IsTraceLine trace_line_words (line_name_text LineName.Sent ∷ words args.now) (Ok result) }
+fn said_sent(
+    alloc: Global,
+    known: &mut Option<KnownTx>,
+    args: &[u8],
+) -> Result<Option<TraceLine>, Refusal>
+    ensures { Reads IsTraceLine trace_line_words (line_name_text LineName.Sent ∷ words args.now) result }
 {
-    let Some(sent) = read_sent(alloc, known, args) else {
-        return None;
+    let Some(sent) = read_sent(alloc, known, args)? else {
+        return Ok(None);
     };
-    Some(TraceLine::Datagram(sent))
+    Ok(Some(TraceLine::Datagram(sent)))
 }
 
 /// The changed view of these words.
 #[inline(never)]
-fn said_change(alloc: Global, known: &mut Option<KnownTx>, args: &[u8]) -> Option<TraceLine>
-    ensures { Reads IsTraceLine trace_line_words (line_name_text LineName.Now ∷ words args.now) (Ok result) }
+fn said_change(
+    alloc: Global,
+    known: &mut Option<KnownTx>,
+    args: &[u8],
+) -> Result<Option<TraceLine>, Refusal>
+    ensures { Reads IsTraceLine trace_line_words (line_name_text LineName.Now ∷ words args.now) result }
 {
     let Some(change) = read_change(alloc, known, args) else {
-        return None;
+        return Ok(None);
     };
-    Some(TraceLine::Changed(change))
+    Ok(Some(TraceLine::Changed(Boxed::new(alloc, change)?)))
 }
 
 /// The last rows of these words.
@@ -88,8 +97,8 @@ fn said_named(
     match name {
         LineName::Cluster => Ok(said_sizes(args)),
         LineName::Table => said_table(alloc, args),
-        LineName::Now => Ok(said_change(alloc, known, args)),
-        LineName::Sent => Ok(said_sent(alloc, known, args)),
+        LineName::Now => said_change(alloc, known, args),
+        LineName::Sent => said_sent(alloc, known, args),
         LineName::Final => said_rows(alloc, args),
     }
 }

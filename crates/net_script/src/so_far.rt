@@ -3,7 +3,7 @@
 ghost use Rattle.std.specs.Prelude.{◌≡◌, true, not, ◌==◌, [], ◌∷◌, ◌++◌, is_some, IfOk, IfErr, OnOk};
 ghost use Rattle.std.specs.List.{list_all};
 ghost use Rattle.net_script.specs.Basics.{NoMemory};
-ghost use Rattle.net_script.specs.TraceReaders.{opened_so_far, takes_table_of, may_follow, after_line, follow};
+ghost use Rattle.net_script.specs.TraceReaders.{opened_so_far, takes_table, may_follow, after_line, follow};
 
 use crate::trace_lines::TraceLine;
 use crate::values::Sizes;
@@ -57,7 +57,7 @@ impl SoFar {
 
     /// Whether a first table of this resource manager may follow.
     fn takes_table(&self, rm: u8) -> bool
-        ensures { result ≡ takes_table_of self.now rm }
+        ensures { result ≡ takes_table self.now rm }
     {
         matches!(self.last, LastEntry::Missing)
             && self.finals == 0

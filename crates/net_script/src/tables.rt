@@ -12,9 +12,10 @@ use crate::nodes::Manager;
 use crate::stop::{Stop, or_none};
 use crate::values::Table;
 use crate::word::{Word, Words};
+use crate::words::split_once;
 use protocol::Row;
 use std::alloc::Global;
-use xid::{Bytes, MAX_KEY, MAX_VALUE, Refusal, Sequence, text};
+use xid::{Bytes, MAX_KEY, MAX_VALUE, Refusal, Sequence};
 
 impl Word for Row {
     ghost fits = { IsRow };
@@ -26,7 +27,7 @@ impl Word for Row {
     ghost spelling = { a_row };
 
     fn read(alloc: Global, word: &[u8]) -> Result<Row, Stop> {
-        let Some((key, value)) = text::split_once(word, b'=') else {
+        let Some((key, value)) = split_once(word, b'=') else {
             return Err(Stop::Wrong);
         };
         let Hex(key) = Hex::read(alloc, key)?;

@@ -11,9 +11,9 @@ ghost use Rattle.net_script.specs.TraceLines.{is_tidy, line_name_text};
 
 use crate::args::last_node;
 use crate::values::{Sizes, Table};
-use crate::words::next_word;
-use protocol::{Answer, Change, Event, NodeId, Row, Sent};
-use xid::{Sequence, text};
+use crate::words::{next_word, split_once};
+use protocol::{Answer, Boxed, Change, Event, NodeId, Row, Sent};
+use xid::Sequence;
 
 /// What one line of a trace says.
 #[derive(Debug, Drop)]
@@ -27,9 +27,9 @@ pub enum TraceLine {
     /// A node took a datagram, and what came of it.
     Served(NodeId, Answer),
     /// The view that this changed.
-    Changed(Change),
+    Changed(Boxed<Change>),
     /// A datagram that it sent.
-    Datagram(Sent),
+    Datagram(Boxed<Sent>),
     /// Last rows of a resource manager.
     Final(u8, Sequence<Row>),
 }
@@ -75,15 +75,14 @@ pub(crate) fn line_named(word: &[u8]) -> Option<LineName>
 pub(crate) fn is_tidy(line: &[u8]) -> bool
     ensures { result ≡ is_tidy line.now }
 {
-    let mut spaced = true;
-    for byte in line {
-        let is_space = *byte == b' ';
-        if is_space && spaced {
+    let mut rest = line;
+    while let Some((word, after)) = split_once(rest, b' ') {
+        if word.is_empty() {
             return false;
         }
-        spaced = is_space;
+        rest = after;
     }
-    !spaced
+    !rest.is_empty()
 }
 
 /// What stands before and after the first arrow.
@@ -92,7 +91,7 @@ pub(crate) fn split_arrow(line: &[u8]) -> Option<(&[u8], &[u8])>
         ((front back : List ℕ) → lacks 62 front ≡ true → line.now ≢ front ++ (codes " -> " ++ back))
         (λ parts. (line.now ≡ parts.0.now ++ (codes " -> " ++ parts.1.now)) × (lacks 62 parts.0.now ≡ true)) }
 {
-    let Some((front, back)) = text::split_once(line, b'>') else {
+    let Some((front, back)) = split_once(line, b'>') else {
         return None;
     };
     let Some(front) = front.strip_suffix(b" -".as_slice()) else {

@@ -11,9 +11,10 @@ use crate::said::read_said;
 use crate::so_far::{SoFar, follow};
 use crate::trace_lines::TraceLine;
 use crate::values::Sizes;
+use crate::words::split_once;
 use std::alloc::Global;
 use std::marker::Model;
-use xid::{MAX_LEADERS, MAX_MANAGERS, Refusal, text};
+use xid::{MAX_LEADERS, MAX_MANAGERS, Refusal};
 
 /// A reader of a trace's text, which gives one line after another and keeps none of them.
 #[derive(Debug, Drop)]
@@ -61,7 +62,7 @@ impl<'a> TraceReader<'a> {
     }
 
     /// The next line, or none where all bytes are read, and are the text of the trace that the lines so far tell. Refused at the same
-    /// places as `read_trace`, and by the same refusals.
+    /// places as `read_trace`, and by the same refusals; what is given after a refusal means nothing.
     pub fn next(&mut self, alloc: Global) -> Result<Option<TraceLine>, Refusal>
         ensures { (trace : Option Trace) → HasRead self.old trace → GivesNext self.old self.new trace result }
     {
@@ -70,7 +71,7 @@ impl<'a> TraceReader<'a> {
             return Ok(None);
         }
         let line = self.number + 1;
-        let Some((text, after)) = text::split_once(self.rest, b'\n') else {
+        let Some((text, after)) = split_once(self.rest, b'\n') else {
             return Err(Refusal::BadScript { line });
         };
         let Some(said) = read_said(alloc, &mut self.known, text)? else {

@@ -23,7 +23,7 @@ pub fn read_trace(alloc: Global, bytes: &[u8]) -> Result<Trace, Refusal>
     let mut reader = TraceReader::new(bytes);
     let mut trace = None;
     while let Some(said) = reader.next(alloc)? {
-        trace = with_line(alloc, trace, said)?;
+        trace = Some(with_line(alloc, trace, said)?);
     }
     let Some(trace) = trace else { unreachable!() };
     Ok(trace)

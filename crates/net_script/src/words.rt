@@ -1,13 +1,25 @@
 //! Lines and words of a text, and words that are nodes and bytes.
 
-ghost use Rattle.std.specs.Prelude.{◌≡◌, ◌≢◌, ℕ, ◌<◌, ◌^◌, [], ◌∷◌, ◌↔◌, IsTrue, MatchOption, decimal};
+ghost use Rattle.std.specs.Prelude.{◌≡◌, ◌≢◌, ℕ, ◌<◌, ◌^◌, [], ◌∷◌, ◌++◌, ◌↔◌, true, IsTrue, MatchOption, decimal};
+ghost use Rattle.xid.specs.Text.{lacks};
 ghost use Rattle.net_script.specs.Basics.{NodeId, A, L, R};
 ghost use Rattle.net_script.specs.Events.{IsNode};
 ghost use Rattle.net_script.specs.Lines.{IsFirstPiece, IsFirstWord, words, node_text};
 
 use crate::numbers;
+use memchr::memchr;
 use protocol::NodeId;
-use xid::text;
+
+/// The text before the first mark, and the text after it. None where the mark isn't there.
+pub(crate) fn split_once(text: &[u8], mark: u8) -> Option<(&[u8], &[u8])>
+    ensures { MatchOption result (lacks mark text.now ≡ true)
+        (λ parts. (text.now ≡ parts.0.now ++ mark ∷ parts.1.now) × (lacks mark parts.0.now ≡ true)) }
+{
+    let Some(at) = memchr(mark, text) else {
+        return None;
+    };
+    Some((&text[..at], &text[at + 1..]))
+}
 
 /// The text up to its first mark, or all of it, and the text after that mark.
 pub(crate) fn next_piece(text: &[u8], mark: u8) -> Option<(&[u8], &[u8])>
@@ -16,7 +28,7 @@ pub(crate) fn next_piece(text: &[u8], mark: u8) -> Option<(&[u8], &[u8])>
     if text.is_empty() {
         return None;
     }
-    let Some((piece, rest)) = text::split_once(text, mark) else {
+    let Some((piece, rest)) = split_once(text, mark) else {
         return Some((text, &[]));
     };
     Some((piece, rest))

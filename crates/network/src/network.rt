@@ -12,7 +12,7 @@ use crate::entry::{Entry, KeptDatagram, marked_front};
 use protocol::NodeId;
 use std::alloc::Global;
 use std::marker::Model;
-use wire::{MAX_DATAGRAM, MAX_MESSAGE_BYTES, Message, encode};
+use wire::MAX_MESSAGE_BYTES;
 use xid::Refusal;
 
 /// How many datagrams there may be: each has a number of 32 bits.
@@ -114,25 +114,9 @@ impl Network {
         Ok(())
     }
 
-    /// Puts a datagram after the others, unmarked, and answers its number. There is room for it and for a message, so it takes no memory.
-    pub fn push(&mut self, sender: NodeId, receiver: NodeId, message: &Message) -> u32
-        requires datagram { 0 < self.old.spare }
-        requires bytes { MAX_MESSAGE_BYTES ≤ self.old.spare_bytes }
-        ensures stands { (net : List Datagram) → StandsFor self.old net
-            → StandsFor self.new (net ++ datagram_to sender message.now receiver ∷ []) }
-        ensures number { (net : List Datagram) → StandsFor self.old net → result ≡ suc (length net) }
-        ensures some { 0 < length self.new.datagrams }
-        ensures spare { self.old.spare ≤ self.new.spare + 1 }
-        ensures spare_bytes { self.old.spare_bytes ≤ self.new.spare_bytes + MAX_MESSAGE_BYTES }
-    {
-        let _ = message.kind();
-        let mut buffer = [0; MAX_DATAGRAM];
-        let len = encode(message, &mut buffer);
-        self.push_spelled(sender, receiver, &buffer[..len])
-    }
-
-    /// Puts a datagram after the others as `push` does, by the bytes that spell its message, which are kept as they stand.
-    pub fn push_spelled(&mut self, sender: NodeId, receiver: NodeId, bytes: &[u8]) -> u32
+    /// Puts a datagram after the others, unmarked, by the bytes that spell its message, which are kept as they stand, and answers its
+    /// number. There is room for it and for a message, so it takes no memory.
+    pub fn push(&mut self, sender: NodeId, receiver: NodeId, bytes: &[u8]) -> u32
         requires datagram { 0 < self.old.spare }
         requires few { length bytes.now ≤ MAX_MESSAGE_BYTES }
         requires bytes { MAX_MESSAGE_BYTES ≤ self.old.spare_bytes }

@@ -1,13 +1,10 @@
 //! What a node does on an input: by its role, if it is up.
 
-ghost use Rattle.std.specs.Prelude.{◌≡◌, ℕ, true, false, List, Option, Some, None};
-ghost use Rattle.wire.specs.Grammar.{Spells};
+ghost use Rattle.std.specs.Prelude.{◌≡◌, true, false, List, Option, Some, None};
 ghost use Rattle.stable_record.specs.declared.fact.FactKind.{FactKind};
-ghost use Rattle.xid.specs.Transactions.{participants};
-ghost use Rattle.resource_manager.specs.Messages.{are_below};
 ghost use Rattle.protocol.specs.Effects.{Config};
-ghost use Rattle.protocol.specs.Nodes.{Memory, Asked, effect_of, is_message_inside, down_answer as down_answer_of};
-ghost use Rattle.node_core.specs.Roles.{RoleStands, is_manager};
+ghost use Rattle.protocol.specs.Nodes.{Memory, Asked, effect_of, down_answer as down_answer_of};
+ghost use Rattle.node_core.specs.Roles.{RoleStands};
 ghost use Rattle.node_core.specs.Storing.{Carries, carried};
 ghost use Rattle.node_core.specs.declared.config.Sizes.{Sizes as SizesParts};
 ghost use Rattle.node_core.specs.Nodes.{AreSizes, datagram_input, input_of, role_settled};
@@ -17,106 +14,14 @@ ghost use Rattle.node_core.specs.Handling.{Handles};
 use crate::accepting::accept_bytes;
 use crate::config::Sizes;
 use crate::leading::lead_bytes;
+use crate::managing::manage_bytes;
 use crate::output::{Input, Output};
 use crate::requests::accepts_request;
 use crate::role::Role;
 use crate::storing::{Workspace, carry_out};
 use protocol::{Answer, NodeId, Request};
 use stable_record::Record;
-use wire::{Kind, Message, decode};
-use xid::{Refusal, Tx, XaCode};
-
-/// Whether a transaction names only resource managers of the cluster.
-fn is_inside(managers: u8, tx: &Tx) -> bool
-    ensures { result ≡ are_below managers (participants tx.now) }
-{
-    for i in 0..tx.count() {
-        if tx.rm(i) >= u16::from(managers) {
-            return false;
-        }
-    }
-    true
-}
-
-/// Whether a message is one of the cluster: it names none but its nodes, and has the form that goes there.
-fn is_of_cluster(sizes: Sizes, message: &Message) -> bool
-    ensures { (config : Config) → AreSizes config sizes → result ≡ is_message_inside config message.now }
-{
-    let kind = message.kind();
-    if !is_inside(sizes.managers, kind.tx()) {
-        return false;
-    }
-    match kind {
-        Kind::P1a { .. } => !sizes.bundled,
-        Kind::P1b { acceptor, .. } => *acceptor < sizes.acceptors && !sizes.bundled,
-        Kind::P2b { acceptor, .. } => *acceptor < sizes.acceptors && !sizes.bundled,
-        Kind::B1a { .. } => sizes.bundled,
-        Kind::B1b { acceptor, .. } => *acceptor < sizes.acceptors && sizes.bundled,
-        Kind::B2b { acceptor, .. } => *acceptor < sizes.acceptors && sizes.bundled,
-        Kind::Prepare(_) => true,
-        Kind::Commit(_) => true,
-        Kind::Abort(_) => true,
-        Kind::P2a { .. } => true,
-        Kind::Ask { .. } => true,
-    }
-}
-
-/// What a resource manager that is up does on a message, whatever bytes spelled it. False where it goes down.
-fn hear_message<R: Record>(
-    work: &mut Workspace,
-    device: &mut R,
-    who: NodeId,
-    sizes: Sizes,
-    role: &mut Role,
-    message: &Message,
-    out: &mut Output,
-) -> bool
-    requires { is_manager role.old ≡ true }
-    ensures { (config : Config) (facts : List FactKind) (memory : Memory) (bytes : List ℕ) → AreSizes config sizes
-        → Spells message.now bytes → RoleStands config who role.old facts memory
-        → Carries config who facts memory (effect_of config who facts memory (datagram_input bytes))
-        (R.held device.old) (R.held device.new) role.new (carried result out.new) }
-{
-    if !is_of_cluster(sizes, message) {
-        out.answer(Answer::Done);
-        return true;
-    }
-    match role.on_message(message, out, &mut work.fact) {
-        Ok(()) => carry_out(work, device, who, role, out),
-        Err(refusal) => {
-            out.refuse(refusal);
-            false
-        }
-    }
-}
-
-/// What a resource manager that is up does on the bytes of a datagram. False where it goes down.
-fn hear_bytes<R: Record>(
-    work: &mut Workspace,
-    device: &mut R,
-    who: NodeId,
-    sizes: Sizes,
-    role: &mut Role,
-    bytes: &[u8],
-    out: &mut Output,
-) -> bool
-    requires { is_manager role.old ≡ true }
-    ensures carries { (config : Config) (facts : List FactKind) (memory : Memory) → AreSizes config sizes
-        → RoleStands config who role.old facts memory
-        → Carries config who facts memory (effect_of config who facts memory (datagram_input bytes.now))
-        (R.held device.old) (R.held device.new) role.new (carried result out.new) }
-    ensures free { is_free who (datagram_input bytes.now) ≡ true → (config : Config) (facts : List FactKind) (memory : Memory)
-        → AreSizes config sizes → RoleStands config who role.old facts memory
-        → (effect_of config who facts memory (datagram_input bytes.now)).fact ≡ None → result ≡ true }
-{
-    match &decode(bytes) {
-        Ok(message) => hear_message(work, device, who, sizes, role, message, out),
-        Err(_) => {
-            out.refuse(Refusal::BadMessage);
-            true
-        }
-    }
-}
+use xid::{Refusal, XaCode};
 
 /// What a node that is up does on the bytes of a datagram. False where it goes down.
 fn hear<R: Record>(
@@ -141,7 +46,7 @@ fn hear<R: Record>(
             accept_bytes(&mut work.frame, device, who, sizes, acceptor, bytes, out)
         }
         Role::Leader(leader) => lead_bytes(sizes, leader, bytes, out),
-        Role::Manager(_) => hear_bytes(work, device, who, sizes, role, bytes, out),
+        Role::Manager(_) => manage_bytes(work, device, who, sizes, role, bytes, out),
     }
 }
 

@@ -9,6 +9,7 @@ mod config;
 mod frames;
 mod grouping;
 mod leading;
+mod managing;
 mod migrating;
 mod node;
 mod opening;

@@ -1,11 +1,11 @@
-ghost use Rattle.std.specs.Prelude.{◌≡◌, ℕ, [], true, false, IfErr, IsOk, OnOk};
+ghost use Rattle.std.specs.Prelude.{◌≡◌, ℕ, true, IfErr, IsOk, OnOk};
 ghost use Rattle.xid.specs.declared.refusals.Refusal.TheVariants.{NoMemory};
 ghost use Rattle.stable_record.specs.Parts.{IsMadeReady};
 ghost use Rattle.acceptor.specs.Acceptors.{acceptor_part};
 ghost use Rattle.protocol.specs.Effects.{Config};
-ghost use Rattle.protocol.specs.Nodes.{on_message as on_message_of, on_request as on_request_of, empty_memory};
+ghost use Rattle.protocol.specs.Nodes.{on_request as on_request_of};
 ghost use Rattle.node_core.specs.declared.role.Role.TheVariants as roles;
-ghost use Rattle.node_core.specs.Roles.{Decides, HasRoomFor, IsSame, Replays, Takes, decided, is_manager};
+ghost use Rattle.node_core.specs.Roles.{Decides, HasRoomFor, IsSame, Replays, Takes, decided};
 ghost use Rattle.node_core.specs.Sparing.{serves_freely};
 
 use crate::output::Output;
@@ -15,7 +15,7 @@ use leader::Leader;
 use protocol::Request;
 use resource_manager::ResourceManager;
 use stable_record::{Fact, FactKind};
-use wire::{MAX_TX_BYTES, Message, SpelledTx};
+use wire::{MAX_TX_BYTES, SpelledTx};
 use xid::Refusal;
 
 /// What a node is: one part of the protocol. None of their rules stands here.
@@ -47,29 +47,10 @@ fn let_leader_go(_: Leader) {}
 fn let_manager_go(_: ResourceManager) {}
 
 impl Role {
-    /// What it does, if it is a resource manager, on a message of the cluster: the answer and what to send are put out, and in the place
-    /// of `fact` stands the one that is to be stored before, if there is one. Its caller makes ready for it, stores it and then has it
-    /// taken. Refused: `NoMemory` alone, and then the role is of no use any more.
-    pub(crate) fn on_message(
-        &mut self,
-        message: &Message,
-        out: &mut Output,
-        fact: &mut Option<Fact>,
-    ) -> Result<(), Refusal>
-        requires { is_manager self.old ≡ true }
-        ensures ok { OnOk result (Decides self.old self.new (decided fact.new out.new)
-            (λ config who facts memory. on_message_of config who facts memory message.now)) }
-        ensures err { IfErr result (λ e. e ≡ NoMemory) }
-    {
-        match self {
-            Role::Acceptor(_) => unreachable!(),
-            Role::Leader(_) => unreachable!(),
-            Role::Manager(manager) => out.sends.manage(manager, message, &mut out.reply, fact),
-        }
-    }
-
-    /// What it does on a request. One that its kind doesn't take is answered `NoSuch`. For the rest it is as `on_message`: `NoMemory`
-    /// is answered to a commit at a leader, and at a resource manager to a recover and to calls that end no branch.
+    /// What it does on a request: the answer and what to send are put out, and in the place of `fact` stands the one that is to be stored
+    /// before, if there is one. Its caller makes ready for it, stores it and then has it taken. A request that its kind doesn't take is
+    /// answered `NoSuch`. Refused: `NoMemory` alone, at a commit at a leader, and at a resource manager at a recover and at calls that
+    /// end no branch; then the role is of no use any more.
     pub fn on_request(
         &mut self,
         request: &Request,

@@ -21,7 +21,7 @@ use resource_manager::ResourceManager;
 use stable_record::Fact;
 use std::marker::Model;
 use std::mem;
-use wire::{MAX_MESSAGE_BYTES, Message, MessageView};
+use wire::{MAX_MESSAGE_BYTES, MessageView};
 use xid::Refusal;
 
 /// The messages that a node sends, in order, which a contract sees as the list of them. To make them takes no memory. There is a place
@@ -132,7 +132,7 @@ impl NodeSends {
     pub(crate) fn manage(
         &mut self,
         manager: &ResourceManager,
-        message: &Message,
+        message: &MessageView<'_>,
         reply: &mut Answer,
         fact: &mut Option<Fact>,
     ) -> Result<(), Refusal>

@@ -16,6 +16,9 @@ use Rattle.stable_record.specs.Facts.{fact_tx}
 use Rattle.wire.specs.Messages.{message_tx}
 use Rattle.wire.specs.declared.message.Kind.{Kind}
 use Rattle.wire.specs.declared.message.Kind.TheVariants as kinds
+use Rattle.wire.specs.declared.rest.Rest.{Rest}
+use Rattle.wire.specs.declared.rest.Rest.TheVariants as rests
+use Rattle.wire.specs.Said.{said}
 use Rattle.protocol.specs.declared.answers.Answer.{Answer}
 use Rattle.protocol.specs.declared.answers.Answer.TheVariants.{Done, Stands, Refused}
 use Rattle.protocol.specs.declared.decisions.Decision.{Decision}
@@ -474,9 +477,10 @@ other_message m decision message is e = tells m decision []
     (λ config number stored branches. on_manager_message number stored branches (xid_at (message_tx message) number) message) e
     (λ config number facts branches stands. other_by number facts branches (xid_at (message_tx message) number) message is)
 
-pub other_kind : (k : Kind) → ((tx : TxParts) → k ≡ kinds.Prepare tx → ⊥) → ((tx : TxParts) → k ≡ kinds.Commit tx → ⊥)
-    → ((tx : TxParts) → k ≡ kinds.Abort tx → ⊥) → IsOther k
-other_kind (kinds.Prepare tx) p c a = p tx refl
-other_kind (kinds.Commit tx) p c a = c tx refl
-other_kind (kinds.Abort tx) p c a = a tx refl
-other_kind message p c a = tt
+-- a rest of none of the three kinds that a resource manager acts on
+pub other_rest : (tx : TxParts) (rest : Rest) → (rest ≡ rests.Prepare → ⊥) → (rest ≡ rests.Commit → ⊥) → (rest ≡ rests.Abort → ⊥)
+    → IsOther (said tx rest)
+other_rest tx rests.Prepare p c a = p refl
+other_rest tx rests.Commit p c a = c refl
+other_rest tx rests.Abort p c a = a refl
+other_rest tx rest p c a = tt

@@ -10,6 +10,7 @@ use crate::course::Course;
 use std::alloc::Global;
 use std::marker::Model;
 use transactions::Transactions;
+use wire::{MAX_TX_BYTES, SpelledTx};
 use xid::{Refusal, Tx};
 
 /// The transactions that a resource manager has seen, and how far each has come. One that wasn't seen is working. The others stand in
@@ -19,6 +20,8 @@ pub struct Courses {
     transactions: Transactions,
     courses: Vec<Course>,
     begun: Vec<usize>,
+    /// The number of the transaction that was seen last: most often that of the next event, or the one before it.
+    near: usize,
 }
 
 impl Model for Courses {
@@ -51,15 +54,16 @@ impl Courses {
             transactions: Transactions::new(alloc),
             courses: Vec::new(alloc),
             begun: Vec::new(alloc),
+            near: 0,
         }
     }
 
     /// The number of a transaction, where it was seen. It takes no memory.
-    pub fn number_of(&self, tx: &Tx) -> Option<usize>
+    pub fn number_of(&self, tx: &SpelledTx<'_>) -> Option<usize>
         ensures { MatchOption result (course_in self.now tx.now ≡ courses.Working)
             (λ number. (number ≡ place_in self.now.transactions tx.now) × IsSeen self.now tx.now × (number < length self.now.courses)) }
     {
-        self.transactions.number_of(tx)
+        self.transactions.number_of_view(tx, self.near)
     }
 
     /// How far the transaction of a number has come.
@@ -71,34 +75,44 @@ impl Courses {
     }
 
     /// How far a transaction has come. It takes no memory.
-    pub fn of(&self, tx: &Tx) -> Course
+    pub fn of(&self, tx: &SpelledTx<'_>) -> Course
         ensures { result ≡ course_in self.now tx.now }
     {
-        match self.transactions.number_of(tx) {
+        match self.transactions.number_of_view(tx, self.near) {
             Some(number) => self.courses[number],
             None => Course::Working,
         }
     }
 
+    /// The same of a transaction that isn't spelled.
+    pub fn of_tx(&self, tx: &Tx) -> Course
+        ensures { result ≡ course_in self.now tx.now }
+    {
+        let mut buffer = [0; MAX_TX_BYTES];
+        self.of(&SpelledTx::of(tx, &mut buffer))
+    }
+
     /// Sees a transaction, which is working then unless it was seen, and answers its number. At `NoMemory`, the only refusal, it wasn't
     /// seen; then, and else too, each has come as far as before.
-    pub fn see(&mut self, tx: &Tx) -> Result<usize, Refusal>
+    pub fn see(&mut self, tx: &SpelledTx<'_>) -> Result<usize, Refusal>
         ensures number { IfOk result (λ number. (number ≡ place_in self.new.transactions tx.now) × IsSeen self.new tx.now) }
         ensures same { (other : TxParts) → course_in self.new other ≡ course_in self.old other }
         ensures begun { self.new.begun ≡ self.old.begun }
         ensures room { self.new.room ≡ self.old.room }
         ensures err { IfErr result (λ e. (e ≡ NoMemory) × (¬ IsSeen self.old tx.now)) }
     {
-        if let Some(number) = self.transactions.number_of(tx) {
+        if let Some(number) = self.transactions.number_of_view(tx, self.near) {
+            self.near = number;
             return Ok(number);
         }
         if self.courses.reserve(1).is_err() {
             return Err(Refusal::NoMemory);
         }
-        let Ok(number) = self.transactions.add(tx) else {
+        let Ok(number) = self.transactions.insert_view(tx) else {
             return Err(Refusal::NoMemory);
         };
         self.courses.push_reserved(Course::Working);
+        self.near = number;
         Ok(number)
     }
 
@@ -119,7 +133,7 @@ impl Courses {
 
     /// Sets how far the transaction of a number has come. One that was working is the last then of which a fact is stored: there is room
     /// for it.
-    pub fn set(&mut self, tx: &Tx, number: usize, course: Course)
+    pub fn set(&mut self, tx: &SpelledTx<'_>, number: usize, course: Course)
         requires number { number ≡ place_in self.old.transactions tx.now }
         requires seen { IsSeen self.old tx.now }
         requires room { course_in self.old tx.now ≡ courses.Working → 0 < self.old.room }

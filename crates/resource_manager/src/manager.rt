@@ -154,7 +154,7 @@ impl ResourceManager {
         if !tx.is_participant(self.number()) {
             return Err(Refusal::BadTx);
         }
-        Ok(self.courses.of(tx).view())
+        Ok(self.courses.of_tx(tx).view())
     }
 
     /// The transactions that are prepared and not ended, in the order of their first facts. Refused: `NoMemory` alone.
@@ -186,7 +186,7 @@ impl ResourceManager {
         ensures ok { OnOk result (txs.new.items ≡ txs.old.items ++ cons_option (open_at self.now tx) []) }
         ensures err { IfErr result (λ e. e ≡ NoMemory) }
     {
-        if self.courses.of(&tx).is_prepared() {
+        if self.courses.of_tx(&tx).is_prepared() {
             txs.push(tx)?;
         }
         Ok(())

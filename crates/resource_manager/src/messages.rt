@@ -23,7 +23,7 @@ use crate::course::Course;
 use crate::manager::ResourceManager;
 use protocol::{Address, Answer, Decision, Outgoing, Sends};
 use stable_record::{Fact, FactKind, Touched};
-use wire::{Kind, Message};
+use wire::{Kind, Message, MessageView, Rest, SpelledTx};
 use xid::{ManagerNumber, Refusal, Sequence, Tx, Vote, Xid};
 
 /// What a resource manager sends when nothing was heard of a transaction for too long.
@@ -54,7 +54,7 @@ impl ResourceManager {
     /// Prepare: a vote that is stored is sent again; where an outcome is stored, nothing. Else the first vote is to be stored, and sent to
     /// all acceptors in ballot 0: prepared with the touched keys of an idle branch whose name isn't spent, else aborted. Nothing where
     /// the transaction has no name here. It takes memory for the keys of a vote alone; refused: `NoMemory`.
-    pub fn on_prepare(&self, tx: &Tx) -> Result<Decision, Refusal>
+    pub fn on_prepare(&self, tx: &SpelledTx<'_>) -> Result<Decision, Refusal>
         ensures ok { IfOk result (λ decision. Decides self.now decision
             (λ config number stored branches. on_manager_message number stored branches (xid_at tx.now number) (kinds.Prepare tx.now))) }
         ensures err { IfErr result (λ e. e ≡ NoMemory) }
@@ -67,7 +67,7 @@ impl ResourceManager {
     }
 
     /// Commit: where the resource manager is prepared, it is to be stored. Else nothing. It takes no memory.
-    pub fn on_commit(&self, tx: &Tx) -> Decision
+    pub fn on_commit(&self, tx: &SpelledTx<'_>) -> Decision
         ensures { Decides self.now result
             (λ config number stored branches. on_manager_message number stored branches (xid_at tx.now number) (kinds.Commit tx.now)) }
     {
@@ -77,7 +77,7 @@ impl ResourceManager {
     }
 
     /// Abort: where the resource manager is working or prepared, it is to be stored. Else nothing. It takes no memory.
-    pub fn on_abort(&self, tx: &Tx) -> Decision
+    pub fn on_abort(&self, tx: &SpelledTx<'_>) -> Decision
         ensures { Decides self.now result
             (λ config number stored branches. on_manager_message number stored branches (xid_at tx.now number) (kinds.Abort tx.now)) }
     {
@@ -88,7 +88,7 @@ impl ResourceManager {
 
     /// What it does on a message: what `on_prepare`, `on_commit` and `on_abort` say, and on every other nothing. That the message names
     /// none but nodes of the cluster is asked before, by the node. Refused: `NoMemory`, at a Prepare alone.
-    pub fn on_message(&self, message: &Message) -> Result<Decision, Refusal>
+    pub fn on_message(&self, message: &MessageView<'_>) -> Result<Decision, Refusal>
         ensures ok { IfOk result (λ decision. Decides self.now decision
             (λ config number stored branches. on_manager_message number stored branches
             (xid_at (message_tx message.now) number) message.now)) }
@@ -101,21 +101,22 @@ impl ResourceManager {
         }
     }
 
-    /// Decides as `on_message` does, in the place of what was decided before, so that no fact or message is copied to hand it over.
-    /// Refused: `NoMemory`, at a Prepare alone; what was decided before is lost then too.
-    pub fn decide(&self, message: &Message, decision: &mut Decision) -> Result<(), Refusal>
+    /// Decides as `on_message` does, in the place of what was decided before, so that no fact or message is copied to hand it over, and no
+    /// transaction but one that is stored or sent. Refused: `NoMemory`, at a Prepare alone; what was decided before is lost then too.
+    pub fn decide(&self, message: &MessageView<'_>, decision: &mut Decision) -> Result<(), Refusal>
         ensures ok { OnOk result (Decides self.now decision.new
             (λ config number stored branches. on_manager_message number stored branches
             (xid_at (message_tx message.now) number) message.now)) }
         ensures err { IfErr result (λ e. e ≡ NoMemory) }
     {
-        match message.kind() {
-            Kind::Prepare(tx) => self.decide_prepare(tx, decision),
-            Kind::Commit(tx) => {
+        let tx = message.tx();
+        match message.rest() {
+            Rest::Prepare => self.decide_prepare(tx, decision),
+            Rest::Commit => {
                 self.decide_commit(tx, decision);
                 Ok(())
             }
-            Kind::Abort(tx) => {
+            Rest::Abort => {
                 self.decide_abort(tx, decision);
                 Ok(())
             }
@@ -128,7 +129,7 @@ impl ResourceManager {
 
     /// Decides as `on_prepare` does.
     #[inline(never)]
-    fn decide_prepare(&self, tx: &Tx, decision: &mut Decision) -> Result<(), Refusal>
+    fn decide_prepare(&self, tx: &SpelledTx<'_>, decision: &mut Decision) -> Result<(), Refusal>
         ensures ok { OnOk result (Decides self.now decision.new
             (λ config number stored branches. on_manager_message number stored branches (xid_at tx.now number) (kinds.Prepare tx.now))) }
         ensures err { IfErr result (λ e. e ≡ NoMemory) }
@@ -149,7 +150,7 @@ impl ResourceManager {
 
     /// Decides as `on_commit` does.
     #[inline(never)]
-    fn decide_commit(&self, tx: &Tx, decision: &mut Decision)
+    fn decide_commit(&self, tx: &SpelledTx<'_>, decision: &mut Decision)
         ensures { Decides self.now decision.new
             (λ config number stored branches. on_manager_message number stored branches (xid_at tx.now number) (kinds.Commit tx.now)) }
     {
@@ -160,12 +161,12 @@ impl ResourceManager {
         if !self.courses.of(tx).is_prepared() {
             return;
         }
-        decision.fact = Some(Fact::new(FactKind::Committed(*tx)));
+        decision.fact = Some(Fact::new(FactKind::Committed(tx.to_tx())));
     }
 
     /// Decides as `on_abort` does.
     #[inline(never)]
-    fn decide_abort(&self, tx: &Tx, decision: &mut Decision)
+    fn decide_abort(&self, tx: &SpelledTx<'_>, decision: &mut Decision)
         ensures { Decides self.now decision.new
             (λ config number stored branches. on_manager_message number stored branches (xid_at tx.now number) (kinds.Abort tx.now)) }
     {
@@ -176,7 +177,7 @@ impl ResourceManager {
         if !self.courses.of(tx).is_open() {
             return;
         }
-        decision.fact = Some(Fact::new(FactKind::Aborted(*tx)));
+        decision.fact = Some(Fact::new(FactKind::Aborted(tx.to_tx())));
     }
 
     /// A timeout: a stored vote is sent again to all acceptors, and where the resource manager is prepared, all leaders are asked. The
@@ -193,7 +194,7 @@ impl ResourceManager {
         if !tx.is_participant(own) {
             return Reminder::answers(Answer::Done);
         }
-        let course = self.courses.of(tx);
+        let course = self.courses.of_tx(tx);
         Reminder {
             answer: Answer::Done,
             vote: votes_sent(own, tx, course.vote()),
@@ -209,7 +210,7 @@ impl ResourceManager {
     }
 
     /// The name that a transaction has here, if it has one.
-    pub(crate) fn name_here(&self, tx: &Tx) -> Option<Xid>
+    pub(crate) fn name_here(&self, tx: &SpelledTx<'_>) -> Option<Xid>
         ensures value { result ≡ xid_at tx.now self.now.number }
         ensures valid { IsTx tx.now }
     {
@@ -218,7 +219,12 @@ impl ResourceManager {
 
     /// Decides on the first vote on a transaction that has this name here.
     #[inline(never)]
-    fn vote_first(&self, tx: &Tx, xid: &Xid, decision: &mut Decision) -> Result<(), Refusal>
+    fn vote_first(
+        &self,
+        tx: &SpelledTx<'_>,
+        xid: &Xid,
+        decision: &mut Decision,
+    ) -> Result<(), Refusal>
         requires { IsTrue (is_participant tx.now self.now.number) }
         ensures ok { OnOk result ((branches : List Branch) → decision.new
             ≡ decision_of (first_vote_of self.now.number branches tx.now xid.now (is_spent_in self.now.spent xid.now)
@@ -275,17 +281,17 @@ fn vote_message(number: ManagerNumber, tx: &Tx, vote: Vote) -> Sends
 
 /// Decides to send a stored vote again.
 #[inline(never)]
-fn tell(number: ManagerNumber, tx: &Tx, vote: Vote, decision: &mut Decision)
+fn tell(number: ManagerNumber, tx: &SpelledTx<'_>, vote: Vote, decision: &mut Decision)
     requires { IsTrue (is_participant tx.now number) }
     ensures { decision.new ≡ record { answer = Done; fact = None; sends = vote_sent number tx.now (Some vote) } }
 {
     decision.clear();
-    decision.sends = vote_message(number, tx, vote);
+    decision.sends = vote_message(number, &tx.to_tx(), vote);
 }
 
 /// Decides to store a first vote that is aborted, and to send it.
 #[inline(never)]
-fn vote_aborted(number: ManagerNumber, tx: &Tx, decision: &mut Decision)
+fn vote_aborted(number: ManagerNumber, tx: &SpelledTx<'_>, decision: &mut Decision)
     requires { IsTrue (is_participant tx.now number) }
     ensures { decision.new ≡ record {
       answer = Done;
@@ -293,15 +299,20 @@ fn vote_aborted(number: ManagerNumber, tx: &Tx, decision: &mut Decision)
       sends = vote_sent number tx.now (Some Aborted);
     } }
 {
-    let _ = tx.count();
+    let tx = tx.to_tx();
     decision.answer = Answer::Done;
-    decision.fact = Some(Fact::new(FactKind::VoteAborted(*tx)));
-    decision.sends = vote_message(number, tx, Vote::Aborted);
+    decision.fact = Some(Fact::new(FactKind::VoteAborted(tx)));
+    decision.sends = vote_message(number, &tx, Vote::Aborted);
 }
 
 /// Decides to store a first vote that is prepared, with the keys that its branch has touched, and to send it.
 #[inline(never)]
-fn vote_prepared(number: ManagerNumber, tx: &Tx, keys: Sequence<Touched>, decision: &mut Decision)
+fn vote_prepared(
+    number: ManagerNumber,
+    tx: &SpelledTx<'_>,
+    keys: Sequence<Touched>,
+    decision: &mut Decision,
+)
     requires participant { IsTrue (is_participant tx.now number) }
     requires keys { AreKeys keys }
     ensures { decision.new ≡ record {
@@ -310,10 +321,10 @@ fn vote_prepared(number: ManagerNumber, tx: &Tx, keys: Sequence<Touched>, decisi
       sends = vote_sent number tx.now (Some Prepared);
     } }
 {
-    let _ = tx.count();
+    let tx = tx.to_tx();
     decision.answer = Answer::Done;
-    decision.fact = Some(Fact::new(FactKind::VotePrepared { tx: *tx, keys }));
-    decision.sends = vote_message(number, tx, Vote::Prepared);
+    decision.fact = Some(Fact::new(FactKind::VotePrepared { tx, keys }));
+    decision.sends = vote_message(number, &tx, Vote::Prepared);
 }
 
 /// A vote, if there is one, in ballot 0 for all acceptors.

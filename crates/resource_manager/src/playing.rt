@@ -15,6 +15,7 @@ ghost use Rattle.resource_manager.specs.Playing.{IsThere, MeansSame, Plays, Play
 use crate::course::Course;
 use crate::manager::ResourceManager;
 use stable_record::{Fact, FactKind, Touched};
+use wire::{MAX_TX_BYTES, SpelledTx};
 use xid::{Refusal, Tx, Xid};
 
 impl ResourceManager {
@@ -57,11 +58,14 @@ impl ResourceManager {
     fn play_kind(&mut self, fact: &Fact) -> Result<(), Refusal>
         ensures { Plays self.old self.new fact.now result }
     {
-        match fact.kind() {
-            FactKind::VotePrepared { tx, keys } => self.play_prepared(tx, keys.as_slice()),
-            FactKind::VoteAborted(tx) => self.play_refused(tx),
-            FactKind::Committed(tx) => self.play_committed(tx),
-            FactKind::Aborted(tx) => self.play_aborted(tx),
+        let kind = fact.kind();
+        let mut buffer = [0; MAX_TX_BYTES];
+        let tx = SpelledTx::of(kind.tx(), &mut buffer);
+        match kind {
+            FactKind::VotePrepared { keys, .. } => self.play_prepared(&tx, keys.as_slice()),
+            FactKind::VoteAborted(_) => self.play_refused(&tx),
+            FactKind::Committed(_) => self.play_committed(&tx),
+            FactKind::Aborted(_) => self.play_aborted(&tx),
             FactKind::Promise { .. } => Err(Refusal::Damaged),
             FactKind::PromiseAll { .. } => Err(Refusal::Damaged),
             FactKind::Accept { .. } => Err(Refusal::Damaged),
@@ -71,7 +75,7 @@ impl ResourceManager {
 
     /// Makes a place for a transaction, room for it in the order of first facts, and room for a name to spend. It answers the
     /// transaction's number. At `NoMemory`, the only refusal, and else too, all means what it meant.
-    fn make_places(&mut self, tx: &Tx) -> Result<usize, Refusal>
+    fn make_places(&mut self, tx: &SpelledTx<'_>) -> Result<usize, Refusal>
         ensures ok { IfOk result (λ number. (number ≡ place_in self.new.courses.transactions tx.now) × HasPlaces self.new tx.now) }
         ensures same { MeansSame self.old self.new }
         ensures err { IfErr result (λ e. (e ≡ NoMemory) × (¬ HasPlaces self.old tx.now)) }
@@ -96,14 +100,15 @@ impl ResourceManager {
         ensures same { MeansSame self.old self.new }
         ensures err { IfErr result (λ e. e ≡ NoMemory) }
     {
-        match self.make_places(tx) {
+        let mut buffer = [0; MAX_TX_BYTES];
+        match self.make_places(&SpelledTx::of(tx, &mut buffer)) {
             Ok(_) => Ok(()),
             Err(refusal) => Err(refusal),
         }
     }
 
     /// Notes how far a transaction has come that has places, and that its name is spent.
-    fn store(&mut self, tx: &Tx, number: usize, xid: &Xid, course: Course)
+    fn store(&mut self, tx: &SpelledTx<'_>, number: usize, xid: &Xid, course: Course)
         requires places { HasPlaces self.old tx.now }
         requires number { number ≡ place_in self.old.courses.transactions tx.now }
         ensures { Stores self.old self.new tx.now xid.now course }
@@ -113,7 +118,7 @@ impl ResourceManager {
     }
 
     /// Plays a vote prepared.
-    fn play_prepared(&mut self, tx: &Tx, keys: &[Touched]) -> Result<(), Refusal>
+    fn play_prepared(&mut self, tx: &SpelledTx<'_>, keys: &[Touched]) -> Result<(), Refusal>
         requires { AreKeys keys.now }
         ensures { Plays self.old self.new (facts.VotePrepared tx.now keys.now) result }
     {
@@ -133,7 +138,7 @@ impl ResourceManager {
     }
 
     /// Plays a vote prepared of a branch that exists.
-    fn play_idle(&mut self, tx: &Tx, xid: &Xid, keys: &[Touched]) -> Result<(), Refusal>
+    fn play_idle(&mut self, tx: &SpelledTx<'_>, xid: &Xid, keys: &[Touched]) -> Result<(), Refusal>
         requires keys { AreKeys keys.now }
         requires there { IsThere self.old xid.now }
         ensures { PlaysVote self.old self.new tx.now xid.now keys.now result }
@@ -152,7 +157,7 @@ impl ResourceManager {
     }
 
     /// Plays a vote prepared of a branch that doesn't exist, as in a replay.
-    fn play_new(&mut self, tx: &Tx, xid: &Xid, keys: &[Touched]) -> Result<(), Refusal>
+    fn play_new(&mut self, tx: &SpelledTx<'_>, xid: &Xid, keys: &[Touched]) -> Result<(), Refusal>
         requires keys { AreKeys keys.now }
         requires none { branch_named self.old.table.branches xid.now ≡ None }
         ensures { PlaysVote self.old self.new tx.now xid.now keys.now result }
@@ -174,7 +179,7 @@ impl ResourceManager {
     }
 
     /// Plays a vote aborted.
-    fn play_refused(&mut self, tx: &Tx) -> Result<(), Refusal>
+    fn play_refused(&mut self, tx: &SpelledTx<'_>) -> Result<(), Refusal>
         ensures { Plays self.old self.new (facts.VoteAborted tx.now) result }
     {
         let Some(xid) = self.name_here(tx) else {
@@ -188,7 +193,7 @@ impl ResourceManager {
     }
 
     /// Plays an abort.
-    fn play_aborted(&mut self, tx: &Tx) -> Result<(), Refusal>
+    fn play_aborted(&mut self, tx: &SpelledTx<'_>) -> Result<(), Refusal>
         ensures { Plays self.old self.new (facts.Aborted tx.now) result }
     {
         let Some(xid) = self.name_here(tx) else {
@@ -208,7 +213,7 @@ impl ResourceManager {
     /// Ends a branch without effect, unless it is another transaction's, and notes the course of its transaction.
     fn end_branch(
         &mut self,
-        tx: &Tx,
+        tx: &SpelledTx<'_>,
         xid: &Xid,
         is_anothers: bool,
         course: Course,
@@ -227,7 +232,7 @@ impl ResourceManager {
     }
 
     /// Plays a commit.
-    fn play_committed(&mut self, tx: &Tx) -> Result<(), Refusal>
+    fn play_committed(&mut self, tx: &SpelledTx<'_>) -> Result<(), Refusal>
         ensures { Plays self.old self.new (facts.Committed tx.now) result }
     {
         let Some(xid) = self.name_here(tx) else {

@@ -66,7 +66,7 @@ impl ResourceManager {
     {
         // it has the parts of a transaction
         let _ = tx.count();
-        let kind = match self.courses.of(&tx) {
+        let kind = match self.courses.of_tx(&tx) {
             Course::Working => return Ok(None),
             Course::Prepared => {
                 let keys = self.keys_here(alloc, &tx)?;
@@ -86,7 +86,7 @@ impl ResourceManager {
         ensures valid { IfOk result AreKeys }
         ensures err { IfErr result (λ e. e ≡ NoMemory) }
     {
-        match self.name_here(tx) {
+        match tx.branch(self.number()) {
             Some(xid) => self.table.keys_of(&xid),
             None => Ok(Sequence::new(Vec::new(alloc))),
         }

@@ -118,15 +118,6 @@ impl Transactions {
         self.number_of_spelled(spelled)
     }
 
-    /// The same, of a transaction that isn't spelled.
-    pub fn number_near(&self, tx: &Tx, likely: usize) -> Option<usize>
-        ensures { MatchOption result (place_in self.now tx.now ≡ length self.now)
-            (λ number. (number ≡ place_in self.now tx.now) × (number < length self.now)) }
-    {
-        let mut buffer = [0; MAX_TX_BYTES];
-        self.number_of_view(&SpelledTx::of(tx, &mut buffer), likely)
-    }
-
     /// Puts a transaction after the others, unless it was seen, and answers its number. It is likely to be new, so it isn't looked for
     /// first. At `NoMemory`, the only refusal, all is as before, whether it was seen or not.
     pub fn insert_view(&mut self, tx: &SpelledTx<'_>) -> Result<usize, Refusal>
@@ -156,15 +147,5 @@ impl Transactions {
             Some(number) => Ok(number),
             None => self.insert_view(&view),
         }
-    }
-
-    /// As `insert_view`, of a transaction that isn't spelled.
-    pub fn insert(&mut self, tx: &Tx) -> Result<usize, Refusal>
-        ensures valid { IsTx tx.now }
-        ensures ok { IfOk result (λ number. (number ≡ place_in self.old tx.now) × (self.new ≡ seen_with self.old tx.now)) }
-        ensures err { IfErr result (λ e. (e ≡ NoMemory) × (self.new ≡ self.old)) }
-    {
-        let mut buffer = [0; MAX_TX_BYTES];
-        self.insert_view(&SpelledTx::of(tx, &mut buffer))
     }
 }

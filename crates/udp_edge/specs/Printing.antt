@@ -1,5 +1,5 @@
 -- What is printed.
-use Rattle.std.specs.Prelude.{◌≡◌, ◌⊎◌, ℕ, Bool, true, false, List, [], ◌∷◌, ◌++◌, Option, codes, decimal}
+use Rattle.std.specs.Prelude.{◌≡◌, ◌⊎◌, ℕ, List, [], ◌∷◌, ◌++◌, Option, Some, None, codes, decimal}
 use Rattle.std.specs.Io.KnownBytes.{Appends, Keeps}
 use Rattle.clap.specs.Words.{Text}
 use Rattle.xid.specs.declared.refusals.Refusal.{Refusal}
@@ -7,32 +7,38 @@ use Rattle.xid.specs.declared.refusals.Refusal.TheVariants.{BadScript, NoMemory}
 use Rattle.xid.specs.Refusals.{number_of}
 use Rattle.cluster_run.specs.Runs.{IsRun, RefusesRun}
 use Rattle.udp_run.specs.Runs.{IsUdpRun, RefusesUdp}
-use Rattle.net_script.specs.declared.values.Trace.{Trace}
-use Rattle.net_script.specs.TraceReading.{SpellsTrace, RefusesTrace}
+use Rattle.net_script.specs.TraceReading.{RefusesTrace}
 use Rattle.net_script.specs.Writing.{BreaksOff, IsFileRefusal, TriesToAppend}
-use Rattle.audit.specs.Consistent.{is_consistent}
+use Rattle.audit.specs.Faults.{IsJudged}
+use Rattle.audit.specs.declared.faults.Question.{Question}
+use Rattle.audit.specs.declared.faults.Fault.{Fault}
 use Rattle.udp_edge.specs.CommandLines.{AsksFor}
 use Rattle.udp_edge.specs.declared.command.Subcommand.{Subcommand}
 use Rattle.udp_edge.specs.declared.command.Subcommand.TheVariants.{Run, Udp, Audit}
 use Rattle.udp_edge.specs.declared.command.Rejected.{Rejected}
 use Rattle.udp_edge.specs.declared.command.Rejected.TheVariants as rejected
 
--- what the auditor says of a trace, and the exit status
-abbrev pub IsVerdict : Bool → (status : ℕ) → (text : List ℕ) → Type 0
-IsVerdict true status text = (status ≡ 0) × (text ≡ codes "consistent" ++ 10 ∷ [])
-IsVerdict false status text = (status ≡ 1) × (text ≡ codes "inconsistent" ++ 10 ∷ [])
+-- what the auditor says of a trace with this first fault
+abbrev pub verdict_text : Option Fault → List ℕ
+verdict_text None = codes "consistent" ++ 10 ∷ []
+verdict_text (Some fault) = codes "inconsistent" ++ 10 ∷ []
 
--- bytes spell a trace, of which the auditor says so
-pub record IsAudited (bytes : List ℕ) (status : ℕ) (text : List ℕ) : Type 0 where
-  pub trace : Trace
-  pub spelled : SpellsTrace bytes trace
-  pub verdict : IsVerdict (is_consistent trace) status text
+-- the line of a question that a trace doesn't keep, before the number of the trace's line
+abbrev pub question_text : Question → List ℕ
+question_text Question.Changes = codes "pcommit: audit: a change is no step of TCommit, line "
+question_text Question.Gets = codes "pcommit: audit: a get shows another table, line "
+question_text Question.Tables = codes "pcommit: audit: last rows are another table, line "
+question_text Question.Order = codes "pcommit: audit: the order of first commits doesn't explain it, line "
 
--- what a subcommand makes of the bytes of its file: the exit status and the text that is printed
-abbrev pub IsOutput : Subcommand → (bytes : List ℕ) → (status : ℕ) → (text : List ℕ) → Type 0
-IsOutput (Run file) bytes status text = (status ≡ 0) × IsRun bytes text
-IsOutput (Udp file folder) bytes status text = (status ≡ 0) × IsUdpRun bytes text
-IsOutput (Audit file) bytes status text = IsAudited bytes status text
+-- the line of a fault
+abbrev pub fault_line : Fault → List ℕ
+fault_line fault = question_text fault.question ++ decimal fault.line ++ 10 ∷ []
+
+-- what a subcommand makes of the bytes of its file: the text that is printed, and the first fault of an audited trace, if it has one
+abbrev pub IsOutput : Subcommand → (bytes : List ℕ) → (found : Option Fault) → (text : List ℕ) → Type 0
+IsOutput (Run file) bytes found text = (found ≡ None) × IsRun bytes text
+IsOutput (Udp file folder) bytes found text = (found ≡ None) × IsUdpRun bytes text
+IsOutput (Audit file) bytes found text = IsJudged bytes found × (text ≡ verdict_text found)
 
 -- why a subcommand refuses the bytes of its file
 abbrev pub RefusesBytes : Subcommand → (bytes : List ℕ) → Refusal → Type 0
@@ -41,16 +47,16 @@ RefusesBytes (Udp file folder) bytes refusal = RefusesUdp bytes refusal
 RefusesBytes (Audit file) bytes refusal = RefusesTrace bytes refusal
 
 -- the text of a subcommand over some bytes joins what a writer has
-pub record PrintsOf (subcommand : Subcommand) (bytes : List ℕ) (status : ℕ) (old new : Option (List ℕ)) : Type 0 where
+pub record PrintsOf (subcommand : Subcommand) (bytes : List ℕ) (found : Option Fault) (old new : Option (List ℕ)) : Type 0 where
   pub text : List ℕ
-  pub output : IsOutput subcommand bytes status text
+  pub output : IsOutput subcommand bytes found text
   pub printed : Appends old new text
 
 -- a beginning of it, and not all of it, joins what a writer has
 pub record BreaksOffIn (subcommand : Subcommand) (bytes : List ℕ) (old new : Option (List ℕ)) : Type 0 where
-  pub status : ℕ
+  pub found : Option Fault
   pub text : List ℕ
-  pub output : IsOutput subcommand bytes status text
+  pub output : IsOutput subcommand bytes found text
   pub broken : BreaksOff old new text
 
 -- why a subcommand is refused over some bytes, and what a writer has then: nothing new where the bytes are refused, and a beginning of
@@ -60,9 +66,9 @@ Refuses subcommand bytes refusal old new =
     (RefusesBytes subcommand bytes refusal × Keeps old new) ⊎ (IsFileRefusal refusal × BreaksOffIn subcommand bytes old new)
 
 -- the text of a subcommand over the bytes of some file joins what a writer has
-pub record PrintsFile (subcommand : Subcommand) (status : ℕ) (old new : Option (List ℕ)) : Type 0 where
+pub record PrintsFile (subcommand : Subcommand) (found : Option Fault) (old new : Option (List ℕ)) : Type 0 where
   pub bytes : List ℕ
-  pub prints : PrintsOf subcommand bytes status old new
+  pub prints : PrintsOf subcommand bytes found old new
 
 -- why a subcommand is refused, and what a writer has then: nothing new where its file can't be read, or what is left over the bytes of
 -- some file
@@ -85,10 +91,16 @@ rejection_line rejected.Usage = usage_line
 rejection_line rejected.NoMemory = refusal_line NoMemory
 
 -- the words ask for a subcommand, and this was carried out
-pub record CarriesOut (words : List Text) (status : ℕ) (out_old out_new : Option (List ℕ)) : Type 0 where
+pub record CarriesOut (words : List Text) (found : Option Fault) (out_old out_new : Option (List ℕ)) : Type 0 where
   pub subcommand : Subcommand
   pub asks : AsksFor words subcommand
-  pub prints : PrintsFile subcommand status out_old out_new
+  pub prints : PrintsFile subcommand found out_old out_new
+
+-- the words ask for an audit, which was carried out, and the line of the trace's first fault is on `err`
+pub record FindsFault (words : List Text) (out_old out_new err_old err_new : Option (List ℕ)) : Type 0 where
+  pub fault : Fault
+  pub carried : CarriesOut words (Some fault) out_old out_new
+  pub line : TriesToAppend err_old err_new (fault_line fault)
 
 -- the words ask for a subcommand, which was refused
 pub record RefusesWords (words : List Text) (refusal : Refusal) (out_old out_new : Option (List ℕ)) : Type 0 where

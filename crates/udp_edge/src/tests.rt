@@ -48,7 +48,7 @@ fn a_run_is_printed_in_parts(rt: HostRuntime) -> Result<(), Fail> {
         if room < whole.len() {
             assert!(rt; printed == Err(Refusal::FileFault));
         } else {
-            assert!(rt; printed == Ok(DONE));
+            assert!(rt; printed == Ok(None));
         }
         assert_eq!(rt; out.bytes.as_slice(), &whole[..room]);
     }

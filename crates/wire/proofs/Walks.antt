@@ -3,7 +3,7 @@ use Rattle.std.proofs.Common.{◌≡◌, ◌≢◌, eqb, ℕ, zero, suc, ◌+◌
 use Rattle.std.proofs.Common.{true, false, ltb, List, [], ◌∷◌, ◌++◌, length, take, drop, get_or}
 use Rattle.std.proofs.Common.{Option, Some, None, IsTrue, refl, sym, ap, ◌∙◌, arith, slice_index}
 use Rattle.std.specs.Prelude.{is_some, nat_lt}
-use Rattle.std.specs.List.{flat_map, All, list_all, list_any}
+use Rattle.std.specs.List.{flat_map, All, list_all, list_any, find}
 use Rattle.std.proofs.lemmas.Bool.Decides.{nat_tests}
 use Rattle.std.proofs.lemmas.Bool.{ltb-true, ltb-false, le-ltb, lt-ltb}
 use Rattle.std.proofs.lemmas.List.Concat.{flat_map-cons}
@@ -150,3 +150,27 @@ pub all_goes : (bs : List BranchParts) (i n : ℕ) (d : BranchParts) → i < len
 all_goes bs i n d lt below =
     let yes : ltb (get_or bs i d).rm n ≡ true = lt-ltb _ _ below in
     ap (λ (xs : List BranchParts). list_all (λ rm. nat_lt rm n) (rm_numbers xs)) (drops bs i d lt) ∙ rw yes refl
+
+-- the branch of a resource manager, from a place on: it stands there, or after it
+pub find_here : (bs : List BranchParts) (i rm : ℕ) (d : BranchParts) → i < length bs → (get_or bs i d).rm ≡ rm
+    → find (is_at rm) (drop i bs) ≡ Some (get_or bs i d)
+find_here bs i rm d lt e =
+    let here : eqb (get_or bs i d).rm rm ≡ true = grind (arith, nat_tests, e) in
+    ap (find (is_at rm)) (drops bs i d lt) ∙ rw here refl
+
+pub find_later : (bs : List BranchParts) (i rm : ℕ) (d : BranchParts) → i < length bs → (get_or bs i d).rm ≢ rm
+    → find (is_at rm) (drop i bs) ≡ find (is_at rm) (drop (i + 1) bs)
+find_later bs i rm d lt e =
+    let other : eqb (get_or bs i d).rm rm ≡ false = grind (arith, nat_tests, e) in
+    ap (find (is_at rm)) (drops bs i d lt) ∙ rw other refl
+
+-- the branches before a place, and the one that stands there
+pub one_more : {X : Type 0} (xs : List X) (i : ℕ) (d : X) → i < length xs → take i xs ++ get_or xs i d ∷ [] ≡ take (i + 1) xs
+one_more [] i d lt = absurd (omega arith)
+one_more (x ∷ xs) zero d lt = refl
+one_more (x ∷ xs) (suc i) d lt = let e : suc i + 1 ≡ suc (i + 1) = omega arith in rw e (ap (λ ys. x ∷ ys) (one_more xs i d (omega arith)))
+
+-- the branch that a walk took
+pub made : {bs : List BranchParts} {i : ℕ} {d : BranchParts} {rm : ℕ} {bqual rest : List ℕ} → Took bs i d rm bqual rest
+    → ◌≡◌ {A = BranchParts} (record { rm = rm; bqual = bqual }) (get_or bs i d)
+made was = λ j. record { rm = was.manager j; bqual = was.name j }

@@ -26,4 +26,5 @@ pub use reply::{Reply, ReplyRest};
 pub use rest::Rest;
 pub use spelled_tx::SpelledTx;
 pub use view::{MessageView, view_of};
+pub use view_items::{accepts_of, reports_of};
 pub use writing::{encode, put_tx};

@@ -1,7 +1,9 @@
-ghost use Rattle.std.specs.Prelude.{◌≡◌, ◌≤◌, ◌<◌, IsTrue, is_some, length, slice_index, MatchOption, nat_lt};
-ghost use Rattle.std.specs.List.{list_all, position_or_len};
+ghost use Rattle.std.specs.Prelude.{◌≡◌, ◌≤◌, ◌<◌, IfSome, IsTrue, is_some, length, slice_index, MatchOption, nat_lt};
+ghost use Rattle.std.specs.List.{find, list_all, position_or_len};
+ghost use Rattle.std.specs.Option.{option_map};
 ghost use Rattle.xid.specs.Limits.{most_managers};
-ghost use Rattle.xid.specs.Transactions.{IsTx, nth_branch, participants, is_at, is_participant};
+ghost use Rattle.xid.specs.Names.{IsComponent};
+ghost use Rattle.xid.specs.Transactions.{IsTx, nth_branch, participants, is_at, is_participant, xid_at};
 ghost use Rattle.wire.specs.Decoding.{tx_in};
 ghost use Rattle.wire.specs.Grammar.{tx_spelling, branches_spelling};
 ghost use Rattle.wire.specs.Reading.{taken, branch_at};
@@ -13,7 +15,7 @@ use crate::reading::{take_byte, take_component, take_number, take_rm};
 use crate::writing::put_tx;
 use byteorder::{BigEndian, ByteOrder};
 use std::marker::Model;
-use xid::{FORMATS, MAX_BRANCHES, MAX_MANAGERS, ManagerNumber, Tx};
+use xid::{Branches, FORMATS, MAX_BRANCHES, MAX_MANAGERS, ManagerNumber, Tx, Xid};
 
 /// A transaction, by the bytes that spell it, which stand elsewhere.
 #[derive(Debug, Drop)]
@@ -158,6 +160,23 @@ impl<'a> SpelledTx<'a> {
         self.bytes
     }
 
+    /// Its format, 0 to 2^31-1.
+    fn format(&self) -> u32
+        ensures value { result ≡ self.now.format }
+        ensures valid { IsTx self.now }
+    {
+        BigEndian::read_u32(self.bytes)
+    }
+
+    /// Its gtrid, 1 to 64 bytes.
+    fn gtrid(&self) -> &'a [u8]
+        ensures value { result.now ≡ self.now.gtrid }
+        ensures valid { IsTx self.now }
+    {
+        let bytes = self.bytes;
+        &bytes[5..5 + bytes[4] as usize]
+    }
+
     /// How many branches, and each.
     fn branches(&self) -> &'a [u8]
         ensures value { result.now ≡ branches_spelling version_2 self.now.branches }
@@ -248,5 +267,53 @@ impl<'a> SpelledTx<'a> {
             rest = branch.2;
         }
         branches[0] as usize
+    }
+
+    /// The bqual of a resource manager's branch, where it takes part.
+    fn bqual_of(&self, rm: ManagerNumber) -> Option<&'a [u8]>
+        ensures value { seen result ≡ option_map (λ branch. branch.bqual) (find (is_at rm) self.now.branches) }
+        ensures component { IfSome result (λ bqual. IsComponent bqual.now) }
+        ensures valid { IsTx self.now }
+    {
+        let branches = self.branches();
+        let mut rest = &branches[1..];
+        for _ in 0..branches[0] {
+            let branch = first_branch(rest);
+            if branch.0 == rm {
+                return Some(branch.1);
+            }
+            rest = branch.2;
+        }
+        None
+    }
+
+    /// The XID of a resource manager's branch, where it takes part; None where it doesn't.
+    pub fn branch(&self, rm: ManagerNumber) -> Option<Xid>
+        ensures value { result ≡ xid_at self.now rm }
+        ensures valid { IsTx self.now }
+    {
+        let Some(bqual) = self.bqual_of(rm) else {
+            return None;
+        };
+        let Ok(xid) = Xid::new(i64::from(self.format()), self.gtrid(), bqual) else {
+            unreachable!();
+        };
+        Some(xid)
+    }
+
+    /// The transaction with its parts in place, as it is kept and sent.
+    pub fn to_tx(&self) -> Tx
+        ensures value { result ≡ self.now }
+        ensures valid { IsTx self.now }
+    {
+        let mut all = Branches::new();
+        let branches = self.branches();
+        let mut rest = &branches[1..];
+        for _ in 0..branches[0] {
+            let branch = first_branch(rest);
+            all.push(branch.0, branch.1);
+            rest = branch.2;
+        }
+        Tx::of_parts(self.format(), self.gtrid(), &all)
     }
 }

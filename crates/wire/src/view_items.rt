@@ -1,11 +1,12 @@
-//! The items of a bundle, checked on the bytes that spell them.
+//! The items of a bundle, checked on the bytes that spell them, and taken from them.
 
-ghost use Rattle.std.specs.Prelude.{◌≡◌};
+ghost use Rattle.std.specs.Prelude.{◌≡◌, ◌<◌, length};
 ghost use Rattle.wire.specs.Reading.{report_item_at, accept_item_at};
-ghost use Rattle.wire.specs.SpelledItems.{items_from, are_items, is_reported, is_accepted};
+ghost use Rattle.wire.specs.SpelledItems.{items_from, are_items, is_reported, is_accepted, reports_spelled, accepts_spelled};
 
+use crate::items::{InstanceAccept, InstanceReport, Items};
 use crate::message::is_report_below;
-use crate::reading::{take_accept_item, take_byte, take_report_item};
+use crate::reading::{take_accept_item, take_accepts, take_byte, take_report_item, take_reports};
 use crate::spelled_tx::SpelledTx;
 use xid::{Ballot, MAX_BRANCHES};
 
@@ -88,4 +89,28 @@ pub(crate) fn are_accepts(tx: &SpelledTx<'_>, bytes: &[u8]) -> bool
         return false;
     }
     are_counted_accepts(tx, count, rest)
+}
+
+/// The reports that the bytes of a bundle spell.
+#[tactic(auto, unfolding(crate::specs::SpelledItems::reports_spelled))]
+pub fn reports_of(bytes: &[u8]) -> Items<InstanceReport>
+    requires { 0 < length (reports_spelled bytes.now) }
+    ensures { result ≡ reports_spelled bytes.now }
+{
+    let Some((reports, _)) = take_reports(bytes) else {
+        unreachable!();
+    };
+    reports
+}
+
+/// The accepts that the bytes of a bundle spell.
+#[tactic(auto, unfolding(crate::specs::SpelledItems::accepts_spelled))]
+pub fn accepts_of(bytes: &[u8]) -> Items<InstanceAccept>
+    requires { 0 < length (accepts_spelled bytes.now) }
+    ensures { result ≡ accepts_spelled bytes.now }
+{
+    let Some((accepts, _)) = take_accepts(bytes) else {
+        unreachable!();
+    };
+    accepts
 }

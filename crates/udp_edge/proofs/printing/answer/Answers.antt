@@ -1,6 +1,6 @@
-use Rattle.std.proofs.Common.{List, ℕ, Option, sym, subst}
+use Rattle.std.proofs.Common.{None, sym, subst}
 use Rattle.udp_run.specs.Runs.{IsUdpRun}
-use Rattle.udp_edge.proofs.PrintingLemmas.{IsOfRun, IsOfUdp, run_stops, text_stops, udp_output}
+use Rattle.udp_edge.proofs.PrintingLemmas.{IsOfRun, IsOfUdp, IsOfAudit, run_stops, text_stops, udp_output, audit_output}
 use Rattle.udp_edge.proofs.printing.answer.Goals as goal
 
 pub returns-in-Err-clause-err : goal.returns-in-Err-clause-err
@@ -12,7 +12,15 @@ pub returns-in-Ok-udp-clause-err : goal.returns-in-Ok-udp-clause-err
 returns-in-Ok-udp-clause-err g c =
     let is : IsUdpRun c.args.bytes.now c.deref.result.now =
     subst (IsUdpRun c.args.bytes.now) (sym c.deref.ensures.value) c.in-Ok-udp.ensures.ok in
-    text_stops c.args.subcommand c.args.bytes.now 0 c.deref.result.now (g.W.Write.contents c.args.out.now)
+    text_stops c.args.subcommand c.args.bytes.now None c.deref.result.now (g.W.Write.contents c.args.out.now)
     (g.W.Write.contents c.print_whole.new.out) c.print_whole.result
     (udp_output c.args.subcommand c.args.bytes.now c.deref.result.now (subst IsOfUdp (sym c.in-Udp.is) tt) is)
     c.print_whole.ensures.text
+
+pub returns-in-Ok-audit_text-clause-err : goal.returns-in-Ok-audit_text-clause-err
+returns-in-Ok-audit_text-clause-err g c =
+    text_stops c.args.subcommand c.args.bytes.now c.in-Ok-audit_text.found c.verdict_text.result.now (g.W.Write.contents c.args.out.now)
+    (g.W.Write.contents c.print_whole-in-Ok-audit_text.new.out) c.print_whole-in-Ok-audit_text.result
+    (audit_output c.args.subcommand c.args.bytes.now c.verdict_text.result.now c.in-Ok-audit_text.found
+    (subst IsOfAudit (sym c.in-Audit.is) tt) c.in-Ok-audit_text.ensures.ok c.verdict_text.ensures)
+    c.print_whole-in-Ok-audit_text.ensures.text

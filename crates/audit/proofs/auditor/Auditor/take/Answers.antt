@@ -1,5 +1,6 @@
-use Rattle.std.proofs.Common.{◌∙◌, ap}
-use Rattle.net_script.specs.TraceReading.{begun_with}
+use Rattle.std.proofs.Common.{◌∙◌, ap, sym}
+use Rattle.net_script.specs.TraceReaders.{begun_with}
+use Rattle.net_script.specs.declared.trace_lines.TraceLine.TheVariants.{Changed}
 use Rattle.audit.proofs.HearingLemmas.{on_ok, cluster_line, table_line, event_line, serve_line, change_line, sent_line, rows_line}
 use Rattle.audit.proofs.auditor.Auditor.take.Goals as goal
 
@@ -26,8 +27,9 @@ returns-in-Served-clause-ok c = λ before after heard e.
 pub returns-in-Changed-clause-ok : goal.returns-in-Changed-clause-ok
 returns-in-Changed-clause-ok c =
     on_ok c.take_change.result (λ step before after heard e.
-    change_line c.args.self.now c.take_change.new.self c.in-Changed.change step before after heard
-    (e ∙ ap (begun_with before) c.in-Changed.is)) c.take_change.ensures.ok
+    change_line c.args.self.now c.take_change.new.self c.get.result.now step before after heard
+    (e ∙ ap (begun_with before) c.in-Changed.is ∙ ap (λ change. begun_with before (Changed change)) (sym c.get.ensures)))
+    c.take_change.ensures.ok
 
 pub returns-in-Datagram-clause-ok : goal.returns-in-Datagram-clause-ok
 returns-in-Datagram-clause-ok c = λ before after heard e.

@@ -1,28 +1,33 @@
-use Rattle.std.proofs.Common.{◌≡◌, ◌∙◌, ℕ, List, ap, subst, sym, arith}
+use Rattle.std.proofs.Common.{◌≡◌, ◌∙◌, ℕ, List, true, false, ap, subst, sym, arith}
+use Rattle.std.specs.List.{list_all}
 use Rattle.std.proofs.lemmas.Bool.Decides.{nat_tests}
 use Rattle.hex.proofs.HexLemmas.{decode_of-ok}
 use Rattle.net_script.specs.Basics.{hex_text}
-use Rattle.net_script.specs.Lines.{IsSome}
-use Rattle.net_script.proofs.WordLemmas.{hex_some, hex_decodes, hex_again, second_holds, texts_same_not, texts_differ_not, hex_long}
+use Rattle.net_script.specs.Lines.{IsSome, is_no_capital}
+use Rattle.net_script.proofs.WordLemmas.{hex_some, hex_decodes, second_holds, hex_long}
+use Rattle.net_script.proofs.LowerHex.{hex_lacks, lower_again}
 use Rattle.net_script.proofs.byte_words.HexWord.read.Goals as goal
+use Rattle.net_script.proofs.byte_words.HexWord.read.Goals.{then-is_empty-via-then-is_empty}
+use Rattle.net_script.proofs.byte_words.HexWord.read.Goals.{then-is_empty-via-else-is_empty+then-not-lacks_capitals}
 
 pub returns-then-is_empty : goal.returns-then-is_empty
-returns-then-is_empty c = λ y is e. hex_some y.0 c.args.word.now is (grind (arith, nat_tests)) e
+returns-then-is_empty c = λ y is e.
+    elim c.then-is_empty.branch [
+      | then-is_empty-via-then-is_empty w ↦ hex_some y.0 c.args.word.now is (grind (arith, nat_tests)) e
+      | then-is_empty-via-else-is_empty+then-not-lacks_capitals w ↦
+          let has : list_all is_no_capital c.args.word.now ≡ false = sym w.lacks_capitals.ensures ∙ w.if-not-lacks_capitals.true in
+          let lacks : list_all is_no_capital c.args.word.now ≡ true = ap (list_all is_no_capital) e ∙ hex_lacks y.0 is.1 in
+          absurd (cc (sym has ∙ lacks))
+    ]
 
 pub returns-in_default : goal.returns-in_default
 returns-in_default c =
     λ y is e. hex_decodes y.0 c.args.word.now c.in-Err.error is e (second_holds (c.in-Err.ensures.err) c.in_default.not-OutOfMemory)
 
-pub returns-then-ne : goal.returns-then-ne
-returns-then-ne c = λ y is e.
-    let again = hex_again y.0 c.args.word.now c.in-Ok.bytes.items is e c.in-Ok.ensures.ok in
-    let text = c.as_bytes.ensures.value ∙ (c.in_ok-again.ensures ∙ ap hex_text c.as_slice.ensures.value) in
-    texts_differ_not c.as_bytes.result.now c.args.word.now c.ne.result c.ne.ensures c.if-ne.true (text ∙ again)
-
 pub returns : goal.returns
 returns c =
-    let same = texts_same_not c.as_bytes.result.now c.args.word.now c.ne.result c.ne.ensures c.if-ne.false in
-    let text = c.as_bytes.ensures.value ∙ (c.in_ok-again.ensures ∙ ap hex_text c.as_slice.ensures.value) in
+    let lower : list_all is_no_capital c.args.word.now ≡ true = sym c.lacks_capitals.ensures ∙ c.if-not-lacks_capitals.false in
+    let text = lower_again c.args.word.now c.in-Ok.bytes.items c.in-Ok.ensures.ok lower in
     let ok = decode_of-ok c.args.word.now c.in-Ok.bytes.items c.in-Ok.ensures.ok in
     let some = hex_long c.args.word.now c.in-Ok.bytes.items c.is_empty.result c.is_empty.ensures c.if-is_empty.false ok.2 in
-    subst (λ (bytes : List ℕ). IsSome bytes × (c.args.word.now ≡ hex_text bytes)) (sym c.new.ensures) ((some, ok.3), sym same ∙ text)
+    subst (λ (bytes : List ℕ). IsSome bytes × (c.args.word.now ≡ hex_text bytes)) (sym c.new.ensures) ((some, ok.3), text)

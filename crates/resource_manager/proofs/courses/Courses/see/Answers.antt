@@ -6,20 +6,20 @@ use Rattle.resource_manager.proofs.courses.Courses.see.Goals as goal
 pub invariant_of-self-2 : goal.invariant_of-self-2
 invariant_of-self-2 c =
     let ts = c.self.inside.transactions in
-    let absent = c.in_default.ensures.place in
+    let absent = c.in_default.ensures in
     let added = c.in-Ok.ensures.ok.1 in (
-      saw_whole ts c.add.new.self c.args.tx.now absent added c.self.inside.courses.items c.push_reserved.new.self.items
+      saw_whole ts c.insert_view.new.self c.args.tx.now absent added c.self.inside.courses.items c.push_reserved.new.self.items
           (c.push_reserved.ensures.items ∙ ap (λ cs. cs ++ Course.Working ∷ []) c.reserve.ensures.items) c.self.invariant.0,
-      saw_below ts c.add.new.self c.args.tx.now absent added c.self.inside.begun.items c.self.invariant.1,
+      saw_below ts c.insert_view.new.self c.args.tx.now absent added c.self.inside.begun.items c.self.invariant.1,
     )
 
 pub returns-clause-begun : goal.returns-clause-begun
 returns-clause-begun c =
-    saw_begun c.self.inside.transactions c.add.new.self c.args.tx.now c.in_default.ensures.place c.in-Ok.ensures.ok.1
+    saw_begun c.self.inside.transactions c.insert_view.new.self c.args.tx.now c.in_default.ensures c.in-Ok.ensures.ok.1
     c.self.inside.begun.items c.self.invariant.1
     ∙ ap (λ parts. parts.begun) c.self.view_is
 
 pub returns-clause-number : goal.returns-clause-number
 returns-clause-number c =
-    let saw = saw_number c.self.inside.transactions c.add.new.self c.args.tx.now c.in_default.ensures.place c.in-Ok.ensures.ok.1 in
+    let saw = saw_number c.self.inside.transactions c.insert_view.new.self c.args.tx.now c.in_default.ensures c.in-Ok.ensures.ok.1 in
     (c.in-Ok.ensures.ok.0 ∙ saw.0, saw.1)

@@ -1,10 +1,11 @@
-use Rattle.std.proofs.Common.{◌∙◌, sym, subst}
+use Rattle.std.proofs.Common.{◌∙◌, ap, subst}
 use Rattle.std.specs.Prelude.{OnOk}
 use Rattle.xid.specs.Transactions.{xid_at}
 use Rattle.wire.specs.Messages.{message_tx}
+use Rattle.wire.specs.declared.message.Kind.TheVariants as kinds
 use Rattle.protocol.specs.Managers.{on_manager_message}
 use Rattle.resource_manager.specs.Managers.{Decides}
-use Rattle.resource_manager.proofs.Deciding.{IsOther, other_kind, other_message}
+use Rattle.resource_manager.proofs.Deciding.{IsOther, other_rest, other_message}
 use Rattle.resource_manager.proofs.manager.ResourceManager.decide.Goals as goal
 
 pub returns-in-Prepare-clause-ok : goal.returns-in-Prepare-clause-ok
@@ -12,26 +13,27 @@ returns-in-Prepare-clause-ok c =
     subst
     (λ k. OnOk c.decide_prepare.result (Decides c.args.self.now c.decide_prepare.new.decision
     (λ config number stored branches. on_manager_message number stored branches (xid_at (message_tx k) number) k)))
-    (sym c.in-Prepare.is ∙ c.kind.ensures.value) c.decide_prepare.ensures.ok
+    (ap kinds.Prepare c.tx-tx.ensures.value ∙ c.in-Prepare.ensures.value) c.decide_prepare.ensures.ok
 
 pub returns-in-Commit-clause-ok : goal.returns-in-Commit-clause-ok
 returns-in-Commit-clause-ok c =
     subst
     (λ k. Decides c.args.self.now c.decide_commit.new.decision
     (λ config number stored branches. on_manager_message number stored branches (xid_at (message_tx k) number) k))
-    (sym c.in-Commit.is ∙ c.kind.ensures.value) c.decide_commit.ensures
+    (ap kinds.Commit c.tx-tx.ensures.value ∙ c.in-Commit.ensures.value) c.decide_commit.ensures
 
 pub returns-in-Abort-clause-ok : goal.returns-in-Abort-clause-ok
 returns-in-Abort-clause-ok c =
     subst
     (λ k. Decides c.args.self.now c.decide_abort.new.decision
     (λ config number stored branches. on_manager_message number stored branches (xid_at (message_tx k) number) k))
-    (sym c.in-Abort.is ∙ c.kind.ensures.value) c.decide_abort.ensures
+    (ap kinds.Abort c.tx-tx.ensures.value ∙ c.in-Abort.ensures.value) c.decide_abort.ensures
 
 pub returns-in_default : goal.returns-in_default
 returns-in_default c = record {
   ok = other_message c.args.self.now c.clear.new.self c.args.message.now
-      (subst IsOther c.kind.ensures.value
-      (other_kind c.kind.result.now c.in_default.not-Prepare c.in_default.not-Commit c.in_default.not-Abort)) c.clear.ensures;
+      (subst IsOther c.rest.ensures.value
+      (other_rest (message_tx c.args.message.now) _ c.in_default.not-Prepare c.in_default.not-Commit c.in_default.not-Abort))
+      c.clear.ensures;
   err = tt;
 }

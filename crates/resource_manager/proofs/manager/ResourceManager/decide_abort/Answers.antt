@@ -1,4 +1,4 @@
-use Rattle.std.proofs.Common.{sym}
+use Rattle.std.proofs.Common.{◌∙◌, ap, sym}
 use Rattle.stable_record.specs.declared.fact.FactKind.TheVariants as facts
 use Rattle.resource_manager.proofs.Deciding.{abort_unnamed, abort_ignored, abort_stored, course_of, stored_is}
 use Rattle.resource_manager.proofs.manager.ResourceManager.decide_abort.Goals as goal
@@ -17,4 +17,5 @@ pub returns : goal.returns
 returns c =
     abort_stored c.args.self.now c.args.tx.now _ c.in-Some._xid c.of.result (sym c.in-Some.ensures.value)
     (course_of _ c.args.self.now c.args.tx.now c.of.result c.self.view_is c.of.ensures) (sym c.if-not-is_open.ensures)
-    (stored_is c.clear.new.self c.new.result (facts.Aborted c.args.tx.now) c.clear.ensures c.new.ensures)
+    (stored_is c.clear.new.self c.new.result (facts.Aborted c.args.tx.now) c.clear.ensures
+    (c.new.ensures ∙ ap facts.Aborted c.to_tx.ensures.value))

@@ -1,4 +1,4 @@
-use Rattle.std.proofs.Common.{◌∙◌, sym}
+use Rattle.std.proofs.Common.{◌∙◌, ap, sym}
 use Rattle.stable_record.specs.declared.fact.FactKind.TheVariants as facts
 use Rattle.resource_manager.proofs.Deciding.{commit_unnamed, commit_ignored, commit_stored, course_of, stored_is}
 use Rattle.resource_manager.proofs.Played.{prepared_course}
@@ -19,4 +19,5 @@ returns c =
     commit_stored c.args.self.now c.args.tx.now _ c.in-Some._xid (sym c.in-Some.ensures.value)
     (course_of _ c.args.self.now c.args.tx.now c.of.result c.self.view_is c.of.ensures
     ∙ prepared_course c.of.result (sym c.if-not-is_prepared.ensures))
-    (stored_is c.clear.new.self c.new.result (facts.Committed c.args.tx.now) c.clear.ensures c.new.ensures)
+    (stored_is c.clear.new.self c.new.result (facts.Committed c.args.tx.now) c.clear.ensures
+    (c.new.ensures ∙ ap facts.Committed c.to_tx.ensures.value))

@@ -1,0 +1,101 @@
+//! A judge, who hears a trace line by line, and keeps where a question isn't kept first.
+
+ghost use Rattle.std.specs.Prelude.{◌≡◌, ℕ, ◌+◌, ◌-◌, ◌<◌, length, List, Option, Some, None, IfOk, IfErr, OnOk};
+ghost use Rattle.xid.specs.declared.refusals.Refusal.TheVariants.{NoMemory};
+ghost use Rattle.net_script.specs.TraceReaders.{begun_with};
+ghost use Rattle.audit.specs.Words.{Trace};
+ghost use Rattle.audit.specs.Tables.{first_tables};
+ghost use Rattle.audit.specs.Consistent.{is_order_kept};
+ghost use Rattle.audit.specs.Books.{stretch_of, has_committed, Reaches};
+ghost use Rattle.audit.specs.Faults.{Tells, IsFound};
+ghost use Rattle.audit.specs.Noting.{HasNoted};
+
+use crate::auditor::Auditor;
+use crate::faults::{Fault, Question, question_of};
+use crate::serial::replayed;
+use net_script::TraceLine;
+use std::alloc::Global;
+use xid::Refusal;
+
+/// What the lines so far come to, and the first at which a change or a get isn't right.
+#[derive(Debug, Drop)]
+pub struct Judge {
+    auditor: Auditor,
+    fault: Option<Fault>,
+}
+
+impl Judge {
+    /// No line yet. Refused: `NoMemory` alone.
+    pub fn new(alloc: Global) -> Result<Judge, Refusal>
+        ensures ok { IfOk result (λ judge. (bytes : List ℕ) → HasNoted bytes judge 0 None) }
+        ensures err { IfErr result (λ e. e ≡ NoMemory) }
+    {
+        Ok(Judge {
+            auditor: Auditor::new(alloc)?,
+            fault: None,
+        })
+    }
+
+    /// Hears one line more, which has this number. Refused: `NoMemory` alone.
+    pub fn take(&mut self, alloc: Global, line: usize, said: TraceLine) -> Result<(), Refusal>
+        ensures ok { OnOk result ((bytes : List ℕ) (count : ℕ) (before : Option Trace) (after : Trace)
+            → HasNoted bytes self.old count before → Some after ≡ begun_with before said → line ≡ count + 1
+            → Tells bytes line after → HasNoted bytes self.new line (Some after)) }
+        ensures err { IfErr result (λ e. e ≡ NoMemory) }
+    {
+        let question = question_of(&said);
+        self.auditor.take(alloc, said)?;
+        if self.fault.is_none() && !self.auditor.is_right {
+            self.fault = Some(Fault { question, line });
+        }
+        Ok(())
+    }
+
+    /// How many of the last rows, from the first on, the order of first commits explains; none, where it doesn't explain the gets.
+    /// Refused: `NoMemory` alone.
+    fn explained(&self, alloc: Global) -> Result<usize, Refusal>
+        ensures ok { IfOk result (λ count. Reaches (is_order_kept (first_tables self.now.auditor.tables.items)
+            (stretch_of self.now.auditor.ledger.branches) (has_committed self.now.auditor.ledger.views) self.now.auditor.ledger.firsts)
+            self.now.auditor.finals.items count) }
+        ensures err { IfErr result (λ e. e ≡ NoMemory) }
+    {
+        let auditor = &self.auditor;
+        match replayed(alloc, &auditor.ledger, &auditor.tables)? {
+            Some(last) => Ok(last.count_right(&auditor.finals)),
+            None => Ok(0),
+        }
+    }
+
+    /// The first fault of the trace that was heard, in so many lines, if it has one. Refused: `NoMemory` alone.
+    pub fn verdict(&self, alloc: Global, lines: usize) -> Result<Option<Fault>, Refusal>
+        ensures ok { IfOk result (λ found. (bytes : List ℕ) (t : Trace) → HasNoted bytes self.now lines (Some t) → Tells bytes lines t
+            → 0 < length t.finals → IsFound bytes t found) }
+        ensures err { IfErr result (λ e. e ≡ NoMemory) }
+    {
+        if let Some(fault) = self.fault {
+            return Ok(Some(fault));
+        }
+        let finals = self.auditor.finals.as_slice();
+        let rows = finals.len();
+        let told = self.auditor.ledger.tables.count_right(finals);
+        let explained = self.explained(alloc)?;
+        if told < rows && told <= explained {
+            return Ok(Some(fault_in_row(Question::Tables, lines, rows - told)));
+        }
+        if explained < rows {
+            return Ok(Some(fault_in_row(Question::Order, lines, rows - explained)));
+        }
+        Ok(None)
+    }
+}
+
+/// A fault in the line from which on so many lines are left, of so many.
+fn fault_in_row(question: Question, lines: usize, left: usize) -> Fault
+    requires { 0 < left }
+    ensures { result ≡ record { question = question; line = lines - (left - 1) } }
+{
+    Fault {
+        question,
+        line: lines.saturating_sub(left - 1),
+    }
+}

@@ -1,0 +1,82 @@
+-- A text up to its first mark, and one word after another of a line: for `split_once` and `is_tidy`.
+use Rattle.std.proofs.Common.{zero, suc, ◌≡◌, ℕ, ◌+◌, ◌-◌, ◌<◌, ◌≤◌, Bool, true, false, not, ◌&&◌, cond, eqb, List, [], ◌∷◌, ◌++◌, length}
+use Rattle.std.proofs.Common.{get_or, take, drop, None, Some, refl, sym, ap, ◌∙◌, arith, eqb-true}
+use Rattle.std.proofs.lemmas.Bool.{not-true, and_parts}
+use Rattle.std.proofs.lemmas.Bool.Decides.{nat_tests}
+use Rattle.std.proofs.lemmas.List.{append-nil, take_all, length-drop}
+use Rattle.xid.specs.Text.{lacks}
+use Rattle.xid.proofs.Texts.{both_true}
+use Rattle.memchr.specs.Find.{IsFirstByte, is_byte}
+use Rattle.net_script.specs.TraceLines.{is_tidy_after}
+
+-- ---- the first mark
+
+lacks_until : (mark : ℕ) (text : List ℕ) (n : ℕ) → n ≤ length text
+    → ((k : ℕ) → k < n → eqb (get_or text k 0) mark ≡ true → ⊥) → lacks mark (take n text) ≡ true
+lacks_until mark text zero le none = refl
+lacks_until mark [] (suc n) le none = refl
+lacks_until mark (x ∷ xs) (suc n) le none =
+    both_true (not (eqb x mark)) (lacks mark (take n xs)) (off (eqb x mark) (none 0 (omega arith)))
+    (lacks_until mark xs n (omega arith) (λ k lt e. none (suc k) (omega arith) e))
+  where
+    off : (b : Bool) → (b ≡ true → ⊥) → not b ≡ true
+    off true none = absurd (none refl)
+    off false _ = refl
+
+cut_here : (text : List ℕ) (n : ℕ) → n < length text → text ≡ take n text ++ get_or text n 0 ∷ drop (suc n) text
+cut_here [] n lt = absurd (omega arith)
+cut_here (x ∷ xs) zero lt = refl
+cut_here (x ∷ xs) (suc n) lt = ap (λ (l : List ℕ). x ∷ l) (cut_here xs n (omega arith))
+
+pub marked_at : (mark : ℕ) (text : List ℕ) (n : ℕ) → IsFirstByte (is_byte mark) text (Some n)
+    → (text ≡ take n text ++ mark ∷ take (length text - (n + 1)) (drop (n + 1) text)) × (lacks mark (take n text) ≡ true)
+marked_at mark text n first =
+    let here : get_or text n 0 ≡ mark = eqb-true (get_or text n 0) mark first.1 in
+    let high = first.0.high in
+    let next : suc n ≡ n + 1 = omega arith in
+    let rest : drop (n + 1) text ≡ take (length text - (n + 1)) (drop (n + 1) text) =
+    sym (take_all (length text - (n + 1)) (drop (n + 1) text) (omega (arith, length-drop (n + 1) text))) in (
+      cut_here text n high ∙ ap (λ (byte : ℕ). take n text ++ byte ∷ drop (suc n) text) here
+          ∙ ap (λ (m : ℕ). take n text ++ mark ∷ drop m text) next ∙ ap (λ (l : List ℕ). take n text ++ mark ∷ l) rest,
+      lacks_until mark text n (omega (arith, high)) (λ k lt e. first.0.before k (omega arith) lt e),
+    )
+
+pub unmarked : (mark : ℕ) (text : List ℕ) → IsFirstByte (is_byte mark) text None → lacks mark text ≡ true
+unmarked mark text none =
+    ap (lacks mark) (sym (take_all (length text) text (omega arith)))
+    ∙ lacks_until mark text (length text) (omega arith) (λ k lt e. none k (omega arith) lt e)
+
+-- ---- words of a tidy line
+
+tidy_bytes : (w rest : List ℕ) → lacks 32 w ≡ true → is_tidy_after false (w ++ rest) ≡ is_tidy_after false rest
+tidy_bytes [] rest h = refl
+tidy_bytes (x ∷ w) rest h =
+    let parts = and_parts (not (eqb x 32)) (lacks 32 w) h in
+    let other : eqb x 32 ≡ false = not-true (eqb x 32) parts.0 in
+    ap (λ (b : Bool). cond b (not false && is_tidy_after true (w ++ rest)) (is_tidy_after false (w ++ rest))) other
+    ∙ tidy_bytes w rest parts.1
+
+tidy_word : (w rest : List ℕ) → 0 < length w → lacks 32 w ≡ true → is_tidy_after true (w ++ rest) ≡ is_tidy_after false rest
+tidy_word [] rest some h = absurd (omega arith)
+tidy_word (x ∷ w) rest some h =
+    let parts = and_parts (not (eqb x 32)) (lacks 32 w) h in
+    let other : eqb x 32 ≡ false = not-true (eqb x 32) parts.0 in
+    ap (λ (b : Bool). cond b (not true && is_tidy_after true (w ++ rest)) (is_tidy_after false (w ++ rest))) other
+    ∙ tidy_bytes w rest parts.1
+
+pub tidy_goes : (text w after : List ℕ) → (text ≡ w ++ 32 ∷ after) × (lacks 32 w ≡ true) → 0 < length w
+    → is_tidy_after true text ≡ is_tidy_after true after
+tidy_goes text w after cut some = ap (is_tidy_after true) cut.0 ∙ tidy_word w (32 ∷ after) some cut.1
+
+pub tidy_stops : (text w after : List ℕ) → text ≡ w ++ 32 ∷ after → length w ≡ 0 → is_tidy_after true text ≡ false
+tidy_stops text [] after cut none = ap (is_tidy_after true) cut
+tidy_stops text (x ∷ w) after cut none = absurd (omega arith)
+
+pub tidy_ends : (text : List ℕ) → lacks 32 text ≡ true → is_tidy_after true text ≡ not (eqb (length text) 0)
+tidy_ends [] h = refl
+tidy_ends (x ∷ text) h =
+    ap (is_tidy_after true) (sym (append-nil (x ∷ text))) ∙ tidy_word (x ∷ text) [] (omega arith) h
+    ∙ sym (ap not (off (length (x ∷ text)) (omega arith)))
+  where
+    off : (n : ℕ) → 0 < n → eqb n 0 ≡ false
+    off n some = grind (arith, nat_tests)
