@@ -76,11 +76,13 @@ def strokes(lines, picture):
     for line, words in lines:
         if words[0] == "sent":
             sent[words[1]] = (line, words[2], words[3])
-        # a trace that is written by hand may lack the line where a datagram is sent
-        if words[0] not in ("deliver", "cut", "lose") or words[-2:] == ["refused", "15"] or words[1] not in sent:
+        if words[0] not in ("deliver", "cut", "lose") or words[-2:] == ["refused", "15"]:
+            continue
+        settled.add(words[1])
+        # a trace that is written by hand may lack the line where a datagram is sent, or have it only later
+        if words[1] not in sent:
             continue
         x, y, lane = picture.way(sent[words[1]], line)
-        settled.add(words[1])
         if words[0] == "lose":
             wanted.append(("lost", x, y, (x + lane) // 2, picture.rows[line]))
             continue
