@@ -18,7 +18,8 @@ use Rattle.audit.specs.Noting.{rows_so_far}
 use Rattle.audit.specs.declared.faults.Question.{Question}
 use Rattle.audit.proofs.AuditLemmas.{is_right}
 use Rattle.audit.proofs.LedgerLemmas.{history_push}
-use Rattle.audit.proofs.HearingLemmas.{some_same, after_is, none_left, change_made, sent_made, step_sent, step_changed}
+use Rattle.std.proofs.lemmas.Option.{same_Some}
+use Rattle.audit.proofs.HearingLemmas.{after_is, none_left, change_made, sent_made, step_sent, step_changed}
 
 -- ---- the first of four answers
 
@@ -105,7 +106,7 @@ is_change said = false
 -- without one, changes stay steps of TCommit
 pub moves_on : (o : Option Trace) (said : TraceLine) (after : Trace) → Some after ≡ begun_with o said → right_so_far o ≡ true
     → is_change said ≡ false → keeps Question.Changes after ≡ true
-moves_on None (Cluster sizes) after e right other = ap (keeps Question.Changes) (some_same after (opened sizes) e)
+moves_on None (Cluster sizes) after e right other = ap (keeps Question.Changes) (same_Some after (opened sizes) e)
 moves_on None said after e right other = absurd (cc)
 moves_on (Some t) (Cluster sizes) after e right other = absurd (cc)
 moves_on (Some t) (Contents x) after e right other =
@@ -182,7 +183,7 @@ no_rows t after none same = inl (ap length none, same ∙ none)
 -- one line more is one of the last rows, or there are none yet
 pub rows_on : (o : Option Trace) (said : TraceLine) (after : Trace) → Some after ≡ begun_with o said
     → ((rows_so_far o ≡ 0) × (after.finals ≡ [])) ⊎ ((length after.finals ≡ rows_so_far o + 1) × (entries_right after ≡ right_so_far o))
-rows_on None (Cluster sizes) after e = inl (refl, ap (λ (u : Trace). u.finals) (some_same after (opened sizes) e))
+rows_on None (Cluster sizes) after e = inl (refl, ap (λ (u : Trace). u.finals) (same_Some after (opened sizes) e))
 rows_on None said after e = absurd (cc)
 rows_on (Some t) (Cluster sizes) after e = absurd (cc)
 rows_on (Some t) (Contents x) after e =

@@ -16,7 +16,8 @@ use Rattle.net_script.specs.Traces.{joined_words}
 use Rattle.net_script.proofs.DraftLemmas.{begins}
 use Rattle.protocol.specs.declared.events.Sent.{Sent}
 use Rattle.audit.specs.Words.{Change, Entry, Trace}
-use Rattle.audit.proofs.HearingLemmas.{some_same, after_is, change_made, sent_made}
+use Rattle.std.proofs.lemmas.Option.{same_Some}
+use Rattle.audit.proofs.HearingLemmas.{after_is, change_made, sent_made}
 
 last_of : {X : Type 0} (P : X → Type 0) (xs : List X) (x : X) → All P (xs ++ x ∷ []) → P x
 last_of P [] x all = All-head P x [] all
@@ -49,7 +50,7 @@ in_range t (Final rm rows) may is =
     (omega (arith, same, named, length_push t.finals rows), last_of AreFinalRows t.finals rows is.finals)
 
 line_in_range : (o : Option Trace) (said : TraceLine) (after : Trace) → Some after ≡ begun_with o said → IsBegun after → IsTraceLine said
-line_in_range None (Cluster sizes) after e is = subst IsSizes (ap (λ (u : Trace). u.sizes) (some_same after (opened sizes) e)) is.sizes
+line_in_range None (Cluster sizes) after e is = subst IsSizes (ap (λ (u : Trace). u.sizes) (same_Some after (opened sizes) e)) is.sizes
 line_in_range None said after e is = absurd (cc)
 line_in_range (Some t) said after e is =
     let got = after_is t after said e in in_range t said got.0 (subst IsBegun (sym got.1) is)

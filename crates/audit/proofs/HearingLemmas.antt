@@ -4,7 +4,9 @@ use Rattle.std.proofs.Common.{Result, Ok, Err}
 use Rattle.std.proofs.Common.{refl, sym, ap, subst, length, inl, suc, arith, eqb-true}
 use Rattle.std.specs.Prelude.{IfErr, OnOk}
 use Rattle.std.specs.Option.{option_map_or}
-use Rattle.std.proofs.lemmas.Bool.{and_parts}
+use Rattle.std.proofs.lemmas.Bool.{and_parts, not-true}
+use Rattle.std.proofs.lemmas.List.{nil_from_length}
+use Rattle.std.proofs.lemmas.Option.{same_Some}
 use Rattle.net_script.specs.declared.values.Sizes.{Sizes}
 use Rattle.net_script.specs.declared.trace_lines.TraceLine.TheVariants.{Cluster, Contents, Happened, Served, Changed, Datagram, Final}
 use Rattle.net_script.specs.TraceReading.{RefusesTrace}
@@ -28,6 +30,7 @@ use Rattle.audit.specs.Following.{Follows, IsChanged}
 use Rattle.audit.specs.Hearing.{are_right, Hears, HasHeard}
 use Rattle.audit.specs.declared.ledger.Ledger.{Ledger}
 use Rattle.audit.specs.declared.auditor.Auditor.{Auditor}
+use Rattle.net_script.proofs.DraftLemmas.{no_entries}
 use Rattle.audit.proofs.AuditLemmas.{is_right}
 use Rattle.audit.proofs.LedgerLemmas.{bare, follows_event, follows_change, moves_so, nothing_happened, history_push}
 
@@ -107,9 +110,6 @@ sent_heard sent auditor tables entries a finals heard =
     }
 
 -- ---- changes of views
-
-pub some_same : {X : Type 0} (a b : X) → Some a ≡ Some b → a ≡ b
-some_same a b e = cc
 
 -- the step of an entry with a changed view
 pub step_changed : (change : Change) (last : Entry) → step_of (with_now change last) ≡ record (step_of last) { now = Some change }
@@ -209,14 +209,11 @@ pub after_is : (t after : Trace) (said : TraceLine) → Some after ≡ begun_wit
 after_is t after said e = by (may_follow (so_far_of t) said) (sym e)
   where
     by : (may : Bool) → cond may (Some (grown t said)) None ≡ Some after → (may ≡ true) × (grown t said ≡ after)
-    by true h = (refl, some_same (grown t said) after h)
+    by true h = (refl, same_Some (grown t said) after h)
     by false h = absurd (cc (h))
 
 pub none_left : {X : Type 0} (xs : List X) → eqb (length xs) 0 ≡ true → xs ≡ []
-none_left [] h = refl
-none_left (x ∷ xs) h =
-    let none : suc (length xs) ≡ 0 = eqb-true (suc (length xs)) 0 h in
-    absurd (omega arith)
+none_left xs h = nil_from_length xs (eqb-true (length xs) 0 h)
 
 -- entries of which the last is made anew
 pub record IsMade (make : Entry → Entry) (old : List Entry) : Type 0 where
@@ -253,25 +250,7 @@ change_made t change may =
 pub sent_made : (t : Trace) (sent : Sent) → may_follow (so_far_of t) (Datagram sent) ≡ true → IsMade (with_sent sent) t.entries
 sent_made t sent may =
     is_made (with_sent sent) t.entries
-    (off (is_missing (last_of t.entries)) (and_parts (eqb (length t.finals) 0) (not (is_missing (last_of t.entries))) may).1)
-  where
-    off : (b : Bool) → not b ≡ true → b ≡ false
-    off true h = absurd (cc (h))
-    off false h = refl
-
-no_entries : (es : List Entry) → is_missing (last_of es) ≡ true → es ≡ []
-no_entries [] h = refl
-no_entries (e ∷ []) h = by e h
-  where
-    told : (now : Option Change) (sent : List Sent) → is_missing (told_of now sent) ≡ true → e ∷ [] ≡ []
-    told None [] h = absurd (cc (h))
-    told None (d ∷ sent) h = absurd (cc (h))
-    told (Some c) sent h = absurd (cc (h))
-
-    by : (x : Entry) → is_missing (told_by x) ≡ true → e ∷ [] ≡ []
-    by (Entry.Step step) h = told step.now step.sent h
-    by (Entry.Serve node answer now sent) h = told now sent h
-no_entries (e ∷ f ∷ es) h = absurd (cc (sym (ap length (no_entries (f ∷ es) h))))
+    (not-true (is_missing (last_of t.entries)) (and_parts (eqb (length t.finals) 0) (not (is_missing (last_of t.entries))) may).1)
 
 -- an entry with its answer alone changed no view
 bare_none : (last : Entry) → is_alone (told_by last) ≡ true → (step_of last).now ≡ None
@@ -358,7 +337,7 @@ rows_line old new rm rows step (Some t) after heard e =
 pub cluster_line : (auditor : Auditor) (sizes : Sizes) (before : Option Trace) (after : Trace) → HasHeard auditor before
     → Some after ≡ begun_with before (Cluster sizes) → HasHeard auditor (Some after)
 cluster_line auditor sizes None after heard e =
-    let same = some_same _ _ e in
+    let same = same_Some _ _ e in
     subst (λ u. HasHeard auditor (Some u)) (sym same) heard
 cluster_line auditor sizes (Some t) after heard e = absurd (cc)
 
@@ -373,3 +352,11 @@ wrong_trace t wrong = sym (ap (λ b. b && are_tables (λ rm. table_told (first_t
 pub wants_memory : {X : Type 0} (bytes : List ℕ) (r : Result X Refusal) → IfErr r (λ e. e ≡ NoMemory) → IfErr r (RefusesTrace bytes)
 wants_memory bytes (Ok b) wants = tt
 wants_memory bytes (Err e) wants = inl wants
+
+-- what a reader refuses, its caller does
+pub refused : {X : Type 0} (bytes all : List ℕ) (out : Result X Refusal) (e : Refusal) → out ≡ Err e → all ≡ bytes → RefusesTrace all e
+    → IfErr out (RefusesTrace bytes)
+refused bytes all (Ok y) e same these given = tt
+refused bytes all (Err y) e same these given =
+    let one : e ≡ y = cc in
+    subst (λ (b : List ℕ). RefusesTrace b y) these (subst (RefusesTrace all) one given)

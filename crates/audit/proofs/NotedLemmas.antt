@@ -1,4 +1,4 @@
--- What a judge holds after one line more: for `Judge::take`.
+-- What a judge holds after one line more: for `Judge::take` and `Judge::hear`.
 use Rattle.std.proofs.Common.{◌≡◌, ◌∙◌, ◌⊎◌, inl, inr, ℕ, ◌+◌, ◌<◌, ◌≤◌, Bool, true, false, ltb, List, [], Option, Some, None}
 use Rattle.std.proofs.Common.{◌++◌, length, Result, Ok, Err, refl, sym, ap, subst, arith}
 use Rattle.std.specs.Prelude.{IfOk}
@@ -7,6 +7,12 @@ use Rattle.std.specs.Option.{is_some}
 use Rattle.std.proofs.lemmas.Bool.{and_parts, leb-true, ltb-true, ltb-false}
 use Rattle.std.proofs.lemmas.List.{append-nil, length-append}
 use Rattle.net_script.specs.declared.trace_lines.TraceLine.{TraceLine}
+use Rattle.xid.specs.Transactions.{TxParts}
+use Rattle.net_script.specs.Basics.{Sent}
+use Rattle.net_script.specs.declared.said.Heard.{Heard}
+use Rattle.net_script.specs.declared.told.ToldSent.{ToldSent}
+use Rattle.net_script.specs.declared.trace_lines.TraceLine.TheVariants.{Datagram}
+use Rattle.net_script.specs.Telling.{sent_of, IsHeard}
 use Rattle.net_script.specs.Traces.{trace_text}
 use Rattle.net_script.specs.TraceLines.{whole_line, lines_of}
 use Rattle.net_script.specs.TraceReaders.{begun_with}
@@ -20,7 +26,7 @@ use Rattle.audit.specs.Noting.{rows_so_far, HasNoted}
 use Rattle.audit.specs.declared.faults.Fault.{Fault}
 use Rattle.audit.specs.declared.auditor.Auditor.{Auditor}
 use Rattle.audit.specs.declared.judge.Judge.{Judge}
-use Rattle.audit.proofs.HearingLemmas.{some_same}
+use Rattle.std.proofs.lemmas.Option.{same_Some}
 use Rattle.audit.proofs.GrownLines.{one_more, lines_few}
 use Rattle.audit.proofs.FaultLemmas.{entries_right, right_so_far, both_kept, none_fails, fails_with, rows_on}
 
@@ -65,7 +71,7 @@ module _ (bytes : List ℕ) (old : Judge) (count line : ℕ) (before : Option Tr
       fault_noted = record {
         heard = heard;
         counted = told.counted;
-        fault = λ fault is. (subst (IsFirstFault bytes) (some_same fault_here fault is) here, wrong);
+        fault = λ fault is. (subst (IsFirstFault bytes) (same_Some fault_here fault is) here, wrong);
         right = λ no. absurd (cc (no));
         none = λ no n pos within. absurd (cc (no));
       }
@@ -153,3 +159,9 @@ found_text bytes judge lines trace (Ok found) read noted says =
         text = read.spelled.text ∙ sym (append-nil (trace_text t));
       }) (omega (arith, rows, some));
     }
+
+-- a datagram was heard
+pub heard_sent : (known : Option TxParts) (told : ToldSent) (said : TraceLine) → IsHeard known (Heard.Datagram told) said
+    → (s : Sent) × (said ≡ Datagram s)
+heard_sent None told said is = absurd is
+heard_sent (Some tx) told said is = (sent_of tx told, is)

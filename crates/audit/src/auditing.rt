@@ -45,9 +45,9 @@ pub fn audit_text(alloc: Global, bytes: &[u8]) -> Result<Option<Fault>, Refusal>
     let mut reader = TraceReader::new(bytes);
     let mut judge = Judge::new(alloc)?;
     let mut lines = 0;
-    while let Some(said) = reader.next(alloc)? {
+    while let Some(heard) = reader.hear(alloc)? {
         lines += 1;
-        judge.take(alloc, lines, said)?;
+        judge.hear(alloc, lines, heard)?;
     }
     judge.verdict(alloc, lines)
 }

@@ -2,6 +2,9 @@
 
 ghost use Rattle.std.specs.Prelude.{◌≡◌, ℕ, ◌+◌, ◌-◌, ◌<◌, length, List, Option, Some, None, IfOk, IfErr, OnOk};
 ghost use Rattle.xid.specs.declared.refusals.Refusal.TheVariants.{NoMemory};
+ghost use Rattle.xid.specs.Transactions.{TxParts};
+ghost use Rattle.net_script.specs.declared.trace_lines.TraceLine.{TraceLine as LineParts};
+ghost use Rattle.net_script.specs.Telling.{IsHeard};
 ghost use Rattle.net_script.specs.TraceReaders.{begun_with};
 ghost use Rattle.audit.specs.Words.{Trace};
 ghost use Rattle.audit.specs.Tables.{first_tables};
@@ -13,7 +16,7 @@ ghost use Rattle.audit.specs.Noting.{HasNoted};
 use crate::auditor::Auditor;
 use crate::faults::{Fault, Question, question_of};
 use crate::serial::replayed;
-use net_script::TraceLine;
+use net_script::{Heard, TraceLine};
 use std::alloc::Global;
 use xid::Refusal;
 
@@ -36,8 +39,21 @@ impl Judge {
         })
     }
 
-    /// Hears one line more, which has this number. Refused: `NoMemory` alone.
-    pub fn take(&mut self, alloc: Global, line: usize, said: TraceLine) -> Result<(), Refusal>
+    /// Hears one line more, which has this number; a datagram is no change, and no get. Refused: `NoMemory` alone.
+    pub fn hear(&mut self, alloc: Global, line: usize, heard: Heard) -> Result<(), Refusal>
+        ensures ok { OnOk result ((known : Option TxParts) (said : LineParts) (bytes : List ℕ) (count : ℕ) (before : Option Trace)
+            (after : Trace) → IsHeard known heard said → HasNoted bytes self.old count before → Some after ≡ begun_with before said
+            → line ≡ count + 1 → Tells bytes line after → HasNoted bytes self.new line (Some after)) }
+        ensures err { IfErr result (λ e. e ≡ NoMemory) }
+    {
+        match heard {
+            Heard::Line(said) => self.take(alloc, line, said),
+            Heard::Datagram(_) => Ok(()),
+        }
+    }
+
+    /// Hears what one line more says, which has this number. Refused: `NoMemory` alone.
+    fn take(&mut self, alloc: Global, line: usize, said: TraceLine) -> Result<(), Refusal>
         ensures ok { OnOk result ((bytes : List ℕ) (count : ℕ) (before : Option Trace) (after : Trace)
             → HasNoted bytes self.old count before → Some after ≡ begun_with before said → line ≡ count + 1
             → Tells bytes line after → HasNoted bytes self.new line (Some after)) }

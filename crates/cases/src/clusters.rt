@@ -92,7 +92,7 @@ fn say_finals(whole: &mut Whole, alloc: Global, page: &mut Page) -> Result<(), S
         tables.push(wanted(whole.cluster.table(rm))?)?;
     }
     let mut text = Vec::new(alloc);
-    write_finals(alloc, &mut text, &tables)?;
+    write_finals(&mut text, &tables)?;
     page.bytes(&text)
 }
 
@@ -101,7 +101,7 @@ impl Whole {
     fn happen(&mut self, alloc: Global, event: Event) -> Result<Vec<u8>, Stop> {
         let step = self.cluster.step(event);
         let mut text = Vec::new(alloc);
-        write_step(alloc, &mut text, &step)?;
+        write_step(alloc, &mut text, &mut None, &step)?;
         Ok(text)
     }
 

@@ -30,7 +30,7 @@ fn say_tx(alloc: Global, tx: Option<Tx>, page: &mut Page) -> Result<(), Stop> {
         return page.nothing();
     };
     let mut text = Vec::new(alloc);
-    tx.write(alloc, &mut text)?;
+    tx.write(&mut text)?;
     page.word(&text)?;
     page.end_line()
 }

@@ -58,7 +58,7 @@ impl Page {
     /// A transaction after a space.
     pub fn tx(&mut self, tx: &Tx) -> Result<(), Stop> {
         self.bytes(b" ")?;
-        Ok(tx.write(self.alloc, &mut self.text)?)
+        Ok(tx.write(&mut self.text)?)
     }
 
     /// Bytes as hex digits after a space, `-` for none.
@@ -112,7 +112,7 @@ impl Page {
             sent: Sequence::new(sent),
         };
         let mut text = Vec::new(self.alloc);
-        write_step(self.alloc, &mut text, &step)?;
+        write_step(self.alloc, &mut text, &mut None, &step)?;
         Ok(text)
     }
 

@@ -29,7 +29,7 @@ fn say_xid(alloc: Global, made: Result<Xid, Refusal>, page: &mut Page) -> Result
     match made {
         Ok(xid) => {
             let mut text = Vec::new(alloc);
-            xid.write(alloc, &mut text)?;
+            xid.write(&mut text)?;
             page.word(&text)?;
         }
         Err(refusal) => page.refusal(refusal)?,
@@ -42,7 +42,7 @@ fn say_tx(alloc: Global, made: Result<Tx, Refusal>, page: &mut Page) -> Result<(
     match made {
         Ok(tx) => {
             let mut text = Vec::new(alloc);
-            tx.write(alloc, &mut text)?;
+            tx.write(&mut text)?;
             page.word(&text)?;
         }
         Err(refusal) => page.refusal(refusal)?,

@@ -7,7 +7,7 @@ ghost use Rattle.cluster_run.specs.Happenings.{IsFlow, IsDoneBy, AreDoneBy};
 ghost use Rattle.cluster_run.specs.Running.{GoesOn, Prints, PrintsShort, StopsIn, so_far};
 
 use cluster::{Cluster, no_step};
-use net_script::{Command, write_step, write_text};
+use net_script::{Command, KnownTx, write_step, write_text};
 use protocol::{Event, Step};
 use stable_record::MemRecord;
 use std::alloc::Global;
@@ -37,6 +37,7 @@ fn happen<W: Write>(
     alloc: Global,
     cluster: &mut Cluster<MemRecord>,
     step: &mut Step,
+    known: &mut Option<KnownTx>,
     piece: &mut Vec<u8>,
     out: &mut W,
     event: Event,
@@ -47,7 +48,7 @@ fn happen<W: Write>(
         (so_far piece.old.items (W.contents out.old)) (W.contents out.new)) }
 {
     cluster.step_into(event, step);
-    write_step(alloc, piece, step)?;
+    write_step(alloc, piece, known, step)?;
     print_long(piece, out)
 }
 
@@ -56,6 +57,7 @@ fn flow<W: Write>(
     alloc: Global,
     cluster: &mut Cluster<MemRecord>,
     step: &mut Step,
+    known: &mut Option<KnownTx>,
     piece: &mut Vec<u8>,
     out: &mut W,
     count: u32,
@@ -69,7 +71,15 @@ fn flow<W: Write>(
         let Some(number) = cluster.least_unmarked() else {
             return Ok(());
         };
-        happen(alloc, cluster, step, piece, out, Event::Deliver { number })?;
+        happen(
+            alloc,
+            cluster,
+            step,
+            known,
+            piece,
+            out,
+            Event::Deliver { number },
+        )?;
     }
     Ok(())
 }
@@ -79,6 +89,7 @@ fn carry_out<W: Write>(
     alloc: Global,
     cluster: &mut Cluster<MemRecord>,
     step: &mut Step,
+    known: &mut Option<KnownTx>,
     piece: &mut Vec<u8>,
     out: &mut W,
     command: Command,
@@ -89,8 +100,8 @@ fn carry_out<W: Write>(
         (so_far piece.old.items (W.contents out.old)) (W.contents out.new)) }
 {
     match command {
-        Command::Do(event) => happen(alloc, cluster, step, piece, out, event),
-        Command::Flow(count) => flow(alloc, cluster, step, piece, out, count),
+        Command::Do(event) => happen(alloc, cluster, step, known, piece, out, event),
+        Command::Flow(count) => flow(alloc, cluster, step, known, piece, out, count),
     }
 }
 
@@ -109,8 +120,9 @@ pub fn carry_out_all<W: Write>(
         (so_far piece.old.items (W.contents out.old)) (W.contents out.new)) }
 {
     let mut step = no_step(alloc);
+    let mut known = None;
     for command in commands {
-        carry_out(alloc, cluster, &mut step, piece, out, command)?;
+        carry_out(alloc, cluster, &mut step, &mut known, piece, out, command)?;
     }
     Ok(())
 }

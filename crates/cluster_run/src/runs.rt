@@ -55,12 +55,12 @@ fn run_script<W: Write>(alloc: Global, script: Script, out: &mut W) -> Result<()
     let config = config_of(alloc, sizes, first)?;
     let mut cluster = opened(alloc, &config)?;
     let mut piece = Vec::new(alloc);
-    write_head(alloc, &mut piece, sizes, first)?;
+    write_head(&mut piece, sizes, first)?;
     carry_out_all(alloc, &mut cluster, &mut piece, out, commands.into_vec())?;
     let finals = match final_rows(alloc, &mut cluster, config.sizes().managers) {
         Ok(finals) => finals,
         Err(refusal) => return Err(refusal),
     };
-    write_finals(alloc, &mut piece, &finals)?;
+    write_finals(&mut piece, &finals)?;
     write_text(&piece, out)
 }

@@ -1,5 +1,5 @@
 -- Answers: one value for one list of words.
-use Rattle.std.proofs.Common.{◌≡◌, ℕ, ◌<◌, ◌^◌, Bool, true, false, cond, eqb, ◌||◌}
+use Rattle.std.proofs.Common.{◌≡◌, ℕ, ◌<◌, ◌^◌, Bool, true, false, ◌||◌}
 use Rattle.std.proofs.Common.{List, ◌∷◌, refl, sym, ap, subst, ◌∙◌, arith, decimal, codes}
 use Rattle.std.specs.Fmt.{digits, signed_decimal}
 use Rattle.std.specs.Str.{bytes_eq}
@@ -21,30 +21,20 @@ pub refusal_small : (r : Refusal) → IsTold r → number_of r < 2 ^ 32
 refusal_small Refusal.BadTx is = omega arith
 refusal_small r is = omega arith
 
--- the refusal of a number that is told
-abbrev told_of : ℕ → Refusal
-told_of n =
-    cond (eqb n 2) Refusal.BadTx (cond (eqb n 3) Refusal.BadMessage (cond (eqb n 4) Refusal.Damaged (cond (eqb n 5) Refusal.RecordFault
-    (cond (eqb n 6) Refusal.NoBallot (cond (eqb n 8) Refusal.Down (cond (eqb n 9) Refusal.Busy (cond (eqb n 10) Refusal.Full
-    (cond (eqb n 11) Refusal.NoMemory (cond (eqb n 12) Refusal.PortFault (cond (eqb n 14) Refusal.Forged Refusal.NoSuch))))))))))
-
-told_same : (r : Refusal) → IsTold r → told_of (number_of r) ≡ r
-told_same Refusal.BadTx is = refl
-told_same Refusal.BadMessage is = refl
-told_same Refusal.Damaged is = refl
-told_same Refusal.RecordFault is = refl
-told_same Refusal.NoBallot is = refl
-told_same Refusal.Down is = refl
-told_same Refusal.Busy is = refl
-told_same Refusal.Full is = refl
-told_same Refusal.NoMemory is = refl
-told_same Refusal.PortFault is = refl
-told_same Refusal.Forged is = refl
-told_same Refusal.NoSuch is = refl
-told_same r is = absurd is
-
 refusal_injective : (r s : Refusal) → IsTold r → IsTold s → number_of r ≡ number_of s → r ≡ s
-refusal_injective r s p q e = sym (told_same r p) ∙ ap told_of e ∙ told_same s q
+refusal_injective Refusal.BadTx Refusal.BadTx p q e = refl
+refusal_injective Refusal.BadMessage Refusal.BadMessage p q e = refl
+refusal_injective Refusal.Damaged Refusal.Damaged p q e = refl
+refusal_injective Refusal.RecordFault Refusal.RecordFault p q e = refl
+refusal_injective Refusal.NoBallot Refusal.NoBallot p q e = refl
+refusal_injective Refusal.Down Refusal.Down p q e = refl
+refusal_injective Refusal.Busy Refusal.Busy p q e = refl
+refusal_injective Refusal.Full Refusal.Full p q e = refl
+refusal_injective Refusal.NoMemory Refusal.NoMemory p q e = refl
+refusal_injective Refusal.PortFault Refusal.PortFault p q e = refl
+refusal_injective Refusal.Forged Refusal.Forged p q e = refl
+refusal_injective Refusal.NoSuch Refusal.NoSuch p q e = refl
+refusal_injective r s p q e = absurd (grind (arith, p, q, e))
 
 -- ---- first words
 

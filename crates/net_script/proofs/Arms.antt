@@ -1,12 +1,12 @@
 -- Lines of several kinds, each begun by a word of its own: what comes after it. The readers of such lines need it, and their laws.
-use Rattle.std.proofs.Common.{◌≡◌, ℕ, Bool, true, false, List, [], ◌∷◌, Result, Err, sym, ap, ◌∙◌}
+use Rattle.std.proofs.Common.{◌≡◌, ◌↔◌, IsTrue, ℕ, Bool, true, false, List, [], ◌∷◌, Result, Ok, Err, refl, Option, sym, ap, ◌∙◌}
 use Rattle.std.specs.List.{AllByRecursion}
 use Rattle.std.specs.Result.{IsErrAnd}
 use Rattle.std.proofs.lemmas.Result.{err_from_is_err_and}
 use Rattle.std.specs.Str.{bytes_eq}
-use Rattle.net_script.specs.declared.stop.Stop.{Stop}
-use Rattle.net_script.specs.declared.stop.Stop.TheVariants.{Wrong, Memory}
-use Rattle.net_script.specs.Spelling.{Finds, IsCommon, AreSpellings}
+use Rattle.net_script.specs.Basics.{Stop, Wrong, Memory, Refusal}
+use Rattle.net_script.specs.Lines.{Reads}
+use Rattle.net_script.specs.Spelling.{Finds, or_none, IsCommon, AreSpellings}
 use Rattle.net_script.proofs.WordLemmas.{differ}
 
 -- a line that is made of a value, whose words these are
@@ -64,31 +64,47 @@ apart v w e off = differ (first_word v) (first_word w) (ap first_word e) off
 
 -- ---- where nothing was read of a part, nothing is read of the whole
 
-stops : {X Y V W : Type 0} {a b : Bool} {fit : X → Type 0} {text : X → V} {IsIn : Y → Type 0} {words : Y → W} {args : V} {given : W}
+unread : {X Y V W : Type 0} {a b : Bool} {fit : X → Type 0} {text : X → V} {IsIn : Y → Type 0} {words : Y → W} {args : V} {given : W}
     → (a ≡ true → b ≡ true) → (((x : X) → fit x → args ≡ text x → ⊥) → (y : Y) → IsIn y → given ≡ words y → ⊥) → (d : Stop)
     → Finds a fit text args (Err d)
     → Finds b IsIn words given (Err d)
-stops more fails Wrong none = fails none
-stops more fails Memory none = more none
+unread more fails Wrong none = fails none
+unread more fails Memory none = more none
 
 pub passes : {X Y V W : Type 0} {a b : Bool} {fit : X → Type 0} {text : X → V} {IsIn : Y → Type 0} {words : Y → W} {args : V} {given : W}
     → (a ≡ true → b ≡ true) → (((x : X) → fit x → args ≡ text x → ⊥) → (y : Y) → IsIn y → given ≡ words y → ⊥) → (d : Stop)
     (r : Result Y Stop)
     → IsErrAnd r (λ e. e ≡ d) → Finds a fit text args (Err d)
     → Finds b IsIn words given r
-passes more fails d r from none = let p = err_from_is_err_and r from in rw (p.1, p.2) (stops more fails d none)
+passes more fails d r from none = let p = err_from_is_err_and r from in rw (p.1, p.2) (unread more fails d none)
 
 -- the words after a first one
-pub arm_stops : {X Y : Type 0} {a b : Bool} {fit : X → Type 0} {texts : X → List (List ℕ)} {IsIn : Y → Type 0} {words : Y → List (List ℕ)}
+pub arm_fails : {X Y : Type 0} {a b : Bool} {fit : X → Type 0} {texts : X → List (List ℕ)} {IsIn : Y → Type 0} {words : Y → List (List ℕ)}
     {name : List ℕ} {make : X → Y}
     → (a ≡ true → b ≡ true) → IsArm fit texts IsIn words name make → (verb : List ℕ) (args : List (List ℕ)) (d : Stop) (r : Result Y Stop)
     → verb ≡ name → IsErrAnd r (λ e. e ≡ d) → Finds a fit texts args (Err d)
     → Finds b IsIn words (verb ∷ args) r
-arm_stops more arm verb args d r same from none =
+arm_fails more arm verb args d r same from none =
     passes more
     (λ fails y q e.
     let found = arm y q args (ap (λ (word : List ℕ). word ∷ args) (sym same) ∙ e) in fails found.value found.fits found.says)
     d r from none
+
+-- the same where the first word was compared
+pub stops : {X Y : Type 0} {fit : X → Type 0} {texts : X → List (List ℕ)} {IsIn : Y → Type 0} {words : Y → List (List ℕ)}
+    {name verb : List ℕ} {make : X → Y} {P : Type 0}
+    → IsArm fit texts IsIn words name make → (a : Bool) (args : List (List ℕ)) (d : Stop) (r : Result Y Stop)
+    → IsTrue true ↔ (verb ≡ name) → P × IsErrAnd r (λ e. e ≡ d) → Finds a fit texts args (Err d)
+    → Finds true IsIn words (verb ∷ args) r
+stops arm a args d r is from none = arm_fails (λ e. refl) arm _ args d r (is.0 refl) from.1 none
+
+-- what was found, or none
+pub found : {X W : Type 0} (a : Bool) (fits : X → Type 0) (text : X → W) (given : W) (r : Result X Stop) {o : Result (Option X) Refusal}
+    → o ≡ or_none r → Finds a fits text given r
+    → Reads fits text given o
+found a fits text given (Ok x) same h = rw same h
+found a fits text given (Err Wrong) same h = rw same h
+found a fits text given (Err Memory) same h = rw same
 
 -- where memory can't run out, nothing was found as no value has the text
 pub none_found : {X W : Type 0} (fits : X → Type 0) (text : X → W) (given : W) (d : Stop) → Finds false fits text given (Err d) → (x : X)

@@ -1,4 +1,4 @@
--- A text up to its first mark, and one word after another of a line: for `split_once` and `is_tidy`.
+-- A text up to its first mark: for `split_once`.
 use Rattle.std.proofs.Common.{zero, suc, ◌≡◌, ℕ, ◌+◌, ◌-◌, ◌<◌, ◌≤◌, Bool, true, false, not, ◌&&◌, cond, eqb, List, [], ◌∷◌, ◌++◌, length}
 use Rattle.std.proofs.Common.{get_or, take, drop, None, Some, refl, sym, ap, ◌∙◌, arith, eqb-true}
 use Rattle.std.proofs.lemmas.Bool.{not-true, and_parts}
@@ -7,9 +7,6 @@ use Rattle.std.proofs.lemmas.List.{append-nil, take_all, length-drop}
 use Rattle.xid.specs.Text.{lacks}
 use Rattle.xid.proofs.Texts.{both_true}
 use Rattle.memchr.specs.Find.{IsFirstByte, is_byte}
-use Rattle.net_script.specs.TraceLines.{is_tidy_after}
-
--- ---- the first mark
 
 lacks_until : (mark : ℕ) (text : List ℕ) (n : ℕ) → n ≤ length text
     → ((k : ℕ) → k < n → eqb (get_or text k 0) mark ≡ true → ⊥) → lacks mark (take n text) ≡ true
@@ -45,38 +42,3 @@ pub unmarked : (mark : ℕ) (text : List ℕ) → IsFirstByte (is_byte mark) tex
 unmarked mark text none =
     ap (lacks mark) (sym (take_all (length text) text (omega arith)))
     ∙ lacks_until mark text (length text) (omega arith) (λ k lt e. none k (omega arith) lt e)
-
--- ---- words of a tidy line
-
-tidy_bytes : (w rest : List ℕ) → lacks 32 w ≡ true → is_tidy_after false (w ++ rest) ≡ is_tidy_after false rest
-tidy_bytes [] rest h = refl
-tidy_bytes (x ∷ w) rest h =
-    let parts = and_parts (not (eqb x 32)) (lacks 32 w) h in
-    let other : eqb x 32 ≡ false = not-true (eqb x 32) parts.0 in
-    ap (λ (b : Bool). cond b (not false && is_tidy_after true (w ++ rest)) (is_tidy_after false (w ++ rest))) other
-    ∙ tidy_bytes w rest parts.1
-
-tidy_word : (w rest : List ℕ) → 0 < length w → lacks 32 w ≡ true → is_tidy_after true (w ++ rest) ≡ is_tidy_after false rest
-tidy_word [] rest some h = absurd (omega arith)
-tidy_word (x ∷ w) rest some h =
-    let parts = and_parts (not (eqb x 32)) (lacks 32 w) h in
-    let other : eqb x 32 ≡ false = not-true (eqb x 32) parts.0 in
-    ap (λ (b : Bool). cond b (not true && is_tidy_after true (w ++ rest)) (is_tidy_after false (w ++ rest))) other
-    ∙ tidy_bytes w rest parts.1
-
-pub tidy_goes : (text w after : List ℕ) → (text ≡ w ++ 32 ∷ after) × (lacks 32 w ≡ true) → 0 < length w
-    → is_tidy_after true text ≡ is_tidy_after true after
-tidy_goes text w after cut some = ap (is_tidy_after true) cut.0 ∙ tidy_word w (32 ∷ after) some cut.1
-
-pub tidy_stops : (text w after : List ℕ) → text ≡ w ++ 32 ∷ after → length w ≡ 0 → is_tidy_after true text ≡ false
-tidy_stops text [] after cut none = ap (is_tidy_after true) cut
-tidy_stops text (x ∷ w) after cut none = absurd (omega arith)
-
-pub tidy_ends : (text : List ℕ) → lacks 32 text ≡ true → is_tidy_after true text ≡ not (eqb (length text) 0)
-tidy_ends [] h = refl
-tidy_ends (x ∷ text) h =
-    ap (is_tidy_after true) (sym (append-nil (x ∷ text))) ∙ tidy_word (x ∷ text) [] (omega arith) h
-    ∙ sym (ap not (off (length (x ∷ text)) (omega arith)))
-  where
-    off : (n : ℕ) → 0 < n → eqb n 0 ≡ false
-    off n some = grind (arith, nat_tests)

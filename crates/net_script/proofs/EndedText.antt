@@ -1,7 +1,7 @@
 -- The text of a trace is that of its lines, one after another.
-use Rattle.std.proofs.Common.{suc, ◌≡◌, ℕ, ◌<◌, Bool, true, false, not, cond, eqb, List, [], ◌∷◌, ◌++◌, length, map, Option, None, Some}
-use Rattle.std.proofs.Common.{refl, sym, ap, subst, ◌∙◌, arith}
-use Rattle.std.specs.List.{All, AllByRecursion, flat_map, onto_first}
+use Rattle.std.proofs.Common.{suc, ◌≡◌, ℕ, ◌<◌, true, false, not, eqb, List, [], ◌∷◌, ◌++◌, length, map, Option, None, Some, refl, sym, ap}
+use Rattle.std.proofs.Common.{subst, ◌∙◌, arith}
+use Rattle.std.specs.List.{All, AllByRecursion, flat_map}
 use Rattle.std.proofs.lemmas.Bool.{not-true}
 use Rattle.std.proofs.lemmas.List.{append-nil, append_assoc}
 use Rattle.std.proofs.lemmas.List.Concat.{flat_map-append}
@@ -9,14 +9,9 @@ use Rattle.std.proofs.lemmas.List.Folds.{flat_map-map}
 use Rattle.std.proofs.lemmas.List.Elements.{All-head, All-tail}
 use Rattle.xid.specs.Text.{lacks}
 use Rattle.xid.proofs.Texts.{first_true, second_true, list_all_join, lacks_not}
-use Rattle.net_script.specs.Basics.{Change, Sent, Row}
-use Rattle.net_script.specs.declared.values.Table.{Table}
-use Rattle.net_script.specs.declared.values.Entry.{Entry}
-use Rattle.net_script.specs.declared.values.Trace.{Trace}
-use Rattle.net_script.specs.declared.trace_lines.TraceLine.{TraceLine}
-use Rattle.net_script.specs.declared.trace_lines.TraceLine.TheVariants.{Cluster, Contents, Happened, Served, Changed, Datagram, Final}
-use Rattle.net_script.specs.Traces.{joined_words, spaced_words, table_line, change_text, sent_line}
-use Rattle.net_script.specs.Traces.{entry_text, final_lines, trace_text}
+use Rattle.net_script.specs.Basics.{Change, Sent, Row, Table, Entry, Trace, TraceLine}
+use Rattle.net_script.specs.declared.trace_lines.TraceLine.TheVariants.{Cluster, Contents, Happened, Served, Changed, Datagram}
+use Rattle.net_script.specs.Traces.{joined_words, spaced_words, table_line, change_text, sent_line, entry_text, final_lines, trace_text}
 use Rattle.net_script.specs.TraceLines.{IsTraceLine, trace_line_words, trace_line_text, whole_line, changed_lines, entry_lines, rows_lines}
 use Rattle.net_script.specs.TraceLines.{lines_of}
 use Rattle.net_script.specs.TraceReading.{ended_lines}
@@ -28,8 +23,7 @@ pub ended_cut : (a b : List ℕ) → lacks 10 a ≡ true → ended_lines (a ++ 1
 ended_cut [] b h = refl
 ended_cut (x ∷ a) b h =
     let other : eqb x 10 ≡ false = not-true (eqb x 10) (first_true (not (eqb x 10)) (lacks 10 a) h) in
-    ap (λ (c : Bool). cond c ((10 ∷ []) ∷ ended_lines (a ++ 10 ∷ b)) (onto_first x (ended_lines (a ++ 10 ∷ b)))) other
-    ∙ ap (onto_first x) (ended_cut a b (second_true (not (eqb x 10)) (lacks 10 a) h))
+    simp (other, ended_cut a b (second_true (not (eqb x 10)) (lacks 10 a) h))
 
 ended_one : (x : ℕ) (a : List ℕ) → lacks 10 (x ∷ a) ≡ true → ended_lines (x ∷ a) ≡ (x ∷ a) ∷ []
 ended_one x [] h =
@@ -37,9 +31,8 @@ ended_one x [] h =
     rw other refl
 ended_one x (y ∷ a) h =
     let other : eqb x 10 ≡ false = not-true (eqb x 10) (first_true (not (eqb x 10)) (lacks 10 (y ∷ a)) h) in
-    let rest = second_true (not (eqb x 10)) (lacks 10 (y ∷ a)) h in
-    ap (λ (c : Bool). cond c ((10 ∷ []) ∷ ended_lines (y ∷ a)) (onto_first x (ended_lines (y ∷ a)))) other
-    ∙ ap (onto_first x) (ended_one y a rest)
+    let rest : ended_lines (y ∷ a) ≡ (y ∷ a) ∷ [] = ended_one y a (second_true (not (eqb x 10)) (lacks 10 (y ∷ a)) h) in
+    rw (other, rest) refl
 
 -- the last line of a text, where it lacks its end
 pub ended_last : (a : List ℕ) → 0 < length a → lacks 10 a ≡ true → ended_lines a ≡ a ∷ []
@@ -69,16 +62,11 @@ pub ended_more : (ls : List TraceLine) (rest : List ℕ) → All IsTraceLine ls
     → ended_lines (flat_map whole_line ls ++ rest) ≡ map whole_line ls ++ ended_lines rest
 ended_more [] rest all = refl
 ended_more (said ∷ ls) rest all =
-    let text = trace_line_text said in
-    let tail = flat_map whole_line ls ++ rest in
-    let cut : flat_map whole_line (said ∷ ls) ++ rest ≡ text ++ 10 ∷ tail =
-    append_assoc (text ++ 10 ∷ []) (flat_map whole_line ls) rest ∙ append_assoc text (10 ∷ []) tail in
-    ap ended_lines cut ∙ ended_cut text tail (line_lacks said (All-head IsTraceLine said ls all))
-    ∙ ap (λ (l : List (List ℕ)). whole_line said ∷ l) (ended_more ls rest (All-tail IsTraceLine said ls all))
+    let cut = ended_cut (trace_line_text said) (flat_map whole_line ls ++ rest) (line_lacks said (All-head IsTraceLine said ls all)) in
+    simp (append_assoc, cut, ended_more ls rest (All-tail IsTraceLine said ls all))
 
 pub ended_all : (ls : List TraceLine) → All IsTraceLine ls → ended_lines (flat_map whole_line ls) ≡ map whole_line ls
-ended_all ls all =
-    ap ended_lines (sym (append-nil (flat_map whole_line ls))) ∙ ended_more ls [] all ∙ append-nil (map whole_line ls)
+ended_all ls all = simp append-nil at (ended_more ls [] all)
 
 -- ---- the text of a trace
 
@@ -89,15 +77,13 @@ change_is (Some c) = sym (append-nil (whole_line (Changed c)))
 sent_is : (sent : List Sent) → flat_map sent_line sent ≡ flat_map whole_line (map Datagram sent)
 sent_is sent = sym (flat_map-map whole_line Datagram sent)
 
+tables_are : (ts : List Table) → flat_map table_line ts ≡ flat_map whole_line (map Contents ts)
+tables_are ts = sym (flat_map-map whole_line Contents ts)
+
 outcome_is : (first : TraceLine) (now : Option Change) (sent : List Sent)
     → whole_line first ++ change_text now ++ flat_map sent_line sent
     ≡ flat_map whole_line (first ∷ (changed_lines now ++ map Datagram sent))
-outcome_is first now sent =
-    append_assoc (whole_line first) (change_text now) (flat_map sent_line sent)
-    ∙ ap (λ (l : List ℕ). whole_line first ++ l)
-    (ap (λ (l : List ℕ). l ++ flat_map sent_line sent) (change_is now)
-    ∙ ap (λ (l : List ℕ). flat_map whole_line (changed_lines now) ++ l) (sent_is sent)
-    ∙ sym (flat_map-append whole_line (changed_lines now) (map Datagram sent)))
+outcome_is first now sent = simp (append_assoc, change_is, sent_is, flat_map-append)
 
 entry_is : (e : Entry) → entry_text e ≡ flat_map whole_line (entry_lines e)
 entry_is (Entry.Step step) = outcome_is (Happened step.event step.answer) step.now step.sent
@@ -105,33 +91,17 @@ entry_is (Entry.Serve node answer now sent) = outcome_is (Served node answer) no
 
 entries_are : (es : List Entry) → flat_map entry_text es ≡ flat_map whole_line (flat_map entry_lines es)
 entries_are [] = refl
-entries_are (e ∷ es) =
-    ap (λ (l : List ℕ). l ++ flat_map entry_text es) (entry_is e)
-    ∙ ap (λ (l : List ℕ). flat_map whole_line (entry_lines e) ++ l) (entries_are es)
-    ∙ sym (flat_map-append whole_line (entry_lines e) (flat_map entry_lines es))
-
-tables_are : (ts : List Table) → flat_map table_line ts ≡ flat_map whole_line (map Contents ts)
-tables_are ts = sym (flat_map-map whole_line Contents ts)
+entries_are (e ∷ es) = simp (entry_is, entries_are es, flat_map-append)
 
 rows_are : (n : ℕ) (fs : List (List Row)) → final_lines n fs ≡ flat_map whole_line (rows_lines n fs)
 rows_are n [] = refl
-rows_are n (f ∷ fs) = ap (λ (l : List ℕ). whole_line (Final n f) ++ l) (rows_are (suc n) fs)
+rows_are n (f ∷ fs) = simp (rows_are (suc n) fs)
 
--- four texts one after another
 regrouped : (a b c d : List ℕ) → a ++ b ++ c ++ d ≡ a ++ (b ++ (c ++ d))
-regrouped a b c d = append_assoc (a ++ b) c d ∙ append_assoc a b (c ++ d)
+regrouped a b c d = simp append_assoc
 
 pub text_is_lines : (t : Trace) → trace_text t ≡ flat_map whole_line (lines_of t)
 text_is_lines t =
     let first = whole_line (Cluster t.sizes) in
-    let tables = map Contents t.tables in
-    let entries = flat_map entry_lines t.entries in
-    let rows = rows_lines 0 t.finals in
     regrouped first (flat_map table_line t.tables) (flat_map entry_text t.entries) (final_lines 0 t.finals)
-    ∙ ap (λ (l : List ℕ). first ++ l)
-    (ap (λ (l : List ℕ). l ++ (flat_map entry_text t.entries ++ final_lines 0 t.finals)) (tables_are t.tables)
-    ∙ ap (λ (l : List ℕ). flat_map whole_line tables ++ l)
-    (ap (λ (l : List ℕ). l ++ final_lines 0 t.finals) (entries_are t.entries)
-    ∙ ap (λ (l : List ℕ). flat_map whole_line entries ++ l) (rows_are 0 t.finals)
-    ∙ sym (flat_map-append whole_line entries rows))
-    ∙ sym (flat_map-append whole_line tables (entries ++ rows)))
+    ∙ ap (λ (l : List ℕ). first ++ l) (simp (tables_are, entries_are, rows_are, flat_map-append))

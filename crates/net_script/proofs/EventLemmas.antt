@@ -2,13 +2,12 @@
 use Rattle.std.proofs.Common.{◌≡◌, ℕ, Bool, true, false, ◌||◌, List, refl, ap, codes}
 use Rattle.std.specs.Str.{bytes_eq}
 use Rattle.net_script.specs.Basics.{A, L, R, Start, Put, Del, Get, End, EndFail, Rollback, Request, Call, Recover, Timeout, Event, Ask}
-use Rattle.net_script.specs.Basics.{Deliver, Lose, Cut, Noise, Tear, Restart, Compact}
-use Rattle.net_script.specs.declared.values.Command.TheVariants.{Do, Flow}
+use Rattle.net_script.specs.Basics.{Deliver, Lose, Cut, Noise, Tear, Restart, Compact, Do, Flow}
 use Rattle.net_script.specs.Events.{IsEvent, event_word, event_words}
 use Rattle.net_script.specs.Items.{IsCommand, command_words}
 use Rattle.net_script.specs.Spelling.{no_words, ◌&◌}
-use Rattle.net_script.specs.Laws.{literal, a_number, a_node, some_bytes, an_xid, a_tx, manager_of}
-use Rattle.net_script.specs.Laws.{a_manager, leader_of, a_leader, party_of, a_party, ending_of, an_ending}
+use Rattle.net_script.specs.Laws.{literal, a_number, a_node, some_bytes, an_xid, a_tx, manager_of, a_manager, leader_of, a_leader, party_of}
+use Rattle.net_script.specs.Laws.{a_party, an_ending}
 use Rattle.net_script.proofs.Arms.{Arm, made_of, IsSaid, arm_said, apart}
 
 -- ---- the first words, and what comes after each
@@ -72,9 +71,9 @@ get_arm (Ask (R m) (Call x (Get k))) p args e = made_of (manager_of m, (x, (k, t
 get_arm (Ask n (Call x (Get k))) p args e = absurd (p.1)
 get_arm line p args e = absurd (apart _ _ e refl)
 
-pub end_arm : Arm (a_manager & an_xid & an_ending) IsEvent event_words (codes "end") (λ said. Ask (R said.0.0) (Call said.1.0 said.1.1.0))
-end_arm (Ask (R m) (Call x End)) p args e = made_of (manager_of m, (x, ending_of End)) (p.0, (p.1.0, tt)) (cc) refl
-end_arm (Ask (R m) (Call x EndFail)) p args e = made_of (manager_of m, (x, ending_of EndFail)) (p.0, (p.1.0, tt)) (cc) refl
+pub end_arm : Arm (a_manager & an_xid & an_ending) IsEvent event_words (codes "end") (λ said. Ask (R said.0.0) (Call said.1.0 said.1.1))
+end_arm (Ask (R m) (Call x End)) p args e = made_of (manager_of m, (x, End)) (p.0, (p.1.0, tt)) (cc) refl
+end_arm (Ask (R m) (Call x EndFail)) p args e = made_of (manager_of m, (x, EndFail)) (p.0, (p.1.0, tt)) (cc) refl
 end_arm (Ask n (Call x End)) p args e = absurd (p.1)
 end_arm (Ask n (Call x EndFail)) p args e = absurd (p.1)
 end_arm line p args e = absurd (apart _ _ e refl)

@@ -1,58 +1,45 @@
 -- One reading of a text, and one first fault.
-use Rattle.std.proofs.Common.{zero, suc, ◌≡◌, ℕ, ◌+◌, ◌-◌, ◌<◌, ◌≤◌, true, not, ◌&&◌, List, [], ◌∷◌, ◌++◌, length, get_or, take}
-use Rattle.std.proofs.Common.{drop, map, refl, sym, ap, subst, ◌∙◌, arith, ◌⊎◌, inl, inr}
+use Rattle.std.proofs.Common.{zero, suc, ◌≡◌, ℕ, ◌+◌, ◌-◌, ◌<◌, ◌≤◌, not, List, [], ◌∷◌, ◌++◌, length, get_or, take, drop, map}
+use Rattle.std.proofs.Common.{refl, sym, ap, subst, ◌∙◌, arith, rules, ◌⊎◌, inl, inr}
 use Rattle.std.specs.List.{AllPairs, list_all}
 use Rattle.std.proofs.lemmas.Bool.{cases_lt}
-use Rattle.std.proofs.lemmas.List.{map-append, take-append-drop, take-take, take_at, take-map, length-map, length-take, get_or-take}
+use Rattle.std.proofs.lemmas.List.{nil_from_length, length-append, map-append, take-append-drop, take-take, take_at, take-map}
+use Rattle.std.proofs.lemmas.List.{length-map, length-take, get_or-take}
 use Rattle.std.proofs.lemmas.List.Elements.{All-take, filter-append}
 use Rattle.std.proofs.lemmas.List.Folds.{list_all-append}
 use Rattle.xid.proofs.Texts.{first_true}
-use Rattle.net_script.specs.declared.values.Sizes.{Sizes}
-use Rattle.net_script.specs.declared.values.Command.{Command}
-use Rattle.net_script.specs.declared.values.Table.{Table}
-use Rattle.net_script.specs.declared.values.Script.{Script}
-use Rattle.net_script.specs.declared.items.Item.{Item}
+use Rattle.net_script.specs.Basics.{Command, Table, Script}
 use Rattle.net_script.specs.declared.items.Item.TheVariants.{Cluster, Contents, Then}
 use Rattle.net_script.specs.Lines.{words, is_plain}
 use Rattle.net_script.specs.Items.{IsContents, IsCommand, item_words}
 use Rattle.net_script.specs.Scripts.{is_note, lines_kept, script_items, IsScript, SpelledBy, CanBegin, FailsAt}
 use Rattle.net_script.proofs.ScriptLemmas.{items_have_one_text, items_valid}
+use Rattle.net_script.specs.Spelling.{same_lists}
 use Rattle.net_script.proofs.OneText.{texts_injective}
 
 -- ---- one reading
 
 commands_same : (es fs : List Command) → map Then es ≡ map Then fs → es ≡ fs
-commands_same [] [] e = refl
-commands_same [] (f ∷ fs) e = absurd (cc)
-commands_same (x ∷ es) [] e = absurd (cc)
-commands_same (x ∷ es) (f ∷ fs) e =
-    let head : x ≡ f = cc in
-    let tail : es ≡ fs = commands_same es fs (cc) in
-    cc
+commands_same es fs e =
+    same_lists {fits = λ (c : Command). Unit {0}} (λ x y p q same. cc) es fs (λ k d lt. tt) (λ k d lt. tt) e
 
 parts_same : (ts us : List Table) (es fs : List Command) → map Contents ts ++ map Then es ≡ map Contents us ++ map Then fs → (ts ≡ us)
     × (es ≡ fs)
 parts_same [] [] es fs e = (refl, commands_same es fs e)
 parts_same [] (u ∷ us) [] fs e = absurd (cc)
-parts_same [] (u ∷ us) (x ∷ es) fs e = absurd (cc)
 parts_same (t ∷ ts) [] es [] e = absurd (cc)
-parts_same (t ∷ ts) [] es (f ∷ fs) e = absurd (cc)
 parts_same (t ∷ ts) (u ∷ us) es fs e =
     let head : t ≡ u = cc in
     let tail = parts_same ts us es fs (cc) in
     let tables : ts ≡ us = tail.0 in
     (cc, tail.1)
-
--- a script of these parts
-abbrev script : Sizes → List Table → List Command → Script
-script sizes tables commands = record { sizes = sizes; tables = tables; commands = commands }
+parts_same ts us es fs e = absurd (cc)
 
 scripts_same : (s t : Script) → script_items s ≡ script_items t → s ≡ t
 scripts_same s t e =
     let sizes : s.sizes ≡ t.sizes = cc in
     let parts = parts_same s.tables t.tables s.commands t.commands (cc) in
-    let same : script s.sizes s.tables s.commands ≡ script t.sizes t.tables t.commands = cc in
-    same
+    search rules
 
 pub one_script : (ls : List (List ℕ)) (s t : Script) → SpelledBy ls s → SpelledBy ls t → s ≡ t
 one_script ls s t p q = scripts_same s t
@@ -64,23 +51,18 @@ one_script ls s t p q = scripts_same s t
 take_parts : (n : ℕ) (ts : List Table) (es : List Command)
     → take n (map Contents ts ++ map Then es) ≡ map Contents (take n ts) ++ map Then (take (n - length ts) es)
 take_parts zero [] es = refl
-take_parts (suc n) [] es =
-    let all : suc n ≡ suc n - 0 = omega arith in
-    take-map Then (suc n) es ∙ ap (λ (k : ℕ). map Then (take k es)) all
-take_parts zero (t ∷ ts) es =
-    let none : 0 ≡ 0 - suc (length ts) = omega arith in
-    ap (λ (k : ℕ). map Then (take k es)) none
+take_parts (suc n) [] es = let all : suc n - 0 ≡ suc n = omega arith in simp (take-map, all)
+take_parts zero (t ∷ ts) es = let none : 0 - suc (length ts) ≡ 0 = omega arith in simp none
 take_parts (suc n) (t ∷ ts) es =
-    let same : n - length ts ≡ suc n - suc (length ts) = omega arith in
-    ap (λ (l : List Item). Contents t ∷ l) (take_parts n ts es ∙ ap (λ (k : ℕ). map Contents (take n ts) ++ map Then (take k es)) same)
+    let same : suc n - suc (length ts) ≡ n - length ts = omega arith in
+    simp (take_parts n ts es, same)
 
 pairs_take : {X : Type 0} (R : X → X → Type 0) (n : ℕ) (xs : List X) → AllPairs R xs → AllPairs R (take n xs)
-pairs_take {X = X} R n xs pairs i j d lt within =
-    let len : j < n = omega (arith, length-take n xs) in
-    let all : j < length xs = omega (arith, length-take n xs) in
+pairs_take R n xs pairs i j d lt within =
+    let below : j < n = omega (arith, length-take n xs) in
     let left : get_or (take n xs) i d ≡ get_or xs i d = get_or-take n xs i d (omega arith) in
-    let right : get_or (take n xs) j d ≡ get_or xs j d = get_or-take n xs j d len in
-    subst (λ (x : X). R x (get_or (take n xs) j d)) (sym left) (subst (λ (y : X). R (get_or xs i d) y) (sym right) (pairs i j d lt all))
+    let right : get_or (take n xs) j d ≡ get_or xs j d = get_or-take n xs j d below in
+    rw (left, right) (pairs i j d lt (omega (arith, length-take n xs)))
 
 abbrev front_of : ℕ → Script → Script
 front_of n s = record { sizes = s.sizes; tables = take n s.tables; commands = take (n - length s.tables) s.commands }
@@ -111,20 +93,14 @@ front_says (k ∷ ks) more s is e =
     let both : words k ∷ map words ks ≡ map item_words (script_items (front_of n s)) = cc in
     inr (front_of n s, front_valid n s is, both)
 
-no_front : {X : Type 0} (xs ys : List X) → xs ++ ys ≡ [] → xs ≡ []
-no_front [] ys e = refl
-no_front (x ∷ xs) ys e = absurd (cc)
-
 begins_front : (xs ys : List (List ℕ)) → CanBegin (xs ++ ys) → CanBegin xs
 begins_front xs ys (inl none) =
-    inl (no_front (lines_kept xs) (lines_kept ys) (sym (filter-append (λ line. not (is_note (words line))) xs ys) ∙ none))
+    let all = ap length (sym (filter-append (λ line. not (is_note (words line))) xs ys) ∙ none) in
+    inl (nil_from_length (lines_kept xs) (omega (arith, all, length-append (lines_kept xs) (lines_kept ys))))
 begins_front xs ys (inr (s, spelled)) =
     let parts : lines_kept (xs ++ ys) ≡ lines_kept xs ++ lines_kept ys = filter-append (λ line. not (is_note (words line))) xs ys in
-    let plain : (list_all (list_all is_plain) (lines_kept xs) && list_all (list_all is_plain) (lines_kept ys)) ≡ true =
-    sym (list_all-append (list_all is_plain) (lines_kept xs) (lines_kept ys))
-    ∙ (ap (list_all (list_all is_plain)) (sym parts) ∙ spelled.plain) in
-    let own : list_all (list_all is_plain) (lines_kept xs) ≡ true =
-    first_true (list_all (list_all is_plain) (lines_kept xs)) (list_all (list_all is_plain) (lines_kept ys)) plain in
+    let own = first_true (list_all (list_all is_plain) (lines_kept xs)) (list_all (list_all is_plain) (lines_kept ys))
+    (simp (parts, list_all-append) at spelled.plain) in
     elim (front_says (lines_kept xs) (lines_kept ys) s spelled.valid (ap (map words) (sym parts) ∙ spelled.says)) [
       | inl none ↦ inl none
       | inr found ↦ inr (found.0, record { plain = own; says = found.2; valid = found.1 })

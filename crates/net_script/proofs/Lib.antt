@@ -1,6 +1,5 @@
 pub mod OneText
 pub mod WordLemmas
-mod LowerHex
 pub mod TableLemmas
 pub mod Arms
 pub mod EventLemmas

@@ -1,17 +1,16 @@
 -- The lines of a text, as far as they were read.
-use Rattle.std.proofs.Common.{suc, ◌≡◌, ℕ, ◌+◌, ◌<◌, ◌≤◌, Bool, true, false, not, ◌&&◌, List, [], ◌∷◌, ◌++◌, length, take, map, refl, sym}
-use Rattle.std.proofs.Common.{ap, subst, ◌∙◌, arith, inl, inr, Option, Some, None, Ok, cond}
+use Rattle.std.proofs.Common.{suc, ◌≡◌, ℕ, ◌+◌, ◌<◌, ◌≤◌, Bool, true, false, not, List, [], ◌∷◌, ◌++◌, length, take, map, refl, sym, ap}
+use Rattle.std.proofs.Common.{◌∙◌, arith, inl, inr, Option, Some, None, Ok}
 use Rattle.std.specs.List.{All, list_all}
 use Rattle.std.proofs.lemmas.List.{append-nil, map-append, length-append, take_at, append_assoc, length_push}
-use Rattle.std.proofs.lemmas.List.Elements.{filter-append}
-use Rattle.xid.proofs.Texts.{first_true, second_true, both_true}
+use Rattle.std.proofs.lemmas.List.Elements.{filter-append, All-nil}
+use Rattle.xid.proofs.Texts.{first_true, second_true}
 use Rattle.std.proofs.lemmas.List.Folds.{list_all-append}
-use Rattle.net_script.specs.declared.values.Script.{Script}
-use Rattle.net_script.specs.declared.items.Item.{Item}
+use Rattle.net_script.specs.Basics.{Script, Item}
 use Rattle.net_script.specs.Lines.{lines, words, is_plain, IsFirstPiece}
 use Rattle.net_script.specs.Items.{IsItem, item_words}
-use Rattle.net_script.specs.Scripts.{is_note, lines_kept, script_items, SpelledBy, CanBegin, IsFirstFault}
-use Rattle.net_script.specs.Scripts.{items_so_far, ReadsLine, IsLineOf}
+use Rattle.net_script.specs.Scripts.{is_note, lines_kept, script_items, SpelledBy, CanBegin, IsFirstFault, items_so_far, ReadsLine}
+use Rattle.net_script.specs.Scripts.{IsLineOf}
 use Rattle.net_script.proofs.ScriptLemmas.{items_have_one_text, items_valid}
 use Rattle.net_script.proofs.OneText.{texts_go_on}
 
@@ -35,16 +34,6 @@ is_kept line = not (is_note (words line))
 
 -- ---- one line more
 
-kept_passed : (seen : List (List ℕ)) (line : List ℕ) → is_note (words line) ≡ true → lines_kept (seen ++ line ∷ []) ≡ lines_kept seen
-kept_passed seen line note =
-    filter-append is_kept seen (line ∷ []) ∙ ap (λ (b : Bool). lines_kept seen ++ cond (not b) (line ∷ []) []) note
-    ∙ append-nil (lines_kept seen)
-
-kept_said : (seen : List (List ℕ)) (line : List ℕ) → is_note (words line) ≡ false
-    → lines_kept (seen ++ line ∷ []) ≡ lines_kept seen ++ line ∷ []
-kept_said seen line note =
-    filter-append is_kept seen (line ∷ []) ∙ ap (λ (b : Bool). lines_kept seen ++ cond (not b) (line ∷ []) []) note
-
 kept_same : (seen more : List (List ℕ)) (script : Option Script) → lines_kept more ≡ lines_kept seen → SoFar seen script → SoFar more script
 kept_same seen more None e said = e ∙ said
 kept_same seen more (Some s) e said = record {
@@ -53,37 +42,32 @@ kept_same seen more (Some s) e said = record {
   valid = said.valid;
 }
 
--- the words of the lines so far are those of the items so far
-so_far_says : (seen : List (List ℕ)) (script : Option Script) → SoFar seen script
-    → map words (lines_kept seen) ≡ map item_words (items_so_far script)
-so_far_says seen None said = ap (map words) said
-so_far_says seen (Some s) said = said.says
+-- lines of printed ASCII that say these items
+record Say (seen : List (List ℕ)) (items : List Item) : Type 0 where
+  plain : list_all (list_all is_plain) (lines_kept seen) ≡ true
+  says : map words (lines_kept seen) ≡ map item_words items
+  valid : All IsItem items
 
-so_far_plain : (seen : List (List ℕ)) (script : Option Script) → SoFar seen script → list_all (list_all is_plain) (lines_kept seen) ≡ true
-so_far_plain seen None said = ap (list_all (list_all is_plain)) said
-so_far_plain seen (Some s) said = said.plain
-
-so_far_valid : (seen : List (List ℕ)) (script : Option Script) → SoFar seen script → All IsItem (items_so_far script)
-so_far_valid seen None said = λ k d lt. absurd (omega arith)
-so_far_valid seen (Some s) said = items_valid s said.valid
+so_far_say : (seen : List (List ℕ)) (script : Option Script) → SoFar seen script → Say seen (items_so_far script)
+so_far_say seen None said =
+    record { plain = ap (list_all (list_all is_plain)) said; says = ap (map words) said; valid = All-nil IsItem }
+so_far_say seen (Some s) said = record { plain = said.plain; says = said.says; valid = items_valid s said.valid }
 
 so_far_begins : (seen : List (List ℕ)) (script : Option Script) → SoFar seen script → CanBegin seen
 so_far_begins seen None said = inl said
 so_far_begins seen (Some s) said = inr (s, said)
 
-said_more : (seen : List (List ℕ)) (line : List ℕ) (script : Option Script) (s : Script) → is_note (words line) ≡ false → SoFar seen script
-    → ReadsLine (items_so_far script) line (Ok (Some s))
-    → SoFar (seen ++ line ∷ []) (Some s)
-said_more seen line script s note said read = record {
-  plain = ap (list_all (list_all is_plain)) (kept_said seen line note)
-      ∙ (list_all-append (list_all is_plain) (lines_kept seen) (line ∷ [])
-      ∙ both_true _ _ (so_far_plain seen script said) (both_true (list_all is_plain line) true read.3.0 refl));
-  says = ap (map words) (kept_said seen line note) ∙ (map-append words (lines_kept seen) (line ∷ [])
-      ∙ (ap (λ (ws : List (List (List ℕ))). ws ++ words line ∷ []) (so_far_says seen script said)
-      ∙ (ap (λ (w : List (List ℕ)). map item_words (items_so_far script) ++ w ∷ []) read.3.1
-      ∙ (sym (map-append item_words (items_so_far script) (read.1 ∷ [])) ∙ ap (map item_words) (sym read.4)))));
-  valid = read.0;
-}
+said_more : (seen more : List (List ℕ)) (line : List ℕ) (script : Option Script) (s : Script)
+    → lines_kept more ≡ lines_kept seen ++ line ∷ [] → SoFar seen script → ReadsLine (items_so_far script) line (Ok (Some s))
+    → SpelledBy more s
+said_more seen more line script s kept said read =
+    let before = so_far_say seen script said in
+    record {
+      plain = simp (kept, list_all-append, before.plain, read.3.0);
+      says = ap (map words) kept ∙ map-append words (lines_kept seen) (line ∷ [])
+          ∙ (rw (before.says, read.3.1) (sym (ap (map item_words) read.4 ∙ map-append item_words (items_so_far script) (read.1 ∷ []))));
+      valid = read.0;
+    }
 
 nil_not_push : {X : Type 0} (xs : List X) (x : X) → xs ++ x ∷ [] ≡ [] → ⊥
 nil_not_push [] x e = absurd (cc)
@@ -93,100 +77,83 @@ mapped_nil : (items : List Item) → [] ≡ map item_words items → items ≡ [
 mapped_nil [] e = refl
 mapped_nil (item ∷ items) e = absurd (cc)
 
-fails_more : (seen : List (List ℕ)) (line : List ℕ) (script : Option Script) → is_note (words line) ≡ false → SoFar seen script
-    → ReadsLine (items_so_far script) line (Ok None)
-    → CanBegin (seen ++ line ∷ []) → ⊥
-fails_more seen line script note said read (inl none) = nil_not_push (lines_kept seen) line (sym (kept_said seen line note) ∙ none)
-fails_more seen line script note said read (inr (s, spelled)) =
-    let kept-is = kept_said seen line note in
+fails_more : (seen more : List (List ℕ)) (line : List ℕ) (script : Option Script) → lines_kept more ≡ lines_kept seen ++ line ∷ []
+    → SoFar seen script → ReadsLine (items_so_far script) line (Ok None)
+    → CanBegin more → ⊥
+fails_more seen more line script kept said read (inl none) = nil_not_push (lines_kept seen) line (sym kept ∙ none)
+fails_more seen more line script kept said read (inr (s, spelled)) =
+    let before = so_far_say seen script said in
     let says : map item_words (items_so_far script) ++ words line ∷ [] ≡ map item_words (script_items s) =
-    ap (λ (ws : List (List (List ℕ))). ws ++ words line ∷ []) (sym (so_far_says seen script said))
-    ∙ (sym (map-append words (lines_kept seen) (line ∷ [])) ∙ (ap (map words) (sym kept-is) ∙ spelled.says)) in
+    rw (← before.says) (sym (map-append words (lines_kept seen) (line ∷ [])) ∙ ap (map words) (sym kept) ∙ spelled.says) in
     let on = texts_go_on items_have_one_text (items_so_far script) (script_items s) (words line) []
-    (so_far_valid seen script said, items_valid s spelled.valid) says in
+    (before.valid, items_valid s spelled.valid) says in
     let last : on.later ≡ [] = mapped_nil on.later on.says_later in
-    let plain : (list_all (list_all is_plain) (lines_kept seen) && list_all (list_all is_plain) (line ∷ [])) ≡ true =
-    sym (list_all-append (list_all is_plain) (lines_kept seen) (line ∷ []))
-    ∙ (ap (list_all (list_all is_plain)) (sym kept-is) ∙ spelled.plain) in
-    let own : list_all is_plain line ≡ true =
-    first_true (list_all is_plain line) true
-    (second_true (list_all (list_all is_plain) (lines_kept seen)) (list_all (list_all is_plain) (line ∷ [])) plain) in
+    let own : list_all is_plain line ≡ true = first_true (list_all is_plain line) true
+    (second_true (list_all (list_all is_plain) (lines_kept seen)) (list_all (list_all is_plain) (line ∷ []))
+    (simp (kept, list_all-append) at spelled.plain)) in
     let parts : script_items s ≡ items_so_far script ++ on.next ∷ on.later = on.parts in
     let whole : script_items s ≡ items_so_far script ++ on.next ∷ [] = cc in
     read on.next on.valid (own, on.says) s spelled.valid whole
 
 -- ---- the loop
 
-take_front : {X : Type 0} (all front back : List X) (n : ℕ) → all ≡ front ++ back → length front ≡ n → take n all ≡ front
-take_front all front back n e len = ap (take n) e ∙ take_at front back n len
+-- the lines that were read
+abbrev front : List ℕ → ℕ → List (List ℕ)
+front bytes number = take number (lines bytes)
 
--- the lines up to the next one
+-- the lines up to the next one, which is passed over or says something
 pub record UpToNext (bytes line after : List ℕ) (number : ℕ) : Type 0 where
-  pub more : take (number + 1) (lines bytes) ≡ take number (lines bytes) ++ line ∷ []
   pub reached : Reached bytes after (number + 1)
+  pub within : number < length (lines bytes)
+  pub passed : is_note (words line) ≡ true → lines_kept (take (number + 1) (lines bytes)) ≡ lines_kept (take number (lines bytes))
+  pub kept : is_note (words line) ≡ false
+      → lines_kept (take (number + 1) (lines bytes)) ≡ lines_kept (take number (lines bytes)) ++ line ∷ []
 
-pub next_line : {bytes rest line after : List ℕ} {number : ℕ}
+next_line : {bytes rest line after : List ℕ} {number : ℕ}
     → Reached bytes rest number → IsFirstPiece 10 rest line after → UpToNext bytes line after number
 next_line {bytes = bytes} {line = line} {after = after} {number = number} so first =
     let seen : List (List ℕ) = take number (lines bytes) in
-    let all : lines bytes ≡ (seen ++ line ∷ []) ++ lines after =
-    so.left ∙ (ap (λ (l : List (List ℕ)). seen ++ l) first.cut ∙ sym (append_assoc seen (line ∷ []) (lines after))) in
+    let all : lines bytes ≡ (seen ++ line ∷ []) ++ lines after = so.left ∙ simp (first.cut, append_assoc) in
     let len : length (seen ++ line ∷ []) ≡ number + 1 = length_push seen line ∙ ap (λ (n : ℕ). n + 1) so.counted in
-    let front : take (number + 1) (lines bytes) ≡ seen ++ line ∷ [] =
-    take_front (lines bytes) (seen ++ line ∷ []) (lines after) (number + 1) all len in
+    let more = ap (take (number + 1)) all ∙ take_at (seen ++ line ∷ []) (lines after) (number + 1) len in
     record {
-      more = front;
       reached = record {
-        left = all ∙ ap (λ (l : List (List ℕ)). l ++ lines after) (sym front);
-        counted = ap length front ∙ len;
+        left = all ∙ ap (λ (l : List (List ℕ)). l ++ lines after) (sym more);
+        counted = ap length more ∙ len;
         short = let a = so.short in let b = first.shorter in omega arith;
       };
+      within = omega (arith, ap length all, len, length-append (seen ++ line ∷ []) (lines after));
+      passed = λ note. ap lines_kept more ∙ (filter-append is_kept seen (line ∷ []) ∙ simp (note, append-nil));
+      kept = λ note. ap lines_kept more ∙ (filter-append is_kept seen (line ∷ []) ∙ simp note);
     }
 
 pub step_passed : {bytes rest line after : List ℕ} {number : ℕ} {script : Option Script}
     → Progress bytes rest number script → IsFirstPiece 10 rest line after → is_note (words line) ≡ true
     → Progress bytes after (number + 1) script
-step_passed {bytes = bytes} {line = line} {number = number} {script = script} so first note =
+step_passed {bytes = bytes} {number = number} {script = script} so first note =
     let next = next_line so.reached first in
-    record {
-      reached = next.reached;
-      said = kept_same (take number (lines bytes)) (take (number + 1) (lines bytes)) script
-          (ap lines_kept next.more ∙ kept_passed (take number (lines bytes)) line note) so.said;
-    }
+    record { reached = next.reached; said = kept_same (front bytes number) (front bytes (number + 1)) script (next.passed note) so.said }
 
 pub step_said : {bytes rest line after : List ℕ} {number : ℕ} {script : Option Script} (s : Script)
     → Progress bytes rest number script → IsFirstPiece 10 rest line after → is_note (words line) ≡ false
     → ReadsLine (items_so_far script) line (Ok (Some s)) → Progress bytes after (number + 1) (Some s)
 step_said {bytes = bytes} {line = line} {number = number} {script = script} s so first note read =
     let next = next_line so.reached first in
-    record {
-      reached = next.reached;
-      said =
-          subst (λ (ls : List (List ℕ)). SpelledBy ls s) (sym next.more)
-          (said_more (take number (lines bytes)) line script s note so.said read);
-    }
+    let said = said_more (front bytes number) (front bytes (number + 1)) line script s (next.kept note) so.said read in
+    record { reached = next.reached; said = said }
 
 pub step_fails : {bytes rest line after : List ℕ} {number : ℕ} {script : Option Script}
     → Progress bytes rest number script → IsFirstPiece 10 rest line after → is_note (words line) ≡ false
     → ReadsLine (items_so_far script) line (Ok None) → IsFirstFault bytes (number + 1)
-step_fails {bytes = bytes} {line = line} {after = after} {number = number} {script = script} so first note read =
+step_fails {bytes = bytes} {line = line} {number = number} {script = script} so first note read =
     let next = next_line so.reached first in
     inl (record {
       before = number;
       counted = omega arith;
-      within =
-          omega (arith, ap length next.reached.left, next.reached.counted, length-append (take (number + 1) (lines bytes)) (lines after));
-      can = so_far_begins (take number (lines bytes)) script so.said;
-      fails = λ can. fails_more (take number (lines bytes)) line script note so.said read (subst CanBegin next.more can);
+      within = next.within;
+      can = so_far_begins (front bytes number) script so.said;
+      fails = fails_more (front bytes number) (front bytes (number + 1)) line script (next.kept note) so.said read;
     })
-
-pub line_unread : (before : List Item) (line : List ℕ) (o : Option Script) → o ≡ None → ReadsLine before line (Ok o)
-    → ReadsLine before line (Ok None)
-line_unread before line o e read = subst (λ (p : Option Script). ReadsLine before line (Ok p)) e read
-
-pub line_read : (before : List Item) (line : List ℕ) (o : Option Script) (s : Script) → o ≡ Some s → ReadsLine before line (Ok o)
-    → ReadsLine before line (Ok (Some s))
-line_read before line o s e read = subst (λ (p : Option Script). ReadsLine before line (Ok p)) e read
 
 -- ---- which line says an item
 
@@ -198,21 +165,16 @@ pub record Counted (bytes rest : List ℕ) (number passed place : ℕ) : Type 0 
 
 pub count_passed : {bytes rest line after : List ℕ} {number passed place : ℕ} → Counted bytes rest number passed place
     → IsFirstPiece 10 rest line after → is_note (words line) ≡ true → Counted bytes after (number + 1) passed place
-count_passed {bytes = bytes} {line = line} {number = number} so first note =
+count_passed so first note =
     let next = next_line so.reached first in
-    record {
-      reached = next.reached;
-      kept = ap length (ap lines_kept next.more ∙ kept_passed (take number (lines bytes)) line note) ∙ so.kept;
-      few = so.few;
-    }
+    record { reached = next.reached; kept = ap length (next.passed note) ∙ so.kept; few = so.few }
 
 kept_more : {bytes rest line after : List ℕ} {number passed place : ℕ} → Counted bytes rest number passed place
     → IsFirstPiece 10 rest line after → is_note (words line) ≡ false
     → length (lines_kept (take (number + 1) (lines bytes))) ≡ passed + 1
 kept_more {bytes = bytes} {line = line} {number = number} so first note =
     let next = next_line so.reached first in
-    ap length (ap lines_kept next.more ∙ kept_said (take number (lines bytes)) line note)
-    ∙ length_push (lines_kept (take number (lines bytes))) line ∙ ap (λ (n : ℕ). n + 1) so.kept
+    ap length (next.kept note) ∙ length_push (lines_kept (front bytes number)) line ∙ ap (λ (n : ℕ). n + 1) so.kept
 
 pub count_said : {bytes rest line after : List ℕ} {number passed place : ℕ} → Counted bytes rest number passed place
     → IsFirstPiece 10 rest line after → is_note (words line) ≡ false → passed < place → Counted bytes after (number + 1) (passed + 1) place
@@ -222,13 +184,13 @@ count_said so first note less =
 
 pub count_found : {bytes rest line after : List ℕ} {number passed place : ℕ} → Counted bytes rest number passed place
     → IsFirstPiece 10 rest line after → is_note (words line) ≡ false → passed ≡ place → IsLineOf bytes place (number + 1)
-count_found {bytes = bytes} {after = after} {number = number} {passed = passed} {place = place} so first note same =
+count_found {number = number} {passed = passed} {place = place} so first note same =
     let next = next_line so.reached first in
+    let one : passed + 1 ≡ suc place = omega arith in
     record {
       before = number;
       counted = omega arith;
-      within =
-          omega (arith, ap length next.reached.left, next.reached.counted, length-append (take (number + 1) (lines bytes)) (lines after));
+      within = next.within;
       earlier = so.kept ∙ same;
-      says = kept_more so first note ∙ (let one : passed + 1 ≡ suc place = omega arith in one);
+      says = kept_more so first note ∙ one;
     }

@@ -1,87 +1,131 @@
 -- Messages: what comes after each first word, and one value for one list of words.
-use Rattle.std.proofs.Common.{◌≡◌, ℕ, ◌<◌, ◌^◌, Bool, List, [], ◌∷◌, map, Option, None, Some, Err, refl, arith, codes}
+use Rattle.std.proofs.Common.{◌≡◌, ℕ, ◌<◌, ◌^◌, List, [], ◌∷◌, map, Option, None, Some, refl, sym, ap, subst, ◌∙◌, arith, codes}
 use Rattle.std.specs.List.{AllByRecursion}
 use Rattle.std.proofs.lemmas.List.{length-map}
 use Rattle.std.proofs.lemmas.List.Elements.{All-from_recursion}
 use Rattle.xid.specs.Limits.{most_managers}
 use Rattle.wire.specs.Messages.{IsInstance, IsReportBelow}
+use Rattle.wire.proofs.Fields.{tx_valid}
 use Rattle.wire.proofs.Instances.{instance_below, instances_below, few_instances}
 use Rattle.net_script.specs.Basics.{TxParts, IsTx, tx_text, IsMessage, message_tx, Vote, Kind, Prepare, P1a, P1b, P2a, P2b, Commit, Abort}
 use Rattle.net_script.specs.Basics.{B1a, B1b, B2b, InstanceReport, InstanceAccept}
-use Rattle.net_script.specs.declared.stop.Stop.{Stop}
-use Rattle.net_script.specs.declared.stop.Stop.TheVariants.{Wrong, Memory}
-use Rattle.net_script.specs.Messages.{message_words, FitsReport, FitsReportItem, FitsAcceptItem, FitsKind, IsForm}
-use Rattle.net_script.specs.Spelling.{Finds, no_words, ◌&◌, items_of_words}
+use Rattle.net_script.specs.declared.message_words.Said.{Said}
+use Rattle.net_script.specs.Messages.{message_word, message_args, message_words, FitsReport, FitsReportItem, FitsAcceptItem, FitsKind, IsForm}
+use Rattle.net_script.specs.Messages.{kind_of, said_words, FitsSaid}
+use Rattle.net_script.specs.Spelling.{IsCommon, no_words, ◌&◌, items_of_words}
 use Rattle.net_script.specs.Laws.{a_number, manager_of, a_manager, acceptor_of, an_acceptor, a_tx, literal}
 use Rattle.net_script.specs.MessageLaws.{a_vote, a_report_item, an_accept_item, reported, a_report}
 use Rattle.net_script.proofs.Arms.{Arm, made_of, IsSaid, arm_said, apart}
 
--- ---- the first words, and what comes after each
+-- ---- the first words, and what comes after each and a transaction
 
-pub prepare_arm : Arm (a_tx & no_words) IsForm message_words (codes "prepare") (λ said. Prepare said.0)
-prepare_arm (Prepare t) p args e = made_of (t, tt) (p.0, tt) (cc) refl
+pub prepare_arm : Arm no_words FitsSaid said_words (codes "prepare") (λ said. Said.Prepare)
+prepare_arm Said.Prepare p args e = made_of tt tt (cc) refl
 prepare_arm line p args e = absurd (apart _ _ e refl)
 
-pub p1a_arm : Arm (a_tx & a_manager & a_number & no_words) IsForm message_words (codes "p1a") (λ said. P1a said.0 said.1.0.0 said.1.1.0)
-p1a_arm (P1a t rm n) p args e = made_of (t, (manager_of rm, (n, tt))) (p.0, (p.1.0, (p.1.1, tt))) (cc) refl
+pub p1a_arm : Arm (a_manager & a_number & no_words) FitsSaid said_words (codes "p1a") (λ said. Said.P1a said.0.0 said.1.0)
+p1a_arm (Said.P1a rm n) p args e = made_of (manager_of rm, (n, tt)) (p.0, (p.1, tt)) (cc) refl
 p1a_arm line p args e = absurd (apart _ _ e refl)
 
-pub p1b_arm : Arm (a_tx & a_manager & a_number & a_report) IsForm message_words (codes "p1b")
-    (λ said. P1b said.0 said.1.0.0 said.1.1.0 said.1.1.1.report said.1.1.1.acceptor)
-p1b_arm (P1b t rm n r a) p args e = made_of (t, (manager_of rm, (n, reported r a))) (p.0, (p.1.0, (p.1.1, (p.1.2, p.1.3)))) (cc) refl
+pub p1b_arm : Arm (a_manager & a_number & a_report) FitsSaid said_words (codes "p1b")
+    (λ said. Said.P1b said.0.0 said.1.0 said.1.1.report said.1.1.acceptor)
+p1b_arm (Said.P1b rm n r a) p args e = made_of (manager_of rm, (n, reported r a)) (p.0, (p.1, (p.2, p.3))) (cc) refl
 p1b_arm line p args e = absurd (apart _ _ e refl)
 
-pub p2a_arm : Arm (a_tx & a_manager & a_number & a_vote & no_words) IsForm message_words (codes "p2a")
-    (λ said. P2a said.0 said.1.0.0 said.1.1.0 said.1.1.1.0)
-p2a_arm (P2a t rm n v) p args e = made_of (t, (manager_of rm, (n, (v, tt)))) (p.0, (p.1.0, (p.1.1, (tt, tt)))) (cc) refl
+pub p2a_arm : Arm (a_manager & a_number & a_vote & no_words) FitsSaid said_words (codes "p2a")
+    (λ said. Said.P2a said.0.0 said.1.0 said.1.1.0)
+p2a_arm (Said.P2a rm n v) p args e = made_of (manager_of rm, (n, (v, tt))) (p.0, (p.1, (tt, tt))) (cc) refl
 p2a_arm line p args e = absurd (apart _ _ e refl)
 
-pub p2b_arm : Arm (a_tx & a_manager & a_number & a_vote & an_acceptor & no_words) IsForm message_words (codes "p2b")
-    (λ said. P2b said.0 said.1.0.0 said.1.1.0 said.1.1.1.0 said.1.1.1.1.0.0)
-p2b_arm (P2b t rm n v a) p args e =
-    made_of (t, (manager_of rm, (n, (v, (acceptor_of a, tt))))) (p.0, (p.1.0, (p.1.1, (tt, (p.1.2, tt))))) (cc) refl
+pub p2b_arm : Arm (a_manager & a_number & a_vote & an_acceptor & no_words) FitsSaid said_words (codes "p2b")
+    (λ said. Said.P2b said.0.0 said.1.0 said.1.1.0 said.1.1.1.0.0)
+p2b_arm (Said.P2b rm n v a) p args e =
+    made_of (manager_of rm, (n, (v, (acceptor_of a, tt)))) (p.0, (p.1, (tt, (p.2, tt)))) (cc) refl
 p2b_arm line p args e = absurd (apart _ _ e refl)
 
-pub commit_arm : Arm (a_tx & no_words) IsForm message_words (codes "commit") (λ said. Commit said.0)
-commit_arm (Commit t) p args e = made_of (t, tt) (p.0, tt) (cc) refl
+pub commit_arm : Arm no_words FitsSaid said_words (codes "commit") (λ said. Said.Commit)
+commit_arm Said.Commit p args e = made_of tt tt (cc) refl
 commit_arm line p args e = absurd (apart _ _ e refl)
 
-pub abort_arm : Arm (a_tx & no_words) IsForm message_words (codes "abort") (λ said. Abort said.0)
-abort_arm (Abort t) p args e = made_of (t, tt) (p.0, tt) (cc) refl
+pub abort_arm : Arm no_words FitsSaid said_words (codes "abort") (λ said. Said.Abort)
+abort_arm Said.Abort p args e = made_of tt tt (cc) refl
 abort_arm line p args e = absurd (apart _ _ e refl)
 
-pub ask_arm : Arm (a_tx & a_manager & no_words) IsForm message_words (codes "ask") (λ said. Kind.Ask said.0 said.1.0.0)
-ask_arm (Kind.Ask t rm) p args e = made_of (t, (manager_of rm, tt)) (p.0, (p.1, tt)) (cc) refl
+pub ask_arm : Arm (a_manager & no_words) FitsSaid said_words (codes "ask") (λ said. Said.Ask said.0.0)
+ask_arm (Said.Ask rm) p args e = made_of (manager_of rm, tt) (p, tt) (cc) refl
 ask_arm line p args e = absurd (apart _ _ e refl)
 
-pub b1a_arm : Arm (a_tx & a_number & no_words) IsForm message_words (codes "b1a") (λ said. B1a said.0 said.1.0)
-b1a_arm (B1a t n) p args e = made_of (t, (n, tt)) (p.0, (p.1, tt)) (cc) refl
+pub b1a_arm : Arm (a_number & no_words) FitsSaid said_words (codes "b1a") (λ said. Said.B1a said.0)
+b1a_arm (Said.B1a n) p args e = made_of (n, tt) (p, tt) (cc) refl
 b1a_arm line p args e = absurd (apart _ _ e refl)
 
-pub b1b_arm : Arm (a_tx & a_number & an_acceptor & items_of_words a_report_item) IsForm message_words (codes "b1b")
-    (λ said. B1b said.0 said.1.0 said.1.1.0.0 said.1.1.1)
-b1b_arm (B1b t n a rs) p args e = made_of (t, (n, (acceptor_of a, rs))) (p.0, (p.1.0, (p.1.1, p.1.2))) (cc) refl
+pub b1b_arm : Arm (a_number & an_acceptor & items_of_words a_report_item) FitsSaid said_words (codes "b1b")
+    (λ said. Said.B1b said.0 said.1.0.0 said.1.1)
+b1b_arm (Said.B1b n a rs) p args e = made_of (n, (acceptor_of a, rs)) (p.0, (p.1, p.2)) (cc) refl
 b1b_arm line p args e = absurd (apart _ _ e refl)
 
-pub b2b_arm : Arm (a_tx & an_acceptor & items_of_words an_accept_item) IsForm message_words (codes "b2b")
-    (λ said. B2b said.0 said.1.0.0 said.1.1)
-b2b_arm (B2b t a vs) p args e = made_of (t, (acceptor_of a, vs)) (p.0, (p.1.0, p.1.1)) (cc) refl
+pub b2b_arm : Arm (an_acceptor & items_of_words an_accept_item) FitsSaid said_words (codes "b2b") (λ said. Said.B2b said.0.0 said.1)
+b2b_arm (Said.B2b a vs) p args e = made_of (acceptor_of a, vs) (p.0, p.1) (cc) refl
 b2b_arm line p args e = absurd (apart _ _ e refl)
 
+pub said_alone : (said : Said) → FitsSaid said → IsSaid FitsSaid said_words said
+said_alone Said.Prepare p = arm_said no_words prepare_arm (literal refl refl) _ p _ refl
+said_alone (Said.P1a rm n) p = arm_said (a_manager & a_number & no_words) p1a_arm (literal refl refl) _ p _ refl
+said_alone (Said.P1b rm n r a) p = arm_said (a_manager & a_number & a_report) p1b_arm (literal refl refl) _ p _ refl
+said_alone (Said.P2a rm n v) p = arm_said (a_manager & a_number & a_vote & no_words) p2a_arm (literal refl refl) _ p _ refl
+said_alone (Said.P2b rm n v a) p = arm_said (a_manager & a_number & a_vote & an_acceptor & no_words) p2b_arm (literal refl refl) _ p _ refl
+said_alone Said.Commit p = arm_said no_words commit_arm (literal refl refl) _ p _ refl
+said_alone Said.Abort p = arm_said no_words abort_arm (literal refl refl) _ p _ refl
+said_alone (Said.Ask rm) p = arm_said (a_manager & no_words) ask_arm (literal refl refl) _ p _ refl
+said_alone (Said.B1a n) p = arm_said (a_number & no_words) b1a_arm (literal refl refl) _ p _ refl
+said_alone (Said.B1b n a rs) p = arm_said (a_number & an_acceptor & items_of_words a_report_item) b1b_arm (literal refl refl) _ p _ refl
+said_alone (Said.B2b a vs) p = arm_said (an_acceptor & items_of_words an_accept_item) b2b_arm (literal refl refl) _ p _ refl
+
+-- ---- with a transaction
+
+-- what a message says of its transaction
+pub record Says (m : Kind) : Type 0 where
+  pub said : Said
+  pub is : kind_of (message_tx m) said ≡ m
+  pub words : said_words said ≡ message_word m ∷ message_args m
+  pub fits : FitsKind m → FitsSaid said
+
+pub says : (m : Kind) → Says m
+says (Prepare t) = record { said = Said.Prepare; is = refl; words = refl; fits = λ p. p }
+says (P1a t rm n) = record { said = Said.P1a rm n; is = refl; words = refl; fits = λ p. p }
+says (P1b t rm n r a) = record { said = Said.P1b rm n r a; is = refl; words = refl; fits = λ p. p }
+says (P2a t rm n v) = record { said = Said.P2a rm n v; is = refl; words = refl; fits = λ p. p }
+says (P2b t rm n v a) = record { said = Said.P2b rm n v a; is = refl; words = refl; fits = λ p. p }
+says (Commit t) = record { said = Said.Commit; is = refl; words = refl; fits = λ p. p }
+says (Abort t) = record { said = Said.Abort; is = refl; words = refl; fits = λ p. p }
+says (Kind.Ask t rm) = record { said = Said.Ask rm; is = refl; words = refl; fits = λ p. p }
+says (B1a t n) = record { said = Said.B1a n; is = refl; words = refl; fits = λ p. p }
+says (B1b t n a rs) = record { said = Said.B1b n a rs; is = refl; words = refl; fits = λ p. p }
+says (B2b t a vs) = record { said = Said.B2b a vs; is = refl; words = refl; fits = λ p. p }
+
+around : {a b t u : List ℕ} {xs ys : List (List ℕ)} → a ∷ t ∷ xs ≡ b ∷ u ∷ ys → (a ∷ xs ≡ b ∷ ys) × (t ≡ u)
+around e = (cc, cc)
+
+-- a message's words are those of what it says, and of its transaction
+pub same_words : (m : Kind) {a t : List ℕ} {xs : List (List ℕ)} → a ∷ t ∷ xs ≡ message_words m
+    → (a ∷ xs ≡ said_words (says m).said) × (t ≡ tx_text (message_tx m))
+same_words m e = let parts = around e in (parts.0 ∙ sym (says m).words, parts.1)
+
 pub message_said : (m : Kind) → IsForm m → IsSaid IsForm message_words m
-message_said (Prepare t) p = arm_said (a_tx & no_words) prepare_arm (literal refl refl) _ p _ refl
-message_said (P1a t rm n) p = arm_said (a_tx & a_manager & a_number & no_words) p1a_arm (literal refl refl) _ p _ refl
-message_said (P1b t rm n r a) p = arm_said (a_tx & a_manager & a_number & a_report) p1b_arm (literal refl refl) _ p _ refl
-message_said (P2a t rm n v) p = arm_said (a_tx & a_manager & a_number & a_vote & no_words) p2a_arm (literal refl refl) _ p _ refl
-message_said (P2b t rm n v a) p =
-    arm_said (a_tx & a_manager & a_number & a_vote & an_acceptor & no_words) p2b_arm (literal refl refl) _ p _ refl
-message_said (Commit t) p = arm_said (a_tx & no_words) commit_arm (literal refl refl) _ p _ refl
-message_said (Abort t) p = arm_said (a_tx & no_words) abort_arm (literal refl refl) _ p _ refl
-message_said (Kind.Ask t rm) p = arm_said (a_tx & a_manager & no_words) ask_arm (literal refl refl) _ p _ refl
-message_said (B1a t n) p = arm_said (a_tx & a_number & no_words) b1a_arm (literal refl refl) _ p _ refl
-message_said (B1b t n a rs) p =
-    arm_said (a_tx & a_number & an_acceptor & items_of_words a_report_item) b1b_arm (literal refl refl) _ p _ refl
-message_said (B2b t a vs) p = arm_said (a_tx & an_acceptor & items_of_words an_accept_item) b2b_arm (literal refl refl) _ p _ refl
+message_said m p =
+    let own = says m in
+    let law = said_alone own.said (own.fits p.1) in
+    let common : AllByRecursion IsCommon (message_word m ∷ message_args m) =
+    subst (AllByRecursion IsCommon) own.words law.common in
+    record {
+      one = λ other q e.
+          let its = says other in
+          let parts = same_words other e in
+          let tx : message_tx m ≡ message_tx other = a_tx.one (message_tx m) (message_tx other) p.0 q.0 parts.1 in
+          let same : own.said ≡ its.said = law.one its.said (its.fits q.1) (own.words ∙ parts.0) in
+          sym own.is ∙ ap (λ (t : TxParts). kind_of t own.said) tx ∙ ap (kind_of (message_tx other)) same ∙ its.is;
+      common = (common.0, (a_tx.common (message_tx m) p.0, common.1));
+    }
 
 -- ---- a message's numbers are those of words
 
@@ -144,36 +188,8 @@ message_fits (B2b tx acceptor accepts) is =
       },
     )
 
-pub message_tx_valid : (m : Kind) → IsMessage m → IsTx (message_tx m)
-message_tx_valid (Prepare tx) is = is
-message_tx_valid (P1a tx rm ballot) is = is.0.valid
-message_tx_valid (P1b tx rm ballot report acceptor) is = is.0.valid
-message_tx_valid (P2a tx rm ballot vote) is = is.0.valid
-message_tx_valid (P2b tx rm ballot vote acceptor) is = is.0.valid
-message_tx_valid (Commit tx) is = is
-message_tx_valid (Abort tx) is = is
-message_tx_valid (Kind.Ask tx rm) is = is.valid
-message_tx_valid (B1a tx ballot) is = is.0
-message_tx_valid (B1b tx ballot acceptor reports) is = is.0.valid
-message_tx_valid (B2b tx acceptor accepts) is = is.0.valid
-
 pub message_form : (m : Kind) → IsMessage m → IsForm m
-message_form m is = (message_tx_valid m is, message_fits m is)
+message_form m is = (tx_valid m is, message_fits m is)
 
 pub message_injective : (a b : Kind) → IsMessage a → IsMessage b → message_words a ≡ message_words b → a ≡ b
 message_injective a b p q e = (message_said a (message_form a p)).one b (message_form b q) e
-
--- ---- for the reader of messages
-
--- the words of a transaction that was read
-pub with_tx : (tx : TxParts) {given rest after : List (List ℕ)} {first word : List ℕ} → word ≡ tx_text tx → given ≡ first ∷ rest
-    → rest ≡ word ∷ after
-    → given ≡ first ∷ tx_text tx ∷ after
-with_tx tx read cut next = cc
-
--- where nothing is read of the words after it, nothing is of these with it
-pub after_tx : {X : Type 0} (a : Bool) (fit : X → Type 0) (texts : X → List (List ℕ)) (args : List (List ℕ)) (tx : TxParts) (d : Stop)
-    → Finds a fit texts args (Err d)
-    → Finds a (λ (said : TxParts × X). IsTx said.0 × fit said.1) (λ said. tx_text said.0 ∷ texts said.1) (tx_text tx ∷ args) (Err d)
-after_tx a fit texts args tx Wrong none = λ said p e. none said.1 p.1 (cc)
-after_tx a fit texts args tx Memory none = none

@@ -3,6 +3,7 @@ use Rattle.std.proofs.Common.{◌≡◌, List, [], ◌∷◌, ◌++◌, ◌<◌,
 use Rattle.std.specs.List.{All}
 use Rattle.std.proofs.lemmas.List.{append_assoc, map_push, length-append, length-map}
 use Rattle.std.proofs.lemmas.List.Elements.{All-head, All-tail}
+use Rattle.net_script.specs.Spelling.{same_lists}
 
 -- no two values in range have the same text
 pub record HasOneText {X W : Type 0} (IsIn : X → Type 0) (text : X → W) : Type 0 where
@@ -11,13 +12,7 @@ pub record HasOneText {X W : Type 0} (IsIn : X → Type 0) (text : X → W) : Ty
 pub texts_injective : {X W : Type 0} {IsIn : X → Type 0} {text : X → W} → HasOneText IsIn text → (xs ys : List X) → All IsIn xs
     → All IsIn ys
     → map text xs ≡ map text ys → xs ≡ ys
-texts_injective one [] [] p q e = refl
-texts_injective one [] (y ∷ ys) p q e = absurd (cc)
-texts_injective one (x ∷ xs) [] p q e = absurd (cc)
-texts_injective {IsIn = IsIn} one (x ∷ xs) (y ∷ ys) p q e =
-    let head : x ≡ y = one.same x y (All-head IsIn x xs p) (All-head IsIn y ys q) (cc) in
-    let tail : xs ≡ ys = texts_injective one xs ys (All-tail IsIn x xs p) (All-tail IsIn y ys q) (cc) in
-    cc
+texts_injective one = same_lists one.same
 
 -- values go on after some first ones: the next has this text, and the later ones have those
 pub record GoesOn {X W : Type 0} (IsIn : X → Type 0) (text : X → W) (xs ys : List X) (word : W) (rest : List W) : Type 0 where
@@ -30,10 +25,8 @@ pub record GoesOn {X W : Type 0} (IsIn : X → Type 0) (text : X → W) (xs ys :
 
 pub texts_go_on : {X W : Type 0} {IsIn : X → Type 0} {text : X → W} → HasOneText IsIn text → (xs ys : List X) (word : W) (rest : List W)
     → All IsIn xs × All IsIn ys → map text xs ++ word ∷ rest ≡ map text ys → GoesOn IsIn text xs ys word rest
-texts_go_on one [] [] word rest are e = absurd (cc)
 texts_go_on {IsIn = IsIn} one [] (y ∷ ys) word rest are e =
     record { next = y; later = ys; valid = All-head IsIn y ys are.1; parts = refl; says = cc; says_later = cc }
-texts_go_on one (x ∷ xs) [] word rest are e = absurd (cc)
 texts_go_on {IsIn = IsIn} one (x ∷ xs) (y ∷ ys) word rest are e =
     let head : x ≡ y = one.same x y (All-head IsIn x xs are.0) (All-head IsIn y ys are.1) (cc) in
     let more = texts_go_on one xs ys word rest (All-tail IsIn x xs are.0, All-tail IsIn y ys are.1) (cc) in
@@ -46,15 +39,14 @@ texts_go_on {IsIn = IsIn} one (x ∷ xs) (y ∷ ys) word rest are e =
       says = more.says;
       says_later = more.says_later;
     }
+texts_go_on one xs ys word rest are e = absurd (cc)
 
 -- ---- words that are read one by one, each the text of a value
 
 pub word_read : {X W : Type 0} (text : X → W) (xs : List X) (x : X) (given rest after : List W) (word : W) → given ≡ map text xs ++ rest
     → rest ≡ word ∷ after → word ≡ text x
     → given ≡ map text (xs ++ x ∷ []) ++ after
-word_read {W = W} text xs x given rest after word so cut says =
-    so ∙ ap (λ (ws : List W). map text xs ++ ws) (cut ∙ ap (λ (w : W). w ∷ after) says)
-    ∙ sym (append_assoc (map text xs) (text x ∷ []) after) ∙ ap (λ (ws : List W). ws ++ after) (sym (map_push text xs x))
+word_read text xs x given rest after word so cut says = so ∙ simp (cut, says, map_push, append_assoc)
 
 -- a word that is no value's text ends it
 pub word_unread : {X W : Type 0} {IsIn : X → Type 0} {text : X → W} → HasOneText IsIn text → (xs ys : List X) (given rest after : List W)

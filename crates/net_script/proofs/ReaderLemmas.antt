@@ -1,29 +1,23 @@
 -- What a reader of lines keeps says which line may follow as the trace so far does, and what it gives and refuses is right: for
 -- `TraceReader`.
-use Rattle.std.proofs.Common.{◌≡◌, ℕ, ◌+◌, ◌<◌, ◌≤◌, Bool, true, false, not, cond, eqb, ltb}
-use Rattle.std.proofs.Common.{List, [], ◌∷◌, ◌++◌, length, inl, inr}
-use Rattle.std.proofs.Common.{Option, None, Some, refl, sym, ap, subst, ◌∙◌, arith, eqb-true}
+use Rattle.std.proofs.Common.{◌≡◌, ℕ, ◌+◌, ◌<◌, ◌≤◌, Bool, true, false, not, cond, eqb, ltb, List, [], ◌∷◌, ◌++◌, length, inl, inr, Option}
+use Rattle.std.proofs.Common.{None, Some, refl, sym, ap, subst, ◌∙◌, arith, eqb-true}
 use Rattle.std.specs.Prelude.{Result, Ok, Err, is_some, IfErr}
 use Rattle.std.specs.Option.{option_map}
-use Rattle.std.proofs.lemmas.Bool.{and_parts}
+use Rattle.std.proofs.lemmas.Bool.{and_parts, not-true}
+use Rattle.std.proofs.lemmas.Option.{same_Some}
 use Rattle.std.proofs.lemmas.List.{length-append, length_push, map_push}
 use Rattle.xid.specs.Text.{lacks}
-use Rattle.net_script.specs.Basics.{Refusal, Change, Sent, BadScript, BadConfig}
-use Rattle.net_script.specs.declared.values.Table.{Table}
-use Rattle.net_script.specs.declared.values.Entry.{Entry}
-use Rattle.net_script.specs.declared.values.Trace.{Trace}
-use Rattle.net_script.specs.declared.so_far.LastEntry.{LastEntry}
-use Rattle.net_script.specs.declared.so_far.SoFar.{SoFar}
-use Rattle.net_script.specs.declared.trace_lines.TraceLine.{TraceLine}
+use Rattle.net_script.specs.Basics.{Refusal, Change, Sent, BadScript, BadConfig, Table, Entry, Trace, LastEntry, SoFar, TraceLine}
 use Rattle.net_script.specs.declared.trace_lines.TraceLine.TheVariants.{Cluster, Contents, Happened, Served, Changed, Datagram, Final}
 use Rattle.net_script.specs.Items.{is_in_limits}
 use Rattle.net_script.specs.TraceLines.{IsTraceLine, trace_line_text}
 use Rattle.net_script.specs.TraceReading.{RefusesTrace}
 use Rattle.net_script.specs.TraceReaders.{told_of, told_by, last_of, so_far_of, is_missing, is_alone, may_follow, after_line, follow}
-use Rattle.net_script.specs.TraceReaders.{bare_step, with_now, with_sent, at_last, grown, begun_with}
-use Rattle.net_script.specs.TraceReaders.{ReaderParts, HasRead, ReadsOn, IsRead, GivesNext}
+use Rattle.net_script.specs.TraceReaders.{bare_step, with_now, with_sent, at_last, grown, begun_with, ReaderParts, HasRead, ReadsOn, IsRead}
+use Rattle.net_script.specs.TraceReaders.{GivesNext}
 use Rattle.net_script.proofs.TraceLineLemmas.{line_text_words, line_injective}
-use Rattle.net_script.proofs.DraftLemmas.{last_push}
+use Rattle.net_script.proofs.DraftLemmas.{last_push, alone}
 use Rattle.net_script.proofs.TraceLoop.{Told, unended_fault, line_fault, line_told, nothing_fault, missing_fault, all_told}
 
 -- ---- which lines may follow
@@ -40,19 +34,14 @@ now_full : (c : Change) (e : Entry) → told_by (with_now c e) ≡ LastEntry.Ful
 now_full c (Entry.Step step) = refl
 now_full c (Entry.Serve node answer now sent) = refl
 
+told_full : (now : Option Change) (sent : List Sent) (d : Sent) → told_of now (sent ++ d ∷ []) ≡ LastEntry.Full
+told_full None [] d = refl
+told_full None (s ∷ sent) d = refl
+told_full (Some c) sent d = refl
+
 sent_full : (d : Sent) (e : Entry) → told_by (with_sent d e) ≡ LastEntry.Full
-sent_full d (Entry.Step step) = of step.now step.sent
-  where
-    of : (now : Option Change) (sent : List Sent) → told_of now (sent ++ d ∷ []) ≡ LastEntry.Full
-    of None [] = refl
-    of None (s ∷ sent) = refl
-    of (Some c) sent = refl
-sent_full d (Entry.Serve node answer now sent) = of now sent
-  where
-    of : (now : Option Change) (sent : List Sent) → told_of now (sent ++ d ∷ []) ≡ LastEntry.Full
-    of None [] = refl
-    of None (s ∷ sent) = refl
-    of (Some c) sent = refl
+sent_full d (Entry.Step step) = told_full step.now step.sent d
+sent_full d (Entry.Serve node answer now sent) = told_full now sent d
 
 -- a reader keeps of the trace after a line what it kept before, and of the line
 kept_after : (t : Trace) (said : TraceLine) → may_follow (so_far_of t) said ≡ true
@@ -66,20 +55,12 @@ kept_after t (Served node answer) may =
     ap (λ l. record (so_far_of t) { last = l }) (last_push t.entries (Entry.Serve node answer None []))
 kept_after t (Changed change) may =
     let parts = and_parts (eqb (length t.finals) 0) (is_alone (last_of t.entries)) may in
-    ap (λ l. record (so_far_of t) { last = l }) (last_full (with_now change) t.entries (some (last_of t.entries) parts.1) (now_full change))
-  where
-    some : (l : LastEntry) → is_alone l ≡ true → is_missing l ≡ false
-    some LastEntry.Missing h = absurd (cc (h))
-    some LastEntry.Bare h = refl
-    some LastEntry.Full h = refl
+    let some = ap is_missing (alone (last_of t.entries) parts.1) in
+    ap (λ l. record (so_far_of t) { last = l }) (last_full (with_now change) t.entries some (now_full change))
 kept_after t (Datagram sent) may =
     let parts = and_parts (eqb (length t.finals) 0) (not (is_missing (last_of t.entries))) may in
     ap (λ l. record (so_far_of t) { last = l })
-    (last_full (with_sent sent) t.entries (off (is_missing (last_of t.entries)) parts.1) (sent_full sent))
-  where
-    off : (b : Bool) → not b ≡ true → b ≡ false
-    off true h = absurd (cc (h))
-    off false h = refl
+    (last_full (with_sent sent) t.entries (not-true (is_missing (last_of t.entries)) parts.1) (sent_full sent))
 kept_after t (Final rm rows) may =
     let parts = and_parts (eqb rm (length t.finals)) (ltb (length t.finals) t.sizes.rms) may in
     let same : rm ≡ length t.finals = eqb-true rm (length t.finals) parts.0 in
@@ -88,12 +69,7 @@ kept_after t (Final rm rows) may =
 
 pub follows_so : (o : Option Trace) (said : TraceLine) → option_map so_far_of (begun_with o said) ≡ follow (option_map so_far_of o) said
 follows_so None (Cluster sizes) = refl
-follows_so None (Contents table) = refl
-follows_so None (Happened event answer) = refl
-follows_so None (Served node answer) = refl
-follows_so None (Changed change) = refl
-follows_so None (Datagram sent) = refl
-follows_so None (Final rm rows) = refl
+follows_so None said = refl
 follows_so (Some t) said = by (may_follow (so_far_of t) said) (kept_after t said)
   where
     by : (b : Bool) → (b ≡ true → so_far_of (grown t said) ≡ after_line (so_far_of t) said)
@@ -180,59 +156,50 @@ pub nothing_read : {r : ReaderParts} {trace : Option Trace} → HasRead r trace 
     → RefusesTrace r.bytes (BadScript (r.number + 1))
 nothing_read {r = r} {trace = trace} so none unkept =
     let nothing = none_kept trace (sym so.kept ∙ unkept) in
-    let before : Told r.bytes r.rest r.number None = subst (Told r.bytes r.rest r.number) nothing (told so) in
-    inr (inl (r.number + 1, refl, nothing_fault before none))
+    inr (inl (r.number + 1, refl, nothing_fault (subst (Told r.bytes r.rest r.number) nothing (told so)) none))
 
-kept_of : {r : ReaderParts} {trace : Option Trace} (s : SoFar) → HasRead r trace → r.so_far ≡ Some s
-    → (t : Trace) × (trace ≡ Some t) × (so_far_of t ≡ s)
+-- the trace so far, where a reader keeps something of it
+record Kept (r : ReaderParts) (trace : Option Trace) (s : SoFar) : Type 0 where
+  so_far : Trace
+  is : trace ≡ Some so_far
+  kept : so_far_of so_far ≡ s
+  told : Told r.bytes r.rest r.number (Some so_far)
+
+kept_of : {r : ReaderParts} {trace : Option Trace} (s : SoFar) → HasRead r trace → r.so_far ≡ Some s → Kept r trace s
 kept_of {r = r} {trace = trace} s so some =
     let got = some_kept trace s (sym so.kept ∙ some) in
-    (got.0, got.1, some_same (so_far_of got.0) s (sym (ap (option_map so_far_of) got.1) ∙ sym so.kept ∙ some))
-  where
-    some_same : (a b : SoFar) → Some a ≡ Some b → a ≡ b
-    some_same a b e = cc
+    record {
+      so_far = got.0;
+      is = got.1;
+      kept = same_Some (so_far_of got.0) s (sym (ap (option_map so_far_of) got.1) ∙ sym so.kept ∙ some);
+      told = subst (Told r.bytes r.rest r.number) got.1 (told so);
+    }
 
 pub rows_missing : {r : ReaderParts} {trace : Option Trace} (s : SoFar) → HasRead r trace → r.rest ≡ [] → r.so_far ≡ Some s
     → s.finals < s.sizes.rms
     → RefusesTrace r.bytes (BadScript (r.number + 1))
 rows_missing {r = r} s so none some few =
     let got = kept_of s so some in
-    let t = got.0 in
-    let before : Told r.bytes r.rest r.number (Some t) = subst (Told r.bytes r.rest r.number) got.1 (told so) in
-    let fewer : length t.finals < t.sizes.rms = subst (λ (k : SoFar). k.finals < k.sizes.rms) (sym got.2) few in
-    inr (inl (r.number + 1, refl, missing_fault t before none fewer))
+    let fewer = subst (λ (k : SoFar). k.finals < k.sizes.rms) (sym got.kept) few in
+    inr (inl (r.number + 1, refl, missing_fault got.so_far got.told none fewer))
 
 pub too_large : {r : ReaderParts} {trace : Option Trace} (s : SoFar) → HasRead r trace → r.rest ≡ [] → r.so_far ≡ Some s
     → s.sizes.rms ≤ s.finals → is_in_limits s.sizes ≡ false
     → RefusesTrace r.bytes BadConfig
-too_large {r = r} s so none some enough beyond =
+too_large s so none some enough beyond =
     let got = kept_of s so some in
-    let t = got.0 in
-    let before : Told r.bytes r.rest r.number (Some t) = subst (Told r.bytes r.rest r.number) got.1 (told so) in
-    let all = all_told t before none (subst (λ (k : SoFar). k.sizes.rms ≤ k.finals) (sym got.2) enough) in
-    inr (inr (
-      refl,
-      record {
-        trace = t;
-        valid = all.0;
-        limits = ap (λ (k : SoFar). is_in_limits k.sizes) got.2 ∙ beyond;
-        text = all.1;
-      },
-    ))
+    let all = all_told got.so_far got.told none (subst (λ (k : SoFar). k.sizes.rms ≤ k.finals) (sym got.kept) enough) in
+    let limits = ap (λ (k : SoFar). is_in_limits k.sizes) got.kept ∙ beyond in
+    inr (inr (refl, record { trace = got.so_far; valid = all.0; limits = limits; text = all.1 }))
 
 pub all_read : {r : ReaderParts} {trace : Option Trace} (s : SoFar) → HasRead r trace → r.rest ≡ [] → r.so_far ≡ Some s
     → s.sizes.rms ≤ s.finals → is_in_limits s.sizes ≡ true
     → IsRead r.bytes trace
-all_read {r = r} s so none some enough within =
+all_read s so none some enough within =
     let got = kept_of s so some in
-    let t = got.0 in
-    let before : Told r.bytes r.rest r.number (Some t) = subst (Told r.bytes r.rest r.number) got.1 (told so) in
-    let all = all_told t before none (subst (λ (k : SoFar). k.sizes.rms ≤ k.finals) (sym got.2) enough) in
-    record {
-      whole = t;
-      is = got.1;
-      spelled = record { valid = all.0; limits = ap (λ (k : SoFar). is_in_limits k.sizes) got.2 ∙ within; text = all.1 };
-    }
+    let all = all_told got.so_far got.told none (subst (λ (k : SoFar). k.sizes.rms ≤ k.finals) (sym got.kept) enough) in
+    let limits = ap (λ (k : SoFar). is_in_limits k.sizes) got.kept ∙ within in
+    record { whole = got.so_far; is = got.is; spelled = record { valid = all.0; limits = limits; text = all.1 } }
 
 -- what a reader refuses, its caller does
 pub refused_next : {X : Type 0} (bytes : List ℕ) (old new : ReaderParts) (trace : Option Trace) (r : Result (Option TraceLine) Refusal)

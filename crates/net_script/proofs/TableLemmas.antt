@@ -1,16 +1,14 @@
 -- Rows of a table's line.
-use Rattle.std.proofs.Common.{suc, take, drop, ◌-◌, ◌≡◌, ℕ, ◌<◌, true, List, [], ◌∷◌, ◌++◌, length, get_or, map, sym, ap}
-use Rattle.std.proofs.Common.{subst, ◌∙◌, arith}
+use Rattle.std.proofs.Common.{◌+◌, take, ◌≡◌, ℕ, ◌<◌, true, List, ◌∷◌, ◌++◌, length, get_or, map, sym, ap, ◌∙◌, arith}
 use Rattle.std.specs.List.{All, AllPairs}
-use Rattle.std.proofs.lemmas.List.{take_all}
-use Rattle.std.proofs.lemmas.List.Kept.{AllPairs-cons}
+use Rattle.std.proofs.lemmas.List.{get_or_default, get_or-take, length-take, take_more}
+use Rattle.std.proofs.lemmas.List.Quantifiers.{all_pairs_push}
 use Rattle.xid.specs.Text.{lacks}
 use Rattle.xid.proofs.Texts.{cut_same}
 use Rattle.stable_record.specs.Facts.{IsKey}
-use Rattle.net_script.specs.Basics.{IsBytes, hex_text, Row}
+use Rattle.net_script.specs.Basics.{IsBytes, hex_text, Row, Table}
 use Rattle.net_script.specs.RowLaws.{hex_lacks_equals, a_row}
 use Rattle.net_script.specs.Lines.{IsSome, bytes_text, row_text}
-use Rattle.net_script.specs.declared.values.Table.{Table}
 use Rattle.net_script.specs.Items.{IsRow, IsContents, contents_words}
 use Rattle.net_script.specs.Spelling.{one_list}
 use Rattle.net_script.proofs.WordLemmas.{hex_injective, bytes_injective}
@@ -47,30 +45,22 @@ pub table_rows : (rows : List Row) (t : Table) {rm : List ℕ} → All IsRow row
     → rows ≡ t.rows
 table_rows rows t each is e = one_list a_row rows t.rows each is.rows.each (cc)
 
--- ---- the first row, and those after it
+-- ---- a row, and those before it
 
-rest_is : (x : Row) (xs : List Row) → take (length (x ∷ xs) - 1) xs ≡ xs
-rest_is x xs = take_all (length (x ∷ xs) - 1) xs (omega arith)
-
-pub more_rows : (rows : List Row) (first : Row) (key : List ℕ) → 0 < length rows → first ≡ get_or rows 0 first → key ≡ first.key
-    → All (λ (row : Row). row.key ≡ key → ⊥) (take (length rows - 1) (drop 1 rows))
-    → AllPairs (λ (a b : Row). a.key ≡ b.key → ⊥) (take (length rows - 1) (drop 1 rows))
+-- rows with distinct keys: those before one have other keys
+pub keys_before : (rows : List Row) (at : ℕ) (row : Row) (key : List ℕ) → at < length rows → row ≡ get_or rows at row → key ≡ row.key
     → AllPairs (λ (a b : Row). a.key ≡ b.key → ⊥) rows
-more_rows [] first key some at is new pairs = absurd (omega arith)
-more_rows (x ∷ xs) first key some at is new pairs =
-    let others = subst (λ (ys : List Row). All (λ (row : Row). row.key ≡ key → ⊥) ys) (rest_is x xs) new in
-    AllPairs-cons (λ (a b : Row). a.key ≡ b.key → ⊥) x xs
-    (λ i d lt e. others i d lt (sym e ∙ sym (is ∙ ap (λ (row : Row). row.key) at)))
-    (subst (λ (ys : List Row). AllPairs (λ (a b : Row). a.key ≡ b.key → ⊥) ys) (rest_is x xs) pairs)
+    → All (λ (x : Row). x.key ≡ key → ⊥) (take at rows)
+keys_before rows at row key lt is same pairs k d less e =
+    let before : k < at = omega (arith, length-take at rows) in
+    let here : get_or rows at d ≡ row = get_or_default rows at d row lt ∙ sym is in
+    pairs k at d before lt (rw here (ap (λ (x : Row). x.key) (sym (get_or-take at rows k d before)) ∙ e ∙ same))
 
-pub first_row : (rows : List Row) (first : Row) (key : List ℕ) → 0 < length rows → first ≡ get_or rows 0 first → key ≡ first.key
-    → AllPairs (λ (a b : Row). a.key ≡ b.key → ⊥) rows
-    → All (λ (row : Row). row.key ≡ key → ⊥) (take (length rows - 1) (drop 1 rows))
-    × AllPairs (λ (a b : Row). a.key ≡ b.key → ⊥) (take (length rows - 1) (drop 1 rows))
-first_row [] first key some at is pairs = absurd (omega arith)
-first_row (x ∷ xs) first key some at is pairs = (
-  subst (λ (ys : List Row). All (λ (row : Row). row.key ≡ key → ⊥) ys) (sym (rest_is x xs))
-      (λ i d lt e. pairs 0 (suc i) d (omega arith) (omega arith) (sym (is ∙ ap (λ (row : Row). row.key) at) ∙ sym e)),
-  subst (λ (ys : List Row). AllPairs (λ (a b : Row). a.key ≡ b.key → ⊥) ys) (sym (rest_is x xs))
-      (λ i j d lt within. pairs (suc i) (suc j) d (omega arith) (omega arith)),
-)
+-- one row more, whose key is new
+pub keys_more : (rows : List Row) (at : ℕ) (row : Row) (key : List ℕ) → at < length rows → row ≡ get_or rows at row → key ≡ row.key
+    → AllPairs (λ (a b : Row). a.key ≡ b.key → ⊥) (take at rows) → All (λ (x : Row). x.key ≡ key → ⊥) (take at rows)
+    → AllPairs (λ (a b : Row). a.key ≡ b.key → ⊥) (take (at + 1) rows)
+keys_more rows at row key lt is same pairs new =
+    rw (take_more rows at row lt)
+    (all_pairs_push (λ (a b : Row). a.key ≡ b.key → ⊥) (take at rows) (get_or rows at row) pairs
+    (λ k d less e. new k d less (e ∙ ap (λ (x : Row). x.key) (sym is) ∙ sym same)))

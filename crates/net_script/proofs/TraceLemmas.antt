@@ -5,13 +5,11 @@ use Rattle.net_script.specs.Basics.{Row}
 use Rattle.net_script.specs.Traces.{final_line, final_lines}
 
 final_push : (n : ℕ) (xs : List (List Row)) (y : List Row) → final_lines n (xs ++ y ∷ []) ≡ final_lines n xs ++ final_line (n + length xs) y
-final_push n [] y =
-    let same : n ≡ n + 0 = omega arith in
-    append-nil (final_line n y) ∙ ap (λ (k : ℕ). final_line k y) same
+final_push n [] y = let same : n + 0 ≡ n = omega arith in simp (append-nil, same)
 final_push n (x ∷ xs) y =
-    let same : suc n + length xs ≡ n + suc (length xs) = omega arith in
-    ap (λ (l : List ℕ). final_line n x ++ l) (final_push (suc n) xs y ∙ ap (λ (k : ℕ). final_lines (suc n) xs ++ final_line k y) same)
-    ∙ sym (append_assoc (final_line n x) (final_lines (suc n) xs) (final_line (n + suc (length xs)) y))
+    let same : n + suc (length xs) ≡ suc n + length xs = omega arith in
+    let tail = ap (λ (l : List ℕ). final_line n x ++ l) (final_push (suc n) xs y) in
+    rw same (tail ∙ sym (append_assoc (final_line n x) (final_lines (suc n) xs) (final_line (suc n + length xs) y)))
 
 -- one more line of last rows
 pub finals_more : (xs : List (List Row)) (i : ℕ) (x rows : List Row) → i < length xs → x ≡ get_or xs i x → rows ≡ x

@@ -1,9 +1,9 @@
 -- Each line of a trace says one thing.
-use Rattle.std.proofs.Common.{◌≡◌, ℕ, ◌<◌, Bool, true, false, List, [], ◌∷◌, ◌++◌, length, refl, sym, ap, subst}
+use Rattle.std.proofs.Common.{◌≡◌, ℕ, ◌<◌, Bool, true, false, Option, None, Some, List, [], ◌∷◌, ◌++◌, length, refl, sym, ap, subst}
 use Rattle.std.proofs.Common.{◌∙◌, arith, codes}
 use Rattle.std.specs.List.{AllByRecursion}
 use Rattle.std.proofs.lemmas.Fmt.{decimal_injective}
-use Rattle.net_script.specs.Basics.{TxParts, View, NodeId, R, Row, Answer, Change, Sent, Event, Kind}
+use Rattle.net_script.specs.Basics.{TxParts, IsTx, tx_text, View, NodeId, R, Row, Answer, Change, Sent, Event, Kind}
 use Rattle.net_script.specs.declared.trace_lines.TraceLine.{TraceLine}
 use Rattle.net_script.specs.declared.trace_lines.TraceLine.TheVariants.{Cluster, Contents, Happened, Served, Changed, Datagram, Final}
 use Rattle.net_script.specs.declared.values.Sizes.{Sizes}
@@ -14,7 +14,7 @@ use Rattle.net_script.specs.Events.{IsNode, IsEvent, event_word, event_words}
 use Rattle.net_script.specs.Answers.{IsAnswer, view_text, answer_words}
 use Rattle.net_script.specs.Traces.{joined_words, serve_words, change_words, sent_words}
 use Rattle.net_script.specs.TraceLines.{IsChange, IsSent, AreFinalRows, IsTraceLine, final_words, trace_line_words, trace_line_text}
-use Rattle.net_script.specs.TraceLines.{whole_line, is_tidy}
+use Rattle.net_script.specs.TraceLines.{whole_line, is_tidy, Knows}
 use Rattle.net_script.proofs.WordLemmas.{differ}
 use Rattle.net_script.specs.NameLemmas.{node_injective, manager_injective, tx_injective}
 use Rattle.net_script.proofs.OneText.{HasOneText, texts_injective}
@@ -222,13 +222,20 @@ only_final said rest is e = absurd (differ _ _ (ap first_of e) refl)
 pub words_after : {given rest others : List (List ℕ)} {a b : List ℕ} → given ≡ a ∷ rest → given ≡ b ∷ others → rest ≡ others
 words_after p q = cc
 
--- what the words after a first one say, in a block of its own
-pub change_said : {args : List (List ℕ)} (boxed change : Change) → boxed ≡ change → IsChange change × (args ≡ change_words change)
-    → IsTraceLine (Changed boxed) × (codes "now" ∷ args ≡ trace_line_words (Changed boxed))
-change_said {args = args} boxed change same says =
-    subst (λ c. IsChange c × (codes "now" ∷ args ≡ codes "now" ∷ change_words c)) (sym same)
-    (says.0, ap (λ (ws : List (List ℕ)). codes "now" ∷ ws) says.1)
+pub change_said : {args : List (List ℕ)} (change : Change) → IsChange change × (args ≡ change_words change)
+    → IsTraceLine (Changed change) × (codes "now" ∷ args ≡ trace_line_words (Changed change))
+change_said change says = (says.0, ap (λ (ws : List (List ℕ)). codes "now" ∷ ws) says.1)
 
 pub sent_said : {args : List (List ℕ)} (sent : Sent) → IsSent sent × (args ≡ sent_words sent)
     → IsTraceLine (Datagram sent) × (codes "sent" ∷ args ≡ trace_line_words (Datagram sent))
 sent_said sent says = (says.0, ap (λ (ws : List (List ℕ)). codes "sent" ∷ ws) says.1)
+
+-- the transaction that is known where a word is one
+pub known_is : (is_one : Bool) (known : Option TxParts) (word : List ℕ) (last tx : TxParts) → Knows is_one known word → is_one ≡ true
+    → known ≡ Some last → tx ≡ last
+    → IsTx tx × (word ≡ tx_text tx)
+known_is false known word last tx is one now same = absurd (cc (one))
+known_is true None word last tx is one now same = absurd (cc (now))
+known_is true (Some t) word last tx is one now same =
+    let these : t ≡ tx = cc in
+    subst (λ (u : TxParts). IsTx u × (word ≡ tx_text u)) these is

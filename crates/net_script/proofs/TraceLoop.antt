@@ -1,14 +1,12 @@
 -- A trace, as far as it was read; and one reading of a text.
 use Rattle.std.proofs.Common.{◌≡◌, ℕ, ◌+◌, ◌<◌, ◌≤◌, true, false, inl, inr, List, [], ◌∷◌, ◌++◌, length, take, drop, map, Option, None}
-use Rattle.std.proofs.Common.{Some}
-use Rattle.std.proofs.Common.{refl, sym, ap, subst, ◌∙◌, arith}
+use Rattle.std.proofs.Common.{Some, refl, sym, ap, subst, ◌∙◌, arith}
 use Rattle.std.specs.List.{flat_map}
 use Rattle.std.specs.Option.{ForSome}
+use Rattle.std.proofs.lemmas.List.Concat.{flat_map-append}
 use Rattle.std.proofs.lemmas.List.{append-nil, append_assoc, length-append, length-map, length_push, take_at, take-append-drop}
 use Rattle.xid.specs.Text.{lacks}
-use Rattle.net_script.specs.declared.values.Sizes.{Sizes}
-use Rattle.net_script.specs.declared.values.Trace.{Trace}
-use Rattle.net_script.specs.declared.trace_lines.TraceLine.{TraceLine}
+use Rattle.net_script.specs.Basics.{Sizes, Trace, TraceLine}
 use Rattle.net_script.specs.Items.{IsSizes}
 use Rattle.net_script.specs.Traces.{trace_text}
 use Rattle.net_script.specs.TraceLines.{IsTraceLine, trace_line_text, whole_line, lines_of}
@@ -42,8 +40,7 @@ begins_take n ls can = record {
   trace = can.trace;
   valid = can.valid;
   more = drop n ls ++ can.more;
-  begins = can.begins ∙ ap (λ (l : List (List ℕ)). l ++ can.more) (sym (take-append-drop n ls))
-      ∙ append_assoc (take n ls) (drop n ls) can.more;
+  begins = can.begins ∙ simp (← append_assoc, take-append-drop);
 }
 
 own_begins : (t : Trace) → IsBegun t → CanBeginTrace (ended_lines (trace_text t))
@@ -64,8 +61,7 @@ one_trace_fault bytes m n (inr p) (inr q) = p.1 ∙ sym q.1
 -- the lines that were read, and those of the rest
 left : {bytes rest : List ℕ} {number : ℕ} {trace : Option Trace} → Told bytes rest number trace
     → ended_lines bytes ≡ map whole_line (lines_so_far trace) ++ ended_lines rest
-left {rest = rest} {trace = trace} so =
-    ap ended_lines so.text ∙ ended_more (lines_so_far trace) rest (so_far_valid trace so.valid)
+left {rest = rest} {trace = trace} so = ap ended_lines so.text ∙ ended_more (lines_so_far trace) rest (so_far_valid trace so.valid)
 
 begins_so_far : (trace : Option Trace) → ForSome trace IsBegun → CanBeginTrace (map whole_line (lines_so_far trace))
 begins_so_far None is =
@@ -85,13 +81,14 @@ up_to_next : {bytes rest : List ℕ} {number : ℕ} {trace : Option Trace} (line
     → (take number (ended_lines bytes) ≡ map whole_line (lines_so_far trace))
     × (take (number + 1) (ended_lines bytes) ≡ map whole_line (lines_so_far trace) ++ line ∷ [])
     × (number < length (ended_lines bytes))
-up_to_next {number = number} {trace = trace} line later so next =
+up_to_next {bytes = bytes} {number = number} {trace = trace} line later so next =
     let seen : List (List ℕ) = map whole_line (lines_so_far trace) in
-    let all = left so ∙ ap (λ (l : List (List ℕ)). seen ++ l) next in
+    let all : ended_lines bytes ≡ seen ++ line ∷ later = left so ∙ ap (λ (l : List (List ℕ)). seen ++ l) next in
     let len : length seen ≡ number = length-map (lines_so_far trace) whole_line ∙ so.counted in
-    let longer : length (seen ++ line ∷ []) ≡ number + 1 = length_push seen line ∙ ap (λ (n : ℕ). n + 1) len in (
+    let longer : length (seen ++ line ∷ []) ≡ number + 1 = length_push seen line ∙ ap (λ (n : ℕ). n + 1) len in
+    let more = take_at (seen ++ line ∷ []) later (number + 1) longer in (
       ap (take number) all ∙ take_at seen (line ∷ later) number len,
-      ap (take (number + 1)) (all ∙ sym (append_assoc seen (line ∷ []) later)) ∙ take_at (seen ++ line ∷ []) later (number + 1) longer,
+      ap (take (number + 1)) all ∙ simp append_assoc at more,
       omega (arith, ap length all, length-append seen (line ∷ later)),
     )
 
@@ -147,35 +144,23 @@ pub line_told : {bytes rest : List ℕ} {number : ℕ} {trace : Option Trace} (l
     → IsTraceLine said → line ≡ trace_line_text said → begun_with trace said ≡ Some t
     → Told bytes after (number + 1) (Some t)
 line_told {trace = trace} line after said t so cut is says grows =
-    let seen : List TraceLine = lines_so_far trace in
     let grown = begins trace said t so.valid is grows in
     record {
-      text = so.text ∙ ap (λ (r : List ℕ). flat_map whole_line seen ++ r) (cut.0 ∙ ap (λ (l : List ℕ). l ++ 10 ∷ after) says)
-          ∙ one_more seen said after ∙ ap (λ (ls : List TraceLine). flat_map whole_line ls ++ after) (sym grown.1);
+      text = so.text ∙ (simp (cut.0, says)) ∙ one_more (lines_so_far trace) said after
+          ∙ ap (λ (ls : List TraceLine). flat_map whole_line ls ++ after) (sym grown.1);
       counted = let before = so.counted in omega (arith, ap length grown.1, length_push (lines_so_far trace) said);
       valid = λ u e. subst IsBegun (let same : t ≡ u = cc in same) grown.0;
     }
   where
     one_more : (seen : List TraceLine) (said : TraceLine) (after : List ℕ)
         → flat_map whole_line seen ++ (trace_line_text said ++ 10 ∷ after) ≡ flat_map whole_line (seen ++ said ∷ []) ++ after
-    one_more [] said after =
-        sym (ap (λ (l : List ℕ). l ++ after) (append-nil (whole_line said)) ∙ append_assoc (trace_line_text said) (10 ∷ []) after)
-    one_more (first ∷ seen) said after =
-        append_assoc (whole_line first) (flat_map whole_line seen) (trace_line_text said ++ 10 ∷ after)
-        ∙ ap (λ (l : List ℕ). whole_line first ++ l) (one_more seen said after)
-        ∙ sym (append_assoc (whole_line first) (flat_map whole_line (seen ++ said ∷ [])) after)
+    one_more seen said after = simp (flat_map-append, append_assoc)
 
 -- ---- all lines are read
 
-pub no_bytes : (rest : List ℕ) → length rest ≡ 0 → rest ≡ []
-no_bytes [] e = refl
-no_bytes (x ∷ rest) e = absurd (omega arith)
-
 whole_text : {bytes rest : List ℕ} {number : ℕ} {trace : Option Trace} → Told bytes rest number trace → rest ≡ []
     → bytes ≡ flat_map whole_line (lines_so_far trace)
-whole_text {trace = trace} so none =
-    so.text ∙ ap (λ (r : List ℕ). flat_map whole_line (lines_so_far trace) ++ r) none
-    ∙ append-nil (flat_map whole_line (lines_so_far trace))
+whole_text so none = so.text ∙ simp (none, append-nil)
 
 whole_lines : {bytes rest : List ℕ} {number : ℕ} {trace : Option Trace} → Told bytes rest number trace → rest ≡ []
     → ended_lines bytes ≡ map whole_line (lines_so_far trace)

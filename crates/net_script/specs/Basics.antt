@@ -1,4 +1,5 @@
--- The words of the system that scripts and traces print. Variants whose names another type has too are written behind their type.
+-- The words of the system that scripts and traces print, and the values that scripts and traces are. Variants whose names another type has
+-- too are written behind their type.
 pub use Rattle.xid.specs.Names.{XidParts, IsBytes, IsXid}
 pub use Rattle.xid.specs.Transactions.{TxParts, IsTx, tx_text}
 pub use Rattle.xid.specs.Text.{hex_text, xid_text}
@@ -29,3 +30,17 @@ pub use Rattle.protocol.specs.declared.requests.Request.TheVariants.{Call, Recov
 pub use Rattle.protocol.specs.declared.rows.Row.{Row}
 pub use Rattle.protocol.specs.declared.states.Standing.{Standing}
 pub use Rattle.protocol.specs.declared.states.View.{View}
+pub use Rattle.net_script.specs.declared.values.Sizes.{Sizes}
+pub use Rattle.net_script.specs.declared.values.Table.{Table}
+pub use Rattle.net_script.specs.declared.values.Command.{Command}
+pub use Rattle.net_script.specs.declared.values.Command.TheVariants.{Do, Flow}
+pub use Rattle.net_script.specs.declared.values.Script.{Script}
+pub use Rattle.net_script.specs.declared.values.Entry.{Entry}
+pub use Rattle.net_script.specs.declared.values.Trace.{Trace}
+pub use Rattle.net_script.specs.declared.items.Item.{Item}
+pub use Rattle.net_script.specs.declared.trace_lines.TraceLine.{TraceLine}
+pub use Rattle.net_script.specs.declared.trace_lines.LineName.{LineName}
+pub use Rattle.net_script.specs.declared.so_far.LastEntry.{LastEntry}
+pub use Rattle.net_script.specs.declared.so_far.SoFar.{SoFar}
+pub use Rattle.net_script.specs.declared.stop.Stop.{Stop}
+pub use Rattle.net_script.specs.declared.stop.Stop.TheVariants.{Wrong, Memory}

@@ -7,6 +7,7 @@ use Rattle.hex.proofs.HexLemmas.{decode_of-encode_lower}
 use Rattle.hex.specs.Hex.{decode_of}
 use Rattle.hex.specs.declared.error.FromHexError.{FromHexError}
 use Rattle.xid.proofs.Texts.{length-hex_text}
+use Rattle.xid.proofs.TransactionTexts.{hex_same}
 use Rattle.net_script.specs.Basics.{IsBytes, hex_text}
 use Rattle.net_script.specs.Lines.{IsSome, bytes_text}
 
@@ -25,11 +26,7 @@ hex_decodes y text e is same h =
 
 -- bytes are the only ones of their hex
 pub hex_injective : (a b : List ℕ) → IsBytes a → IsBytes b → hex_text a ≡ hex_text b → a ≡ b
-hex_injective a b bytes-a bytes-b e =
-    let left : decode_of (hex_text a) ≡ Ok a = decode_of-encode_lower a bytes-a in
-    let right : decode_of (hex_text b) ≡ Ok b = decode_of-encode_lower b bytes-b in
-    let both : decode_of (hex_text a) ≡ decode_of (hex_text b) = ap decode_of e in
-    cc
+hex_injective a b bytes-a bytes-b e = hex_same a b bytes-a bytes-b e
 
 -- hex is no dash
 hex_not_dash : (y : List ℕ) → hex_text y ≡ 45 ∷ [] → ⊥

@@ -3,12 +3,7 @@ use Rattle.std.specs.Prelude.{◌≢◌, ℕ, ◌<◌, ◌^◌, Bool, true, fals
 use Rattle.std.specs.List.{All, AllPairs}
 use Rattle.xid.specs.Limits.{most_leaders, most_managers}
 use Rattle.stable_record.specs.Facts.{IsKey, IsValue}
-use Rattle.net_script.specs.Basics.{R, Row}
-use Rattle.net_script.specs.declared.values.Sizes.{Sizes}
-use Rattle.net_script.specs.declared.values.Table.{Table}
-use Rattle.net_script.specs.declared.values.Command.{Command}
-use Rattle.net_script.specs.declared.values.Command.TheVariants.{Do, Flow}
-use Rattle.net_script.specs.declared.items.Item.{Item}
+use Rattle.net_script.specs.Basics.{R, Row, Sizes, Table, Command, Do, Flow, Item}
 use Rattle.net_script.specs.declared.items.Item.TheVariants.{Cluster, Contents, Then}
 use Rattle.net_script.specs.Lines.{node_text, row_text}
 use Rattle.net_script.specs.Events.{IsEvent, event_words}

@@ -1,8 +1,8 @@
 -- The words of numbers, nodes, bytes, XIDs and transactions: one text each, which is a word.
-use Rattle.std.proofs.Common.{◌≡◌, ℕ, ◌<◌, ◌≤◌, ◌^◌, true, List, [], ◌∷◌, ◌++◌, length, drop, refl, sym, ap, ◌∙◌, decimal, arith}
+use Rattle.std.proofs.Common.{◌≡◌, ℕ, ◌<◌, ◌≤◌, ◌^◌, true, List, [], ◌∷◌, ◌++◌, length, drop, refl, ap, decimal, arith}
 use Rattle.std.specs.List.{All, AllByRecursion, list_all, flat_map}
 use Rattle.std.proofs.lemmas.Bool.Decides.{nat_tests}
-use Rattle.std.proofs.lemmas.Fmt.{decimal_nonempty, decimal_injective}
+use Rattle.std.proofs.lemmas.Fmt.{decimal_nonempty}
 use Rattle.std.proofs.lemmas.List.Elements.{All-head, All-tail}
 use Rattle.xid.specs.Transactions.{BranchParts, IsBranch, branch_text, branches_text}
 use Rattle.xid.proofs.Texts.{list_all_join, list_all-hex_text, list_all-decimal, length-hex_text}
@@ -13,12 +13,11 @@ use Rattle.net_script.specs.declared.nodes.Acceptor.{Acceptor}
 use Rattle.net_script.specs.declared.nodes.Leader.{Leader}
 use Rattle.net_script.specs.declared.nodes.Party.{Party}
 use Rattle.net_script.specs.declared.byte_words.Hex.{Hex}
-use Rattle.net_script.specs.declared.commands.Ending.{Ending}
 use Rattle.net_script.specs.Lines.{is_word, IsSome, bytes_text, node_text}
 use Rattle.net_script.specs.Events.{IsNode, IsParty, IsEnding, action_words}
 use Rattle.net_script.specs.Spelling.{is_common, IsCommon, IsSpelling, AreSpellings}
 use Rattle.net_script.specs.HexLemmas.{hex_injective, bytes_injective}
-use Rattle.net_script.specs.NameLemmas.{node_injective, xid_injective, tx_injective}
+use Rattle.net_script.specs.NameLemmas.{number_one, node_injective, xid_injective, tx_injective}
 
 -- ---- words
 
@@ -104,9 +103,6 @@ tx_common tx is =
 
 -- ---- one text each
 
-number_one : (m n : ℕ) → m < 2 ^ 32 → n < 2 ^ 32 → decimal m ≡ decimal n → m ≡ n
-number_one m n p q e = decimal_injective m n (omega arith) (omega arith) e
-
 -- a number of 32 bits
 pub a_number : IsSpelling (λ (n : ℕ). n < 2 ^ 32) decimal
 a_number = record { one = number_one; common = number_common }
@@ -126,15 +122,6 @@ an_xid = record { one = xid_injective; common = xid_common }
 -- a transaction
 pub a_tx : IsSpelling IsTx tx_text
 a_tx = record { one = tx_injective; common = tx_common }
-
--- words that say a value of another kind in a way of their own
-wrapped : {X Y : Type 0} {fits : X → Type 0} {text : X → List ℕ} (wrap : X → Y) (inner : Y → X) → IsSpelling fits text
-    → ((y : Y) → wrap (inner y) ≡ y)
-    → IsSpelling (λ y. fits (inner y)) (λ y. text (inner y))
-wrapped wrap inner law back = record {
-  one = λ y z p q e. sym (back y) ∙ ap wrap (law.one (inner y) (inner z) p q e) ∙ back z;
-  common = λ y p. law.common (inner y) p;
-}
 
 -- a resource manager by its number
 abbrev pub manager_of : ℕ → Manager
@@ -156,52 +143,36 @@ party_of node = record { 0 = node }
 abbrev pub hex_of : List ℕ → Hex
 hex_of bytes = record { 0 = bytes }
 
-manager_numbers : IsSpelling (λ (n : ℕ). n < 256) (λ n. node_text (R n))
-manager_numbers =
-    record { one = λ m n p q e. number_one m n (omega arith) (omega arith) (ap (drop 1) e); common = λ n p. node_common (R n) p }
-
-acceptor_numbers : IsSpelling (λ (n : ℕ). n < 256) (λ n. node_text (A n))
-acceptor_numbers =
-    record { one = λ m n p q e. number_one m n (omega arith) (omega arith) (ap (drop 1) e); common = λ n p. node_common (A n) p }
-
-leader_numbers : IsSpelling (λ (n : ℕ). n < 256) (λ n. node_text (L n))
-leader_numbers =
-    record { one = λ m n p q e. number_one m n (omega arith) (omega arith) (ap (drop 1) e); common = λ n p. node_common (L n) p }
+lettered_one : (letter m n : ℕ) → m < 256 → n < 256 → letter ∷ decimal m ≡ letter ∷ decimal n → m ≡ n
+lettered_one letter m n p q e = number_one m n (omega arith) (omega arith) (ap (drop 1) e)
 
 is_node : (n : NodeId) → IsParty n → IsNode n
 is_node (A n) p = absurd p
 is_node (L n) p = p
 is_node (R n) p = p
 
-parties : IsSpelling IsParty node_text
-parties = record { one = λ m n p q e. node_injective m n (is_node m p) (is_node n q) e; common = λ n p. node_common n (is_node n p) }
-
-hexes : IsSpelling IsSome hex_text
-hexes = record { one = λ a b p q e. hex_injective a b p.1 q.1 e; common = hex_common }
-
 -- a resource manager
 pub a_manager : IsSpelling (λ (m : Manager). m.0 < 256) (λ m. node_text (R m.0))
-a_manager = wrapped manager_of (λ m. m.0) manager_numbers (λ m. refl)
+a_manager = record { one = λ x y p q e. ap manager_of (lettered_one _ x.0 y.0 p q e); common = λ x p. node_common (R x.0) p }
 
 -- an acceptor
 pub an_acceptor : IsSpelling (λ (m : Acceptor). m.0 < 256) (λ m. node_text (A m.0))
-an_acceptor = wrapped acceptor_of (λ m. m.0) acceptor_numbers (λ m. refl)
+an_acceptor = record { one = λ x y p q e. ap acceptor_of (lettered_one _ x.0 y.0 p q e); common = λ x p. node_common (A x.0) p }
 
 -- a leader
 pub a_leader : IsSpelling (λ (m : Leader). m.0 < 256) (λ m. node_text (L m.0))
-a_leader = wrapped leader_of (λ m. m.0) leader_numbers (λ m. refl)
+a_leader = record { one = λ x y p q e. ap leader_of (lettered_one _ x.0 y.0 p q e); common = λ x p. node_common (L x.0) p }
 
 -- a node that has timeouts
 pub a_party : IsSpelling (λ (p : Party). IsParty p.0) (λ p. node_text p.0)
-a_party = wrapped party_of (λ p. p.0) parties (λ p. refl)
+a_party = record {
+  one = λ x y p q e. ap party_of (node_injective x.0 y.0 (is_node x.0 p) (is_node y.0 q) e);
+  common = λ x p. node_common x.0 (is_node x.0 p);
+}
 
 -- bytes of which there is one at least
 pub a_hex : IsSpelling (λ (h : Hex). IsSome h.0) (λ h. hex_text h.0)
-a_hex = wrapped hex_of (λ h. h.0) hexes (λ h. refl)
-
--- how an end ends
-abbrev pub ending_of : Action → Ending
-ending_of action = record { 0 = action }
+a_hex = record { one = λ x y p q e. ap hex_of (hex_injective x.0 y.0 p.1 q.1 e); common = λ x p. hex_common x.0 p }
 
 ending_one : (a b : Action) → IsEnding a → IsEnding b → action_words a ≡ action_words b → a ≡ b
 ending_one End End p q e = refl
@@ -218,5 +189,5 @@ ending_common EndFail p = (literal refl refl, tt)
 ending_common a p = absurd p
 
 -- how an end ends
-pub an_ending : AreSpellings (λ (e : Ending). IsEnding e.0) (λ e. action_words e.0)
-an_ending = record { one = λ x y p q e. ap ending_of (ending_one x.0 y.0 p q e); common = λ x p. ending_common x.0 p }
+pub an_ending : AreSpellings IsEnding action_words
+an_ending = record { one = ending_one; common = ending_common }

@@ -14,5 +14,6 @@ pub mod MessageLaws
 pub mod Traces
 pub mod TraceLines
 pub mod TraceReading
+pub mod Telling
 pub mod TraceReaders
 pub mod Writing

@@ -36,10 +36,6 @@ pub record IsFirstWord (line word rest : List ℕ) : Type 0 where
 abbrev pub is_plain : ℕ → Bool
 is_plain byte = nat_le 32 byte && nat_le byte 126
 
--- whether a byte is no capital letter: hex has none
-abbrev pub is_no_capital : ℕ → Bool
-is_no_capital byte = not (nat_le 65 byte && nat_le byte 90)
-
 -- BYTES: `-` for none
 abbrev pub bytes_text : List ℕ → List ℕ
 bytes_text [] = codes "-"

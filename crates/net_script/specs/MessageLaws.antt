@@ -3,7 +3,6 @@ use Rattle.std.proofs.Common.{◌≡◌, ℕ, ◌<◌, ◌≤◌, ◌^◌, true,
 use Rattle.std.proofs.Common.{subst, ◌∙◌, arith, decimal, codes}
 use Rattle.std.specs.List.{AllByRecursion, list_all}
 use Rattle.std.proofs.lemmas.Bool.Decides.{nat_tests}
-use Rattle.std.proofs.lemmas.Fmt.{decimal_injective}
 use Rattle.xid.specs.Text.{lacks}
 use Rattle.xid.proofs.Texts.{both_true, cut_same, decimal_lacks_colon, lacks_not, list_all-decimal, list_all_join}
 use Rattle.net_script.specs.Basics.{Vote, InstanceReport, InstanceAccept, A, R}
@@ -14,7 +13,7 @@ use Rattle.net_script.specs.Messages.{FitsReport, FitsReportItem, FitsAcceptItem
 use Rattle.net_script.specs.Spelling.{is_common, IsCommon, IsSpelling, AreSpellings}
 use Rattle.net_script.specs.Laws.{all_join, joined, number_bytes, number_common, node_common}
 use Rattle.net_script.specs.HexLemmas.{differ}
-use Rattle.net_script.specs.NameLemmas.{node_injective, manager_injective}
+use Rattle.net_script.specs.NameLemmas.{number_one, node_injective, manager_injective}
 
 -- ---- votes, reports and items
 
@@ -22,9 +21,6 @@ vote_injective : (v w : Vote) → vote_text v ≡ vote_text w → v ≡ w
 vote_injective Vote.Prepared Vote.Prepared e = refl
 vote_injective Vote.Aborted Vote.Aborted e = refl
 vote_injective v w e = absurd (differ _ _ e refl)
-
-ballot_injective : (m n : ℕ) → m < 2 ^ 32 → n < 2 ^ 32 → decimal m ≡ decimal n → m ≡ n
-ballot_injective m n p q e = decimal_injective m n (omega arith) (omega arith) e
 
 manager_lacks_colon : (n : ℕ) → n < 256 → lacks 58 (node_text (R n)) ≡ true
 manager_lacks_colon n lt = both_true (not (eqb 114 58)) (lacks 58 (decimal n)) refl (decimal_lacks_colon n (omega arith))
@@ -51,7 +47,7 @@ same_item n m item text word p q e cut = (cut_item n item word (node_text (R m))
 accepted_injective : (m n : ℕ) (v w : Vote) → m < 2 ^ 32 → n < 2 ^ 32 → accepted_text m v ≡ accepted_text n w → (m ≡ n) × (v ≡ w)
 accepted_injective m n v w p q e =
     let cut = cut_accepted n w (accepted_text m v) (decimal m) (vote_text v) q e (refl, decimal_lacks_colon m p) in
-    (ballot_injective m n p q cut.0, vote_injective v w cut.1)
+    (number_one m n p q cut.0, vote_injective v w cut.1)
 
 none_lacks_colon : (n : ℕ) (v : Vote) → codes "none" ≡ accepted_text n v → ⊥
 none_lacks_colon n v e = lacks_not 58 (decimal n) (vote_text v) (subst (λ (t : List ℕ). lacks 58 t ≡ true) e refl)
@@ -67,21 +63,13 @@ report_text_injective (Some a) (Some b) p q e =
     let same = accepted_injective a.0 b.0 a.1 b.1 p q e in
     same_report a b same.0 same.1
 
--- an item of these parts
-abbrev report_item : (instance : ℕ) (report : Option (ℕ × Vote)) → InstanceReport
-report_item instance report = record { instance = instance; report = report }
-
-abbrev accept_item : (instance ballot : ℕ) (vote : Vote) → InstanceAccept
-accept_item instance ballot vote = record { instance = instance; ballot = ballot; vote = vote }
-
 report_item_injective : (a b : InstanceReport) → FitsReportItem a → FitsReportItem b → report_item_text a ≡ report_item_text b → a ≡ b
 report_item_injective a b p q e =
     let cut = cut_item b.instance (report_text b.report) (report_item_text a) (node_text (R a.instance)) (report_text a.report) q.instance e
     (refl, manager_lacks_colon a.instance p.instance) in
     let instance : a.instance ≡ b.instance = manager_injective a.instance b.instance p.instance q.instance cut.0 in
     let report : a.report ≡ b.report = report_text_injective a.report b.report p.report q.report cut.1 in
-    let same : report_item a.instance a.report ≡ report_item b.instance b.report = cc in
-    same
+    grind arith
 
 accept_item_injective : (a b : InstanceAccept) → FitsAcceptItem a → FitsAcceptItem b → accept_item_text a ≡ accept_item_text b → a ≡ b
 accept_item_injective a b p q e =
@@ -91,8 +79,7 @@ accept_item_injective a b p q e =
     let accepted = accepted_injective a.ballot b.ballot a.vote b.vote p.ballot q.ballot cut.1 in
     let ballot : a.ballot ≡ b.ballot = accepted.0 in
     let vote : a.vote ≡ b.vote = accepted.1 in
-    let same : accept_item a.instance a.ballot a.vote ≡ accept_item b.instance b.ballot b.vote = cc in
-    same
+    grind arith
 
 vote_common : (v : Vote) → IsCommon (vote_text v)
 vote_common Vote.Prepared = record { some = refl; bytes = refl }
@@ -154,7 +141,7 @@ report_front None None vs ws p q e =
 report_front None (Some y) vs ws p q e = absurd (decimal_not_none y.0 q (cc))
 report_front (Some x) None vs ws p q e = absurd (decimal_not_none x.0 p (cc))
 report_front (Some x) (Some y) vs ws p q e =
-    let ballot : x.0 ≡ y.0 = ballot_injective x.0 y.0 p q (cc) in
+    let ballot : x.0 ≡ y.0 = number_one x.0 y.0 p q (cc) in
     let vote : x.1 ≡ y.1 = vote_injective x.1 y.1 (cc) in
     let rest : vs ≡ ws = cc in
     (same_report x y ballot vote, rest)
@@ -170,8 +157,7 @@ reported_one a b p q e =
     let last : node_text (A a.acceptor) ∷ [] ≡ node_text (A b.acceptor) ∷ [] = cut.1 in
     let node : A a.acceptor ≡ A b.acceptor = node_injective (A a.acceptor) (A b.acceptor) p.1 q.1 (cc) in
     let acceptor : a.acceptor ≡ b.acceptor = cc in
-    let same : reported a.report a.acceptor ≡ reported b.report b.acceptor = cc in
-    same
+    grind arith
 
 reported_common : (a : Reported) → FitsReported a → AllByRecursion IsCommon (reported_words a)
 reported_common a p =

@@ -1,9 +1,10 @@
 -- The words of messages, as a trace prints them.
 use Rattle.std.specs.Prelude.{ℕ, ◌<◌, ◌^◌, List, [], ◌∷◌, ◌++◌, map, codes, decimal, Option, Some, None}
-use Rattle.net_script.specs.Basics.{IsTx, tx_text, message_tx, Vote, Kind, Prepare, P1a, P1b, P2a, P2b, Commit, Abort, B1a, B1b, B2b, A}
+use Rattle.net_script.specs.Basics.{TxParts, IsTx, tx_text, message_tx, Vote, Kind, Prepare, P1a, P1b, P2a, P2b, Commit, Abort, B1a, B1b, B2b, A}
 use Rattle.net_script.specs.Basics.{R}
 use Rattle.net_script.specs.Basics.{InstanceReport, InstanceAccept}
 use Rattle.net_script.specs.declared.message_words.Reported.{Reported}
+use Rattle.net_script.specs.declared.message_words.Said.{Said}
 use Rattle.net_script.specs.Lines.{node_text}
 use Rattle.net_script.specs.Spelling.{AreItems}
 
@@ -104,6 +105,32 @@ FitsKind (B2b tx acceptor accepts) = (acceptor < 256) × AreItems FitsAcceptItem
 -- what has the form of a message
 abbrev pub IsForm : Kind → Type 0
 IsForm kind = IsTx (message_tx kind) × FitsKind kind
+
+-- the message that says this of a transaction
+abbrev pub kind_of : TxParts → Said → Kind
+kind_of tx Said.Prepare = Prepare tx
+kind_of tx (Said.P1a rm ballot) = P1a tx rm ballot
+kind_of tx (Said.P1b rm ballot report acceptor) = P1b tx rm ballot report acceptor
+kind_of tx (Said.P2a rm ballot vote) = P2a tx rm ballot vote
+kind_of tx (Said.P2b rm ballot vote acceptor) = P2b tx rm ballot vote acceptor
+kind_of tx Said.Commit = Commit tx
+kind_of tx Said.Abort = Abort tx
+kind_of tx (Said.Ask rm) = Kind.Ask tx rm
+kind_of tx (Said.B1a ballot) = B1a tx ballot
+kind_of tx (Said.B1b ballot acceptor reports) = B1b tx ballot acceptor reports
+kind_of tx (Said.B2b acceptor accepts) = B2b tx acceptor accepts
+
+-- the parts of no transaction: what is said beside one is the same of each
+abbrev pub no_tx : TxParts
+no_tx = record { format = 0; gtrid = []; branches = [] }
+
+-- the words of a message but for its transaction
+abbrev pub said_words : Said → List (List ℕ)
+said_words said = message_word (kind_of no_tx said) ∷ message_args (kind_of no_tx said)
+
+-- whose numbers are those of words
+abbrev pub FitsSaid : Said → Type 0
+FitsSaid said = FitsKind (kind_of no_tx said)
 
 -- the words of phase 1b after its ballot
 abbrev pub FitsReported : Reported → Type 0

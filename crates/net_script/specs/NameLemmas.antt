@@ -1,5 +1,5 @@
 -- Nodes, XIDs and transactions have one text each.
-use Rattle.std.proofs.Common.{◌≡◌, ℕ, ◌<◌, ◌≤◌, true, not, eqb, List, [], ◌∷◌, ◌++◌, length, drop, refl, sym, ap, ◌∙◌, subst, arith}
+use Rattle.std.proofs.Common.{◌≡◌, ℕ, ◌<◌, ◌≤◌, ◌^◌, true, not, eqb, List, [], ◌∷◌, ◌++◌, length, drop, refl, sym, ap, ◌∙◌, subst, arith}
 use Rattle.std.proofs.Common.{decimal}
 use Rattle.std.specs.List.{All}
 use Rattle.std.proofs.lemmas.Bool.Decides.{nat_tests}
@@ -17,23 +17,20 @@ use Rattle.net_script.specs.Lines.{node_text}
 use Rattle.net_script.specs.Events.{IsNode}
 use Rattle.net_script.specs.HexLemmas.{hex_injective, differ}
 
-number_injective : (m n : ℕ) → m < 256 → n < 256 → decimal m ≡ decimal n → m ≡ n
-number_injective m n p q e = decimal_injective m n (omega arith) (omega arith) e
+-- a number is the only one of its text
+pub number_one : (m n : ℕ) → m < 2 ^ 32 → n < 2 ^ 32 → decimal m ≡ decimal n → m ≡ n
+number_one m n p q e = decimal_injective m n (omega arith) (omega arith) e
 
 -- a node is the only one of its text
 pub node_injective : (m n : NodeId) → IsNode m → IsNode n → node_text m ≡ node_text n → m ≡ n
-node_injective (A m) (A n) p q e = ap A (number_injective m n p q (ap (drop 1) e))
-node_injective (L m) (L n) p q e = ap L (number_injective m n p q (ap (drop 1) e))
-node_injective (R m) (R n) p q e = ap R (number_injective m n p q (ap (drop 1) e))
+node_injective (A m) (A n) p q e = ap A (number_one m n (omega arith) (omega arith) (ap (drop 1) e))
+node_injective (L m) (L n) p q e = ap L (number_one m n (omega arith) (omega arith) (ap (drop 1) e))
+node_injective (R m) (R n) p q e = ap R (number_one m n (omega arith) (omega arith) (ap (drop 1) e))
 node_injective m n p q e = absurd (differ _ _ e refl)
 
 -- a resource manager is the only one of its text
 pub manager_injective : (m n : ℕ) → m < 256 → n < 256 → node_text (R m) ≡ node_text (R n) → m ≡ n
-manager_injective m n p q e = number_injective m n p q (ap (drop 1) e)
-
--- an XID of these parts
-abbrev xid : (format : ℕ) (gtrid bqual : List ℕ) → XidParts
-xid format gtrid bqual = record { format = format; gtrid = gtrid; bqual = bqual }
+manager_injective m n p q e = number_one m n (omega arith) (omega arith) (ap (drop 1) e)
 
 -- an XID is the only one of its text
 pub xid_injective : (x y : XidParts) → IsXid x → IsXid y → xid_text x ≡ xid_text y → x ≡ y
@@ -48,8 +45,7 @@ xid_injective x y p q e =
     let format : x.format ≡ y.format = decimal_injective x.format y.format (omega (arith, p.format)) (omega (arith, q.format)) front.0 in
     let gtrid : x.gtrid ≡ y.gtrid = hex_injective x.gtrid y.gtrid p.gtrid.bytes q.gtrid.bytes back.0 in
     let bqual : x.bqual ≡ y.bqual = hex_injective x.bqual y.bqual p.bqual.bytes q.bqual.bytes back.1 in
-    let same : xid x.format x.gtrid x.bqual ≡ xid y.format y.gtrid y.bqual = cc in
-    same
+    grind arith
 
 -- ---- transactions
 
@@ -65,18 +61,12 @@ branch_lacks_comma b is =
     (list_all-decimal (λ byte. not (eqb byte 44)) b.rm no_comma (omega (arith, is.rm)))
     (both_true true (lacks 44 (hex_text b.bqual)) refl (list_all-hex_text (λ byte. not (eqb byte 44)) b.bqual refl is.bqual.bytes))
 
--- a branch of these parts
-abbrev branch : (rm : ℕ) (bqual : List ℕ) → BranchParts
-branch rm bqual = record { rm = rm; bqual = bqual }
-
 branch_injective : (b c : BranchParts) → IsBranch b → IsBranch c → branch_text b ≡ branch_text c → b ≡ c
 branch_injective b c p q e =
     let lack =
     list_all-decimal (λ byte. not (eqb byte 61)) b.rm (λ x low high. no_mark 61 x (omega arith) low high) (omega (arith, p.rm)) in
     let cut = cut_branch c (branch_text b) (decimal b.rm) (hex_text b.bqual) q e (refl, lack) in
-    let same : branch b.rm b.bqual ≡ c =
-    branch_same b.rm b.bqual c (decimal b.rm) (hex_text b.bqual) (omega (arith, p.rm)) p.bqual.bytes q cut refl refl in
-    same
+    branch_same b.rm b.bqual c (decimal b.rm) (hex_text b.bqual) (omega (arith, p.rm)) p.bqual.bytes q cut refl refl
 
 joined_one : (b : BranchParts) → branches_text (b ∷ []) ≡ branch_text b
 joined_one b = append-nil (branch_text b)
@@ -113,10 +103,6 @@ some_branches (b ∷ bs) (c ∷ cs) m n p q e = branches_injective b c bs cs p q
 some_branches [] cs m n p q e = absurd (omega arith)
 some_branches bs [] m n p q e = absurd (omega arith)
 
--- a transaction of these parts
-abbrev tx : (format : ℕ) (gtrid : List ℕ) (branches : List BranchParts) → TxParts
-tx format gtrid branches = record { format = format; gtrid = gtrid; branches = branches }
-
 -- a transaction is the only one of its text
 pub tx_injective : (x y : TxParts) → IsTx x → IsTx y → tx_text x ≡ tx_text y → x ≡ y
 tx_injective x y p q e =
@@ -130,5 +116,4 @@ tx_injective x y p q e =
     let gtrid : x.gtrid ≡ y.gtrid = hex_injective x.gtrid y.gtrid p.gtrid.bytes q.gtrid.bytes back.0 in
     let branches : x.branches ≡ y.branches =
     some_branches x.branches y.branches p.branches.some q.branches.some p.branches.each q.branches.each back.1 in
-    let same : tx x.format x.gtrid x.branches ≡ tx y.format y.gtrid y.branches = cc in
-    same
+    grind arith

@@ -1,5 +1,5 @@
 -- Rows as words: one text each.
-use Rattle.std.proofs.Common.{◌≡◌, ℕ, true, not, eqb, List, ◌∷◌, refl}
+use Rattle.std.proofs.Common.{◌≡◌, ℕ, true, not, eqb, List, ◌∷◌, refl, arith}
 use Rattle.xid.specs.Text.{lacks}
 use Rattle.xid.proofs.Texts.{list_all-hex_text, cut_same}
 use Rattle.net_script.specs.Basics.{IsBytes, hex_text, Row}
@@ -13,10 +13,6 @@ use Rattle.net_script.specs.Laws.{joined, hex_common, some_bytes}
 pub hex_lacks_equals : (xs : List ℕ) → IsBytes xs → lacks 61 (hex_text xs) ≡ true
 hex_lacks_equals xs bytes = list_all-hex_text (λ byte. not (eqb byte 61)) xs refl bytes
 
--- a row of these parts
-abbrev row : (key value : List ℕ) → Row
-row key value = record { key = key; value = value }
-
 row_injective : (a b : Row) → IsRow a → IsRow b → row_text a ≡ row_text b → a ≡ b
 row_injective a b is-a is-b e =
     let cut =
@@ -24,8 +20,7 @@ row_injective a b is-a is-b e =
     (hex_lacks_equals b.key is-b.key.bytes) e in
     let key : a.key ≡ b.key = hex_injective a.key b.key is-a.key.bytes is-b.key.bytes cut.0 in
     let value : a.value ≡ b.value = bytes_injective a.value b.value is-a.value.bytes is-b.value.bytes cut.1 in
-    let same : row a.key a.value ≡ row b.key b.value = cc in
-    same
+    grind arith
 
 row_common : (row : Row) → IsRow row → IsCommon (row_text row)
 row_common row is =

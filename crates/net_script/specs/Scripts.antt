@@ -1,10 +1,8 @@
 -- Which texts spell a script, and which line of one that spells none is the first at fault.
-use Rattle.std.specs.Prelude.{◌≡◌, ◌≢◌, ℕ, suc, ◌+◌, ◌<◌, ◌⊎◌, List, [], ◌∷◌, ◌++◌, length, take, map, Bool, true, false, not}
-use Rattle.std.specs.Prelude.{◌==◌, Option, Some, None, Result, Ok, Err}
+use Rattle.std.specs.Prelude.{◌≡◌, ◌≢◌, ℕ, suc, ◌+◌, ◌<◌, ◌⊎◌, List, [], ◌∷◌, ◌++◌, length, take, map, Bool, true, false, not, ◌==◌, Option}
+use Rattle.std.specs.Prelude.{Some, None, Result, Ok, Err}
 use Rattle.std.specs.List.{All, AllPairs, list_all, filter}
-use Rattle.net_script.specs.Basics.{Refusal, NoMemory, BadScript}
-use Rattle.net_script.specs.declared.values.Script.{Script}
-use Rattle.net_script.specs.declared.items.Item.{Item}
+use Rattle.net_script.specs.Basics.{Refusal, NoMemory, BadScript, Script, Item}
 use Rattle.net_script.specs.declared.items.Item.TheVariants.{Cluster, Contents, Then}
 use Rattle.net_script.specs.Lines.{lines, words, is_plain}
 use Rattle.net_script.specs.Items.{IsSizes, IsContents, IsCommand, IsItem, item_words}

@@ -1,12 +1,10 @@
 -- Values that have one text each, which is a word, and values that have one list of words each: what readers of words rest on.
-use Rattle.std.specs.Prelude.{◌≡◌, ◌≢◌, ℕ, ◌<◌, ◌≤◌, List, [], ◌∷◌, length, Bool, true, not, ◌&&◌, ◌==◌, map, refl}
-use Rattle.std.specs.Prelude.{Result, Ok, Err, Option, Some, None}
+use Rattle.std.specs.Prelude.{◌≡◌, ◌≢◌, ℕ, ◌<◌, ◌≤◌, List, [], ◌∷◌, length, Bool, true, not, ◌&&◌, ◌==◌, map, refl, Result, Ok, Err, Option}
+use Rattle.std.specs.Prelude.{Some, None}
 use Rattle.std.specs.List.{All, AllByRecursion, list_all}
 use Rattle.std.proofs.lemmas.List.Elements.{All-head, All-tail}
 use Rattle.xid.specs.Limits.{most_branches}
-use Rattle.net_script.specs.declared.stop.Stop.{Stop}
-use Rattle.net_script.specs.declared.stop.Stop.TheVariants.{Wrong, Memory}
-use Rattle.net_script.specs.Basics.{Refusal, NoMemory}
+use Rattle.net_script.specs.Basics.{Stop, Wrong, Memory, Refusal, NoMemory}
 use Rattle.net_script.specs.Lines.{is_word}
 
 -- neither a line's end nor a space
@@ -52,12 +50,9 @@ or_none (Err Memory) = Err NoMemory
 
 -- ---- no words, a word before others, and words of one kind
 
-one_unit : (x y : Unit {0}) → x ≡ y
-one_unit x y = refl
-
 -- no words: the words of the one value of no parts
 pub no_words : AreSpellings {X = Unit {0}} (λ _. Unit {0}) (λ _. [])
-no_words = record { one = λ x y p q e. one_unit x y; common = λ x p. tt }
+no_words = record { one = λ x y p q e. refl; common = λ x p. tt }
 
 infixr 20 ◌&◌
 -- a word before others: the words of a pair
@@ -73,17 +68,22 @@ first & others = record {
   common = λ x p. (first.common x.0 p.0, others.common x.1 p.1);
 }
 
--- a list of values is the only one with its words
+-- a list of values is the only one with its texts
+pub same_lists : {X W : Type 0} {fits : X → Type 0} {text : X → W} → ((x y : X) → fits x → fits y → text x ≡ text y → x ≡ y)
+    → (xs ys : List X) → All fits xs → All fits ys → map text xs ≡ map text ys
+    → xs ≡ ys
+same_lists same [] [] p q e = refl
+same_lists {fits = fits} same (x ∷ xs) (y ∷ ys) p q e =
+    let head : x ≡ y = same x y (All-head fits x xs p) (All-head fits y ys q) (cc) in
+    let tail : xs ≡ ys = same_lists same xs ys (All-tail fits x xs p) (All-tail fits y ys q) (cc) in
+    cc
+same_lists same xs ys p q e = absurd (cc)
+
+-- or with its words
 pub one_list : {X : Type 0} {fits : X → Type 0} {text : X → List ℕ} → IsSpelling fits text → (xs ys : List X) → All fits xs → All fits ys
     → map text xs ≡ map text ys
     → xs ≡ ys
-one_list each [] [] p q e = refl
-one_list each [] (y ∷ ys) p q e = absurd (cc)
-one_list each (x ∷ xs) [] p q e = absurd (cc)
-one_list {fits = fits} each (x ∷ xs) (y ∷ ys) p q e =
-    let head : x ≡ y = each.one x y (All-head fits x xs p) (All-head fits y ys q) (cc) in
-    let tail : xs ≡ ys = one_list each xs ys (All-tail fits x xs p) (All-tail fits y ys q) (cc) in
-    cc
+one_list each = same_lists each.one
 
 -- and each of its words is one
 pub common_list : {X : Type 0} {fits : X → Type 0} {text : X → List ℕ} → IsSpelling fits text → (xs : List X) → All fits xs

@@ -1,14 +1,10 @@
 -- What one line of a trace says, and its one text.
-use Rattle.std.specs.Prelude.{◌≡◌, ℕ, ◌<◌, ◌^◌, suc, Bool, true, false, not, ◌==◌, ◌&&◌, if◌then◌else◌, List, [], ◌∷◌, ◌++◌, codes}
-use Rattle.std.specs.Prelude.{map, Option, Some, None}
+use Rattle.std.specs.Prelude.{◌≡◌, ◌≢◌, ℕ, ◌<◌, ◌^◌, suc, Bool, true, false, not, ◌==◌, ◌&&◌, if◌then◌else◌, List, [], ◌∷◌, ◌++◌, codes, map}
+use Rattle.std.specs.Prelude.{Option, Some, None}
 use Rattle.std.specs.Cmp.Lexicographic.{slice_cmp}
 use Rattle.std.specs.List.{All, flat_map}
 use Rattle.std.specs.Ordering.{nat_cmp, is_lt}
-use Rattle.net_script.specs.Basics.{IsTx, IsMessage, R, Row, Change, Sent}
-use Rattle.net_script.specs.declared.values.Entry.{Entry}
-use Rattle.net_script.specs.declared.values.Trace.{Trace}
-use Rattle.net_script.specs.declared.trace_lines.TraceLine.{TraceLine}
-use Rattle.net_script.specs.declared.trace_lines.LineName.{LineName}
+use Rattle.net_script.specs.Basics.{TxParts, IsTx, tx_text, IsMessage, R, Row, Change, Sent, Entry, Trace, TraceLine, LineName}
 use Rattle.net_script.specs.declared.trace_lines.TraceLine.TheVariants.{Cluster, Contents, Happened, Served, Changed, Datagram, Final}
 use Rattle.net_script.specs.Lines.{node_text}
 use Rattle.net_script.specs.Events.{IsNode, IsEvent, event_words}
@@ -111,6 +107,12 @@ is_tidy_after spaced (byte ∷ rest) = if byte == 32 then not spaced && is_tidy_
 abbrev pub is_tidy : List ℕ → Bool
 is_tidy line = is_tidy_after true line
 
+-- whether a word is a transaction, which is then the one that is known
+abbrev pub Knows : Bool → Option TxParts → List ℕ → Type 0
+Knows true (Some tx) word = IsTx tx × (word ≡ tx_text tx)
+Knows true None word = ⊥
+Knows false known word = (tx : TxParts) → IsTx tx → word ≢ tx_text tx
+
 -- what tells of an event: its answer stands behind an arrow
 abbrev pub IsOutcome : TraceLine → Type 0
 IsOutcome (Happened event answer) = IsEvent event × IsAnswer answer
@@ -122,5 +124,4 @@ abbrev pub line_name_text : LineName → List ℕ
 line_name_text LineName.Cluster = codes "cluster"
 line_name_text LineName.Table = codes "table"
 line_name_text LineName.Now = codes "now"
-line_name_text LineName.Sent = codes "sent"
 line_name_text LineName.Final = codes "final"

@@ -3,17 +3,12 @@ use Rattle.std.specs.Prelude.{◌≡◌, ℕ, ◌+◌, ◌<◌, Bool, true, fals
 use Rattle.std.specs.Prelude.{Option, Some, None, Result, Ok, Err}
 use Rattle.std.specs.List.{list_all, flat_map}
 use Rattle.std.specs.Option.{ForSome, option_map}
-use Rattle.net_script.specs.Basics.{Refusal, Event, Answer, Change, Sent}
-use Rattle.net_script.specs.declared.values.Sizes.{Sizes}
-use Rattle.net_script.specs.declared.values.Entry.{Entry}
-use Rattle.net_script.specs.declared.values.Table.{Table}
-use Rattle.net_script.specs.declared.values.Trace.{Trace}
-use Rattle.net_script.specs.declared.so_far.LastEntry.{LastEntry}
-use Rattle.net_script.specs.declared.so_far.SoFar.{SoFar}
-use Rattle.net_script.specs.declared.trace_lines.TraceLine.{TraceLine}
+use Rattle.net_script.specs.Basics.{Refusal, TxParts, Event, Answer, Change, Sent, Sizes, Entry, Table, Trace, LastEntry, SoFar, TraceLine}
 use Rattle.net_script.specs.declared.trace_lines.TraceLine.TheVariants.{Cluster, Contents, Happened, Served, Changed, Datagram, Final}
 use Rattle.net_script.specs.TraceLines.{whole_line, lines_of}
 use Rattle.net_script.specs.TraceReading.{IsBegun, SpellsTrace, RefusesTrace}
+use Rattle.net_script.specs.declared.said.Heard.{Heard}
+use Rattle.net_script.specs.Telling.{IsHeard}
 
 -- ---- which lines may follow
 
@@ -42,10 +37,6 @@ so_far_of t = record {
   last = last_of t.entries;
   finals = length t.finals;
 }
-
--- the same where the cluster alone was told
-abbrev pub opened_so_far : Sizes → SoFar
-opened_so_far sizes = record { sizes = sizes; managers = []; last = LastEntry.Missing; finals = 0 }
 
 -- whether nothing happened yet
 abbrev pub is_missing : LastEntry → Bool
@@ -83,7 +74,7 @@ after_line s (Final rm rows) = record s { finals = rm + 1 }
 
 -- the same after one more line, the first or another; none, where it can't follow
 abbrev pub follow : Option SoFar → TraceLine → Option SoFar
-follow None (Cluster sizes) = Some (opened_so_far sizes)
+follow None (Cluster sizes) = Some (record { sizes = sizes; managers = []; last = LastEntry.Missing; finals = 0 })
 follow None said = None
 follow (Some s) said = if may_follow s said then Some (after_line s said) else None
 
@@ -136,11 +127,12 @@ lines_so_far (Some t) = lines_of t
 
 -- ---- readers
 
--- a reader: all bytes, those that are left, how many lines it has read, and what it keeps of them
+-- a reader: all bytes, those that are left, how many lines it has read, the transaction that it read last, and what it keeps of the lines
 pub record ReaderParts : Type 0 where
   pub bytes : List ℕ
   pub rest : List ℕ
   pub number : ℕ
+  pub known : Option TxParts
   pub so_far : Option SoFar
 
 -- a reader has read the lines of this trace so far; none, where it has read no line
@@ -169,3 +161,9 @@ abbrev pub GivesNext : (old new : ReaderParts) → Option Trace → Result (Opti
 GivesNext old new trace (Ok (Some said)) = ReadsOn old new trace said
 GivesNext old new trace (Ok None) = IsRead old.bytes trace
 GivesNext old new trace (Err e) = RefusesTrace old.bytes e
+
+-- what it hears next
+abbrev pub Hears : (old new : ReaderParts) → Option Trace → Result (Option Heard) Refusal → Type 0
+Hears old new trace (Ok (Some heard)) = (said : TraceLine) × IsHeard new.known heard said × ReadsOn old new trace said
+Hears old new trace (Ok None) = IsRead old.bytes trace
+Hears old new trace (Err e) = RefusesTrace old.bytes e

@@ -2,9 +2,7 @@
 use Rattle.std.specs.Prelude.{◌≡◌, ◌≢◌, ◌⊎◌, ℕ, ◌+◌, ◌<◌, ◌≤◌, true, false, ◌==◌, if◌then◌else◌, List, [], ◌∷◌, ◌++◌, length, Option}
 use Rattle.std.specs.List.{All, AllPairs, onto_first}
 use Rattle.std.specs.Option.{ForSome}
-use Rattle.net_script.specs.Basics.{Refusal, NoMemory, BadScript, BadConfig, Answer, Change, Sent}
-use Rattle.net_script.specs.declared.values.Entry.{Entry}
-use Rattle.net_script.specs.declared.values.Trace.{Trace}
+use Rattle.net_script.specs.Basics.{Refusal, NoMemory, BadScript, BadConfig, Answer, Change, Sent, Entry, Trace}
 use Rattle.net_script.specs.Events.{IsNode, IsEvent}
 use Rattle.net_script.specs.Items.{IsSizes, IsContents, is_in_limits}
 use Rattle.net_script.specs.Answers.{IsAnswer}

@@ -1,11 +1,7 @@
 -- The one text of a trace.
 use Rattle.std.specs.Prelude.{ℕ, suc, List, [], ◌∷◌, ◌++◌, codes, decimal, Option, Some, None}
 use Rattle.std.specs.List.{flat_map}
-use Rattle.net_script.specs.Basics.{tx_text, NodeId, R, Row, Answer, Change, Sent, Step}
-use Rattle.net_script.specs.declared.values.Sizes.{Sizes}
-use Rattle.net_script.specs.declared.values.Table.{Table}
-use Rattle.net_script.specs.declared.values.Entry.{Entry}
-use Rattle.net_script.specs.declared.values.Trace.{Trace}
+use Rattle.net_script.specs.Basics.{tx_text, NodeId, R, Row, Answer, Change, Sent, Step, Sizes, Table, Entry, Trace}
 use Rattle.net_script.specs.Lines.{node_text}
 use Rattle.net_script.specs.Events.{event_words}
 use Rattle.net_script.specs.Items.{sizes_words, rows_words, contents_words}

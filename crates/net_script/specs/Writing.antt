@@ -17,6 +17,10 @@ TriesToAppend old new text = Appends old new text ⊎ BreaksOff old new text
 abbrev pub IsFileRefusal : Refusal → Type 0
 IsFileRefusal refusal = (refusal ≡ NoMemory) ⊎ (refusal ≡ FileFault)
 
+-- the text joins what a vector has, unless memory runs out
+abbrev pub Puts : {X : Type 0} → (old new : List ℕ) → Result X Refusal → (text : List ℕ) → Type 0
+Puts old new result text = MatchResult result (λ _. new ≡ old ++ text) (λ e. e ≡ NoMemory)
+
 -- the text joins what a writer has, or the writer fails, and then a beginning of the text joins it and nothing else
 abbrev pub WritesText : {X : Type 0} → (old new : Option (List ℕ)) → Result X Refusal → (text : List ℕ) → Type 0
 WritesText old new result text = MatchResult result (λ _. Appends old new text) (λ e. IsFileRefusal e × BreaksOff old new text)

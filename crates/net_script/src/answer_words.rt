@@ -1,8 +1,7 @@
 //! Words that say what an event was answered.
 
 ghost use Rattle.std.specs.Prelude.{◌≡◌, ◌≢◌, ◌∷◌, true, MatchOption};
-ghost use Rattle.std.specs.Fmt.{signed_decimal};
-ghost use Rattle.net_script.specs.Basics.{Refusal, XaCode, Standing, View, code_number, number_of};
+ghost use Rattle.net_script.specs.Basics.{Refusal, XaCode, Standing, View, number_of};
 ghost use Rattle.net_script.specs.Lines.{Reads, words};
 ghost use Rattle.net_script.specs.Spelling.{Finds};
 ghost use Rattle.net_script.specs.Answers.{IsTold, IsAnswer, standing_text, view_text, code_text, answer_words};
@@ -14,8 +13,8 @@ use protocol::{Answer, Standing, View};
 use std::alloc::Global;
 use xid::{Refusal, XaCode};
 
-/// The code of this text.
-fn code_of(word: &[u8]) -> Option<XaCode>
+/// The code of this number.
+fn code_named(word: &[u8]) -> Option<XaCode>
     ensures { MatchOption result ((c : XaCode) → word.now ≢ code_text c) (λ c. word.now ≡ code_text c) }
 {
     if word == b"0".as_slice() {
@@ -40,18 +39,6 @@ fn code_of(word: &[u8]) -> Option<XaCode>
         return Some(XaCode::DupId);
     }
     None
-}
-
-/// The code of this number.
-fn code_named(word: &[u8]) -> Option<XaCode>
-    ensures { MatchOption result
-        ((c : XaCode) → word.now ≢ signed_decimal (code_number c))
-        (λ c. word.now ≡ signed_decimal (code_number c)) }
-{
-    let Some(code) = code_of(word) else {
-        return None;
-    };
-    Some(code)
 }
 
 /// Where a transaction stands, by its word.

@@ -4,11 +4,11 @@ ghost use Rattle.std.specs.Prelude.{◌≡◌, ◌++◌, IfErr, OnOk};
 ghost use Rattle.net_script.specs.Basics.{NoMemory};
 ghost use Rattle.net_script.specs.Answers.{standing_text, view_text, answer_words};
 ghost use Rattle.net_script.specs.Traces.{spaced_words, change_text, sent_line};
+ghost use Rattle.net_script.specs.Writing.{Puts};
 
+use crate::known::{KnownTx, put_known};
 use crate::messages::put_message;
-use crate::pieces::{
-    put_bytes_word, put_manager, put_node, put_number, put_tx, put_word, put_xids,
-};
+use crate::pieces::{put_bytes_word, put_manager, put_node, put_number, put_word, put_xid};
 use itoa::Buffer;
 use protocol::{Answer, Change, Sent, Standing, View};
 use std::alloc::Global;
@@ -41,64 +41,70 @@ fn view_word(view: View) -> &'static [u8]
 }
 
 /// The words of an answer.
-pub fn put_answer(alloc: Global, out: &mut Vec<u8>, answer: &Answer) -> Result<(), Refusal>
+pub fn put_answer(out: &mut Vec<u8>, answer: &Answer) -> Result<(), Refusal>
     ensures ok { OnOk result (out.new.items ≡ out.old.items ++ spaced_words (answer_words answer.now)) }
     ensures err { IfErr result (λ e. e ≡ NoMemory) }
 {
     match answer {
-        Answer::Done => put_word(out, b"ok")?,
+        Answer::Done => put_word(out, b"ok"),
         Answer::Code(code) => {
             let mut digits = Buffer::new();
-            put_word(out, digits.format(code.number()).as_bytes())?;
+            put_word(out, digits.format(code.number()).as_bytes())
         }
         Answer::Value(bytes) => {
             put_word(out, b"value")?;
-            put_bytes_word(alloc, out, bytes.as_slice())?;
+            put_bytes_word(out, bytes.as_slice())
         }
-        Answer::NoValue => put_word(out, b"none")?,
+        Answer::NoValue => put_word(out, b"none"),
         Answer::Xids(xids) => {
             put_word(out, b"xids")?;
-            put_xids(alloc, out, xids.as_slice())?;
+            for xid in xids.as_slice() {
+                put_xid(out, xid)?;
+            }
+            Ok(())
         }
-        Answer::Stands(standing) => put_word(out, standing_word(*standing))?,
+        Answer::Stands(standing) => put_word(out, standing_word(*standing)),
         Answer::Refused(refusal) => {
             put_word(out, b"refused")?;
-            put_number(out, u32::from(refusal.number()))?;
+            put_number(out, u32::from(refusal.number()))
         }
     }
-    Ok(())
 }
 
 /// The line of the view that an event changed, if it changed one.
 pub(crate) fn put_change(
     alloc: Global,
     out: &mut Vec<u8>,
+    known: &mut Option<KnownTx>,
     now: &Option<Change>,
 ) -> Result<(), Refusal>
-    ensures ok { OnOk result (out.new.items ≡ out.old.items ++ change_text now.now) }
-    ensures err { IfErr result (λ e. e ≡ NoMemory) }
+    ensures { Puts out.old.items out.new.items result (change_text now.now) }
 {
     let Some(change) = now else {
         return Ok(());
     };
     out.extend_from_slice(b"now")?;
-    put_manager(out, usize::from(change.rm))?;
-    put_tx(alloc, out, &change.tx)?;
+    put_manager(out, u32::from(change.rm))?;
+    put_known(alloc, out, known, &change.tx)?;
     put_word(out, view_word(change.view))?;
     out.push(b'\n')?;
     Ok(())
 }
 
 /// The line of a datagram that was sent.
-pub(crate) fn put_sent(alloc: Global, out: &mut Vec<u8>, sent: &Sent) -> Result<(), Refusal>
-    ensures ok { OnOk result (out.new.items ≡ out.old.items ++ sent_line sent.now) }
-    ensures err { IfErr result (λ e. e ≡ NoMemory) }
+pub(crate) fn put_sent(
+    alloc: Global,
+    out: &mut Vec<u8>,
+    known: &mut Option<KnownTx>,
+    sent: &Sent,
+) -> Result<(), Refusal>
+    ensures { Puts out.old.items out.new.items result (sent_line sent.now) }
 {
     out.extend_from_slice(b"sent")?;
     put_number(out, sent.number)?;
     put_node(out, sent.sender)?;
     put_node(out, sent.receiver)?;
-    put_message(alloc, out, sent.message.kind())?;
+    put_message(alloc, out, known, sent.message.kind())?;
     out.push(b'\n')?;
     Ok(())
 }

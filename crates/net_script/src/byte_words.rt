@@ -1,9 +1,8 @@
 //! Words that are bytes, XIDs and transactions.
 
-ghost use Rattle.std.specs.Prelude.{◌≡◌, true, false};
-ghost use Rattle.std.specs.List.{list_all};
+ghost use Rattle.std.specs.Prelude.{true, false};
 ghost use Rattle.net_script.specs.Basics.{IsBytes, IsXid, IsTx, hex_text, xid_text, tx_text};
-ghost use Rattle.net_script.specs.Lines.{IsSome, is_no_capital, bytes_text};
+ghost use Rattle.net_script.specs.Lines.{IsSome, bytes_text};
 ghost use Rattle.net_script.specs.Laws.{a_hex, some_bytes, an_xid, a_tx};
 
 use crate::stop::Stop;
@@ -11,19 +10,8 @@ use crate::word::{Word, is_word};
 use hex::FromHexError;
 use protocol::Boxed;
 use std::alloc::Global;
+use xid::text::lacks_capitals;
 use xid::{Bytes, Sequence, Tx, Xid};
-
-/// Whether a text has no capital letter.
-fn lacks_capitals(text: &[u8]) -> bool
-    ensures { result ≡ list_all is_no_capital text.now }
-{
-    for byte in text {
-        if (b'A'..=b'Z').contains(byte) {
-            return false;
-        }
-    }
-    true
-}
 
 /// Bytes of which there is at least one.
 #[derive(Drop)]

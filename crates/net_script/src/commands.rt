@@ -18,26 +18,23 @@ use std::alloc::Global;
 use xid::{Refusal, Xid};
 
 /// How an end ends: with no word more, or with `fail`.
-#[derive(Drop)]
-pub struct Ending(Action);
+impl Words for Action {
+    ghost fit = { IsEnding };
 
-impl Words for Ending {
-    ghost fit = { λ ending. IsEnding ending.0 };
-
-    ghost texts = { λ ending. action_words ending.0 };
+    ghost texts = { action_words };
 
     ghost allocate = { false };
 
     ghost spellings = { an_ending };
 
-    fn read(_alloc: Global, args: &[u8]) -> Result<Ending, Stop> {
+    fn read(_alloc: Global, args: &[u8]) -> Result<Action, Stop> {
         let Some((word, rest)) = next_word(args) else {
-            return Ok(Ending(Action::End));
+            return Ok(Action::End);
         };
         if !is_word(word, b"fail") || !is_over(rest) {
             return Err(Stop::Wrong);
         }
-        Ok(Ending(Action::EndFail))
+        Ok(Action::EndFail)
     }
 }
 
@@ -81,7 +78,7 @@ pub(crate) fn event_by(alloc: Global, name: &[u8], args: &[u8]) -> Result<Event,
         return Ok(call(rm, xid, Action::Get { key }));
     }
     if is_word(name, b"end") {
-        let (Manager(rm), (xid, Ending(action))) = Words::read(alloc, args)?;
+        let (Manager(rm), (xid, action)) = Words::read(alloc, args)?;
         return Ok(call(rm, xid, action));
     }
     if is_word(name, b"rollback") {
@@ -144,17 +141,6 @@ pub(crate) fn command_by(alloc: Global, name: &[u8], args: &[u8]) -> Result<Comm
         return Ok(Command::Flow(most));
     }
     Ok(Command::Do(event_by(alloc, name, args)?))
-}
-
-/// The event of these words.
-#[inline(never)]
-pub(crate) fn read_event(alloc: Global, text: &[u8]) -> Result<Option<Event>, Refusal>
-    ensures { Reads IsEvent event_words (words text.now) result }
-{
-    let Some((name, args)) = next_word(text) else {
-        return Ok(None);
-    };
-    or_none(event_by(alloc, name, args))
 }
 
 /// The command of these words.

@@ -1,13 +1,12 @@
 //! Events, as they are written.
 
-ghost use Rattle.std.specs.Prelude.{◌≡◌, ◌++◌, IfErr, OnOk};
-ghost use Rattle.net_script.specs.Basics.{NoMemory};
-ghost use Rattle.net_script.specs.Events.{action_word, action_words, request_word, request_args, event_word, event_args, event_words};
-ghost use Rattle.net_script.specs.Traces.{spaced_words, joined_words};
+ghost use Rattle.std.specs.Prelude.{◌≡◌};
+ghost use Rattle.net_script.specs.Events.{action_word, action_words, request_word, request_args, event_word, event_args};
+ghost use Rattle.net_script.specs.Traces.{spaced_words};
+ghost use Rattle.net_script.specs.Writing.{Puts};
 
 use crate::pieces::{put_bytes_word, put_node, put_number, put_tx, put_word, put_xid};
 use protocol::{Action, Event, Request};
-use std::alloc::Global;
 use xid::Refusal;
 
 /// The first word of a call.
@@ -25,20 +24,18 @@ fn action_word(action: &Action) -> &'static [u8]
 }
 
 /// The words of a call after its XID.
-fn put_action(alloc: Global, out: &mut Vec<u8>, action: &Action) -> Result<(), Refusal>
-    ensures ok { OnOk result (out.new.items ≡ out.old.items ++ spaced_words (action_words action.now)) }
-    ensures err { IfErr result (λ e. e ≡ NoMemory) }
+fn put_action(out: &mut Vec<u8>, action: &Action) -> Result<(), Refusal>
+    ensures { Puts out.old.items out.new.items result (spaced_words (action_words action.now)) }
 {
     match action {
-        Action::Start | Action::End | Action::Rollback => {}
+        Action::Start | Action::End | Action::Rollback => Ok(()),
         Action::Put { key, value } => {
-            put_bytes_word(alloc, out, key.as_slice())?;
-            put_bytes_word(alloc, out, value.as_slice())?;
+            put_bytes_word(out, key.as_slice())?;
+            put_bytes_word(out, value.as_slice())
         }
-        Action::Del { key } | Action::Get { key } => put_bytes_word(alloc, out, key.as_slice())?,
-        Action::EndFail => put_word(out, b"fail")?,
+        Action::Del { key } | Action::Get { key } => put_bytes_word(out, key.as_slice()),
+        Action::EndFail => put_word(out, b"fail"),
     }
-    Ok(())
 }
 
 /// The first word of a request.
@@ -56,26 +53,24 @@ fn request_word(request: &Request) -> &'static [u8]
 }
 
 /// The words of a request after its node.
-fn put_request(alloc: Global, out: &mut Vec<u8>, request: &Request) -> Result<(), Refusal>
-    ensures ok { OnOk result (out.new.items ≡ out.old.items ++ spaced_words (request_args request.now)) }
-    ensures err { IfErr result (λ e. e ≡ NoMemory) }
+fn put_request(out: &mut Vec<u8>, request: &Request) -> Result<(), Refusal>
+    ensures { Puts out.old.items out.new.items result (spaced_words (request_args request.now)) }
 {
     match request {
         Request::Call { xid, action } => {
-            put_xid(alloc, out, xid)?;
-            put_action(alloc, out, action)?;
+            put_xid(out, xid)?;
+            put_action(out, action)
         }
-        Request::Recover => {}
+        Request::Recover => Ok(()),
         Request::View { tx }
         | Request::Commit { tx }
         | Request::Status { tx }
-        | Request::Timeout { tx } => put_tx(alloc, out, tx.get())?,
+        | Request::Timeout { tx } => put_tx(out, tx.get()),
     }
-    Ok(())
 }
 
 /// The first word of an event.
-fn event_word(event: &Event) -> &'static [u8]
+pub(crate) fn event_word(event: &Event) -> &'static [u8]
     ensures { result.now ≡ event_word event.now }
 {
     match event {
@@ -91,39 +86,27 @@ fn event_word(event: &Event) -> &'static [u8]
 }
 
 /// The words of an event after its first.
-fn put_event_args(alloc: Global, out: &mut Vec<u8>, event: &Event) -> Result<(), Refusal>
-    ensures ok { OnOk result (out.new.items ≡ out.old.items ++ spaced_words (event_args event.now)) }
-    ensures err { IfErr result (λ e. e ≡ NoMemory) }
+pub(crate) fn put_event_args(out: &mut Vec<u8>, event: &Event) -> Result<(), Refusal>
+    ensures { Puts out.old.items out.new.items result (spaced_words (event_args event.now)) }
 {
     match event {
         Event::Ask { node, request } => {
             put_node(out, *node)?;
-            put_request(alloc, out, request)?;
+            put_request(out, request)
         }
-        Event::Deliver { number } | Event::Lose { number } => put_number(out, *number)?,
+        Event::Deliver { number } | Event::Lose { number } => put_number(out, *number),
         Event::Cut { number, bytes } => {
             put_number(out, *number)?;
-            put_number(out, *bytes)?;
+            put_number(out, *bytes)
         }
         Event::Noise { node, bytes } => {
             put_node(out, *node)?;
-            put_bytes_word(alloc, out, bytes.as_slice())?;
+            put_bytes_word(out, bytes.as_slice())
         }
         Event::Tear { node, bytes } => {
             put_node(out, *node)?;
-            put_number(out, *bytes)?;
+            put_number(out, *bytes)
         }
-        Event::Restart { node } | Event::Compact { node } => put_node(out, *node)?,
+        Event::Restart { node } | Event::Compact { node } => put_node(out, *node),
     }
-    Ok(())
-}
-
-/// An event.
-pub(crate) fn put_event(alloc: Global, out: &mut Vec<u8>, event: &Event) -> Result<(), Refusal>
-    ensures ok { OnOk result (out.new.items ≡ out.old.items ++ joined_words (event_words event.now)) }
-    ensures err { IfErr result (λ e. e ≡ NoMemory) }
-{
-    out.extend_from_slice(event_word(event))?;
-    put_event_args(alloc, out, event)?;
-    Ok(())
 }

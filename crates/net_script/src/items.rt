@@ -1,12 +1,13 @@
 //! The items of a script, each of one line.
 
 ghost use Rattle.std.specs.Prelude.{◌≡◌, ◌≢◌, Bool, MatchOption};
-ghost use Rattle.net_script.specs.declared.values.Sizes.{Sizes};
+ghost use Rattle.net_script.specs.Basics.{Sizes};
 ghost use Rattle.net_script.specs.Lines.{Reads, words};
 ghost use Rattle.net_script.specs.Items.{IsSizes, IsItem, bundled_words, sizes_words, item_words};
 
 use crate::args::field;
-use crate::commands::read_command;
+use crate::commands::command_by;
+use crate::stop::or_none;
 use crate::tables::read_table;
 use crate::values::{Command, Sizes, Table};
 use crate::words::{is_over, next_word};
@@ -14,7 +15,7 @@ use std::alloc::Global;
 use xid::Refusal;
 
 /// What one line says.
-#[derive(Debug, Drop)]
+#[derive(Drop)]
 pub enum Item {
     /// How many nodes there are.
     Cluster(Sizes),
@@ -46,23 +47,14 @@ pub(crate) fn read_sizes(args: &[u8]) -> Option<Sizes>
         ((s : Sizes) → IsSizes s → words args.now ≢ sizes_words s)
         (λ s. IsSizes s × (words args.now ≡ sizes_words s)) }
 {
-    let Some((acceptors, rest)) = field(args, b"acceptors") else {
-        return None;
-    };
-    let Some((leaders, rest)) = field(rest, b"leaders") else {
-        return None;
-    };
-    let Some((rms, rest)) = field(rest, b"rms") else {
-        return None;
-    };
-    let Some(bundled) = read_bundled(rest) else {
-        return None;
-    };
+    let (acceptors, rest) = field(args, b"acceptors")?;
+    let (leaders, rest) = field(rest, b"leaders")?;
+    let (rms, rest) = field(rest, b"rms")?;
     Some(Sizes {
         acceptors,
         leaders,
         rms,
-        bundled,
+        bundled: read_bundled(rest)?,
     })
 }
 
@@ -85,7 +77,7 @@ pub(crate) fn read_item(alloc: Global, line: &[u8]) -> Result<Option<Item>, Refu
         };
         return Ok(Some(Item::Contents(table)));
     }
-    let Some(command) = read_command(alloc, line)? else {
+    let Some(command) = or_none(command_by(alloc, word, rest))? else {
         return Ok(None);
     };
     Ok(Some(Item::Then(command)))

@@ -1,45 +1,100 @@
-//! The transaction that was read last: the lines of a trace name the same one many times in a row.
+//! The transaction that was read or written last: the lines of a trace name the same one many times in a row.
 
-ghost use Rattle.std.specs.Prelude.{◌≡◌, ◌≢◌, MatchOption};
-ghost use Rattle.net_script.specs.Basics.{TxParts, IsTx, tx_text};
+ghost use Rattle.std.specs.Prelude.{◌≡◌, ◌∷◌, IfOk, IfErr};
+ghost use Rattle.net_script.specs.Basics.{NoMemory, tx_text};
+ghost use Rattle.net_script.specs.TraceLines.{Knows};
+ghost use Rattle.net_script.specs.Writing.{Puts};
 
 use std::alloc::Global;
-use xid::Tx;
+use std::marker::Model;
+use xid::{Refusal, Tx};
 
-/// A transaction, and the word that it was read of.
+/// A transaction, and its word.
 #[derive(Debug, Drop)]
 pub struct KnownTx {
     word: Vec<u8>,
     tx: Tx,
-    ghost read: { IsTx tx × (word.items ≡ tx_text tx) },
 }
 
-/// The transaction of a word, which is known from then on; where there is no memory for the word, it is read again the next time.
+impl Model for KnownTx {
+    ghost use Rattle.std.specs.Prelude.{◌≡◌};
+    ghost use Rattle.net_script.specs.Basics.{TxParts, IsTx, tx_text};
+
+    ghost Value = { TxParts };
+
+    ghost view = { λ known. known.tx };
+
+    ghost invariant = { λ known. IsTx known.tx × (known.word.items ≡ tx_text known.tx) };
+}
+
+impl KnownTx {
+    /// The transaction.
+    pub(crate) fn tx(&self) -> &Tx
+        ensures { result.now ≡ self.now }
+    {
+        &self.tx
+    }
+}
+
+/// Whether a word that isn't the known transaction's is another's, which is known from then on. Refused: `NoMemory` alone.
 #[inline(never)]
-fn read_new(alloc: Global, known: &mut Option<KnownTx>, word: &[u8]) -> Option<Tx>
-    ensures { MatchOption result
-        ((tx : TxParts) → IsTx tx → word.now ≢ tx_text tx)
-        (λ tx. IsTx tx × (word.now ≡ tx_text tx)) }
+fn learn(alloc: Global, known: &mut Option<KnownTx>, word: &[u8]) -> Result<bool, Refusal>
+    ensures ok { IfOk result (λ yes. Knows yes known.new word.now) }
+    ensures err { IfErr result (λ e. e ≡ NoMemory) }
 {
     let Ok(tx) = Tx::read(word) else {
-        return None;
+        return Ok(false);
     };
-    if let Ok(word) = Vec::from_slice(alloc, word) {
-        *known = Some(KnownTx { word, tx });
-    }
-    Some(tx)
+    let word = Vec::from_slice(alloc, word)?;
+    *known = Some(KnownTx { word, tx });
+    Ok(true)
 }
 
-/// The transaction of a word, which may be the one that is known.
-pub(crate) fn read_tx(alloc: Global, known: &mut Option<KnownTx>, word: &[u8]) -> Option<Tx>
-    ensures { MatchOption result
-        ((tx : TxParts) → IsTx tx → word.now ≢ tx_text tx)
-        (λ tx. IsTx tx × (word.now ≡ tx_text tx)) }
+/// Whether a word is a transaction, which is the one that is known from then on. Refused: `NoMemory` alone.
+pub(crate) fn know(alloc: Global, known: &mut Option<KnownTx>, word: &[u8]) -> Result<bool, Refusal>
+    ensures ok { IfOk result (λ yes. Knows yes known.new word.now) }
+    ensures err { IfErr result (λ e. e ≡ NoMemory) }
 {
     if let Some(last) = &*known {
         if last.word.as_slice() == word {
-            return Some(last.tx);
+            return Ok(true);
         }
     }
-    read_new(alloc, known, word)
+    learn(alloc, known, word)
+}
+
+/// A transaction's text, which is known from then on. Refused: `NoMemory` alone.
+#[inline(never)]
+fn put_new(
+    alloc: Global,
+    out: &mut Vec<u8>,
+    known: &mut Option<KnownTx>,
+    tx: &Tx,
+) -> Result<(), Refusal>
+    ensures { Puts out.old.items out.new.items result (tx_text tx.now) }
+{
+    let mut word = Vec::new(alloc);
+    tx.write(&mut word)?;
+    out.extend_from_slice(word.as_slice())?;
+    *known = Some(KnownTx { word, tx: *tx });
+    Ok(())
+}
+
+/// A transaction as a word, which is the one that is known from then on. Refused: `NoMemory` alone.
+pub(crate) fn put_known(
+    alloc: Global,
+    out: &mut Vec<u8>,
+    known: &mut Option<KnownTx>,
+    tx: &Tx,
+) -> Result<(), Refusal>
+    ensures { Puts out.old.items out.new.items result (32 ∷ tx_text tx.now) }
+{
+    out.push(b' ')?;
+    if let Some(last) = &*known {
+        if last.tx.is_same(tx) {
+            out.extend_from_slice(last.word.as_slice())?;
+            return Ok(());
+        }
+    }
+    put_new(alloc, out, known, tx)
 }

@@ -1,21 +1,21 @@
 //! Words that are messages.
 
-ghost use Rattle.std.specs.Prelude.{◌≡◌, ◌≢◌, ◌∷◌, ◌++◌, ℕ, ◌<◌, ◌^◌, false, List, MatchOption};
-ghost use Rattle.net_script.specs.Basics.{IsTx, tx_text, R};
+ghost use Rattle.std.specs.Prelude.{◌≡◌, ◌≢◌, ◌∷◌, ◌++◌, ℕ, ◌<◌, ◌^◌, false, List, MatchOption, true};
+ghost use Rattle.net_script.specs.Basics.{R};
 ghost use Rattle.net_script.specs.Lines.{words, node_text};
 ghost use Rattle.net_script.specs.Spelling.{Finds};
-ghost use Rattle.net_script.specs.Messages.{vote_text, accepted_text, report_text, report_item_text, accept_item_text, message_words};
-ghost use Rattle.net_script.specs.Messages.{FitsReport, FitsReportItem, FitsAcceptItem, IsForm, FitsReported, reported_words};
+ghost use Rattle.net_script.specs.Messages.{vote_text, accepted_text, report_text, report_item_text, accept_item_text};
+ghost use Rattle.net_script.specs.Messages.{FitsReport, FitsReportItem, FitsAcceptItem, FitsReported, reported_words, FitsSaid, said_words};
 ghost use Rattle.net_script.specs.MessageLaws.{a_vote, a_report_item, an_accept_item, a_report};
 
 use crate::nodes::{Acceptor, Manager};
-use crate::numbers;
 use crate::stop::Stop;
 use crate::word::{Word, Words, is_word};
 use crate::words::{manager_word, next_word, split_once};
+use protocol::Boxed;
 use std::alloc::Global;
-use wire::{InstanceAccept, InstanceReport, Kind};
-use xid::{Ballot, ManagerNumber, Tx, Vote};
+use wire::{InstanceAccept, InstanceReport, Items};
+use xid::{Ballot, ManagerNumber, Vote, text as names};
 
 impl Word for Vote {
     ghost fits = { λ vote. Unit {0} };
@@ -44,7 +44,7 @@ fn accepted_of(alloc: Global, text: &[u8]) -> Result<(Ballot, Vote), Stop>
     let Some((digits, word)) = split_once(text, b':') else {
         return Err(Stop::Wrong);
     };
-    let Some(ballot) = numbers::number(digits) else {
+    let Some(ballot) = names::number(digits) else {
         return Err(Stop::Wrong);
     };
     let vote = Vote::read(alloc, word)?;
@@ -68,13 +68,8 @@ fn item_of(word: &[u8]) -> Option<(u8, &[u8])>
         ((n : ℕ) (item : List ℕ) → n < 256 → word.now ≢ node_text (R n) ++ 58 ∷ item)
         (λ found. (found.0 < 256) × (word.now ≡ node_text (R found.0) ++ 58 ∷ found.1.now)) }
 {
-    let Some((node, text)) = split_once(word, b':') else {
-        return None;
-    };
-    let Some(rm) = manager_word(node) else {
-        return None;
-    };
-    Some((rm, text))
+    let (node, text) = split_once(word, b':')?;
+    Some((manager_word(node)?, text))
 }
 
 impl Word for InstanceReport {
@@ -155,28 +150,69 @@ impl Words for Reported {
     }
 }
 
-/// The message of this name about this transaction, by the words after it; it may be one of no bundle that is one.
+/// What a message says beside its transaction, each as the kind of its name. What is large stands in a block of its own.
+#[derive(Drop)]
+pub enum Said {
+    Prepare,
+    P1a {
+        instance: ManagerNumber,
+        ballot: Ballot,
+    },
+    P1b {
+        instance: ManagerNumber,
+        ballot: Ballot,
+        report: Option<(Ballot, Vote)>,
+        acceptor: u8,
+    },
+    P2a {
+        instance: ManagerNumber,
+        ballot: Ballot,
+        vote: Vote,
+    },
+    P2b {
+        instance: ManagerNumber,
+        ballot: Ballot,
+        vote: Vote,
+        acceptor: u8,
+    },
+    Commit,
+    Abort,
+    Ask {
+        rm: ManagerNumber,
+    },
+    B1a {
+        ballot: Ballot,
+    },
+    B1b {
+        ballot: Ballot,
+        acceptor: u8,
+        reports: Boxed<Items<InstanceReport>>,
+    },
+    B2b {
+        acceptor: u8,
+        accepts: Boxed<Items<InstanceAccept>>,
+    },
+}
+
+/// What a message of this name says, by the words after its transaction; it may be one of no transaction.
 #[inline(never)]
-pub(crate) fn read_kind(alloc: Global, name: &[u8], tx: &Tx, args: &[u8]) -> Result<Kind, Stop>
-    requires { IsTx tx.now }
-    ensures { Finds false IsForm message_words (name.now ∷ tx_text tx.now ∷ words args.now) result }
+pub(crate) fn read_said(alloc: Global, name: &[u8], args: &[u8]) -> Result<Said, Stop>
+    ensures { Finds true FitsSaid said_words (name.now ∷ words args.now) result }
 {
     if is_word(name, b"prepare") {
         let () = Words::read(alloc, args)?;
-        return Ok(Kind::Prepare(*tx));
+        return Ok(Said::Prepare);
     }
     if is_word(name, b"p1a") {
         let (Manager(rm), (ballot, ())) = Words::read(alloc, args)?;
-        return Ok(Kind::P1a {
-            tx: *tx,
+        return Ok(Said::P1a {
             instance: ManagerNumber::from(rm),
             ballot,
         });
     }
     if is_word(name, b"p1b") {
         let (Manager(rm), (ballot, Reported { report, acceptor })) = Words::read(alloc, args)?;
-        return Ok(Kind::P1b {
-            tx: *tx,
+        return Ok(Said::P1b {
             instance: ManagerNumber::from(rm),
             ballot,
             report,
@@ -185,8 +221,7 @@ pub(crate) fn read_kind(alloc: Global, name: &[u8], tx: &Tx, args: &[u8]) -> Res
     }
     if is_word(name, b"p2a") {
         let (Manager(rm), (ballot, (vote, ()))) = Words::read(alloc, args)?;
-        return Ok(Kind::P2a {
-            tx: *tx,
+        return Ok(Said::P2a {
             instance: ManagerNumber::from(rm),
             ballot,
             vote,
@@ -194,8 +229,7 @@ pub(crate) fn read_kind(alloc: Global, name: &[u8], tx: &Tx, args: &[u8]) -> Res
     }
     if is_word(name, b"p2b") {
         let (Manager(rm), (ballot, (vote, (Acceptor(acceptor), ())))) = Words::read(alloc, args)?;
-        return Ok(Kind::P2b {
-            tx: *tx,
+        return Ok(Said::P2b {
             instance: ManagerNumber::from(rm),
             ballot,
             vote,
@@ -204,27 +238,28 @@ pub(crate) fn read_kind(alloc: Global, name: &[u8], tx: &Tx, args: &[u8]) -> Res
     }
     if is_word(name, b"commit") {
         let () = Words::read(alloc, args)?;
-        return Ok(Kind::Commit(*tx));
+        return Ok(Said::Commit);
     }
     if is_word(name, b"abort") {
         let () = Words::read(alloc, args)?;
-        return Ok(Kind::Abort(*tx));
+        return Ok(Said::Abort);
     }
     if is_word(name, b"ask") {
         let (Manager(rm), ()) = Words::read(alloc, args)?;
-        return Ok(Kind::Ask {
-            tx: *tx,
+        return Ok(Said::Ask {
             rm: ManagerNumber::from(rm),
         });
     }
     if is_word(name, b"b1a") {
         let (ballot, ()) = Words::read(alloc, args)?;
-        return Ok(Kind::B1a { tx: *tx, ballot });
+        return Ok(Said::B1a { ballot });
     }
     if is_word(name, b"b1b") {
         let (ballot, (Acceptor(acceptor), reports)) = Words::read(alloc, args)?;
-        return Ok(Kind::B1b {
-            tx: *tx,
+        let Ok(reports) = Boxed::new(alloc, reports) else {
+            return Err(Stop::Memory);
+        };
+        return Ok(Said::B1b {
             ballot,
             acceptor,
             reports,
@@ -232,11 +267,10 @@ pub(crate) fn read_kind(alloc: Global, name: &[u8], tx: &Tx, args: &[u8]) -> Res
     }
     if is_word(name, b"b2b") {
         let (Acceptor(acceptor), accepts) = Words::read(alloc, args)?;
-        return Ok(Kind::B2b {
-            tx: *tx,
-            acceptor,
-            accepts,
-        });
+        let Ok(accepts) = Boxed::new(alloc, accepts) else {
+            return Err(Stop::Memory);
+        };
+        return Ok(Said::B2b { acceptor, accepts });
     }
     Err(Stop::Wrong)
 }

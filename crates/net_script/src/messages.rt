@@ -1,17 +1,17 @@
 //! Messages, as a trace prints them.
 
-ghost use Rattle.std.specs.Prelude.{◌≡◌, ◌++◌, ◌∷◌, map, IfErr, OnOk};
-ghost use Rattle.net_script.specs.Basics.{NoMemory};
+ghost use Rattle.std.specs.Prelude.{◌≡◌, ◌∷◌, map};
 ghost use Rattle.net_script.specs.Messages.{vote_text, report_words, ballot_words, message_word, message_args, message_words};
 ghost use Rattle.net_script.specs.Messages.{accepted_text, report_item_text, accept_item_text};
 ghost use Rattle.net_script.specs.Traces.{spaced_words};
+ghost use Rattle.net_script.specs.Writing.{Puts};
 
-use crate::pieces::{put_manager, put_node, put_number, put_tx, put_word};
-use itoa::Buffer;
+use crate::known::{KnownTx, put_known};
+use crate::pieces::{put_manager, put_node, put_number, put_word};
 use protocol::NodeId;
 use std::alloc::Global;
 use wire::{InstanceAccept, InstanceReport, Kind};
-use xid::{Ballot, ManagerNumber, Refusal, Vote};
+use xid::{Ballot, ManagerNumber, Refusal, Vote, text};
 
 /// The word of a vote.
 fn vote_word(vote: Vote) -> &'static [u8]
@@ -25,82 +25,55 @@ fn vote_word(vote: Vote) -> &'static [u8]
 
 /// A report of phase 1b.
 fn put_report(out: &mut Vec<u8>, report: Option<(Ballot, Vote)>) -> Result<(), Refusal>
-    ensures ok { OnOk result (out.new.items ≡ out.old.items ++ spaced_words (report_words report)) }
-    ensures err { IfErr result (λ e. e ≡ NoMemory) }
+    ensures { Puts out.old.items out.new.items result (spaced_words (report_words report)) }
 {
     let Some((ballot, vote)) = report else {
         return put_word(out, b"none");
     };
     put_number(out, ballot)?;
-    put_word(out, vote_word(vote))?;
-    Ok(())
+    put_word(out, vote_word(vote))
 }
 
 /// An instance and a ballot.
 fn put_ballot(out: &mut Vec<u8>, rm: ManagerNumber, ballot: Ballot) -> Result<(), Refusal>
-    ensures ok { OnOk result (out.new.items ≡ out.old.items ++ spaced_words (ballot_words rm ballot)) }
-    ensures err { IfErr result (λ e. e ≡ NoMemory) }
+    ensures { Puts out.old.items out.new.items result (spaced_words (ballot_words rm ballot)) }
 {
-    put_manager(out, usize::from(rm))?;
-    put_number(out, ballot)?;
-    Ok(())
+    put_manager(out, u32::from(rm))?;
+    put_number(out, ballot)
 }
 
 /// A colon, and the ballot and the vote of an item.
 fn put_accepted(out: &mut Vec<u8>, ballot: Ballot, vote: Vote) -> Result<(), Refusal>
-    ensures ok { OnOk result (out.new.items ≡ out.old.items ++ 58 ∷ accepted_text ballot vote) }
-    ensures err { IfErr result (λ e. e ≡ NoMemory) }
+    ensures { Puts out.old.items out.new.items result (58 ∷ accepted_text ballot vote) }
 {
-    let mut digits = Buffer::new();
     out.push(b':')?;
-    out.extend_from_slice(digits.format(ballot).as_bytes())?;
+    text::put_number(ballot, out)?;
     out.push(b':')?;
     out.extend_from_slice(vote_word(vote))?;
     Ok(())
 }
 
-/// An item of phase 1b.
-fn put_report_item(out: &mut Vec<u8>, item: &InstanceReport) -> Result<(), Refusal>
-    ensures ok { OnOk result (out.new.items ≡ out.old.items ++ 32 ∷ report_item_text item.now) }
-    ensures err { IfErr result (λ e. e ≡ NoMemory) }
-{
-    put_manager(out, usize::from(item.instance))?;
-    let Some((ballot, vote)) = item.report else {
-        out.extend_from_slice(b":none")?;
-        return Ok(());
-    };
-    put_accepted(out, ballot, vote)?;
-    Ok(())
-}
-
 /// The items of phase 1b.
 fn put_reports(out: &mut Vec<u8>, reports: &[InstanceReport]) -> Result<(), Refusal>
-    ensures ok { OnOk result (out.new.items ≡ out.old.items ++ spaced_words (map report_item_text reports.now)) }
-    ensures err { IfErr result (λ e. e ≡ NoMemory) }
+    ensures { Puts out.old.items out.new.items result (spaced_words (map report_item_text reports.now)) }
 {
     for item in reports {
-        put_report_item(out, item)?;
+        put_manager(out, u32::from(item.instance))?;
+        match item.report {
+            None => out.extend_from_slice(b":none")?,
+            Some((ballot, vote)) => put_accepted(out, ballot, vote)?,
+        }
     }
-    Ok(())
-}
-
-/// An item of phase 2b.
-fn put_accept_item(out: &mut Vec<u8>, item: &InstanceAccept) -> Result<(), Refusal>
-    ensures ok { OnOk result (out.new.items ≡ out.old.items ++ 32 ∷ accept_item_text item.now) }
-    ensures err { IfErr result (λ e. e ≡ NoMemory) }
-{
-    put_manager(out, usize::from(item.instance))?;
-    put_accepted(out, item.ballot, item.vote)?;
     Ok(())
 }
 
 /// The items of phase 2b.
 fn put_accepts(out: &mut Vec<u8>, accepts: &[InstanceAccept]) -> Result<(), Refusal>
-    ensures ok { OnOk result (out.new.items ≡ out.old.items ++ spaced_words (map accept_item_text accepts.now)) }
-    ensures err { IfErr result (λ e. e ≡ NoMemory) }
+    ensures { Puts out.old.items out.new.items result (spaced_words (map accept_item_text accepts.now)) }
 {
     for item in accepts {
-        put_accept_item(out, item)?;
+        put_manager(out, u32::from(item.instance))?;
+        put_accepted(out, item.ballot, item.vote)?;
     }
     Ok(())
 }
@@ -126,16 +99,15 @@ fn kind_word(kind: &Kind) -> &'static [u8]
 
 /// The words of a message after its transaction.
 fn put_kind_args(out: &mut Vec<u8>, kind: &Kind) -> Result<(), Refusal>
-    ensures ok { OnOk result (out.new.items ≡ out.old.items ++ spaced_words (message_args kind.now)) }
-    ensures err { IfErr result (λ e. e ≡ NoMemory) }
+    ensures { Puts out.old.items out.new.items result (spaced_words (message_args kind.now)) }
 {
     match kind {
-        Kind::Prepare(_) | Kind::Commit(_) | Kind::Abort(_) => {}
+        Kind::Prepare(_) | Kind::Commit(_) | Kind::Abort(_) => Ok(()),
         Kind::P1a {
             instance,
             ballot,
             ..
-        } => put_ballot(out, *instance, *ballot)?,
+        } => put_ballot(out, *instance, *ballot),
         Kind::P1b {
             instance,
             ballot,
@@ -145,7 +117,7 @@ fn put_kind_args(out: &mut Vec<u8>, kind: &Kind) -> Result<(), Refusal>
         } => {
             put_ballot(out, *instance, *ballot)?;
             put_report(out, *report)?;
-            put_node(out, NodeId::A(*acceptor))?;
+            put_node(out, NodeId::A(*acceptor))
         }
         Kind::P2a {
             instance,
@@ -154,7 +126,7 @@ fn put_kind_args(out: &mut Vec<u8>, kind: &Kind) -> Result<(), Refusal>
             ..
         } => {
             put_ballot(out, *instance, *ballot)?;
-            put_word(out, vote_word(*vote))?;
+            put_word(out, vote_word(*vote))
         }
         Kind::P2b {
             instance,
@@ -165,10 +137,10 @@ fn put_kind_args(out: &mut Vec<u8>, kind: &Kind) -> Result<(), Refusal>
         } => {
             put_ballot(out, *instance, *ballot)?;
             put_word(out, vote_word(*vote))?;
-            put_node(out, NodeId::A(*acceptor))?;
+            put_node(out, NodeId::A(*acceptor))
         }
-        Kind::Ask { rm, .. } => put_manager(out, usize::from(*rm))?,
-        Kind::B1a { ballot, .. } => put_number(out, *ballot)?,
+        Kind::Ask { rm, .. } => put_manager(out, u32::from(*rm)),
+        Kind::B1a { ballot, .. } => put_number(out, *ballot),
         Kind::B1b {
             ballot,
             acceptor,
@@ -177,7 +149,7 @@ fn put_kind_args(out: &mut Vec<u8>, kind: &Kind) -> Result<(), Refusal>
         } => {
             put_number(out, *ballot)?;
             put_node(out, NodeId::A(*acceptor))?;
-            put_reports(out, reports.as_slice())?;
+            put_reports(out, reports.as_slice())
         }
         Kind::B2b {
             acceptor,
@@ -185,19 +157,21 @@ fn put_kind_args(out: &mut Vec<u8>, kind: &Kind) -> Result<(), Refusal>
             ..
         } => {
             put_node(out, NodeId::A(*acceptor))?;
-            put_accepts(out, accepts.as_slice())?;
+            put_accepts(out, accepts.as_slice())
         }
     }
-    Ok(())
 }
 
 /// A message.
-pub(crate) fn put_message(alloc: Global, out: &mut Vec<u8>, kind: &Kind) -> Result<(), Refusal>
-    ensures ok { OnOk result (out.new.items ≡ out.old.items ++ spaced_words (message_words kind.now)) }
-    ensures err { IfErr result (λ e. e ≡ NoMemory) }
+pub(crate) fn put_message(
+    alloc: Global,
+    out: &mut Vec<u8>,
+    known: &mut Option<KnownTx>,
+    kind: &Kind,
+) -> Result<(), Refusal>
+    ensures { Puts out.old.items out.new.items result (spaced_words (message_words kind.now)) }
 {
     put_word(out, kind_word(kind))?;
-    put_tx(alloc, out, kind.tx())?;
-    put_kind_args(out, kind)?;
-    Ok(())
+    put_known(alloc, out, known, kind.tx())?;
+    put_kind_args(out, kind)
 }

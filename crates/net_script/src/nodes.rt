@@ -6,12 +6,12 @@ ghost use Rattle.net_script.specs.Lines.{node_text};
 ghost use Rattle.net_script.specs.Events.{IsNode, IsParty};
 ghost use Rattle.net_script.specs.Laws.{a_number, a_manager, an_acceptor, a_leader, a_node, a_party};
 
-use crate::numbers;
 use crate::stop::Stop;
 use crate::word::Word;
 use crate::words::{lettered_word, manager_word, node_word};
 use protocol::NodeId;
 use std::alloc::Global;
+use xid::text;
 
 impl Word for u32 {
     ghost fits = { λ n. n < 2 ^ 32 };
@@ -23,7 +23,7 @@ impl Word for u32 {
     ghost spelling = { a_number };
 
     fn read(_alloc: Global, word: &[u8]) -> Result<u32, Stop> {
-        numbers::number(word).ok_or(Stop::Wrong)
+        text::number(word).ok_or(Stop::Wrong)
     }
 }
 
@@ -41,10 +41,7 @@ impl Word for Manager {
     ghost spelling = { a_manager };
 
     fn read(_alloc: Global, word: &[u8]) -> Result<Manager, Stop> {
-        let Some(number) = manager_word(word) else {
-            return Err(Stop::Wrong);
-        };
-        Ok(Manager(number))
+        Ok(Manager(manager_word(word).ok_or(Stop::Wrong)?))
     }
 }
 
@@ -62,10 +59,7 @@ impl Word for Acceptor {
     ghost spelling = { an_acceptor };
 
     fn read(_alloc: Global, word: &[u8]) -> Result<Acceptor, Stop> {
-        let Some(number) = lettered_word(word, b'a') else {
-            return Err(Stop::Wrong);
-        };
-        Ok(Acceptor(number))
+        Ok(Acceptor(lettered_word(word, b'a').ok_or(Stop::Wrong)?))
     }
 }
 
@@ -83,10 +77,7 @@ impl Word for Leader {
     ghost spelling = { a_leader };
 
     fn read(_alloc: Global, word: &[u8]) -> Result<Leader, Stop> {
-        let Some(number) = lettered_word(word, b'l') else {
-            return Err(Stop::Wrong);
-        };
-        Ok(Leader(number))
+        Ok(Leader(lettered_word(word, b'l').ok_or(Stop::Wrong)?))
     }
 }
 

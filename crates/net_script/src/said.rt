@@ -1,20 +1,23 @@
 //! What one line of a trace says.
 
-ghost use Rattle.std.specs.Prelude.{◌≡◌, ◌∷◌, true, Ok};
+ghost use Rattle.std.specs.Prelude.{◌≡◌, ◌≢◌, ◌∷◌, true, Ok, codes};
 ghost use Rattle.net_script.specs.Lines.{words, Reads};
 ghost use Rattle.net_script.specs.declared.trace_lines.LineName.{LineName};
-ghost use Rattle.net_script.specs.TraceLines.{IsTraceLine, IsOutcome, is_tidy, line_name_text, trace_line_words, trace_line_text};
+ghost use Rattle.net_script.specs.TraceLines.{IsTraceLine, IsOutcome, is_tidy, line_name_text, trace_line_words};
+ghost use Rattle.net_script.specs.Telling.{HearsText};
 
 use crate::answer_words::read_answer;
-use crate::args::manager;
-use crate::commands::read_event;
+use crate::args::{last_node, manager};
+use crate::commands::event_by;
 use crate::items::read_sizes;
 use crate::known::KnownTx;
-use crate::outcome_words::{read_change, read_final_rows, read_sent};
+use crate::outcome_words::{read_change, read_final_rows};
+use crate::stop::or_none;
 use crate::tables::read_table;
-use crate::trace_lines::{LineName, TraceLine, is_tidy, line_named, served, split_arrow};
+use crate::told::{ToldSent, read_told};
+use crate::trace_lines::{LineName, TraceLine, is_tidy, line_named, split_arrow};
+use crate::word::is_word;
 use crate::words::next_word;
-use protocol::Boxed;
 use std::alloc::Global;
 use xid::Refusal;
 
@@ -29,21 +32,6 @@ fn said_sizes(args: &[u8]) -> Option<TraceLine>
     Some(TraceLine::Cluster(sizes))
 }
 
-/// The datagram of these words.
-#[inline(never)]
-fn said_sent(
-    alloc: Global,
-    known: &mut Option<KnownTx>,
-    args: &[u8],
-) -> Result<Option<TraceLine>, Refusal>
-    ensures { Reads IsTraceLine trace_line_words (line_name_text LineName.Sent ∷ words args.now) result }
-{
-    let Some(sent) = read_sent(alloc, known, args)? else {
-        return Ok(None);
-    };
-    Ok(Some(TraceLine::Datagram(sent)))
-}
-
 /// The changed view of these words.
 #[inline(never)]
 fn said_change(
@@ -53,10 +41,10 @@ fn said_change(
 ) -> Result<Option<TraceLine>, Refusal>
     ensures { Reads IsTraceLine trace_line_words (line_name_text LineName.Now ∷ words args.now) result }
 {
-    let Some(change) = read_change(alloc, known, args) else {
+    let Some(change) = read_change(alloc, known, args)? else {
         return Ok(None);
     };
-    Ok(Some(TraceLine::Changed(Boxed::new(alloc, change)?)))
+    Ok(Some(TraceLine::Changed(change)))
 }
 
 /// The last rows of these words.
@@ -98,7 +86,6 @@ fn said_named(
         LineName::Cluster => Ok(said_sizes(args)),
         LineName::Table => said_table(alloc, args),
         LineName::Now => said_change(alloc, known, args),
-        LineName::Sent => said_sent(alloc, known, args),
         LineName::Final => said_rows(alloc, args),
     }
 }
@@ -115,43 +102,71 @@ fn said_outcome(alloc: Global, line: &[u8]) -> Result<Option<TraceLine>, Refusal
     let Some(answer) = read_answer(alloc, back)? else {
         return Ok(None);
     };
-    if let Some(node) = served(front) {
+    let Some((name, args)) = next_word(front) else {
+        return Ok(None);
+    };
+    if is_word(name, b"serve") {
+        let Some(node) = last_node(args) else {
+            return Ok(None);
+        };
         return Ok(Some(TraceLine::Served(node, answer)));
     }
-    let Some(event) = read_event(alloc, front)? else {
+    let Some(event) = or_none(event_by(alloc, name, args))? else {
         return Ok(None);
     };
     Ok(Some(TraceLine::Happened(event, answer)))
 }
 
-/// What a line of words with one space between them says.
+/// What a line of words with one space between them says, by its first word and those after it; it is no datagram.
 fn said_words(
     alloc: Global,
     known: &mut Option<KnownTx>,
     line: &[u8],
+    word: &[u8],
+    args: &[u8],
 ) -> Result<Option<TraceLine>, Refusal>
-    requires { is_tidy line.now ≡ true }
+    requires tidy { is_tidy line.now ≡ true }
+    requires words { words line.now ≡ word.now ∷ words args.now }
+    requires other { word.now ≢ codes "sent" }
     ensures { Reads IsTraceLine trace_line_words (words line.now) result }
 {
-    let Some((word, args)) = next_word(line) else {
-        return Ok(None);
-    };
     let Some(name) = line_named(word) else {
         return said_outcome(alloc, line);
     };
     said_named(alloc, known, name, args)
 }
 
-/// What a line says, if a line of a trace may be so.
-pub(crate) fn read_said(
+/// What is heard of a line.
+#[derive(Drop)]
+pub enum Heard {
+    /// It says this.
+    Line(TraceLine),
+    /// It tells of a datagram.
+    Datagram(ToldSent),
+}
+
+/// What is heard of a line, if a line of a trace may be so. Refused: `NoMemory` alone.
+pub(crate) fn hear_line(
     alloc: Global,
     known: &mut Option<KnownTx>,
     line: &[u8],
-) -> Result<Option<TraceLine>, Refusal>
-    ensures { Reads IsTraceLine trace_line_text line.now result }
+) -> Result<Option<Heard>, Refusal>
+    ensures { HearsText known.new line.now result }
 {
     if !is_tidy(line) {
         return Ok(None);
     }
-    said_words(alloc, known, line)
+    let Some((word, args)) = next_word(line) else {
+        return Ok(None);
+    };
+    if is_word(word, b"sent") {
+        let Some(told) = read_told(alloc, known, args)? else {
+            return Ok(None);
+        };
+        return Ok(Some(Heard::Datagram(told)));
+    }
+    let Some(said) = said_words(alloc, known, line, word, args)? else {
+        return Ok(None);
+    };
+    Ok(Some(Heard::Line(said)))
 }

@@ -1,10 +1,9 @@
 //! Whole scripts, line by line.
 
-ghost use Rattle.std.specs.Prelude.{◌≡◌, ◌≢◌, ℕ, ◌<◌, [], ◌∷◌, ◌++◌, ◌↔◌, ◌≤◌, List, length, IsTrue, IfOk, IfErr, MatchResult, MatchOption};
-ghost use Rattle.std.specs.List.{All, list_all};
+ghost use Rattle.std.specs.Prelude.{◌≡◌, not, ◌==◌, ℕ, [], ◌∷◌, ◌++◌, ◌≤◌, List, length, IfOk, IfErr, MatchResult, MatchOption};
+ghost use Rattle.std.specs.List.{list_all};
 ghost use Rattle.std.specs.Option.{ForSome};
-ghost use Rattle.net_script.specs.Basics.{NoMemory};
-ghost use Rattle.net_script.specs.declared.values.Script.{Script};
+ghost use Rattle.net_script.specs.Basics.{NoMemory, Script};
 ghost use Rattle.net_script.specs.declared.items.Item.TheVariants.{Contents, Then};
 ghost use Rattle.net_script.specs.Lines.{Reads, lines, words, is_plain};
 ghost use Rattle.net_script.specs.Items.{IsItem, IsContents, IsCommand};
@@ -12,8 +11,9 @@ ghost use Rattle.net_script.specs.Scripts.{is_note, lines_kept, script_items, it
 ghost use Rattle.net_script.specs.Scripts.{Refuses, IsFirstFault};
 
 use crate::items::{Item, read_item};
+use crate::trace_drafts::push;
 use crate::values::{Command, Script, Table};
-use crate::words::{next_piece, next_word};
+use crate::words::next_piece;
 use std::alloc::Global;
 use xid::{Refusal, Sequence};
 
@@ -21,25 +21,29 @@ use xid::{Refusal, Sequence};
 fn is_passed_over(line: &[u8]) -> bool
     ensures { result ≡ is_note (words line.now) }
 {
-    let Some((word, _rest)) = next_word(line) else {
-        return true;
-    };
-    let [first, ..] = word else {
-        return false;
-    };
-    *first == b'#'
+    for byte in line {
+        if *byte != b' ' {
+            return *byte == b'#';
+        }
+    }
+    true
 }
 
 /// Whether each byte is printed ASCII.
 fn has_plain_bytes(line: &[u8]) -> bool
     ensures { result ≡ list_all is_plain line.now }
 {
-    line.iter().all(|byte| 32 <= *byte && *byte <= 126)
+    for byte in line {
+        if *byte < 32 || *byte > 126 {
+            return false;
+        }
+    }
+    true
 }
 
 /// Whether no table is this resource manager's.
 fn is_free(tables: &[Table], rm: u8) -> bool
-    ensures { IsTrue result ↔ All (λ table. table.rm ≢ rm) tables.now }
+    ensures { result ≡ list_all (λ table. not (table.rm == rm)) tables.now }
 {
     for table in tables {
         if table.rm == rm {
@@ -50,54 +54,22 @@ fn is_free(tables: &[Table], rm: u8) -> bool
 }
 
 /// The script with one more table, if it may stand there.
-fn with_table(script: Script, table: Table) -> Result<Option<Script>, Refusal>
+fn with_table(alloc: Global, mut script: Script, table: Table) -> Result<Option<Script>, Refusal>
     requires valid { IsScript script }
     requires range { IsContents table }
     ensures { Reads IsScript script_items (script_items script ++ Contents table ∷ []) result }
 {
-    let Script {
-        sizes,
-        tables,
-        commands,
-    } = script;
-    if !commands.as_slice().is_empty() {
+    if !script.commands.as_slice().is_empty() {
         return Ok(None);
     }
-    if u32::from(table.rm) >= sizes.rms {
+    if u32::from(table.rm) >= script.sizes.rms {
         return Ok(None);
     }
-    if !is_free(tables.as_slice(), table.rm) {
+    if !is_free(script.tables.as_slice(), table.rm) {
         return Ok(None);
     }
-    let mut tables = tables.into_vec();
-    tables.push(table)?;
-    Ok(Some(Script {
-        sizes,
-        tables: Sequence::new(tables),
-        commands,
-    }))
-}
-
-/// The script with one more command.
-fn with_command(script: Script, command: Command) -> Result<Script, Refusal>
-    requires valid { IsScript script }
-    requires range { IsCommand command }
-    ensures { MatchResult result
-        (λ s. IsScript s × (script_items s ≡ script_items script ++ Then command ∷ []))
-        (λ e. e ≡ NoMemory) }
-{
-    let Script {
-        sizes,
-        tables,
-        commands,
-    } = script;
-    let mut commands = commands.into_vec();
-    commands.push(command)?;
-    Ok(Script {
-        sizes,
-        tables,
-        commands: Sequence::new(commands),
-    })
+    push(alloc, &mut script.tables, table)?;
+    Ok(Some(script))
 }
 
 /// The script so far with one more item, if it may follow.
@@ -106,7 +78,7 @@ fn with_item(alloc: Global, script: Option<Script>, item: Item) -> Result<Option
     requires range { IsItem item }
     ensures { Reads IsScript script_items (items_so_far script ++ item ∷ []) result }
 {
-    let Some(script) = script else {
+    let Some(mut script) = script else {
         let Item::Cluster(sizes) = item else {
             return Ok(None);
         };
@@ -118,8 +90,11 @@ fn with_item(alloc: Global, script: Option<Script>, item: Item) -> Result<Option
     };
     match item {
         Item::Cluster(_) => Ok(None),
-        Item::Contents(table) => with_table(script, table),
-        Item::Then(command) => Ok(Some(with_command(script, command)?)),
+        Item::Contents(table) => with_table(alloc, script, table),
+        Item::Then(command) => {
+            push(alloc, &mut script.commands, command)?;
+            Ok(Some(script))
+        }
     }
 }
 

@@ -1,14 +1,18 @@
 //! What of the lines read so far says which lines of a trace may follow.
 
-ghost use Rattle.std.specs.Prelude.{◌≡◌, true, not, ◌==◌, [], ◌∷◌, ◌++◌, is_some, IfOk, IfErr, OnOk};
+ghost use Rattle.std.specs.Prelude.{◌≡◌, true, not, ◌==◌, Option, is_some, IfOk, IfErr, OnOk};
 ghost use Rattle.std.specs.List.{list_all};
-ghost use Rattle.net_script.specs.Basics.{NoMemory};
-ghost use Rattle.net_script.specs.TraceReaders.{opened_so_far, takes_table, may_follow, after_line, follow};
+ghost use Rattle.net_script.specs.Basics.{NoMemory, TxParts, Sent};
+ghost use Rattle.net_script.specs.declared.trace_lines.TraceLine.{TraceLine};
+ghost use Rattle.net_script.specs.declared.trace_lines.TraceLine.TheVariants.{Datagram};
+ghost use Rattle.net_script.specs.Telling.{IsHeard};
+ghost use Rattle.net_script.specs.TraceReaders.{takes_table, may_follow, after_line, follow};
 
+use crate::said::Heard;
+use crate::trace_drafts::push;
 use crate::trace_lines::TraceLine;
 use crate::values::Sizes;
 use std::alloc::Global;
-use std::mem;
 use xid::{Refusal, Sequence};
 
 /// How much was told of the last thing that happened.
@@ -36,23 +40,11 @@ pub struct SoFar {
 }
 
 impl SoFar {
-    /// The cluster alone.
-    fn opened(alloc: Global, sizes: Sizes) -> SoFar
-        ensures { result ≡ opened_so_far sizes }
-    {
-        SoFar {
-            sizes,
-            managers: Sequence::new(Vec::new(alloc)),
-            last: LastEntry::Missing,
-            finals: 0,
-        }
-    }
-
     /// Whether no first table is this resource manager's.
     fn is_other(&self, rm: u8) -> bool
         ensures { result ≡ list_all (λ other. not (other == rm)) self.now.managers }
     {
-        self.managers.as_slice().iter().all(|other| *other != rm)
+        !self.managers.as_slice().contains(&rm)
     }
 
     /// Whether a first table of this resource manager may follow.
@@ -81,17 +73,6 @@ impl SoFar {
         }
     }
 
-    /// One resource manager more has a first table.
-    fn add_manager(&mut self, alloc: Global, rm: u8) -> Result<(), Refusal>
-        ensures ok { OnOk result (self.new ≡ record self.old { managers = self.old.managers ++ rm ∷ [] }) }
-        ensures err { IfErr result (λ e. e ≡ NoMemory) }
-    {
-        let mut all = mem::replace(&mut self.managers, Sequence::new(Vec::new(alloc))).into_vec();
-        all.push(rm)?;
-        self.managers = Sequence::new(all);
-        Ok(())
-    }
-
     /// Adds a line that may follow.
     fn add(&mut self, alloc: Global, said: &TraceLine) -> Result<(), Refusal>
         ensures ok { OnOk result (self.new ≡ after_line self.old said.now) }
@@ -99,7 +80,7 @@ impl SoFar {
     {
         match said {
             TraceLine::Cluster(_) => (),
-            TraceLine::Contents(table) => self.add_manager(alloc, table.rm)?,
+            TraceLine::Contents(table) => push(alloc, &mut self.managers, table.rm)?,
             TraceLine::Happened(..) | TraceLine::Served(..) => self.last = LastEntry::Bare,
             TraceLine::Changed(_) | TraceLine::Datagram(_) => self.last = LastEntry::Full,
             TraceLine::Final(rm, _) => self.finals = usize::from(*rm) + 1,
@@ -109,11 +90,7 @@ impl SoFar {
 }
 
 /// Whether a line may follow what was read so far, and if so adds it. Refused: `NoMemory` alone.
-pub(crate) fn follow(
-    alloc: Global,
-    so_far: &mut Option<SoFar>,
-    said: &TraceLine,
-) -> Result<bool, Refusal>
+fn follow(alloc: Global, so_far: &mut Option<SoFar>, said: &TraceLine) -> Result<bool, Refusal>
     ensures ok { IfOk result (λ yes. (yes ≡ is_some (follow so_far.old said.now))
         × (yes ≡ true → so_far.new ≡ follow so_far.old said.now)) }
     ensures err { IfErr result (λ e. e ≡ NoMemory) }
@@ -122,7 +99,12 @@ pub(crate) fn follow(
         let TraceLine::Cluster(sizes) = said else {
             return Ok(false);
         };
-        *so_far = Some(SoFar::opened(alloc, *sizes));
+        *so_far = Some(SoFar {
+            sizes: *sizes,
+            managers: Sequence::new(Vec::new(alloc)),
+            last: LastEntry::Missing,
+            finals: 0,
+        });
         return Ok(true);
     };
     if !begun.may_follow(said) {
@@ -130,4 +112,35 @@ pub(crate) fn follow(
     }
     begun.add(alloc, said)?;
     Ok(true)
+}
+
+/// Whether a datagram may follow what was read so far, and if so adds it.
+fn follow_datagram(so_far: &mut Option<SoFar>) -> bool
+    ensures { (sent : Sent) → (result ≡ is_some (follow so_far.old (Datagram sent)))
+        × (result ≡ true → so_far.new ≡ follow so_far.old (Datagram sent)) }
+{
+    let Some(begun) = so_far else {
+        return false;
+    };
+    if begun.finals > 0 || matches!(begun.last, LastEntry::Missing) {
+        return false;
+    }
+    begun.last = LastEntry::Full;
+    true
+}
+
+/// Whether what is heard of a line may follow what was read so far, and if so adds it. Refused: `NoMemory` alone.
+pub(crate) fn follow_heard(
+    alloc: Global,
+    so_far: &mut Option<SoFar>,
+    heard: &Heard,
+) -> Result<bool, Refusal>
+    ensures ok { IfOk result (λ yes. (known : Option TxParts) (said : TraceLine) → IsHeard known heard.now said
+        → (yes ≡ is_some (follow so_far.old said)) × (yes ≡ true → so_far.new ≡ follow so_far.old said)) }
+    ensures err { IfErr result (λ e. e ≡ NoMemory) }
+{
+    match heard {
+        Heard::Line(said) => follow(alloc, so_far, said),
+        Heard::Datagram(_) => Ok(follow_datagram(so_far)),
+    }
 }

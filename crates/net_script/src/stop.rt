@@ -1,7 +1,7 @@
 //! Why a text is not read.
 
 ghost use Rattle.std.specs.Prelude.{◌≡◌};
-ghost use Rattle.net_script.specs.declared.stop.Stop.TheVariants.{Memory};
+ghost use Rattle.net_script.specs.Basics.{Memory};
 ghost use Rattle.net_script.specs.Spelling.{or_none};
 
 use std::alloc::{AllocError, AllocFailed};

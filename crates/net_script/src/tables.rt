@@ -3,7 +3,6 @@
 ghost use Rattle.std.specs.Prelude.{◌≢◌, ◌↔◌, IsTrue, true};
 ghost use Rattle.std.specs.List.{All, AllPairs};
 ghost use Rattle.net_script.specs.Lines.{Reads, words, row_text};
-ghost use Rattle.net_script.specs.Spelling.{Finds};
 ghost use Rattle.net_script.specs.Items.{IsRow, IsContents, contents_words};
 ghost use Rattle.net_script.specs.RowLaws.{a_row};
 
@@ -58,24 +57,12 @@ fn is_new(rows: &[Row], key: &[u8]) -> bool
 fn are_distinct(rows: &[Row]) -> bool
     ensures { IsTrue result ↔ AllPairs (λ a b. a.key ≢ b.key) rows.now }
 {
-    let [first, rest @ ..] = rows else {
-        return true;
-    };
-    if !is_new(rest, first.key.as_slice()) {
-        return false;
+    for (at, row) in rows.iter().enumerate() {
+        if !is_new(&rows[..at], row.key.as_slice()) {
+            return false;
+        }
     }
-    are_distinct(rest)
-}
-
-/// The first table of these words.
-fn table_by(alloc: Global, args: &[u8]) -> Result<Table, Stop>
-    ensures { Finds true IsContents contents_words (words args.now) result }
-{
-    let (Manager(rm), rows): (Manager, Sequence<Row>) = Words::read(alloc, args)?;
-    if !are_distinct(rows.as_slice()) {
-        return Err(Stop::Wrong);
-    }
-    Ok(Table { rm, rows })
+    true
 }
 
 /// The first table of these words, if they are one.
@@ -83,5 +70,11 @@ fn table_by(alloc: Global, args: &[u8]) -> Result<Table, Stop>
 pub(crate) fn read_table(alloc: Global, args: &[u8]) -> Result<Option<Table>, Refusal>
     ensures { Reads IsContents contents_words (words args.now) result }
 {
-    or_none(table_by(alloc, args))
+    let Some((Manager(rm), rows)) = or_none(<(Manager, Sequence<Row>)>::read(alloc, args))? else {
+        return Ok(None);
+    };
+    if !are_distinct(rows.as_slice()) {
+        return Ok(None);
+    }
+    Ok(Some(Table { rm, rows }))
 }

@@ -12,7 +12,7 @@ use std::mem;
 use xid::{Refusal, Sequence};
 
 /// Puts one more at the end. Refused: `NoMemory` alone.
-fn push<T: Drop>(alloc: Global, all: &mut Sequence<T>, one: T) -> Result<(), Refusal>
+pub(crate) fn push<T: Drop>(alloc: Global, all: &mut Sequence<T>, one: T) -> Result<(), Refusal>
     ensures ok { OnOk result (all.new ≡ all.old ++ one ∷ []) }
     ensures err { IfErr result (λ e. e ≡ NoMemory) }
 {
@@ -115,24 +115,16 @@ pub(crate) fn with_line(
     ensures { MatchResult result (λ t. Some t ≡ begun_with trace said) (λ e. e ≡ NoMemory) }
 {
     let Some(mut trace) = trace else {
-        return Ok(opened(alloc, said));
+        let TraceLine::Cluster(sizes) = said else {
+            unreachable!();
+        };
+        return Ok(Trace {
+            sizes,
+            tables: Sequence::new(Vec::new(alloc)),
+            entries: Sequence::new(Vec::new(alloc)),
+            finals: Sequence::new(Vec::new(alloc)),
+        });
     };
     grow(alloc, &mut trace, said)?;
     Ok(trace)
-}
-
-/// The trace of which this is the first line, which may be that.
-fn opened(alloc: Global, said: TraceLine) -> Trace
-    requires { is_some (begun_with None said) ≡ true }
-    ensures { Some result ≡ begun_with None said }
-{
-    let TraceLine::Cluster(sizes) = said else {
-        unreachable!();
-    };
-    Trace {
-        sizes,
-        tables: Sequence::new(Vec::new(alloc)),
-        entries: Sequence::new(Vec::new(alloc)),
-        finals: Sequence::new(Vec::new(alloc)),
-    }
 }

@@ -2,16 +2,11 @@
 
 ghost use Rattle.std.specs.Prelude.{◌≡◌, ◌≢◌, ◌++◌, List, ℕ, true, MatchOption, codes};
 ghost use Rattle.xid.specs.Text.{lacks};
-ghost use Rattle.net_script.specs.Basics.{NodeId};
 ghost use Rattle.net_script.specs.declared.trace_lines.LineName.{LineName};
-ghost use Rattle.net_script.specs.Lines.{words};
-ghost use Rattle.net_script.specs.Events.{IsNode};
-ghost use Rattle.net_script.specs.Traces.{serve_words};
 ghost use Rattle.net_script.specs.TraceLines.{is_tidy, line_name_text};
 
-use crate::args::last_node;
 use crate::values::{Sizes, Table};
-use crate::words::{next_word, split_once};
+use crate::words::split_once;
 use protocol::{Answer, Boxed, Change, Event, NodeId, Row, Sent};
 use xid::Sequence;
 
@@ -34,7 +29,7 @@ pub enum TraceLine {
     Final(u8, Sequence<Row>),
 }
 
-/// The first word of a line that tells of no event and no serve.
+/// The first word of a line that tells of no event, no serve and no datagram.
 #[derive(Clone, Copy, Debug)]
 pub enum LineName {
     /// `cluster`
@@ -43,8 +38,6 @@ pub enum LineName {
     Table,
     /// `now`
     Now,
-    /// `sent`
-    Sent,
     /// `final`
     Final,
 }
@@ -53,9 +46,6 @@ pub enum LineName {
 pub(crate) fn line_named(word: &[u8]) -> Option<LineName>
     ensures { MatchOption result ((n : LineName) → word.now ≢ line_name_text n) (λ n. word.now ≡ line_name_text n) }
 {
-    if word == b"sent".as_slice() {
-        return Some(LineName::Sent);
-    }
     if word == b"now".as_slice() {
         return Some(LineName::Now);
     }
@@ -75,14 +65,17 @@ pub(crate) fn line_named(word: &[u8]) -> Option<LineName>
 pub(crate) fn is_tidy(line: &[u8]) -> bool
     ensures { result ≡ is_tidy line.now }
 {
-    let mut rest = line;
-    while let Some((word, after)) = split_once(rest, b' ') {
-        if word.is_empty() {
+    let mut spaced = true;
+    for byte in line {
+        if *byte != b' ' {
+            spaced = false;
+        } else if spaced {
             return false;
+        } else {
+            spaced = true;
         }
-        rest = after;
     }
-    !rest.is_empty()
+    !spaced
 }
 
 /// What stands before and after the first arrow.
@@ -101,22 +94,4 @@ pub(crate) fn split_arrow(line: &[u8]) -> Option<(&[u8], &[u8])>
         return None;
     };
     Some((front, back))
-}
-
-/// The node that served, by these words.
-pub(crate) fn served(args: &[u8]) -> Option<NodeId>
-    ensures { MatchOption result
-        ((n : NodeId) → IsNode n → words args.now ≢ serve_words n)
-        (λ n. IsNode n × (words args.now ≡ serve_words n)) }
-{
-    let Some((word, rest)) = next_word(args) else {
-        return None;
-    };
-    if word != b"serve".as_slice() {
-        return None;
-    }
-    let Some(node) = last_node(rest) else {
-        return None;
-    };
-    Some(node)
 }

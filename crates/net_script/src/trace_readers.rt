@@ -1,17 +1,24 @@
 //! A trace's text, read a line at a time.
 
-ghost use Rattle.std.specs.Prelude.{◌≡◌, [], None, Option, MatchResult};
+ghost use Rattle.std.specs.Prelude.{◌≡◌, [], Option, None, Some, IfOk, IfErr, MatchResult};
+ghost use Rattle.std.specs.Option.{ForSome};
+ghost use Rattle.net_script.specs.Basics.{NoMemory, TxParts};
+ghost use Rattle.net_script.specs.declared.said.Heard.TheVariants as heards;
+ghost use Rattle.net_script.specs.declared.trace_lines.TraceLine.TheVariants.{Datagram};
 ghost use Rattle.net_script.specs.declared.values.Trace.{Trace};
 ghost use Rattle.net_script.specs.Items.{is_in_limits};
 ghost use Rattle.net_script.specs.TraceReading.{RefusesTrace};
-ghost use Rattle.net_script.specs.TraceReaders.{HasRead, IsRead, GivesNext};
+ghost use Rattle.net_script.specs.Telling.{sent_of, IsWhole};
+ghost use Rattle.net_script.specs.TraceReaders.{HasRead, IsRead, GivesNext, Hears};
 
 use crate::known::KnownTx;
-use crate::said::read_said;
-use crate::so_far::{SoFar, follow};
+use crate::said::{Heard, hear_line};
+use crate::so_far::{SoFar, follow_heard};
+use crate::told::ToldSent;
 use crate::trace_lines::TraceLine;
 use crate::values::Sizes;
 use crate::words::split_once;
+use protocol::Boxed;
 use std::alloc::Global;
 use std::marker::Model;
 use xid::{MAX_LEADERS, MAX_MANAGERS, Refusal};
@@ -32,7 +39,7 @@ impl<'a> Model for TraceReader<'a> {
 
     ghost Value = { ReaderParts };
 
-    ghost view = { λ r. record { bytes = r.bytes.now; rest = r.rest.now; number = r.number; so_far = r.so_far } };
+    ghost view = { λ r. record { bytes = r.bytes.now; rest = r.rest.now; number = r.number; known = r.known; so_far = r.so_far } };
 
     ghost invariant = { λ r. r.number + length r.rest.now ≤ length r.bytes.now };
 }
@@ -61,10 +68,11 @@ impl<'a> TraceReader<'a> {
         }
     }
 
-    /// The next line, or none where all bytes are read, and are the text of the trace that the lines so far tell. Refused at the same
-    /// places as `read_trace`, and by the same refusals; what is given after a refusal means nothing.
-    pub fn next(&mut self, alloc: Global) -> Result<Option<TraceLine>, Refusal>
-        ensures { (trace : Option Trace) → HasRead self.old trace → GivesNext self.old self.new trace result }
+    /// What is heard of the next line, or none where all bytes are read, and are the text of the trace that the lines so far tell. Refused
+    /// at the same places as `read_trace`, and by the same refusals; what is given after a refusal means nothing.
+    pub fn hear(&mut self, alloc: Global) -> Result<Option<Heard>, Refusal>
+        ensures next { (trace : Option Trace) → HasRead self.old trace → Hears self.old self.new trace result }
+        ensures whole { IfOk result (λ heard. ForSome heard (IsWhole self.new.known)) }
     {
         if self.rest.is_empty() {
             self.end()?;
@@ -74,15 +82,39 @@ impl<'a> TraceReader<'a> {
         let Some((text, after)) = split_once(self.rest, b'\n') else {
             return Err(Refusal::BadScript { line });
         };
-        let Some(said) = read_said(alloc, &mut self.known, text)? else {
+        let Some(heard) = hear_line(alloc, &mut self.known, text)? else {
             return Err(Refusal::BadScript { line });
         };
-        if !follow(alloc, &mut self.so_far, &said)? {
+        if !follow_heard(alloc, &mut self.so_far, &heard)? {
             return Err(Refusal::BadScript { line });
         }
         self.rest = after;
         self.number = line;
-        Ok(Some(said))
+        Ok(Some(heard))
+    }
+
+    /// The next line, as `hear` gives it.
+    pub fn next(&mut self, alloc: Global) -> Result<Option<TraceLine>, Refusal>
+        ensures { (trace : Option Trace) → HasRead self.old trace → GivesNext self.old self.new trace result }
+    {
+        match self.hear(alloc)? {
+            Some(Heard::Line(said)) => Ok(Some(said)),
+            Some(Heard::Datagram(told)) => self.with_tx(alloc, told),
+            None => Ok(None),
+        }
+    }
+
+    /// The line of a datagram, with the transaction that is known. Refused: `NoMemory` alone.
+    fn with_tx(&self, alloc: Global, told: ToldSent) -> Result<Option<TraceLine>, Refusal>
+        requires { IsWhole self.now.known (heards.Datagram told) }
+        ensures ok { IfOk result (λ line. (tx : TxParts) → self.now.known ≡ Some tx → line ≡ Some (Datagram (sent_of tx told))) }
+        ensures err { IfErr result (λ e. e ≡ NoMemory) }
+    {
+        let Some(known) = &self.known else {
+            unreachable!();
+        };
+        let sent = Boxed::new(alloc, told.with_tx(known.tx()))?;
+        Ok(Some(TraceLine::Datagram(sent)))
     }
 
     /// Whether nothing is missing where all bytes are read.

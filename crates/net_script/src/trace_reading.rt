@@ -1,7 +1,7 @@
 //! Whole traces, read line by line.
 
 ghost use Rattle.std.specs.Prelude.{◌≡◌, ℕ, List, IfOk, IfErr};
-ghost use Rattle.net_script.specs.declared.values.Trace.{Trace};
+ghost use Rattle.net_script.specs.Basics.{Trace};
 ghost use Rattle.net_script.specs.Traces.{trace_text};
 ghost use Rattle.net_script.specs.TraceReading.{IsTrace, IsTraceFault, SpellsTrace, RefusesTrace};
 

@@ -76,9 +76,7 @@ impl<W: Word, R: Words> Words for (W, R) {
     ghost spellings = { W.spelling & R.spellings };
 
     fn read(alloc: Global, args: &[u8]) -> Result<(W, R), Stop> {
-        let Some((word, rest)) = next_word(args) else {
-            return Err(Stop::Wrong);
-        };
+        let (word, rest) = next_word(args).ok_or(Stop::Wrong)?;
         let first = W::read(alloc, word)?;
         let others = R::read(alloc, rest)?;
         Ok((first, others))

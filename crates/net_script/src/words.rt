@@ -6,9 +6,9 @@ ghost use Rattle.net_script.specs.Basics.{NodeId, A, L, R};
 ghost use Rattle.net_script.specs.Events.{IsNode};
 ghost use Rattle.net_script.specs.Lines.{IsFirstPiece, IsFirstWord, words, node_text};
 
-use crate::numbers;
 use memchr::memchr;
 use protocol::NodeId;
+use xid::text;
 
 /// The text before the first mark, and the text after it. None where the mark isn't there.
 pub(crate) fn split_once(text: &[u8], mark: u8) -> Option<(&[u8], &[u8])>
@@ -68,7 +68,7 @@ fn lettered_number(word: &[u8], letter: u8) -> Option<u32>
     if *first != letter {
         return None;
     }
-    numbers::number(digits)
+    text::number(digits)
 }
 
 /// The number below 256 behind this letter.

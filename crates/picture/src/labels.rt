@@ -202,12 +202,12 @@ fn put_args(out: &mut Vec<u8>, kind: &Kind) -> Result<(), Refusal>
 }
 
 /// The name of a transaction, where there are several.
-fn put_named(alloc: Global, out: &mut Vec<u8>, several: bool, tx: &Tx) -> Result<(), Refusal>
+fn put_named(out: &mut Vec<u8>, several: bool, tx: &Tx) -> Result<(), Refusal>
     ensures ok { OnOk result (out.new.items ≡ out.old.items ++ named several tx.now) }
     ensures err { IfErr result (λ e. e ≡ NoMemory) }
 {
     if several {
-        put_tx(alloc, out, tx)?;
+        put_tx(out, tx)?;
     }
     Ok(())
 }
@@ -221,7 +221,7 @@ pub(crate) fn sent_label(alloc: Global, several: bool, sent: &Sent) -> Result<By
     let mut label = Vec::new(alloc);
     label.extend_from_slice(kind_word(kind))?;
     put_args(&mut label, kind)?;
-    put_named(alloc, &mut label, several, kind.tx())?;
+    put_named(&mut label, several, kind.tx())?;
     Ok(Sequence::new(label))
 }
 
@@ -232,6 +232,6 @@ pub(crate) fn change_label(alloc: Global, several: bool, change: &Change) -> Res
 {
     let mut label = Vec::new(alloc);
     label.extend_from_slice(view_word(change.view))?;
-    put_named(alloc, &mut label, several, &change.tx)?;
+    put_named(&mut label, several, &change.tx)?;
     Ok(Sequence::new(label))
 }

@@ -37,14 +37,14 @@ fn put_words(out: &mut Vec<u8>, words: &[u8]) -> Result<(), Refusal> {
 /// Puts the line of an answer after what stands in `out`. The only refusal is `NoMemory`.
 pub fn put_reply(alloc: Global, out: &mut Vec<u8>, answer: &Answer) -> Result<(), Refusal> {
     let mut words = Vec::new(alloc);
-    put_answer(alloc, &mut words, answer)?;
+    put_answer(&mut words, answer)?;
     put_words(out, &words)
 }
 
 /// Puts the line of a table's rows: `rows`, and each row as in a trace's last lines. The only refusal is `NoMemory`.
 pub fn put_table(alloc: Global, out: &mut Vec<u8>, rows: &[Row]) -> Result<(), Refusal> {
     let mut words = Vec::from_slice(alloc, b" rows")?;
-    put_rows(alloc, &mut words, rows)?;
+    put_rows(&mut words, rows)?;
     put_words(out, &words)
 }
 
@@ -60,7 +60,7 @@ fn put_number(out: &mut Vec<u8>, number: u64) -> Result<(), Refusal> {
 pub fn put_open(alloc: Global, out: &mut Vec<u8>, open: &[(Tx, u64)]) -> Result<(), Refusal> {
     let mut words = Vec::from_slice(alloc, b" open")?;
     for (tx, age) in open {
-        put_tx(alloc, &mut words, tx)?;
+        put_tx(&mut words, tx)?;
         put_number(&mut words, *age)?;
     }
     put_words(out, &words)

@@ -20,7 +20,9 @@ pub use decoding::decode;
 pub use grammar::{MAX_DATAGRAM, MAX_MESSAGE_BYTES, MAX_TX_BYTES, VERSION, VersionNumber};
 pub use items::{InstanceAccept, InstanceReport, Items};
 pub use laws::{message_at_is_exact, spelling_laws};
-pub use message::{Kind, Message, is_message};
+pub use message::{
+    Kind, Message, is_ask, is_b1a, is_b1b, is_b2b, is_message, is_p1a, is_p1b, is_p2a, is_p2b,
+};
 pub use reading::{take_byte, take_component, take_number, take_rm, take_tx, take_vote};
 pub use reply::{Reply, ReplyRest};
 pub use rest::Rest;

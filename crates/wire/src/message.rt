@@ -151,14 +151,14 @@ fn are_accepts(tx: &Tx, accepts: &[InstanceAccept]) -> bool
 }
 
 /// Whether phase 1a is a message.
-pub(crate) fn is_p1a(tx: &Tx, instance: ManagerNumber, ballot: Ballot) -> bool
+pub fn is_p1a(tx: &Tx, instance: ManagerNumber, ballot: Ballot) -> bool
     ensures { IsTrue result ↔ IsMessage (P1a tx.now instance ballot) }
 {
     tx.is_participant(instance) && ballot >= 1
 }
 
 /// Whether phase 1b is a message.
-pub(crate) fn is_p1b(
+pub fn is_p1b(
     tx: &Tx,
     instance: ManagerNumber,
     ballot: Ballot,
@@ -174,7 +174,7 @@ pub(crate) fn is_p1b(
 }
 
 /// Whether phase 2a is a message.
-pub(crate) fn is_p2a(tx: &Tx, instance: ManagerNumber, ballot: Ballot, vote: Vote) -> bool
+pub fn is_p2a(tx: &Tx, instance: ManagerNumber, ballot: Ballot, vote: Vote) -> bool
     ensures { IsTrue result ↔ IsMessage (P2a tx.now instance ballot vote) }
 {
     let _ballot = ballot;
@@ -182,27 +182,21 @@ pub(crate) fn is_p2a(tx: &Tx, instance: ManagerNumber, ballot: Ballot, vote: Vot
 }
 
 /// Whether phase 2b is a message.
-pub(crate) fn is_p2b(
-    tx: &Tx,
-    instance: ManagerNumber,
-    ballot: Ballot,
-    vote: Vote,
-    acceptor: u8,
-) -> bool
+pub fn is_p2b(tx: &Tx, instance: ManagerNumber, ballot: Ballot, vote: Vote, acceptor: u8) -> bool
     ensures { IsTrue result ↔ IsMessage (P2b tx.now instance ballot vote acceptor) }
 {
     tx.is_participant(instance) && acceptor < MAX_ACCEPTORS
 }
 
 /// Whether an ask is a message.
-pub(crate) fn is_ask(tx: &Tx, rm: ManagerNumber) -> bool
+pub fn is_ask(tx: &Tx, rm: ManagerNumber) -> bool
     ensures { IsTrue result ↔ IsMessage (Ask tx.now rm) }
 {
     tx.is_participant(rm)
 }
 
 /// Whether a bundle of phase 1a is a message.
-pub(crate) fn is_b1a(tx: &Tx, ballot: Ballot) -> bool
+pub fn is_b1a(tx: &Tx, ballot: Ballot) -> bool
     ensures { IsTrue result ↔ IsMessage (B1a tx.now ballot) }
 {
     let _ = tx.count();
@@ -210,7 +204,7 @@ pub(crate) fn is_b1a(tx: &Tx, ballot: Ballot) -> bool
 }
 
 /// Whether a bundle of phase 1b is a message.
-fn is_b1b(tx: &Tx, ballot: Ballot, acceptor: u8, reports: &Items<InstanceReport>) -> bool
+pub fn is_b1b(tx: &Tx, ballot: Ballot, acceptor: u8, reports: &Items<InstanceReport>) -> bool
     ensures { IsTrue result ↔ IsMessage (B1b tx.now ballot acceptor reports.now) }
 {
     let _ = tx.count();
@@ -218,7 +212,7 @@ fn is_b1b(tx: &Tx, ballot: Ballot, acceptor: u8, reports: &Items<InstanceReport>
 }
 
 /// Whether a bundle of phase 2b is a message.
-fn is_b2b(tx: &Tx, acceptor: u8, accepts: &Items<InstanceAccept>) -> bool
+pub fn is_b2b(tx: &Tx, acceptor: u8, accepts: &Items<InstanceAccept>) -> bool
     ensures { IsTrue result ↔ IsMessage (B2b tx.now acceptor accepts.now) }
 {
     let _ = tx.count();

@@ -5,3 +5,5 @@ pub mod GivenBranches
 pub mod PushedBranches
 pub mod Deciding
 pub mod TransactionTexts
+pub mod Digits
+pub mod LowerHex

@@ -10,14 +10,14 @@ use Rattle.std.specs.Str.Parse.{ParsesUnsigned}
 use Rattle.std.proofs.lemmas.Str.{IsUtf8-from_ascii}
 use Rattle.std.proofs.lemmas.Str.Parse.{numerals_by_value, tells_by_index}
 use Rattle.std.proofs.lemmas.Fmt.{IsAscii-decimal, parse-decimal, digits_decimal}
-use Rattle.std.proofs.lemmas.List.{length-take, length-replicate}
+use Rattle.std.proofs.lemmas.List.{append_assoc, length-take, length-replicate}
 use Rattle.std.proofs.lemmas.List.Folds.{list_all-append}
 use Rattle.std.proofs.lemmas.Bool.Decides.{nat_tests}
 use Rattle.hex.proofs.HexLemmas.{length-encode_with, decode_sized-encode_lower}
 use Rattle.hex.specs.Hex.{decode_sized, lower_digits, encode_with}
 use Rattle.hex.specs.declared.error.FromHexError.{FromHexError}
 use Rattle.xid.specs.Names.{IsBytes, XidParts, IsXid}
-use Rattle.xid.specs.Text.{hex_text, lacks, xid_text}
+use Rattle.xid.specs.Text.{hex_text, lacks, xid_text, Extends}
 
 -- ---- tests of each byte
 
@@ -47,6 +47,20 @@ list_all_index p (x ∷ xs) h = both_true (p x) (list_all p xs) (h 0 (omega arit
 
 IsBytes-tail : (x : ℕ) (xs : List ℕ) → IsBytes (x ∷ xs) → IsBytes xs
 IsBytes-tail x xs h i = h (suc i)
+
+-- bytes are written one after another
+pub hex_append : (xs ys : List ℕ) → hex_text (xs ++ ys) ≡ hex_text xs ++ hex_text ys
+unfolding encode_with
+hex_append [] ys = refl
+hex_append (x ∷ xs) ys =
+    ap (λ (l : List ℕ). get_or lower_digits (x / 16) 0 ∷ get_or lower_digits (x % 16) 0 ∷ l) (hex_append xs ys)
+
+-- a text that begins with another begins with what that begins with
+pub extends_on : (a b d : List ℕ) → Extends a b → Extends b d → Extends a d
+extends_on a b d p q = record {
+  more = p.more ++ q.more;
+  is = q.is ∙ ap (λ (l : List ℕ). l ++ q.more) p.is ∙ append_assoc a p.more q.more;
+}
 
 -- what holds of each hex digit holds of each byte of a hex text
 pub list_all-hex_text : (p : ℕ → Bool) (xs : List ℕ) → list_all p lower_digits ≡ true → IsBytes xs → list_all p (hex_text xs) ≡ true

@@ -5,15 +5,13 @@ ghost use Rattle.std.specs.Cmp.Rules.{comparing};
 ghost use Rattle.std.specs.Ordering.{as_partial_cmp};
 ghost use Rattle.std.proofs.Common.{rules};
 ghost use Rattle.xid.specs.Names.{XidParts, IsXid, IsComponent, xid_cmp};
-ghost use Rattle.xid.specs.Text.{xid_text};
+ghost use Rattle.xid.specs.Text.{xid_text, Extends};
 ghost use Rattle.xid.specs.declared.refusals.Refusal.TheVariants.{BadXid, NoMemory};
 
 use crate::component::Component;
 use crate::limits::{FORMATS, MAX_COMPONENT};
 use crate::refusals::Refusal;
-use crate::text::{self, USUAL_TEXT_BYTES};
-use itoa::Buffer;
-use std::alloc::Global;
+use crate::text;
 use std::cmp::Ordering;
 use std::marker::Model;
 
@@ -116,21 +114,33 @@ impl Xid {
     }
 
     /// Writes its text at the end. At `NoMemory`, the only refusal, the content is as it was.
-    pub fn write(&self, alloc: Global, out: &mut Vec<u8>) -> Result<(), Refusal>
+    pub fn write(&self, out: &mut Vec<u8>) -> Result<(), Refusal>
         ensures valid { IsXid self.now }
         ensures ok { OnOk result (out.new.items ≡ out.old.items ++ xid_text self.now) }
         ensures err { IfErr result (λ e. (e ≡ NoMemory) × (out.new.items ≡ out.old.items)) }
     {
-        let mut digits = Buffer::new();
-        let format = digits.format(self.format);
-        let mut text = Vec::with_capacity(alloc, USUAL_TEXT_BYTES)?;
-        text.extend_from_slice(format.as_bytes())?;
-        text.push(b':')?;
-        text::put_hex(self.gtrid.as_bytes(), &mut text)?;
-        text.push(b':')?;
-        text::put_hex(self.bqual.as_bytes(), &mut text)?;
-        out.extend_from_slice(&text)?;
-        Ok(())
+        let before = out.len();
+        match self.put(out) {
+            Ok(()) => Ok(()),
+            Err(refusal) => {
+                out.truncate(before);
+                Err(refusal)
+            }
+        }
+    }
+
+    /// Writes its text at the end. At `NoMemory`, the only refusal, there may be a beginning of it.
+    fn put(&self, out: &mut Vec<u8>) -> Result<(), Refusal>
+        ensures valid { IsXid self.now }
+        ensures ok { OnOk result (out.new.items ≡ out.old.items ++ xid_text self.now) }
+        ensures err { IfErr result (λ e. e ≡ NoMemory) }
+        ensures kept { Extends out.old.items out.new.items }
+    {
+        text::put_number(self.format, out)?;
+        out.push(b':')?;
+        text::put_hex(self.gtrid.as_bytes(), out)?;
+        out.push(b':')?;
+        text::put_hex(self.bqual.as_bytes(), out)
     }
 }
 

@@ -1,11 +1,11 @@
-//! Numbers and bytes as text. A text is read leniently and then compared with the one text of what was read, so that
-//! each value has one text.
+//! Numbers and bytes as text. Each value has one text.
 
-ghost use Rattle.std.specs.Prelude.{◌≡◌, ◌≢◌, ℕ, ◌+◌, ◌<◌, ◌^◌, List, ◌∷◌, ◌++◌, ◌≤◌, ◌↔◌, IsTrue, length, true, decimal, MatchOption};
-ghost use Rattle.std.specs.Prelude.{IfErr, OnOk};
+ghost use Rattle.std.specs.Prelude.{◌≡◌, ◌≢◌, ℕ, ◌<◌, ◌^◌, List, ◌∷◌, ◌++◌, ◌≤◌, length, true, decimal, MatchOption};
+ghost use Rattle.std.specs.Prelude.{IfSome, IfErr, OnOk};
+ghost use Rattle.std.specs.List.{list_all};
 ghost use Rattle.xid.specs.Limits.{most_component};
-ghost use Rattle.xid.specs.Names.{IsBytes, IsComponent};
-ghost use Rattle.xid.specs.Text.{hex_text, lacks};
+ghost use Rattle.xid.specs.Names.{IsComponent};
+ghost use Rattle.xid.specs.Text.{hex_text, is_no_capital, lacks, Extends};
 ghost use Rattle.xid.specs.declared.refusals.Refusal.TheVariants.{NoMemory};
 
 use crate::component::Component;
@@ -13,11 +13,31 @@ use crate::limits::MAX_COMPONENT;
 use crate::refusals::Refusal;
 use itoa::Buffer;
 
-/// Room for the text of a name, so that one of usual length doesn't have its block grow.
-pub(crate) const USUAL_TEXT_BYTES: usize = 128;
+/// The least number to which no digit is put: what nine digits write has 32 bits.
+const TOO_LONG: u32 = 100_000_000;
 
-/// The number below 2^32 whose text this is: decimal digits, with no leading zero. None where the text is no such one.
-pub fn number(text: &[u8]) -> Option<u32>
+/// The number of a text that is its few digits, which most texts of numbers are.
+fn short_number(text: &[u8]) -> Option<u32>
+    ensures { IfSome result (λ n. text.now ≡ decimal n) }
+{
+    let [first, ..] = text else {
+        return None;
+    };
+    if *first == b'0' && text.len() > 1 {
+        return None;
+    }
+    let mut number = 0;
+    for byte in text {
+        if *byte < b'0' || *byte > b'9' || number >= TOO_LONG {
+            return None;
+        }
+        number = number * 10 + u32::from(*byte - b'0');
+    }
+    Some(number)
+}
+
+/// The same of any text, which is read leniently and then compared with the one text of what was read.
+fn any_number(text: &[u8]) -> Option<u32>
     ensures { MatchOption result ((n : ℕ) → n < 2 ^ 32 → text.now ≢ decimal n) (λ n. text.now ≡ decimal n) }
 {
     let Ok(digits) = str::from_utf8(text) else {
@@ -34,6 +54,31 @@ pub fn number(text: &[u8]) -> Option<u32>
     }
 }
 
+/// The number below 2^32 whose text this is: decimal digits, with no leading zero. None where the text is no such one.
+pub fn number(text: &[u8]) -> Option<u32>
+    ensures { MatchOption result ((n : ℕ) → n < 2 ^ 32 → text.now ≢ decimal n) (λ n. text.now ≡ decimal n) }
+{
+    if let Some(number) = short_number(text) {
+        return Some(number);
+    }
+    any_number(text)
+}
+
+/// Writes a number's text at the end. At `NoMemory`, the only refusal, there may be a beginning of it.
+pub fn put_number(number: u32, out: &mut Vec<u8>) -> Result<(), Refusal>
+    ensures ok { OnOk result (out.new.items ≡ out.old.items ++ decimal number) }
+    ensures err { IfErr result (λ e. e ≡ NoMemory) }
+    ensures kept { Extends out.old.items out.new.items }
+{
+    if number < 10 {
+        out.push(b'0' + number as u8)?;
+        return Ok(());
+    }
+    let mut digits = Buffer::new();
+    out.extend_from_slice(digits.format(number).as_bytes())?;
+    Ok(())
+}
+
 /// The text before the first mark, and the text after it. None where the mark isn't there.
 pub fn split_once(text: &[u8], mark: u8) -> Option<(&[u8], &[u8])>
     ensures { MatchOption result (lacks mark text.now ≡ true)
@@ -47,24 +92,24 @@ pub fn split_once(text: &[u8], mark: u8) -> Option<(&[u8], &[u8])>
     None
 }
 
-/// Whether the text is the one hex text of these bytes.
-fn is_hex_text(bytes: &[u8], text: &[u8]) -> bool
-    requires { length bytes.now ≤ most_component }
-    ensures { IsTrue result ↔ (text.now ≡ hex_text bytes.now) }
+/// Whether a text has no capital letter.
+pub fn lacks_capitals(text: &[u8]) -> bool
+    ensures { result ≡ list_all is_no_capital text.now }
 {
-    let mut again = [0; 2 * MAX_COMPONENT];
-    let written = &mut again[..2 * bytes.len()];
-    let Ok(()) = hex::encode_to_slice(bytes, written) else {
-        unreachable!();
-    };
-    text == &written[..]
+    for byte in text {
+        if (b'A'..=b'Z').contains(byte) {
+            return false;
+        }
+    }
+    true
 }
 
-/// Writes the hex text of bytes at the end.
-pub(crate) fn put_hex(bytes: &[u8], out: &mut Vec<u8>) -> Result<(), Refusal>
+/// Writes the hex text of a few bytes at the end. At `NoMemory`, the only refusal, there may be a beginning of it.
+fn put_short_hex(bytes: &[u8], out: &mut Vec<u8>) -> Result<(), Refusal>
     requires { length bytes.now ≤ most_component }
     ensures ok { OnOk result (out.new.items ≡ out.old.items ++ hex_text bytes.now) }
     ensures err { IfErr result (λ e. e ≡ NoMemory) }
+    ensures kept { Extends out.old.items out.new.items }
 {
     let mut text = [0; 2 * MAX_COMPONENT];
     let written = &mut text[..2 * bytes.len()];
@@ -75,12 +120,20 @@ pub(crate) fn put_hex(bytes: &[u8], out: &mut Vec<u8>) -> Result<(), Refusal>
     Ok(())
 }
 
-/// Decodes a hex text, in either case, into room of its size.
-fn decodes(text: &[u8], bytes: &mut [u8]) -> bool
-    ensures { (xs : List ℕ) → IsBytes xs → length xs ≡ length bytes.old → text.now ≡ hex_text xs
-        → IsTrue result × (bytes.new ≡ xs) }
+/// Writes the hex text of bytes at the end. At `NoMemory`, the only refusal, there may be a beginning of it.
+pub fn put_hex(bytes: &[u8], out: &mut Vec<u8>) -> Result<(), Refusal>
+    ensures ok { OnOk result (out.new.items ≡ out.old.items ++ hex_text bytes.now) }
+    ensures err { IfErr result (λ e. e ≡ NoMemory) }
+    ensures kept { Extends out.old.items out.new.items }
 {
-    hex::decode_to_slice(text, bytes).is_ok()
+    let mut rest = bytes;
+    while rest.len() > MAX_COMPONENT {
+        let (first, after) = rest.split_at(MAX_COMPONENT);
+        put_short_hex(first, out)?;
+        rest = after;
+    }
+    put_short_hex(rest, out)?;
+    Ok(())
 }
 
 /// The component whose hex text this is: 1 to 64 bytes, in lower case.
@@ -92,13 +145,13 @@ pub(crate) fn component(text: &[u8]) -> Option<Component>
     if len == 0 || len > MAX_COMPONENT {
         return None;
     }
+    if !lacks_capitals(text) {
+        return None;
+    }
     let mut bytes = [0; MAX_COMPONENT];
     let shown = &mut bytes[..len];
-    if !decodes(text, shown) {
+    let Ok(()) = hex::decode_to_slice(text, &mut *shown) else {
         return None;
-    }
-    if !is_hex_text(shown, text) {
-        return None;
-    }
+    };
     Some(Component::new(shown))
 }

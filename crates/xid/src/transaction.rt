@@ -12,10 +12,8 @@ use crate::branches::{Branches, are_branches};
 use crate::component::Component;
 use crate::limits::{FORMATS, ManagerNumber};
 use crate::refusals::Refusal;
-use crate::text::{self, USUAL_TEXT_BYTES};
+use crate::text;
 use crate::transaction_text::{tx_of, write_branches};
-use itoa::Buffer;
-use std::alloc::Global;
 use std::cmp::Ordering;
 use std::marker::Model;
 
@@ -43,6 +41,7 @@ impl Model for Tx {
 impl Tx {
     ghost use Rattle.xid.specs.Transactions.{TxParts, BranchParts, IsTx, nth_branch, branch_of};
     ghost use Rattle.xid.specs.Transactions.{is_participant, participants, xid_at, tx_text};
+    ghost use Rattle.xid.specs.Text.{Extends};
 
     /// The transaction of these parts, each branch by its resource manager's number and its bqual. Refused (`BadTx`): no branch
     /// or more than 16, a number above 63, numbers that don't ascend strictly, and a format or a length that no XID has. Then
@@ -183,20 +182,33 @@ impl Tx {
     }
 
     /// Writes its text at the end. At `NoMemory`, the only refusal, the content is as it was.
-    pub fn write(&self, alloc: Global, out: &mut Vec<u8>) -> Result<(), Refusal>
+    pub fn write(&self, out: &mut Vec<u8>) -> Result<(), Refusal>
         ensures valid { IsTx self.now }
         ensures ok { OnOk result (out.new.items ≡ out.old.items ++ tx_text self.now) }
         ensures err { IfErr result (λ e. (e ≡ NoMemory) × (out.new.items ≡ out.old.items)) }
     {
-        let mut digits = Buffer::new();
-        let format = digits.format(self.format);
-        let mut text = Vec::with_capacity(alloc, USUAL_TEXT_BYTES)?;
-        text.extend_from_slice(format.as_bytes())?;
-        text.push(b':')?;
-        text::put_hex(self.gtrid.as_bytes(), &mut text)?;
-        text.push(b'/')?;
-        write_branches(self.branches.as_slice(), &mut text)?;
-        out.extend_from_slice(&text)?;
+        let before = out.len();
+        match self.put(out) {
+            Ok(()) => Ok(()),
+            Err(refusal) => {
+                out.truncate(before);
+                Err(refusal)
+            }
+        }
+    }
+
+    /// Writes its text at the end. At `NoMemory`, the only refusal, there may be a beginning of it.
+    fn put(&self, out: &mut Vec<u8>) -> Result<(), Refusal>
+        ensures valid { IsTx self.now }
+        ensures ok { OnOk result (out.new.items ≡ out.old.items ++ tx_text self.now) }
+        ensures err { IfErr result (λ e. e ≡ NoMemory) }
+        ensures kept { Extends out.old.items out.new.items }
+    {
+        text::put_number(self.format, out)?;
+        out.push(b':')?;
+        text::put_hex(self.gtrid.as_bytes(), out)?;
+        out.push(b'/')?;
+        write_branches(self.branches.as_slice(), out)?;
         Ok(())
     }
 }

@@ -4,6 +4,7 @@ ghost use Rattle.std.specs.Prelude.{◌≡◌, ◌≢◌, ℕ, List, ◌++◌, �
 ghost use Rattle.std.specs.Option.{IfSome};
 ghost use Rattle.xid.specs.Limits.{most_component};
 ghost use Rattle.xid.specs.Transactions.{TxParts, BranchParts, IsTx, IsBranch, AreBranches, branch_text, branches_text, tx_text};
+ghost use Rattle.xid.specs.Text.{Extends};
 ghost use Rattle.xid.specs.declared.refusals.Refusal.TheVariants.{NoMemory};
 
 use crate::branches::{Branch, Branches};
@@ -12,7 +13,6 @@ use crate::limits::{MAX_BRANCHES, MAX_MANAGERS, ManagerNumber};
 use crate::refusals::Refusal;
 use crate::text;
 use crate::transaction::Tx;
-use itoa::Buffer;
 
 /// The resource manager's number and the bqual of the branch whose text this is, as `0=6231`.
 fn branch_of(text: &[u8]) -> Option<(ManagerNumber, Component)>
@@ -91,9 +91,9 @@ pub(crate) fn tx_of(text: &[u8]) -> Option<Tx>
 fn write_branch(branch: &Branch, text: &mut Vec<u8>) -> Result<(), Refusal>
     ensures ok { OnOk result (text.new.items ≡ text.old.items ++ branch_text branch.now) }
     ensures err { IfErr result (λ e. e ≡ NoMemory) }
+    ensures kept { Extends text.old.items text.new.items }
 {
-    let mut rm = Buffer::new();
-    text.extend_from_slice(rm.format(branch.rm()).as_bytes())?;
+    text::put_number(u32::from(branch.rm()), text)?;
     text.push(b'=')?;
     text::put_hex(branch.bqual(), text)
 }
@@ -102,6 +102,7 @@ fn write_branch(branch: &Branch, text: &mut Vec<u8>) -> Result<(), Refusal>
 pub(crate) fn write_branches(branches: &[Branch], text: &mut Vec<u8>) -> Result<(), Refusal>
     ensures ok { OnOk result (text.new.items ≡ text.old.items ++ branches_text branches.now) }
     ensures err { IfErr result (λ e. e ≡ NoMemory) }
+    ensures kept { Extends text.old.items text.new.items }
 {
     let Some((first, others)) = branches.split_first() else {
         return Ok(());

@@ -1,38 +1,33 @@
-use Rattle.std.proofs.Common.{◌∷◌, ◌∙◌, refl, sym, ap, List, ℕ, arith}
+use Rattle.std.proofs.Common.{◌≡◌, ◌∷◌, ◌∙◌, refl, sym, ap, List, ℕ, arith, rules}
+use Rattle.std.specs.Fmt.{signed_decimal}
 use Rattle.std.proofs.lemmas.Fmt.{decimal_injective}
-use Rattle.net_script.specs.Basics.{number_of}
+use Rattle.net_script.specs.Basics.{XaCode, code_number, number_of}
 use Rattle.net_script.specs.Lines.{words}
-use Rattle.net_script.proofs.Arms.{arm_stops, passes}
-use Rattle.net_script.proofs.AnswerLemmas.{refusal_small, ok_arm, code_arm, value_arm, none_arm, xids_arm, standing_arm, refused_arm}
+use Rattle.net_script.proofs.Arms.{arm_fails, stops, passes}
+use Rattle.net_script.proofs.AnswerLemmas.{code_digits, refusal_small, ok_arm, code_arm, value_arm, none_arm, xids_arm, standing_arm}
+use Rattle.net_script.proofs.AnswerLemmas.{refused_arm}
 use Rattle.net_script.proofs.answer_words.answer_by.Goals as goal
 
 pub returns-in_err-read : goal.returns-in_err-read
-returns-in_err-read c =
-    arm_stops (λ e. refl) ok_arm _ _ _ _ (c.is_word.ensures.0 c.if-is_word.true) c.from_residual.ensures.1 c.in_err-read.ensures
+returns-in_err-read c = stops ok_arm _ _ _ _ c.if-is_word.ensures c.from_residual.ensures c.in_err-read.ensures
 
 pub returns-in_err-read-2 : goal.returns-in_err-read-2
 returns-in_err-read-2 c =
-    arm_stops (λ e. refl) (code_arm c.in-Some.code) _ _ _ _ c.in-Some.ensures
+    arm_fails (λ e. refl) (code_arm c.in-Some.code) _ _ _ _ (c.in-Some.ensures ∙ sym (code_digits c.in-Some.code))
     c.from_residual-in_err-read-2.ensures.1 c.in_err-read-2.ensures
 
 pub returns-in_err-bytes : goal.returns-in_err-bytes
-returns-in_err-bytes c =
-    arm_stops (λ e. refl) value_arm _ _ _ _ (c.is_word-2.ensures.0 c.if-is_word-2.true)
-    c.from_residual-in_err-bytes.ensures.1 c.in_err-bytes.ensures
+returns-in_err-bytes c = stops value_arm _ _ _ _ c.if-is_word-2.ensures c.from_residual-in_err-bytes.ensures c.in_err-bytes.ensures
 
 pub returns-in_err-read-3 : goal.returns-in_err-read-3
-returns-in_err-read-3 c =
-    arm_stops (λ e. refl) none_arm _ _ _ _ (c.is_word-3.ensures.0 c.if-is_word-3.true)
-    c.from_residual-in_err-read-3.ensures.1 c.in_err-read-3.ensures
+returns-in_err-read-3 c = stops none_arm _ _ _ _ c.if-is_word-3.ensures c.from_residual-in_err-read-3.ensures c.in_err-read-3.ensures
 
 pub returns-in_err-xids : goal.returns-in_err-xids
-returns-in_err-xids c =
-    arm_stops (λ e. refl) xids_arm _ _ _ _ (c.is_word-4.ensures.0 c.if-is_word-4.true)
-    c.from_residual-in_err-xids.ensures.1 c.in_err-xids.ensures
+returns-in_err-xids c = stops xids_arm _ _ _ _ c.if-is_word-4.ensures c.from_residual-in_err-xids.ensures c.in_err-xids.ensures
 
 pub returns-in_err-read-4 : goal.returns-in_err-read-4
 returns-in_err-read-4 c =
-    arm_stops (λ e. refl) (standing_arm c.in-Some-standing_named.standing) _ _ _ _ c.in-Some-standing_named.ensures
+    arm_fails (λ e. refl) (standing_arm c.in-Some-standing_named.standing) _ _ _ _ c.in-Some-standing_named.ensures
     c.from_residual-in_err-read-4.ensures.1 c.in_err-read-4.ensures
 
 pub returns-in_err-number : goal.returns-in_err-number
@@ -52,3 +47,11 @@ returns-in_default-refusal_numbered c = λ a is e.
     let read = c.in_ok-number.ensures in
     c.in_default-refusal_numbered.ensures found.value.0 found.fits.0
     (decimal_injective c.in_ok-number.number (number_of found.value.0) (omega (arith, read.0.0)) (omega arith) (cc))
+
+pub returns-in-Some : goal.returns-in-Some
+returns-in-Some c = (tt, let text = c.in-Some.ensures in let none = c.in_ok-read-2.ensures.1 in let same = code_digits c.in-Some.code in cc)
+
+pub returns : goal.returns
+returns c =
+    let none : (x : XaCode) → c.args.name.now ≡ signed_decimal (code_number x) → ⊥ = λ x e. c.in_default.ensures x (e ∙ code_digits x) in
+    search rules

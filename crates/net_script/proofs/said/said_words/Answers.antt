@@ -2,7 +2,7 @@ use Rattle.net_script.specs.Lines.{words}
 use Rattle.net_script.proofs.MoreLines.{said_outcomes}
 use Rattle.net_script.proofs.said.said_words.Goals as goal
 
-pub returns-in_default-line_named : goal.returns-in_default-line_named
-returns-in_default-line_named c =
-    said_outcomes (words c.args.line.now) (words c.in-Some.args.now) c.in-Some.word.now c.said_outcome.result c.in-Some.ensures.cut
-    c.in_default-line_named.ensures c.said_outcome.ensures
+pub returns-in_default : goal.returns-in_default
+returns-in_default c =
+    said_outcomes (words c.args.line.now) (words c.args.args.now) c.args.word.now c.said_outcome.result c.requires.words
+    c.in_default.ensures c.requires.other c.said_outcome.ensures

@@ -1,5 +1,5 @@
 use Rattle.std.proofs.Common.{◌∙◌, [], ◌∷◌, ◌++◌, ap, sym}
-use Rattle.net_script.specs.declared.items.Item.{Item}
+use Rattle.net_script.specs.Basics.{Item}
 use Rattle.net_script.specs.Scripts.{items_so_far}
 use Rattle.net_script.proofs.WordLemmas.{reads_none, reads_some}
 use Rattle.net_script.proofs.ScriptLemmas.{item_injective}

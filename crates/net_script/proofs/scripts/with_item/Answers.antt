@@ -1,6 +1,5 @@
 use Rattle.std.proofs.Common.{◌∙◌, [], ◌∷◌, ◌++◌, Option, ap, sym}
-use Rattle.net_script.specs.declared.values.Script.{Script}
-use Rattle.net_script.specs.declared.items.Item.{Item}
+use Rattle.net_script.specs.Basics.{Script, Item}
 use Rattle.net_script.specs.Scripts.{script_items, items_so_far}
 use Rattle.net_script.proofs.ScriptLemmas.{no_second_cluster}
 use Rattle.net_script.proofs.scripts.with_item.Goals as goal

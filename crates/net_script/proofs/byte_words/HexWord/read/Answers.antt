@@ -3,9 +3,10 @@ use Rattle.std.specs.List.{list_all}
 use Rattle.std.proofs.lemmas.Bool.Decides.{nat_tests}
 use Rattle.hex.proofs.HexLemmas.{decode_of-ok}
 use Rattle.net_script.specs.Basics.{hex_text}
-use Rattle.net_script.specs.Lines.{IsSome, is_no_capital}
+use Rattle.xid.specs.Text.{is_no_capital}
+use Rattle.net_script.specs.Lines.{IsSome}
 use Rattle.net_script.proofs.WordLemmas.{hex_some, hex_decodes, second_holds, hex_long}
-use Rattle.net_script.proofs.LowerHex.{hex_lacks, lower_again}
+use Rattle.xid.proofs.LowerHex.{hex_lacks, lower_again}
 use Rattle.net_script.proofs.byte_words.HexWord.read.Goals as goal
 use Rattle.net_script.proofs.byte_words.HexWord.read.Goals.{then-is_empty-via-then-is_empty}
 use Rattle.net_script.proofs.byte_words.HexWord.read.Goals.{then-is_empty-via-else-is_empty+then-not-lacks_capitals}

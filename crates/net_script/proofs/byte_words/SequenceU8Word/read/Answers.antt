@@ -9,6 +9,5 @@ pub returns-in_err-bytes : goal.returns-in_err-bytes
 returns-in_err-bytes c =
     passes (λ e. refl)
     (λ none y q e.
-    let hex = bytes_are_hex y c.args.word.now q (λ same. iff_false c.is_word.ensures c.if-is_word.false same) e in
-    none (hex_of y) hex.0 hex.1)
-    c.in_err-bytes.field-0.0 c.from_residual.result c.from_residual.ensures.1 c.in_err-bytes.ensures
+    let hex = bytes_are_hex y _ q (iff_false c.is_word.ensures c.if-is_word.false) e in none (hex_of y) hex.0 hex.1)
+    _ _ c.from_residual.ensures.1 c.in_err-bytes.ensures

@@ -8,6 +8,5 @@ returns-in_err-ballot c =
     passes (λ e. e)
     (λ none i fits e.
     none (i.ballot, i.vote) fits.ballot
-    (same_item i.instance c.in-Some.rm (accepted_text i.ballot i.vote) c.in-Some.text.now c.args.word.now
-    fits.instance c.in-Some.ensures.0 e c.in-Some.ensures.1))
-    c.in_err-ballot.field-0.0 c.from_residual.result c.from_residual.ensures.1 c.in_err-ballot.ensures
+    (same_item i.instance _ (accepted_text i.ballot i.vote) _ _ fits.instance c.in-Some.ensures.0 e c.in-Some.ensures.1))
+    _ _ c.from_residual.ensures.1 c.in_err-ballot.ensures

@@ -7,7 +7,5 @@ pub returns-in_err-report : goal.returns-in_err-report
 returns-in_err-report c =
     passes (λ e. e)
     (λ none i fits e.
-    none i.report fits.report
-    (same_item i.instance c.in-Some.rm (report_text i.report) c.in-Some.text.now c.args.word.now
-    fits.instance c.in-Some.ensures.0 e c.in-Some.ensures.1))
-    c.in_err-report.field-0.0 c.from_residual.result c.from_residual.ensures.1 c.in_err-report.ensures
+    none i.report fits.report (same_item i.instance _ (report_text i.report) _ _ fits.instance c.in-Some.ensures.0 e c.in-Some.ensures.1))
+    _ _ c.from_residual.ensures.1 c.in_err-report.ensures

@@ -6,25 +6,20 @@ use Rattle.net_script.proofs.tables.RowWord.read.Goals as goal
 
 pub returns-in_err-key : goal.returns-in_err-key
 returns-in_err-key c =
-    passes (λ e. refl)
-    (λ none y is e.
-    let cut = cut_row y c.args.word.now c.in-Some.key.now c.in-Some.value.now is e c.in-Some.ensures in
-    none (hex_of y.key) (key_some y.key is.key) cut.0)
-    c.in_err-key.field-0.0 c.from_residual.result c.from_residual.ensures.1 c.in_err-key.ensures
+    passes (λ e. refl) (λ none y is e. none (hex_of y.key) (key_some y.key is.key) (cut_row y _ _ _ is e c.in-Some.ensures).0)
+    _ _ c.from_residual.ensures.1 c.in_err-key.ensures
 
 pub returns-in_err-value : goal.returns-in_err-value
 returns-in_err-value c =
-    passes (λ e. refl)
-    (λ none y is e.
-    let cut = cut_row y c.args.word.now c.in-Some.key.now c.in-Some.value.now is e c.in-Some.ensures in none y.value is.value.bytes cut.1)
-    c.in_err-value.field-0.0 c.from_residual-in_err-value.result c.from_residual-in_err-value.ensures.1 c.in_err-value.ensures
+    passes (λ e. refl) (λ none y is e. none y.value is.value.bytes (cut_row y _ _ _ is e c.in-Some.ensures).1)
+    _ _ c.from_residual-in_err-value.ensures.1 c.in_err-value.ensures
 
 pub returns-then-as_slice-gt-MAX_KEY : goal.returns-then-as_slice-gt-MAX_KEY
 returns-then-as_slice-gt-MAX_KEY c = λ y is e.
-    let cut = cut_row y c.args.word.now c.in-Some.key.now c.in-Some.value.now is e c.in-Some.ensures in
-    long_key y c.in-Some.key.now c.in_ok-key.field-0.0 is cut.0 c.in_ok-key.ensures (omega (arith, ap length c.as_slice.ensures))
+    let cut = cut_row y _ _ _ is e c.in-Some.ensures in
+    long_key y _ _ is cut.0 c.in_ok-key.ensures (omega (arith, ap length c.as_slice.ensures))
 
 pub returns-then-as_slice-gt-MAX_VALUE : goal.returns-then-as_slice-gt-MAX_VALUE
 returns-then-as_slice-gt-MAX_VALUE c = λ y is e.
-    let cut = cut_row y c.args.word.now c.in-Some.key.now c.in-Some.value.now is e c.in-Some.ensures in
-    long_value y c.in-Some.value.now c.in_ok-value.value is cut.1 c.in_ok-value.ensures (omega (arith, ap length c.as_slice-2.ensures))
+    let cut = cut_row y _ _ _ is e c.in-Some.ensures in
+    long_value y _ _ is cut.1 c.in_ok-value.ensures (omega (arith, ap length c.as_slice-2.ensures))

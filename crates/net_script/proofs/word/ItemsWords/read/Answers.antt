@@ -11,25 +11,22 @@ pub returns-in_err-read : goal.returns-in_err-read
 returns-in_err-read g c =
     passes (λ e. e)
     (λ none is are e.
-    word_unread (record { same = g.met.W.Word.spelling.one }) [] is (words c.args.args.now) (words c.args.args.now)
-    (words c.in-Some.after.now)
-    c.in-Some.word.now (All-nil g.W.Word.fits, are.each) refl c.in-Some.ensures.cut none e)
-    c.in_err-read.field-0.0 c.from_residual.result c.from_residual.ensures.1 c.in_err-read.ensures
+    word_unread (record { same = g.met.W.Word.spelling.one }) [] is _ _ _ _ (All-nil g.W.Word.fits, are.each) refl
+    c.in-Some.ensures.cut none e)
+    _ _ c.from_residual.ensures.1 c.in_err-read.ensures
 
 pub returns-in_err-item : goal.returns-in_err-item
 returns-in_err-item g c =
     passes (λ e. e)
     (λ none is are e.
-    word_unread (record { same = g.met.W.Word.spelling.one }) c.loop-word.items is (words c.args.args.now) (words c.loop-word.rest.now)
-    (words c.in-Some-next_word.after.now) c.in-Some-next_word.word.now (c.loop-word.invariant.1.each, are.each)
+    word_unread (record { same = g.met.W.Word.spelling.one }) c.loop-word.items is _ _ _ _ (c.loop-word.invariant.1.each, are.each)
     c.loop-word.invariant.0 c.in-Some-next_word.ensures.cut none e)
-    c.in_err-item.field-0.0 c.from_residual-in_err-item.result c.from_residual-in_err-item.ensures.1 c.in_err-item.ensures
+    _ _ c.from_residual-in_err-item.ensures.1 c.in_err-item.ensures
 
 pub returns-then-as_slice-ge-MAX_BRANCHES : goal.returns-then-as_slice-ge-MAX_BRANCHES
 returns-then-as_slice-ge-MAX_BRANCHES g c = λ is are e.
     let more =
-    more_follow g.W.Word.text c.loop-word.items is (words c.args.args.now) (words c.loop-word.rest.now)
-    (words c.in-Some-next_word.after.now) c.in-Some-next_word.word.now c.loop-word.invariant.0 c.in-Some-next_word.ensures.cut e in
+    more_follow g.W.Word.text c.loop-word.items is _ _ _ _ c.loop-word.invariant.0 c.in-Some-next_word.ensures.cut e in
     let few = are.few in
     absurd (omega (arith, ap length c.as_slice.ensures.items))
 
@@ -40,8 +37,7 @@ loop-word-preserved g c =
     let item = c.in_ok-item.item in
     let read = c.in_ok-item.ensures in
     let are = c.loop-word.invariant.1 in (
-      word_read g.W.Word.text items item (words c.args.args.now) (words c.loop-word.rest.now) (words c.in-Some-next_word.after.now)
-          c.in-Some-next_word.word.now c.loop-word.invariant.0 c.in-Some-next_word.ensures.cut read.1
+      word_read g.W.Word.text items item _ _ _ _ c.loop-word.invariant.0 c.in-Some-next_word.ensures.cut read.1
           ∙ ap (λ (all : List _). map g.W.Word.text all ++ words c.in-Some-next_word.after.now) (sym pushed),
       subst (AreItems g.W.Word.fits) (sym pushed)
           (record {

@@ -1,7 +1,0 @@
-use Rattle.std.proofs.Common.{◌≡◌, ◌++◌, take}
-use Rattle.std.specs.List.{flat_map}
-use Rattle.net_script.specs.Traces.{table_line}
-use Rattle.net_script.proofs.traces.put_tables.Given as goal
-
-abbrev pub invariant-loop-table : goal.invariant-loop-table
-invariant-loop-table l = l.out.items ≡ l.fn.out.items ++ flat_map table_line (take l.table-index l.tables)
