@@ -12,6 +12,18 @@ QUIET = {'lose': 0.0, 'repeat': 0.0, 'delay': 0.0, 'most': 0.0}
 ROUGH = {'lose': 0.05, 'repeat': 0.05, 'delay': 0.2, 'most': 0.05}
 
 
+def free_end(cluster):
+    """A socket at a place that is no node's, nor one where clients find a node: those are free until the nodes start."""
+    taken = {*cluster.nodes.values(), *cluster.clients.values()}
+    while True:
+        end = socket.socket(socket.AF_INET, socket.SOCK_DGRAM)
+        end.setsockopt(socket.SOL_SOCKET, socket.SO_RCVBUF, 1 << 20)
+        end.bind((cluster.host, 0))
+        if end.getsockname() not in taken:
+            return end
+        end.close()
+
+
 class Forwarder:
     """In a process of its own. `cut` and `heal` say who hears whom; `counts` what was done; `recorded` what was sent, where it is kept."""
 
@@ -21,10 +33,7 @@ class Forwarder:
         for sender in cluster.names:
             for receiver in cluster.names:
                 if sender != receiver:
-                    end = socket.socket(socket.AF_INET, socket.SOCK_DGRAM)
-                    end.setsockopt(socket.SOL_SOCKET, socket.SO_RCVBUF, 1 << 20)
-                    end.bind((cluster.host, 0))
-                    places[sender, receiver] = end
+                    places[sender, receiver] = free_end(cluster)
         cluster.through = {pair: end.getsockname() for pair, end in places.items()}
         cluster.file = cluster.write_files()
         args = (other, places, cluster.nodes, seed, dict(rates or QUIET), keeps)
