@@ -105,9 +105,3 @@ pub found : {X W : Type 0} (a : Bool) (fits : X → Type 0) (text : X → W) (gi
 found a fits text given (Ok x) same h = rw same h
 found a fits text given (Err Wrong) same h = rw same h
 found a fits text given (Err Memory) same h = rw same
-
--- where memory can't run out, nothing was found as no value has the text
-pub none_found : {X W : Type 0} (fits : X → Type 0) (text : X → W) (given : W) (d : Stop) → Finds false fits text given (Err d) → (x : X)
-    → fits x → given ≡ text x → ⊥
-none_found fits text given Wrong none = none
-none_found fits text given Memory none = absurd (cc)

@@ -10,7 +10,8 @@ use Rattle.wire.proofs.Instances.{instance_below, instances_below, few_instances
 use Rattle.net_script.specs.Basics.{TxParts, IsTx, tx_text, IsMessage, message_tx, Vote, Kind, Prepare, P1a, P1b, P2a, P2b, Commit, Abort}
 use Rattle.net_script.specs.Basics.{B1a, B1b, B2b, InstanceReport, InstanceAccept}
 use Rattle.net_script.specs.declared.message_words.Said.{Said}
-use Rattle.net_script.specs.Messages.{message_word, message_args, message_words, FitsReport, FitsReportItem, FitsAcceptItem, FitsKind, IsForm}
+use Rattle.net_script.specs.Messages.{message_word, message_args, message_words, FitsReport, FitsReportItem}
+use Rattle.net_script.specs.Messages.{FitsAcceptItem, FitsKind, IsForm}
 use Rattle.net_script.specs.Messages.{kind_of, said_words, FitsSaid}
 use Rattle.net_script.specs.Spelling.{IsCommon, no_words, ◌&◌, items_of_words}
 use Rattle.net_script.specs.Laws.{a_number, manager_of, a_manager, acceptor_of, an_acceptor, a_tx, literal}

@@ -226,10 +226,6 @@ pub change_said : {args : List (List ℕ)} (change : Change) → IsChange change
     → IsTraceLine (Changed change) × (codes "now" ∷ args ≡ trace_line_words (Changed change))
 change_said change says = (says.0, ap (λ (ws : List (List ℕ)). codes "now" ∷ ws) says.1)
 
-pub sent_said : {args : List (List ℕ)} (sent : Sent) → IsSent sent × (args ≡ sent_words sent)
-    → IsTraceLine (Datagram sent) × (codes "sent" ∷ args ≡ trace_line_words (Datagram sent))
-sent_said sent says = (says.0, ap (λ (ws : List (List ℕ)). codes "sent" ∷ ws) says.1)
-
 -- the transaction that is known where a word is one
 pub known_is : (is_one : Bool) (known : Option TxParts) (word : List ℕ) (last tx : TxParts) → Knows is_one known word → is_one ≡ true
     → known ≡ Some last → tx ≡ last

@@ -9,7 +9,7 @@ use std::alloc::Global;
 use std::marker::Model;
 use xid::{Refusal, Tx};
 
-/// A transaction, and its word.
+/// A transaction, and its word. None is known at first.
 #[derive(Debug, Drop)]
 pub struct KnownTx {
     word: Vec<u8>,

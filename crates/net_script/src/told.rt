@@ -129,7 +129,7 @@ fn kind_of(tx: Tx, said: Said) -> Kind
 }
 
 impl ToldSent {
-    /// The datagram, with its transaction.
+    /// The datagram, about this transaction.
     pub(crate) fn with_tx(self, tx: &Tx) -> Sent
         requires { IsMessage (kind_of tx.now self.said) }
         ensures { result ≡ sent_of tx.now self }

@@ -93,7 +93,7 @@ impl<'a> TraceReader<'a> {
         Ok(Some(heard))
     }
 
-    /// The next line, as `hear` gives it.
+    /// The next line, a datagram with its transaction. Refused as `hear` is; what is given after a refusal means nothing.
     pub fn next(&mut self, alloc: Global) -> Result<Option<TraceLine>, Refusal>
         ensures { (trace : Option Trace) → HasRead self.old trace → GivesNext self.old self.new trace result }
     {

@@ -14,5 +14,5 @@ returns-in_default c = λ said is e.
 
 pub returns : goal.returns
 returns c =
-    change_said c.in-Some.change (reads_some IsChange change_words (words c.args.args.now) c.in_ok-change.field-0 c.in-Some.change c.in-Some.is
-    c.in_ok-change.ensures)
+    change_said c.in-Some.change (reads_some IsChange change_words (words c.args.args.now) c.in_ok-change.field-0 c.in-Some.change
+    c.in-Some.is c.in_ok-change.ensures)

@@ -27,7 +27,8 @@ returns-in_default-2 c = λ said is e.
 pub returns-in_default-next_word : goal.returns-in_default-next_word
 returns-in_default-next_word c = λ said is e.
     absurd (event_fails c.args.line.now c.in-Some.front.now c.in-Some.back.now c.requires c.in-Some.ensures
-    (λ n q x. absurd (cc (sym c.in_default-next_word.ensures ∙ x))) (λ y q x. absurd (cc (sym c.in_default-next_word.ensures ∙ x))) said is e)
+    (λ n q x. absurd (cc (sym c.in_default-next_word.ensures ∙ x)))
+    (λ y q x. absurd (cc (sym c.in_default-next_word.ensures ∙ x))) said is e)
 
 pub returns-in_default-last_node : goal.returns-in_default-last_node
 returns-in_default-last_node c = λ said is e.
@@ -55,7 +56,8 @@ returns-in_default-3 c = λ said is e.
     absurd (event_fails c.args.line.now c.in-Some.front.now c.in-Some.back.now c.requires c.in-Some.ensures
     (λ n q x. iff_false c.is_word.ensures c.if-is_word.false (head (sym c.in-Some-next_word.ensures.cut ∙ x)))
     (λ y q x. reads_none IsEvent event_words (c.in-Some-next_word.name.now ∷ words c.in-Some-next_word.args.now) c.in_ok-event.field-0
-    c.in_default-3.is (found _ _ _ _ c.event_by.result c.in_ok-event.ensures c.event_by.ensures) y q (sym c.in-Some-next_word.ensures.cut ∙ x)) said is e)
+    c.in_default-3.is (found _ _ _ _ c.event_by.result c.in_ok-event.ensures c.event_by.ensures) y q
+    (sym c.in-Some-next_word.ensures.cut ∙ x)) said is e)
 
 pub returns : goal.returns
 returns c =

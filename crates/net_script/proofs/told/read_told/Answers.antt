@@ -34,7 +34,8 @@ returns-in_default-2 c = λ s is e.
     let parts = same_words s.message (named c.in-Some-next_word.ensures.cut c.in-Some-next_word-2.ensures.cut after) in
     let own = says s.message in
     reads_none FitsSaid said_words _ c.in_ok-said.field-0 c.in_default-2.is
-    (found _ _ _ _ c.read_said.result c.in_ok-said.ensures c.read_said.ensures) own.said (own.fits (message_fits s.message is.message)) parts.0
+    (found _ _ _ _ c.read_said.result c.in_ok-said.ensures c.read_said.ensures) own.said (own.fits (message_fits s.message is.message))
+    parts.0
 
 pub returns-then-not-is_about : goal.returns-then-not-is_about
 returns-then-not-is_about c = λ s is e.
