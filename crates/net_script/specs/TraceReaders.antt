@@ -163,7 +163,7 @@ GivesNext old new trace (Ok None) = IsRead old.bytes trace
 GivesNext old new trace (Err e) = RefusesTrace old.bytes e
 
 -- what it hears next
-abbrev pub Hears : (old new : ReaderParts) → Option Trace → Result (Option Heard) Refusal → Type 0
-Hears old new trace (Ok (Some heard)) = (said : TraceLine) × IsHeard new.known heard said × ReadsOn old new trace said
-Hears old new trace (Ok None) = IsRead old.bytes trace
-Hears old new trace (Err e) = RefusesTrace old.bytes e
+abbrev pub GivesHeard : (old new : ReaderParts) → Option Trace → Result (Option Heard) Refusal → Type 0
+GivesHeard old new trace (Ok (Some heard)) = (said : TraceLine) × IsHeard new.known heard said × ReadsOn old new trace said
+GivesHeard old new trace (Ok None) = IsRead old.bytes trace
+GivesHeard old new trace (Err e) = RefusesTrace old.bytes e

@@ -9,7 +9,7 @@ ghost use Rattle.net_script.specs.declared.values.Trace.{Trace};
 ghost use Rattle.net_script.specs.Items.{is_in_limits};
 ghost use Rattle.net_script.specs.TraceReading.{RefusesTrace};
 ghost use Rattle.net_script.specs.Telling.{sent_of, IsWhole};
-ghost use Rattle.net_script.specs.TraceReaders.{HasRead, IsRead, GivesNext, Hears};
+ghost use Rattle.net_script.specs.TraceReaders.{HasRead, IsRead, GivesNext, GivesHeard};
 
 use crate::known::KnownTx;
 use crate::said::{Heard, hear_line};
@@ -71,7 +71,7 @@ impl<'a> TraceReader<'a> {
     /// What is heard of the next line, or none where all bytes are read, and are the text of the trace that the lines so far tell. Refused
     /// at the same places as `read_trace`, and by the same refusals; what is given after a refusal means nothing.
     pub fn hear(&mut self, alloc: Global) -> Result<Option<Heard>, Refusal>
-        ensures next { (trace : Option Trace) → HasRead self.old trace → Hears self.old self.new trace result }
+        ensures next { (trace : Option Trace) → HasRead self.old trace → GivesHeard self.old self.new trace result }
         ensures whole { IfOk result (λ heard. ForSome heard (IsWhole self.new.known)) }
     {
         if self.rest.is_empty() {
