@@ -1,7 +1,6 @@
 //! Messages between the nodes, and the one spelling of each.
 #![tactic(auto)]
 
-mod decoding;
 mod grammar;
 mod items;
 mod laws;
@@ -16,7 +15,6 @@ mod view_items;
 mod view_reading;
 mod writing;
 
-pub use decoding::decode;
 pub use grammar::{MAX_DATAGRAM, MAX_MESSAGE_BYTES, MAX_TX_BYTES, VERSION, VersionNumber};
 pub use items::{InstanceAccept, InstanceReport, Items};
 pub use laws::{message_at_is_exact, spelling_laws};
@@ -27,6 +25,6 @@ pub use reading::{take_byte, take_component, take_number, take_rm, take_tx, take
 pub use reply::{Reply, ReplyRest};
 pub use rest::Rest;
 pub use spelled_tx::SpelledTx;
-pub use view::{MessageView, view_of};
+pub use view::{MessageView, decode, view_of};
 pub use view_items::{accepts_of, reports_of};
 pub use writing::{encode, put_tx};

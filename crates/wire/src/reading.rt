@@ -1,23 +1,15 @@
-ghost use Rattle.std.specs.Prelude.{◌≡◌, ◌≢◌, ℕ, ◌<◌, ◌≤◌, ◌++◌, ◌∷◌, [], ◌⊎◌, List, IfOk, IfErr, MatchOption, length};
+ghost use Rattle.std.specs.Prelude.{◌≡◌, ◌<◌, ◌≤◌, [], MatchOption, length};
 ghost use Rattle.std.specs.Option.{option_map};
-ghost use Rattle.xid.specs.Transactions.{TxParts, IsTx};
-ghost use Rattle.xid.specs.declared.refusals.Refusal.TheVariants.{BadMessage};
-ghost use Rattle.wire.specs.declared.message.Kind.{Kind};
-ghost use Rattle.wire.specs.Messages.{IsMessage};
 ghost use Rattle.wire.specs.Versions.{version_1, version_2, version_of};
 ghost use Rattle.wire.specs.Decoding.{tx_in, are_managers};
-ghost use Rattle.wire.specs.Grammar.{Spells, spelling, tx_spelling};
 ghost use Rattle.wire.specs.Reading.{taken, taken_bytes, taken_branch, taken_branches, taken_tx, byte_at, number_at, rm_at, component_at};
-ghost use Rattle.wire.specs.Reading.{branch_at};
-ghost use Rattle.wire.specs.Reading.{branches_at, tx_at, vote_at, report_at, instance_at, report_item_at, accept_item_at, list_at};
-ghost use Rattle.wire.specs.Reading.{with_first};
-ghost use Rattle.wire.specs.Reading.{items_at, p1a_at, p1b_at, p2a_at, p2b_at, ask_at, b1a_at, b1b_at, b2b_at, kind_at, end_at, whole};
+ghost use Rattle.wire.specs.Reading.{branch_at, branches_at, tx_at, vote_at, report_at, instance_at, report_item_at, accept_item_at};
+ghost use Rattle.wire.specs.Reading.{list_at, with_first, items_at, end_at};
 
-use crate::grammar::{RM_BYTES, VERSION, VersionNumber};
+use crate::grammar::{RM_BYTES, VersionNumber};
 use crate::items::{InstanceAccept, InstanceReport, Items};
-use crate::message::{Kind, Message, is_message};
 use byteorder::{BigEndian, ByteOrder};
-use xid::{Branches, MAX_BRANCHES, MAX_COMPONENT, MAX_MANAGERS, ManagerNumber, Refusal, Tx, Vote};
+use xid::{Branches, MAX_BRANCHES, MAX_COMPONENT, MAX_MANAGERS, ManagerNumber, Tx, Vote};
 
 /// Takes a byte from the front. Each of these functions answers what it took and what follows it, and None where it doesn't
 /// stand there.
@@ -28,6 +20,16 @@ pub fn take_byte(bytes: &[u8]) -> Option<(u8, &[u8])>
         return None;
     };
     Some((*first, rest))
+}
+
+/// Takes the end.
+pub(crate) fn take_end(bytes: &[u8]) -> Option<()>
+    ensures { result ≡ end_at bytes.now }
+{
+    let [] = bytes else {
+        return None;
+    };
+    Some(())
 }
 
 /// Takes a number of 32 bits from the front.
@@ -146,7 +148,7 @@ fn most_managers(version: VersionNumber) -> ManagerNumber
 
 /// The format and the gtrid of a transaction, and what follows it. Its branches are put in place.
 #[tactic(auto, unfolding(crate::specs::Reading::tx_at))]
-pub(crate) fn take_parts<'a>(
+fn take_parts<'a>(
     version: VersionNumber,
     branches: &mut Branches,
     bytes: &'a [u8],

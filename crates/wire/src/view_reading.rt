@@ -6,9 +6,10 @@ ghost use Rattle.wire.specs.Reading.{p1a_at, p1b_at, p2a_at, p2b_at, ask_at, b1a
 ghost use Rattle.wire.specs.Decoding.{decoded};
 ghost use Rattle.wire.specs.Said.{told};
 
-use crate::decoding::take_end;
 use crate::grammar::VersionNumber;
-use crate::reading::{take_byte, take_instance, take_number, take_report, take_rm, take_vote};
+use crate::reading::{
+    take_byte, take_end, take_instance, take_number, take_report, take_rm, take_vote,
+};
 use crate::rest::Rest;
 use crate::spelled_tx::SpelledTx;
 use crate::view_checks::{is_ask, is_b1a, is_p1a, is_p1b, is_p2a, is_p2b};
