@@ -1,5 +1,6 @@
 -- What a message says beside its transaction: as it is seen over bytes, and as an acceptor replies.
 use Rattle.std.specs.Prelude.{ℕ, List, [], ◌∷◌, ◌++◌, length, Option, Some, None, Result, Ok, Err}
+use Rattle.std.specs.Borrow.{Bor}
 use Rattle.std.specs.List.{flat_map}
 use Rattle.xid.specs.Transactions.{TxParts}
 use Rattle.xid.specs.declared.refusals.Refusal.{Refusal}
@@ -27,6 +28,11 @@ said tx (rests.Ask rm) = kinds.Ask tx rm
 said tx (rests.B1a ballot) = kinds.B1a tx ballot
 said tx (rests.B1b ballot acceptor reports) = kinds.B1b tx ballot acceptor (reports_spelled reports.now)
 said tx (rests.B2b acceptor accepts) = kinds.B2b tx acceptor (accepts_spelled accepts.now)
+
+-- a rest that was taken, as the message that it makes, and the bytes after it
+abbrev pub heard : TxParts → Option (Rest × Bor (List ℕ)) → Option (Kind × List ℕ)
+heard tx None = None
+heard tx (Some x) = Some (said tx x.0, x.1.now)
 
 -- what is answered of a rest that was taken: the message that it makes
 abbrev pub told : TxParts → Option Rest → Result Kind Refusal

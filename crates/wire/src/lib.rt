@@ -10,7 +10,6 @@ mod reply;
 mod rest;
 mod spelled_tx;
 mod view;
-mod view_checks;
 mod view_items;
 mod view_reading;
 mod writing;

@@ -76,9 +76,7 @@ pub fn take_component(bytes: &[u8]) -> Option<(&[u8], &[u8])>
     ensures value { taken_bytes result ≡ component_at bytes.now }
     ensures few { MatchOption result (Unit {0}) (λ x. length x.0.now ≤ MAX_COMPONENT) }
 {
-    let Some((len, rest)) = take_byte(bytes) else {
-        return None;
-    };
+    let (len, rest) = take_byte(bytes)?;
     let len = len as usize;
     if len > MAX_COMPONENT {
         return None;
@@ -94,12 +92,8 @@ fn take_branch(version: VersionNumber, bytes: &[u8]) -> Option<(ManagerNumber, &
     ensures value { taken_branch result ≡ branch_at (version_of version) bytes.now }
     ensures few { MatchOption result (Unit {0}) (λ x. length x.1.now ≤ MAX_COMPONENT) }
 {
-    let Some((rm, rest)) = take_rm(version, bytes) else {
-        return None;
-    };
-    let Some((bqual, rest)) = take_component(rest) else {
-        return None;
-    };
+    let (rm, rest) = take_rm(version, bytes)?;
+    let (bqual, rest) = take_component(rest)?;
     Some((rm, bqual, rest))
 }
 
@@ -116,9 +110,7 @@ fn take_branches<'a>(
 {
     let mut rest = bytes;
     for _ in 0..count {
-        let Some((rm, bqual, after)) = take_branch(version, rest) else {
-            return None;
-        };
+        let (rm, bqual, after) = take_branch(version, rest)?;
         all.push(rm, bqual);
         rest = after;
     }
@@ -156,21 +148,13 @@ fn take_parts<'a>(
     requires { branches.old ≡ [] }
     ensures { taken_tx branches.new result ≡ tx_at (version_of version) bytes.now }
 {
-    let Some((format, rest)) = take_number(bytes) else {
-        return None;
-    };
-    let Some((gtrid, rest)) = take_component(rest) else {
-        return None;
-    };
-    let Some((count, rest)) = take_byte(rest) else {
-        return None;
-    };
+    let (format, rest) = take_number(bytes)?;
+    let (gtrid, rest) = take_component(rest)?;
+    let (count, rest) = take_byte(rest)?;
     if count as usize > most_branches(version) {
         return None;
     }
-    let Some(rest) = take_branches(version, count, branches, rest) else {
-        return None;
-    };
+    let rest = take_branches(version, count, branches, rest)?;
     Some((format, gtrid, rest))
 }
 
@@ -193,9 +177,7 @@ pub fn take_tx(version: VersionNumber, bytes: &[u8]) -> Option<(Tx, &[u8])>
     ensures { taken result ≡ tx_in (version_of version) bytes.now }
 {
     let mut branches = Branches::new();
-    let Some((format, gtrid, rest)) = take_parts(version, &mut branches, bytes) else {
-        return None;
-    };
+    let (format, gtrid, rest) = take_parts(version, &mut branches, bytes)?;
     if !Tx::are_parts(format, gtrid, &branches) {
         return None;
     }
@@ -211,9 +193,7 @@ pub fn take_tx(version: VersionNumber, bytes: &[u8]) -> Option<(Tx, &[u8])>
 pub fn take_vote(bytes: &[u8]) -> Option<(Vote, &[u8])>
     ensures { taken result ≡ vote_at bytes.now }
 {
-    let Some((vote, rest)) = take_byte(bytes) else {
-        return None;
-    };
+    let (vote, rest) = take_byte(bytes)?;
     match vote {
         1 => Some((Vote::Prepared, rest)),
         2 => Some((Vote::Aborted, rest)),
@@ -225,21 +205,15 @@ pub fn take_vote(bytes: &[u8]) -> Option<(Vote, &[u8])>
 pub(crate) fn take_report(bytes: &[u8]) -> Option<(Option<(u32, Vote)>, &[u8])>
     ensures { taken result ≡ report_at bytes.now }
 {
-    let Some((ballot, rest)) = take_number(bytes) else {
-        return None;
-    };
-    let Some((vote, after)) = take_byte(rest) else {
-        return None;
-    };
+    let (ballot, rest) = take_number(bytes)?;
+    let (vote, after) = take_byte(rest)?;
     if vote == 0 {
         if ballot == 0 {
             return Some((None, after));
         }
         return None;
     }
-    let Some((vote, after)) = take_vote(rest) else {
-        return None;
-    };
+    let (vote, after) = take_vote(rest)?;
     Some((Some((ballot, vote)), after))
 }
 
@@ -247,12 +221,8 @@ pub(crate) fn take_report(bytes: &[u8]) -> Option<(Option<(u32, Vote)>, &[u8])>
 pub(crate) fn take_instance(bytes: &[u8]) -> Option<(ManagerNumber, u32, &[u8])>
     ensures { option_map (λ x. (x.0, x.1, x.2.now)) result ≡ instance_at version_2 bytes.now }
 {
-    let Some((rm, rest)) = take_rm(VersionNumber::Second, bytes) else {
-        return None;
-    };
-    let Some((ballot, rest)) = take_number(rest) else {
-        return None;
-    };
+    let (rm, rest) = take_rm(VersionNumber::Second, bytes)?;
+    let (ballot, rest) = take_number(rest)?;
     Some((rm, ballot, rest))
 }
 
@@ -260,12 +230,8 @@ pub(crate) fn take_instance(bytes: &[u8]) -> Option<(ManagerNumber, u32, &[u8])>
 pub(crate) fn take_report_item(bytes: &[u8]) -> Option<(InstanceReport, &[u8])>
     ensures { taken result ≡ report_item_at bytes.now }
 {
-    let Some((instance, rest)) = take_rm(VersionNumber::Second, bytes) else {
-        return None;
-    };
-    let Some((report, rest)) = take_report(rest) else {
-        return None;
-    };
+    let (instance, rest) = take_rm(VersionNumber::Second, bytes)?;
+    let (report, rest) = take_report(rest)?;
     Some((InstanceReport { instance, report }, rest))
 }
 
@@ -273,12 +239,8 @@ pub(crate) fn take_report_item(bytes: &[u8]) -> Option<(InstanceReport, &[u8])>
 pub(crate) fn take_accept_item(bytes: &[u8]) -> Option<(InstanceAccept, &[u8])>
     ensures { taken result ≡ accept_item_at bytes.now }
 {
-    let Some((instance, ballot, rest)) = take_instance(bytes) else {
-        return None;
-    };
-    let Some((vote, rest)) = take_vote(rest) else {
-        return None;
-    };
+    let (instance, ballot, rest) = take_instance(bytes)?;
+    let (vote, rest) = take_vote(rest)?;
     Some((
         InstanceAccept {
             instance,
@@ -300,9 +262,7 @@ fn more_reports(
     let mut all = Items::one(first);
     let mut rest = bytes;
     for _ in 0..count {
-        let Some((item, after)) = take_report_item(rest) else {
-            return None;
-        };
+        let (item, after) = take_report_item(rest)?;
         all.push(item);
         rest = after;
     }
@@ -320,9 +280,7 @@ fn more_accepts(
     let mut all = Items::one(first);
     let mut rest = bytes;
     for _ in 0..count {
-        let Some((item, after)) = take_accept_item(rest) else {
-            return None;
-        };
+        let (item, after) = take_accept_item(rest)?;
         all.push(item);
         rest = after;
     }
@@ -333,18 +291,14 @@ fn more_accepts(
 pub(crate) fn take_reports(bytes: &[u8]) -> Option<(Items<InstanceReport>, &[u8])>
     ensures { taken result ≡ items_at report_item_at bytes.now }
 {
-    let Some((count, rest)) = take_byte(bytes) else {
-        return None;
-    };
+    let (count, rest) = take_byte(bytes)?;
     if count == 0 {
         return None;
     }
     if count as usize > MAX_BRANCHES {
         return None;
     }
-    let Some((first, rest)) = take_report_item(rest) else {
-        return None;
-    };
+    let (first, rest) = take_report_item(rest)?;
     more_reports(first, count - 1, rest)
 }
 
@@ -352,17 +306,13 @@ pub(crate) fn take_reports(bytes: &[u8]) -> Option<(Items<InstanceReport>, &[u8]
 pub(crate) fn take_accepts(bytes: &[u8]) -> Option<(Items<InstanceAccept>, &[u8])>
     ensures { taken result ≡ items_at accept_item_at bytes.now }
 {
-    let Some((count, rest)) = take_byte(bytes) else {
-        return None;
-    };
+    let (count, rest) = take_byte(bytes)?;
     if count == 0 {
         return None;
     }
     if count as usize > MAX_BRANCHES {
         return None;
     }
-    let Some((first, rest)) = take_accept_item(rest) else {
-        return None;
-    };
+    let (first, rest) = take_accept_item(rest)?;
     more_accepts(first, count - 1, rest)
 }

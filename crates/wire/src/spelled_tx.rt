@@ -41,12 +41,8 @@ fn take_manager(least: ManagerNumber, bytes: &[u8]) -> Option<(ManagerNumber, &[
     ensures value { taken result ≡ manager_at least bytes.now }
     ensures below { MatchOption result (Unit {0}) (λ x. x.0 < MAX_MANAGERS) }
 {
-    let Some((rm, rest)) = take_rm(VersionNumber::Second, bytes) else {
-        return None;
-    };
-    let Some((bqual, rest)) = take_component(rest) else {
-        return None;
-    };
+    let (rm, rest) = take_rm(VersionNumber::Second, bytes)?;
+    let (bqual, rest) = take_component(rest)?;
     if rm < least {
         return None;
     }
@@ -66,9 +62,7 @@ fn after_branches(count: u8, bytes: &[u8]) -> Option<&[u8]>
     let mut rest = bytes;
     let mut least = 0;
     for _ in 0..count {
-        let Some((rm, after)) = take_manager(least, rest) else {
-            return None;
-        };
+        let (rm, after) = take_manager(least, rest)?;
         least = rm + 1;
         rest = after;
     }
@@ -80,21 +74,15 @@ fn after_branches(count: u8, bytes: &[u8]) -> Option<&[u8]>
 fn after_tx(bytes: &[u8]) -> Option<&[u8]>
     ensures { seen result ≡ after_tx bytes.now }
 {
-    let Some((format, rest)) = take_number(bytes) else {
-        return None;
-    };
+    let (format, rest) = take_number(bytes)?;
     if format >= FORMATS {
         return None;
     }
-    let Some((gtrid, rest)) = take_component(rest) else {
-        return None;
-    };
+    let (gtrid, rest) = take_component(rest)?;
     if gtrid.len() == 0 {
         return None;
     }
-    let Some((count, rest)) = take_byte(rest) else {
-        return None;
-    };
+    let (count, rest) = take_byte(rest)?;
     if count == 0 {
         return None;
     }
@@ -123,9 +111,7 @@ impl<'a> SpelledTx<'a> {
     pub fn take(bytes: &'a [u8]) -> Option<(SpelledTx<'a>, &'a [u8])>
         ensures { taken result ≡ tx_in version_2 bytes.now }
     {
-        let Some(rest) = after_tx(bytes) else {
-            return None;
-        };
+        let rest = after_tx(bytes)?;
         let len = bytes.len() - rest.len();
         let tx = SpelledTx {
             bytes: &bytes[..len],
@@ -292,9 +278,7 @@ impl<'a> SpelledTx<'a> {
         ensures value { result ≡ xid_at self.now rm }
         ensures valid { IsTx self.now }
     {
-        let Some(bqual) = self.bqual_of(rm) else {
-            return None;
-        };
+        let bqual = self.bqual_of(rm)?;
         let Ok(xid) = Xid::new(i64::from(self.format()), self.gtrid(), bqual) else {
             unreachable!();
         };

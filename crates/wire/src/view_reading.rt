@@ -1,186 +1,166 @@
 //! What a message says beside its transaction, read from the bytes behind that.
 
-ghost use Rattle.std.specs.Prelude.{◌≡◌, Some};
-ghost use Rattle.wire.specs.declared.message.Kind.TheVariants.{Prepare, Commit, Abort};
+ghost use Rattle.std.specs.Prelude.{◌≡◌, ◌≢◌, ◌↔◌, IsTrue};
+ghost use Rattle.xid.specs.Transactions.{TxParts};
+ghost use Rattle.wire.specs.Grammar.{kind_byte};
+ghost use Rattle.wire.specs.Messages.{IsMessage};
 ghost use Rattle.wire.specs.Reading.{p1a_at, p1b_at, p2a_at, p2b_at, ask_at, b1a_at, b1b_at, b2b_at, kind_at};
 ghost use Rattle.wire.specs.Decoding.{decoded};
-ghost use Rattle.wire.specs.Said.{told};
+ghost use Rattle.wire.specs.Said.{said, heard, told};
 
 use crate::grammar::VersionNumber;
+use crate::message::is_report_below;
 use crate::reading::{
     take_byte, take_end, take_instance, take_number, take_report, take_rm, take_vote,
 };
 use crate::rest::Rest;
 use crate::spelled_tx::SpelledTx;
-use crate::view_checks::{is_ask, is_b1a, is_p1a, is_p1b, is_p2a, is_p2b};
 use crate::view_items::{are_accepts, are_reports};
 use xid::MAX_ACCEPTORS;
 
-fn prepare_of<'a>(tx: &SpelledTx<'_>, bytes: &'a [u8]) -> Option<Rest<'a>>
-    ensures { told tx.now result ≡ decoded (Some (Prepare tx.now, bytes.now)) }
-{
-    let Some(()) = take_end(bytes) else {
-        return None;
-    };
-    let _ = tx.count();
-    Some(Rest::Prepare)
-}
-
-fn commit_of<'a>(tx: &SpelledTx<'_>, bytes: &'a [u8]) -> Option<Rest<'a>>
-    ensures { told tx.now result ≡ decoded (Some (Commit tx.now, bytes.now)) }
-{
-    let Some(()) = take_end(bytes) else {
-        return None;
-    };
-    let _ = tx.count();
-    Some(Rest::Commit)
-}
-
-fn abort_of<'a>(tx: &SpelledTx<'_>, bytes: &'a [u8]) -> Option<Rest<'a>>
-    ensures { told tx.now result ≡ decoded (Some (Abort tx.now, bytes.now)) }
-{
-    let Some(()) = take_end(bytes) else {
-        return None;
-    };
-    let _ = tx.count();
-    Some(Rest::Abort)
-}
-
 #[tactic(auto, unfolding(crate::specs::Reading::p1a_at))]
-fn p1a_of<'a>(tx: &SpelledTx<'_>, bytes: &'a [u8]) -> Option<Rest<'a>>
-    ensures { told tx.now result ≡ decoded (p1a_at tx.now bytes.now) }
+fn take_p1a(bytes: &[u8]) -> Option<(Rest<'_>, &[u8])>
+    ensures { (tx : TxParts) → heard tx result ≡ p1a_at tx bytes.now }
 {
-    let Some((instance, ballot, rest)) = take_instance(bytes) else {
-        return None;
-    };
-    let Some(()) = take_end(rest) else {
-        return None;
-    };
-    if !is_p1a(tx, instance, ballot) {
-        return None;
-    }
-    Some(Rest::P1a { instance, ballot })
+    let (instance, ballot, rest) = take_instance(bytes)?;
+    Some((Rest::P1a { instance, ballot }, rest))
 }
 
 #[tactic(auto, unfolding(crate::specs::Reading::p1b_at))]
-fn p1b_of<'a>(tx: &SpelledTx<'_>, bytes: &'a [u8]) -> Option<Rest<'a>>
-    ensures { told tx.now result ≡ decoded (p1b_at tx.now bytes.now) }
+fn take_p1b(bytes: &[u8]) -> Option<(Rest<'_>, &[u8])>
+    ensures { (tx : TxParts) → heard tx result ≡ p1b_at tx bytes.now }
 {
-    let Some((instance, ballot, rest)) = take_instance(bytes) else {
-        return None;
-    };
-    let Some((report, rest)) = take_report(rest) else {
-        return None;
-    };
-    let Some((acceptor, rest)) = take_byte(rest) else {
-        return None;
-    };
-    let Some(()) = take_end(rest) else {
-        return None;
-    };
-    if !is_p1b(tx, instance, ballot, report, acceptor) {
-        return None;
-    }
-    Some(Rest::P1b {
+    let (instance, ballot, rest) = take_instance(bytes)?;
+    let (report, rest) = take_report(rest)?;
+    let (acceptor, rest) = take_byte(rest)?;
+    let said = Rest::P1b {
         instance,
         ballot,
         report,
         acceptor,
-    })
+    };
+    Some((said, rest))
 }
 
 #[tactic(auto, unfolding(crate::specs::Reading::p2a_at))]
-fn p2a_of<'a>(tx: &SpelledTx<'_>, bytes: &'a [u8]) -> Option<Rest<'a>>
-    ensures { told tx.now result ≡ decoded (p2a_at tx.now bytes.now) }
+fn take_p2a(bytes: &[u8]) -> Option<(Rest<'_>, &[u8])>
+    ensures { (tx : TxParts) → heard tx result ≡ p2a_at tx bytes.now }
 {
-    let Some((instance, ballot, rest)) = take_instance(bytes) else {
-        return None;
-    };
-    let Some((vote, rest)) = take_vote(rest) else {
-        return None;
-    };
-    let Some(()) = take_end(rest) else {
-        return None;
-    };
-    if !is_p2a(tx, instance, ballot, vote) {
-        return None;
-    }
-    Some(Rest::P2a {
+    let (instance, ballot, rest) = take_instance(bytes)?;
+    let (vote, rest) = take_vote(rest)?;
+    let said = Rest::P2a {
         instance,
         ballot,
         vote,
-    })
+    };
+    Some((said, rest))
 }
 
 #[tactic(auto, unfolding(crate::specs::Reading::p2b_at))]
-fn p2b_of<'a>(tx: &SpelledTx<'_>, bytes: &'a [u8]) -> Option<Rest<'a>>
-    ensures { told tx.now result ≡ decoded (p2b_at tx.now bytes.now) }
+fn take_p2b(bytes: &[u8]) -> Option<(Rest<'_>, &[u8])>
+    ensures { (tx : TxParts) → heard tx result ≡ p2b_at tx bytes.now }
 {
-    let Some((instance, ballot, rest)) = take_instance(bytes) else {
-        return None;
-    };
-    let Some((vote, rest)) = take_vote(rest) else {
-        return None;
-    };
-    let Some((acceptor, rest)) = take_byte(rest) else {
-        return None;
-    };
-    let Some(()) = take_end(rest) else {
-        return None;
-    };
-    if !is_p2b(tx, instance, ballot, vote, acceptor) {
-        return None;
-    }
-    Some(Rest::P2b {
+    let (instance, ballot, rest) = take_instance(bytes)?;
+    let (vote, rest) = take_vote(rest)?;
+    let (acceptor, rest) = take_byte(rest)?;
+    let said = Rest::P2b {
         instance,
         ballot,
         vote,
         acceptor,
-    })
+    };
+    Some((said, rest))
 }
 
 #[tactic(auto, unfolding(crate::specs::Reading::ask_at))]
-fn ask_of<'a>(tx: &SpelledTx<'_>, bytes: &'a [u8]) -> Option<Rest<'a>>
-    ensures { told tx.now result ≡ decoded (ask_at tx.now bytes.now) }
+fn take_ask(bytes: &[u8]) -> Option<(Rest<'_>, &[u8])>
+    ensures { (tx : TxParts) → heard tx result ≡ ask_at tx bytes.now }
 {
-    let Some((rm, rest)) = take_rm(VersionNumber::Second, bytes) else {
-        return None;
-    };
-    let Some(()) = take_end(rest) else {
-        return None;
-    };
-    if !is_ask(tx, rm) {
-        return None;
-    }
-    Some(Rest::Ask { rm })
+    let (rm, rest) = take_rm(VersionNumber::Second, bytes)?;
+    Some((Rest::Ask { rm }, rest))
 }
 
 #[tactic(auto, unfolding(crate::specs::Reading::b1a_at))]
-fn b1a_of<'a>(tx: &SpelledTx<'_>, bytes: &'a [u8]) -> Option<Rest<'a>>
-    ensures { told tx.now result ≡ decoded (b1a_at tx.now bytes.now) }
+fn take_b1a(bytes: &[u8]) -> Option<(Rest<'_>, &[u8])>
+    ensures { (tx : TxParts) → heard tx result ≡ b1a_at tx bytes.now }
 {
-    let Some((ballot, rest)) = take_number(bytes) else {
-        return None;
-    };
-    let Some(()) = take_end(rest) else {
-        return None;
-    };
-    if !is_b1a(tx, ballot) {
+    let (ballot, rest) = take_number(bytes)?;
+    Some((Rest::B1a { ballot }, rest))
+}
+
+/// Takes what a message of a number says, where it isn't a bundle of items.
+#[tactic(auto, unfolding(crate::specs::Reading::kind_at))]
+fn take_plain(code: u8, bytes: &[u8]) -> Option<(Rest<'_>, &[u8])>
+    requires no_reports { code ≢ 11 }
+    requires no_accepts { code ≢ 12 }
+    ensures { (tx : TxParts) → heard tx result ≡ kind_at code tx bytes.now }
+{
+    match code {
+        1 => Some((Rest::Prepare, bytes)),
+        2 => take_p1a(bytes),
+        3 => take_p1b(bytes),
+        4 => take_p2a(bytes),
+        5 => take_p2b(bytes),
+        6 => Some((Rest::Commit, bytes)),
+        7 => Some((Rest::Abort, bytes)),
+        8 => take_ask(bytes),
+        10 => take_b1a(bytes),
+        _ => None,
+    }
+}
+
+/// Whether a rest makes a message with the transaction, where it isn't a bundle of items.
+fn is_said(tx: &SpelledTx<'_>, rest: Rest<'_>) -> bool
+    requires no_reports { kind_byte (said tx.now rest) ≢ 11 }
+    requires no_accepts { kind_byte (said tx.now rest) ≢ 12 }
+    ensures { IsTrue result ↔ IsMessage (said tx.now rest.entry) }
+{
+    let _ = tx.count();
+    match rest {
+        Rest::Prepare | Rest::Commit | Rest::Abort => true,
+        Rest::P1a { instance, ballot } => tx.is_participant(instance) && ballot >= 1,
+        Rest::P1b {
+            instance,
+            ballot,
+            report,
+            acceptor,
+        } => {
+            tx.is_participant(instance)
+                && ballot >= 1
+                && is_report_below(report, ballot)
+                && acceptor < MAX_ACCEPTORS
+        }
+        Rest::P2a { instance, .. } => tx.is_participant(instance),
+        Rest::P2b {
+            instance,
+            acceptor,
+            ..
+        } => tx.is_participant(instance) && acceptor < MAX_ACCEPTORS,
+        Rest::Ask { rm } => tx.is_participant(rm),
+        Rest::B1a { ballot } => ballot >= 1,
+        Rest::B1b { .. } | Rest::B2b { .. } => false,
+    }
+}
+
+fn plain_of<'a>(code: u8, tx: &SpelledTx<'_>, bytes: &'a [u8]) -> Option<Rest<'a>>
+    requires no_reports { code ≢ 11 }
+    requires no_accepts { code ≢ 12 }
+    ensures { told tx.now result ≡ decoded (kind_at code tx.now bytes.now) }
+{
+    let (rest, after) = take_plain(code, bytes)?;
+    take_end(after)?;
+    if !is_said(tx, rest) {
         return None;
     }
-    Some(Rest::B1a { ballot })
+    Some(rest)
 }
 
 #[tactic(auto, unfolding(crate::specs::Reading::b1b_at))]
 fn b1b_of<'a>(tx: &SpelledTx<'_>, bytes: &'a [u8]) -> Option<Rest<'a>>
     ensures { told tx.now result ≡ decoded (b1b_at tx.now bytes.now) }
 {
-    let Some((ballot, rest)) = take_number(bytes) else {
-        return None;
-    };
-    let Some((acceptor, reports)) = take_byte(rest) else {
-        return None;
-    };
+    let (ballot, rest) = take_number(bytes)?;
+    let (acceptor, reports) = take_byte(rest)?;
     if ballot == 0 {
         return None;
     }
@@ -202,9 +182,7 @@ fn b1b_of<'a>(tx: &SpelledTx<'_>, bytes: &'a [u8]) -> Option<Rest<'a>>
 fn b2b_of<'a>(tx: &SpelledTx<'_>, bytes: &'a [u8]) -> Option<Rest<'a>>
     ensures { told tx.now result ≡ decoded (b2b_at tx.now bytes.now) }
 {
-    let Some((acceptor, accepts)) = take_byte(bytes) else {
-        return None;
-    };
+    let (acceptor, accepts) = take_byte(bytes)?;
     if acceptor >= MAX_ACCEPTORS {
         return None;
     }
@@ -221,17 +199,8 @@ pub(crate) fn rest_of<'a>(code: u8, tx: &SpelledTx<'_>, bytes: &'a [u8]) -> Opti
     ensures { told tx.now result ≡ decoded (kind_at code tx.now bytes.now) }
 {
     match code {
-        1 => prepare_of(tx, bytes),
-        2 => p1a_of(tx, bytes),
-        3 => p1b_of(tx, bytes),
-        4 => p2a_of(tx, bytes),
-        5 => p2b_of(tx, bytes),
-        6 => commit_of(tx, bytes),
-        7 => abort_of(tx, bytes),
-        8 => ask_of(tx, bytes),
-        10 => b1a_of(tx, bytes),
         11 => b1b_of(tx, bytes),
         12 => b2b_of(tx, bytes),
-        _ => None,
+        _ => plain_of(code, tx, bytes),
     }
 }

@@ -7,18 +7,18 @@ use Rattle.wire.proofs.view_reading.b1b_of.Goals as goal
 
 pub returns-then-not-are_reports : goal.returns-then-not-are_reports
 returns-then-not-are_reports c =
-    b1b_refused c.args.tx.now c.args.bytes.now c.in-Some.rest.now c.in-Some-take_byte.reports.now c.in-Some.ballot
-    c.in-Some-take_byte.acceptor
-    c.in-Some.ensures c.in-Some-take_byte.ensures (sym c.are_reports.ensures ∙ c.if-not-are_reports.true)
+    b1b_refused c.args.tx.now c.args.bytes.now c.in_ok-ballot.rest.now c.in_ok-acceptor.reports.now c.in_ok-ballot.ballot
+    c.in_ok-acceptor.acceptor
+    c.in_ok-ballot.ensures c.in_ok-acceptor.ensures (sym c.are_reports.ensures ∙ c.if-not-are_reports.true)
 
 pub returns : goal.returns
 returns c =
     let is : IsBytes c.args.bytes.now = λ i. Fits-lt-pow (c.type_inv.bytes i) in
-    let leader : IsLeaderBallot c.in-Some.ballot = record {
+    let leader : IsLeaderBallot c.in_ok-ballot.ballot = record {
       some = omega (arith, c.if-ballot-eq0.false);
-      fits = number_fits c.args.bytes.now (c.in-Some.ballot, c.in-Some.rest.now) is (sym c.in-Some.ensures);
+      fits = number_fits c.args.bytes.now (c.in_ok-ballot.ballot, c.in_ok-ballot.rest.now) is (sym c.in_ok-ballot.ensures);
     } in
-    b1b_accepted c.args.tx.now c.args.bytes.now c.in-Some.rest.now c.in-Some-take_byte.reports.now c.in-Some.ballot
-    c.in-Some-take_byte.acceptor
-    c.in-Some.ensures c.in-Some-take_byte.ensures c.count.ensures.valid leader c.if-acceptor-ge-MAX_ACCEPTORS.false
+    b1b_accepted c.args.tx.now c.args.bytes.now c.in_ok-ballot.rest.now c.in_ok-acceptor.reports.now c.in_ok-ballot.ballot
+    c.in_ok-acceptor.acceptor
+    c.in_ok-ballot.ensures c.in_ok-acceptor.ensures c.count.ensures.valid leader c.if-acceptor-ge-MAX_ACCEPTORS.false
     (sym c.are_reports.ensures ∙ c.if-not-are_reports.false)

@@ -6,11 +6,11 @@ use Rattle.wire.proofs.view_reading.b2b_of.Goals as goal
 
 pub returns-then-not-are_accepts : goal.returns-then-not-are_accepts
 returns-then-not-are_accepts c =
-    b2b_refused c.args.tx.now c.args.bytes.now c.in-Some.accepts.now c.in-Some.acceptor c.in-Some.ensures
+    b2b_refused c.args.tx.now c.args.bytes.now c.in_ok-acceptor.accepts.now c.in_ok-acceptor.acceptor c.in_ok-acceptor.ensures
     (sym c.are_accepts.ensures ∙ c.if-not-are_accepts.true)
 
 pub returns : goal.returns
 returns c =
     let is : IsBytes c.args.bytes.now = λ i. Fits-lt-pow (c.type_inv.bytes i) in
-    b2b_accepted c.args.tx.now c.args.bytes.now c.in-Some.accepts.now c.in-Some.acceptor c.in-Some.ensures is c.count.ensures.valid
+    b2b_accepted c.args.tx.now c.args.bytes.now c.in_ok-acceptor.accepts.now c.in_ok-acceptor.acceptor c.in_ok-acceptor.ensures is c.count.ensures.valid
     c.if-acceptor-ge-MAX_ACCEPTORS.false (sym c.are_accepts.ensures ∙ c.if-not-are_accepts.false)

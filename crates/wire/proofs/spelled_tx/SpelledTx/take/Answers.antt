@@ -8,24 +8,24 @@ use Rattle.wire.specs.Versions.{version_2}
 use Rattle.wire.proofs.Ends.{ends, none, cut, is_spelled, spelled_is}
 use Rattle.wire.proofs.spelled_tx.SpelledTx.take.Goals as goal
 
-pub returns-in_default : goal.returns-in_default
-returns-in_default c =
+pub returns-in_err-rest : goal.returns-in_err-rest
+returns-in_err-rest c =
     let is : IsBytes c.args.bytes.now = λ i. Fits-lt-pow (c.type_inv.bytes i) in
-    sym (none c.args.bytes.now is (sym c.in_default.ensures))
+    rw c.from_residual.ensures (sym (none c.args.bytes.now is (sym c.in_err-rest.ensures)))
 
 pub overflow_sub-len : goal.overflow_sub-len
 overflow_sub-len c =
     let is : IsBytes c.args.bytes.now = λ i. Fits-lt-pow (c.type_inv.bytes i) in
-    let e = ends c.args.bytes.now c.in-Some.rest.now is (sym c.in-Some.ensures) in
-    let len : length c.args.bytes.now ≡ length (tx_spelling version_2 e.tx) + length c.in-Some.rest.now =
-    ap length e.front ∙ length-append (tx_spelling version_2 e.tx) c.in-Some.rest.now in
+    let e = ends c.args.bytes.now c.in_ok-rest.rest.now is (sym c.in_ok-rest.ensures) in
+    let len : length c.args.bytes.now ≡ length (tx_spelling version_2 e.tx) + length c.in_ok-rest.rest.now =
+    ap length e.front ∙ length-append (tx_spelling version_2 e.tx) c.in_ok-rest.rest.now in
     omega (arith, len)
 
 pub invariant_of-tx : goal.invariant_of-tx
 invariant_of-tx c =
     let is : IsBytes c.args.bytes.now = λ i. Fits-lt-pow (c.type_inv.bytes i) in
-    let e = ends c.args.bytes.now c.in-Some.rest.now is (sym c.in-Some.ensures) in
-    is_spelled _ e.tx e.is (cut c.args.bytes.now c.in-Some.rest.now e)
+    let e = ends c.args.bytes.now c.in_ok-rest.rest.now is (sym c.in_ok-rest.ensures) in
+    is_spelled _ e.tx e.is (cut c.args.bytes.now c.in_ok-rest.rest.now e)
 
 abbrev with_rest : TxParts → List ℕ → Option (TxParts × List ℕ)
 with_rest tx rest = Some (tx, rest)
@@ -33,5 +33,5 @@ with_rest tx rest = Some (tx, rest)
 pub returns : goal.returns
 returns c =
     let is : IsBytes c.args.bytes.now = λ i. Fits-lt-pow (c.type_inv.bytes i) in
-    let e = ends c.args.bytes.now c.in-Some.rest.now is (sym c.in-Some.ensures) in
-    ap (λ (tx : TxParts). with_rest tx c.in-Some.rest.now) (spelled_is _ e.tx e.is (cut c.args.bytes.now c.in-Some.rest.now e)) ∙ sym e.read
+    let e = ends c.args.bytes.now c.in_ok-rest.rest.now is (sym c.in_ok-rest.ensures) in
+    ap (λ (tx : TxParts). with_rest tx c.in_ok-rest.rest.now) (spelled_is _ e.tx e.is (cut c.args.bytes.now c.in_ok-rest.rest.now e)) ∙ sym e.read
