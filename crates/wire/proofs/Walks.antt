@@ -2,18 +2,22 @@
 use Rattle.std.proofs.Common.{◌≡◌, ◌≢◌, eqb, ℕ, zero, suc, ◌+◌, ◌-◌, ◌<◌, ◌≤◌, Bool}
 use Rattle.std.proofs.Common.{true, false, ltb, List, [], ◌∷◌, ◌++◌, length, take, drop, get_or}
 use Rattle.std.proofs.Common.{Option, Some, None, IsTrue, refl, sym, ap, ◌∙◌, arith, slice_index}
-use Rattle.std.specs.Prelude.{is_some, nat_lt}
-use Rattle.std.specs.List.{flat_map, All, list_all, list_any, find}
+use Rattle.std.specs.Prelude.{is_some, nat_lt, not, ◌||◌, ◌&&◌, cond}
+use Rattle.std.specs.List.{flat_map, All, list_all, list_any, position_or_len, find, slice_get}
+use Rattle.std.specs.List.Sorted.{IsStrictlyIncreasing}
 use Rattle.std.proofs.lemmas.Bool.Decides.{nat_tests}
 use Rattle.std.proofs.lemmas.Bool.{ltb-true, ltb-false, le-ltb, lt-ltb}
 use Rattle.std.proofs.lemmas.List.Concat.{flat_map-cons}
+use Rattle.std.proofs.lemmas.List.Folds.{find_at}
+use Rattle.std.proofs.lemmas.Option.{slice_get-get_or, slice_get_past}
 use Rattle.std.proofs.lemmas.Grind.{common_steps}
 use Rattle.byteorder.specs.Endian.{big_number}
 use Rattle.xid.specs.Limits.{most_component}
-use Rattle.xid.specs.Transactions.{BranchParts, IsBranch, is_at, rm_numbers}
+use Rattle.xid.specs.Transactions.{BranchParts, IsBranch, is_at}
 use Rattle.wire.specs.Grammar.{branch_spelling, branches_spelling}
 use Rattle.wire.specs.Reading.{branch_at, component_at}
 use Rattle.wire.specs.Versions.{version_2}
+use Rattle.wire.proofs.Ascending.{later}
 use Rattle.wire.proofs.Fields.{branch_again, wide_2}
 
 -- a branch at the front, by where its fields stand
@@ -114,17 +118,18 @@ at_first bs xs e =
 pub count_is : (bs : List BranchParts) (xs : List ℕ) → xs ≡ branches_spelling version_2 bs → get_or xs 0 0 ≡ length bs
 count_is bs xs e = ap (λ (xs : List ℕ). get_or xs 0 0) e
 
-pub any_here : (bs : List BranchParts) (i rm : ℕ) (d : BranchParts) → i < length bs → (get_or bs i d).rm ≡ rm
-    → list_any (is_at rm) (drop i bs) ≡ true
-any_here bs i rm d lt e =
-    let yes : eqb (get_or bs i d).rm rm ≡ true = grind (arith, nat_tests, e) in
-    ap (list_any (is_at rm)) (drops bs i d lt) ∙ rw yes refl
+-- one passes where the first that does stands among them
+pub any_place : {X : Type 0} (p : X → Bool) (xs : List X) → list_any p xs ≡ ltb (position_or_len p xs) (length xs)
+any_place p [] = refl
+any_place p (x ∷ xs) = by (p x) (any_place p xs)
+  where
+    next : (n m : ℕ) → ltb n m ≡ ltb (1 + n) (suc m)
+    next n m = grind (arith, nat_tests)
 
-pub any_later : (bs : List BranchParts) (i rm : ℕ) (d : BranchParts) → i < length bs → (get_or bs i d).rm ≢ rm
-    → list_any (is_at rm) (drop i bs) ≡ list_any (is_at rm) (drop (i + 1) bs)
-any_later bs i rm d lt e =
-    let no : eqb (get_or bs i d).rm rm ≡ false = grind (arith, nat_tests, e) in
-    ap (list_any (is_at rm)) (drops bs i d lt) ∙ rw no refl
+    by : (t : Bool) → list_any p xs ≡ ltb (position_or_len p xs) (length xs)
+        → (t || list_any p xs) ≡ ltb (cond (not t) (1 + position_or_len p xs) 0) (suc (length xs))
+    by true e = sym (lt-ltb 0 (suc (length xs)) (omega arith))
+    by false e = e ∙ next (position_or_len p xs) (length xs)
 
 -- none of the branches so far is a resource manager's, nor is the next one
 pub none_yet : (bs : List BranchParts) (i rm : ℕ) (d : BranchParts) → (get_or bs i d).rm ≢ rm
@@ -138,31 +143,40 @@ none_yet bs i rm d other before k less = by (ltb k i) refl
         let no : eqb (get_or bs i d).rm rm ≡ false = grind (arith, nat_tests, other) in
         ap (λ (n : ℕ). is_at rm (get_or bs n d)) same ∙ no
 
--- whether all branches from a place on are below a number
-pub all_stops : (bs : List BranchParts) (i n : ℕ) (d : BranchParts) → i < length bs → n ≤ (get_or bs i d).rm
-    → list_all (λ rm. nat_lt rm n) (rm_numbers (drop i bs)) ≡ false
-all_stops bs i n d lt le =
-    let no : ltb (get_or bs i d).rm n ≡ false = le-ltb _ _ le in
-    ap (λ (xs : List BranchParts). list_all (λ rm. nat_lt rm n) (rm_numbers xs)) (drops bs i d lt) ∙ rw no refl
+-- ascending numbers are below a number where the last is
+pub all_last : (n : ℕ) (ns : List ℕ) (most : ℕ) → IsStrictlyIncreasing (n ∷ ns)
+    → list_all (λ n. nat_lt n most) (n ∷ ns) ≡ nat_lt (slice_index (n ∷ ns) (length ns)) most
+all_last n [] most up = by (ltb n most)
+  where
+    by : (t : Bool) → (t && true) ≡ t
+    by true = refl
+    by false = refl
+all_last n (m ∷ ms) most up = by (ltb n most) (ltb m most) refl refl (all_last m ms most (later n m ms up))
+  where
+    lt : n < m
+    lt = up 0 (omega arith)
 
-pub all_goes : (bs : List BranchParts) (i n : ℕ) (d : BranchParts) → i < length bs → (get_or bs i d).rm < n
-    → list_all (λ rm. nat_lt rm n) (rm_numbers (drop i bs)) ≡ list_all (λ rm. nat_lt rm n) (rm_numbers (drop (i + 1) bs))
-all_goes bs i n d lt below =
-    let yes : ltb (get_or bs i d).rm n ≡ true = lt-ltb _ _ below in
-    ap (λ (xs : List BranchParts). list_all (λ rm. nat_lt rm n) (rm_numbers xs)) (drops bs i d lt) ∙ rw yes refl
+    by : (t u : Bool) → ltb n most ≡ t → ltb m most ≡ u
+        → (u && list_all (λ n. nat_lt n most) ms) ≡ nat_lt (slice_index (m ∷ ms) (length ms)) most
+        → (t && (u && list_all (λ n. nat_lt n most) ms)) ≡ nat_lt (slice_index (m ∷ ms) (length ms)) most
+    by true u et eu e = e
+    by false false et eu e = e
+    by false true et eu e = absurd (omega (arith, lt, ltb-true m most eu, ltb-false n most et))
 
--- the branch of a resource manager, from a place on: it stands there, or after it
-pub find_here : (bs : List BranchParts) (i rm : ℕ) (d : BranchParts) → i < length bs → (get_or bs i d).rm ≡ rm
-    → find (is_at rm) (drop i bs) ≡ Some (get_or bs i d)
-find_here bs i rm d lt e =
-    let here : eqb (get_or bs i d).rm rm ≡ true = grind (arith, nat_tests, e) in
-    ap (find (is_at rm)) (drops bs i d lt) ∙ rw here refl
+pub all_below : (ns : List ℕ) (most : ℕ) → IsStrictlyIncreasing ns → 0 < length ns
+    → nat_lt (slice_index ns (length ns - 1)) most ≡ list_all (λ n. nat_lt n most) ns
+all_below [] most up some = absurd (omega arith)
+all_below (n ∷ ns) most up some =
+    let last : suc (length ns) - 1 ≡ length ns = omega arith in
+    rw last (sym (all_last n ns most up))
 
-pub find_later : (bs : List BranchParts) (i rm : ℕ) (d : BranchParts) → i < length bs → (get_or bs i d).rm ≢ rm
-    → find (is_at rm) (drop i bs) ≡ find (is_at rm) (drop (i + 1) bs)
-find_later bs i rm d lt e =
-    let other : eqb (get_or bs i d).rm rm ≡ false = grind (arith, nat_tests, e) in
-    ap (find (is_at rm)) (drops bs i d lt) ∙ rw other refl
+-- the branch of a resource manager, by its place
+pub found : (bs : List BranchParts) (rm i : ℕ) (d : BranchParts) → i ≡ position_or_len (is_at rm) bs → i < length bs
+    → find (is_at rm) bs ≡ Some (get_or bs i d)
+found bs rm i d e lt = find_at (is_at rm) bs ∙ ap (slice_get bs) (sym e) ∙ slice_get-get_or bs i d lt
+
+pub not_found : (bs : List BranchParts) (rm i : ℕ) → i ≡ position_or_len (is_at rm) bs → length bs ≤ i → find (is_at rm) bs ≡ None
+not_found bs rm i e le = find_at (is_at rm) bs ∙ ap (slice_get bs) (sym e) ∙ slice_get_past bs i le
 
 -- the branches before a place, and the one that stands there
 pub one_more : {X : Type 0} (xs : List X) (i : ℕ) (d : X) → i < length xs → take i xs ++ get_or xs i d ∷ [] ≡ take (i + 1) xs

@@ -184,6 +184,7 @@ impl<'a> SpelledTx<'a> {
     fn nth(&self, i: usize) -> (ManagerNumber, &'a [u8], &'a [u8])
         requires { i < length self.now.branches }
         ensures rm { result.0 ≡ (nth_branch self.now i).rm }
+        ensures bqual { result.1.now ≡ (nth_branch self.now i).bqual }
         ensures valid { IsTx self.now }
     {
         let mut branch = first_branch(&self.branches()[1..]);
@@ -204,40 +205,6 @@ impl<'a> SpelledTx<'a> {
         self.nth(i).0
     }
 
-    /// Whether a resource manager takes part.
-    pub fn is_participant(&self, rm: ManagerNumber) -> bool
-        ensures value { result ≡ is_participant self.now rm }
-        ensures valid { IsTx self.now }
-    {
-        let branches = self.branches();
-        let mut rest = &branches[1..];
-        for _ in 0..branches[0] {
-            let branch = first_branch(rest);
-            if branch.0 == rm {
-                return true;
-            }
-            rest = branch.2;
-        }
-        false
-    }
-
-    /// Whether each resource manager that takes part has a number below this one.
-    pub fn are_below(&self, managers: ManagerNumber) -> bool
-        ensures value { result ≡ list_all (λ rm. nat_lt rm managers) (participants self.now) }
-        ensures valid { IsTx self.now }
-    {
-        let branches = self.branches();
-        let mut rest = &branches[1..];
-        for _ in 0..branches[0] {
-            let branch = first_branch(rest);
-            if branch.0 >= managers {
-                return false;
-            }
-            rest = branch.2;
-        }
-        true
-    }
-
     /// The place of a resource manager's branch, or how many branches there are where it takes no part.
     pub fn place_of(&self, rm: ManagerNumber) -> usize
         ensures value { result ≡ position_or_len (is_at rm) self.now.branches }
@@ -255,22 +222,21 @@ impl<'a> SpelledTx<'a> {
         branches[0] as usize
     }
 
-    /// The bqual of a resource manager's branch, where it takes part.
-    fn bqual_of(&self, rm: ManagerNumber) -> Option<&'a [u8]>
-        ensures value { seen result ≡ option_map (λ branch. branch.bqual) (find (is_at rm) self.now.branches) }
-        ensures component { IfSome result (λ bqual. IsComponent bqual.now) }
+    /// Whether a resource manager takes part.
+    #[tactic(auto, using(crate::proofs::Walks::any_place))]
+    pub fn is_participant(&self, rm: ManagerNumber) -> bool
+        ensures value { result ≡ is_participant self.now rm }
         ensures valid { IsTx self.now }
     {
-        let branches = self.branches();
-        let mut rest = &branches[1..];
-        for _ in 0..branches[0] {
-            let branch = first_branch(rest);
-            if branch.0 == rm {
-                return Some(branch.1);
-            }
-            rest = branch.2;
-        }
-        None
+        self.place_of(rm) < self.count()
+    }
+
+    /// Whether each resource manager that takes part has a number below this one.
+    pub fn are_below(&self, managers: ManagerNumber) -> bool
+        ensures value { result ≡ list_all (λ rm. nat_lt rm managers) (participants self.now) }
+        ensures valid { IsTx self.now }
+    {
+        self.rm(self.count() - 1) < managers
     }
 
     /// The XID of a resource manager's branch, where it takes part; None where it doesn't.
@@ -278,7 +244,11 @@ impl<'a> SpelledTx<'a> {
         ensures value { result ≡ xid_at self.now rm }
         ensures valid { IsTx self.now }
     {
-        let bqual = self.bqual_of(rm)?;
+        let place = self.place_of(rm);
+        if place >= self.count() {
+            return None;
+        }
+        let bqual = self.nth(place).1;
         let Ok(xid) = Xid::new(i64::from(self.format()), self.gtrid(), bqual) else {
             unreachable!();
         };

@@ -1,37 +1,15 @@
-use Rattle.std.proofs.Common.{◌<◌, length, [], sym, ◌∙◌, arith}
-use Rattle.xid.specs.Transactions.{BranchParts}
-use Rattle.wire.proofs.Walks.{took, some_next, count_is, all_stops, all_goes}
+use Rattle.std.proofs.Common.{◌≡◌, ◌-◌, ap, ◌∙◌, arith, length, slice_index, ℕ}
+use Rattle.std.specs.Prelude.{nat_lt}
+use Rattle.std.proofs.lemmas.List.{length-map}
+use Rattle.xid.specs.Transactions.{rm_numbers}
+use Rattle.wire.proofs.Walks.{all_below}
 use Rattle.wire.proofs.spelled_tx.SpelledTx.are_below.Goals as goal
 
-abbrev blank : BranchParts
-blank = record { rm = 0; bqual = [] }
-
-pub first_branch-branch-requires : goal.first_branch-branch-requires
-first_branch-branch-requires c =
+pub returns-clause-value : goal.returns-clause-value
+returns-clause-value c =
     let bs = c.args.self.now.branches in
-    let lt : c.loop.counter < length bs = omega (arith, c.loop-test.true, count_is bs _ c.branches-branches.ensures.value) in
-    some_next bs c.loop.counter c.loop.rest.now c.branches-branches.ensures.valid.branches.each lt c.loop.invariant.left
-
-pub returns-then-branch-managers-clause-value : goal.returns-then-branch-managers-clause-value
-returns-then-branch-managers-clause-value c =
-    let bs = c.args.self.now.branches in
-    let lt : c.loop.counter < length bs = omega (arith, c.loop-test.true, count_is bs _ c.branches-branches.ensures.value) in
-    let was = took bs c.loop.counter c.loop.rest.now blank c.first_branch-branch.result.0 c.first_branch-branch.result.1.now
-    c.first_branch-branch.result.2.now c.branches-branches.ensures.valid.branches.each lt c.loop.invariant.left
-    c.first_branch-branch.ensures in
-    sym (all_stops bs c.loop.counter c.args.managers blank lt (omega (arith, was.manager, c.if-branch-managers.true)))
-    ∙ c.loop.invariant.same
-
-pub loop-preserved : goal.loop-preserved
-loop-preserved c =
-    let bs = c.args.self.now.branches in
-    let lt : c.loop.counter < length bs = omega (arith, c.loop-test.true, count_is bs _ c.branches-branches.ensures.value) in
-    let was = took bs c.loop.counter c.loop.rest.now blank c.first_branch-branch.result.0 c.first_branch-branch.result.1.now
-    c.first_branch-branch.result.2.now c.branches-branches.ensures.valid.branches.each lt c.loop.invariant.left
-    c.first_branch-branch.ensures in
-    record {
-      left = was.after;
-      same =
-          sym (all_goes bs c.loop.counter c.args.managers blank lt (omega (arith, was.manager, c.if-branch-managers.false)))
-          ∙ c.loop.invariant.same;
-    }
+    let len : length (rm_numbers bs) ≡ length bs = simp length-map in
+    let last : c.count.result - 1 ≡ length (rm_numbers bs) - 1 = omega (arith, len, c.count.ensures.value) in
+    let valid = c.count.ensures.valid in
+    ap (λ (rm : ℕ). nat_lt rm c.args.managers) (c.rm.ensures.value ∙ ap (slice_index (rm_numbers bs)) last)
+    ∙ all_below (rm_numbers bs) c.args.managers valid.branches.ascending (omega (arith, len, valid.branches.some))
