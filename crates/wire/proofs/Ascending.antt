@@ -1,5 +1,5 @@
 -- Numbers that ascend strictly.
-use Rattle.std.proofs.Common.{◌≡◌, ℕ, zero, suc, ◌+◌, ◌-◌, ◌<◌, List, ◌∷◌, length, get_or, map, slice_index, subst, arith}
+use Rattle.std.proofs.Common.{◌≡◌, ℕ, zero, suc, ◌+◌, ◌-◌, ◌<◌, ◌≤◌, List, [], ◌∷◌, length, get_or, map, slice_index, subst, arith}
 use Rattle.std.specs.List.Sorted.{IsStrictlyIncreasing}
 use Rattle.std.proofs.lemmas.List.{get_or-map, length-map}
 
@@ -14,6 +14,27 @@ later n m rest up k within = subst (λ (i : ℕ). slice_index (m ∷ rest) k < s
 pub before : (n m : ℕ) (rest : List ℕ) → n < m → IsStrictlyIncreasing (m ∷ rest) → IsStrictlyIncreasing (n ∷ m ∷ rest)
 before n m rest lt up zero within = lt
 before n m rest lt up (suc k) within = rw (next k) (up k (omega arith))
+
+pub tail_up : (n : ℕ) (ns : List ℕ) → IsStrictlyIncreasing (n ∷ ns) → IsStrictlyIncreasing ns
+tail_up n [] up = λ k lt. absurd (omega arith)
+tail_up n (m ∷ ms) up = later n m ms up
+
+-- the first of numbers, if there is one, is not below the least
+abbrev pub IsFrom : ℕ → List ℕ → Type 0
+IsFrom least [] = Unit {0}
+IsFrom least (n ∷ ns) = least ≤ n
+
+pub from_zero : (ns : List ℕ) → IsFrom 0 ns
+from_zero [] = tt
+from_zero (n ∷ ns) = omega arith
+
+pub ascend_with : (n : ℕ) (ns : List ℕ) → IsFrom (n + 1) ns → IsStrictlyIncreasing ns → IsStrictlyIncreasing (n ∷ ns)
+ascend_with n [] from up = λ k lt. absurd (omega arith)
+ascend_with n (m ∷ ms) from up = before n m ms (omega (arith, from)) up
+
+pub from_next : (n : ℕ) (ns : List ℕ) → IsStrictlyIncreasing (n ∷ ns) → IsFrom (n + 1) ns
+from_next n [] up = tt
+from_next n (m ∷ ms) up = let lt : n < m = up 0 (omega arith) in omega arith
 
 module _ {X : Type 0} (f : X → ℕ) where
   -- numbers of a list ascend where each is below the next

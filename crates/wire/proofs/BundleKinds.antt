@@ -1,5 +1,5 @@
 -- The bundles that bytes spell, by what was passed over.
-use Rattle.std.proofs.Common.{◌≡◌, ◌==◌, ℕ, zero, suc, ◌<◌, ◌^◌, ◌&&◌, Bool, true, false}
+use Rattle.std.proofs.Common.{◌≡◌, ◌==◌, ℕ, zero, suc, ◌<◌, ◌^◌, Bool, true, false}
 use Rattle.std.proofs.Common.{cond, ltb, List, [], ◌∷◌, length, map, Option, Some, None, IsTrue}
 use Rattle.std.proofs.Common.{refl, sym, ap, subst, ◌∙◌, arith}
 use Rattle.std.specs.Prelude.{Result, Ok, Err}
@@ -27,7 +27,7 @@ use Rattle.wire.proofs.Decoded.{accepted}
 use Rattle.wire.proofs.Spelled.{some_same, step, unless, rm_spelled}
 use Rattle.wire.proofs.Spelled.{byte_spelled, accept_item_spelled}
 use Rattle.wire.specs.SpelledItems.{reports_spelled, accepts_spelled, are_items, is_reported, is_accepted}
-use Rattle.wire.proofs.CountedItems.{are, are_again}
+use Rattle.wire.proofs.CountedItems.{both, are, are_again}
 
 pub below : (ballot : ℕ) (report : Option (ℕ × Vote)) → is_report ballot report ≡ true → IsReportBelow ballot report
 below ballot None e = tt
@@ -43,10 +43,6 @@ not_below ballot report not = by (is_report ballot report) refl
     by : (t : Bool) → is_report ballot report ≡ t → is_report ballot report ≡ false
     by true e = absurd (not (below ballot report e))
     by false e = e
-
-both : (a b : Bool) → (a && b) ≡ true → (a ≡ true) × (b ≡ true)
-both true b e = (refl, e)
-both false b e = absurd (cc (e))
 
 -- one fact of each
 module _ {X : Type 0} where

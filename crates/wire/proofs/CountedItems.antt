@@ -9,9 +9,13 @@ use Rattle.std.proofs.lemmas.Bool.Decides.{nat_tests}
 use Rattle.std.proofs.Math.Dec.{eqb-suc-zero}
 use Rattle.xid.specs.Limits.{most_branches}
 use Rattle.wire.specs.Reading.{byte_at, list_at, items_at}
-use Rattle.wire.proofs.Ascending.{before, later}
+use Rattle.wire.proofs.Ascending.{IsFrom, from_zero, from_next, ascend_with, tail_up}
 use Rattle.wire.proofs.Spelled.{some_same, step, unless}
 use Rattle.wire.specs.SpelledItems.{is_end, items_from, are_items}
+
+pub both : (a b : Bool) → (a && b) ≡ true → (a ≡ true) × (b ≡ true)
+both true b e = (refl, e)
+both false b e = absurd (cc (e))
 
 module _ {X : Type 0} (one : List ℕ → Option (X × List ℕ)) (is : X → Bool) (instance : X → ℕ) where
   -- ---- as the loop goes
@@ -60,30 +64,17 @@ module _ {X : Type 0} (one : List ℕ → Option (X × List ℕ)) (is : X → Bo
 
   -- ---- what was passed over
 
-  abbrev IsFrom : ℕ → List X → Type 0
-  IsFrom least [] = Unit {0}
-  IsFrom least (x ∷ xs) = least ≤ instance x
-
   pub record Passed (least n : ℕ) (bytes : List ℕ) : Type 0 where
     pub items : List X
     pub read : list_at one n bytes ≡ Some (items, [])
     pub counted : length items ≡ n
     pub each : AllByRecursion (λ x. is x ≡ true) items
-    pub from : IsFrom least items
+    pub from : IsFrom least (map instance items)
     pub ascending : IsStrictlyIncreasing (map instance items)
-
-  both : (a b : Bool) → (a && b) ≡ true → (a ≡ true) × (b ≡ true)
-  both true b e = (refl, e)
-  both false b e = absurd (cc (e))
 
   ended : (bytes : List ℕ) → is_end bytes ≡ true → bytes ≡ []
   ended [] e = refl
   ended (x ∷ xs) e = absurd (cc (e))
-
-  ascend_with : (n : ℕ) (xs : List X) → IsFrom (n + 1) xs → IsStrictlyIncreasing (map instance xs)
-      → IsStrictlyIncreasing (n ∷ map instance xs)
-  ascend_with n [] from up = λ k lt. absurd (omega arith)
-  ascend_with n (x ∷ xs) from up = before n (instance x) (map instance xs) (omega (arith, from)) up
 
   reads : (n : ℕ) (bytes : List ℕ) (x : X) (after : List ℕ) (xs : List X) → one bytes ≡ Some (x, after)
       → list_at one n after ≡ Some (xs, [])
@@ -116,22 +107,14 @@ module _ {X : Type 0} (one : List ℕ → Option (X × List ℕ)) (is : X → Bo
             counted = ap suc others.counted;
             each = (one-is.0, others.each);
             from = leb-true least (instance x) low-is.0;
-            ascending = ascend_with (instance x) others.items others.from others.ascending;
+            ascending = ascend_with (instance x) (map instance others.items) others.from others.ascending;
           }
 
   -- ---- items are passed over
-  tail_up : (x : X) (xs : List X) → IsStrictlyIncreasing (map instance (x ∷ xs)) → IsStrictlyIncreasing (map instance xs)
-  tail_up x [] up = λ k lt. absurd (omega arith)
-  tail_up x (y ∷ ys) up = later (instance x) (instance y) (map instance ys) up
-
-  from_next : (x : X) (xs : List X) → IsStrictlyIncreasing (map instance (x ∷ xs)) → IsFrom (instance x + 1) xs
-  from_next x [] up = tt
-  from_next x (y ∷ ys) up = let lt : instance x < instance y = up 0 (omega arith) in omega arith
-
   -- items that were read, nothing after them, that pass
   abbrev Holds : ℕ → List X × List ℕ → Type 0
   Holds least x =
-      (x.1 ≡ []) × AllByRecursion (λ y. is y ≡ true) x.0 × IsFrom least x.0 × IsStrictlyIncreasing (map instance x.0)
+      (x.1 ≡ []) × AllByRecursion (λ y. is y ≡ true) x.0 × IsFrom least (map instance x.0) × IsStrictlyIncreasing (map instance x.0)
 
   again : (n least : ℕ) (bytes : List ℕ) (x : List X × List ℕ) → list_at one n bytes ≡ Some x → Holds least x → left least n bytes ≡ true
   unfolding items_from list_at
@@ -142,8 +125,12 @@ module _ {X : Type 0} (one : List ℕ → Option (X × List ℕ)) (is : X → Bo
       subst (λ (x : List X × List ℕ). Holds least x → left least (suc n) bytes ≡ true) (some_same (first.0 ∷ others.0, others.1) x e)
       (λ (h : Holds least (first.0 ∷ others.0, others.1)).
       let low : leb least (instance first.0) ≡ true = le-leb _ _ h.2 in
-      let rest = again n (instance first.0 + 1) first.1 others eo
-      (h.0, h.1.1, from_next first.0 others.0 h.3, tail_up first.0 others.0 h.3) in
+      let rest = again n (instance first.0 + 1) first.1 others eo (
+        h.0,
+        h.1.1,
+        from_next (instance first.0) (map instance others.0) h.3,
+        tail_up (instance first.0) (map instance others.0) h.3,
+      ) in
       step_to least n bytes first.0 first.1 ef ∙ rw (h.1.0, low, rest) refl)))
 
   -- ---- behind their count
@@ -188,11 +175,7 @@ module _ {X : Type 0} (one : List ℕ → Option (X × List ℕ)) (is : X → Bo
       step (byte_at bytes) _ e (λ count ec e.
       let some = unless (count.0 == 0) _ (xs, []) e in
       let few = unless (ltb most_branches count.0) _ (xs, []) some.1 in
-      rw (ec, some.0, few.0) (again count.0 0 count.1 (xs, []) few.1 (refl, each, least xs, up)))
-    where
-      least : (xs : List X) → IsFrom 0 xs
-      least [] = tt
-      least (x ∷ xs) = omega arith
+      rw (ec, some.0, few.0) (again count.0 0 count.1 (xs, []) few.1 (refl, each, from_zero (map instance xs), up)))
 
 pub end_is : (bytes : List ℕ) → (length bytes == 0) ≡ is_end bytes
 end_is [] = refl

@@ -18,11 +18,12 @@ use Rattle.wire.specs.declared.message.Kind.TheVariants.{Prepare, P1a, P1b, P2a,
 use Rattle.wire.specs.Messages.{IsInstance, AreInstances, IsBallot, IsLeaderBallot, IsReportBelow, IsMessage}
 use Rattle.wire.specs.Messages.{reported_instances, accepted_instances}
 use Rattle.wire.specs.Grammar.{Spells, spelling, kind_byte, rest_spelling}
-use Rattle.wire.specs.Reading.{◌>>=◌, byte_at, tx_at, kind_at}
+use Rattle.wire.specs.Reading.{byte_at, tx_at, kind_at}
 use Rattle.wire.specs.Decoding.{is_component, is_branch, is_ascending, is_tx, is_instance, are_instances, is_ballot, is_leader_ballot}
 use Rattle.wire.specs.Decoding.{is_report, is_message, message_at}
 use Rattle.wire.specs.Versions.{version_2}
 use Rattle.wire.proofs.Ascending.{before, later}
+use Rattle.wire.proofs.Spelled.{step}
 use Rattle.wire.proofs.Fields.{wide_2, in_version_2, tx_again, kind_whole, tx_valid}
 
 pub leb_decides : (a b : ℕ) → Decides (leb a b) (a ≤ b)
@@ -143,18 +144,14 @@ found k bytes h =
     steps bytes _ (rest_spelling version_2 k) _ (kind_byte k) _ k h.spelled first (kind_whole k h.message)
     ∙ cond-true (is_spelled bytes k) (Some k) None ((spelled_decides bytes k).1 h)
 
--- some field was taken, and the rest of the computation gave the same
-step : {A B P : Type 0} {y : B} (read : Option A) (f : A → Option B) → (read >>= f) ≡ Some y → ((x : A) → f x ≡ Some y → P) → P
-step None f e go = absurd (cc)
-step (Some x) f e go = go x e
-
-kept : (k m : Kind) (t : Bool) → cond t (Some m) None ≡ Some k → (t ≡ true) × (m ≡ k)
-kept k m true e = (refl, cc)
-kept k m false e = absurd (cc)
+-- what a reading gives where its test is known
+pub kept : {X : Type 0} (t : Bool) (x y : X) → cond t (Some x) None ≡ Some y → (t ≡ true) × (x ≡ y)
+kept true x y e = (refl, cc)
+kept false x y e = absurd (cc)
 
 pub spelled : (k : Kind) (bytes : List ℕ) → message_at bytes ≡ Some k → Spells k bytes
 spelled k bytes e =
-    step (byte_at bytes) _ e (λ version e. step (byte_at version.1) _ e (λ code e.
-    step (tx_at version_2 code.1) _ e (λ tx e. step (kind_at code.0 tx.0 tx.1) _ e (λ m e.
-    let last = kept k m.0 (is_spelled bytes m.0) e in
+    step (byte_at bytes) _ e (λ version _ e. step (byte_at version.1) _ e (λ code _ e.
+    step (tx_at version_2 code.1) _ e (λ tx _ e. step (kind_at code.0 tx.0 tx.1) _ e (λ m _ e.
+    let last = kept (is_spelled bytes m.0) m.0 k e in
     subst (λ (m : Kind). Spells m bytes) last.1 ((spelled_decides bytes m.0).0 last.0)))))

@@ -6,7 +6,7 @@ use Rattle.std.specs.List.Sorted.{IsStrictlyIncreasing}
 use Rattle.std.proofs.Math.Dec.{eqb-suc-zero}
 use Rattle.std.proofs.lemmas.Bool.{le-ltb, ltb-false}
 use Rattle.std.proofs.lemmas.Bool.Decides.{nat_tests}
-use Rattle.std.proofs.lemmas.List.{length-take, append-nil, length-append, take_at}
+use Rattle.std.proofs.lemmas.List.{length-take, length-append, take_at}
 use Rattle.std.proofs.lemmas.List.Concat.{flat_map-cons}
 use Rattle.std.proofs.lemmas.List.Elements.{recursion_from_All}
 use Rattle.xid.specs.Limits.{most_managers, most_component, most_branches, formats}
@@ -17,13 +17,13 @@ use Rattle.wire.specs.declared.grammar.VersionNumber.TheVariants.{Second}
 use Rattle.wire.specs.Grammar.{tx_spelling, branch_spelling, branches_spelling, number_spelling, component_spelling}
 use Rattle.wire.specs.Reading.{number_at, rm_at, component_at, byte_at, branch_at, branches_at, list_at, tx_at}
 use Rattle.wire.specs.Decoding.{tx_in}
-use Rattle.wire.proofs.Ascending.{before, later}
-use Rattle.wire.proofs.Fields.{wide_2, in_version_2, tx_taken, branch_again, number_again, component_again}
+use Rattle.wire.proofs.Ascending.{IsFrom, from_zero, from_next, ascend_with, tail_up}
+use Rattle.wire.proofs.Fields.{wide_2, in_version_2, branch_again, number_again, component_again}
 use Rattle.wire.proofs.Spelled.{Front, some_same, step, unless}
 use Rattle.wire.proofs.Spelled.{byte_spelled, number_spelled, component_spelled, branch_spelled, bytes_after}
 use Rattle.wire.proofs.Spelled as spelled
 use Rattle.wire.proofs.TakenTx.{in_spelled, in_again}
-use Rattle.wire.specs.Spelled.{tx_spelled, IsSpelled, manager_at, after_branches, after_tx}
+use Rattle.wire.specs.Spelled.{manager_at, after_branches, after_tx}
 
 -- ---- what was passed over is branches
 
@@ -49,11 +49,6 @@ not_zero (suc n) e = omega arith
 pub is_not_zero : (n : ℕ) → 0 < n → eqb n 0 ≡ false
 is_not_zero zero lt = absurd (omega arith)
 is_not_zero (suc n) lt = eqb-suc-zero n
-
--- the first of branches is not below the least
-abbrev IsFrom : ℕ → List BranchParts → Type 0
-IsFrom least [] = Unit {0}
-IsFrom least (b ∷ bs) = least ≤ b.rm
 
 -- a branch that was passed over
 record Passed (least : ℕ) (bytes : List ℕ) (m : ℕ × List ℕ) : Type 0 where
@@ -92,18 +87,13 @@ passed least bytes m is e =
         subst (λ (b : BranchParts × List ℕ). length b.0.bqual ≤ most_component)
         (some_same (record { rm = rm.0; bqual = bqual.0 }, bqual.1) b e) (component_few rm.1 bqual eb)))
 
-ascend_with : (rm : ℕ) (bs : List BranchParts) → IsFrom (rm + 1) bs → IsStrictlyIncreasing (rm_numbers bs)
-    → IsStrictlyIncreasing (rm ∷ rm_numbers bs)
-ascend_with rm [] from up = λ k lt. absurd (omega arith)
-ascend_with rm (b ∷ bs) from up = before rm b.rm (rm_numbers bs) (omega (arith, from)) up
-
 -- branches that were passed over
 record Found (least n : ℕ) (bytes rest : List ℕ) : Type 0 where
   pub branches : List BranchParts
   pub read : branches_at version_2 n bytes ≡ Some (branches, rest)
   pub counted : length branches ≡ n
   pub each : AllByRecursion IsBranch branches
-  pub from : IsFrom least branches
+  pub from : IsFrom least (rm_numbers branches)
   pub ascending : IsStrictlyIncreasing (rm_numbers branches)
 
 found : (n least : ℕ) (bytes rest : List ℕ) → IsBytes bytes → after_branches least n bytes ≡ Some rest → Found least n bytes rest
@@ -120,15 +110,15 @@ found (suc n) least bytes rest is e =
     step (manager_at least bytes) _ e (λ m em e.
     let one = passed least bytes m is em in
     let others = found n (m.0 + 1) m.1 rest one.after e in
-    let from : IsFrom (one.branch.rm + 1) others.branches = subst (λ (rm : ℕ). IsFrom (rm + 1) others.branches) (sym one.same)
-    others.from in
+    let from : IsFrom (one.branch.rm + 1) (rm_numbers others.branches) =
+    subst (λ (rm : ℕ). IsFrom (rm + 1) (rm_numbers others.branches)) (sym one.same) others.from in
     record {
       branches = one.branch ∷ others.branches;
       read = rw (one.read, others.read) refl;
       counted = ap suc others.counted;
       each = (one.is, others.each);
       from = one.least_is;
-      ascending = ascend_with one.branch.rm others.branches from others.ascending;
+      ascending = ascend_with one.branch.rm (rm_numbers others.branches) from others.ascending;
     })
 
 -- ---- branches are passed over
@@ -141,7 +131,7 @@ manager_again least b rest is le =
     let high : leb most_managers b.rm ≡ false = grind (arith, nat_tests, is.rm) in
     rw (branch_again version_2 b rest wide_2 is.rm is, low, high, is_not_zero (length b.bqual) is.bqual.some) refl
 
-branches_again : (bs : List BranchParts) (least : ℕ) (rest : List ℕ) → AllByRecursion IsBranch bs → IsFrom least bs
+branches_again : (bs : List BranchParts) (least : ℕ) (rest : List ℕ) → AllByRecursion IsBranch bs → IsFrom least (rm_numbers bs)
     → IsStrictlyIncreasing (rm_numbers bs) → after_branches least (length bs) (flat_map (branch_spelling version_2) bs ++ rest) ≡ Some rest
 unfolding after_branches
 branches_again [] least rest each from up = refl
@@ -150,16 +140,8 @@ branches_again (b ∷ bs) least rest each from up =
     let regrouped : flat_map (branch_spelling version_2) (b ∷ bs) ++ rest ≡ branch_spelling version_2 b ++ after =
     ap (λ (ys : List ℕ). ys ++ rest) (flat_map-cons (branch_spelling version_2) b bs)
     ∙ append_assoc (branch_spelling version_2 b) (flat_map (branch_spelling version_2) bs) rest in
-    let others = branches_again bs (b.rm + 1) rest each.1 (above b bs up) (tail b bs up) in
+    let others = branches_again bs (b.rm + 1) rest each.1 (from_next b.rm (rm_numbers bs) up) (tail_up b.rm (rm_numbers bs) up) in
     ap (after_branches least (suc (length bs))) regrouped ∙ rw (manager_again least b after each.0 from) others
-  where
-    above : (b : BranchParts) (bs : List BranchParts) → IsStrictlyIncreasing (rm_numbers (b ∷ bs)) → IsFrom (b.rm + 1) bs
-    above b [] up = tt
-    above b (c ∷ cs) up = let lt : b.rm < c.rm = up 0 (omega arith) in omega arith
-
-    tail : (b : BranchParts) (bs : List BranchParts) → IsStrictlyIncreasing (rm_numbers (b ∷ bs)) → IsStrictlyIncreasing (rm_numbers bs)
-    tail b [] up = λ k lt. absurd (omega arith)
-    tail b (c ∷ cs) up = later b.rm c.rm (rm_numbers cs) up
 
 -- ---- a transaction
 
@@ -232,13 +214,9 @@ again tx rest is =
     let format = number_again tx.format (component_spelling tx.gtrid ++ after) (omega (arith, is.format)) in
     let gtrid = component_again tx.gtrid after is.gtrid.few in
     let each = recursion_from_All IsBranch tx.branches is.branches.each in
-    let branches = branches_again tx.branches 0 rest each (least tx.branches) is.branches.ascending in
+    let branches = branches_again tx.branches 0 rest each (from_zero (rm_numbers tx.branches)) is.branches.ascending in
     ap after_tx regrouped
     ∙ rw (format, fits, gtrid, is_not_zero (length tx.gtrid) is.gtrid.some, is_not_zero (length tx.branches) is.branches.some, few) branches
-  where
-    least : (bs : List BranchParts) → IsFrom 0 bs
-    least [] = tt
-    least (b ∷ bs) = omega arith
 
 -- where nothing was passed over, no transaction stands
 pub none : (bytes : List ℕ) → IsBytes bytes → after_tx bytes ≡ None → tx_in version_2 bytes ≡ None
@@ -250,16 +228,6 @@ none bytes is e = by (tx_in version_2 bytes) refl
         let in-it = in_spelled Second bytes x is er in
         let passed : after_tx bytes ≡ Some x.1 = ap after_tx in-it.1.same ∙ again x.0 x.1 in-it.0.valid in
         absurd (cc (passed, e))
-
--- the transaction that its own spelling spells
-pub spelled_is : (bytes : List ℕ) (tx : TxParts) → IsTx tx → bytes ≡ tx_spelling version_2 tx → tx_spelled bytes ≡ tx
-unfolding tx_spelled
-spelled_is bytes tx is e = rw (tx_taken bytes tx [] is (e ∙ sym (append-nil (tx_spelling version_2 tx)))) refl
-
-pub is_spelled : (bytes : List ℕ) (tx : TxParts) → IsTx tx → bytes ≡ tx_spelling version_2 tx → IsSpelled bytes
-is_spelled bytes tx is e =
-    let back = spelled_is bytes tx is e in
-    record { valid = subst IsTx (sym back) is; spelled = e ∙ ap (tx_spelling version_2) (sym back) }
 
 -- ---- as the loop goes
 

@@ -6,7 +6,7 @@ use Rattle.std.specs.List.Sorted.{IsStrictlyIncreasing}
 use Rattle.xid.specs.Limits.{most_managers, most_branches}
 use Rattle.xid.specs.Transactions.{TxParts, BranchParts, IsBranch, is_at, rm_numbers}
 use Rattle.wire.specs.Messages.{IsInstance, AreInstances}
-use Rattle.wire.proofs.Ascending.{later}
+use Rattle.wire.proofs.Ascending.{later, tail_up}
 
 one_is : (a b : Bool) (P : Type 0) → (a ≡ true → P) → (b ≡ true → P) → (a || b) ≡ true → P
 one_is true b P p q h = p refl
@@ -54,14 +54,6 @@ one_later b bs (n ∷ ns) above named =
     (λ here. let same : b.rm ≡ n = eqb-true b.rm n here in absurd (omega (arith, above.0))) (λ there. there) named.0 in
     (here, one_later b bs ns above.1 named.1)
 
-tail_up : (n : ℕ) (ns : List ℕ) → IsStrictlyIncreasing (n ∷ ns) → IsStrictlyIncreasing ns
-tail_up n [] up = λ k lt. absurd (omega arith)
-tail_up n (m ∷ ms) up = later n m ms up
-
-tail_ups : (b : BranchParts) (bs : List BranchParts) → IsStrictlyIncreasing (rm_numbers (b ∷ bs)) → IsStrictlyIncreasing (rm_numbers bs)
-tail_ups b [] up = λ k lt. absurd (omega arith)
-tail_ups b (c ∷ cs) up = later b.rm c.rm (rm_numbers cs) up
-
 above_later : (n : ℕ) (ns : List ℕ) → IsStrictlyIncreasing (n ∷ ns) → AllByRecursion (λ m. n < m) ns
 above_later n [] up = tt
 above_later n (m ∷ ms) up = above_each n m ms (up 0 (omega arith)) (later n m ms up)
@@ -73,7 +65,7 @@ no_more_than [] bs up ups named = omega arith
 no_more_than (n ∷ ns) [] up ups named = absurd (cc (named.0))
 no_more_than (n ∷ ns) (b ∷ bs) up ups named =
     let up' = tail_up n ns up in
-    let ups' = tail_ups b bs ups in
+    let ups' = tail_up b.rm (rm_numbers bs) ups in
     one_is (eqb b.rm n) (list_any (is_at n) bs) (suc (length ns) ≤ suc (length bs))
     (λ e.
     let same : n ≡ b.rm = sym (eqb-true b.rm n e) in

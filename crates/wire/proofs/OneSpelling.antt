@@ -1,11 +1,12 @@
 -- The laws of the grammar: no spelling begins another, and a spelling has one message.
-use Rattle.std.proofs.Common.{◌≡◌, ℕ, List, [], ◌∷◌, ◌++◌, Some, refl, sym, ap, ◌∙◌, append_assoc}
+use Rattle.std.proofs.Common.{◌≡◌, ℕ, List, [], ◌∷◌, ◌++◌, refl, sym, ap, ◌∙◌, append_assoc}
 use Rattle.std.proofs.lemmas.List.{append-nil}
 use Rattle.wire.specs.declared.message.Kind.{Kind}
 use Rattle.wire.specs.Messages.{IsMessage, message_tx}
 use Rattle.wire.specs.Versions.{version_2}
 use Rattle.wire.specs.Grammar.{Spells, spelling, tx_spelling, kind_byte, rest_spelling}
 use Rattle.wire.specs.Reading.{kind_at}
+use Rattle.wire.proofs.Spelled.{some_same}
 use Rattle.wire.proofs.Fields.{wide_2, in_version_2, tx_again, kind_again, kind_whole, tx_valid, same_taken}
 
 -- a message's transaction, and what follows it
@@ -14,9 +15,6 @@ tx_bytes k = tx_spelling version_2 (message_tx k)
 
 abbrev rest_bytes : Kind → List ℕ
 rest_bytes k = rest_spelling version_2 k
-
-kind_same : (x y : Kind × List ℕ) → Some x ≡ Some y → x ≡ y
-kind_same x y e = cc
 
 pub codes : (v a w b : ℕ) (xs ys : List ℕ) → v ∷ a ∷ xs ≡ w ∷ b ∷ ys → (a ≡ b) × (xs ≡ ys)
 codes v a w b xs ys e = (cc, cc)
@@ -36,7 +34,7 @@ begins_none k m rest is-k is-m e =
     (in_version_2 (tx_valid k is-k))) in
     let same : kind_at (kind_byte k) (message_tx k) (rest_bytes k ++ rest) ≡ kind_at (kind_byte m) (message_tx m) (rest_bytes m) =
     rw (heads.0, txs.0, txs.1) refl in
-    let both = kind_same (k, rest) (m, []) (sym (kind_again k rest is-k) ∙ same ∙ kind_whole m is-m) in
+    let both = some_same (k, rest) (m, []) (sym (kind_again k rest is-k) ∙ same ∙ kind_whole m is-m) in
     (ap (λ (p : Kind × List ℕ). p.0) both, ap (λ (p : Kind × List ℕ). p.1) both)
 
 pub spelled_once : (k : Kind) (xs ys : List ℕ) → Spells k xs → Spells k ys → xs ≡ ys

@@ -15,18 +15,14 @@ use Rattle.wire.specs.Decoding.{is_tx, are_managers, tx_in}
 use Rattle.wire.proofs.Fields.{tx_again}
 use Rattle.wire.proofs.Spelled.{Front, some_same, step, unless, byte_spelled, number_spelled, component_spelled, branch_spelled}
 use Rattle.wire.proofs.Spelled.{list_spelled, tx_spelled}
-use Rattle.wire.proofs.DecodingLemmas.{tx_decides}
+use Rattle.wire.proofs.DecodingLemmas.{tx_decides, kept}
 
 managers_decide : (v : Version) (bs : List BranchParts) → Decides (are_managers v bs) (All (λ b. b.rm < v.most_managers) bs)
 managers_decide v bs =
     Decides-by_and (λ b. ltb b.rm v.most_managers) (λ b. b.rm < v.most_managers) (are_managers v) (λ b. Decides-ltb b.rm v.most_managers)
     refl (λ _ _. refl) bs
 
--- what a reading gives where its tests are known
-kept : {X : Type 0} (t : Bool) (x y : X) → cond t (Some x) None ≡ Some y → (t ≡ true) × (x ≡ y)
-kept true x y e = (refl, cc)
-kept false x y e = absurd (cc)
-
+-- a reading behind a test that gave something
 outer : {X : Type 0} (t : Bool) (read : Option X) (y : X) → cond t read None ≡ Some y → (t ≡ true) × (read ≡ Some y)
 outer true read y e = (refl, e)
 outer false read y e = absurd (cc)

@@ -19,6 +19,7 @@ use Rattle.wire.specs.Reading.{branch_at, component_at}
 use Rattle.wire.specs.Versions.{version_2}
 use Rattle.wire.proofs.Ascending.{later}
 use Rattle.wire.proofs.Fields.{branch_again, wide_2}
+use Rattle.wire.proofs.Spelled.{some_same}
 
 -- a branch at the front, by where its fields stand
 pub record Stands (bytes : List ℕ) : Type 0 where
@@ -86,9 +87,6 @@ next bs i bytes d each lt e =
 pub some_next : (bs : List BranchParts) (i : ℕ) (bytes : List ℕ) → All IsBranch bs → i < length bs → bytes ≡ from bs i
     → IsTrue (is_some (branch_at version_2 bytes))
 some_next bs i bytes each lt e = let there = next bs i bytes (record { rm = 0; bqual = [] }) each lt e in rw there refl
-
-some_same : (x y : BranchParts × List ℕ) → Some x ≡ Some y → x ≡ y
-some_same x y e = cc
 
 -- what a walk took
 pub record Took (bs : List BranchParts) (i : ℕ) (d : BranchParts) (rm : ℕ) (bqual rest : List ℕ) : Type 0 where

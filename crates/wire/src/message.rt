@@ -83,17 +83,11 @@ impl Kind {
         ensures valid { IsTx (message_tx self.now) }
     {
         let tx = match self {
-            Kind::Prepare(tx) => tx,
-            Kind::P1a { tx, .. } => tx,
-            Kind::P1b { tx, .. } => tx,
-            Kind::P2a { tx, .. } => tx,
-            Kind::P2b { tx, .. } => tx,
-            Kind::Commit(tx) => tx,
-            Kind::Abort(tx) => tx,
-            Kind::Ask { tx, .. } => tx,
-            Kind::B1a { tx, .. } => tx,
-            Kind::B1b { tx, .. } => tx,
-            Kind::B2b { tx, .. } => tx,
+            Kind::Prepare(tx) | Kind::Commit(tx) | Kind::Abort(tx) => tx,
+            Kind::P1a { tx, .. } | Kind::P1b { tx, .. } => tx,
+            Kind::P2a { tx, .. } | Kind::P2b { tx, .. } => tx,
+            Kind::Ask { tx, .. } | Kind::B1a { tx, .. } => tx,
+            Kind::B1b { tx, .. } | Kind::B2b { tx, .. } => tx,
         };
         let _ = tx.count();
         tx
@@ -226,14 +220,6 @@ fn is_bundle(kind: &Kind) -> bool
 {
     let tx = kind.tx();
     match kind {
-        Kind::Prepare(_) => false,
-        Kind::P1a { .. } => false,
-        Kind::P1b { .. } => false,
-        Kind::P2a { .. } => false,
-        Kind::P2b { .. } => false,
-        Kind::Commit(_) => false,
-        Kind::Abort(_) => false,
-        Kind::Ask { .. } => false,
         Kind::B1a { ballot, .. } => is_b1a(tx, *ballot),
         Kind::B1b {
             ballot,
@@ -246,6 +232,7 @@ fn is_bundle(kind: &Kind) -> bool
             accepts,
             ..
         } => is_b2b(tx, *acceptor, accepts),
+        _ => false,
     }
 }
 
@@ -256,7 +243,7 @@ pub fn is_message(kind: &Kind) -> bool
 {
     let tx = kind.tx();
     match kind {
-        Kind::Prepare(_) => true,
+        Kind::Prepare(_) | Kind::Commit(_) | Kind::Abort(_) => true,
         Kind::P1a {
             instance,
             ballot,
@@ -282,12 +269,8 @@ pub fn is_message(kind: &Kind) -> bool
             acceptor,
             ..
         } => is_p2b(tx, *instance, *ballot, *vote, *acceptor),
-        Kind::Commit(_) => true,
-        Kind::Abort(_) => true,
         Kind::Ask { rm, .. } => is_ask(tx, *rm),
-        Kind::B1a { .. } => is_bundle(kind),
-        Kind::B1b { .. } => is_bundle(kind),
-        Kind::B2b { .. } => is_bundle(kind),
+        Kind::B1a { .. } | Kind::B1b { .. } | Kind::B2b { .. } => is_bundle(kind),
     }
 }
 

@@ -213,14 +213,6 @@ fn put_bundle(kind: &Kind, out: &mut [u8], at: usize) -> usize
     ensures rest { (n : ℕ) → result ≤ n → drop n out.new ≡ drop n out.old }
 {
     match *kind {
-        Kind::Prepare(_) => at,
-        Kind::P1a { .. } => at,
-        Kind::P1b { .. } => at,
-        Kind::P2a { .. } => at,
-        Kind::P2b { .. } => at,
-        Kind::Commit(_) => at,
-        Kind::Abort(_) => at,
-        Kind::Ask { .. } => at,
         Kind::B1a { ballot, .. } => put_number(out, at, ballot),
         Kind::B1b {
             ballot,
@@ -240,6 +232,7 @@ fn put_bundle(kind: &Kind, out: &mut [u8], at: usize) -> usize
             let at = put_byte(out, at, acceptor);
             put_accepts(accepts.as_slice(), out, at)
         }
+        _ => at,
     }
 }
 
@@ -254,9 +247,6 @@ fn put_vote(kind: &Kind, out: &mut [u8], at: usize) -> usize
     ensures rest { (n : ℕ) → result ≤ n → drop n out.new ≡ drop n out.old }
 {
     match *kind {
-        Kind::Prepare(_) => at,
-        Kind::P1a { .. } => at,
-        Kind::P1b { .. } => at,
         Kind::P2a {
             instance,
             ballot,
@@ -279,12 +269,7 @@ fn put_vote(kind: &Kind, out: &mut [u8], at: usize) -> usize
             let at = put_byte(out, at, byte_of_vote(vote));
             put_byte(out, at, acceptor)
         }
-        Kind::Commit(_) => at,
-        Kind::Abort(_) => at,
-        Kind::Ask { .. } => at,
-        Kind::B1a { .. } => at,
-        Kind::B1b { .. } => at,
-        Kind::B2b { .. } => at,
+        _ => at,
     }
 }
 
@@ -298,7 +283,7 @@ fn put_rest(kind: &Kind, out: &mut [u8], at: usize) -> usize
     ensures rest { (n : ℕ) → result ≤ n → drop n out.new ≡ drop n out.old }
 {
     match *kind {
-        Kind::Prepare(_) => at,
+        Kind::Prepare(_) | Kind::Commit(_) | Kind::Abort(_) => at,
         Kind::P1a {
             instance,
             ballot,
@@ -319,14 +304,9 @@ fn put_rest(kind: &Kind, out: &mut [u8], at: usize) -> usize
             let at = put_report(out, at, report);
             put_byte(out, at, acceptor)
         }
-        Kind::P2a { .. } => put_vote(kind, out, at),
-        Kind::P2b { .. } => put_vote(kind, out, at),
-        Kind::Commit(_) => at,
-        Kind::Abort(_) => at,
+        Kind::P2a { .. } | Kind::P2b { .. } => put_vote(kind, out, at),
         Kind::Ask { rm, .. } => put_rm(out, at, rm),
-        Kind::B1a { .. } => put_bundle(kind, out, at),
-        Kind::B1b { .. } => put_bundle(kind, out, at),
-        Kind::B2b { .. } => put_bundle(kind, out, at),
+        Kind::B1a { .. } | Kind::B1b { .. } | Kind::B2b { .. } => put_bundle(kind, out, at),
     }
 }
 

@@ -12,6 +12,7 @@ use Rattle.wire.specs.Decoding.{tx_in}
 use Rattle.wire.specs.declared.message.Kind.{Kind}
 use Rattle.wire.proofs.Fields.{tx_valid, in_version_2, kind_whole}
 use Rattle.wire.proofs.OneSpelling.{codes}
+use Rattle.wire.proofs.Spelled.{some_same}
 use Rattle.wire.specs.declared.grammar.VersionNumber.TheVariants.{Second}
 use Rattle.wire.proofs.SpelledKinds.{kind_spelled}
 use Rattle.wire.proofs.Decoded.{if_ok, if_err}
@@ -30,9 +31,6 @@ heads k bytes after code read e =
 front_taken : (bytes : List ℕ) (tx : TxParts) (rest : List ℕ) → IsTx tx → bytes ≡ tx_spelling version_2 tx ++ rest
     → tx_in version_2 bytes ≡ Some (tx, rest)
 front_taken bytes tx rest is e = ap (tx_in version_2) e ∙ in_again Second tx rest (in_version_2 is)
-
-some_same : (x y : TxParts × List ℕ) → Some x ≡ Some y → x ≡ y
-some_same x y e = cc
 
 pub returns-in_default-take-clause-err : goal.returns-in_default-take-clause-err
 returns-in_default-take-clause-err c = (

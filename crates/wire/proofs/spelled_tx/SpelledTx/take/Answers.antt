@@ -5,7 +5,8 @@ use Rattle.xid.specs.Names.{IsBytes}
 use Rattle.xid.specs.Transactions.{TxParts}
 use Rattle.wire.specs.Grammar.{tx_spelling}
 use Rattle.wire.specs.Versions.{version_2}
-use Rattle.wire.proofs.Ends.{ends, none, cut, is_spelled, spelled_is}
+use Rattle.wire.proofs.Ends.{ends, none, cut}
+use Rattle.wire.proofs.SpelledAgain.{is_spelled, spelled_is}
 use Rattle.wire.proofs.spelled_tx.SpelledTx.take.Goals as goal
 
 pub returns-in_err-rest : goal.returns-in_err-rest
