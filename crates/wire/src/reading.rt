@@ -1,4 +1,4 @@
-ghost use Rattle.std.specs.Prelude.{◌≡◌, ◌<◌, ◌≤◌, [], MatchOption, length};
+ghost use Rattle.std.specs.Prelude.{◌≡◌, ℕ, ◌<◌, ◌≤◌, List, [], Option, MatchOption, length};
 ghost use Rattle.std.specs.Option.{option_map};
 ghost use Rattle.wire.specs.Versions.{version_1, version_2, version_of};
 ghost use Rattle.wire.specs.Decoding.{tx_in, are_managers};
@@ -226,70 +226,61 @@ pub(crate) fn take_instance(bytes: &[u8]) -> Option<(ManagerNumber, u32, &[u8])>
     Some((rm, ballot, rest))
 }
 
-#[tactic(auto, unfolding(crate::specs::Reading::report_item_at))]
-pub(crate) fn take_report_item(bytes: &[u8]) -> Option<(InstanceReport, &[u8])>
-    ensures { taken result ≡ report_item_at bytes.now }
-{
-    let (instance, rest) = take_rm(VersionNumber::Second, bytes)?;
-    let (report, rest) = take_report(rest)?;
-    Some((InstanceReport { instance, report }, rest))
+/// An item of a bundle, as it stands in bytes.
+pub(crate) trait Item: Copy {
+    /// The item at the front of bytes, and the bytes after it.
+    ghost at: { List ℕ → Option (Self × List ℕ) };
+
+    /// Takes an item from the front.
+    fn take(bytes: &[u8]) -> Option<(Self, &[u8])>
+        ensures { taken result ≡ at bytes.now };
 }
 
-#[tactic(auto, unfolding(crate::specs::Reading::accept_item_at))]
-pub(crate) fn take_accept_item(bytes: &[u8]) -> Option<(InstanceAccept, &[u8])>
-    ensures { taken result ≡ accept_item_at bytes.now }
-{
-    let (instance, ballot, rest) = take_instance(bytes)?;
-    let (vote, rest) = take_vote(rest)?;
-    Some((
-        InstanceAccept {
+impl Item for InstanceReport {
+    ghost at = { report_item_at };
+
+    #[tactic(auto, unfolding(crate::specs::Reading::report_item_at))]
+    fn take(bytes: &[u8]) -> Option<(InstanceReport, &[u8])> {
+        let (instance, rest) = take_rm(VersionNumber::Second, bytes)?;
+        let (report, rest) = take_report(rest)?;
+        Some((InstanceReport { instance, report }, rest))
+    }
+}
+
+impl Item for InstanceAccept {
+    ghost at = { accept_item_at };
+
+    #[tactic(auto, unfolding(crate::specs::Reading::accept_item_at))]
+    fn take(bytes: &[u8]) -> Option<(InstanceAccept, &[u8])> {
+        let (instance, ballot, rest) = take_instance(bytes)?;
+        let (vote, rest) = take_vote(rest)?;
+        let item = InstanceAccept {
             instance,
             ballot,
             vote,
-        },
-        rest,
-    ))
+        };
+        Some((item, rest))
+    }
 }
 
-fn more_reports(
-    first: InstanceReport,
-    count: u8,
-    bytes: &[u8],
-) -> Option<(Items<InstanceReport>, &[u8])>
+fn more_items<T: Item>(first: T, count: u8, bytes: &[u8]) -> Option<(Items<T>, &[u8])>
     requires { count < MAX_BRANCHES }
-    ensures { taken result ≡ with_first first (list_at report_item_at count bytes.now) }
+    ensures { taken result ≡ with_first first (list_at T.at count bytes.now) }
 {
     let mut all = Items::one(first);
     let mut rest = bytes;
     for _ in 0..count {
-        let (item, after) = take_report_item(rest)?;
+        let (item, after) = T::take(rest)?;
         all.push(item);
         rest = after;
     }
     Some((all, rest))
 }
 
-fn more_accepts(
-    first: InstanceAccept,
-    count: u8,
-    bytes: &[u8],
-) -> Option<(Items<InstanceAccept>, &[u8])>
-    requires { count < MAX_BRANCHES }
-    ensures { taken result ≡ with_first first (list_at accept_item_at count bytes.now) }
-{
-    let mut all = Items::one(first);
-    let mut rest = bytes;
-    for _ in 0..count {
-        let (item, after) = take_accept_item(rest)?;
-        all.push(item);
-        rest = after;
-    }
-    Some((all, rest))
-}
-
+/// Takes the items of a bundle from the front, behind their count.
 #[tactic(auto, unfolding(crate::specs::Reading::items_at))]
-pub(crate) fn take_reports(bytes: &[u8]) -> Option<(Items<InstanceReport>, &[u8])>
-    ensures { taken result ≡ items_at report_item_at bytes.now }
+pub(crate) fn take_items<T: Item>(bytes: &[u8]) -> Option<(Items<T>, &[u8])>
+    ensures { taken result ≡ items_at T.at bytes.now }
 {
     let (count, rest) = take_byte(bytes)?;
     if count == 0 {
@@ -298,21 +289,6 @@ pub(crate) fn take_reports(bytes: &[u8]) -> Option<(Items<InstanceReport>, &[u8]
     if count as usize > MAX_BRANCHES {
         return None;
     }
-    let (first, rest) = take_report_item(rest)?;
-    more_reports(first, count - 1, rest)
-}
-
-#[tactic(auto, unfolding(crate::specs::Reading::items_at))]
-pub(crate) fn take_accepts(bytes: &[u8]) -> Option<(Items<InstanceAccept>, &[u8])>
-    ensures { taken result ≡ items_at accept_item_at bytes.now }
-{
-    let (count, rest) = take_byte(bytes)?;
-    if count == 0 {
-        return None;
-    }
-    if count as usize > MAX_BRANCHES {
-        return None;
-    }
-    let (first, rest) = take_accept_item(rest)?;
-    more_accepts(first, count - 1, rest)
+    let (first, rest) = T::take(rest)?;
+    more_items(first, count - 1, rest)
 }

@@ -6,7 +6,7 @@ ghost use Rattle.wire.specs.SpelledItems.{items_from, are_items, is_reported, is
 
 use crate::items::{InstanceAccept, InstanceReport, Items};
 use crate::message::is_report_below;
-use crate::reading::{take_accept_item, take_accepts, take_byte, take_report_item, take_reports};
+use crate::reading::{Item, take_byte, take_items};
 use crate::spelled_tx::SpelledTx;
 use xid::{Ballot, MAX_BRANCHES};
 
@@ -17,7 +17,7 @@ fn are_counted_reports(tx: &SpelledTx<'_>, ballot: Ballot, count: u8, bytes: &[u
     let mut rest = bytes;
     let mut least = 0;
     for _ in 0..count {
-        let Some((item, after)) = take_report_item(rest) else {
+        let Some((item, after)) = InstanceReport::take(rest) else {
             return false;
         };
         if !tx.is_participant(item.instance) {
@@ -42,7 +42,7 @@ fn are_counted_accepts(tx: &SpelledTx<'_>, count: u8, bytes: &[u8]) -> bool
     let mut rest = bytes;
     let mut least = 0;
     for _ in 0..count {
-        let Some((item, after)) = take_accept_item(rest) else {
+        let Some((item, after)) = InstanceAccept::take(rest) else {
             return false;
         };
         if !tx.is_participant(item.instance) {
@@ -97,7 +97,7 @@ pub fn reports_of(bytes: &[u8]) -> Items<InstanceReport>
     requires { 0 < length (reports_spelled bytes.now) }
     ensures { result ≡ reports_spelled bytes.now }
 {
-    let Some((reports, _)) = take_reports(bytes) else {
+    let Some((reports, _)) = take_items(bytes) else {
         unreachable!();
     };
     reports
@@ -109,7 +109,7 @@ pub fn accepts_of(bytes: &[u8]) -> Items<InstanceAccept>
     requires { 0 < length (accepts_spelled bytes.now) }
     ensures { result ≡ accepts_spelled bytes.now }
 {
-    let Some((accepts, _)) = take_accepts(bytes) else {
+    let Some((accepts, _)) = take_items(bytes) else {
         unreachable!();
     };
     accepts
