@@ -208,8 +208,8 @@ module _ (tx : TxParts) (bytes accepts : List ℕ) (acceptor : ℕ) (ea : Some (
       let instances : AreInstances tx (accepted_instances all.items) = record {
         valid = is;
         some = let len = length_of accept_instance all.items in omega (arith, len, all.some);
-        named = named_of accept_instance (λ item. is_accepted tx item ≡ true) (λ rm. IsTrue (is_participant tx rm)) (λ item h. h) all.items
-            all.each;
+        named = named_of accept_instance (λ item. is_accepted tx item ≡ true) (λ rm. IsTrue (is_participant tx rm))
+            (λ item h. (both _ _ h).0) all.items all.each;
         ascending = all.ascending;
       } in
       let front = byte_spelled bytes (acceptor, accepts) each (sym ea) in
@@ -234,7 +234,8 @@ module _ (tx : TxParts) (bytes accepts : List ℕ) (acceptor : ℕ) (ea : Some (
       asked items true et er =
           let is : IsMessage (B2b tx acceptor items) = (message_decides (B2b tx acceptor items)).0 et in
           let each = two_of accept_instance (λ rm. IsTrue (is_participant tx rm)) (λ item. IsBallot item.ballot)
-          (λ item. is_accepted tx item ≡ true) (λ item named low. named) items is.0.named is.2 in
+          (λ item. is_accepted tx item ≡ true)
+          (λ item named low. let one : is_participant tx item.instance ≡ true = named in rw one refl) items is.0.named is.2 in
           let all = are_again accept_item_at (is_accepted tx) accept_instance accepts items er each is.0.ascending in
           absurd (cc (all, fails))
       asked items false et er = refl

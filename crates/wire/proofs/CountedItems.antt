@@ -32,31 +32,27 @@ module _ {X : Type 0} (one : List ℕ → Option (X × List ℕ)) (is : X → Bo
   unfolding items_from
   step_none least n bytes e = rw e refl
 
-  module _ (least count i : ℕ) (bytes : List ℕ) (lt : i < count) where
-    pub next_none : None ≡ one bytes → left least (count - i) bytes ≡ false
-    next_none e = let k : count - i ≡ suc (count - (i + 1)) = omega arith in rw k (step_none least _ bytes (sym e))
+  module _ (least n : ℕ) (bytes : List ℕ) where
+    pub next_none : None ≡ one bytes → left least (suc n) bytes ≡ false
+    next_none e = step_none least n bytes (sym e)
 
-    pub next_fails : (x : X) (after : List ℕ) → Some (x, after) ≡ one bytes → is x ≡ false → left least (count - i) bytes ≡ false
-    next_fails x after e fails =
-        let k : count - i ≡ suc (count - (i + 1)) = omega arith in
-        rw k (step_to least _ bytes x after (sym e) ∙ rw fails refl)
+    pub next_fails : (x : X) (after : List ℕ) → Some (x, after) ≡ one bytes → is x ≡ false → left least (suc n) bytes ≡ false
+    next_fails x after e fails = step_to least n bytes x after (sym e) ∙ rw fails refl
 
-    pub next_low : (x : X) (after : List ℕ) → Some (x, after) ≡ one bytes → instance x < least → left least (count - i) bytes ≡ false
+    pub next_low : (x : X) (after : List ℕ) → Some (x, after) ≡ one bytes → instance x < least → left least (suc n) bytes ≡ false
     next_low x after e low =
-        let k : count - i ≡ suc (count - (i + 1)) = omega arith in
         let below : leb least (instance x) ≡ false = grind (arith, nat_tests, low) in
-        rw k (step_to least _ bytes x after (sym e) ∙ rw below (both_false (is x)))
+        step_to least n bytes x after (sym e) ∙ rw below (both_false (is x))
       where
         both_false : (t : Bool) → (t && false) ≡ false
         both_false true = refl
         both_false false = refl
 
     pub next_goes : (x : X) (after : List ℕ) → Some (x, after) ≡ one bytes → is x ≡ true → least ≤ instance x
-        → left least (count - i) bytes ≡ left (instance x + 1) (count - (i + 1)) after
+        → left least (suc n) bytes ≡ left (instance x + 1) n after
     next_goes x after e holds le =
-        let k : count - i ≡ suc (count - (i + 1)) = omega arith in
         let low : leb least (instance x) ≡ true = le-leb _ _ le in
-        rw k (step_to least _ bytes x after (sym e) ∙ rw (holds, low) refl)
+        step_to least n bytes x after (sym e) ∙ rw (holds, low) refl
 
   pub at_end : (least count i : ℕ) (bytes : List ℕ) → count ≤ i → left least (count - i) bytes ≡ is_end bytes
   unfolding items_from

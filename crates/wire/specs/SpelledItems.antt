@@ -39,10 +39,14 @@ are_items one is instance bytes =
     passes (byte_at bytes) (λ count. cond (count.0 == 0) false (cond (nat_lt most_branches count.0) false
     (items_from one is instance 0 count.0 count.1)))
 
+-- whether an item is of an instance of the transaction, and what it reports passes
+abbrev pub is_item : {X : Type 0} → (X → ℕ) → (X → Bool) → TxParts → X → Bool
+is_item instance is_below tx item = is_participant tx (instance item) && is_below item
+
 -- whether an item is of an instance of the transaction, and reports a ballot below this one
 abbrev pub is_reported : TxParts → ℕ → InstanceReport → Bool
-is_reported tx ballot item = is_participant tx item.instance && is_report ballot item.report
+is_reported tx ballot = is_item (λ item. item.instance) (λ item. is_report ballot item.report) tx
 
 -- whether an item is of an instance of the transaction
 abbrev pub is_accepted : TxParts → InstanceAccept → Bool
-is_accepted tx item = is_participant tx item.instance
+is_accepted tx = is_item (λ item. item.instance) (λ item. true) tx

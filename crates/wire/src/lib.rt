@@ -2,6 +2,7 @@
 #![tactic(auto)]
 
 mod grammar;
+mod item;
 mod items;
 mod laws;
 mod message;

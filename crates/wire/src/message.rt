@@ -1,10 +1,12 @@
-ghost use Rattle.std.specs.Prelude.{◌≡◌, ◌↔◌, ◌<◌, ◌≤◌, IsTrue, length};
+ghost use Rattle.std.specs.Prelude.{◌≡◌, ◌↔◌, ◌<◌, ◌≤◌, IsTrue, length, map};
 ghost use Rattle.std.specs.List.{AllByRecursion};
 ghost use Rattle.xid.specs.Transactions.{IsTx};
 ghost use Rattle.wire.specs.Grammar.{kind_byte};
+ghost use Rattle.wire.specs.Decoding.{is_report};
 ghost use Rattle.wire.specs.declared.message.Kind.TheVariants.{P1a, P1b, P2a, P2b, Ask, B1a, B1b, B2b};
-ghost use Rattle.wire.specs.Messages.{IsMessage, IsBallot, IsReportBelow, AreInstances, reported_instances, accepted_instances};
+ghost use Rattle.wire.specs.Messages.{IsMessage, IsReportBelow, AreInstances};
 
+use crate::item::Item;
 use crate::items::{InstanceAccept, InstanceReport, Items};
 use std::marker::Model;
 use xid::{Ballot, MAX_ACCEPTORS, ManagerNumber, Tx, Vote};
@@ -96,7 +98,8 @@ impl Kind {
 
 /// Whether a reported ballot, if there is one, is below this one.
 pub(crate) fn is_report_below(report: Option<(Ballot, Vote)>, ballot: Ballot) -> bool
-    ensures { IsTrue result ↔ IsReportBelow ballot report }
+    ensures fact { IsTrue result ↔ IsReportBelow ballot report }
+    ensures test { result ≡ is_report ballot report }
 {
     match report {
         Some((reported, _)) => reported < ballot,
@@ -104,40 +107,21 @@ pub(crate) fn is_report_below(report: Option<(Ballot, Vote)>, ballot: Ballot) ->
     }
 }
 
-/// Whether instances are of the transaction and ascend strictly, and the reported ballots are below this one.
-fn are_reports(tx: &Tx, ballot: Ballot, reports: &[InstanceReport]) -> bool
+/// Whether items are of instances of the transaction, ascending strictly, and what they report is below a ballot.
+fn are_items<T: Item>(tx: &Tx, ballot: Ballot, items: &[T]) -> bool
     requires valid { IsTx tx.now }
-    requires some { 1 ≤ length reports.now }
-    ensures { IsTrue result ↔ (AreInstances tx.now (reported_instances reports.now)
-        × AllByRecursion (λ item. IsReportBelow ballot item.report) reports.now) }
+    requires some { 1 ≤ length items.now }
+    ensures { IsTrue result ↔ (AreInstances tx.now (map T.about items.now) × AllByRecursion (T.fits ballot) items.now) }
 {
-    for (i, item) in reports.iter().enumerate() {
-        if !tx.is_participant(item.instance) {
+    for (i, item) in items.iter().enumerate() {
+        let instance = item.instance();
+        if !tx.is_participant(instance) {
             return false;
         }
-        if !is_report_below(item.report, ballot) {
+        if !item.is_below(ballot) {
             return false;
         }
-        if i > 0 && reports[i - 1].instance >= item.instance {
-            return false;
-        }
-    }
-    true
-}
-
-/// Whether instances are of the transaction and ascend strictly.
-fn are_accepts(tx: &Tx, accepts: &[InstanceAccept]) -> bool
-    requires valid { IsTx tx.now }
-    requires some { 1 ≤ length accepts.now }
-    ensures { IsTrue result ↔ (AreInstances tx.now (accepted_instances accepts.now)
-        × AllByRecursion (λ item. IsBallot item.ballot) accepts.now) }
-{
-    for (i, item) in accepts.iter().enumerate() {
-        let _ballot = item.ballot;
-        if !tx.is_participant(item.instance) {
-            return false;
-        }
-        if i > 0 && accepts[i - 1].instance >= item.instance {
+        if i > 0 && items[i - 1].instance() >= instance {
             return false;
         }
     }
@@ -202,7 +186,7 @@ pub fn is_b1b(tx: &Tx, ballot: Ballot, acceptor: u8, reports: &Items<InstanceRep
     ensures { IsTrue result ↔ IsMessage (B1b tx.now ballot acceptor reports.now) }
 {
     let _ = tx.count();
-    ballot >= 1 && acceptor < MAX_ACCEPTORS && are_reports(tx, ballot, reports.as_slice())
+    ballot >= 1 && acceptor < MAX_ACCEPTORS && are_items(tx, ballot, reports.as_slice())
 }
 
 /// Whether a bundle of phase 2b is a message.
@@ -210,7 +194,7 @@ pub fn is_b2b(tx: &Tx, acceptor: u8, accepts: &Items<InstanceAccept>) -> bool
     ensures { IsTrue result ↔ IsMessage (B2b tx.now acceptor accepts.now) }
 {
     let _ = tx.count();
-    acceptor < MAX_ACCEPTORS && are_accepts(tx, accepts.as_slice())
+    acceptor < MAX_ACCEPTORS && are_items(tx, 0, accepts.as_slice())
 }
 
 /// Whether a bundle is a message.

@@ -7,7 +7,8 @@ ghost use Rattle.wire.specs.Reading.{branch_at, branches_at, tx_at, vote_at, rep
 ghost use Rattle.wire.specs.Reading.{list_at, with_first, items_at, end_at};
 
 use crate::grammar::{RM_BYTES, VersionNumber};
-use crate::items::{InstanceAccept, InstanceReport, Items};
+use crate::item::Item;
+use crate::items::Items;
 use byteorder::{BigEndian, ByteOrder};
 use xid::{Branches, MAX_BRANCHES, MAX_COMPONENT, MAX_MANAGERS, ManagerNumber, Tx, Vote};
 
@@ -224,43 +225,6 @@ pub(crate) fn take_instance(bytes: &[u8]) -> Option<(ManagerNumber, u32, &[u8])>
     let (rm, rest) = take_rm(VersionNumber::Second, bytes)?;
     let (ballot, rest) = take_number(rest)?;
     Some((rm, ballot, rest))
-}
-
-/// An item of a bundle, as it stands in bytes.
-pub(crate) trait Item: Copy {
-    /// The item at the front of bytes, and the bytes after it.
-    ghost at: { List ℕ → Option (Self × List ℕ) };
-
-    /// Takes an item from the front.
-    fn take(bytes: &[u8]) -> Option<(Self, &[u8])>
-        ensures { taken result ≡ at bytes.now };
-}
-
-impl Item for InstanceReport {
-    ghost at = { report_item_at };
-
-    #[tactic(auto, unfolding(crate::specs::Reading::report_item_at))]
-    fn take(bytes: &[u8]) -> Option<(InstanceReport, &[u8])> {
-        let (instance, rest) = take_rm(VersionNumber::Second, bytes)?;
-        let (report, rest) = take_report(rest)?;
-        Some((InstanceReport { instance, report }, rest))
-    }
-}
-
-impl Item for InstanceAccept {
-    ghost at = { accept_item_at };
-
-    #[tactic(auto, unfolding(crate::specs::Reading::accept_item_at))]
-    fn take(bytes: &[u8]) -> Option<(InstanceAccept, &[u8])> {
-        let (instance, ballot, rest) = take_instance(bytes)?;
-        let (vote, rest) = take_vote(rest)?;
-        let item = InstanceAccept {
-            instance,
-            ballot,
-            vote,
-        };
-        Some((item, rest))
-    }
 }
 
 fn more_items<T: Item>(first: T, count: u8, bytes: &[u8]) -> Option<(Items<T>, &[u8])>

@@ -7,7 +7,7 @@ use crate::grammar::{MAX_DATAGRAM, MAX_MESSAGE_BYTES, MAX_REST_BYTES, VERSION};
 use crate::items::{InstanceAccept, InstanceReport, Items};
 use crate::spelled_tx::SpelledTx;
 use crate::writing::{
-    byte_of_vote, put_accepts, put_byte, put_bytes, put_number, put_report, put_reports, put_rm,
+    byte_of_vote, put_byte, put_bytes, put_items, put_number, put_report, put_rm,
 };
 use std::marker::Model;
 use xid::{Ballot, ManagerNumber, Vote};
@@ -92,11 +92,11 @@ fn put_reply(rest: &ReplyRest, out: &mut [u8], at: usize) -> usize
         } => {
             let at = put_number(out, at, *ballot);
             let at = put_byte(out, at, *acceptor);
-            put_reports(reports.as_slice(), out, at)
+            put_items(reports.as_slice(), out, at)
         }
         ReplyRest::B2b { acceptor, accepts } => {
             let at = put_byte(out, at, *acceptor);
-            put_accepts(accepts.as_slice(), out, at)
+            put_items(accepts.as_slice(), out, at)
         }
     }
 }

@@ -1,66 +1,60 @@
 //! The items of a bundle, checked on the bytes that spell them, and taken from them.
 
-ghost use Rattle.std.specs.Prelude.{◌≡◌, ◌<◌, length};
-ghost use Rattle.wire.specs.Reading.{report_item_at, accept_item_at};
-ghost use Rattle.wire.specs.SpelledItems.{items_from, are_items, is_reported, is_accepted, reports_spelled, accepts_spelled};
+ghost use Rattle.std.specs.Prelude.{◌≡◌, ◌<◌, ℕ, suc, ◌+◌, false, MatchOption, length};
+ghost use Rattle.wire.specs.SpelledItems.{items_from, are_items, is_item, reports_spelled, accepts_spelled};
 
+use crate::item::Item;
 use crate::items::{InstanceAccept, InstanceReport, Items};
-use crate::message::is_report_below;
-use crate::reading::{Item, take_byte, take_items};
+use crate::reading::{take_byte, take_items};
 use crate::spelled_tx::SpelledTx;
-use xid::{Ballot, MAX_BRANCHES};
+use xid::{Ballot, MAX_BRANCHES, MAX_MANAGERS, ManagerNumber};
 
-/// Whether bytes are so many reports that pass.
-fn are_counted_reports(tx: &SpelledTx<'_>, ballot: Ballot, count: u8, bytes: &[u8]) -> bool
-    ensures { result ≡ items_from report_item_at (is_reported tx.now ballot) (λ item. item.instance) 0 count bytes.now }
+/// Takes an item that passes from the front, and answers its instance and what follows it: it is of an instance of the transaction that
+/// isn't below the least, and what it reports is below the ballot.
+fn take_passed<'a, T: Item>(
+    tx: &SpelledTx<'_>,
+    ballot: Ballot,
+    least: ManagerNumber,
+    bytes: &'a [u8],
+) -> Option<(ManagerNumber, &'a [u8])>
+    ensures left { (n : ℕ) → let left = items_from T.at (is_item T.about (T.is_below ballot) tx.now) T.about in
+        MatchOption result (left least (suc n) bytes.now ≡ false) (λ x. left least (suc n) bytes.now ≡ left (x.0 + 1) n x.1.now) }
+    ensures below { MatchOption result (Unit {0}) (λ x. x.0 < MAX_MANAGERS) }
+{
+    let (item, rest) = T::take(bytes)?;
+    let instance = item.instance();
+    if !tx.is_participant(instance) {
+        return None;
+    }
+    if !item.is_below(ballot) {
+        return None;
+    }
+    if instance < least {
+        return None;
+    }
+    Some((instance, rest))
+}
+
+/// Whether bytes are so many items that pass, ascending, and nothing after them.
+fn are_counted<T: Item>(tx: &SpelledTx<'_>, ballot: Ballot, count: u8, bytes: &[u8]) -> bool
+    ensures { result ≡ items_from T.at (is_item T.about (T.is_below ballot) tx.now) T.about 0 count bytes.now }
 {
     let mut rest = bytes;
     let mut least = 0;
     for _ in 0..count {
-        let Some((item, after)) = InstanceReport::take(rest) else {
+        let Some((instance, after)) = take_passed::<T>(tx, ballot, least, rest) else {
             return false;
         };
-        if !tx.is_participant(item.instance) {
-            return false;
-        }
-        if !is_report_below(item.report, ballot) {
-            return false;
-        }
-        if item.instance < least {
-            return false;
-        }
-        least = item.instance + 1;
+        least = instance + 1;
         rest = after;
     }
     rest.is_empty()
 }
 
-/// Whether bytes are so many accepts that pass.
-fn are_counted_accepts(tx: &SpelledTx<'_>, count: u8, bytes: &[u8]) -> bool
-    ensures { result ≡ items_from accept_item_at (is_accepted tx.now) (λ item. item.instance) 0 count bytes.now }
-{
-    let mut rest = bytes;
-    let mut least = 0;
-    for _ in 0..count {
-        let Some((item, after)) = InstanceAccept::take(rest) else {
-            return false;
-        };
-        if !tx.is_participant(item.instance) {
-            return false;
-        }
-        if item.instance < least {
-            return false;
-        }
-        least = item.instance + 1;
-        rest = after;
-    }
-    rest.is_empty()
-}
-
-/// Whether bytes spell reports of instances of the transaction, ascending, below the ballot, and nothing after them.
+/// Whether bytes spell such items behind their count.
 #[tactic(auto, unfolding(crate::specs::SpelledItems::are_items))]
-pub(crate) fn are_reports(tx: &SpelledTx<'_>, ballot: Ballot, bytes: &[u8]) -> bool
-    ensures { result ≡ are_items report_item_at (is_reported tx.now ballot) (λ item. item.instance) bytes.now }
+pub(crate) fn are_items<T: Item>(tx: &SpelledTx<'_>, ballot: Ballot, bytes: &[u8]) -> bool
+    ensures { result ≡ are_items T.at (is_item T.about (T.is_below ballot) tx.now) T.about bytes.now }
 {
     let Some((count, rest)) = take_byte(bytes) else {
         return false;
@@ -71,24 +65,7 @@ pub(crate) fn are_reports(tx: &SpelledTx<'_>, ballot: Ballot, bytes: &[u8]) -> b
     if count as usize > MAX_BRANCHES {
         return false;
     }
-    are_counted_reports(tx, ballot, count, rest)
-}
-
-/// Whether bytes spell accepts of instances of the transaction, ascending, and nothing after them.
-#[tactic(auto, unfolding(crate::specs::SpelledItems::are_items))]
-pub(crate) fn are_accepts(tx: &SpelledTx<'_>, bytes: &[u8]) -> bool
-    ensures { result ≡ are_items accept_item_at (is_accepted tx.now) (λ item. item.instance) bytes.now }
-{
-    let Some((count, rest)) = take_byte(bytes) else {
-        return false;
-    };
-    if count == 0 {
-        return false;
-    }
-    if count as usize > MAX_BRANCHES {
-        return false;
-    }
-    are_counted_accepts(tx, count, rest)
+    are_counted::<T>(tx, ballot, count, rest)
 }
 
 /// The reports that the bytes of a bundle spell.

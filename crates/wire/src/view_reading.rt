@@ -9,13 +9,14 @@ ghost use Rattle.wire.specs.Decoding.{decoded};
 ghost use Rattle.wire.specs.Said.{said, heard, told};
 
 use crate::grammar::VersionNumber;
+use crate::items::{InstanceAccept, InstanceReport};
 use crate::message::is_report_below;
 use crate::reading::{
     take_byte, take_end, take_instance, take_number, take_report, take_rm, take_vote,
 };
 use crate::rest::Rest;
 use crate::spelled_tx::SpelledTx;
-use crate::view_items::{are_accepts, are_reports};
+use crate::view_items::are_items;
 use xid::MAX_ACCEPTORS;
 
 #[tactic(auto, unfolding(crate::specs::Reading::p1a_at))]
@@ -167,7 +168,7 @@ fn b1b_of<'a>(tx: &SpelledTx<'_>, bytes: &'a [u8]) -> Option<Rest<'a>>
     if acceptor >= MAX_ACCEPTORS {
         return None;
     }
-    if !are_reports(tx, ballot, reports) {
+    if !are_items::<InstanceReport>(tx, ballot, reports) {
         return None;
     }
     let _ = tx.count();
@@ -186,7 +187,7 @@ fn b2b_of<'a>(tx: &SpelledTx<'_>, bytes: &'a [u8]) -> Option<Rest<'a>>
     if acceptor >= MAX_ACCEPTORS {
         return None;
     }
-    if !are_accepts(tx, accepts) {
+    if !are_items::<InstanceAccept>(tx, 0, accepts) {
         return None;
     }
     let _ = tx.count();

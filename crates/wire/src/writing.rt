@@ -4,7 +4,7 @@ ghost use Rattle.xid.specs.Transactions.{nth_branch};
 ghost use Rattle.wire.specs.Messages.{IsMessage};
 ghost use Rattle.wire.specs.Versions.{version_2};
 ghost use Rattle.wire.specs.Grammar.{number_spelling, rm_spelling, component_spelling, branch_spelling, branches_spelling};
-ghost use Rattle.wire.specs.Grammar.{tx_spelling, vote_byte, report_spelling, report_item_spelling, accept_item_spelling, kind_byte};
+ghost use Rattle.wire.specs.Grammar.{tx_spelling, vote_byte, report_spelling, kind_byte};
 ghost use Rattle.wire.specs.Grammar.{rest_spelling, spelling};
 
 use crate::grammar::{
@@ -12,7 +12,7 @@ use crate::grammar::{
     MAX_ITEMS_BYTES, MAX_MESSAGE_BYTES, MAX_REST_BYTES, MAX_TX_BYTES, NUMBER_BYTES, REPORT_BYTES,
     RM_BYTES, VERSION,
 };
-use crate::items::{InstanceAccept, InstanceReport};
+use crate::item::Item;
 use crate::message::{Kind, Message};
 use byteorder::{BigEndian, ByteOrder};
 use xid::{MAX_BRANCHES, MAX_COMPONENT, ManagerNumber, Tx, Vote};
@@ -136,51 +136,17 @@ pub(crate) fn put_report(out: &mut [u8], at: usize, report: Option<(u32, Vote)>)
     put_byte(out, at, vote)
 }
 
-fn put_report_item(item: &InstanceReport, out: &mut [u8], at: usize) -> usize
-    requires { at + ITEM_BYTES ≤ length out.old }
-    ensures end { result ≡ at + ITEM_BYTES }
-    ensures shown { take result out.new ≡ take at out.old ++ report_item_spelling version_2 item.now }
-    ensures rest { (n : ℕ) → result ≤ n → drop n out.new ≡ drop n out.old }
-{
-    let at = put_rm(out, at, item.instance);
-    put_report(out, at, item.report)
-}
-
-fn put_accept_item(item: &InstanceAccept, out: &mut [u8], at: usize) -> usize
-    requires { at + ITEM_BYTES ≤ length out.old }
-    ensures end { result ≡ at + ITEM_BYTES }
-    ensures shown { take result out.new ≡ take at out.old ++ accept_item_spelling version_2 item.now }
-    ensures rest { (n : ℕ) → result ≤ n → drop n out.new ≡ drop n out.old }
-{
-    let at = put_rm(out, at, item.instance);
-    let at = put_number(out, at, item.ballot);
-    put_byte(out, at, byte_of_vote(item.vote))
-}
-
-pub(crate) fn put_reports(reports: &[InstanceReport], out: &mut [u8], at: usize) -> usize
-    requires few { length reports.now ≤ MAX_BRANCHES }
+/// Puts the items of a bundle at a place, behind their count.
+pub(crate) fn put_items<T: Item>(items: &[T], out: &mut [u8], at: usize) -> usize
+    requires few { length items.now ≤ MAX_BRANCHES }
     requires room { at + MAX_ITEMS_BYTES ≤ length out.old }
-    ensures end { result ≡ at + 1 + ITEM_BYTES * length reports.now }
-    ensures shown { take result out.new ≡ take at out.old ++ length reports.now ∷ flat_map (report_item_spelling version_2) reports.now }
+    ensures end { result ≡ at + 1 + ITEM_BYTES * length items.now }
+    ensures shown { take result out.new ≡ take at out.old ++ length items.now ∷ flat_map T.spell items.now }
     ensures rest { (n : ℕ) → result ≤ n → drop n out.new ≡ drop n out.old }
 {
-    let mut at = put_byte(out, at, reports.len() as u8);
-    for item in reports {
-        at = put_report_item(item, out, at);
-    }
-    at
-}
-
-pub(crate) fn put_accepts(accepts: &[InstanceAccept], out: &mut [u8], at: usize) -> usize
-    requires few { length accepts.now ≤ MAX_BRANCHES }
-    requires room { at + MAX_ITEMS_BYTES ≤ length out.old }
-    ensures end { result ≡ at + 1 + ITEM_BYTES * length accepts.now }
-    ensures shown { take result out.new ≡ take at out.old ++ length accepts.now ∷ flat_map (accept_item_spelling version_2) accepts.now }
-    ensures rest { (n : ℕ) → result ≤ n → drop n out.new ≡ drop n out.old }
-{
-    let mut at = put_byte(out, at, accepts.len() as u8);
-    for item in accepts {
-        at = put_accept_item(item, out, at);
+    let mut at = put_byte(out, at, items.len() as u8);
+    for item in items {
+        at = item.put(out, at);
     }
     at
 }
@@ -222,7 +188,7 @@ fn put_bundle(kind: &Kind, out: &mut [u8], at: usize) -> usize
         } => {
             let at = put_number(out, at, ballot);
             let at = put_byte(out, at, acceptor);
-            put_reports(reports.as_slice(), out, at)
+            put_items(reports.as_slice(), out, at)
         }
         Kind::B2b {
             acceptor,
@@ -230,7 +196,7 @@ fn put_bundle(kind: &Kind, out: &mut [u8], at: usize) -> usize
             ..
         } => {
             let at = put_byte(out, at, acceptor);
-            put_accepts(accepts.as_slice(), out, at)
+            put_items(accepts.as_slice(), out, at)
         }
         _ => at,
     }

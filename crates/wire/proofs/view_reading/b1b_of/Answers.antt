@@ -5,11 +5,11 @@ use Rattle.wire.specs.Messages.{IsLeaderBallot}
 use Rattle.wire.proofs.BundleKinds.{b1b_accepted, b1b_refused, number_fits}
 use Rattle.wire.proofs.view_reading.b1b_of.Goals as goal
 
-pub returns-then-not-are_reports : goal.returns-then-not-are_reports
-returns-then-not-are_reports c =
+pub returns-then-not-are_items : goal.returns-then-not-are_items
+returns-then-not-are_items c =
     b1b_refused c.args.tx.now c.args.bytes.now c.in_ok-ballot.rest.now c.in_ok-acceptor.reports.now c.in_ok-ballot.ballot
     c.in_ok-acceptor.acceptor
-    c.in_ok-ballot.ensures c.in_ok-acceptor.ensures (sym c.are_reports.ensures ∙ c.if-not-are_reports.true)
+    c.in_ok-ballot.ensures c.in_ok-acceptor.ensures (sym c.are_items.ensures ∙ c.if-not-are_items.true)
 
 pub returns : goal.returns
 returns c =
@@ -21,4 +21,4 @@ returns c =
     b1b_accepted c.args.tx.now c.args.bytes.now c.in_ok-ballot.rest.now c.in_ok-acceptor.reports.now c.in_ok-ballot.ballot
     c.in_ok-acceptor.acceptor
     c.in_ok-ballot.ensures c.in_ok-acceptor.ensures c.count.ensures.valid leader c.if-acceptor-ge-MAX_ACCEPTORS.false
-    (sym c.are_reports.ensures ∙ c.if-not-are_reports.false)
+    (sym c.are_items.ensures ∙ c.if-not-are_items.false)

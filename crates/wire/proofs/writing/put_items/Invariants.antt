@@ -1,13 +1,11 @@
 use Rattle.std.proofs.Common.{◌≡◌, ℕ, ◌+◌, ◌*◌, ◌≤◌, ◌++◌, take, drop}
 use Rattle.std.specs.List.{flat_map}
-use Rattle.wire.specs.Versions.{version_2}
-use Rattle.wire.specs.Grammar.{accept_item_spelling}
 use Rattle.wire.specs.declared.grammar.TheConstants.{ITEM_BYTES}
-use Rattle.wire.proofs.writing.put_accepts.Given as goal
+use Rattle.wire.proofs.writing.put_items.Given as goal
 
 abbrev pub invariant-loop-item : goal.invariant-loop-item
-invariant-loop-item l = record {
+invariant-loop-item g l = record {
   end : l.at ≡ l.initial.at + ITEM_BYTES * l.item-index;
-  shown : take l.at l.out ≡ take l.initial.at l.initial.out ++ flat_map (accept_item_spelling version_2) (take l.item-index l.accepts);
+  shown : take l.at l.out ≡ take l.initial.at l.initial.out ++ flat_map g.T.Item.spell (take l.item-index l.items);
   rest : (n : ℕ) → l.at ≤ n → drop n l.out ≡ drop n l.initial.out;
 }
