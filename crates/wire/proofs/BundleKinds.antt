@@ -4,7 +4,7 @@ use Rattle.std.proofs.Common.{cond, ltb, List, [], ◌∷◌, length, map, Optio
 use Rattle.std.proofs.Common.{refl, sym, ap, subst, ◌∙◌, arith}
 use Rattle.std.specs.Prelude.{Result, Ok, Err}
 use Rattle.std.specs.List.{AllByRecursion}
-use Rattle.std.proofs.lemmas.Bool.{ltb-true, lt-ltb}
+use Rattle.std.proofs.lemmas.Bool.{ltb-true, lt-ltb, false≢true}
 use Rattle.xid.specs.Limits.{most_acceptors, most_branches}
 use Rattle.xid.specs.Names.{IsBytes}
 use Rattle.xid.specs.Transactions.{TxParts, IsTx, is_participant}
@@ -15,7 +15,7 @@ use Rattle.wire.specs.declared.items.InstanceReport.{InstanceReport}
 use Rattle.wire.specs.declared.items.InstanceAccept.{InstanceAccept}
 use Rattle.wire.specs.declared.message.Kind.{Kind}
 use Rattle.wire.specs.declared.message.Kind.TheVariants.{B1b, B2b}
-use Rattle.wire.specs.Messages.{IsMessage, IsLeaderBallot, IsBallot, IsReportBelow, AreInstances, reported_instances, accepted_instances}
+use Rattle.wire.specs.Messages.{IsMessage, IsLeaderBallot, IsBallot, IsReportBelow, AreInstances}
 use Rattle.byteorder.specs.Endian.{big_number}
 use Rattle.wire.specs.declared.grammar.VersionNumber.TheVariants.{Second}
 use Rattle.wire.specs.Versions.{version_2}
@@ -26,7 +26,7 @@ use Rattle.wire.proofs.DecodingLemmas.{message_decides}
 use Rattle.wire.proofs.Decoded.{accepted}
 use Rattle.wire.proofs.Spelled.{some_same, step, unless, rm_spelled}
 use Rattle.wire.proofs.Spelled.{byte_spelled, accept_item_spelled}
-use Rattle.wire.specs.SpelledItems.{reports_spelled, accepts_spelled, are_items, is_reported, is_accepted}
+use Rattle.wire.specs.SpelledItems.{reports_spelled, accepts_spelled, are_items, is_item, is_reported, is_accepted}
 use Rattle.wire.proofs.CountedItems.{both, are, are_again}
 
 pub below : (ballot : ℕ) (report : Option (ℕ × Vote)) → is_report ballot report ≡ true → IsReportBelow ballot report
@@ -36,13 +36,6 @@ below ballot (Some accepted) e = ltb-true accepted.0 ballot e
 pub below_again : (ballot : ℕ) (report : Option (ℕ × Vote)) → IsReportBelow ballot report → is_report ballot report ≡ true
 below_again ballot None e = refl
 below_again ballot (Some accepted) e = lt-ltb accepted.0 ballot e
-
-pub not_below : (ballot : ℕ) (report : Option (ℕ × Vote)) → (IsReportBelow ballot report → ⊥) → is_report ballot report ≡ false
-not_below ballot report not = by (is_report ballot report) refl
-  where
-    by : (t : Bool) → is_report ballot report ≡ t → is_report ballot report ≡ false
-    by true e = absurd (not (below ballot report e))
-    by false e = e
 
 -- one fact of each
 module _ {X : Type 0} where
@@ -64,25 +57,65 @@ module _ {X : Type 0} where
   length_of f [] = refl
   length_of f (x ∷ xs) = ap suc (length_of f xs)
 
-abbrev report_instance : InstanceReport → ℕ
-report_instance item = item.instance
+-- a kind of bundle with a transaction: it is seen on the bytes of its items, and read from them
+module _ {X : Type 0} (one : List ℕ → Option (X × List ℕ)) (instance : X → ℕ) (is_below : X → Bool) (tx : TxParts) (kind : List X → Kind)
+    (items : List ℕ) (spelled : List X) (read : Option (Kind × List ℕ))
+    (seen : (xs : List X) → items_at one items ≡ Some (xs, []) → spelled ≡ xs)
+    (reads : (x : List X × List ℕ) → items_at one items ≡ Some x → read ≡ Some (kind x.0, x.1))
+    (reads_none : items_at one items ≡ None → read ≡ None) where
+  abbrev is : X → Bool
+  is = is_item instance is_below tx
 
-abbrev accept_instance : InstanceAccept → ℕ
-accept_instance item = item.instance
+  bundle_accepted : IsTx tx
+      → ((xs : List X) → items_at one items ≡ Some (xs, []) → AreInstances tx (map instance xs)
+      → AllByRecursion (λ x. is_below x ≡ true) xs → IsMessage (kind xs))
+      → are_items one is instance items ≡ true → Ok (kind spelled) ≡ decoded read
+  bundle_accepted valid message e =
+      let all = are one is instance items e in
+      let instances : AreInstances tx (map instance all.items) = record {
+        valid = valid;
+        some = let len = length_of instance all.items in omega (arith, len, all.some);
+        named = named_of instance (λ x. is x ≡ true) (λ rm. IsTrue (is_participant tx rm)) (λ x h. (both _ _ h).0) all.items all.each;
+        ascending = all.ascending;
+      } in
+      let lows = each_of (λ x. is x ≡ true) (λ x. is_below x ≡ true) (λ x h. (both _ _ h).1) all.items all.each in
+      ap said_ok (seen all.items all.read)
+      ∙ accepted true (kind all.items) (λ _. message all.items all.read instances lows, λ _. refl) refl
+      ∙ sym (ap decoded (reads (all.items, []) all.read))
+    where
+      said_ok : List X → Result Kind Refusal
+      said_ok xs = Ok (kind xs)
+
+  bundle_refused : ((xs : List X) → IsMessage (kind xs) → AreInstances tx (map instance xs) × AllByRecursion (λ x. is_below x ≡ true) xs)
+      → are_items one is instance items ≡ false → Err BadMessage ≡ decoded read
+  bundle_refused facts fails = by (items_at one items) refl
+    where
+      asked : (xs : List X) (t : Bool) → is_message (kind xs) ≡ t → items_at one items ≡ Some (xs, [])
+          → Err BadMessage ≡ cond t (Ok (kind xs)) (Err BadMessage)
+      asked xs true et er =
+          let fact = facts xs ((message_decides (kind xs)).0 et) in
+          let each = two_of instance (λ rm. IsTrue (is_participant tx rm)) (λ x. is_below x ≡ true) (λ x. is x ≡ true)
+          (λ x named low. let name : is_participant tx (instance x) ≡ true = named in rw (name, low) refl) xs fact.0.named fact.1 in
+          absurd (false≢true (sym fails ∙ are_again one is instance items xs er each fact.0.ascending))
+      asked xs false et er = refl
+
+      by : (found : Option (List X × List ℕ)) → items_at one items ≡ found → Err BadMessage ≡ decoded read
+      by None er = rw (reads_none er) refl
+      by (Some (xs, [])) er = rw (reads (xs, []) er) (asked xs (is_message (kind xs)) refl er)
+      by (Some (xs, n ∷ ns)) er = rw (reads (xs, n ∷ ns) er) refl
 
 -- ---- phase 1b
 
 module _ (tx : TxParts) (bytes rest reports : List ℕ) (ballot acceptor : ℕ) (eb : Some (ballot, rest) ≡ number_at bytes)
     (ea : Some (acceptor, reports) ≡ byte_at rest) where
-  abbrev AreHere : Type 0
-  AreHere = are_items report_item_at (is_reported tx ballot) report_instance reports ≡ true
+  abbrev b1b_kind : List InstanceReport → Kind
+  b1b_kind items = B1b tx ballot acceptor items
 
   reports_read : (items : List InstanceReport) → items_at report_item_at reports ≡ Some (items, []) → reports_spelled reports ≡ items
   unfolding reports_spelled
   reports_read items e = rw e refl
 
-  b1b_read : (x : List InstanceReport × List ℕ) → items_at report_item_at reports ≡ Some x
-      → b1b_at tx bytes ≡ Some (B1b tx ballot acceptor x.0, x.1)
+  b1b_read : (x : List InstanceReport × List ℕ) → items_at report_item_at reports ≡ Some x → b1b_at tx bytes ≡ Some (b1b_kind x.0, x.1)
   unfolding b1b_at
   b1b_read x e = rw (sym eb, sym ea, e) refl
 
@@ -90,50 +123,28 @@ module _ (tx : TxParts) (bytes rest reports : List ℕ) (ballot acceptor : ℕ) 
   unfolding b1b_at
   b1b_none e = rw (sym eb, sym ea, e) refl
 
-  pub b1b_accepted : IsTx tx → IsLeaderBallot ballot → acceptor < most_acceptors → AreHere
-      → Ok (B1b tx ballot acceptor (reports_spelled reports)) ≡ decoded (b1b_at tx bytes)
-  b1b_accepted is leader fits e =
-      let all = are report_item_at (is_reported tx ballot) report_instance reports e in
-      let k : Kind = B1b tx ballot acceptor all.items in
-      let instances : AreInstances tx (reported_instances all.items) = record {
-        valid = is;
-        some = let len = length_of report_instance all.items in omega (arith, len, all.some);
-        named = named_of report_instance (λ item. is_reported tx ballot item ≡ true) (λ rm. IsTrue (is_participant tx rm))
-            (λ item h. (both _ _ h).0) all.items all.each;
-        ascending = all.ascending;
-      } in
-      let lows = each_of (λ item. is_reported tx ballot item ≡ true) (λ item. IsReportBelow ballot item.report)
-      (λ item h. below ballot item.report (both _ _ h).1) all.items all.each in
-      let message : IsMessage k = (instances, leader, fits, lows) in
-      ap (λ (items : List InstanceReport). said_ok items) (reports_read all.items all.read)
-      ∙ accepted true k (λ _. message, λ _. refl) refl
-      ∙ sym (ap decoded (b1b_read (all.items, []) all.read))
-    where
-      said_ok : List InstanceReport → Result Kind Refusal
-      said_ok items = Ok (B1b tx ballot acceptor items)
+  pub b1b_accepted : IsTx tx → IsLeaderBallot ballot → acceptor < most_acceptors
+      → are_items report_item_at (is_reported tx ballot) (λ item. item.instance) reports ≡ true
+      → Ok (b1b_kind (reports_spelled reports)) ≡ decoded (b1b_at tx bytes)
+  b1b_accepted valid leader fits =
+      bundle_accepted report_item_at (λ item. item.instance) (λ item. is_report ballot item.report) tx b1b_kind reports
+      (reports_spelled reports) (b1b_at tx bytes) reports_read b1b_read b1b_none valid (λ xs read instances lows. (
+        instances,
+        leader,
+        fits,
+        each_of (λ item. is_report ballot item.report ≡ true) (λ item. IsReportBelow ballot item.report)
+            (λ item h. below ballot item.report h) xs lows,
+      ))
 
-  pub b1b_refused : (are_items report_item_at (is_reported tx ballot) report_instance reports ≡ false)
+  pub b1b_refused : are_items report_item_at (is_reported tx ballot) (λ item. item.instance) reports ≡ false
       → Err BadMessage ≡ decoded (b1b_at tx bytes)
-  b1b_refused fails = by (items_at report_item_at reports) refl
-    where
-      asked : (items : List InstanceReport) (t : Bool) → is_message (B1b tx ballot acceptor items) ≡ t
-          → items_at report_item_at reports ≡ Some (items, [])
-          → Err BadMessage ≡ cond t (Ok (B1b tx ballot acceptor items)) (Err BadMessage)
-      asked items true et er =
-          let is : IsMessage (B1b tx ballot acceptor items) = (message_decides (B1b tx ballot acceptor items)).0 et in
-          let each = two_of report_instance (λ rm. IsTrue (is_participant tx rm)) (λ item. IsReportBelow ballot item.report)
-          (λ item. is_reported tx ballot item ≡ true)
-          (λ item named low. let one : is_participant tx item.instance ≡ true = named in rw (one, below_again ballot item.report low) refl)
-          items is.0.named is.3 in
-          let all = are_again report_item_at (is_reported tx ballot) report_instance reports items er each is.0.ascending in
-          absurd (cc (all, fails))
-      asked items false et er = refl
-
-      by : (read : Option (List InstanceReport × List ℕ)) → items_at report_item_at reports ≡ read
-          → Err BadMessage ≡ decoded (b1b_at tx bytes)
-      by None er = rw (b1b_none er) refl
-      by (Some (items, [])) er = rw (b1b_read (items, []) er) (asked items (is_message (B1b tx ballot acceptor items)) refl er)
-      by (Some (items, x ∷ xs)) er = rw (b1b_read (items, x ∷ xs) er) refl
+  b1b_refused =
+      bundle_refused report_item_at (λ item. item.instance) (λ item. is_report ballot item.report) tx b1b_kind reports
+      (reports_spelled reports) (b1b_at tx bytes) reports_read b1b_read b1b_none (λ xs is. (
+        is.0,
+        each_of (λ item. IsReportBelow ballot item.report) (λ item. is_report ballot item.report ≡ true)
+            (λ item low. below_again ballot item.report low) xs is.3,
+      ))
 
 -- ---- phase 2b
 
@@ -184,15 +195,14 @@ all_ballots bytes items is e =
     list_fits count.0 count.1 (items, []) (byte_spelled bytes count is ec).after few.1)
 
 module _ (tx : TxParts) (bytes accepts : List ℕ) (acceptor : ℕ) (ea : Some (acceptor, accepts) ≡ byte_at bytes) where
-  abbrev AreThere : Type 0
-  AreThere = are_items accept_item_at (is_accepted tx) accept_instance accepts ≡ true
+  abbrev b2b_kind : List InstanceAccept → Kind
+  b2b_kind items = B2b tx acceptor items
 
   accepts_read : (items : List InstanceAccept) → items_at accept_item_at accepts ≡ Some (items, []) → accepts_spelled accepts ≡ items
   unfolding accepts_spelled
   accepts_read items e = rw e refl
 
-  b2b_read : (x : List InstanceAccept × List ℕ) → items_at accept_item_at accepts ≡ Some x
-      → b2b_at tx bytes ≡ Some (B2b tx acceptor x.0, x.1)
+  b2b_read : (x : List InstanceAccept × List ℕ) → items_at accept_item_at accepts ≡ Some x → b2b_at tx bytes ≡ Some (b2b_kind x.0, x.1)
   unfolding b2b_at
   b2b_read x e = rw (sym ea, e) refl
 
@@ -200,48 +210,17 @@ module _ (tx : TxParts) (bytes accepts : List ℕ) (acceptor : ℕ) (ea : Some (
   unfolding b2b_at
   b2b_none e = rw (sym ea, e) refl
 
-  pub b2b_accepted : IsBytes bytes → IsTx tx → acceptor < most_acceptors → AreThere
-      → Ok (B2b tx acceptor (accepts_spelled accepts)) ≡ decoded (b2b_at tx bytes)
-  b2b_accepted each is fits e =
-      let all = are accept_item_at (is_accepted tx) accept_instance accepts e in
-      let k : Kind = B2b tx acceptor all.items in
-      let instances : AreInstances tx (accepted_instances all.items) = record {
-        valid = is;
-        some = let len = length_of accept_instance all.items in omega (arith, len, all.some);
-        named = named_of accept_instance (λ item. is_accepted tx item ≡ true) (λ rm. IsTrue (is_participant tx rm))
-            (λ item h. (both _ _ h).0) all.items all.each;
-        ascending = all.ascending;
-      } in
+  pub b2b_accepted : IsBytes bytes → IsTx tx → acceptor < most_acceptors
+      → are_items accept_item_at (is_accepted tx) (λ item. item.instance) accepts ≡ true
+      → Ok (b2b_kind (accepts_spelled accepts)) ≡ decoded (b2b_at tx bytes)
+  b2b_accepted each valid fits =
       let front = byte_spelled bytes (acceptor, accepts) each (sym ea) in
-      let message : IsMessage k = (instances, fits, ballots accepts all.items front.after all.read) in
-      ap (λ (items : List InstanceAccept). said_ok items) (accepts_read all.items all.read)
-      ∙ accepted true k (λ _. message, λ _. refl) refl
-      ∙ sym (ap decoded (b2b_read (all.items, []) all.read))
-    where
-      said_ok : List InstanceAccept → Result Kind Refusal
-      said_ok items = Ok (B2b tx acceptor items)
+      bundle_accepted accept_item_at (λ item. item.instance) (λ item. true) tx b2b_kind accepts (accepts_spelled accepts) (b2b_at tx bytes)
+      accepts_read b2b_read b2b_none valid (λ xs read instances lows. (instances, fits, all_ballots accepts xs front.after read))
 
-      ballots : (bytes : List ℕ) (items : List InstanceAccept) → IsBytes bytes → items_at accept_item_at bytes ≡ Some (items, [])
-          → AllByRecursion (λ item. IsBallot item.ballot) items
-      ballots bytes items is e = all_ballots bytes items is e
-
-  pub b2b_refused : (are_items accept_item_at (is_accepted tx) accept_instance accepts ≡ false) → Err BadMessage ≡ decoded (b2b_at tx bytes)
-  b2b_refused fails = by (items_at accept_item_at accepts) refl
-    where
-      asked : (items : List InstanceAccept) (t : Bool) → is_message (B2b tx acceptor items) ≡ t
-          → items_at accept_item_at accepts ≡ Some (items, [])
-          → Err BadMessage ≡ cond t (Ok (B2b tx acceptor items)) (Err BadMessage)
-      asked items true et er =
-          let is : IsMessage (B2b tx acceptor items) = (message_decides (B2b tx acceptor items)).0 et in
-          let each = two_of accept_instance (λ rm. IsTrue (is_participant tx rm)) (λ item. IsBallot item.ballot)
-          (λ item. is_accepted tx item ≡ true)
-          (λ item named low. let one : is_participant tx item.instance ≡ true = named in rw one refl) items is.0.named is.2 in
-          let all = are_again accept_item_at (is_accepted tx) accept_instance accepts items er each is.0.ascending in
-          absurd (cc (all, fails))
-      asked items false et er = refl
-
-      by : (read : Option (List InstanceAccept × List ℕ)) → items_at accept_item_at accepts ≡ read
-          → Err BadMessage ≡ decoded (b2b_at tx bytes)
-      by None er = rw (b2b_none er) refl
-      by (Some (items, [])) er = rw (b2b_read (items, []) er) (asked items (is_message (B2b tx acceptor items)) refl er)
-      by (Some (items, x ∷ xs)) er = rw (b2b_read (items, x ∷ xs) er) refl
+  pub b2b_refused : are_items accept_item_at (is_accepted tx) (λ item. item.instance) accepts ≡ false
+      → Err BadMessage ≡ decoded (b2b_at tx bytes)
+  b2b_refused =
+      bundle_refused accept_item_at (λ item. item.instance) (λ item. true) tx b2b_kind accepts (accepts_spelled accepts) (b2b_at tx bytes)
+      accepts_read b2b_read b2b_none
+      (λ xs is. (is.0, each_of (λ item. IsBallot item.ballot) (λ item. true ≡ true) (λ item h. refl) xs is.2))

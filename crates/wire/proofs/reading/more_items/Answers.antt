@@ -10,7 +10,8 @@ total one front count bytes = with_front front (list_at one count bytes)
 
 pub returns-in_err-item : goal.returns-in_err-item
 returns-in_err-item g c =
-    rw c.from_residual.ensures (sym (ends g.T.Item.at c.loop.all c.args.count c.loop.counter c.loop.rest.now (total g.T.Item.at c.one-all.result c.args.count c.args.bytes.now)
+    rw c.from_residual.ensures (sym (ends g.T.Item.at c.loop.all c.args.count c.loop.counter c.loop.rest.now
+    (total g.T.Item.at c.one-all.result c.args.count c.args.bytes.now)
     c.loop-test.true (sym c.in_err-item.ensures) c.loop.invariant.same)
     ∙ ap (λ front. total g.T.Item.at front c.args.count c.args.bytes.now) c.one-all.ensures)
 

@@ -23,6 +23,7 @@ returns-then-not-are_managers c =
 
 pub returns : goal.returns
 returns c =
-    sym (found (version_of c.args.version) c.args.bytes.now _ c.in_ok-format.rest.now (sym c.in_ok-format.ensures ∙ cc (c.of_parts-tx.ensures))
+    sym (found (version_of c.args.version) c.args.bytes.now _ c.in_ok-format.rest.now
+    (sym c.in_ok-format.ensures ∙ cc (c.of_parts-tx.ensures))
     (subst IsTx (sym c.of_parts-tx.ensures) (c.are_parts.ensures.0 c.if-not-are_parts.false))
     (cc (c.are_managers.ensures, c.if-not-are_managers.false)))

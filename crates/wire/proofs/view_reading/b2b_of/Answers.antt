@@ -12,5 +12,6 @@ returns-then-not-are_items c =
 pub returns : goal.returns
 returns c =
     let is : IsBytes c.args.bytes.now = λ i. Fits-lt-pow (c.type_inv.bytes i) in
-    b2b_accepted c.args.tx.now c.args.bytes.now c.in_ok-acceptor.accepts.now c.in_ok-acceptor.acceptor c.in_ok-acceptor.ensures is c.count.ensures.valid
+    b2b_accepted c.args.tx.now c.args.bytes.now c.in_ok-acceptor.accepts.now c.in_ok-acceptor.acceptor c.in_ok-acceptor.ensures is
+    c.count.ensures.valid
     c.if-acceptor-ge-MAX_ACCEPTORS.false (sym c.are_items.ensures ∙ c.if-not-are_items.false)

@@ -35,4 +35,5 @@ pub returns : goal.returns
 returns c =
     let is : IsBytes c.args.bytes.now = λ i. Fits-lt-pow (c.type_inv.bytes i) in
     let e = ends c.args.bytes.now c.in_ok-rest.rest.now is (sym c.in_ok-rest.ensures) in
-    ap (λ (tx : TxParts). with_rest tx c.in_ok-rest.rest.now) (spelled_is _ e.tx e.is (cut c.args.bytes.now c.in_ok-rest.rest.now e)) ∙ sym e.read
+    ap (λ (tx : TxParts). with_rest tx c.in_ok-rest.rest.now) (spelled_is _ e.tx e.is (cut c.args.bytes.now c.in_ok-rest.rest.now e))
+    ∙ sym e.read
