@@ -1,8 +1,7 @@
 -- Taking values one after the other, as a loop does.
-use Rattle.std.proofs.Common.{◌≡◌, ℕ, zero, suc, ◌-◌, ◌+◌, ◌≤◌, ◌<◌, Bool, true, ◌&&◌, List, length, get_or, drop, [], ◌∷◌, ◌++◌, Option}
+use Rattle.std.proofs.Common.{◌≡◌, ℕ, suc, ◌-◌, ◌+◌, ◌≤◌, ◌<◌, List, [], ◌∷◌, ◌++◌, Option}
 use Rattle.std.proofs.Common.{Some, None, refl, sym, ap, ◌∙◌}
 use Rattle.std.proofs.Common.{append_assoc, arith}
-use Rattle.std.specs.List.{list_all}
 use Rattle.std.proofs.lemmas.List.{append-nil}
 use Rattle.wire.specs.Reading.{◌>>=◌, list_at}
 
@@ -42,19 +41,3 @@ module _ {X : Type 0} (one : List ℕ → Option (X × List ℕ)) (front : List 
       let taken : with_front front (list_at one (count - i) bytes) ≡ Some (front, bytes) =
       rw k (ap (λ (xs : List X). Some (xs, bytes)) (append-nil front)) in
       sym so_far ∙ taken
-
--- a test of all that is left asks the first, and all that is left after it
-pub all_next : {X : Type 0} (p : X → Bool) (xs : List X) (i : ℕ) (d : X) → i < length xs
-    → list_all p (drop i xs) ≡ (p (get_or xs i d) && list_all p (drop (i + 1) xs))
-all_next p [] i d lt = absurd (omega arith)
-all_next p (x ∷ xs) zero d lt = refl
-all_next p (x ∷ xs) (suc i) d lt =
-    let e : suc i + 1 ≡ suc (i + 1) = omega arith in
-    rw e (all_next p xs i d (omega arith))
-
--- nothing is left
-pub none_left : {X : Type 0} (p : X → Bool) (xs : List X) (i : ℕ) → length xs ≤ i → list_all p (drop i xs) ≡ true
-none_left p [] zero le = refl
-none_left p [] (suc i) le = refl
-none_left p (x ∷ xs) zero le = absurd (omega arith)
-none_left p (x ∷ xs) (suc i) le = none_left p xs i (omega arith)

@@ -163,13 +163,7 @@ fn take_parts<'a>(
 fn are_managers(version: VersionNumber, tx: &Tx) -> bool
     ensures { result ≡ are_managers (version_of version) tx.now.branches }
 {
-    let most = most_managers(version);
-    for i in 0..tx.count() {
-        if tx.rm(i) >= most {
-            return false;
-        }
-    }
-    true
+    tx.rm(tx.count() - 1) < most_managers(version)
 }
 
 /// Takes a transaction from the front, whose spelling in a version stands there, and answers it and what follows it. None where

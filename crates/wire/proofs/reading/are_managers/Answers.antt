@@ -1,39 +1,20 @@
-use Rattle.std.proofs.Common.{[], ◌≡◌, ◌∙◌, ◌≤◌, ◌<◌, true, false, ltb, refl, sym, get_or, arith}
-use Rattle.std.proofs.lemmas.Bool.{lt-ltb, le-ltb}
-use Rattle.xid.specs.Transactions.{BranchParts}
+use Rattle.std.proofs.Common.{◌≡◌, ◌-◌, ap, ◌∙◌, arith, length, slice_index, ℕ}
+use Rattle.std.specs.Prelude.{nat_lt}
+use Rattle.std.proofs.lemmas.List.{length-map}
+use Rattle.std.proofs.lemmas.List.Folds.{list_all-map}
+use Rattle.xid.specs.Transactions.{BranchParts, rm_numbers}
 use Rattle.wire.specs.Versions.{version_of}
-use Rattle.wire.proofs.Loop.{all_next, none_left}
+use Rattle.wire.proofs.Walks.{all_below}
 use Rattle.wire.proofs.reading.are_managers.Goals as goal
-
-abbrev blank : BranchParts
-blank = record { rm = 0; bqual = [] }
-
-pub loop-i-init : goal.loop-i-init
-loop-i-init c = record { same = refl }
-
-pub loop-i-preserved : goal.loop-i-preserved
-loop-i-preserved c =
-    let most = (version_of c.args.version).most_managers in
-    let bs = c.args.tx.now.branches in
-    let next = all_next (λ b. ltb b.rm most) bs c.loop-i.i blank (omega (arith, c.loop-i-test.true, c.count-i-end.ensures.value)) in
-    let below : (get_or bs c.loop-i.i blank).rm < most =
-    omega (arith, c.rm.ensures.branch, c.if-rm-most.false, c.most_managers-most.ensures) in
-    let yes : ltb (get_or bs c.loop-i.i blank).rm most ≡ true = lt-ltb _ _ below in
-    record { same = sym (next ∙ rw yes refl) ∙ c.loop-i.invariant.same }
-
-pub returns-then-rm-most : goal.returns-then-rm-most
-returns-then-rm-most c =
-    let most = (version_of c.args.version).most_managers in
-    let bs = c.args.tx.now.branches in
-    let next = all_next (λ b. ltb b.rm most) bs c.loop-i.i blank (omega (arith, c.loop-i-test.true, c.count-i-end.ensures.value)) in
-    let above : most ≤ (get_or bs c.loop-i.i blank).rm =
-    omega (arith, c.rm.ensures.branch, c.if-rm-most.true, c.most_managers-most.ensures) in
-    let no : ltb (get_or bs c.loop-i.i blank).rm most ≡ false = le-ltb _ _ above in
-    sym (next ∙ rw no refl) ∙ c.loop-i.invariant.same
 
 pub returns : goal.returns
 returns c =
-    let most = (version_of c.args.version).most_managers in
     let bs = c.args.tx.now.branches in
-    sym (none_left (λ b. ltb b.rm most) bs c.loop-i.i (omega (arith, c.loop-i-test.false, c.count-i-end.ensures.value)))
-    ∙ c.loop-i.invariant.same
+    let most = (version_of c.args.version).most_managers in
+    let len : length (rm_numbers bs) ≡ length bs = simp length-map in
+    let last : c.count.result - 1 ≡ length (rm_numbers bs) - 1 = omega (arith, len, c.count.ensures.value) in
+    let valid = c.count.ensures.valid in
+    ap (nat_lt c.rm.result) c.most_managers.ensures
+    ∙ ap (λ (rm : ℕ). nat_lt rm most) (c.rm.ensures.value ∙ ap (slice_index (rm_numbers bs)) last)
+    ∙ all_below (rm_numbers bs) most valid.branches.ascending (omega (arith, len, valid.branches.some))
+    ∙ list_all-map (λ rm. nat_lt rm most) (λ (b : BranchParts). b.rm) bs
