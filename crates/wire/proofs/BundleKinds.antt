@@ -4,11 +4,11 @@ use Rattle.std.proofs.Common.{cond, ltb, List, [], ◌∷◌, length, map, Optio
 use Rattle.std.proofs.Common.{refl, sym, ap, subst, ◌∙◌, arith}
 use Rattle.std.specs.Prelude.{Result, Ok, Err}
 use Rattle.std.specs.List.{AllByRecursion}
-use Rattle.std.proofs.lemmas.Bool.{ltb-true, lt-ltb, false≢true}
+use Rattle.std.proofs.lemmas.Bool.{false≢true}
+use Rattle.std.proofs.lemmas.List.{length-map}
 use Rattle.xid.specs.Limits.{most_acceptors, most_branches}
 use Rattle.xid.specs.Names.{IsBytes}
 use Rattle.xid.specs.Transactions.{TxParts, IsTx, is_participant}
-use Rattle.xid.specs.declared.transaction.Vote.{Vote}
 use Rattle.xid.specs.declared.refusals.Refusal.{Refusal}
 use Rattle.xid.specs.declared.refusals.Refusal.TheVariants.{BadMessage}
 use Rattle.wire.specs.declared.items.InstanceReport.{InstanceReport}
@@ -22,20 +22,12 @@ use Rattle.wire.specs.Versions.{version_2}
 use Rattle.wire.specs.Reading.{byte_at, number_at, rm_at, vote_at, instance_at}
 use Rattle.wire.specs.Reading.{list_at, items_at, report_item_at, accept_item_at, b1b_at, b2b_at}
 use Rattle.wire.specs.Decoding.{is_report, is_message, decoded}
-use Rattle.wire.proofs.DecodingLemmas.{message_decides}
+use Rattle.wire.proofs.DecodingLemmas.{report_decides, message_decides}
 use Rattle.wire.proofs.Decoded.{accepted}
 use Rattle.wire.proofs.Spelled.{some_same, step, unless, rm_spelled}
 use Rattle.wire.proofs.Spelled.{byte_spelled, accept_item_spelled}
 use Rattle.wire.specs.SpelledItems.{reports_spelled, accepts_spelled, are_items, is_item, is_reported, is_accepted}
 use Rattle.wire.proofs.CountedItems.{both, are, are_again}
-
-pub below : (ballot : ℕ) (report : Option (ℕ × Vote)) → is_report ballot report ≡ true → IsReportBelow ballot report
-below ballot None e = tt
-below ballot (Some accepted) e = ltb-true accepted.0 ballot e
-
-pub below_again : (ballot : ℕ) (report : Option (ℕ × Vote)) → IsReportBelow ballot report → is_report ballot report ≡ true
-below_again ballot None e = refl
-below_again ballot (Some accepted) e = lt-ltb accepted.0 ballot e
 
 -- one fact of each
 module _ {X : Type 0} where
@@ -52,10 +44,6 @@ module _ {X : Type 0} where
       → AllByRecursion Q xs → AllByRecursion R xs
   two_of f P Q R go [] ps qs = tt
   two_of f P Q R go (x ∷ xs) ps qs = (go x ps.0 qs.0, two_of f P Q R go xs ps.1 qs.1)
-
-  length_of : (f : X → ℕ) (xs : List X) → length (map f xs) ≡ length xs
-  length_of f [] = refl
-  length_of f (x ∷ xs) = ap suc (length_of f xs)
 
 -- a kind of bundle with a transaction: it is seen on the bytes of its items, and read from them
 module _ {X : Type 0} (one : List ℕ → Option (X × List ℕ)) (instance : X → ℕ) (is_below : X → Bool) (tx : TxParts) (kind : List X → Kind)
@@ -74,7 +62,7 @@ module _ {X : Type 0} (one : List ℕ → Option (X × List ℕ)) (instance : X 
       let all = are one is instance items e in
       let instances : AreInstances tx (map instance all.items) = record {
         valid = valid;
-        some = let len = length_of instance all.items in omega (arith, len, all.some);
+        some = let len : length (map instance all.items) ≡ length all.items = simp length-map in omega (arith, len, all.some);
         named = named_of instance (λ x. is x ≡ true) (λ rm. IsTrue (is_participant tx rm)) (λ x h. (both _ _ h).0) all.items all.each;
         ascending = all.ascending;
       } in
@@ -133,7 +121,7 @@ module _ (tx : TxParts) (bytes rest reports : List ℕ) (ballot acceptor : ℕ) 
         leader,
         fits,
         each_of (λ item. is_report ballot item.report ≡ true) (λ item. IsReportBelow ballot item.report)
-            (λ item h. below ballot item.report h) xs lows,
+            (λ item h. (report_decides ballot item.report).0 h) xs lows,
       ))
 
   pub b1b_refused : are_items report_item_at (is_reported tx ballot) (λ item. item.instance) reports ≡ false
@@ -143,7 +131,7 @@ module _ (tx : TxParts) (bytes rest reports : List ℕ) (ballot acceptor : ℕ) 
       (reports_spelled reports) (b1b_at tx bytes) reports_read b1b_read b1b_none (λ xs is. (
         is.0,
         each_of (λ item. IsReportBelow ballot item.report) (λ item. is_report ballot item.report ≡ true)
-            (λ item low. below_again ballot item.report low) xs is.3,
+            (λ item low. (report_decides ballot item.report).1 low) xs is.3,
       ))
 
 -- ---- phase 2b

@@ -79,7 +79,7 @@ leader_ballot_decides ballot =
     Decides-like _ (λ h. record { some = h.0; fits = h.1 }) (λ h. (h.some, h.fits))
     (Decides-and _ _ (leb_decides 1 ballot) (Decides-ltb ballot (2 ^ 32)))
 
-report_decides : (ballot : ℕ) (report : Option (ℕ × Vote)) → Decides (is_report ballot report) (IsReportBelow ballot report)
+pub report_decides : (ballot : ℕ) (report : Option (ℕ × Vote)) → Decides (is_report ballot report) (IsReportBelow ballot report)
 report_decides ballot None = (λ _. tt, λ _. refl)
 report_decides ballot (Some accepted) = Decides-ltb accepted.0 ballot
 

@@ -2,6 +2,7 @@
 use Rattle.std.proofs.Common.{◌≡◌, ℕ, zero, suc, ◌/◌, ◌%◌, ◌≤◌, Bool, true, false, cond, eqb, ltb, List, [], ◌∷◌, ◌++◌}
 use Rattle.std.proofs.Common.{length, take, drop, Option, Some, None, refl, sym, subst, ap, ◌∙◌, append_assoc, arith, eqb-true}
 use Rattle.std.specs.List.{flat_map}
+use Rattle.std.proofs.lemmas.Bool.{ltb-false}
 use Rattle.std.proofs.lemmas.Bool.Decides.{nat_tests}
 use Rattle.std.proofs.lemmas.List.{take-append-drop, length-take}
 use Rattle.std.proofs.lemmas.List.Concat.{flat_map-cons}
@@ -90,27 +91,25 @@ byte_spelled [] x is e = absurd (cc)
 byte_spelled (b ∷ rest) x is e =
     subst (λ (x : ℕ × List ℕ). Front (b ∷ rest) (x.0 ∷ []) x.1) (some_same (b, rest) x e) (front_of (b ∷ rest) (b ∷ []) rest is refl)
 
+-- a number of so many bytes, which spell it again
+big_spelled : (width : ℕ) → ((bytes : List ℕ) → IsBytes bytes → width ≤ length bytes
+    → bytes ≡ big_bytes width (big_number width bytes) ++ drop width bytes)
+    → (bytes : List ℕ) (x : ℕ × List ℕ) → IsBytes bytes → big_at width bytes ≡ Some x → Front bytes (big_bytes width x.0) x.1
+big_spelled width whole bytes x is e =
+    let t = unless (ltb (length bytes) width) (Some (big_number width bytes, drop width bytes)) x e in
+    let long : width ≤ length bytes = ltb-false (length bytes) width t.0 in
+    subst (λ (x : ℕ × List ℕ). Front bytes (big_bytes width x.0) x.1) (some_same (big_number width bytes, drop width bytes) x t.1)
+    (front_of bytes (big_bytes width (big_number width bytes)) (drop width bytes) is (whole bytes is long))
+
 pub number_spelled : (bytes : List ℕ) (x : ℕ × List ℕ) → IsBytes bytes → number_at bytes ≡ Some x → Front bytes (number_spelling x.0) x.1
-number_spelled bytes x is e =
-    let t = unless (ltb (length bytes) 4) (Some (big_number 4 bytes, drop 4 bytes)) x e in
-    let long : 4 ≤ length bytes = grind (arith, nat_tests, t.0) in
-    subst (λ (x : ℕ × List ℕ). Front bytes (number_spelling x.0) x.1) (some_same (big_number 4 bytes, drop 4 bytes) x t.1)
-    (front_of bytes (number_spelling (big_number 4 bytes)) (drop 4 bytes) is (four bytes is long))
+number_spelled bytes x is e = big_spelled 4 four bytes x is e
 
 pub short_spelled : (bytes : List ℕ) (x : ℕ × List ℕ) → IsBytes bytes → big_at 2 bytes ≡ Some x → Front bytes (big_bytes 2 x.0) x.1
-short_spelled bytes x is e =
-    let t = unless (ltb (length bytes) 2) (Some (big_number 2 bytes, drop 2 bytes)) x e in
-    let long : 2 ≤ length bytes = grind (arith, nat_tests, t.0) in
-    subst (λ (x : ℕ × List ℕ). Front bytes (big_bytes 2 x.0) x.1) (some_same (big_number 2 bytes, drop 2 bytes) x t.1)
-    (front_of bytes (big_bytes 2 (big_number 2 bytes)) (drop 2 bytes) is (two bytes is long))
+short_spelled bytes x is e = big_spelled 2 two bytes x is e
 
 pub rm_spelled : (v : VersionNumber) (bytes : List ℕ) (x : ℕ × List ℕ) → IsBytes bytes → rm_at (version_of v) bytes ≡ Some x
     → Front bytes (rm_spelling (version_of v) x.0) x.1
-rm_spelled First bytes x is e =
-    let t = unless (ltb (length bytes) 1) (Some (big_number 1 bytes, drop 1 bytes)) x e in
-    let long : 1 ≤ length bytes = grind (arith, nat_tests, t.0) in
-    subst (λ (x : ℕ × List ℕ). Front bytes (big_bytes 1 x.0) x.1) (some_same (big_number 1 bytes, drop 1 bytes) x t.1)
-    (front_of bytes (big_bytes 1 (big_number 1 bytes)) (drop 1 bytes) is (one_byte bytes is long))
+rm_spelled First bytes x is e = big_spelled 1 one_byte bytes x is e
 rm_spelled Second bytes x is e = short_spelled bytes x is e
 
 pub component_spelled : (bytes : List ℕ) (x : List ℕ × List ℕ) → IsBytes bytes → component_at bytes ≡ Some x

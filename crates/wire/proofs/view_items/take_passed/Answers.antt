@@ -9,7 +9,8 @@ pub returns-in_err-item-clause-left : goal.returns-in_err-item-clause-left
 returns-in_err-item-clause-left g c = λ n.
     let t = g.T.Item in
     rw c.from_residual.ensures
-    (next_none t.at (is_item t.about (t.is_below c.args.ballot) c.args.tx.now) t.about c.args.least n c.args.bytes.now c.in_err-item.ensures)
+    (next_none t.at (is_item t.about (t.is_below c.args.ballot) c.args.tx.now) t.about c.args.least n c.args.bytes.now
+    c.in_err-item.ensures)
 
 pub returns-then-not-is_participant-clause-left : goal.returns-then-not-is_participant-clause-left
 returns-then-not-is_participant-clause-left g c = λ n.
