@@ -14,8 +14,9 @@ use Rattle.std.proofs.lemmas.Grind.{common_steps}
 use Rattle.byteorder.specs.Endian.{big_number}
 use Rattle.xid.specs.Limits.{most_component}
 use Rattle.xid.specs.Transactions.{BranchParts, IsBranch, is_at}
-use Rattle.wire.specs.Grammar.{branch_spelling, branches_spelling}
+use Rattle.wire.specs.Grammar.{branch_spelling}
 use Rattle.wire.specs.Reading.{branch_at, component_at}
+use Rattle.wire.specs.Spelled.{branches_from}
 use Rattle.wire.specs.Versions.{version_2}
 use Rattle.wire.proofs.Ascending.{later}
 use Rattle.wire.proofs.Fields.{branch_again, wide_2}
@@ -65,26 +66,22 @@ pub read_there : (bytes : List ℕ) (rm : ℕ) → IsTrue (is_some (branch_at ve
     )) (branch_at version_2 bytes)
 read_there bytes rm some e = let s = stands bytes some in same_branch bytes (slice_index bytes 2) rm e s.whole ∙ sym s.read
 
--- the branches from a place on
-abbrev pub from : List BranchParts → ℕ → List ℕ
-from bs i = flat_map (branch_spelling version_2) (drop i bs)
-
 pub drops : {X : Type 0} (xs : List X) (i : ℕ) (d : X) → i < length xs → drop i xs ≡ get_or xs i d ∷ drop (i + 1) xs
 drops [] i d lt = absurd (omega arith)
 drops (x ∷ xs) zero d lt = refl
 drops (x ∷ xs) (suc i) d lt = let e : suc i + 1 ≡ suc (i + 1) = omega arith in rw e (drops xs i d (omega arith))
 
 -- the next branch of a walk
-pub next : (bs : List BranchParts) (i : ℕ) (bytes : List ℕ) (d : BranchParts) → All IsBranch bs → i < length bs → bytes ≡ from bs i
-    → branch_at version_2 bytes ≡ Some (get_or bs i d, from bs (i + 1))
+pub next : (bs : List BranchParts) (i : ℕ) (bytes : List ℕ) (d : BranchParts) → All IsBranch bs → i < length bs → bytes ≡ branches_from bs i
+    → branch_at version_2 bytes ≡ Some (get_or bs i d, branches_from bs (i + 1))
 next bs i bytes d each lt e =
     let is = each i d lt in
-    let split : from bs i ≡ branch_spelling version_2 (get_or bs i d) ++ from bs (i + 1) =
+    let split : branches_from bs i ≡ branch_spelling version_2 (get_or bs i d) ++ branches_from bs (i + 1) =
     ap (λ (xs : List BranchParts). flat_map (branch_spelling version_2) xs) (drops bs i d lt)
     ∙ flat_map-cons (branch_spelling version_2) (get_or bs i d) (drop (i + 1) bs) in
-    ap (branch_at version_2) (e ∙ split) ∙ branch_again version_2 (get_or bs i d) (from bs (i + 1)) wide_2 is.rm is
+    ap (branch_at version_2) (e ∙ split) ∙ branch_again version_2 (get_or bs i d) (branches_from bs (i + 1)) wide_2 is.rm is
 
-pub some_next : (bs : List BranchParts) (i : ℕ) (bytes : List ℕ) → All IsBranch bs → i < length bs → bytes ≡ from bs i
+pub some_next : (bs : List BranchParts) (i : ℕ) (bytes : List ℕ) → All IsBranch bs → i < length bs → bytes ≡ branches_from bs i
     → IsTrue (is_some (branch_at version_2 bytes))
 some_next bs i bytes each lt e = let there = next bs i bytes (record { rm = 0; bqual = [] }) each lt e in rw there refl
 
@@ -92,29 +89,20 @@ some_next bs i bytes each lt e = let there = next bs i bytes (record { rm = 0; b
 pub record Took (bs : List BranchParts) (i : ℕ) (d : BranchParts) (rm : ℕ) (bqual rest : List ℕ) : Type 0 where
   pub manager : rm ≡ (get_or bs i d).rm
   pub name : bqual ≡ (get_or bs i d).bqual
-  pub after : rest ≡ from bs (i + 1)
+  pub after : rest ≡ branches_from bs (i + 1)
 
 pub took : (bs : List BranchParts) (i : ℕ) (bytes : List ℕ) (d : BranchParts) (rm : ℕ) (bqual rest : List ℕ) → All IsBranch bs
     → i < length bs
-    → bytes ≡ from bs i
+    → bytes ≡ branches_from bs i
     → ◌≡◌ {A = Option (BranchParts × List ℕ)} (Some (record { rm = rm; bqual = bqual }, rest)) (branch_at version_2 bytes)
     → Took bs i d rm bqual rest
 took bs i bytes d rm bqual rest each lt e got =
-    let same = some_same (record { rm = rm; bqual = bqual }, rest) (get_or bs i d, from bs (i + 1)) (got ∙ next bs i bytes d each lt e) in
+    let same = some_same (record { rm = rm; bqual = bqual }, rest) (get_or bs i d, branches_from bs (i + 1)) (got ∙ next bs i bytes d each lt e) in
     record {
       manager = ap (λ (x : BranchParts × List ℕ). x.0.rm) same;
       name = ap (λ (x : BranchParts × List ℕ). x.0.bqual) same;
       after = ap (λ (x : BranchParts × List ℕ). x.1) same;
     }
-
--- the branches after their count
-pub at_first : (bs : List BranchParts) (xs : List ℕ) → xs ≡ branches_spelling version_2 bs → take (length xs - 1) (drop 1 xs) ≡ from bs 0
-at_first bs xs e =
-    let all : take (length xs - 1) (drop 1 xs) ≡ drop 1 xs = grind (arith, common_steps) in
-    all ∙ ap (drop 1) e
-
-pub count_is : (bs : List BranchParts) (xs : List ℕ) → xs ≡ branches_spelling version_2 bs → get_or xs 0 0 ≡ length bs
-count_is bs xs e = ap (λ (xs : List ℕ). get_or xs 0 0) e
 
 -- one passes where the first that does stands among them
 pub any_place : {X : Type 0} (p : X → Bool) (xs : List X) → list_any p xs ≡ ltb (position_or_len p xs) (length xs)
@@ -175,14 +163,3 @@ found bs rm i d e lt = find_at (is_at rm) bs ∙ ap (slice_get bs) (sym e) ∙ s
 
 pub not_found : (bs : List BranchParts) (rm i : ℕ) → i ≡ position_or_len (is_at rm) bs → length bs ≤ i → find (is_at rm) bs ≡ None
 not_found bs rm i e le = find_at (is_at rm) bs ∙ ap (slice_get bs) (sym e) ∙ slice_get_past bs i le
-
--- the branches before a place, and the one that stands there
-pub one_more : {X : Type 0} (xs : List X) (i : ℕ) (d : X) → i < length xs → take i xs ++ get_or xs i d ∷ [] ≡ take (i + 1) xs
-one_more [] i d lt = absurd (omega arith)
-one_more (x ∷ xs) zero d lt = refl
-one_more (x ∷ xs) (suc i) d lt = let e : suc i + 1 ≡ suc (i + 1) = omega arith in rw e (ap (λ ys. x ∷ ys) (one_more xs i d (omega arith)))
-
--- the branch that a walk took
-pub made : {bs : List BranchParts} {i : ℕ} {d : BranchParts} {rm : ℕ} {bqual rest : List ℕ} → Took bs i d rm bqual rest
-    → ◌≡◌ {A = BranchParts} (record { rm = rm; bqual = bqual }) (get_or bs i d)
-made was = λ j. record { rm = was.manager j; bqual = was.name j }

@@ -1,4 +1,4 @@
-ghost use Rattle.std.specs.Prelude.{◌≡◌, ◌≤◌, ◌<◌, IfSome, IsTrue, is_some, length, slice_index, MatchOption, nat_lt};
+ghost use Rattle.std.specs.Prelude.{◌≡◌, ◌+◌, ◌≤◌, ◌<◌, IfSome, IsTrue, is_some, length, slice_index, MatchOption, nat_lt};
 ghost use Rattle.std.specs.List.{find, list_all, position_or_len};
 ghost use Rattle.std.specs.Option.{option_map};
 ghost use Rattle.xid.specs.Limits.{most_managers};
@@ -8,7 +8,7 @@ ghost use Rattle.wire.specs.Decoding.{tx_in};
 ghost use Rattle.wire.specs.Grammar.{tx_spelling, branches_spelling};
 ghost use Rattle.wire.specs.Reading.{taken, branch_at};
 ghost use Rattle.wire.specs.Versions.{version_2};
-ghost use Rattle.wire.specs.Spelled.{tx_spelled, IsSpelled, seen, branch_taken, manager_at, after_branches, after_tx};
+ghost use Rattle.wire.specs.Spelled.{tx_spelled, IsSpelled, seen, branch_taken, branches_from, manager_at, after_branches, after_tx};
 
 use crate::grammar::{MAX_TX_BYTES, VersionNumber};
 use crate::reading::{take_byte, take_component, take_number, take_rm};
@@ -180,6 +180,19 @@ impl<'a> SpelledTx<'a> {
         self.branches()[0] as usize
     }
 
+    /// The branch of a place, where the branches from there on are spelled: its resource manager, its bqual, and the branches after it.
+    fn branch_from(&self, i: usize, rest: &'a [u8]) -> (ManagerNumber, &'a [u8], &'a [u8])
+        requires within { i < length self.now.branches }
+        requires left { rest.now ≡ branches_from self.now.branches i }
+        ensures rm { result.0 ≡ (nth_branch self.now i).rm }
+        ensures bqual { result.1.now ≡ (nth_branch self.now i).bqual }
+        ensures after { result.2.now ≡ branches_from self.now.branches (i + 1) }
+        ensures valid { IsTx self.now }
+    {
+        let _ = &self.bytes;
+        first_branch(rest)
+    }
+
     /// The branch at a place, and the branches after it.
     fn nth(&self, i: usize) -> (ManagerNumber, &'a [u8], &'a [u8])
         requires { i < length self.now.branches }
@@ -187,9 +200,9 @@ impl<'a> SpelledTx<'a> {
         ensures bqual { result.1.now ≡ (nth_branch self.now i).bqual }
         ensures valid { IsTx self.now }
     {
-        let mut branch = first_branch(&self.branches()[1..]);
-        for _ in 0..i {
-            branch = first_branch(branch.2);
+        let mut branch = self.branch_from(0, &self.branches()[1..]);
+        for place in 0..i {
+            branch = self.branch_from(place + 1, branch.2);
         }
         branch
     }
@@ -210,16 +223,16 @@ impl<'a> SpelledTx<'a> {
         ensures value { result ≡ position_or_len (is_at rm) self.now.branches }
         ensures valid { IsTx self.now }
     {
-        let branches = self.branches();
-        let mut rest = &branches[1..];
-        for place in 0..branches[0] {
-            let branch = first_branch(rest);
+        let count = self.count();
+        let mut rest = &self.branches()[1..];
+        for place in 0..count {
+            let branch = self.branch_from(place, rest);
             if branch.0 == rm {
-                return place as usize;
+                return place;
             }
             rest = branch.2;
         }
-        branches[0] as usize
+        count
     }
 
     /// Whether a resource manager takes part.
@@ -261,10 +274,9 @@ impl<'a> SpelledTx<'a> {
         ensures valid { IsTx self.now }
     {
         let mut all = Branches::new();
-        let branches = self.branches();
-        let mut rest = &branches[1..];
-        for _ in 0..branches[0] {
-            let branch = first_branch(rest);
+        let mut rest = &self.branches()[1..];
+        for i in 0..self.count() {
+            let branch = self.branch_from(i, rest);
             all.push(branch.0, branch.1);
             rest = branch.2;
         }

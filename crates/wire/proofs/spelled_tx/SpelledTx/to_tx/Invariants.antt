@@ -1,9 +1,9 @@
 use Rattle.std.proofs.Common.{◌≡◌, take}
-use Rattle.wire.proofs.Walks.{from}
+use Rattle.wire.specs.Spelled.{branches_from}
 use Rattle.wire.proofs.spelled_tx.SpelledTx.to_tx.Given as goal
 
-abbrev pub invariant-loop : goal.invariant-loop
-invariant-loop l = record {
-  left : l.rest ≡ from l.self.branches l.counter;
-  made : l.all ≡ take l.counter l.self.branches;
+abbrev pub invariant-loop-i : goal.invariant-loop-i
+invariant-loop-i l = record {
+  left : l.rest ≡ branches_from l.self.branches l.i;
+  made : l.all ≡ take l.i l.self.branches;
 }
