@@ -97,7 +97,8 @@ pub took : (bs : List BranchParts) (i : ℕ) (bytes : List ℕ) (d : BranchParts
     → ◌≡◌ {A = Option (BranchParts × List ℕ)} (Some (record { rm = rm; bqual = bqual }, rest)) (branch_at version_2 bytes)
     → Took bs i d rm bqual rest
 took bs i bytes d rm bqual rest each lt e got =
-    let same = some_same (record { rm = rm; bqual = bqual }, rest) (get_or bs i d, branches_from bs (i + 1)) (got ∙ next bs i bytes d each lt e) in
+    let same = some_same (record { rm = rm; bqual = bqual }, rest) (get_or bs i d, branches_from bs (i + 1))
+    (got ∙ next bs i bytes d each lt e) in
     record {
       manager = ap (λ (x : BranchParts × List ℕ). x.0.rm) same;
       name = ap (λ (x : BranchParts × List ℕ). x.0.bqual) same;
