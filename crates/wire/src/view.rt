@@ -1,8 +1,8 @@
-ghost use Rattle.std.specs.Prelude.{◌≡◌, ◌≢◌, ◌∷◌, IfOk, IfErr, MatchOption};
+ghost use Rattle.std.specs.Prelude.{◌≡◌, ◌≢◌, ◌<◌, ◌∷◌, IfOk, IfErr, MatchOption};
 ghost use Rattle.xid.specs.declared.refusals.Refusal.TheVariants.{BadMessage};
 ghost use Rattle.wire.specs.declared.message.Kind.{Kind};
 ghost use Rattle.wire.specs.Versions.{version_2};
-ghost use Rattle.wire.specs.Grammar.{Spells, spelling};
+ghost use Rattle.wire.specs.Grammar.{Spells, kind_byte, spelling};
 ghost use Rattle.wire.specs.Messages.{IsMessage, message_tx};
 ghost use Rattle.wire.specs.Said.{said};
 
@@ -34,14 +34,13 @@ impl<'a> Model for MessageView<'a> {
     ghost invariant = { λ m. IsMessage (said m.tx m.rest) };
 }
 
-/// What a message says, as plain data.
-fn kind_of(tx: &Tx, rest: Rest<'_>) -> Kind
-    requires { IsMessage (said tx.now rest) }
-    ensures { result ≡ said tx.now rest.entry }
+/// What a message of phase 1 says, as plain data.
+fn first_kind(tx: Tx, rest: Rest<'_>) -> Kind
+    requires above { 1 < kind_byte (said tx rest) }
+    requires below { kind_byte (said tx rest) < 4 }
+    ensures { result ≡ said tx rest.entry }
 {
-    let tx = *tx;
     match rest {
-        Rest::Prepare => Kind::Prepare(tx),
         Rest::P1a { instance, ballot } => Kind::P1a {
             tx,
             instance,
@@ -59,6 +58,17 @@ fn kind_of(tx: &Tx, rest: Rest<'_>) -> Kind
             report,
             acceptor,
         },
+        _ => Kind::Prepare(tx),
+    }
+}
+
+/// What a message of phase 2 says, as plain data.
+fn second_kind(tx: Tx, rest: Rest<'_>) -> Kind
+    requires above { 3 < kind_byte (said tx rest) }
+    requires below { kind_byte (said tx rest) < 6 }
+    ensures { result ≡ said tx rest.entry }
+{
+    match rest {
         Rest::P2a {
             instance,
             ballot,
@@ -81,6 +91,19 @@ fn kind_of(tx: &Tx, rest: Rest<'_>) -> Kind
             vote,
             acceptor,
         },
+        _ => Kind::Prepare(tx),
+    }
+}
+
+/// What a message says, as plain data.
+fn kind_of(tx: Tx, rest: Rest<'_>) -> Kind
+    requires { IsMessage (said tx rest) }
+    ensures { result ≡ said tx rest.entry }
+{
+    match rest {
+        Rest::Prepare => Kind::Prepare(tx),
+        Rest::P1a { .. } | Rest::P1b { .. } => first_kind(tx, rest),
+        Rest::P2a { .. } | Rest::P2b { .. } => second_kind(tx, rest),
         Rest::Commit => Kind::Commit(tx),
         Rest::Abort => Kind::Abort(tx),
         Rest::Ask { rm } => Kind::Ask { tx, rm },
@@ -124,7 +147,7 @@ impl<'a> MessageView<'a> {
     pub fn to_message(&self) -> Message
         ensures { result ≡ self.now }
     {
-        Message::new(kind_of(&self.tx.to_tx(), self.rest))
+        Message::new(kind_of(self.tx.to_tx(), self.rest))
     }
 }
 
