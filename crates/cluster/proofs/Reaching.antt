@@ -17,7 +17,7 @@ use Rattle.node_core.specs.Sends.{sent}
 use Rattle.node_core.specs.Nodes.{NodeParts, NodeStands, AreSizes, Stands, Steps, StepsAs, IsSameNode, Shows, Befalls}
 use Rattle.node_core.specs.Nodes.{fact_to_store}
 use Rattle.network.specs.Networks.{NetworkParts, StandsFor}
-use Rattle.cluster.specs.declared.handing.Came.{Came}
+use Rattle.cluster.specs.declared.handing.Answered.{Answered}
 use Rattle.cluster.specs.Clusters.{sized, cluster_of, ClusterStands, ReachesAs, ComesTo, BefallsAt}
 use Rattle.cluster.specs.Sending.{HaveSent, HasRoom}
 use Rattle.cluster.proofs.Standing.{there, placed, found, named, node_put, at_place, same_but, others_stay, stands_still, datagrams_as}
@@ -56,14 +56,12 @@ module _ (config : Config) (who : NodeId) (n : ℕ) where
       (effect_of config who node.facts node.memory input).fact node.tear fault le))
 
 -- less room will do
-pub room_less : (network : NetworkParts) (few many len capacity : ℕ) → few ≤ many → HasRoom many network len capacity
-    → HasRoom few network len capacity
-room_less network few many len capacity le room =
+pub room_less : (network : NetworkParts) (few many : ℕ) → few ≤ many → HasRoom many network → HasRoom few network
+room_less network few many le room =
     let bytes : few * MAX_MESSAGE_BYTES ≤ many * MAX_MESSAGE_BYTES = mul-le-mul_right MAX_MESSAGE_BYTES le in
     record {
       datagrams = omega (arith, room.datagrams, le);
       bytes = through (few * MAX_MESSAGE_BYTES) (many * MAX_MESSAGE_BYTES) network.spare_bytes bytes room.bytes;
-      listed = omega (arith, room.listed, le);
     }
   where
     through : (a b c : ℕ) → a ≤ b → b ≤ c → a ≤ c
@@ -129,23 +127,22 @@ module _ (config : Config) (world : World) (sizes : Sizes) (nodes : List NodePar
       (λ (before after : NodeParts). Befalls (fact_to_store config who m input) before.held after.held by_name.fault) d new
       (subst (λ (a : NodeState). Befalls (fact_to_store config who a input) old.held new.held by_name.fault) m_is by_name.befalls)
 
-  pub reached : (after : NetworkParts) (came : Came)
-      → HaveSent network after [] came.sent.items (flat_map (datagrams_of (sized sizes) who) (sent out.sends))
-      → came.answer ≡ out.reply → came.now ≡ out.now
-      → ReachesAs config world who input (cluster_of sizes nodes network) (cluster_of sizes (set nodes at new) after) came
-  reached after came so answer_is now_is =
+  pub reached : (after : NetworkParts) (answered : Answered)
+      → HaveSent network after (flat_map (datagrams_of (sized sizes) who) (sent out.sends))
+      → answered.answer ≡ out.reply → answered.now ≡ out.now
+      → ReachesAs config world who input (cluster_of sizes nodes network) (cluster_of sizes (set nodes at new) after) answered
+  reached after answered so answer_is now_is =
       let datagrams : flat_map (datagrams_of (sized sizes) who) (sent out.sends) ≡ flat_map (datagrams_of config who) outcome.sends =
       datagrams_as config sizes s.sizes_are who (sent out.sends) ∙ ap (flat_map (datagrams_of config who)) shows.sends_are in
-      let comes : ComesTo config (length world.net) (cluster_of sizes (set nodes at new) after) came
+      let comes : ComesTo config (cluster_of sizes (set nodes at new) after) answered
       (outcome_result config world who state.facts outcome) =
       record {
         answer_is = answer_is ∙ shows.reply_is;
         now_is = now_is ∙ shows.now_is;
-        sent_is = so.listed world.net s.net_is ∙ ap (λ (ds : List Datagram). numbered (suc (length world.net)) ds) datagrams;
         stands =
             node_put config world sizes nodes network s who at is d new outcome.node same new_stands after
             (world.net ++ flat_map (datagrams_of config who) outcome.sends)
-            (subst (λ (ds : List Datagram). StandsFor after (world.net ++ ds)) datagrams (so.stands world.net s.net_is));
+            (subst (λ (ds : List Datagram). StandsFor after (world.net ++ ds)) datagrams (so world.net s.net_is));
       } in
       record {
         fault = by_name.fault;
@@ -154,7 +151,7 @@ module _ (config : Config) (world : World) (sizes : Sizes) (nodes : List NodePar
         others = others_stay (place config who) at nodes new (placed config world sizes nodes network s who at is);
         befalls = befallen (node_at config world who) node_is;
         comes =
-            subst (ComesTo config (length world.net) (cluster_of sizes (set nodes at new) after) came)
+            subst (ComesTo config (cluster_of sizes (set nodes at new) after) answered)
             (sym (ap (if_found world (λ (node : NodeState). outcome_result config world who node.facts
             (node_step config who node input by_name.fault))) node_is))
             comes;
