@@ -1,5 +1,5 @@
 -- What answered of an event is what comes of it in the machine.
-use Rattle.std.proofs.Common.{◌≡◌, ◌≢◌, ◌∙◌, ℕ, zero, suc, ◌<◌, ◌≤◌, Bool, true, false, List, [], ◌∷◌, ◌++◌, length, take, drop}
+use Rattle.std.proofs.Common.{◌≡◌, ◌∙◌, ℕ, zero, suc, ◌<◌, ◌≤◌, Bool, true, false, List, [], ◌∷◌, ◌++◌, length, take, drop}
 use Rattle.std.proofs.Common.{Option, Some, None, refl, sym, ap, subst, nat_lt, arith}
 use Rattle.std.specs.Prelude.{if◌then◌else◌, is_some}
 use Rattle.std.specs.Option.{option_map, option_map_or, option_and_then}
@@ -8,9 +8,8 @@ use Rattle.std.proofs.lemmas.List.{take-append-drop}
 use Rattle.xid.specs.declared.refusals.Refusal.TheVariants as refusals
 use Rattle.wire.specs.Decoding.{message_at, spells_message}
 use Rattle.wire.specs.Grammar.{Spells, spelling}
-use Rattle.wire.specs.Messages.{IsMessage}
 use Rattle.wire.specs.declared.message.Kind.{Kind}
-use Rattle.wire.proofs.DecodingLemmas.{found as message_found, spelled as message_spelled}
+use Rattle.wire.proofs.DecodingLemmas.{found as message_found}
 use Rattle.wire.proofs.OneSpelling.{begins_none}
 use Rattle.protocol.specs.declared.answers.Answer.{Answer}
 use Rattle.protocol.specs.declared.answers.Answer.TheVariants.{Done, Refused}
@@ -34,20 +33,13 @@ use Rattle.cluster.specs.Clusters.{ClusterParts, cluster_of, ClusterStands, IsSo
 use Rattle.cluster.specs.Clusters.{BefallsReached, IsArmed, BefallsRestarted, BefallsCompacted, BefallsEvent, BefallsIn, HappensAs, Happens, Occurs}
 use Rattle.cluster.specs.Clusters.{sent_after, step_by, handed, handed_cut}
 use Rattle.cluster.specs.Clusters.{place_reached, StayBut}
-use Rattle.cluster.proofs.Sent.{sent_is}
+use Rattle.cluster.proofs.Sent.{none_by, sent_is}
 use Rattle.cluster.proofs.Standing.{unchanged, all_stay}
 
 -- ---- bytes
 
 pub is_received : (bytes : List ℕ) (k : Kind) → Spells k bytes → datagram_input bytes ≡ Received k
 is_received bytes k spells = ap (λ (o : Option Kind). option_map_or Received o ReceivedNoise) (message_found k bytes spells)
-
-none_by : (bytes : List ℕ) (read : Option Kind) → message_at bytes ≡ read → ((k : Kind) → Spells k bytes → ⊥) → message_at bytes ≡ None
-none_by bytes None e none = e
-none_by bytes (Some k) e none = absurd (none k (message_spelled k bytes e))
-
-pub no_message : (bytes : List ℕ) → ((k : Kind) → IsMessage k → bytes ≢ spelling k) → message_at bytes ≡ None
-no_message bytes none = none_by bytes (message_at bytes) refl (λ k s. none k s.message s.spelled)
 
 -- fewer than all bytes of a message spell none
 pub cut_is_noise : (bytes : List ℕ) (d : Kind) (k : ℕ) → Spells d bytes → k < length bytes → message_at (take k bytes) ≡ None
@@ -73,7 +65,7 @@ mark_absent (d ∷ net) (suc (suc n)) e = ap (λ (ds : List Datagram). d ∷ ds)
 
 -- ---- any event
 
-abbrev step_made : Event → Answer → Option Change → List Sent → Step
+abbrev pub step_made : Event → Answer → Option Change → List Sent → Step
 step_made event answer now sent = record { event = event; answer = answer; now = now; sent = sent }
 
 -- the node of an event that is reached, or none

@@ -1,5 +1,5 @@
 -- A node is torn, restarted or compacted: what comes of it is what comes of it in the machine.
-use Rattle.std.proofs.Common.{◌≡◌, ◌∙◌, inl, inr, ℕ, suc, Bool, false, if◌then◌else◌, List, [], ◌++◌, length, get_or, set}
+use Rattle.std.proofs.Common.{◌≡◌, ◌∙◌, inl, inr, ℕ, Bool, false, if◌then◌else◌, List, [], ◌++◌, length, get_or, set}
 use Rattle.std.proofs.Common.{Option, Some, None, refl, sym, ap, subst, arith}
 use Rattle.std.specs.Prelude.{slice_get, Result, Ok, Err}
 use Rattle.std.specs.List.{flat_map}
@@ -17,7 +17,7 @@ use Rattle.protocol.specs.declared.nodes.NodeId.TheVariants.{A, L, R}
 use Rattle.protocol.specs.Effects.{Config}
 use Rattle.protocol.specs.Nodes.{NodeState, Fault, Outcome, NoFault, NoMemoryBefore, NoMemoryAt, RecordFails, all_play, restart_outcome}
 use Rattle.protocol.specs.Nodes.{compact_outcome}
-use Rattle.protocol.specs.Worlds.{World, Datagram, StepResult, place, node_at, set_node, datagrams_of, numbered, change_of, if_found}
+use Rattle.protocol.specs.Worlds.{World, Datagram, StepResult, place, node_at, set_node, datagrams_of, change_of, if_found}
 use Rattle.protocol.specs.Worlds.{answer_result, outcome_result}
 use Rattle.node_core.specs.declared.config.Sizes.{Sizes}
 use Rattle.node_core.specs.Nodes.{NodeParts, NodeStands, Stands, IsSameNode}

@@ -1,17 +1,19 @@
 -- Datagrams that are put into a network, the room for them, and how those that an event sent are read off it: for the functions of
 -- `sending`, and for each event.
 use Rattle.std.proofs.Common.{◌≡◌, ◌∙◌, ℕ, zero, suc, ◌+◌, ◌-◌, ◌*◌, ◌<◌, ◌≤◌, Bool, true, false, List, [], ◌∷◌, ◌++◌, length, map, take}
-use Rattle.std.proofs.Common.{Option, drop, get_or, refl, sym, ap, subst, append_assoc, length-append, nat_lt, arith}
+use Rattle.std.proofs.Common.{◌≢◌, Option, Some, None, drop, get_or, refl, sym, ap, subst, append_assoc, length-append, nat_lt, arith}
 use Rattle.std.specs.List.{AllZip, flat_map}
 use Rattle.std.specs.Option.{option_map_or}
 use Rattle.std.proofs.Math.Nat.{suc-mul, one-mul}
 use Rattle.std.proofs.Math.Seq.{drop-append_seam}
 use Rattle.std.proofs.lemmas.Grind.{flat_map-append}
-use Rattle.std.proofs.lemmas.List.{append-nil, map_push, take_more, drop_more, length-take-le, length-map}
+use Rattle.std.proofs.lemmas.List.{append-nil, take_more, take_all, drop_more, length-drop, length-take-le, length-map}
 use Rattle.wire.specs.declared.grammar.TheConstants.{MAX_MESSAGE_BYTES}
 use Rattle.wire.specs.declared.message.Kind.{Kind}
-use Rattle.wire.specs.Grammar.{Spells}
-use Rattle.wire.proofs.DecodingLemmas.{found}
+use Rattle.wire.specs.Grammar.{Spells, spelling}
+use Rattle.wire.specs.Decoding.{message_at}
+use Rattle.wire.specs.Messages.{IsMessage}
+use Rattle.wire.proofs.DecodingLemmas.{found, spelled}
 use Rattle.protocol.specs.declared.events.Event.{Event}
 use Rattle.protocol.specs.declared.events.Sent.{Sent}
 use Rattle.protocol.specs.declared.nodes.NodeId.{NodeId}
@@ -24,6 +26,15 @@ use Rattle.network.proofs.Sent.{sent_again}
 use Rattle.network.proofs.Standing.{same_length}
 use Rattle.cluster.specs.Clusters.{listed_at, listed_from, sent_after}
 use Rattle.cluster.specs.Sending.{HaveSent, HasRoom, KeepsRoom}
+
+-- ---- bytes that spell no message
+
+pub none_by : (bytes : List ℕ) (read : Option Kind) → message_at bytes ≡ read → ((k : Kind) → Spells k bytes → ⊥) → message_at bytes ≡ None
+none_by bytes None e none = e
+none_by bytes (Some k) e none = absurd (none k (spelled k bytes e))
+
+pub no_message : (bytes : List ℕ) → ((k : Kind) → IsMessage k → bytes ≢ spelling k) → message_at bytes ≡ None
+no_message bytes none = none_by bytes (message_at bytes) refl (λ k s. none k s.message s.spelled)
 
 -- ---- sent
 
@@ -70,6 +81,11 @@ module _ (start now new : NetworkParts) (sender : NodeId) (message : Kind) (rece
       let count : length (take i receivers) ≡ i = length-take-le i receivers (omega (arith, lt)) in
       subst (λ (rs : List NodeId). StandsFor new (net ++ map (datagram_to sender message) rs)) (sym more)
       (put net (take i receivers) (ap (λ (n : ℕ). nat_lt 0 n) (sym count)) (h net s))
+
+-- as many as there are receivers
+pub count_sent : {X : Type 0} (f : NodeId → X) {receivers others : List NodeId} → receivers ≡ others
+    → length (map f others) ≡ length receivers
+count_sent f {receivers} {others} same = length-map others f ∙ sym (ap length same)
 
 -- ---- room
 
@@ -191,3 +207,89 @@ sent_is config world event fault old new stood stands =
     ∙ ap (drop n) (event_sent config world event fault)
     ∙ ap (λ (k : ℕ). drop k (numbered 1 world.net ++ numbered (suc n) result.sent)) (sym before)
     ∙ drop-append_seam (numbered 1 world.net) (numbered (suc n) result.sent)
+
+-- ---- one datagram after another is listed
+
+-- those after so many, up to a place
+abbrev pub sent_up_to : (count upto : ℕ) → NetworkParts → List Sent
+sent_up_to count upto network = listed_from (suc count) (take (upto - count) (drop count network.datagrams))
+
+listed_push : (n : ℕ) (xs : List DatagramParts) (x : DatagramParts)
+    → listed_from n (xs ++ x ∷ []) ≡ listed_from n xs ++ listed_at (n + length xs) x
+listed_push n [] x =
+    let e : n ≡ n + 0 = omega arith in append-nil (listed_at n x) ∙ ap (λ (k : ℕ). listed_at k x) e
+listed_push n (first ∷ xs) x =
+    let e : suc n + length xs ≡ n + suc (length xs) = omega arith in
+    ap (λ (l : List Sent). listed_at n first ++ l)
+    (listed_push (suc n) xs x ∙ ap (λ (k : ℕ). listed_from (suc n) xs ++ listed_at k x) e)
+    ∙ sym (append_assoc (listed_at n first) (listed_from (suc n) xs) (listed_at (n + suc (length xs)) x))
+
+get_dropped : {X : Type 0} (k : ℕ) (xs : List X) (i : ℕ) (d : X) → get_or (drop k xs) i d ≡ get_or xs (k + i) d
+get_dropped zero xs i d = let e : i ≡ 0 + i = omega arith in ap (λ (n : ℕ). get_or xs n d) e
+get_dropped (suc k) [] i d = refl
+get_dropped (suc k) (x ∷ xs) i d =
+    let e : suc (k + i) ≡ suc k + i = omega arith in get_dropped k xs i d ∙ ap (λ (n : ℕ). get_or (x ∷ xs) n d) e
+
+module _ (network : NetworkParts) (count upto : ℕ) where
+  -- none yet
+  pub up_to_none : upto ≤ count → sent_up_to count upto network ≡ []
+  up_to_none le =
+      let e : upto - count ≡ 0 = omega (arith, le) in
+      ap (λ (n : ℕ). listed_from (suc count) (take n (drop count network.datagrams))) e
+
+  -- one more
+  pub up_to_more : count ≤ upto → upto < length network.datagrams → (kept : DatagramParts)
+      → kept ≡ get_or network.datagrams upto kept
+      → sent_up_to count (upto + 1) network ≡ sent_up_to count upto network ++ listed_at (suc upto) kept
+  up_to_more le lt kept is =
+      let ds : List DatagramParts = drop count network.datagrams in
+      let i : ℕ = upto - count in
+      let there : i < length ds = omega (arith, le, lt, length-drop count network.datagrams) in
+      let next : upto + 1 - count ≡ i + 1 = omega (arith, le) in
+      let at : count + i ≡ upto = omega (arith, le) in
+      let number : suc count + length (take i ds) ≡ suc upto = omega (arith, length-take-le i ds (omega (arith, there)), at) in
+      let read : get_or ds i kept ≡ kept = get_dropped count network.datagrams i kept ∙ ap (λ (n : ℕ). get_or network.datagrams n kept) at
+      ∙ sym is in
+      ap (λ (n : ℕ). listed_from (suc count) (take n ds)) next
+      ∙ ap (listed_from (suc count)) (take_more ds i kept there ∙ ap (λ (d : DatagramParts). take i ds ++ d ∷ []) read)
+      ∙ listed_push (suc count) (take i ds) kept
+      ∙ ap (λ (n : ℕ). sent_up_to count upto network ++ listed_at n kept) number
+
+  -- all
+  pub up_to_all : length network.datagrams ≤ upto → sent_up_to count upto network ≡ sent_after count network
+  up_to_all le =
+      ap (listed_from (suc count))
+      (take_all (upto - count) (drop count network.datagrams) (omega (arith, le, length-drop count network.datagrams)))
+
+-- a datagram by the message that its bytes spell
+pub listed_found : (n number : ℕ) (kept : DatagramParts) (message : Kind) → n ≡ number → Spells message kept.bytes
+    → listed_at n kept ≡ record { number = number; sender = kept.sender; receiver = kept.receiver; message = message } ∷ []
+listed_found n number kept message same spells =
+    ap (λ (k : ℕ). listed_at k kept) same
+    ∙ ap (λ (o : Option Kind). option_map_or (λ m. record { number = number; sender = kept.sender; receiver = kept.receiver; message = m }
+    ∷ []) o []) (found message kept.bytes spells)
+
+-- bytes that spell no message aren't listed
+pub listed_missed : (n : ℕ) (kept : DatagramParts) → ((k : Kind) → IsMessage k → kept.bytes ≢ spelling k) → listed_at n kept ≡ []
+listed_missed n kept none =
+    ap (λ (o : Option Kind). option_map_or (λ m. record { number = n; sender = kept.sender; receiver = kept.receiver; message = m } ∷ [])
+    o []) (no_message kept.bytes none)
+
+-- how many datagrams there are after an event
+pub count_after : (config : Config) (world : World) (event : Event) (fault : Fault) (old new : NetworkParts) → StandsFor old world.net
+    → StandsFor new (world_step config world event fault).world.net
+    → length new.datagrams ≡ length old.datagrams + length (world_step config world event fault).sent
+count_after config world event fault old new stood stands =
+    let result = world_step config world event fault in
+    let all : length (numbered 1 result.world.net) ≡ length (numbered 1 world.net) + length (numbered (suc (length world.net)) result.sent) =
+    ap length (event_sent config world event fault)
+    ∙ length-append (numbered 1 world.net) (numbered (suc (length world.net)) result.sent) in
+    omega (
+      arith,
+      same_length old.datagrams world.net stood.datagrams_are,
+      same_length new.datagrams result.world.net stands.datagrams_are,
+      all,
+      numbered_count 1 result.world.net,
+      numbered_count 1 world.net,
+      numbered_count (suc (length world.net)) result.sent,
+    )

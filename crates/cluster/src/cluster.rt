@@ -124,8 +124,9 @@ impl<R: Tear> Cluster<R> {
     {
         let mut answered = Answered::nothing();
         let mut sent = Vec::new(self.alloc);
-        if sent.reserve(most_sent(self.sizes, &self.network, &event)).is_err() {
-            return unmade(self.alloc, event);
+        match sent.reserve(most_sent(self.sizes, &self.network, &event)) {
+            Ok(()) => {}
+            Err(_) => return unmade(self.alloc, event),
         }
         let before = self.network.len();
         self.step_into(&event, &mut answered);

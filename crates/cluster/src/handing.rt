@@ -12,7 +12,7 @@ ghost use Rattle.node_core.specs.Nodes.{NodeParts};
 ghost use Rattle.node_core.specs.Opening.{restart_answer};
 ghost use Rattle.node_core.specs.Sends.{sent as sent_by};
 ghost use Rattle.network.specs.Networks.{NetworkParts};
-ghost use Rattle.cluster.specs.Clusters.{cluster_of, node_count, sized, step_by, IsSound, Occurs, Reaches};
+ghost use Rattle.cluster.specs.Clusters.{cluster_of, node_count, sized, Happens, IsSound, Reaches};
 ghost use Rattle.cluster.specs.Sending.{HasRoom, HaveSent};
 
 use crate::receivers::place_of;

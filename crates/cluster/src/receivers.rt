@@ -63,6 +63,7 @@ pub(crate) fn name_at(sizes: Sizes, at: usize) -> NodeId
 }
 
 /// The nodes to which a message goes.
+#[derive(Drop)]
 pub(crate) enum Receivers<'a> {
     /// One.
     Node(NodeId),
@@ -78,7 +79,7 @@ impl<'a> Receivers<'a> {
     /// Those to which the message goes that these bytes spell.
     pub(crate) fn of(sizes: Sizes, to: Address, bytes: &'a [u8]) -> Receivers<'a>
         requires { (message : Kind) × Spells message bytes.now }
-        ensures { (message : Kind) → Spells message bytes.now → receivers_in result.entry ≡ receivers (sized sizes) to (message_tx message) }
+        ensures { (message : Kind) → Spells message bytes.now → receivers_in result ≡ receivers (sized sizes) to (message_tx message) }
     {
         match to {
             Address::Node(node) => Receivers::Node(node),
@@ -107,11 +108,19 @@ impl<'a> Receivers<'a> {
     {
         match self {
             Receivers::Node(node) => *node,
-            Receivers::Acceptors(_) => NodeId::A(i as u8),
-            Receivers::Leaders(_) => NodeId::L(i as u8),
+            Receivers::Acceptors(count) => NodeId::A(number_below(*count, i)),
+            Receivers::Leaders(count) => NodeId::L(number_below(*count, i)),
             Receivers::Managers(message) => NodeId::R(message.tx().rm(i) as u8),
         }
     }
+}
+
+/// A place below a count, as the number of a node.
+fn number_below(count: u8, i: usize) -> u8
+    requires { i < count }
+    ensures { result ≡ i }
+{
+    i as u8
 }
 
 /// The message that bytes spell, seen over them.

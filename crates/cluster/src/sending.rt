@@ -60,6 +60,7 @@ fn spell_and_send(network: &mut Network, sizes: Sizes, sender: NodeId, outgoing:
     ensures room { KeepsRoom (length (datagrams_of (sized sizes) sender outgoing.now)) network.old network.new }
 {
     let mut buffer = [0; MAX_DATAGRAM];
+    let _ = outgoing.message.kind();
     let len = encode(&outgoing.message, &mut buffer);
     send(network, sizes, sender, outgoing.to, &buffer[..len]);
 }

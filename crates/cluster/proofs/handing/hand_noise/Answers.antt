@@ -1,4 +1,3 @@
-use Rattle.std.proofs.Common.{◌∙◌}
 use Rattle.protocol.specs.Nodes.{ReceivedNoise}
 use Rattle.cluster.proofs.Handed.{noise_handed, nowhere}
 use Rattle.cluster.proofs.handing.hand_noise.Goals as goal

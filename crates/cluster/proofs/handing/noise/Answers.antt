@@ -1,5 +1,6 @@
 use Rattle.cluster.specs.Clusters.{cluster_of}
-use Rattle.cluster.proofs.Occurring.{no_message, occurs_noise}
+use Rattle.cluster.proofs.Occurring.{occurs_noise}
+use Rattle.cluster.proofs.Sent.{no_message}
 use Rattle.cluster.proofs.Handed.{forged_there, forged_nowhere}
 use Rattle.cluster.proofs.handing.noise.Goals as goal
 
@@ -9,7 +10,7 @@ hand_noise-requires-clause-noise g c = no_message c.args.bytes.now c.in-Err.ensu
 pub returns-in-Err : goal.returns-in-Err
 returns-in-Err g c = λ network config world s.
     occurs_noise config world (cluster_of c.args.sizes c.args.nodes.now.items network)
-    (cluster_of c.args.sizes c.hand_noise.new.nodes.items network) c.hand_noise.new.answered c.args.who c.args.bytes.now
+    (cluster_of c.args.sizes c.hand_noise.new.nodes.items network) c.hand_noise.new.answered s c.args.who c.args.bytes.now
     (no_message c.args.bytes.now c.in-Err.ensures.err.1) (c.hand_noise.ensures network config world s)
 
 pub returns-in-Some : goal.returns-in-Some

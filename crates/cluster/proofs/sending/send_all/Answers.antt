@@ -1,7 +1,6 @@
 use Rattle.std.proofs.Common.{◌≡◌, ◌∙◌, List, length, ap, sym, subst}
 use Rattle.std.specs.List.{flat_map}
 use Rattle.wire.specs.declared.message.Kind.{Kind}
-use Rattle.wire.specs.Grammar.{Spells}
 use Rattle.protocol.specs.Worlds.{Datagram, datagrams_of}
 use Rattle.node_core.specs.Sends.{sent as sent_by}
 use Rattle.cluster.specs.Clusters.{sized}
