@@ -1,4 +1,4 @@
-use Rattle.std.proofs.Common.{◌≡◌, take, sym}
+use Rattle.std.proofs.Common.{take, sym}
 use Rattle.net_script.proofs.TraceLemmas.{datagram_seen, puts_also}
 use Rattle.net_script.proofs.answers.put_sent.Goals as goal
 

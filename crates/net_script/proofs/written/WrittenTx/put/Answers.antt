@@ -1,4 +1,4 @@
-use Rattle.std.proofs.Common.{◌≡◌, ◌∙◌, List, ℕ, ◌∷◌, sym, subst}
+use Rattle.std.proofs.Common.{◌∙◌, List, ℕ, ◌∷◌, sym, subst}
 use Rattle.std.proofs.lemmas.Slice.Eq.{bytes_eq-Decides}
 use Rattle.net_script.specs.Writing.{Puts}
 use Rattle.net_script.proofs.TraceLemmas.{text_again}
