@@ -1,4 +1,4 @@
-pub mod Listed
+pub mod Sent
 pub mod Bounds
 pub mod Standing
 pub mod Reaching

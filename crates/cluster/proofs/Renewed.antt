@@ -1,5 +1,5 @@
 -- A node is torn, restarted or compacted: what comes of it is what comes of it in the machine.
-use Rattle.std.proofs.Common.{◌≡◌, ◌∙◌, inl, inr, ℕ, suc, Bool, false, if◌then◌else◌, List, [], ◌++◌, length, get_or, set}
+use Rattle.std.proofs.Common.{◌≡◌, ◌∙◌, inl, inr, ℕ, Bool, false, if◌then◌else◌, List, [], ◌++◌, length, get_or, set}
 use Rattle.std.proofs.Common.{Option, Some, None, refl, sym, ap, subst, arith}
 use Rattle.std.specs.Prelude.{slice_get, Result, Ok, Err}
 use Rattle.std.specs.List.{flat_map}
@@ -17,17 +17,17 @@ use Rattle.protocol.specs.declared.nodes.NodeId.TheVariants.{A, L, R}
 use Rattle.protocol.specs.Effects.{Config}
 use Rattle.protocol.specs.Nodes.{NodeState, Fault, Outcome, NoFault, NoMemoryBefore, NoMemoryAt, RecordFails, all_play, restart_outcome}
 use Rattle.protocol.specs.Nodes.{compact_outcome}
-use Rattle.protocol.specs.Worlds.{World, Datagram, StepResult, place, node_at, set_node, datagrams_of, numbered, change_of, if_found}
+use Rattle.protocol.specs.Worlds.{World, Datagram, StepResult, place, node_at, set_node, datagrams_of, change_of, if_found}
 use Rattle.protocol.specs.Worlds.{answer_result, outcome_result}
 use Rattle.node_core.specs.declared.config.Sizes.{Sizes}
 use Rattle.node_core.specs.Nodes.{NodeParts, NodeStands, Stands, IsSameNode}
 use Rattle.node_core.specs.Compacting.{BefallsCompact, IsRecompacted, IsCompactedUp, IsCompactedDown, CompactsAs}
 use Rattle.node_core.specs.Opening.{BefallsRestart, Restarts, RestartsAs, restart_answer}
 use Rattle.network.specs.Networks.{NetworkParts, StandsFor}
-use Rattle.cluster.specs.declared.handing.Came.{Came}
+use Rattle.cluster.specs.declared.handing.Answered.{Answered}
 use Rattle.cluster.specs.Clusters.{ClusterParts, sized, cluster_of, ClusterStands, ComesTo, BefallsRestarted, BefallsCompacted, IsMetIf}
 use Rattle.cluster.specs.Clusters.{IsArmed}
-use Rattle.cluster.specs.Clusters.{StayBut, OccursAs, step_by, LeavesShorter, BefallsShorter}
+use Rattle.cluster.specs.Clusters.{StayBut, HappensAs, LeavesShorter, BefallsShorter}
 use Rattle.cluster.proofs.Standing.{there, placed, found, named, node_put, node_kept, at_place, same_but, others_stay, stands_still}
 use Rattle.cluster.proofs.Occurring.{occurs, no_fault, comes_quiet}
 
@@ -116,18 +116,18 @@ module _ (config : Config) (world : World) (sizes : Sizes) (nodes : List NodePar
         (λ (before after : NodeParts). after ≡ record before { held = armed_with (Some n) before.held }) node new
         (subst (λ (x : NodeParts). new ≡ record x { held = armed_with (Some n) x.held }) read holds)
 
-    pub torn_made : (came : Came) → came.answer ≡ Done → came.now ≡ None → came.sent.items ≡ []
-        → OccursAs config world (Tear who n) (cluster_of sizes nodes network) (cluster_of sizes (set nodes at new) network)
-        (step_by (Tear who n) came)
-    torn_made came answer_is now_is sent_is =
+    pub torn_made : (answered : Answered) → answered.answer ≡ Done → answered.now ≡ None
+        → HappensAs config world (Tear who n) (cluster_of sizes nodes network) (cluster_of sizes (set nodes at new) network)
+        answered
+    torn_made answered answer_is now_is =
         let next : ClusterStands config (cluster_of sizes (set nodes at new) network) torn =
         node_put config world sizes nodes network s who at (sym is) node new (record m { tear = Some n }) (here same)
         (arms config m stands) network world.net s.net_is in
-        occurs config world (Tear who n) (cluster_of sizes nodes network) (cluster_of sizes (set nodes at new) network) came
+        occurs config world (Tear who n) (cluster_of sizes nodes network) (cluster_of sizes (set nodes at new) network) answered s
         (same_but sizes nodes network network at node new (here same)) others NoFault no_fault
         (refl, armed (node_at config world who)) (answer_result torn Done)
         (ap (if_found world _) node_is)
-        (comes_quiet config world torn (length world.net) (cluster_of sizes (set nodes at new) network) came Done answer_is now_is sent_is
+        (comes_quiet config world torn (cluster_of sizes (set nodes at new) network) answered Done answer_is now_is
         next)
 
   -- a restart
@@ -164,23 +164,22 @@ module _ (config : Config) (world : World) (sizes : Sizes) (nodes : List NodePar
     none_sent : sent ≡ []
     none_sent = ap (flat_map (datagrams_of config who)) (restart_silent config who m fault)
 
-    pub restarted_made : (came : Came) → came.answer ≡ restart_answer result → came.now ≡ None → came.sent.items ≡ []
-        → OccursAs config world (Restart who) (cluster_of sizes nodes network) (cluster_of sizes (set nodes at new) network)
-        (step_by (Restart who) came)
-    restarted_made came answer_is now_is sent_is =
+    pub restarted_made : (answered : Answered) → answered.answer ≡ restart_answer result → answered.now ≡ None
+        → HappensAs config world (Restart who) (cluster_of sizes nodes network) (cluster_of sizes (set nodes at new) network)
+        answered
+    restarted_made answered answer_is now_is =
         let made : StepResult = outcome_result config world who m.facts outcome in
-        let comes : ComesTo config (length world.net) (cluster_of sizes (set nodes at new) network) came made =
+        let comes : ComesTo config (cluster_of sizes (set nodes at new) network) answered made =
         record {
           answer_is = answer_is ∙ by_name.answer_is;
           now_is = now_is ∙ sym (ap (change_of who m.facts) (restart_keeps config who m fault) ∙ no_change who m.facts);
-          sent_is = sent_is ∙ sym (ap (λ (ds : List Datagram). numbered (suc (length world.net)) ds) none_sent);
           stands =
               node_put config world sizes nodes network s who at (sym is) node new outcome.node (here same) new_stands network
               (world.net ++ sent)
               (subst (λ (ds : List Datagram). StandsFor network ds)
               (sym (ap (λ (ds : List Datagram). world.net ++ ds) none_sent ∙ append-nil world.net)) s.net_is);
         } in
-        occurs config world (Restart who) (cluster_of sizes nodes network) (cluster_of sizes (set nodes at new) network) came
+        occurs config world (Restart who) (cluster_of sizes nodes network) (cluster_of sizes (set nodes at new) network) answered s
         (same_but sizes nodes network network at node new (here same)) others fault
         (λ e. subst (λ (f : Fault). BefallsRestart node.held new.held f) e by_name.befalls)
         (befallen (node_at config world who) node_is) made (ap (if_found world _) node_is) comes
@@ -199,21 +198,21 @@ module _ (config : Config) (world : World) (sizes : Sizes) (nodes : List NodePar
     tried fault x =
         if x.up then outcome_result config world who x.facts (compact_outcome x fault) else answer_result world (Refused Refusal.Down)
 
-    down_made : IsCompactedDown config node.who node.rows m node.held new.held new.role result → (came : Came)
-        → came.answer ≡ restart_answer result → came.now ≡ None → came.sent.items ≡ []
-        → OccursAs config world (Compact who) (cluster_of sizes nodes network) after_it (step_by (Compact who) came)
-    down_made down came answer_is now_is sent_is =
+    down_made : IsCompactedDown config node.who node.rows m node.held new.held new.role result → (answered : Answered)
+        → answered.answer ≡ restart_answer result → answered.now ≡ None
+        → HappensAs config world (Compact who) (cluster_of sizes nodes network) after_it answered
+    down_made down answered answer_is now_is =
         let next : ClusterStands config after_it world =
         node_kept config world sizes nodes network s who at (sym is) node new m own.1 (here same_node)
         (stands_still config node new m m same_node stands down.stands) in
-        occurs config world (Compact who) (cluster_of sizes nodes network) after_it came
+        occurs config world (Compact who) (cluster_of sizes nodes network) after_it answered s
         (same_but sizes nodes network network at node new (here same_node)) others NoFault no_fault
         (befallen_down (node_at config world who) node_is) (answer_result world (Refused Refusal.Down))
         (ap (if_found world (tried NoFault)) node_is
         ∙ ap (λ (b : Bool). if b then outcome_result config world who m.facts (compact_outcome m NoFault)
         else answer_result world (Refused Refusal.Down)) down.down)
-        (comes_quiet config world world (length world.net) after_it came (Refused Refusal.Down)
-        (answer_is ∙ ap restart_answer down.result_is) now_is sent_is next)
+        (comes_quiet config world world after_it answered (Refused Refusal.Down)
+        (answer_is ∙ ap restart_answer down.result_is) now_is next)
       where
         befallen_down : (o : Option NodeState) → o ≡ Some m → BefallsCompacted config nodes (set nodes at new) who o NoFault
         befallen_down None e = absurd (cc (e))
@@ -225,19 +224,18 @@ module _ (config : Config) (world : World) (sizes : Sizes) (nodes : List NodePar
             refl
 
     -- of a node that is up
-    up_made : IsCompactedUp config node.who node.rows m node.held new.held new.role result → (came : Came)
-        → came.answer ≡ restart_answer result → came.now ≡ None → came.sent.items ≡ []
-        → OccursAs config world (Compact who) (cluster_of sizes nodes network) after_it (step_by (Compact who) came)
-    up_made up came answer_is now_is sent_is =
+    up_made : IsCompactedUp config node.who node.rows m node.held new.held new.role result → (answered : Answered)
+        → answered.answer ≡ restart_answer result → answered.now ≡ None
+        → HappensAs config world (Compact who) (cluster_of sizes nodes network) after_it answered
+    up_made up answered answer_is now_is =
         let left : Outcome = compact_outcome m up.fault in
         let none : flat_map (datagrams_of config who) left.sends ≡ [] =
         ap (flat_map (datagrams_of config who)) (compact_silent m up.fault) in
         let made : StepResult = outcome_result config world who m.facts left in
-        let comes : ComesTo config (length world.net) after_it came made =
+        let comes : ComesTo config after_it answered made =
         record {
           answer_is = answer_is ∙ up.answer_is;
           now_is = now_is ∙ sym (ap (change_of who m.facts) (compact_keeps m up.fault) ∙ no_change who m.facts);
-          sent_is = sent_is ∙ sym (ap (λ (ds : List Datagram). numbered (suc (length world.net)) ds) none);
           stands =
               node_put config world sizes nodes network s who at (sym is) node new left.node (here same_node)
               (stands_still config node new m left.node same_node stands up.stands) network
@@ -245,7 +243,7 @@ module _ (config : Config) (world : World) (sizes : Sizes) (nodes : List NodePar
               (subst (λ (ds : List Datagram). StandsFor network ds)
               (sym (ap (λ (ds : List Datagram). world.net ++ ds) none ∙ append-nil world.net)) s.net_is);
         } in
-        occurs config world (Compact who) (cluster_of sizes nodes network) after_it came
+        occurs config world (Compact who) (cluster_of sizes nodes network) after_it answered s
         (same_but sizes nodes network network at node new (here same_node)) others up.fault
         (λ e. subst (λ (f : Fault). BefallsCompact node.held new.held f) e up.befalls)
         (befallen_up (node_at config world who) node_is) made
@@ -271,9 +269,9 @@ module _ (config : Config) (world : World) (sizes : Sizes) (nodes : List NodePar
             (λ (before after : NodeParts). BefallsShorter config who m.facts before.held after.held up.fault) node new
             (subst (λ (n : NodeParts). BefallsShorter config who m.facts n.held new.held up.fault) read befallen)))
 
-    pub compacted_made : (came : Came) → came.answer ≡ restart_answer result → came.now ≡ None → came.sent.items ≡ []
-        → OccursAs config world (Compact who) (cluster_of sizes nodes network) after_it (step_by (Compact who) came)
-    compacted_made came answer_is now_is sent_is = elim ((compacts config m stands).compacts) [
-      | inl up ↦ up_made up came answer_is now_is sent_is
-      | inr down ↦ down_made down came answer_is now_is sent_is
+    pub compacted_made : (answered : Answered) → answered.answer ≡ restart_answer result → answered.now ≡ None
+        → HappensAs config world (Compact who) (cluster_of sizes nodes network) after_it answered
+    compacted_made answered answer_is now_is = elim ((compacts config m stands).compacts) [
+      | inl up ↦ up_made up answered answer_is now_is
+      | inr down ↦ down_made down answered answer_is now_is
     ]

@@ -22,6 +22,8 @@ use Rattle.protocol.specs.Worlds.{World, Datagram, place, node_at, set_node, dat
 use Rattle.node_core.specs.declared.config.Sizes.{Sizes}
 use Rattle.node_core.specs.Nodes.{NodeParts, NodeStands, AreSizes, Stands, IsSameNode}
 use Rattle.network.specs.Networks.{NetworkParts, StandsFor, datagram_to}
+use Rattle.cluster.specs.declared.receivers.Receivers.{Receivers}
+use Rattle.cluster.specs.Sending.{receivers_in}
 use Rattle.cluster.specs.Clusters.{ClusterParts, sized, node_count, cluster_of, AreNodes, ClusterStands, IsSameCluster, StayBut}
 
 -- ---- lists, place by place
@@ -122,46 +124,21 @@ datagrams_as config sizes are who (send ∷ sends) =
     (receivers_as config sizes are send.to (message_tx send.message))
     ∙ ap (λ (ds : List Datagram). datagrams_of config who send ++ ds) (datagrams_as config sizes are who sends)
 
--- how many receivers an address has, and each of them
-pub acceptors_count : (sizes : Sizes) (address : Address) (tx : TxParts) → address ≡ addresses.Acceptors → (n : ℕ) → n ≡ sizes.acceptors
-    → n ≡ length (receivers (sized sizes) address tx)
-acceptors_count sizes address tx is n e =
-    e ∙ sym (length-map-range_with_len A 0 sizes.acceptors)
-    ∙ ap (λ (a : Address). length (receivers (sized sizes) a tx)) (sym is)
+-- so many nodes of one kind
+module _ (name : ℕ → NodeId) (r : Receivers) (count : ℕ) (is : receivers_in r ≡ map name (range_with_len 0 count)) where
+  pub named_count : (n : ℕ) → n ≡ count → n ≡ length (receivers_in r)
+  named_count n e = e ∙ sym (length-map-range_with_len name 0 count) ∙ sym (ap length is)
 
-pub leaders_count : (sizes : Sizes) (address : Address) (tx : TxParts) → address ≡ addresses.Leaders → (n : ℕ) → n ≡ sizes.leaders
-    → n ≡ length (receivers (sized sizes) address tx)
-leaders_count sizes address tx is n e =
-    e ∙ sym (length-map-range_with_len L 0 sizes.leaders)
-    ∙ ap (λ (a : Address). length (receivers (sized sizes) a tx)) (sym is)
+  pub named_there : (i : ℕ) → i < length (receivers_in r) → i < count
+  named_there i lt = let e : count ≡ length (receivers_in r) = named_count count refl in omega (arith, lt, e)
 
-pub acceptor_there : (sizes : Sizes) (address : Address) (tx : TxParts) (i : ℕ) → address ≡ addresses.Acceptors
-    → i < length (receivers (sized sizes) address tx) → i < sizes.acceptors
-acceptor_there sizes address tx i is lt =
-    let e : sizes.acceptors ≡ length (receivers (sized sizes) address tx) = acceptors_count sizes address tx is sizes.acceptors refl in
-    omega (arith, lt, e)
-
-pub leader_there : (sizes : Sizes) (address : Address) (tx : TxParts) (i : ℕ) → address ≡ addresses.Leaders
-    → i < length (receivers (sized sizes) address tx) → i < sizes.leaders
-leader_there sizes address tx i is lt =
-    let e : sizes.leaders ≡ length (receivers (sized sizes) address tx) = leaders_count sizes address tx is sizes.leaders refl in
-    omega (arith, lt, e)
-
-pub acceptor_is : (sizes : Sizes) (address : Address) (tx : TxParts) (i : ℕ) → address ≡ addresses.Acceptors
-    → i < length (receivers (sized sizes) address tx) → (node : NodeId) → node ≡ A i → node ≡ get_or (receivers
-    (sized sizes) address tx) i node
-acceptor_is sizes address tx i is lt node e =
-    let at : 0 + i ≡ i = omega arith in
-    e ∙ sym (get_or-map-range_with_len A 0 sizes.acceptors i i node (acceptor_there sizes address tx i is lt) at)
-    ∙ ap (λ (a : Address). get_or (receivers (sized sizes) a tx) i node) (sym is)
-
-pub leader_is : (sizes : Sizes) (address : Address) (tx : TxParts) (i : ℕ) → address ≡ addresses.Leaders
-    → i < length (receivers (sized sizes) address tx) → (node : NodeId) → node ≡ L i → node ≡ get_or (receivers
-    (sized sizes) address tx) i node
-leader_is sizes address tx i is lt node e =
-    let at : 0 + i ≡ i = omega arith in
-    e ∙ sym (get_or-map-range_with_len L 0 sizes.leaders i i node (leader_there sizes address tx i is lt) at)
-    ∙ ap (λ (a : Address). get_or (receivers (sized sizes) a tx) i node) (sym is)
+  pub named_is : (i : ℕ) → i < length (receivers_in r) → (number : ℕ) → number ≡ i
+      → name number ≡ get_or (receivers_in r) i (name number)
+  named_is i lt number same =
+      let at : 0 + i ≡ i = omega arith in
+      ap name same
+      ∙ sym (get_or-map-range_with_len name 0 count i i (name number) (named_there i lt) at)
+      ∙ sym (ap (λ (nodes : List NodeId). get_or nodes i (name number)) is)
 
 -- ---- places
 

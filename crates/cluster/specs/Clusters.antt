@@ -1,29 +1,30 @@
 -- A cluster: which world of the machine it stands for, and what an event makes of both.
-use Rattle.std.specs.Prelude.{◌≡◌, ◌≢◌, ℕ, suc, ◌+◌, Bool, true, false, nat_lt, if◌then◌else◌, List, [], length, slice_index_or, Option}
+use Rattle.std.specs.Prelude.{◌≡◌, ◌≢◌, ℕ, suc, ◌+◌, Bool, true, false, nat_lt, if◌then◌else◌, List, [], ◌∷◌, ◌++◌, length, drop, slice_index_or, Option}
 use Rattle.std.specs.Prelude.{Some, None}
 use Rattle.std.specs.Prelude.{Ok, Err}
 use Rattle.std.specs.List.{AllZip}
-use Rattle.std.specs.Option.{option_map, option_and_then}
+use Rattle.std.specs.Option.{option_map, option_map_or, option_and_then}
 use Rattle.xid.specs.declared.refusals.Refusal.{Refusal}
 use Rattle.stable_record.specs.declared.fact.FactKind.{FactKind as Fact}
 use Rattle.stable_record.specs.Held.{Held, armed_with}
 use Rattle.wire.specs.Grammar.{spelling}
-use Rattle.wire.specs.Decoding.{spells_message}
+use Rattle.wire.specs.Decoding.{message_at, spells_message}
 use Rattle.protocol.specs.declared.events.Event.{Event}
+use Rattle.protocol.specs.declared.events.Sent.{Sent}
 use Rattle.protocol.specs.declared.events.Event.TheVariants.{Ask, Deliver, Cut, Noise, Tear, Restart, Compact}
 use Rattle.protocol.specs.declared.events.Step.{Step}
 use Rattle.protocol.specs.declared.nodes.NodeId.{NodeId}
 use Rattle.protocol.specs.Effects.{Config}
 use Rattle.protocol.specs.Nodes.{NodeState, Input, Asked, Received, ReceivedNoise, Fault, NoFault, NoMemoryBefore, NoMemoryAt, RecordFails}
-use Rattle.protocol.specs.Worlds.{World, Datagram, StepResult, place, node_at, at_node, datagram_at, numbered, step_of}
+use Rattle.protocol.specs.Worlds.{World, Datagram, StepResult, place, node_at, at_node, datagram_at, step_of}
 use Rattle.protocol.specs.Worlds.{world_step}
 use Rattle.safety.specs.Runs.{IsReachable}
 use Rattle.node_core.specs.declared.config.Sizes.{Sizes}
 use Rattle.node_core.specs.Nodes.{NodeParts, NodeStands, AreSizes, IsSameNode, Befalls, fact_to_store}
 use Rattle.node_core.specs.Compacting.{BefallsCompact, IsRecompacted}
 use Rattle.node_core.specs.Opening.{BefallsRestart}
-use Rattle.network.specs.Networks.{NetworkParts, StandsFor}
-use Rattle.cluster.specs.declared.handing.Came.{Came}
+use Rattle.network.specs.Networks.{DatagramParts, NetworkParts, StandsFor}
+use Rattle.cluster.specs.declared.handing.Answered.{Answered}
 
 -- what contracts see of a cluster: its sizes and kind, its nodes, and its datagrams
 pub record ClusterParts : Type 0 where
@@ -167,27 +168,26 @@ pub record IsSameCluster (old new : ClusterParts) : Type 0 where
   pub sizes_are : new.sizes ≡ old.sizes
   pub nodes_are : AllZip IsSameNode old.nodes new.nodes
 
--- what came of an event, where so many datagrams were sent before, is what the machine makes of it
-pub record ComesTo (config : Config) (count : ℕ) (new : ClusterParts) (came : Came) (result : StepResult) : Type 0 where
-  pub answer_is : came.answer ≡ result.answer
-  pub now_is : came.now ≡ result.now
-  pub sent_is : came.sent.items ≡ numbered (suc count) result.sent
+-- what an event was answered is what the machine makes of it, and so are the datagrams that the cluster has now
+pub record ComesTo (config : Config) (new : ClusterParts) (answered : Answered) (result : StepResult) : Type 0 where
+  pub answer_is : answered.answer ≡ result.answer
+  pub now_is : answered.now ≡ result.now
   pub stands : ClusterStands config new result.world
 
 -- a node was handed an input, as the machine hands it to its own, under a fault that is true; all others stay
-pub record ReachesAs (config : Config) (world : World) (who : NodeId) (input : Input) (old new : ClusterParts) (came : Came)
+pub record ReachesAs (config : Config) (world : World) (who : NodeId) (input : Input) (old new : ClusterParts) (answered : Answered)
     : Type 0 where
   pub fault : Fault
   pub reached : fault ≡ NoMemoryBefore → ⊥
   pub same : IsSameCluster old new
   pub others : StayBut (place config who) old.nodes new.nodes
   pub befalls : BefallsAt config old.nodes new.nodes (who, input) (node_at config world who) fault
-  pub comes : ComesTo config (length world.net) new came (at_node config world who input fault)
+  pub comes : ComesTo config new answered (at_node config world who input fault)
 
 -- whatever world the cluster stood for
-abbrev pub Reaches : NodeId → Input → (old new : ClusterParts) → Came → Type 0
-Reaches who input old new came =
-    (config : Config) (world : World) → ClusterStands config old world → ReachesAs config world who input old new came
+abbrev pub Reaches : NodeId → Input → (old new : ClusterParts) → Answered → Type 0
+Reaches who input old new answered =
+    (config : Config) (world : World) → ClusterStands config old world → ReachesAs config world who input old new answered
 
 -- an event was handled as the machine handles it under a fault that is true, and all nodes but the one that it reached stay
 pub record OccursAs (config : Config) (world : World) (event : Event) (old new : ClusterParts) (step : Step) : Type 0 where
@@ -198,10 +198,34 @@ pub record OccursAs (config : Config) (world : World) (event : Event) (old new :
   pub step_is : step ≡ step_of world event (world_step config world event fault)
   pub stands : ClusterStands config new (world_step config world event fault).world
 
--- the step of an event of which this came
-abbrev pub step_by : Event → Came → Step
-step_by event came = record { event = event; answer = came.answer; now = came.now; sent = came.sent.items }
+-- a datagram as it is listed with its number; not at all, where its bytes spell no message
+abbrev pub listed_at : ℕ → DatagramParts → List Sent
+listed_at number kept = option_map_or (λ message.
+    record { number = number; sender = kept.sender; receiver = kept.receiver; message = message } ∷ []) (message_at kept.bytes) []
+
+-- datagrams by their numbers, the first of which is given
+abbrev pub listed_from : ℕ → List DatagramParts → List Sent
+listed_from number [] = []
+listed_from number (kept ∷ rest) = listed_at number kept ++ listed_from (suc number) rest
+
+-- the datagrams of a network after so many, by their numbers
+abbrev pub sent_after : ℕ → NetworkParts → List Sent
+sent_after count network = listed_from (suc count) (drop count network.datagrams)
+
+-- the step of an event that was answered this, whose datagrams are those that the network has now and hadn't before
+abbrev pub step_by : Event → Answered → (old new : NetworkParts) → Step
+step_by event answered old new =
+    record { event = event; answer = answered.answer; now = answered.now; sent = sent_after (length old.datagrams) new }
 
 -- whatever world the cluster stood for
 abbrev pub Occurs : Event → (old new : ClusterParts) → Step → Type 0
 Occurs event old new step = (config : Config) (world : World) → ClusterStands config old world → OccursAs config world event old new step
+
+-- an event that was answered this was handled as the machine handles it
+abbrev pub HappensAs : Config → World → Event → (old new : ClusterParts) → Answered → Type 0
+HappensAs config world event old new answered =
+    OccursAs config world event old new (step_by event answered old.network new.network)
+
+-- whatever world the cluster stood for
+abbrev pub Happens : Event → (old new : ClusterParts) → Answered → Type 0
+Happens event old new answered = Occurs event old new (step_by event answered old.network new.network)

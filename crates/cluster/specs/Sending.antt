@@ -1,22 +1,32 @@
--- How datagrams are sent: put into the network and listed.
-use Rattle.std.specs.Prelude.{◌≡◌, ℕ, suc, ◌+◌, ◌*◌, ◌≤◌, List, ◌++◌, length}
+-- How datagrams are sent: put into the network, for which there is room.
+use Rattle.std.specs.Prelude.{ℕ, ◌+◌, ◌*◌, ◌≤◌, List, ◌∷◌, [], ◌++◌, map}
+use Rattle.std.specs.List.{range_with_len}
 use Rattle.wire.specs.declared.grammar.TheConstants.{MAX_MESSAGE_BYTES}
-use Rattle.protocol.specs.declared.events.Sent.{Sent}
-use Rattle.protocol.specs.Worlds.{Datagram, numbered}
+use Rattle.wire.specs.Messages.{message_tx}
+use Rattle.xid.specs.Transactions.{participants}
+use Rattle.protocol.specs.declared.nodes.NodeId.{NodeId}
+use Rattle.protocol.specs.declared.nodes.NodeId.TheVariants.{A, L, R}
+use Rattle.protocol.specs.Worlds.{Datagram}
 use Rattle.network.specs.Networks.{NetworkParts, StandsFor}
+use Rattle.cluster.specs.declared.receivers.Receivers.{Receivers}
+use Rattle.cluster.specs.declared.receivers.Receivers.TheVariants as kinds
 
--- these datagrams were put after those before, and listed with their numbers
-pub record HaveSent (old new : NetworkParts) (before after : List Sent) (more : List Datagram) : Type 0 where
-  pub stands : (net : List Datagram) → StandsFor old net → StandsFor new (net ++ more)
-  pub listed : (net : List Datagram) → StandsFor old net → after ≡ before ++ numbered (suc (length net)) more
+-- the nodes to which a message goes
+abbrev pub receivers_in : Receivers → List NodeId
+receivers_in (kinds.Node node) = node ∷ []
+receivers_in (kinds.Acceptors count) = map A (range_with_len 0 count)
+receivers_in (kinds.Leaders count) = map L (range_with_len 0 count)
+receivers_in (kinds.Managers message) = map R (participants (message_tx message))
 
--- there is room for so many more of them: for each, and for its message, in the network; and in a list of so many entries
-pub record HasRoom (count : ℕ) (network : NetworkParts) (len capacity : ℕ) : Type 0 where
+-- these datagrams were put after those before
+abbrev pub HaveSent : (old new : NetworkParts) → (more : List Datagram) → Type 0
+HaveSent old new more = (net : List Datagram) → StandsFor old net → StandsFor new (net ++ more)
+
+-- there is room for so many more of them, and for their messages
+pub record HasRoom (count : ℕ) (network : NetworkParts) : Type 0 where
   pub datagrams : count ≤ network.spare
   pub bytes : count * MAX_MESSAGE_BYTES ≤ network.spare_bytes
-  pub listed : len + count ≤ capacity
 
 -- sending so many of them leaves room for the rest
-abbrev pub KeepsRoom : (sent : ℕ) → (old new : NetworkParts) → (old_len new_len capacity : ℕ) → Type 0
-KeepsRoom sent old new old_len new_len capacity =
-    (more : ℕ) → HasRoom (sent + more) old old_len capacity → HasRoom more new new_len capacity
+abbrev pub KeepsRoom : (sent : ℕ) → (old new : NetworkParts) → Type 0
+KeepsRoom sent old new = (more : ℕ) → HasRoom (sent + more) old → HasRoom more new

@@ -1,25 +1,25 @@
-ghost use Rattle.std.specs.Prelude.{◌≡◌, [], None, map, IfOk, IfErr};
-ghost use Rattle.protocol.specs.declared.answers.Answer.TheVariants.{Done};
-ghost use Rattle.protocol.specs.declared.events.Event.TheVariants.{Lose};
+ghost use Rattle.std.specs.Prelude.{◌≡◌, ◌<◌, ◌≤◌, ◌+◌, [], length, map, slice_index_or, IfOk, IfErr};
+ghost use Rattle.std.specs.Vec.{vec_capacity};
 ghost use Rattle.protocol.specs.Effects.{Config as Settings};
 ghost use Rattle.protocol.specs.Worlds.{World};
-ghost use Rattle.network.specs.Networks.{least_unmarked};
+ghost use Rattle.network.specs.Networks.{least_unmarked, shown};
 ghost use Rattle.cluster.specs.Asking.{ViewsIn, TablesIn};
-ghost use Rattle.cluster.specs.Clusters.{ClusterStands, Occurs, step_by};
+ghost use Rattle.cluster.specs.Clusters.{ClusterParts, ClusterStands, Happens, Occurs, sent_after, step_by};
 ghost use Rattle.cluster.specs.Headlines.{MovesSafely};
 ghost use Rattle.cluster.specs.Opening.{IsMade, IsUnmade};
 
 use crate::asking::{table, view};
-use crate::handing::{Came, copy_change, happen};
+use crate::handing::{Answered, happen};
 use crate::opening::open_all;
 use crate::receivers::count_of;
-use network::Network;
+use crate::room::most_sent;
+use network::{KeptDatagram, Network};
 use node_core::{Config, Node, Output, Sizes};
 use protocol::{Answer, Event, Row, Sent, Step, View};
 use stable_record::{Record, Tear};
 use std::alloc::Global;
 use std::marker::Model;
-use std::mem;
+use wire::decode;
 use xid::{Refusal, Sequence, Tx};
 
 /// A whole cluster: its nodes, each over a record, and every datagram that they sent.
@@ -31,8 +31,6 @@ pub struct Cluster<R: Record> {
     network: Network,
     // what came of an input last, in whose place goes what comes of the next
     out: Output,
-    // and of an event
-    came: Came,
 }
 
 impl<R: Record> Model for Cluster<R> {
@@ -45,28 +43,35 @@ impl<R: Record> Model for Cluster<R> {
     ghost invariant = { λ c. IsSound (cluster_of c.sizes c.nodes.items c.network) };
 }
 
-/// A step in whose place `Cluster::step_into` may put others: nothing came of a datagram's loss.
-pub fn no_step(alloc: Global) -> Step
-    ensures { result ≡ record { event = Lose 0; answer = Done; now = None; sent = [] } }
+/// The step of an event for whose datagrams there is no memory: nothing happened.
+fn unmade(alloc: Global, event: Event) -> Step
+    ensures { (cluster : ClusterParts) → Occurs event cluster cluster result }
 {
     Step {
-        event: Event::Lose { number: 0 },
-        answer: Answer::Done,
+        event,
+        answer: Answer::Refused(Refusal::NoMemory),
         now: None,
         sent: Sequence::new(Vec::new(alloc)),
     }
 }
 
-/// Puts what came of an event in the place of a step, whose list is kept for the next.
-fn put_step(alloc: Global, event: Event, came: &mut Came, step: &mut Step)
-    ensures { step.new ≡ step_by event came.old }
+/// Lists the datagrams after so many, each with its number. There is room for that.
+fn list_sent(network: &Network, before: u32, sent: &mut Vec<Sent>)
+    requires empty { sent.old.items ≡ [] }
+    requires room { length network.now.datagrams ≤ before + vec_capacity sent.old }
+    ensures { sent.new.items ≡ sent_after before network.now }
 {
-    step.event = event;
-    step.answer = mem::replace(&mut came.answer, Answer::Done);
-    copy_change(&came.now, &mut step.now);
-    let sent = mem::replace(&mut came.sent, Vec::new(alloc));
-    let before = mem::replace(&mut step.sent, Sequence::new(sent));
-    came.sent = before.into_vec();
+    for place in before..network.len() {
+        let kept = network.at(place);
+        if let Ok(message) = decode(kept.bytes) {
+            sent.push_reserved(Sent {
+                number: place + 1,
+                sender: kept.sender,
+                receiver: kept.receiver,
+                message,
+            });
+        }
+    }
 }
 
 /// A list in the room that it needs, if there is memory for that, else the list as it is.
@@ -99,7 +104,6 @@ impl<R: Record + Drop> Cluster<R> {
             nodes,
             network: Network::new(alloc),
             out: Output::nothing(),
-            came: Came::nothing(alloc),
         })
     }
 }
@@ -118,28 +122,37 @@ impl<R: Tear> Cluster<R> {
         ensures occurs { Occurs event self.old self.new result }
         ensures safe { MovesSafely event self.old self.new result }
     {
-        let mut step = no_step(self.alloc);
-        self.step_into(event, &mut step);
-        let sent = mem::replace(&mut step.sent, Sequence::new(Vec::new(self.alloc)));
-        step.sent = Sequence::new(fitted(self.alloc, sent.into_vec()));
-        step
+        let mut answered = Answered::nothing();
+        let mut sent = Vec::new(self.alloc);
+        match sent.reserve(most_sent(self.sizes, &self.network, &event)) {
+            Ok(()) => {}
+            Err(_) => return unmade(self.alloc, event),
+        }
+        let before = self.network.len();
+        self.step_into(&event, &mut answered);
+        list_sent(&self.network, before, &mut sent);
+        Step {
+            event,
+            answer: answered.answer,
+            now: answered.now,
+            sent: Sequence::new(fitted(self.alloc, sent)),
+        }
     }
 
-    /// One event as by `step`, and what came of it in the place of another step, in the room of that one and of those before it: so that
-    /// many events take no more memory for their steps than the one that may send most. What is learned of it is what `step` says.
-    pub fn step_into(&mut self, event: Event, step: &mut Step)
-        ensures occurs { Occurs event self.old self.new step.new }
-        ensures safe { MovesSafely event self.old self.new step.new }
+    /// One event as by `step`, and what it is answered in the place of another answer. The datagrams that it sent are those after the
+    /// ones before it, so that no list of them is made. What is learned of it is what `step` says.
+    pub fn step_into(&mut self, event: &Event, answered: &mut Answered)
+        ensures occurs { Happens event.now self.old self.new answered.new }
+        ensures safe { MovesSafely event.now self.old self.new (step_by event.now answered.new self.old.network self.new.network) }
     {
         happen(
             self.sizes,
             &mut self.nodes,
             &mut self.network,
-            &event,
+            event,
             &mut self.out,
-            &mut self.came,
+            answered,
         );
-        put_step(self.alloc, event, &mut self.came, step);
     }
 }
 
@@ -163,6 +176,21 @@ impl<R: Record> Cluster<R> {
             → TablesIn config world self.old self.new rm result }
     {
         table(self.sizes, &mut self.nodes, rm)
+    }
+
+    /// How many datagrams were sent.
+    pub fn datagram_count(&self) -> u32
+        ensures { result ≡ length self.now.network.datagrams }
+    {
+        self.network.len()
+    }
+
+    /// The datagram of a place, which is one less than its number.
+    pub fn datagram(&self, place: u32) -> KeptDatagram<'_>
+        requires { place < length self.now.network.datagrams }
+        ensures { shown result ≡ slice_index_or self.now.network.datagrams place (shown result) }
+    {
+        self.network.at(place)
     }
 
     /// The least number of a datagram that isn't marked, if there is one.

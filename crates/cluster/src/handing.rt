@@ -1,8 +1,7 @@
 //! The events of a cluster: which node one reaches, what that node is handed, and what is sent then.
 
-ghost use Rattle.std.specs.Prelude.{◌≡◌, List, [], None, length};
+ghost use Rattle.std.specs.Prelude.{◌≡◌, List, None, length};
 ghost use Rattle.std.specs.List.{flat_map};
-ghost use Rattle.std.specs.Vec.{vec_len, vec_capacity};
 ghost use Rattle.wire.specs.Decoding.{message_at};
 ghost use Rattle.protocol.specs.declared.events.Event.TheVariants.{Ask, Deliver, Lose, Cut, Noise, Restart, Compact};
 ghost use Rattle.protocol.specs.declared.events.Event.TheVariants.{Tear as Tears};
@@ -13,7 +12,7 @@ ghost use Rattle.node_core.specs.Nodes.{NodeParts};
 ghost use Rattle.node_core.specs.Opening.{restart_answer};
 ghost use Rattle.node_core.specs.Sends.{sent as sent_by};
 ghost use Rattle.network.specs.Networks.{NetworkParts};
-ghost use Rattle.cluster.specs.Clusters.{cluster_of, node_count, sized, step_by, IsSound, Occurs, Reaches};
+ghost use Rattle.cluster.specs.Clusters.{cluster_of, node_count, sized, Happens, IsSound, Reaches};
 ghost use Rattle.cluster.specs.Sending.{HasRoom, HaveSent};
 
 use crate::receivers::place_of;
@@ -21,50 +20,43 @@ use crate::room::{make_room, most_asked, most_heard};
 use crate::sending::send_all;
 use network::Network;
 use node_core::{Input, Node, Output, Sizes};
-use protocol::{Answer, Change, Event, NodeId, Request, Sent};
+use protocol::{Answer, Change, Event, NodeId, Request};
 use stable_record::{Record, Tear};
-use std::alloc::Global;
 use std::mem;
 use wire::decode;
 use xid::Refusal;
 
-/// What came of an event last, in whose place goes what comes of the next.
+/// What an event is answered, and the view that it changed. The datagrams that it sent are the last ones of its cluster.
 #[derive(Debug, Drop)]
-pub(crate) struct Came {
+pub struct Answered {
     /// What it was answered.
-    pub(crate) answer: Answer,
+    pub answer: Answer,
     /// The view that it changed, if it changed one.
-    pub(crate) now: Option<Change>,
-    /// The datagrams that it sent, in order.
-    pub(crate) sent: Vec<Sent>,
+    pub now: Option<Change>,
 }
 
-impl Came {
-    /// Nothing that came of anything yet.
-    pub(crate) fn nothing(alloc: Global) -> Came {
-        Came {
+impl Answered {
+    /// Nothing that was answered yet: a place for what is.
+    pub fn nothing() -> Answered {
+        Answered {
             answer: Answer::Done,
             now: None,
-            sent: Vec::new(alloc),
         }
     }
 
-    /// An answer, and nothing sent, in place of what came of the event before.
+    /// An answer alone, in place of what came of the event before.
     fn answers(&mut self, answer: Answer)
         ensures answer { self.new.answer ≡ answer }
         ensures now { self.new.now ≡ None }
-        ensures sent { self.new.sent.items ≡ [] }
     {
         self.answer = answer;
         copy_change(&None, &mut self.now);
-        self.sent.clear();
     }
 
-    /// What a node put out, whose answer is taken, beside what was sent of it.
+    /// What a node put out, whose answer is taken.
     fn take(&mut self, out: &mut Output)
         ensures answer { self.new.answer ≡ out.old.reply }
         ensures now { self.new.now ≡ out.old.now }
-        ensures sent { self.new.sent.items ≡ self.old.sent.items }
     {
         self.answer = mem::replace(&mut out.reply, Answer::Done);
         copy_change(&out.now, &mut self.now);
@@ -72,7 +64,7 @@ impl Came {
 }
 
 /// A change of a view, in place of one before. Where there is none, no place of one is written.
-pub(crate) fn copy_change(from: &Option<Change>, to: &mut Option<Change>)
+fn copy_change(from: &Option<Change>, to: &mut Option<Change>)
     ensures { to.new ≡ from.now }
 {
     match from {
@@ -92,17 +84,20 @@ fn forget_change(now: &mut Option<Change>)
 }
 
 /// Sends what a node puts out. There is room for that. Its answer is taken.
-fn put_out(network: &mut Network, sizes: Sizes, who: NodeId, out: &mut Output, came: &mut Came)
-    requires room { HasRoom (length (flat_map (datagrams_of (sized sizes) who) (sent_by out.old.sends))) network.old
-        (vec_len came.old.sent) (vec_capacity came.old.sent) }
-    requires empty { came.old.sent.items ≡ [] }
-    ensures sent { HaveSent network.old network.new [] came.new.sent.items
-        (flat_map (datagrams_of (sized sizes) who) (sent_by out.old.sends)) }
-    ensures answer { came.new.answer ≡ out.old.reply }
-    ensures now { came.new.now ≡ out.old.now }
+fn put_out(
+    network: &mut Network,
+    sizes: Sizes,
+    who: NodeId,
+    out: &mut Output,
+    answered: &mut Answered,
+)
+    requires { HasRoom (length (flat_map (datagrams_of (sized sizes) who) (sent_by out.old.sends))) network.old }
+    ensures sent { HaveSent network.old network.new (flat_map (datagrams_of (sized sizes) who) (sent_by out.old.sends)) }
+    ensures answer { answered.new.answer ≡ out.old.reply }
+    ensures now { answered.new.now ≡ out.old.now }
 {
-    send_all(network, &mut came.sent, sizes, who, &out.sends);
-    came.take(out);
+    send_all(network, sizes, who, &out.sends);
+    answered.take(out);
 }
 
 /// Asks a node something.
@@ -113,26 +108,25 @@ fn ask<R: Record>(
     who: NodeId,
     request: &Request,
     out: &mut Output,
-    came: &mut Came,
+    answered: &mut Answered,
 )
     requires { IsSound (cluster_of sizes nodes.old.items network.old) }
-    ensures { Occurs (Ask who request.now) (cluster_of sizes nodes.old.items network.old) (cluster_of sizes nodes.new.items network.new)
-        (step_by (Ask who request.now) came.new) }
+    ensures { Happens (Ask who request.now) (cluster_of sizes nodes.old.items network.old) (cluster_of sizes nodes.new.items network.new) answered.new }
 {
     let Some(at) = place_of(sizes, who) else {
-        came.answers(Answer::Refused(Refusal::NoSuch));
+        answered.answers(Answer::Refused(Refusal::NoSuch));
         return;
     };
-    match make_room(network, &mut came.sent, most_asked(sizes, who, request)) {
+    match make_room(network, most_asked(sizes, who, request)) {
         Ok(()) => {}
         Err(_) => {
-            came.answers(Answer::Refused(Refusal::NoMemory));
+            answered.answers(Answer::Refused(Refusal::NoMemory));
             return;
         }
     }
     let node = &mut nodes[at];
     node.step_into(Input::Asked(request), out);
-    put_out(network, sizes, who, out, came);
+    put_out(network, sizes, who, out, answered);
 }
 
 /// Hands a datagram to its receiver, and marks it.
@@ -142,29 +136,28 @@ fn deliver<R: Record>(
     network: &mut Network,
     number: u32,
     out: &mut Output,
-    came: &mut Came,
+    answered: &mut Answered,
 )
     requires { IsSound (cluster_of sizes nodes.old.items network.old) }
-    ensures { Occurs (Deliver number) (cluster_of sizes nodes.old.items network.old) (cluster_of sizes nodes.new.items network.new)
-        (step_by (Deliver number) came.new) }
+    ensures { Happens (Deliver number) (cluster_of sizes nodes.old.items network.old) (cluster_of sizes nodes.new.items network.new) answered.new }
 {
     let who = match network.get(number) {
         Some(kept) => kept.receiver,
         None => {
-            came.answers(Answer::Refused(Refusal::NoSuch));
+            answered.answers(Answer::Refused(Refusal::NoSuch));
             return;
         }
     };
-    match make_room(network, &mut came.sent, most_heard(sizes, who)) {
+    match make_room(network, most_heard(sizes, who)) {
         Ok(()) => {}
         Err(_) => {
-            came.answers(Answer::Refused(Refusal::NoMemory));
+            answered.answers(Answer::Refused(Refusal::NoMemory));
             return;
         }
     }
     let Some(at) = place_of(sizes, who) else {
         network.mark(number);
-        came.answers(Answer::Refused(Refusal::NoSuch));
+        answered.answers(Answer::Refused(Refusal::NoSuch));
         return;
     };
     let Some(kept) = network.get(number) else {
@@ -173,19 +166,19 @@ fn deliver<R: Record>(
     let node = &mut nodes[at];
     node.step_into(Input::Received(kept.bytes), out);
     network.mark(number);
-    put_out(network, sizes, who, out, came);
+    put_out(network, sizes, who, out, answered);
 }
 
 /// Marks a datagram.
-fn lose(network: &mut Network, number: u32, came: &mut Came)
+fn lose(network: &mut Network, number: u32, answered: &mut Answered)
     ensures { (sizes : ClusterSizes) (nodes : List NodeParts)
-        → Occurs (Lose number) (cluster_of sizes nodes network.old) (cluster_of sizes nodes network.new) (step_by (Lose number) came.new) }
+        → Happens (Lose number) (cluster_of sizes nodes network.old) (cluster_of sizes nodes network.new) answered.new }
 {
     if !network.mark(number) {
-        came.answers(Answer::Refused(Refusal::NoSuch));
+        answered.answers(Answer::Refused(Refusal::NoSuch));
         return;
     }
-    came.answers(Answer::Done);
+    answered.answers(Answer::Done);
 }
 
 /// Hands bytes that spell no message to a node. Nothing is sent.
@@ -195,21 +188,20 @@ fn hand_noise<R: Record>(
     who: NodeId,
     bytes: &[u8],
     out: &mut Output,
-    came: &mut Came,
+    answered: &mut Answered,
 )
     requires count { length nodes.old.items ≡ node_count sizes }
     requires noise { message_at bytes.now ≡ None }
     ensures { (network : NetworkParts) → Reaches who ReceivedNoise (cluster_of sizes nodes.old.items network)
-        (cluster_of sizes nodes.new.items network) came.new }
+        (cluster_of sizes nodes.new.items network) answered.new }
 {
     let Some(at) = place_of(sizes, who) else {
-        came.answers(Answer::Refused(Refusal::NoSuch));
+        answered.answers(Answer::Refused(Refusal::NoSuch));
         return;
     };
     let node = &mut nodes[at];
     node.step_into(Input::Received(bytes), out);
-    came.sent.clear();
-    came.take(out);
+    answered.take(out);
 }
 
 /// Hands the first bytes of a datagram to its receiver, fewer than all.
@@ -220,22 +212,21 @@ fn cut<R: Record>(
     number: u32,
     bytes: u32,
     out: &mut Output,
-    came: &mut Came,
+    answered: &mut Answered,
 )
     requires sound { IsSound (cluster_of sizes nodes.old.items network.now) }
-    ensures { Occurs (Cut number bytes) (cluster_of sizes nodes.old.items network.now) (cluster_of sizes nodes.new.items network.now)
-        (step_by (Cut number bytes) came.new) }
+    ensures { Happens (Cut number bytes) (cluster_of sizes nodes.old.items network.now) (cluster_of sizes nodes.new.items network.now) answered.new }
 {
     let Some(kept) = network.get(number) else {
-        came.answers(Answer::Refused(Refusal::NoSuch));
+        answered.answers(Answer::Refused(Refusal::NoSuch));
         return;
     };
     let len = bytes as usize;
     if len >= kept.bytes.len() {
-        came.answers(Answer::Refused(Refusal::NoSuch));
+        answered.answers(Answer::Refused(Refusal::NoSuch));
         return;
     }
-    hand_noise(sizes, nodes, kept.receiver, &kept.bytes[..len], out, came);
+    hand_noise(sizes, nodes, kept.receiver, &kept.bytes[..len], out, answered);
 }
 
 /// Hands bytes to a node that nobody sent, unless they spell a message.
@@ -245,34 +236,34 @@ fn noise<R: Record>(
     who: NodeId,
     bytes: &[u8],
     out: &mut Output,
-    came: &mut Came,
+    answered: &mut Answered,
 )
     requires count { length nodes.old.items ≡ node_count sizes }
-    ensures { (network : NetworkParts) → Occurs (Noise who bytes.now) (cluster_of sizes nodes.old.items network)
-        (cluster_of sizes nodes.new.items network) (step_by (Noise who bytes.now) came.new) }
+    ensures { (network : NetworkParts) → Happens (Noise who bytes.now) (cluster_of sizes nodes.old.items network)
+        (cluster_of sizes nodes.new.items network) answered.new }
 {
     match decode(bytes) {
-        Err(_) => hand_noise(sizes, nodes, who, bytes, out, came),
+        Err(_) => hand_noise(sizes, nodes, who, bytes, out, answered),
         Ok(_) => match place_of(sizes, who) {
-            Some(_) => came.answers(Answer::Refused(Refusal::Forged)),
-            None => came.answers(Answer::Refused(Refusal::NoSuch)),
+            Some(_) => answered.answers(Answer::Refused(Refusal::Forged)),
+            None => answered.answers(Answer::Refused(Refusal::NoSuch)),
         },
     }
 }
 
 /// Arms a tear on a node's record.
-fn tear<R: Tear>(sizes: Sizes, nodes: &mut Vec<Node<R>>, who: NodeId, bytes: u32, came: &mut Came)
+fn tear<R: Tear>(sizes: Sizes, nodes: &mut Vec<Node<R>>, who: NodeId, bytes: u32, answered: &mut Answered)
     requires count { length nodes.old.items ≡ node_count sizes }
-    ensures { (network : NetworkParts) → Occurs (Tears who bytes) (cluster_of sizes nodes.old.items network)
-        (cluster_of sizes nodes.new.items network) (step_by (Tears who bytes) came.new) }
+    ensures { (network : NetworkParts) → Happens (Tears who bytes) (cluster_of sizes nodes.old.items network)
+        (cluster_of sizes nodes.new.items network) answered.new }
 {
     let Some(at) = place_of(sizes, who) else {
-        came.answers(Answer::Refused(Refusal::NoSuch));
+        answered.answers(Answer::Refused(Refusal::NoSuch));
         return;
     };
     let node = &mut nodes[at];
     node.arm(bytes as usize);
-    came.answers(Answer::Done);
+    answered.answers(Answer::Done);
 }
 
 /// How a restart or a compaction is answered.
@@ -286,33 +277,33 @@ fn answer_of(restarted: Result<(), Refusal>) -> Answer
 }
 
 /// Restarts a node.
-fn restart<R: Record>(sizes: Sizes, nodes: &mut Vec<Node<R>>, who: NodeId, came: &mut Came)
+fn restart<R: Record>(sizes: Sizes, nodes: &mut Vec<Node<R>>, who: NodeId, answered: &mut Answered)
     requires count { length nodes.old.items ≡ node_count sizes }
-    ensures { (network : NetworkParts) → Occurs (Restart who) (cluster_of sizes nodes.old.items network)
-        (cluster_of sizes nodes.new.items network) (step_by (Restart who) came.new) }
+    ensures { (network : NetworkParts) → Happens (Restart who) (cluster_of sizes nodes.old.items network)
+        (cluster_of sizes nodes.new.items network) answered.new }
 {
     let Some(at) = place_of(sizes, who) else {
-        came.answers(Answer::Refused(Refusal::NoSuch));
+        answered.answers(Answer::Refused(Refusal::NoSuch));
         return;
     };
     let node = &mut nodes[at];
     let restarted = node.restart();
-    came.answers(answer_of(restarted));
+    answered.answers(answer_of(restarted));
 }
 
 /// Compacts a node.
-fn compact<R: Record>(sizes: Sizes, nodes: &mut Vec<Node<R>>, who: NodeId, came: &mut Came)
+fn compact<R: Record>(sizes: Sizes, nodes: &mut Vec<Node<R>>, who: NodeId, answered: &mut Answered)
     requires count { length nodes.old.items ≡ node_count sizes }
-    ensures { (network : NetworkParts) → Occurs (Compact who) (cluster_of sizes nodes.old.items network)
-        (cluster_of sizes nodes.new.items network) (step_by (Compact who) came.new) }
+    ensures { (network : NetworkParts) → Happens (Compact who) (cluster_of sizes nodes.old.items network)
+        (cluster_of sizes nodes.new.items network) answered.new }
 {
     let Some(at) = place_of(sizes, who) else {
-        came.answers(Answer::Refused(Refusal::NoSuch));
+        answered.answers(Answer::Refused(Refusal::NoSuch));
         return;
     };
     let node = &mut nodes[at];
     let compacted = node.compact();
-    came.answers(answer_of(compacted));
+    answered.answers(answer_of(compacted));
 }
 
 /// What comes of an event.
@@ -322,21 +313,21 @@ pub(crate) fn happen<R: Tear>(
     network: &mut Network,
     event: &Event,
     out: &mut Output,
-    came: &mut Came,
+    answered: &mut Answered,
 )
     requires { IsSound (cluster_of sizes nodes.old.items network.old) }
-    ensures occurs { Occurs event.now (cluster_of sizes nodes.old.items network.old)
-        (cluster_of sizes nodes.new.items network.new) (step_by event.now came.new) }
+    ensures occurs { Happens event.now (cluster_of sizes nodes.old.items network.old)
+        (cluster_of sizes nodes.new.items network.new) answered.new }
     ensures sound { IsSound (cluster_of sizes nodes.new.items network.new) }
 {
     match event {
-        Event::Ask { node, request } => ask(sizes, nodes, network, *node, request, out, came),
-        Event::Deliver { number } => deliver(sizes, nodes, network, *number, out, came),
-        Event::Lose { number } => lose(network, *number, came),
-        Event::Cut { number, bytes } => cut(sizes, nodes, network, *number, *bytes, out, came),
-        Event::Noise { node, bytes } => noise(sizes, nodes, *node, bytes.as_slice(), out, came),
-        Event::Tear { node, bytes } => tear(sizes, nodes, *node, *bytes, came),
-        Event::Restart { node } => restart(sizes, nodes, *node, came),
-        Event::Compact { node } => compact(sizes, nodes, *node, came),
+        Event::Ask { node, request } => ask(sizes, nodes, network, *node, request, out, answered),
+        Event::Deliver { number } => deliver(sizes, nodes, network, *number, out, answered),
+        Event::Lose { number } => lose(network, *number, answered),
+        Event::Cut { number, bytes } => cut(sizes, nodes, network, *number, *bytes, out, answered),
+        Event::Noise { node, bytes } => noise(sizes, nodes, *node, bytes.as_slice(), out, answered),
+        Event::Tear { node, bytes } => tear(sizes, nodes, *node, *bytes, answered),
+        Event::Restart { node } => restart(sizes, nodes, *node, answered),
+        Event::Compact { node } => compact(sizes, nodes, *node, answered),
     }
 }

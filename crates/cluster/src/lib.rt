@@ -10,4 +10,5 @@ mod receivers;
 mod room;
 mod sending;
 
-pub use cluster::{Cluster, no_step};
+pub use cluster::Cluster;
+pub use handing::Answered;

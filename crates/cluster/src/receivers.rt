@@ -1,16 +1,18 @@
 //! Where nodes stand in a cluster, and which of them an address means.
 
 ghost use Rattle.std.specs.Prelude.{◌≡◌, ◌<◌, length, slice_index_or};
+ghost use Rattle.wire.specs.declared.message.Kind.{Kind};
+ghost use Rattle.wire.specs.Grammar.{Spells};
 ghost use Rattle.wire.specs.Messages.{message_tx};
-ghost use Rattle.protocol.specs.declared.nodes.NodeId.TheVariants.{A, L};
 ghost use Rattle.protocol.specs.Worlds.{place};
 ghost use Rattle.protocol.specs.Effects.{receivers};
 ghost use Rattle.cluster.specs.Clusters.{node_count, placed_after, sized};
 ghost use Rattle.cluster.specs.Opening.{name_of};
+ghost use Rattle.cluster.specs.Sending.{receivers_in};
 
 use node_core::Sizes;
 use protocol::{Address, NodeId};
-use wire::Message;
+use wire::{MessageView, view_of};
 
 /// Where a node stands: acceptors first, then leaders, then resource managers. None where there is no such node.
 pub(crate) fn place_of(sizes: Sizes, who: NodeId) -> Option<usize>
@@ -60,43 +62,74 @@ pub(crate) fn name_at(sizes: Sizes, at: usize) -> NodeId
     NodeId::R((at - acceptors - leaders) as u8)
 }
 
-/// To how many nodes a message goes.
-pub(crate) fn receiver_count(sizes: Sizes, to: Address, message: &Message) -> usize
-    ensures { result ≡ length (receivers (sized sizes) to (message_tx message.now)) }
-{
-    match to {
-        Address::Node(_) => 1,
-        Address::Acceptors => usize::from(sizes.acceptors),
-        Address::Leaders => usize::from(sizes.leaders),
-        Address::Managers => message.kind().tx().count(),
+/// The nodes to which a message goes.
+#[derive(Drop)]
+pub(crate) enum Receivers<'a> {
+    /// One.
+    Node(NodeId),
+    /// So many acceptors.
+    Acceptors(u8),
+    /// So many leaders.
+    Leaders(u8),
+    /// The resource managers of the transaction of this message.
+    Managers(MessageView<'a>),
+}
+
+impl<'a> Receivers<'a> {
+    /// Those to which the message goes that these bytes spell.
+    pub(crate) fn of(sizes: Sizes, to: Address, bytes: &'a [u8]) -> Receivers<'a>
+        requires { (message : Kind) × Spells message bytes.now }
+        ensures { (message : Kind) → Spells message bytes.now → receivers_in result ≡ receivers (sized sizes) to (message_tx message) }
+    {
+        match to {
+            Address::Node(node) => Receivers::Node(node),
+            Address::Acceptors => Receivers::Acceptors(sizes.acceptors),
+            Address::Leaders => Receivers::Leaders(sizes.leaders),
+            Address::Managers => Receivers::Managers(seen(bytes)),
+        }
+    }
+
+    /// How many they are.
+    pub(crate) fn count(&self) -> usize
+        ensures { result ≡ length (receivers_in self.now) }
+    {
+        match self {
+            Receivers::Node(_) => 1,
+            Receivers::Acceptors(count) => usize::from(*count),
+            Receivers::Leaders(count) => usize::from(*count),
+            Receivers::Managers(message) => message.tx().count(),
+        }
+    }
+
+    /// The one of a place.
+    pub(crate) fn at(&self, i: usize) -> NodeId
+        requires { i < length (receivers_in self.now) }
+        ensures { result ≡ slice_index_or (receivers_in self.now) i result }
+    {
+        match self {
+            Receivers::Node(node) => *node,
+            Receivers::Acceptors(count) => NodeId::A(number_below(*count, i)),
+            Receivers::Leaders(count) => NodeId::L(number_below(*count, i)),
+            Receivers::Managers(message) => NodeId::R(message.tx().rm(i) as u8),
+        }
     }
 }
 
-/// The acceptor of a number.
-fn acceptor_at(sizes: Sizes, i: usize) -> NodeId
-    requires { i < sizes.acceptors }
-    ensures { result ≡ A i }
+/// A place below a count, as the number of a node.
+fn number_below(count: u8, i: usize) -> u8
+    requires { i < count }
+    ensures { result ≡ i }
 {
-    NodeId::A(i as u8)
+    i as u8
 }
 
-/// The leader of a number.
-fn leader_at(sizes: Sizes, i: usize) -> NodeId
-    requires { i < sizes.leaders }
-    ensures { result ≡ L i }
+/// The message that bytes spell, seen over them.
+fn seen(bytes: &[u8]) -> MessageView<'_>
+    requires { (message : Kind) × Spells message bytes.now }
+    ensures { Spells result bytes.now }
 {
-    NodeId::L(i as u8)
-}
-
-/// The node of a place among those to which a message goes.
-pub(crate) fn receiver_at(sizes: Sizes, to: Address, message: &Message, i: usize) -> NodeId
-    requires { i < length (receivers (sized sizes) to (message_tx message.now)) }
-    ensures { result ≡ slice_index_or (receivers (sized sizes) to (message_tx message.now)) i result }
-{
-    match to {
-        Address::Node(node) => node,
-        Address::Acceptors => acceptor_at(sizes, i),
-        Address::Leaders => leader_at(sizes, i),
-        Address::Managers => NodeId::R(message.kind().tx().rm(i) as u8),
+    match view_of(bytes) {
+        Ok(message) => message,
+        Err(_) => unreachable!(),
     }
 }

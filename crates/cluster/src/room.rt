@@ -1,20 +1,21 @@
 //! Room for what an event may send: made before its node is reached.
 
-ghost use Rattle.std.specs.Prelude.{◌≡◌, ◌≤◌, ℕ, List, [], length, IfErr, OnOk};
+ghost use Rattle.std.specs.Prelude.{◌≡◌, ◌≤◌, ℕ, List, length, IfErr, OnOk};
 ghost use Rattle.std.specs.List.{flat_map};
-ghost use Rattle.std.specs.Vec.{vec_len, vec_capacity};
 ghost use Rattle.xid.specs.declared.refusals.Refusal.TheVariants.{NoMemory};
 ghost use Rattle.stable_record.specs.declared.fact.FactKind.{FactKind};
+ghost use Rattle.protocol.specs.declared.events.Event.TheVariants.{Deliver};
 ghost use Rattle.protocol.specs.Effects.{Config};
-ghost use Rattle.protocol.specs.Nodes.{Memory, on_request, effect_of};
-ghost use Rattle.protocol.specs.Worlds.{Datagram, datagrams_of};
-ghost use Rattle.node_core.specs.Nodes.{AreSizes, datagram_input};
+ghost use Rattle.protocol.specs.Nodes.{Fault, Memory, on_request, effect_of};
+ghost use Rattle.protocol.specs.Worlds.{World, Datagram, datagrams_of, world_step};
+ghost use Rattle.node_core.specs.Nodes.{NodeParts, AreSizes, datagram_input};
 ghost use Rattle.network.specs.Networks.{StandsFor};
+ghost use Rattle.cluster.specs.Clusters.{ClusterStands, cluster_of};
 ghost use Rattle.cluster.specs.Sending.{HasRoom};
 
 use network::Network;
 use node_core::Sizes;
-use protocol::{NodeId, Request, Sent};
+use protocol::{Event, NodeId, Request};
 use wire::MAX_MESSAGE_BYTES;
 use xid::{MAX_BRANCHES, Refusal};
 
@@ -53,26 +54,42 @@ pub(crate) fn most_heard(sizes: Sizes, who: NodeId) -> usize
     }
 }
 
-/// Makes room for so many datagrams more, and empties the list in which they are to stand. Refused: `NoMemory` alone. The datagrams
-/// before stay as they are.
-pub(crate) fn make_room(
-    network: &mut Network,
-    listed: &mut Vec<Sent>,
-    count: usize,
-) -> Result<(), Refusal>
+/// How many datagrams an event sends at most.
+pub(crate) fn most_sent(sizes: Sizes, network: &Network, event: &Event) -> usize
+    ensures { (nodes : List NodeParts) (config : Config) (world : World)
+        → ClusterStands config (cluster_of sizes nodes network.now) world → (fault : Fault)
+        → length (world_step config world event.now fault).sent ≤ result }
+{
+    match event {
+        Event::Ask { node, request } => most_asked(sizes, *node, request),
+        Event::Deliver { number } => most_delivered(sizes, network, *number),
+        Event::Lose { .. } => 0,
+        Event::Cut { .. } => 0,
+        Event::Noise { .. } => 0,
+        Event::Tear { .. } => 0,
+        Event::Restart { .. } => 0,
+        Event::Compact { .. } => 0,
+    }
+}
+
+/// How many datagrams are sent at most where the one of a number is handed over.
+fn most_delivered(sizes: Sizes, network: &Network, number: u32) -> usize
+    ensures { (nodes : List NodeParts) (config : Config) (world : World)
+        → ClusterStands config (cluster_of sizes nodes network.now) world → (fault : Fault)
+        → length (world_step config world (Deliver number) fault).sent ≤ result }
+{
+    match network.get(number) {
+        Some(kept) => most_heard(sizes, kept.receiver),
+        None => 0,
+    }
+}
+
+/// Makes room for so many datagrams more. Refused: `NoMemory` alone. The datagrams before stay as they are.
+pub(crate) fn make_room(network: &mut Network, count: usize) -> Result<(), Refusal>
     requires { count ≤ 5000 }
     ensures same { (net : List Datagram) → StandsFor network.old net → StandsFor network.new net }
-    ensures empty { OnOk result (listed.new.items ≡ []) }
-    ensures room { OnOk result (HasRoom count network.new (vec_len listed.new) (vec_capacity listed.new)) }
+    ensures room { OnOk result (HasRoom count network.new) }
     ensures err { IfErr result (λ e. e ≡ NoMemory) }
 {
-    listed.clear();
-    match network.reserve(count, count * MAX_MESSAGE_BYTES) {
-        Ok(()) => {}
-        Err(refusal) => return Err(refusal),
-    }
-    match listed.reserve(count) {
-        Ok(()) => Ok(()),
-        Err(_) => Err(Refusal::NoMemory),
-    }
+    network.reserve(count, count * MAX_MESSAGE_BYTES)
 }

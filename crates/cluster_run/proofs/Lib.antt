@@ -1,3 +1,4 @@
+pub mod Lines
 pub mod Printing
 pub mod Completing
 pub mod MachineCalls

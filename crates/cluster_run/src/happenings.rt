@@ -2,13 +2,15 @@
 
 ghost use Rattle.std.specs.Prelude.{[], IfErr, OnOk};
 ghost use Rattle.net_script.specs.declared.values.Command.TheVariants.{Do};
-ghost use Rattle.net_script.specs.Writing.{IsFileRefusal};
+ghost use Rattle.net_script.specs.Traces.{step_text};
+ghost use Rattle.net_script.specs.Writing.{IsFileRefusal, Puts};
+ghost use Rattle.cluster.specs.Clusters.{sent_after};
 ghost use Rattle.cluster_run.specs.Happenings.{IsFlow, IsDoneBy, AreDoneBy};
 ghost use Rattle.cluster_run.specs.Running.{GoesOn, Prints, PrintsShort, StopsIn, so_far};
 
-use cluster::{Cluster, no_step};
-use net_script::{Command, KnownTx, write_step, write_text};
-use protocol::{Event, Step};
+use cluster::{Answered, Cluster};
+use net_script::{Command, WrittenTx, write_answered, write_datagram, write_text};
+use protocol::Event;
 use stable_record::MemRecord;
 use std::alloc::Global;
 use std::io::Write;
@@ -31,33 +33,63 @@ fn print_long<W: Write>(piece: &mut Vec<u8>, out: &mut W) -> Result<(), Refusal>
     Ok(())
 }
 
-/// An event happens, in the place of a step before, and its lines join the piece. Refused: `NoMemory`, where there is none for the lines,
-/// and as `write_text` is.
+/// The lines of an event that happened last, when its cluster had so many datagrams, join the piece. Refused: `NoMemory` alone.
+fn write_lines(
+    cluster: &Cluster<MemRecord>,
+    before: u32,
+    event: &Event,
+    answered: &Answered,
+    written: &mut WrittenTx,
+    piece: &mut Vec<u8>,
+) -> Result<(), Refusal>
+    ensures { Puts piece.old.items piece.new.items result (step_text (record {
+      event = event.now;
+      answer = answered.now.answer;
+      now = answered.now.now;
+      sent = sent_after before cluster.now.network;
+    })) }
+{
+    write_answered(piece, written, event, &answered.answer, &answered.now)?;
+    for place in before..cluster.datagram_count() {
+        let kept = cluster.datagram(place);
+        write_datagram(
+            piece,
+            written,
+            place + 1,
+            kept.sender,
+            kept.receiver,
+            kept.bytes,
+        )?;
+    }
+    Ok(())
+}
+
+/// An event happens, what it is answered takes the place of another answer, and its lines join the piece. Refused: `NoMemory`, where there
+/// is none for the lines, and as `write_text` is.
 fn happen<W: Write>(
-    alloc: Global,
     cluster: &mut Cluster<MemRecord>,
-    step: &mut Step,
-    known: &mut Option<KnownTx>,
+    answered: &mut Answered,
+    written: &mut WrittenTx,
     piece: &mut Vec<u8>,
     out: &mut W,
-    event: Event,
+    event: &Event,
 ) -> Result<(), Refusal>
-    ensures ok { OnOk result (GoesOn (λ config world. IsDoneBy config world (Do event)) cluster.old cluster.new
+    ensures ok { OnOk result (GoesOn (λ config world. IsDoneBy config world (Do event.now)) cluster.old cluster.new
         (so_far piece.old.items (W.contents out.old)) (so_far piece.new.items (W.contents out.new))) }
-    ensures err { IfErr result (StopsIn (λ config world. IsDoneBy config world (Do event)) cluster.old
+    ensures err { IfErr result (StopsIn (λ config world. IsDoneBy config world (Do event.now)) cluster.old
         (so_far piece.old.items (W.contents out.old)) (W.contents out.new)) }
 {
-    cluster.step_into(event, step);
-    write_step(alloc, piece, known, step)?;
+    let before = cluster.datagram_count();
+    cluster.step_into(event, answered);
+    write_lines(cluster, before, event, answered, written, piece)?;
     print_long(piece, out)
 }
 
 /// So many deliveries at most, each of the datagram of least number that isn't marked then, until there is none. Refused as `happen` is.
 fn flow<W: Write>(
-    alloc: Global,
     cluster: &mut Cluster<MemRecord>,
-    step: &mut Step,
-    known: &mut Option<KnownTx>,
+    answered: &mut Answered,
+    written: &mut WrittenTx,
     piece: &mut Vec<u8>,
     out: &mut W,
     count: u32,
@@ -72,13 +104,12 @@ fn flow<W: Write>(
             return Ok(());
         };
         happen(
-            alloc,
             cluster,
-            step,
-            known,
+            answered,
+            written,
             piece,
             out,
-            Event::Deliver { number },
+            &Event::Deliver { number },
         )?;
     }
     Ok(())
@@ -86,22 +117,21 @@ fn flow<W: Write>(
 
 /// What a command makes happen. Refused as `happen` is.
 fn carry_out<W: Write>(
-    alloc: Global,
     cluster: &mut Cluster<MemRecord>,
-    step: &mut Step,
-    known: &mut Option<KnownTx>,
+    answered: &mut Answered,
+    written: &mut WrittenTx,
     piece: &mut Vec<u8>,
     out: &mut W,
-    command: Command,
+    command: &Command,
 ) -> Result<(), Refusal>
-    ensures ok { OnOk result (GoesOn (λ config world. IsDoneBy config world command) cluster.old cluster.new
+    ensures ok { OnOk result (GoesOn (λ config world. IsDoneBy config world command.now) cluster.old cluster.new
         (so_far piece.old.items (W.contents out.old)) (so_far piece.new.items (W.contents out.new))) }
-    ensures err { IfErr result (StopsIn (λ config world. IsDoneBy config world command) cluster.old
+    ensures err { IfErr result (StopsIn (λ config world. IsDoneBy config world command.now) cluster.old
         (so_far piece.old.items (W.contents out.old)) (W.contents out.new)) }
 {
     match command {
-        Command::Do(event) => happen(alloc, cluster, step, known, piece, out, event),
-        Command::Flow(count) => flow(alloc, cluster, step, known, piece, out, count),
+        Command::Do(event) => happen(cluster, answered, written, piece, out, event),
+        Command::Flow(count) => flow(cluster, answered, written, piece, out, *count),
     }
 }
 
@@ -119,10 +149,10 @@ pub fn carry_out_all<W: Write>(
     ensures err { IfErr result (StopsIn (λ config world. AreDoneBy config world commands.items) cluster.old
         (so_far piece.old.items (W.contents out.old)) (W.contents out.new)) }
 {
-    let mut step = no_step(alloc);
-    let mut known = None;
+    let mut answered = Answered::nothing();
+    let mut written = WrittenTx::none(alloc);
     for command in commands {
-        carry_out(alloc, cluster, &mut step, &mut known, piece, out, command)?;
+        carry_out(cluster, &mut answered, &mut written, piece, out, &command)?;
     }
     Ok(())
 }

@@ -47,7 +47,7 @@ marked_length (d ∷ net) (suc (suc k)) = ap suc (marked_length net (suc k))
 -- ---- one event
 
 -- the lines of a world's datagrams are those before and those that the event says
-abbrev SaysSent : World → StepResult → Type 0
+abbrev pub SaysSent : World → StepResult → Type 0
 SaysSent world result = numbered 1 result.world.net ≡ numbered 1 world.net ++ numbered (suc (length world.net)) result.sent
 
 module _ (config : Config) (world : World) where
@@ -111,7 +111,7 @@ dispatch_sent config world (Compact who) fault = found_sent config world (node_a
     (λ up. outcome_sent config world who node (compact_outcome node fault))
     (λ down. none_sent config world (answer_result world (Refused Down)) refl refl))
 
-event_sent : (config : Config) (world : World) (event : Event) (fault : Fault) → SaysSent world (world_step config world event fault)
+pub event_sent : (config : Config) (world : World) (event : Event) (fault : Fault) → SaysSent world (world_step config world event fault)
 event_sent config world event NoMemoryBefore = none_sent config world (world_step config world event NoMemoryBefore) refl refl
 event_sent config world event fault = dispatch_sent config world event fault
 

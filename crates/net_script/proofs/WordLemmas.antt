@@ -1,19 +1,13 @@
 -- Pieces, lines and words of a text, and the texts of nodes and bytes.
-use Rattle.std.proofs.Common.{eq-eqb, ◌≡◌, ℕ, ◌*◌, ◌<◌, ◌^◌, Bool, true, false, cond, not, ◌⊎◌, inl, inr, eqb, List, [], ◌∷◌}
-use Rattle.std.proofs.Common.{◌+◌, ◌-◌, ◌≤◌, take, get_or, ◌++◌, length, Ok, Option, None, Some, refl, sym, ap, subst, ◌∙◌, arith}
+use Rattle.std.proofs.Common.{eq-eqb, ◌≡◌, ℕ, ◌<◌, ◌^◌, Bool, true, false, cond, not, ◌⊎◌, inl, inr, eqb, List, [], ◌∷◌}
+use Rattle.std.proofs.Common.{◌++◌, length, Ok, Option, None, Some, refl, ap, subst, ◌∙◌, arith}
 use Rattle.std.proofs.Common.{decimal}
 use Rattle.std.proofs.lemmas.List.{length-append}
 use Rattle.std.specs.List.{onto_first}
 use Rattle.std.proofs.lemmas.Bool.{not-true}
 use Rattle.std.specs.Str.{bytes_eq}
 use Rattle.std.proofs.lemmas.Slice.Eq.{bytes_eq-Decides}
-use Rattle.std.proofs.lemmas.Fmt.{decimal_injective, decimal-digits_value}
-use Rattle.std.proofs.lemmas.Int.Digits.{digits_value_more, digits_more}
-use Rattle.std.proofs.lemmas.Str.{digit_value_digit}
-use Rattle.std.proofs.lemmas.Str.Parse.{numerals_by_value, tells_digits}
-use Rattle.std.specs.Char.{digit_value}
-use Rattle.std.specs.Int.{IsInRange}
-use Rattle.std.specs.Str.Parse.{AllDigits, digits_value}
+use Rattle.std.proofs.lemmas.Fmt.{decimal_injective}
 use Rattle.xid.specs.Text.{lacks}
 use Rattle.xid.proofs.Texts.{first_true, second_true}
 use Rattle.net_script.specs.Lines.{pieces, IsFirstPiece, Reads}

@@ -1,6 +1,8 @@
 -- The one text of a trace.
 use Rattle.std.specs.Prelude.{ℕ, suc, List, [], ◌∷◌, ◌++◌, codes, decimal, Option, Some, None}
 use Rattle.std.specs.List.{flat_map}
+use Rattle.std.specs.Option.{option_map_or}
+use Rattle.wire.specs.Decoding.{message_at}
 use Rattle.net_script.specs.Basics.{tx_text, NodeId, R, Row, Answer, Change, Sent, Step, Sizes, Table, Entry, Trace}
 use Rattle.net_script.specs.Lines.{node_text}
 use Rattle.net_script.specs.Events.{event_words}
@@ -41,6 +43,11 @@ sent_words sent = decimal sent.number ∷ node_text sent.sender ∷ node_text se
 -- a datagram that was sent
 abbrev pub sent_line : Sent → List ℕ
 sent_line sent = line_text (codes "sent" ∷ sent_words sent)
+
+-- the line of a datagram by the bytes that spell its message; none where they spell none
+abbrev pub datagram_line : (number : ℕ) (sender receiver : NodeId) (bytes : List ℕ) → List ℕ
+datagram_line number sender receiver bytes = option_map_or (λ message.
+    sent_line (record { number = number; sender = sender; receiver = receiver; message = message })) (message_at bytes) []
 
 -- the words of a datagram taken by a node, over sockets
 abbrev pub serve_words : NodeId → List (List ℕ)

@@ -3,15 +3,15 @@
 ghost use Rattle.std.specs.Prelude.{◌≡◌, ◌++◌, IfErr, OnOk};
 ghost use Rattle.net_script.specs.Basics.{NoMemory};
 ghost use Rattle.net_script.specs.Answers.{standing_text, view_text, answer_words};
-ghost use Rattle.net_script.specs.Traces.{spaced_words, change_text, sent_line};
+ghost use Rattle.net_script.specs.Traces.{spaced_words, change_text, datagram_line, sent_line};
 ghost use Rattle.net_script.specs.Writing.{Puts};
 
-use crate::known::{KnownTx, put_known};
 use crate::messages::put_message;
 use crate::pieces::{put_bytes_word, put_manager, put_node, put_number, put_word, put_xid};
+use crate::written::WrittenTx;
 use itoa::Buffer;
-use protocol::{Answer, Change, Sent, Standing, View};
-use std::alloc::Global;
+use protocol::{Answer, Change, NodeId, Sent, Standing, View};
+use wire::{MAX_DATAGRAM, MAX_TX_BYTES, MessageView, SpelledTx, encode, view_of};
 use xid::Refusal;
 
 /// The word of where a transaction stands.
@@ -73,9 +73,8 @@ pub fn put_answer(out: &mut Vec<u8>, answer: &Answer) -> Result<(), Refusal>
 
 /// The line of the view that an event changed, if it changed one.
 pub(crate) fn put_change(
-    alloc: Global,
     out: &mut Vec<u8>,
-    known: &mut Option<KnownTx>,
+    written: &mut WrittenTx,
     now: &Option<Change>,
 ) -> Result<(), Refusal>
     ensures { Puts out.old.items out.new.items result (change_text now.now) }
@@ -83,28 +82,73 @@ pub(crate) fn put_change(
     let Some(change) = now else {
         return Ok(());
     };
+    let mut buffer = [0; MAX_TX_BYTES];
     out.extend_from_slice(b"now")?;
     put_manager(out, u32::from(change.rm))?;
-    put_known(alloc, out, known, &change.tx)?;
+    written.put(out, &SpelledTx::of(&change.tx, &mut buffer))?;
     put_word(out, view_word(change.view))?;
     out.push(b'\n')?;
     Ok(())
 }
 
+/// The line of a datagram whose message is seen over the bytes that spell it.
+fn put_seen(
+    out: &mut Vec<u8>,
+    written: &mut WrittenTx,
+    number: u32,
+    sender: NodeId,
+    receiver: NodeId,
+    message: &MessageView<'_>,
+) -> Result<(), Refusal>
+    ensures { Puts out.old.items out.new.items result
+        (sent_line (record { number = number; sender = sender; receiver = receiver; message = message.now })) }
+{
+    out.extend_from_slice(b"sent")?;
+    put_number(out, number)?;
+    put_node(out, sender)?;
+    put_node(out, receiver)?;
+    put_message(out, written, message)?;
+    out.push(b'\n')?;
+    Ok(())
+}
+
+/// Writes the line of a datagram that was sent, by its number, its sender, its receiver and the bytes that spell its message, after what
+/// stands in `out`; nothing, where they spell none. The text of the transaction that was written last isn't made again. The only refusal
+/// is `NoMemory`, and then what is new in `out` is no whole line.
+pub fn write_datagram(
+    out: &mut Vec<u8>,
+    written: &mut WrittenTx,
+    number: u32,
+    sender: NodeId,
+    receiver: NodeId,
+    bytes: &[u8],
+) -> Result<(), Refusal>
+    ensures ok { OnOk result (out.new.items ≡ out.old.items ++ datagram_line number sender receiver bytes.now) }
+    ensures err { IfErr result (λ e. e ≡ NoMemory) }
+{
+    match &view_of(bytes) {
+        Ok(message) => put_seen(out, written, number, sender, receiver, message),
+        Err(_) => Ok(()),
+    }
+}
+
 /// The line of a datagram that was sent.
 pub(crate) fn put_sent(
-    alloc: Global,
     out: &mut Vec<u8>,
-    known: &mut Option<KnownTx>,
+    written: &mut WrittenTx,
     sent: &Sent,
 ) -> Result<(), Refusal>
     ensures { Puts out.old.items out.new.items result (sent_line sent.now) }
 {
-    out.extend_from_slice(b"sent")?;
-    put_number(out, sent.number)?;
-    put_node(out, sent.sender)?;
-    put_node(out, sent.receiver)?;
-    put_message(alloc, out, known, sent.message.kind())?;
-    out.push(b'\n')?;
-    Ok(())
+    let mut buffer = [0; MAX_DATAGRAM];
+    let _ = sent.message.kind();
+    let len = encode(&sent.message, &mut buffer);
+    write_datagram(
+        out,
+        written,
+        sent.number,
+        sent.sender,
+        sent.receiver,
+        &buffer[..len],
+    )
 }

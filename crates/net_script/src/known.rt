@@ -1,9 +1,8 @@
-//! The transaction that was read or written last: the lines of a trace name the same one many times in a row.
+//! The transaction that was read last: the lines of a trace name the same one many times in a row.
 
-ghost use Rattle.std.specs.Prelude.{◌≡◌, ◌∷◌, IfOk, IfErr};
-ghost use Rattle.net_script.specs.Basics.{NoMemory, tx_text};
+ghost use Rattle.std.specs.Prelude.{◌≡◌, IfOk, IfErr};
+ghost use Rattle.net_script.specs.Basics.{NoMemory};
 ghost use Rattle.net_script.specs.TraceLines.{Knows};
-ghost use Rattle.net_script.specs.Writing.{Puts};
 
 use std::alloc::Global;
 use std::marker::Model;
@@ -11,7 +10,7 @@ use xid::{Refusal, Tx};
 
 /// A transaction, and its word. None is known at first.
 #[derive(Debug, Drop)]
-pub struct KnownTx {
+pub(crate) struct KnownTx {
     word: Vec<u8>,
     tx: Tx,
 }
@@ -61,40 +60,4 @@ pub(crate) fn know(alloc: Global, known: &mut Option<KnownTx>, word: &[u8]) -> R
         }
     }
     learn(alloc, known, word)
-}
-
-/// A transaction's text, which is known from then on. Refused: `NoMemory` alone.
-#[inline(never)]
-fn put_new(
-    alloc: Global,
-    out: &mut Vec<u8>,
-    known: &mut Option<KnownTx>,
-    tx: &Tx,
-) -> Result<(), Refusal>
-    ensures { Puts out.old.items out.new.items result (tx_text tx.now) }
-{
-    let mut word = Vec::new(alloc);
-    tx.write(&mut word)?;
-    out.extend_from_slice(word.as_slice())?;
-    *known = Some(KnownTx { word, tx: *tx });
-    Ok(())
-}
-
-/// A transaction as a word, which is the one that is known from then on. Refused: `NoMemory` alone.
-pub(crate) fn put_known(
-    alloc: Global,
-    out: &mut Vec<u8>,
-    known: &mut Option<KnownTx>,
-    tx: &Tx,
-) -> Result<(), Refusal>
-    ensures { Puts out.old.items out.new.items result (32 ∷ tx_text tx.now) }
-{
-    out.push(b' ')?;
-    if let Some(last) = &*known {
-        if last.tx.is_same(tx) {
-            out.extend_from_slice(last.word.as_slice())?;
-            return Ok(());
-        }
-    }
-    put_new(alloc, out, known, tx)
 }

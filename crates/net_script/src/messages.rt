@@ -1,16 +1,18 @@
 //! Messages, as a trace prints them.
 
 ghost use Rattle.std.specs.Prelude.{◌≡◌, ◌∷◌, map};
+ghost use Rattle.xid.specs.Transactions.{TxParts};
+ghost use Rattle.wire.specs.Messages.{IsMessage};
+ghost use Rattle.wire.specs.Said.{said};
 ghost use Rattle.net_script.specs.Messages.{vote_text, report_words, ballot_words, message_word, message_args, message_words};
 ghost use Rattle.net_script.specs.Messages.{accepted_text, report_item_text, accept_item_text};
 ghost use Rattle.net_script.specs.Traces.{spaced_words};
 ghost use Rattle.net_script.specs.Writing.{Puts};
 
-use crate::known::{KnownTx, put_known};
 use crate::pieces::{put_manager, put_node, put_number, put_word};
+use crate::written::WrittenTx;
 use protocol::NodeId;
-use std::alloc::Global;
-use wire::{InstanceAccept, InstanceReport, Kind};
+use wire::{InstanceAccept, InstanceReport, MessageView, Rest, accepts_of, reports_of};
 use xid::{Ballot, ManagerNumber, Refusal, Vote, text};
 
 /// The word of a vote.
@@ -79,99 +81,88 @@ fn put_accepts(out: &mut Vec<u8>, accepts: &[InstanceAccept]) -> Result<(), Refu
 }
 
 /// The first word of a message.
-fn kind_word(kind: &Kind) -> &'static [u8]
-    ensures { result.now ≡ message_word kind.now }
+fn kind_word(rest: Rest<'_>) -> &'static [u8]
+    ensures { (tx : TxParts) → result.now ≡ message_word (said tx rest.entry) }
 {
-    match kind {
-        Kind::Prepare(_) => b"prepare",
-        Kind::P1a { .. } => b"p1a",
-        Kind::P1b { .. } => b"p1b",
-        Kind::P2a { .. } => b"p2a",
-        Kind::P2b { .. } => b"p2b",
-        Kind::Commit(_) => b"commit",
-        Kind::Abort(_) => b"abort",
-        Kind::Ask { .. } => b"ask",
-        Kind::B1a { .. } => b"b1a",
-        Kind::B1b { .. } => b"b1b",
-        Kind::B2b { .. } => b"b2b",
+    match rest {
+        Rest::Prepare => b"prepare",
+        Rest::P1a { .. } => b"p1a",
+        Rest::P1b { .. } => b"p1b",
+        Rest::P2a { .. } => b"p2a",
+        Rest::P2b { .. } => b"p2b",
+        Rest::Commit => b"commit",
+        Rest::Abort => b"abort",
+        Rest::Ask { .. } => b"ask",
+        Rest::B1a { .. } => b"b1a",
+        Rest::B1b { .. } => b"b1b",
+        Rest::B2b { .. } => b"b2b",
     }
 }
 
 /// The words of a message after its transaction.
-fn put_kind_args(out: &mut Vec<u8>, kind: &Kind) -> Result<(), Refusal>
-    ensures { Puts out.old.items out.new.items result (spaced_words (message_args kind.now)) }
+fn put_args(out: &mut Vec<u8>, rest: Rest<'_>) -> Result<(), Refusal>
+    requires { (tx : TxParts) × IsMessage (said tx rest) }
+    ensures { (tx : TxParts) → Puts out.old.items out.new.items result (spaced_words (message_args (said tx rest.entry))) }
 {
-    match kind {
-        Kind::Prepare(_) | Kind::Commit(_) | Kind::Abort(_) => Ok(()),
-        Kind::P1a {
-            instance,
-            ballot,
-            ..
-        } => put_ballot(out, *instance, *ballot),
-        Kind::P1b {
+    match rest {
+        Rest::Prepare | Rest::Commit | Rest::Abort => Ok(()),
+        Rest::P1a { instance, ballot } => put_ballot(out, instance, ballot),
+        Rest::P1b {
             instance,
             ballot,
             report,
             acceptor,
-            ..
         } => {
-            put_ballot(out, *instance, *ballot)?;
-            put_report(out, *report)?;
-            put_node(out, NodeId::A(*acceptor))
+            put_ballot(out, instance, ballot)?;
+            put_report(out, report)?;
+            put_node(out, NodeId::A(acceptor))
         }
-        Kind::P2a {
+        Rest::P2a {
             instance,
             ballot,
             vote,
-            ..
         } => {
-            put_ballot(out, *instance, *ballot)?;
-            put_word(out, vote_word(*vote))
+            put_ballot(out, instance, ballot)?;
+            put_word(out, vote_word(vote))
         }
-        Kind::P2b {
+        Rest::P2b {
             instance,
             ballot,
             vote,
             acceptor,
-            ..
         } => {
-            put_ballot(out, *instance, *ballot)?;
-            put_word(out, vote_word(*vote))?;
-            put_node(out, NodeId::A(*acceptor))
+            put_ballot(out, instance, ballot)?;
+            put_word(out, vote_word(vote))?;
+            put_node(out, NodeId::A(acceptor))
         }
-        Kind::Ask { rm, .. } => put_manager(out, u32::from(*rm)),
-        Kind::B1a { ballot, .. } => put_number(out, *ballot),
-        Kind::B1b {
+        Rest::Ask { rm } => put_manager(out, u32::from(rm)),
+        Rest::B1a { ballot } => put_number(out, ballot),
+        Rest::B1b {
             ballot,
             acceptor,
             reports,
-            ..
         } => {
-            put_number(out, *ballot)?;
-            put_node(out, NodeId::A(*acceptor))?;
-            put_reports(out, reports.as_slice())
+            put_number(out, ballot)?;
+            put_node(out, NodeId::A(acceptor))?;
+            put_reports(out, reports_of(reports).as_slice())
         }
-        Kind::B2b {
-            acceptor,
-            accepts,
-            ..
-        } => {
-            put_node(out, NodeId::A(*acceptor))?;
-            put_accepts(out, accepts.as_slice())
+        Rest::B2b { acceptor, accepts } => {
+            put_node(out, NodeId::A(acceptor))?;
+            put_accepts(out, accepts_of(accepts).as_slice())
         }
     }
 }
 
 /// A message.
 pub(crate) fn put_message(
-    alloc: Global,
     out: &mut Vec<u8>,
-    known: &mut Option<KnownTx>,
-    kind: &Kind,
+    written: &mut WrittenTx,
+    message: &MessageView<'_>,
 ) -> Result<(), Refusal>
-    ensures { Puts out.old.items out.new.items result (spaced_words (message_words kind.now)) }
+    ensures { Puts out.old.items out.new.items result (spaced_words (message_words message.now)) }
 {
-    put_word(out, kind_word(kind))?;
-    put_known(alloc, out, known, kind.tx())?;
-    put_kind_args(out, kind)
+    let rest = message.rest();
+    put_word(out, kind_word(rest))?;
+    written.put(out, message.tx())?;
+    put_args(out, rest)
 }

@@ -5,17 +5,18 @@ ghost use Rattle.std.specs.List.{flat_map};
 ghost use Rattle.net_script.specs.Basics.{NoMemory};
 ghost use Rattle.net_script.specs.Items.{bundled_words, sizes_words};
 ghost use Rattle.net_script.specs.Answers.{answer_words};
+ghost use Rattle.net_script.specs.Events.{event_words};
 ghost use Rattle.net_script.specs.Traces.{spaced_words, line_text, change_text, sent_line, step_text, final_line};
-ghost use Rattle.net_script.specs.Traces.{entry_text, final_lines, head_text, trace_text};
+ghost use Rattle.net_script.specs.Traces.{entry_text, final_lines, head_text, outcome_text, trace_text};
 ghost use Rattle.net_script.specs.Writing.{Puts};
 
 use crate::answers::{put_answer, put_change, put_sent};
 use crate::events::{event_word, put_event_args};
-use crate::known::KnownTx;
 use crate::pieces::{put_manager, put_node, put_number, put_rows, put_word};
 use crate::values::{Entry, Sizes, Table, Trace};
+use crate::written::WrittenTx;
 use itoa::Buffer;
-use protocol::{Answer, Change, Row, Sent, Step};
+use protocol::{Answer, Change, Event, Row, Sent, Step};
 use std::alloc::Global;
 use xid::{Refusal, Sequence};
 
@@ -50,63 +51,77 @@ fn put_sizes(out: &mut Vec<u8>, sizes: Sizes) -> Result<(), Refusal>
     Ok(())
 }
 
-/// What came of an event, after its words: the answer behind an arrow, the view that it changed, and the datagrams that it sent.
+/// What an event was answered, after its words: the answer behind an arrow, and the view that it changed.
 fn put_outcome(
-    alloc: Global,
     out: &mut Vec<u8>,
-    known: &mut Option<KnownTx>,
+    written: &mut WrittenTx,
     answer: &Answer,
     now: &Option<Change>,
-    sent: &[Sent],
 ) -> Result<(), Refusal>
-    ensures { Puts out.old.items out.new.items result
-        (spaced_words (codes "->" ∷ answer_words answer.now) ++ 10 ∷ (change_text now.now ++ flat_map sent_line sent.now)) }
+    ensures { Puts out.old.items out.new.items result (spaced_words (codes "->" ∷ answer_words answer.now) ++ 10 ∷ change_text now.now) }
 {
     put_word(out, b"->")?;
     put_answer(out, answer)?;
     out.push(b'\n')?;
-    put_change(alloc, out, known, now)?;
+    put_change(out, written, now)
+}
+
+/// The datagrams that an event sent.
+fn put_all_sent(
+    out: &mut Vec<u8>,
+    written: &mut WrittenTx,
+    sent: &[Sent],
+) -> Result<(), Refusal>
+    ensures { Puts out.old.items out.new.items result (flat_map sent_line sent.now) }
+{
     for datagram in sent {
-        put_sent(alloc, out, known, datagram)?;
+        put_sent(out, written, datagram)?;
     }
     Ok(())
 }
 
-/// Writes the lines of an event after what stands in `out`: its answer, the view that it changed, and what it sent. The text of the
-/// transaction that is known, which is the one that was written last, isn't made again. The only refusal is `NoMemory`, and then what is
-/// new in `out` is no whole text.
-pub fn write_step(
-    alloc: Global,
+/// Writes the first lines of an event after what stands in `out`: its answer, and the view that it changed; what it sent is to follow
+/// them. The text of the transaction that was written last isn't made again. The only refusal is `NoMemory`, and then what is new in
+/// `out` is no whole text.
+pub fn write_answered(
     out: &mut Vec<u8>,
-    known: &mut Option<KnownTx>,
+    written: &mut WrittenTx,
+    event: &Event,
+    answer: &Answer,
+    now: &Option<Change>,
+) -> Result<(), Refusal>
+    ensures ok { OnOk result (out.new.items ≡ out.old.items ++ outcome_text (event_words event.now) answer.now now.now []) }
+    ensures err { IfErr result (λ e. e ≡ NoMemory) }
+{
+    out.extend_from_slice(event_word(event))?;
+    put_event_args(out, event)?;
+    put_outcome(out, written, answer, now)
+}
+
+/// Writes the lines of an event after what stands in `out`: its answer, the view that it changed, and what it sent. The only refusal is
+/// `NoMemory`, and then what is new in `out` is no whole text.
+pub fn write_step(
+    out: &mut Vec<u8>,
+    written: &mut WrittenTx,
     step: &Step,
 ) -> Result<(), Refusal>
     ensures ok { OnOk result (out.new.items ≡ out.old.items ++ step_text step.entry.now) }
     ensures err { IfErr result (λ e. e ≡ NoMemory) }
 {
-    out.extend_from_slice(event_word(&step.event))?;
-    put_event_args(out, &step.event)?;
-    put_outcome(
-        alloc,
-        out,
-        known,
-        &step.answer,
-        &step.now,
-        step.sent.as_slice(),
-    )
+    write_answered(out, written, &step.event, &step.answer, &step.now)?;
+    put_all_sent(out, written, step.sent.as_slice())
 }
 
 /// The lines of what happened and of what came of it.
 fn put_entry(
-    alloc: Global,
     out: &mut Vec<u8>,
-    known: &mut Option<KnownTx>,
+    written: &mut WrittenTx,
     entry: &Entry,
 ) -> Result<(), Refusal>
     ensures { Puts out.old.items out.new.items result (entry_text entry.now) }
 {
     match entry {
-        Entry::Step(step) => write_step(alloc, out, known, step),
+        Entry::Step(step) => write_step(out, written, step),
         Entry::Serve {
             node,
             answer,
@@ -115,7 +130,8 @@ fn put_entry(
         } => {
             out.extend_from_slice(b"serve")?;
             put_node(out, *node)?;
-            put_outcome(alloc, out, known, answer, now, sent.as_slice())
+            put_outcome(out, written, answer, now)?;
+            put_all_sent(out, written, sent.as_slice())
         }
     }
 }
@@ -166,10 +182,10 @@ pub fn write_trace(alloc: Global, trace: &Trace) -> Result<Vec<u8>, Refusal>
     ensures err { IfErr result (λ e. e ≡ NoMemory) }
 {
     let mut out = Vec::new(alloc);
-    let mut known = None;
+    let mut written = WrittenTx::none(alloc);
     write_head(&mut out, trace.sizes, trace.tables.as_slice())?;
     for entry in trace.entries.as_slice() {
-        put_entry(alloc, &mut out, &mut known, entry)?;
+        put_entry(&mut out, &mut written, entry)?;
     }
     write_finals(&mut out, trace.finals.as_slice())?;
     Ok(out)

@@ -1,4 +1,4 @@
-ghost use Rattle.std.specs.Prelude.{◌≡◌, ◌⊎◌, ℕ, suc, ◌+◌, ◌<◌, ◌≤◌, ◌==◌, false, List, [], ◌∷◌, ◌++◌, length, map, is_some};
+ghost use Rattle.std.specs.Prelude.{◌≡◌, ◌⊎◌, ℕ, suc, ◌+◌, ◌<◌, ◌≤◌, ◌==◌, false, List, [], ◌∷◌, ◌++◌, length, map, is_some, slice_index_or};
 ghost use Rattle.std.specs.Prelude.{IfSome, IfNone, OnOk, IfErr, IsOk};
 ghost use Rattle.std.specs.Option.{option_map};
 ghost use Rattle.std.specs.Vec.{vec_len, vec_capacity};
@@ -79,7 +79,8 @@ impl Network {
 
     /// How many there are, which is the number of the last.
     pub fn len(&self) -> u32
-        ensures { (net : List Datagram) → StandsFor self.now net → result ≡ length net }
+        ensures count { result ≡ length self.now.datagrams }
+        ensures stands { (net : List Datagram) → StandsFor self.now net → result ≡ length net }
     {
         self.entries.len() as u32
     }
@@ -158,6 +159,14 @@ impl Network {
             ..last
         });
         self.entries.len() as u32
+    }
+
+    /// The datagram of a place, which is one less than its number.
+    pub fn at(&self, place: u32) -> KeptDatagram<'_>
+        requires { place < length self.now.datagrams }
+        ensures { shown result ≡ slice_index_or self.now.datagrams place (shown result) }
+    {
+        self.entries[place as usize].datagram(&self.bytes)
     }
 
     /// The datagram of a number, if there is one.

@@ -1,13 +1,12 @@
-use Rattle.std.specs.Vec.{vec_len, vec_capacity}
 use Rattle.protocol.specs.declared.events.Event.TheVariants.{Ask}
 use Rattle.cluster.proofs.Handed.{ask_room, ask_made, asked_nowhere, no_room}
 use Rattle.cluster.proofs.handing.ask.Goals as goal
 
-pub put_out-requires-clause-room : goal.put_out-requires-clause-room
-put_out-requires-clause-room g c =
+pub put_out-requires : goal.put_out-requires
+put_out-requires g c =
     ask_room c.args.sizes c.args.nodes.now.items c.args.network.now c.make_room.new.network c.make_room.ensures.same c.args.who c.in-Some.at
     c.in-Some.ensures c.args.request.now c.index_mut-node.result.now c.step_into.new.self c.step_into.new.out c.index_mut-node.ensures.value
-    c.step_into.ensures c.requires c.most_asked.result (vec_len c.make_room.new.listed) (vec_capacity c.make_room.new.listed)
+    c.step_into.ensures c.requires c.most_asked.result 
     c.most_asked.ensures.bound
     c.in-Ok.ensures.room
 
@@ -15,15 +14,14 @@ pub returns : goal.returns
 returns g c =
     ask_made c.args.sizes c.args.nodes.now.items c.args.network.now c.make_room.new.network c.make_room.ensures.same c.args.who c.in-Some.at
     c.in-Some.ensures c.args.request.now c.index_mut-node.result.now c.step_into.new.self c.step_into.new.out c.index_mut-node.ensures.value
-    c.step_into.ensures c.put_out.new.network c.put_out.new.came c.put_out.ensures.sent c.put_out.ensures.answer c.put_out.ensures.now
+    c.step_into.ensures c.put_out.new.network c.put_out.new.answered c.put_out.ensures.sent c.put_out.ensures.answer c.put_out.ensures.now
 
 pub returns-in_default : goal.returns-in_default
 returns-in_default g c = λ config world s.
     asked_nowhere config world c.args.sizes c.args.nodes.now.items c.args.network.now s c.args.who c.in_default.ensures c.answers.new.self
-    c.answers.ensures.answer c.answers.ensures.now c.answers.ensures.sent c.args.request.now
+    c.answers.ensures.answer c.answers.ensures.now c.args.request.now
 
 pub returns-in-Err : goal.returns-in-Err
 returns-in-Err g c =
     no_room (Ask c.args.who c.args.request.now) c.args.sizes c.args.nodes.now.items c.args.network.now c.make_room.new.network
     c.make_room.ensures.same c.answers-in-Err.new.self c.answers-in-Err.ensures.answer c.answers-in-Err.ensures.now
-    c.answers-in-Err.ensures.sent

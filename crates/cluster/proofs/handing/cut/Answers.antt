@@ -11,15 +11,15 @@ hand_noise-requires-clause-noise g c =
 pub returns : goal.returns
 returns g c =
     cut_made c.args.network.now c.args.number c.args.bytes (shown c.in-Some.kept) c.in-Some.ensures (omega (arith, c.if-len-kept.false))
-    c.args.sizes c.args.nodes.now.items c.hand_noise.new.nodes.items c.hand_noise.new.came c.hand_noise.ensures
+    c.args.sizes c.args.nodes.now.items c.hand_noise.new.nodes.items c.hand_noise.new.answered c.hand_noise.ensures
 
 pub returns-in_default : goal.returns-in_default
 returns-in_default g c = λ config world s.
     cut_absent c.args.sizes c.args.nodes.now.items c.args.network.now c.args.number c.in_default.ensures c.answers.new.self
-    c.answers.ensures.answer c.answers.ensures.now c.answers.ensures.sent config world s c.args.bytes
+    c.answers.ensures.answer c.answers.ensures.now config world s c.args.bytes
 
 pub returns-then-len-kept : goal.returns-then-len-kept
 returns-then-len-kept g c =
     cut_nothing c.args.sizes c.args.nodes.now.items c.args.network.now c.args.number c.args.bytes (shown c.in-Some.kept)
     c.in-Some.ensures (omega (arith, c.if-len-kept.true)) c.answers-then-len-kept.new.self c.answers-then-len-kept.ensures.answer
-    c.answers-then-len-kept.ensures.now c.answers-then-len-kept.ensures.sent
+    c.answers-then-len-kept.ensures.now

@@ -1,4 +1,3 @@
-use Rattle.std.proofs.Common.{◌∙◌}
 use Rattle.protocol.specs.Nodes.{ReceivedNoise}
 use Rattle.cluster.proofs.Handed.{noise_handed, nowhere}
 use Rattle.cluster.proofs.handing.hand_noise.Goals as goal
@@ -7,9 +6,9 @@ pub returns : goal.returns
 returns g c = λ network config world s.
     noise_handed config world c.args.sizes c.args.nodes.now.items network s c.args.who c.in-Some.at c.in-Some.ensures c.args.bytes.now
     c.requires.noise c.index_mut-node.result.now c.step_into.new.self c.step_into.new.out c.index_mut-node.ensures.value c.step_into.ensures
-    c.take.new.self c.take.ensures.answer c.take.ensures.now (c.take.ensures.sent ∙ c.clear.ensures.items)
+    c.take.new.self c.take.ensures.answer c.take.ensures.now
 
 pub returns-in_default : goal.returns-in_default
 returns-in_default g c = λ network config world s.
     nowhere config world c.args.sizes c.args.nodes.now.items network s c.args.who c.in_default.ensures c.answers.new.self
-    c.answers.ensures.answer c.answers.ensures.now c.answers.ensures.sent ReceivedNoise
+    c.answers.ensures.answer c.answers.ensures.now ReceivedNoise

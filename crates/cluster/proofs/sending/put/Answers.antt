@@ -1,4 +1,4 @@
-use Rattle.cluster.proofs.Listed.{put_again}
+use Rattle.cluster.proofs.Sent.{put_again}
 use Rattle.cluster.proofs.sending.put.Goals as goal
 
 pub returns-then-again-clause-stands : goal.returns-then-again-clause-stands

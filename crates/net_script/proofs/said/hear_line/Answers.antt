@@ -1,5 +1,4 @@
 use Rattle.std.proofs.Common.{◌≡◌, ◌∙◌, ◌∷◌, List, ℕ, true, false, refl, sym, ap, codes}
-use Rattle.std.proofs.lemmas.Bool.{iff_false}
 use Rattle.net_script.specs.Lines.{words}
 use Rattle.net_script.specs.TraceLines.{IsTraceLine, is_tidy, trace_line_words}
 use Rattle.net_script.proofs.WordLemmas.{reads_none, reads_some}

@@ -1,8 +1,7 @@
-use Rattle.std.proofs.Common.{◌≡◌, ◌∙◌, List, ℕ, [], ◌∷◌, codes, refl, sym, ap}
+use Rattle.std.proofs.Common.{◌≡◌, ◌∙◌, List, ℕ, ◌∷◌, codes, refl, sym, ap}
 use Rattle.std.proofs.lemmas.Bool.{iff_false}
-use Rattle.net_script.specs.Basics.{Event}
 use Rattle.net_script.specs.Lines.{words}
-use Rattle.net_script.specs.Events.{IsEvent, event_word, event_words}
+use Rattle.net_script.specs.Events.{IsEvent, event_words}
 use Rattle.net_script.specs.Answers.{IsAnswer, answer_words}
 use Rattle.net_script.proofs.WordLemmas.{reads_none, reads_some}
 use Rattle.net_script.proofs.Arms.{found}

@@ -1,7 +1,7 @@
 use Rattle.std.proofs.Common.{◌≡◌, ◌∙◌, ◌∷◌, List, ℕ, sym, ap, subst}
 use Rattle.std.proofs.lemmas.Bool.{iff_false}
 use Rattle.wire.proofs.Fields.{tx_valid}
-use Rattle.net_script.specs.Basics.{TxParts, Kind, IsMessage, message_tx}
+use Rattle.net_script.specs.Basics.{TxParts, IsMessage, message_tx}
 use Rattle.net_script.specs.Messages.{message_words, kind_of, said_words, FitsSaid}
 use Rattle.net_script.specs.NameLemmas.{tx_injective}
 use Rattle.net_script.proofs.WordLemmas.{reads_none, reads_some}

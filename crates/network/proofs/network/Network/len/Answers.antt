@@ -3,8 +3,8 @@ use Rattle.network.specs.Networks.{NetworkParts, StandsFor}
 use Rattle.network.proofs.Places.{count_is}
 use Rattle.network.proofs.network.Network.len.Goals as goal
 
-pub returns : goal.returns
-returns c = λ net s.
+pub returns-clause-stands : goal.returns-clause-stands
+returns-clause-stands c = λ net s.
     let at : StandsFor _ net = subst (λ (n : NetworkParts). StandsFor n net) (sym c.self.view_is) s in
     omega (
       arith,

@@ -1,0 +1,16 @@
+use Rattle.std.proofs.Common.{◌∙◌, map, sym, ap}
+use Rattle.xid.specs.Transactions.{participants}
+use Rattle.wire.specs.declared.message.Kind.{Kind}
+use Rattle.wire.specs.Messages.{message_tx}
+use Rattle.wire.proofs.OneSpelling.{means_one}
+use Rattle.protocol.specs.declared.decisions.Address.{Address}
+use Rattle.protocol.specs.declared.nodes.NodeId.TheVariants.{R}
+use Rattle.protocol.specs.Effects.{receivers}
+use Rattle.cluster.specs.Clusters.{sized}
+use Rattle.cluster.proofs.receivers.Receivers.of.Goals as goal
+
+pub returns-in-Managers : goal.returns-in-Managers
+returns-in-Managers c = λ message spells.
+    ap (λ (k : Kind). map R (participants (message_tx k)))
+    (means_one c.seen.result message c.args.bytes.now c.seen.ensures spells)
+    ∙ sym (ap (λ (to : Address). receivers (sized c.args.sizes) to (message_tx message)) c.in-Managers.is)
