@@ -5,7 +5,7 @@ use crate::page::Page;
 use crate::stop::{Stop, wanted};
 use crate::{nodes, records, words};
 use cluster::Cluster;
-use net_script::{Command, read_script, write_finals, write_step};
+use net_script::{Command, WrittenTx, read_script, write_finals, write_step};
 use node_core::{Config, place_of};
 use protocol::{Event, Row};
 use stable_record::{FailRecord, Leaves, MemRecord, Record};
@@ -101,7 +101,7 @@ impl Whole {
     fn happen(&mut self, alloc: Global, event: Event) -> Result<Vec<u8>, Stop> {
         let step = self.cluster.step(event);
         let mut text = Vec::new(alloc);
-        write_step(alloc, &mut text, &mut None, &step)?;
+        write_step(&mut text, &mut WrittenTx::none(alloc), &step)?;
         Ok(text)
     }
 

@@ -1,7 +1,7 @@
 //! What is printed.
 
 use crate::stop::Stop;
-use net_script::write_step;
+use net_script::{WrittenTx, write_step};
 use protocol::{Address, Answer, Change, Event, NodeId, Outgoing, Row, Sent, Step};
 use stable_record::{Act, Entry, Fact, SpelledFact, Touched};
 use std::alloc::Global;
@@ -112,7 +112,7 @@ impl Page {
             sent: Sequence::new(sent),
         };
         let mut text = Vec::new(self.alloc);
-        write_step(self.alloc, &mut text, &mut None, &step)?;
+        write_step(&mut text, &mut WrittenTx::none(self.alloc), &step)?;
         Ok(text)
     }
 

@@ -1,5 +1,5 @@
 -- The lines of an event, one datagram after another: for `write_lines`.
-use Rattle.std.proofs.Common.{◌≡◌, ◌∙◌, ℕ, suc, ◌+◌, ◌<◌, ◌≤◌, List, [], ◌∷◌, ◌++◌, length, get_or, Option, Some, None, refl, sym, ap, append_assoc, arith}
+use Rattle.std.proofs.Common.{◌≡◌, ◌∙◌, ℕ, suc, ◌+◌, ◌<◌, ◌≤◌, List, [], ◌∷◌, ◌++◌, length, get_or, Option, Some, None, refl, sym, ap, append_assoc}
 use Rattle.std.specs.List.{flat_map}
 use Rattle.std.specs.Option.{option_map_or}
 use Rattle.std.proofs.lemmas.Grind.{flat_map-append}
@@ -31,10 +31,9 @@ module _ (happened : List (List ℕ)) (answer : Answer) (now : Option Change) wh
   outcome_more : (sent more : List Sent)
       → outcome_text happened answer now sent ++ flat_map sent_line more ≡ outcome_text happened answer now (sent ++ more)
   outcome_more sent more =
-      append_assoc (answered_line happened answer) (change_text now ++ flat_map sent_line sent) (flat_map sent_line more)
-      ∙ ap (λ (l : List ℕ). answered_line happened answer ++ l)
-      (append_assoc (change_text now) (flat_map sent_line sent) (flat_map sent_line more)
-      ∙ ap (λ (l : List ℕ). change_text now ++ l) (sym (flat_map-append sent_line sent more)))
+      let front : List ℕ = answered_line happened answer ++ change_text now in
+      append_assoc front (flat_map sent_line sent) (flat_map sent_line more)
+      ∙ ap (λ (l : List ℕ). front ++ l) (sym (flat_map-append sent_line sent more))
 
   -- one more
   pub next_line : (network : NetworkParts) (count upto number : ℕ) → count ≤ upto → upto < length network.datagrams → number ≡ suc upto

@@ -1,10 +1,9 @@
 -- What is printed of a text, piece by piece: for the events of a run and for its end.
-use Rattle.std.proofs.Common.{◌≡◌, ◌∙◌, ℕ, ◌<◌, ◌+◌, List, [], ◌∷◌, ◌++◌, length, length-append, Option, Result, Ok, Err, refl, sym, ap}
+use Rattle.std.proofs.Common.{◌≡◌, ◌∙◌, ℕ, ◌<◌, List, [], ◌++◌, length, length-append, Option, Result, Ok, Err, refl, sym, ap}
 use Rattle.std.proofs.Common.{subst, append_assoc, arith}
 use Rattle.std.specs.Prelude.{IfErr}
 use Rattle.std.proofs.lemmas.List.{append-nil}
 use Rattle.std.proofs.KnownBytes.{Appends-nil, Appends-trans}
-use Rattle.std.specs.Io.KnownBytes.{Appends}
 use Rattle.xid.specs.declared.refusals.Refusal.{Refusal}
 use Rattle.net_script.specs.Writing.{BreaksOff}
 use Rattle.cluster_run.specs.Running.{Printed, Prints, PrintsShort, so_far}

@@ -1,10 +1,9 @@
 -- A script's run, from what its parts have made and printed.
-use Rattle.std.proofs.Common.{◌≡◌, ◌∙◌, ℕ, ◌<◌, ◌≤◌, true, List, [], ◌∷◌, ◌++◌, length, length-append, map}
+use Rattle.std.proofs.Common.{◌≡◌, ◌∙◌, ℕ, ◌<◌, true, List, [], ◌∷◌, ◌++◌, length, map}
 use Rattle.std.proofs.Common.{Option, Result, Ok, Err, refl, sym, ap}
 use Rattle.std.proofs.Common.{subst, append_assoc, inl, inr, arith}
 use Rattle.std.specs.Io.KnownBytes.{Appends}
 use Rattle.std.specs.Prelude.{IfErr, OnOk}
-use Rattle.std.specs.List.{flat_map}
 use Rattle.std.proofs.KnownBytes.{Appends-trans}
 use Rattle.std.proofs.lemmas.List.Folds.{flat_map-map}
 use Rattle.std.proofs.lemmas.List.FromFn.{length-map-range_with_len}
@@ -12,11 +11,11 @@ use Rattle.xid.specs.declared.refusals.Refusal.{Refusal}
 use Rattle.xid.specs.declared.refusals.Refusal.TheVariants.{NoMemory}
 use Rattle.cluster_run.specs.Words.{Row}
 use Rattle.cluster_run.specs.Happenings.{AreOfMemory, AreDoneBy}
-use Rattle.cluster_run.specs.Running.{IsRunning, Prints, PrintsShort, GoesOn, StopsIn, lines_from, so_far}
-use Rattle.cluster_run.specs.Runs.{is_in_limits, BreaksRunOff, IsRunOf, PrintsRunOf, StopsRunOf}
+use Rattle.cluster_run.specs.Running.{IsRunning, Prints, GoesOn, StopsIn, lines_from, so_far}
+use Rattle.cluster_run.specs.Runs.{is_in_limits, IsRunOf, PrintsRunOf, StopsRunOf}
 use Rattle.cluster_run.specs.Traces.{config_for, config_of, each_manager, IsTraceOf, last_world}
 use Rattle.cluster_run.proofs.Configs.{some_managers}
-use Rattle.cluster_run.proofs.Printing.{breaks_off, prints_later, prints_more, prints_no_more, short_after}
+use Rattle.cluster_run.proofs.Printing.{breaks_off, prints_later, prints_more, short_after}
 use Rattle.cluster_run.proofs.Safe.{safe_ever}
 use Rattle.cluster_run.proofs.Traces.{is_serial, looks_back}
 use Rattle.protocol.specs.Effects.{Config}
@@ -27,8 +26,8 @@ use Rattle.net_script.specs.declared.values.Entry.{Entry}
 use Rattle.net_script.specs.declared.values.Script.{Script}
 use Rattle.net_script.specs.declared.values.Table.{Table}
 use Rattle.net_script.specs.declared.values.Trace.{Trace}
-use Rattle.net_script.specs.Traces.{entry_text, final_lines, head_text, step_text}
-use Rattle.net_script.specs.Writing.{BreaksOff, IsFileRefusal, WritesText}
+use Rattle.net_script.specs.Traces.{entry_text, final_lines, head_text}
+use Rattle.net_script.specs.Writing.{WritesText}
 
 -- ---- the text of a run
 

@@ -5,7 +5,7 @@ use Rattle.std.proofs.lemmas.List.{append-nil, length_push}
 use Rattle.cluster_run.specs.Words.{Deliver, Event, Step}
 use Rattle.cluster_run.specs.Happenings.{IsOfMemory, AreOfMemory, IsNext, AreNext, IsFlow, IsDoneBy, AreDoneBy}
 use Rattle.cluster_run.specs.Running.{IsRunning, Printed, Prints, PrintsShort, ComesTo, GoesOn, FallsShort, lines_from, so_far}
-use Rattle.cluster_run.proofs.Completing.{commands_on, done_on, flow_after, flow_on, lines_more, next_on}
+use Rattle.cluster_run.proofs.Completing.{commands_on, done_on, flow_after, flow_on, lines_more}
 use Rattle.cluster_run.proofs.Happening.{after_more, memory_more, next_more, done_more}
 use Rattle.cluster_run.proofs.Printing.{prints_later, prints_more, prints_no_more, prints_none, short_after, short_before}
 use Rattle.protocol.specs.Effects.{Config}

@@ -44,8 +44,8 @@ fn write_lines(
 ) -> Result<(), Refusal>
     ensures { Puts piece.old.items piece.new.items result (step_text (record {
       event = event.now;
-      answer = answered.now.answer;
-      now = answered.now.now;
+      answer = answered.entry.now.answer;
+      now = answered.entry.now.now;
       sent = sent_after before cluster.now.network;
     })) }
 {
@@ -122,16 +122,16 @@ fn carry_out<W: Write>(
     written: &mut WrittenTx,
     piece: &mut Vec<u8>,
     out: &mut W,
-    command: &Command,
+    command: Command,
 ) -> Result<(), Refusal>
-    ensures ok { OnOk result (GoesOn (λ config world. IsDoneBy config world command.now) cluster.old cluster.new
+    ensures ok { OnOk result (GoesOn (λ config world. IsDoneBy config world command) cluster.old cluster.new
         (so_far piece.old.items (W.contents out.old)) (so_far piece.new.items (W.contents out.new))) }
-    ensures err { IfErr result (StopsIn (λ config world. IsDoneBy config world command.now) cluster.old
+    ensures err { IfErr result (StopsIn (λ config world. IsDoneBy config world command) cluster.old
         (so_far piece.old.items (W.contents out.old)) (W.contents out.new)) }
 {
     match command {
-        Command::Do(event) => happen(cluster, answered, written, piece, out, event),
-        Command::Flow(count) => flow(cluster, answered, written, piece, out, *count),
+        Command::Do(event) => happen(cluster, answered, written, piece, out, &event),
+        Command::Flow(count) => flow(cluster, answered, written, piece, out, count),
     }
 }
 
@@ -152,7 +152,7 @@ pub fn carry_out_all<W: Write>(
     let mut answered = Answered::nothing();
     let mut written = WrittenTx::none(alloc);
     for command in commands {
-        carry_out(cluster, &mut answered, &mut written, piece, out, &command)?;
+        carry_out(cluster, &mut answered, &mut written, piece, out, command)?;
     }
     Ok(())
 }

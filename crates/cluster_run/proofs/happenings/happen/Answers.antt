@@ -6,7 +6,7 @@ use Rattle.net_script.specs.Traces.{step_text}
 use Rattle.net_script.specs.Writing.{IsFileRefusal}
 use Rattle.cluster_run.specs.Happenings.{IsDoneBy}
 use Rattle.cluster_run.specs.Running.{PrintsShort, StopsIn, so_far}
-use Rattle.cluster_run.specs.Words.{Event, Answer, Step}
+use Rattle.cluster_run.specs.Words.{Step}
 use Rattle.cluster_run.proofs.Configs.{handed_on}
 use Rattle.cluster_run.proofs.Printing.{if_err_more}
 use Rattle.cluster_run.proofs.Stepping.{happens_on, happens_unprinted, happens_unwritten}
