@@ -1,12 +1,12 @@
 -- Lines of several kinds, each begun by a word of its own: what comes after it. The readers of such lines need it, and their laws.
-use Rattle.std.proofs.Common.{◌≡◌, ◌↔◌, IsTrue, ℕ, Bool, true, false, List, [], ◌∷◌, Result, Ok, Err, refl, Option, sym, ap, ◌∙◌}
+use Rattle.std.proofs.Common.{◌≡◌, ◌↔◌, IsTrue, ℕ, Bool, true, false, List, [], ◌∷◌, Result, Ok, Err, refl, Option, sym, ap, subst, ◌∙◌}
 use Rattle.std.specs.List.{AllByRecursion}
 use Rattle.std.specs.Result.{IsErrAnd}
 use Rattle.std.proofs.lemmas.Result.{err_from_is_err_and}
 use Rattle.std.specs.Str.{bytes_eq}
-use Rattle.net_script.specs.Basics.{Stop, Wrong, Memory, Refusal}
+use Rattle.net_script.specs.Basics.{Stop, Wrong, Memory, Refusal, NoMemory, BadScript}
 use Rattle.net_script.specs.Lines.{Reads}
-use Rattle.net_script.specs.Spelling.{Finds, or_none, IsCommon, AreSpellings}
+use Rattle.net_script.specs.Spelling.{Finds, or_none, at_line, IsCommon, AreSpellings}
 use Rattle.net_script.proofs.WordLemmas.{differ}
 
 -- a line that is made of a value, whose words these are
@@ -78,6 +78,14 @@ pub passes : {X Y V W : Type 0} {a b : Bool} {fit : X → Type 0} {text : X → 
     → Finds b IsIn words given r
 passes more fails d r from none = let p = err_from_is_err_and r from in rw (p.1, p.2) (unread more fails d none)
 
+-- the same of what says more than that nothing was read
+pub passes_on : {X Y V : Type 0} {a : Bool} {fit : X → Type 0} {text : X → V} {args : V} (P : Result Y Stop → Type 0) → (a ≡ true → P (Err Memory))
+    → (((x : X) → fit x → args ≡ text x → ⊥) → P (Err Wrong)) → (d : Stop) (r : Result Y Stop)
+    → IsErrAnd r (λ e. e ≡ d) → Finds a fit text args (Err d)
+    → P r
+passes_on P memory wrong Wrong r from none = let p = err_from_is_err_and r from in subst P (sym (p.1 ∙ ap Err p.2)) (wrong none)
+passes_on P memory wrong Memory r from none = let p = err_from_is_err_and r from in subst P (sym (p.1 ∙ ap Err p.2)) (memory none)
+
 -- the words after a first one
 pub arm_fails : {X Y : Type 0} {a b : Bool} {fit : X → Type 0} {texts : X → List (List ℕ)} {IsIn : Y → Type 0} {words : Y → List (List ℕ)}
     {name : List ℕ} {make : X → Y}
@@ -105,3 +113,19 @@ pub found : {X W : Type 0} (a : Bool) (fits : X → Type 0) (text : X → W) (gi
 found a fits text given (Ok x) same h = rw same h
 found a fits text given (Err Wrong) same h = rw same h
 found a fits text given (Err Memory) same h = rw same
+
+-- ---- what was found in a line, and the refusal of that line
+
+pub at_line_ok : {X : Type 0} (line : ℕ) (r : Result X Stop) (x : X) → at_line line r ≡ Ok x → r ≡ Ok x
+at_line_ok line (Ok y) x e =
+    let same : y ≡ x = cc in
+    ap Ok same
+at_line_ok line (Err Wrong) x e = absurd (cc)
+at_line_ok line (Err Memory) x e = absurd (cc)
+
+-- where nothing was found, the line is refused, or memory ran out
+pub refused_at : {X : Type 0} (line : ℕ) (r : Result X Stop) (e : Refusal) (P : Refusal → Type 0) → at_line line r ≡ Err e → P NoMemory
+    → (r ≡ Err Wrong → P (BadScript line)) → P e
+refused_at line (Ok x) e P was memory wrong = absurd (cc)
+refused_at line (Err Wrong) e P was memory wrong = let same : BadScript line ≡ e = cc in subst P same (wrong refl)
+refused_at line (Err Memory) e P was memory wrong = let same : NoMemory ≡ e = cc in subst P same memory

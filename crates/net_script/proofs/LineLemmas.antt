@@ -1,15 +1,15 @@
 -- The lines of a text, as far as they were read.
 use Rattle.std.proofs.Common.{suc, ◌≡◌, ℕ, ◌+◌, ◌<◌, ◌≤◌, Bool, true, false, not, List, [], ◌∷◌, ◌++◌, length, take, map, refl, sym, ap}
-use Rattle.std.proofs.Common.{◌∙◌, arith, inl, inr, Option, Some, None, Ok}
+use Rattle.std.proofs.Common.{◌∙◌, arith, inl, inr, Option, Some, None, Ok, Err}
 use Rattle.std.specs.List.{All, list_all}
 use Rattle.std.proofs.lemmas.List.{append-nil, map-append, length-append, take_at, append_assoc, length_push}
 use Rattle.std.proofs.lemmas.List.Elements.{filter-append, All-nil}
 use Rattle.xid.proofs.Texts.{first_true, second_true}
 use Rattle.std.proofs.lemmas.List.Folds.{list_all-append}
-use Rattle.net_script.specs.Basics.{Script, Item}
+use Rattle.net_script.specs.Basics.{Wrong, Script, Item}
 use Rattle.net_script.specs.Lines.{lines, words, is_plain, IsFirstPiece}
 use Rattle.net_script.specs.Items.{IsItem, item_words}
-use Rattle.net_script.specs.Scripts.{is_note, lines_kept, script_items, SpelledBy, CanBegin, IsFirstFault, items_so_far, ReadsLine}
+use Rattle.net_script.specs.Scripts.{is_note, lines_kept, script_items, SpelledBy, CanBegin, IsScriptFault, items_so_far, ReadsLine}
 use Rattle.net_script.specs.Scripts.{IsLineOf}
 use Rattle.net_script.proofs.ScriptLemmas.{items_have_one_text, items_valid}
 use Rattle.net_script.proofs.OneText.{texts_go_on}
@@ -55,45 +55,43 @@ so_far_say seen (Some s) said = record { plain = said.plain; says = said.says; v
 
 so_far_begins : (seen : List (List ℕ)) (script : Option Script) → SoFar seen script → CanBegin seen
 so_far_begins seen None said = inl said
-so_far_begins seen (Some s) said = inr (s, said)
+so_far_begins seen (Some s) said = inr ([], s, rw append-nil said)
 
 said_more : (seen more : List (List ℕ)) (line : List ℕ) (script : Option Script) (s : Script)
-    → lines_kept more ≡ lines_kept seen ++ line ∷ [] → SoFar seen script → ReadsLine (items_so_far script) line (Ok (Some s))
+    → lines_kept more ≡ lines_kept seen ++ line ∷ [] → SoFar seen script → ReadsLine (items_so_far script) line (Ok s)
     → SpelledBy more s
-said_more seen more line script s kept said read =
+said_more seen more line script s kept said (item, is, own, on) =
     let before = so_far_say seen script said in
     record {
-      plain = simp (kept, list_all-append, before.plain, read.3.0);
+      plain = simp (kept, list_all-append, before.plain, own.0);
       says = ap (map words) kept ∙ map-append words (lines_kept seen) (line ∷ [])
-          ∙ (rw (before.says, read.3.1) (sym (ap (map item_words) read.4 ∙ map-append item_words (items_so_far script) (read.1 ∷ []))));
-      valid = read.0;
+          ∙ (rw (before.says, own.1) (sym (ap (map item_words) on.1 ∙ map-append item_words (items_so_far script) (item ∷ []))));
+      valid = on.0;
     }
 
 nil_not_push : {X : Type 0} (xs : List X) (x : X) → xs ++ x ∷ [] ≡ [] → ⊥
 nil_not_push [] x e = absurd (cc)
 nil_not_push (y ∷ xs) x e = absurd (cc)
 
-mapped_nil : (items : List Item) → [] ≡ map item_words items → items ≡ []
-mapped_nil [] e = refl
-mapped_nil (item ∷ items) e = absurd (cc)
-
 fails_more : (seen more : List (List ℕ)) (line : List ℕ) (script : Option Script) → lines_kept more ≡ lines_kept seen ++ line ∷ []
-    → SoFar seen script → ReadsLine (items_so_far script) line (Ok None)
+    → SoFar seen script → ReadsLine (items_so_far script) line (Err Wrong)
     → CanBegin more → ⊥
 fails_more seen more line script kept said read (inl none) = nil_not_push (lines_kept seen) line (sym kept ∙ none)
-fails_more seen more line script kept said read (inr (s, spelled)) =
+fails_more seen more line script kept said read (inr (rest, s, spelled)) =
     let before = so_far_say seen script said in
-    let says : map item_words (items_so_far script) ++ words line ∷ [] ≡ map item_words (script_items s) =
-    rw (← before.says) (sym (map-append words (lines_kept seen) (line ∷ [])) ∙ ap (map words) (sym kept) ∙ spelled.says) in
-    let on = texts_go_on items_have_one_text (items_so_far script) (script_items s) (words line) []
+    let all : lines_kept (more ++ rest) ≡ lines_kept seen ++ line ∷ lines_kept rest =
+    filter-append is_kept more rest ∙ ap (λ (l : List (List ℕ)). l ++ lines_kept rest) kept
+    ∙ append_assoc (lines_kept seen) (line ∷ []) (lines_kept rest) in
+    let says : map item_words (items_so_far script) ++ words line ∷ map words (lines_kept rest) ≡ map item_words (script_items s) =
+    rw (← before.says)
+    (sym (map-append words (lines_kept seen) (line ∷ lines_kept rest)) ∙ sym (ap (map words) all) ∙ spelled.says) in
+    let on = texts_go_on items_have_one_text (items_so_far script) (script_items s) (words line) (map words (lines_kept rest))
     (before.valid, items_valid s spelled.valid) says in
-    let last : on.later ≡ [] = mapped_nil on.later on.says_later in
-    let own : list_all is_plain line ≡ true = first_true (list_all is_plain line) true
-    (second_true (list_all (list_all is_plain) (lines_kept seen)) (list_all (list_all is_plain) (line ∷ []))
-    (simp (kept, list_all-append) at spelled.plain)) in
-    let parts : script_items s ≡ items_so_far script ++ on.next ∷ on.later = on.parts in
-    let whole : script_items s ≡ items_so_far script ++ on.next ∷ [] = cc in
-    read on.next on.valid (own, on.says) s spelled.valid whole
+    let plain = ap (list_all (list_all is_plain)) (sym all) ∙ spelled.plain in
+    let own : list_all is_plain line ≡ true = first_true (list_all is_plain line) (list_all (list_all is_plain) (lines_kept rest))
+    (second_true (list_all (list_all is_plain) (lines_kept seen)) (list_all (list_all is_plain) (line ∷ lines_kept rest))
+    (sym (list_all-append (list_all is_plain) (lines_kept seen) (line ∷ lines_kept rest)) ∙ plain)) in
+    read on.next on.valid (own, on.says) on.later s spelled.valid on.parts
 
 -- ---- the loop
 
@@ -136,7 +134,7 @@ step_passed {bytes = bytes} {number = number} {script = script} so first note =
 
 pub step_said : {bytes rest line after : List ℕ} {number : ℕ} {script : Option Script} (s : Script)
     → Progress bytes rest number script → IsFirstPiece 10 rest line after → is_note (words line) ≡ false
-    → ReadsLine (items_so_far script) line (Ok (Some s)) → Progress bytes after (number + 1) (Some s)
+    → ReadsLine (items_so_far script) line (Ok s) → Progress bytes after (number + 1) (Some s)
 step_said {bytes = bytes} {line = line} {number = number} {script = script} s so first note read =
     let next = next_line so.reached first in
     let said = said_more (front bytes number) (front bytes (number + 1)) line script s (next.kept note) so.said read in
@@ -144,7 +142,7 @@ step_said {bytes = bytes} {line = line} {number = number} {script = script} s so
 
 pub step_fails : {bytes rest line after : List ℕ} {number : ℕ} {script : Option Script}
     → Progress bytes rest number script → IsFirstPiece 10 rest line after → is_note (words line) ≡ false
-    → ReadsLine (items_so_far script) line (Ok None) → IsFirstFault bytes (number + 1)
+    → ReadsLine (items_so_far script) line (Err Wrong) → IsScriptFault bytes (number + 1)
 step_fails {bytes = bytes} {line = line} {number = number} {script = script} so first note read =
     let next = next_line so.reached first in
     inl (record {

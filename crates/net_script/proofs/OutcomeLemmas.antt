@@ -17,9 +17,13 @@ use Rattle.net_script.specs.Events.{IsNode, IsEvent, event_words}
 use Rattle.net_script.specs.Answers.{IsAnswer, answer_words}
 use Rattle.net_script.specs.Traces.{joined_words, spaced_words, serve_words}
 use Rattle.net_script.specs.TraceLines.{IsOutcome, is_tidy, trace_line_words}
-use Rattle.net_script.proofs.CleanWords.{IsClean, IsCommon, lacks_head, all_clean, all_join, event_common, serve_common, answer_common}
+use Rattle.net_script.specs.Spelling.{IsClean, IsCommon}
+use Rattle.net_script.specs.Laws.{all_join}
+use Rattle.net_script.proofs.EventLemmas.{event_said}
+use Rattle.net_script.proofs.AnswerLemmas.{answer_said}
+use Rattle.net_script.proofs.CleanWords.{lacks_head, all_clean}
 use Rattle.net_script.proofs.TidyText.{tidy_is_joined, tidy_parts, joined_arrow}
-use Rattle.net_script.proofs.TraceLineLemmas.{words_of_joined}
+use Rattle.net_script.proofs.TraceLineLemmas.{serve_common, words_of_joined}
 
 -- ---- a text cut at an arrow's head
 
@@ -96,9 +100,9 @@ joined_lacks [] are = refl
 joined_lacks (w ∷ ws) are = lacks_join w (spaced_words ws) (lacks_head w are.0.bytes) (spaced_lacks ws are.1)
 
 -- words of which there is at least one
-record AreSome (ws : List (List ℕ)) : Type 0 where
-  some : 0 < length ws
-  each : AllByRecursion IsCommon ws
+pub record AreSome (ws : List (List ℕ)) : Type 0 where
+  pub some : 0 < length ws
+  pub each : AllByRecursion IsCommon ws
 
 arrow_text : (ws vs : List (List ℕ)) → AreSome ws → AreSome vs
     → joined_words (ws ++ codes "->" ∷ vs) ≡ joined_words ws ++ (32 ∷ 45 ∷ 62 ∷ 32 ∷ joined_words vs)
@@ -145,39 +149,56 @@ parts_make ws vs line front back are tidy cut p q =
 
 -- ---- what happened, and its answer
 
-event_some : (e : Event) → IsEvent e → AreSome (event_words e)
-event_some e is = record { some = omega arith; each = event_common e is }
+-- what tells of an event or of a serve: words, an arrow, and the words of an answer
+pub record Doing (said : TraceLine) : Type 0 where
+  pub happened : List (List ℕ)
+  pub answer : Answer
+  pub are : AreSome happened × AreSome (answer_words answer)
+  pub is : IsAnswer answer
+  pub parts : trace_line_words said ≡ happened ++ codes "->" ∷ answer_words answer
 
-serve_some : (n : NodeId) → IsNode n → AreSome (serve_words n)
-serve_some n is = record { some = omega arith; each = serve_common n is }
-
-answer_some : (a : Answer) → IsAnswer a → AreSome (answer_words a)
-answer_some a is = record { some = omega arith; each = answer_common a is }
+abbrev pub doing : (said : TraceLine) → IsOutcome said → Doing said
+doing (Happened e a) p = record {
+  happened = event_words e;
+  answer = a;
+  are = (record { some = omega arith; each = (event_said e p.0).common }, record { some = omega arith; each = (answer_said a p.1).common });
+  is = p.1;
+  parts = refl;
+}
+doing (Served n a) p = record {
+  happened = serve_words n;
+  answer = a;
+  are = (record { some = omega arith; each = serve_common n p.0 }, record { some = omega arith; each = (answer_said a p.1).common });
+  is = p.1;
+  parts = refl;
+}
+doing said p = absurd p
 
 -- a line with no arrow
 pub arrow_fails : (line : List ℕ) → is_tidy line ≡ true
     → ((front back : List ℕ) → lacks 62 front ≡ true → line ≡ front ++ (32 ∷ 45 ∷ 62 ∷ 32 ∷ back) → ⊥)
     → (said : TraceLine) → IsOutcome said → words line ≡ trace_line_words said → ⊥
-arrow_fails line tidy none (Happened e a) is x =
-    let ws = event_some e is.0 in
-    none (joined_words (event_words e)) (joined_words (answer_words a)) (joined_lacks (event_words e) ws.each)
-    (line_cut (event_words e) (answer_words a) line ws (answer_some a is.1) tidy x)
-arrow_fails line tidy none (Served n a) is x =
-    let ws = serve_some n is.0 in
-    none (joined_words (serve_words n)) (joined_words (answer_words a)) (joined_lacks (serve_words n) ws.each)
-    (line_cut (serve_words n) (answer_words a) line ws (answer_some a is.1) tidy x)
-arrow_fails line tidy none said is x = absurd is
+arrow_fails line tidy none said p x =
+    let does = doing said p in
+    none (joined_words does.happened) (joined_words (answer_words does.answer)) (joined_lacks does.happened does.are.0.each)
+    (line_cut does.happened (answer_words does.answer) line does.are.0 does.are.1 tidy (x ∙ does.parts))
+
+-- the words on both sides of a line's arrow
+pub outcome_parts : (line front back : List ℕ) → is_tidy line ≡ true
+    → (line ≡ front ++ (32 ∷ 45 ∷ 62 ∷ 32 ∷ back)) × (lacks 62 front ≡ true)
+    → (said : TraceLine) → (p : IsOutcome said) → words line ≡ trace_line_words said
+    → (words front ≡ (doing said p).happened) × (words back ≡ answer_words (doing said p).answer)
+outcome_parts line front back tidy cut said p x =
+    let does = doing said p in
+    parts_are does.happened (answer_words does.answer) line front back does.are tidy (x ∙ does.parts) cut
 
 -- a line whose answer is none
 pub answer_fails : (line front back : List ℕ) → is_tidy line ≡ true
     → (line ≡ front ++ (32 ∷ 45 ∷ 62 ∷ 32 ∷ back)) × (lacks 62 front ≡ true)
     → ((a : Answer) → IsAnswer a → words back ≡ answer_words a → ⊥)
     → (said : TraceLine) → IsOutcome said → words line ≡ trace_line_words said → ⊥
-answer_fails line front back tidy cut none (Happened e a) is x =
-    none a is.1 (parts_are (event_words e) (answer_words a) line front back (event_some e is.0, answer_some a is.1) tidy x cut).1
-answer_fails line front back tidy cut none (Served n a) is x =
-    none a is.1 (parts_are (serve_words n) (answer_words a) line front back (serve_some n is.0, answer_some a is.1) tidy x cut).1
-answer_fails line front back tidy cut none said is x = absurd is
+answer_fails line front back tidy cut none said p x =
+    none (doing said p).answer (doing said p).is (outcome_parts line front back tidy cut said p x).1
 
 -- a line that tells neither of a serve nor of an event
 pub event_fails : (line front back : List ℕ) → is_tidy line ≡ true
@@ -185,28 +206,18 @@ pub event_fails : (line front back : List ℕ) → is_tidy line ≡ true
     → ((n : NodeId) → IsNode n → words front ≡ serve_words n → ⊥)
     → ((e : Event) → IsEvent e → words front ≡ event_words e → ⊥)
     → (said : TraceLine) → IsOutcome said → words line ≡ trace_line_words said → ⊥
-event_fails line front back tidy cut no-node no-event (Happened e a) is x =
-    no-event e is.0 (parts_are (event_words e) (answer_words a) line front back (event_some e is.0, answer_some a is.1) tidy x cut).0
-event_fails line front back tidy cut no-node no-event (Served n a) is x =
-    no-node n is.0 (parts_are (serve_words n) (answer_words a) line front back (serve_some n is.0, answer_some a is.1) tidy x cut).0
-event_fails line front back tidy cut no-node no-event said is x = absurd is
+event_fails line front back tidy cut no-node no-event (Happened e a) p x =
+    no-event e p.0 (outcome_parts line front back tidy cut (Happened e a) p x).0
+event_fails line front back tidy cut no-node no-event (Served n a) p x =
+    no-node n p.0 (outcome_parts line front back tidy cut (Served n a) p x).0
+event_fails line front back tidy cut no-node no-event said p x = absurd p
 
-pub event_told : (line front back : List ℕ) (e : Event) (a : Answer) → is_tidy line ≡ true
-    → line ≡ front ++ (32 ∷ 45 ∷ 62 ∷ 32 ∷ back)
-    → IsEvent e × (words front ≡ event_words e) → IsAnswer a × (words back ≡ answer_words a)
-    → IsOutcome (Happened e a) × (words line ≡ trace_line_words (Happened e a))
-event_told line front back e a tidy cut event answer = (
-  (event.0, answer.0),
-  parts_make (event_words e) (answer_words a) line front back (event_some e event.0, answer_some a answer.0) tidy cut
-      event.1 answer.1,
-)
-
-pub serve_told : (line front back : List ℕ) (n : NodeId) (a : Answer) → is_tidy line ≡ true
-    → line ≡ front ++ (32 ∷ 45 ∷ 62 ∷ 32 ∷ back)
-    → IsNode n × (words front ≡ serve_words n) → IsAnswer a × (words back ≡ answer_words a)
-    → IsOutcome (Served n a) × (words line ≡ trace_line_words (Served n a))
-serve_told line front back n a tidy cut node answer = (
-  (node.0, answer.0),
-  parts_make (serve_words n) (answer_words a) line front back (serve_some n node.0, answer_some a answer.0) tidy cut
-      node.1 answer.1,
-)
+-- a line whose parts say so
+pub outcome_told : (line front back : List ℕ) (said : TraceLine) → is_tidy line ≡ true → line ≡ front ++ (32 ∷ 45 ∷ 62 ∷ 32 ∷ back)
+    → (p : IsOutcome said) → words front ≡ (doing said p).happened → words back ≡ answer_words (doing said p).answer
+    → IsOutcome said × (words line ≡ trace_line_words said)
+outcome_told line front back said tidy cut p happened answer =
+    let does = doing said p in (
+      p,
+      parts_make does.happened (answer_words does.answer) line front back does.are tidy cut happened answer ∙ sym does.parts,
+    )

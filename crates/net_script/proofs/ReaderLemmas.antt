@@ -2,20 +2,22 @@
 -- `TraceReader`.
 use Rattle.std.proofs.Common.{◌≡◌, ℕ, ◌+◌, ◌<◌, ◌≤◌, Bool, true, false, not, cond, eqb, ltb, List, [], ◌∷◌, ◌++◌, length, inl, inr, Option}
 use Rattle.std.proofs.Common.{None, Some, refl, sym, ap, subst, ◌∙◌, arith, eqb-true}
-use Rattle.std.specs.Prelude.{Result, Ok, Err, is_some, IfErr}
+use Rattle.std.specs.Prelude.{Result, Ok, Err, IfErr}
 use Rattle.std.specs.Option.{option_map}
 use Rattle.std.proofs.lemmas.Bool.{and_parts, not-true}
 use Rattle.std.proofs.lemmas.Option.{same_Some}
 use Rattle.std.proofs.lemmas.List.{length-append, length_push, map_push}
 use Rattle.xid.specs.Text.{lacks}
-use Rattle.net_script.specs.Basics.{Refusal, Change, Sent, BadScript, BadConfig, Table, Entry, Trace, LastEntry, SoFar, TraceLine}
+use Rattle.net_script.specs.Basics.{Refusal, TxParts, Change, Sent, BadScript, BadConfig, Table, Entry, Trace, LastEntry, SoFar, TraceLine}
 use Rattle.net_script.specs.declared.trace_lines.TraceLine.TheVariants.{Cluster, Contents, Happened, Served, Changed, Datagram, Final}
 use Rattle.net_script.specs.Items.{is_in_limits}
 use Rattle.net_script.specs.TraceLines.{IsTraceLine, trace_line_text}
 use Rattle.net_script.specs.TraceReading.{RefusesTrace}
 use Rattle.net_script.specs.TraceReaders.{told_of, told_by, last_of, so_far_of, is_missing, is_alone, may_follow, after_line, follow}
 use Rattle.net_script.specs.TraceReaders.{bare_step, with_now, with_sent, at_last, grown, begun_with, ReaderParts, HasRead, ReadsOn, IsRead}
-use Rattle.net_script.specs.TraceReaders.{GivesNext}
+use Rattle.net_script.specs.TraceReaders.{as_line, Follows, GivesHeard}
+use Rattle.net_script.specs.declared.said.Heard.{Heard}
+use Rattle.net_script.specs.Telling.{IsHeard}
 use Rattle.net_script.proofs.TraceLineLemmas.{line_text_words, line_injective}
 use Rattle.net_script.proofs.DraftLemmas.{last_push, alone}
 use Rattle.net_script.proofs.TraceLoop.{Told, unended_fault, line_fault, line_told, nothing_fault, missing_fault, all_told}
@@ -101,7 +103,7 @@ none_kept (Some t) e = absurd (cc)
 -- a line that can't follow
 pub unfit_line : {r : ReaderParts} {trace : Option Trace} (line after : List ℕ) (said : TraceLine) → HasRead r trace
     → (r.rest ≡ line ++ 10 ∷ after) × (lacks 10 line ≡ true)
-    → IsTraceLine said → line ≡ trace_line_text said → false ≡ is_some (follow r.so_far said)
+    → IsTraceLine said → line ≡ trace_line_text said → follow r.so_far said ≡ None
     → RefusesTrace r.bytes (BadScript (r.number + 1))
 unfit_line {r = r} {trace = trace} line after said so cut is says unfit =
     inr (inl (
@@ -111,31 +113,22 @@ unfit_line {r = r} {trace = trace} line after said so cut is says unfit =
           let same : said ≡ other =
           line_injective said other is range (sym (line_text_words said line is says) ∙ line_text_words other line range e) in
           none_kept (begun_with trace other)
-          (follows_so trace other ∙ ap (λ s. follow s other) (sym so.kept) ∙ ap (follow r.so_far) (sym same) ∙ nothing _ unfit)),
+          (follows_so trace other ∙ ap (λ s. follow s other) (sym so.kept) ∙ ap (follow r.so_far) (sym same) ∙ unfit)),
     ))
-  where
-    nothing : (o : Option SoFar) → false ≡ is_some o → o ≡ None
-    nothing None e = refl
-    nothing (Some s) e = absurd (cc (e))
 
 some_kept : (o : Option Trace) (s : SoFar) → option_map so_far_of o ≡ Some s → (t : Trace) × (o ≡ Some t)
 some_kept None s e = absurd (cc)
 some_kept (Some t) s e = (t, refl)
 
-something : (o : Option SoFar) → true ≡ is_some o → (s : SoFar) × (o ≡ Some s)
-something None e = absurd (cc (e))
-something (Some s) e = (s, refl)
-
 -- a line that follows
 pub fit_line : {r new : ReaderParts} {trace : Option Trace} (line : List ℕ) (said : TraceLine) → HasRead r trace
     → (r.rest ≡ line ++ 10 ∷ new.rest) × (lacks 10 line ≡ true)
-    → IsTraceLine said → line ≡ trace_line_text said → true ≡ is_some (follow r.so_far said) → new.so_far ≡ follow r.so_far said
-    → new.bytes ≡ r.bytes → new.number ≡ r.number + 1
+    → IsTraceLine said → line ≡ trace_line_text said → Follows r.so_far new.so_far said (Ok tt) → new.bytes ≡ r.bytes
+    → new.number ≡ r.number + 1
     → ReadsOn r new trace said
-fit_line {r = r} {new = new} {trace = trace} line said so cut is says some fits bytes number =
+fit_line {r = r} {new = new} {trace = trace} line said so cut is says (s, now, fits) bytes number =
     let after = follows_so trace said ∙ ap (λ k. follow k said) (sym so.kept) in
-    let kept = something (follow r.so_far said) some in
-    let got = some_kept (begun_with trace said) kept.0 (after ∙ kept.1) in
+    let got = some_kept (begun_with trace said) s (after ∙ fits) in
     let more = line_told line new.rest said got.0 (told so) cut is says got.1 in
     record {
       bytes = bytes;
@@ -146,9 +139,20 @@ fit_line {r = r} {new = new} {trace = trace} line said so cut is says some fits 
         text = bytes ∙ more.text;
         counted = more.counted ∙ sym number;
         valid = more.valid;
-        kept = fits ∙ sym after ∙ ap (option_map so_far_of) got.1;
+        kept = now ∙ sym (after ∙ fits) ∙ ap (option_map so_far_of) got.1;
       };
     }
+
+any_sent : (s : Option SoFar) (d e : Sent) → follow s (Datagram d) ≡ follow s (Datagram e)
+any_sent None d e = refl
+any_sent (Some s) d e = refl
+
+-- what is heard of a line follows as the line does
+pub heard_follows : (known : Option TxParts) (heard : Heard) (said : TraceLine) (s : Option SoFar) → IsHeard known heard said
+    → follow s said ≡ follow s (as_line heard)
+heard_follows known (Heard.Line line) said s h = ap (follow s) h
+heard_follows None (Heard.Datagram told) said s h = absurd h
+heard_follows (Some tx) (Heard.Datagram told) said s h = ap (follow s) h ∙ any_sent s _ _
 
 -- ---- all bytes are read
 
@@ -202,9 +206,9 @@ all_read s so none some enough within =
     record { whole = got.so_far; is = got.is; spelled = record { valid = all.0; limits = limits; text = all.1 } }
 
 -- what a reader refuses, its caller does
-pub refused_next : {X : Type 0} (bytes : List ℕ) (old new : ReaderParts) (trace : Option Trace) (r : Result (Option TraceLine) Refusal)
+pub refused_next : {X : Type 0} (bytes : List ℕ) (old new : ReaderParts) (trace : Option Trace) (r : Result (Option Heard) Refusal)
     (out : Result X Refusal) (e : Refusal)
-    → r ≡ Err e → out ≡ Err e → old.bytes ≡ bytes → GivesNext old new trace r
+    → r ≡ Err e → out ≡ Err e → old.bytes ≡ bytes → GivesHeard old new trace r
     → IfErr out (λ x. RefusesTrace bytes x)
 refused_next bytes old new trace (Ok x) out e is same all given = absurd (cc)
 refused_next bytes old new trace (Err x) (Ok y) e is same all given = tt

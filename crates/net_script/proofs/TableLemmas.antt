@@ -7,7 +7,7 @@ use Rattle.xid.specs.Text.{lacks}
 use Rattle.xid.proofs.Texts.{cut_same}
 use Rattle.stable_record.specs.Facts.{IsKey}
 use Rattle.net_script.specs.Basics.{IsBytes, hex_text, Row, Table}
-use Rattle.net_script.specs.RowLaws.{hex_lacks_equals, a_row}
+use Rattle.net_script.specs.LineLaws.{hex_lacks_equals, a_row}
 use Rattle.net_script.specs.Lines.{IsSome, bytes_text, row_text}
 use Rattle.net_script.specs.Items.{IsRow, IsContents, contents_words}
 use Rattle.net_script.specs.Spelling.{one_list}

@@ -10,7 +10,8 @@ use Rattle.net_script.specs.Lines.{pieces, words, is_word}
 use Rattle.net_script.specs.Traces.{spaced_words, joined_words}
 use Rattle.net_script.specs.TraceLines.{is_tidy_after, is_tidy}
 use Rattle.net_script.proofs.WordLemmas.{pieces-cut, pieces-whole}
-use Rattle.net_script.proofs.CleanWords.{IsClean, is_clean, lacks_space}
+use Rattle.net_script.specs.Spelling.{is_clean, IsClean}
+use Rattle.net_script.proofs.CleanWords.{lacks_space}
 
 pub either : (b : Bool) → (b ≡ true) ⊎ (b ≡ false)
 either true = inl refl

@@ -1,32 +1,28 @@
--- Each line of a trace says one thing.
+-- Each line of a trace says one thing, by words that are words: for the readers of lines, and for texts of lines.
 use Rattle.std.proofs.Common.{◌≡◌, ℕ, ◌<◌, Bool, true, false, Option, None, Some, List, [], ◌∷◌, ◌++◌, length, refl, sym, ap, subst}
 use Rattle.std.proofs.Common.{◌∙◌, arith, codes}
 use Rattle.std.specs.List.{AllByRecursion}
-use Rattle.std.proofs.lemmas.Fmt.{decimal_injective}
-use Rattle.net_script.specs.Basics.{TxParts, IsTx, tx_text, View, NodeId, R, Row, Answer, Change, Sent, Event, Kind}
-use Rattle.net_script.specs.declared.trace_lines.TraceLine.{TraceLine}
+use Rattle.net_script.specs.Basics.{TxParts, IsTx, tx_text, View, NodeId, R, Answer, Change, Sent, Event, TraceLine}
 use Rattle.net_script.specs.declared.trace_lines.TraceLine.TheVariants.{Cluster, Contents, Happened, Served, Changed, Datagram, Final}
-use Rattle.net_script.specs.declared.values.Sizes.{Sizes}
-use Rattle.net_script.specs.declared.values.Table.{Table}
-use Rattle.net_script.specs.Lines.{words, node_text}
-use Rattle.net_script.specs.Items.{IsSizes, IsContents, sizes_words, contents_words}
+use Rattle.net_script.specs.Lines.{words}
 use Rattle.net_script.specs.Events.{IsNode, IsEvent, event_word, event_words}
 use Rattle.net_script.specs.Answers.{IsAnswer, view_text, answer_words}
+use Rattle.net_script.specs.Spelling.{IsClean, IsCommon, IsSpelling, AreSpellings, no_words, ◌&◌, shaped}
+use Rattle.net_script.specs.Laws.{literal, all_join, a_number, a_node, manager_of, a_manager, a_tx}
+use Rattle.net_script.specs.LineLaws.{a_table, final_rows, a_sizes}
+use Rattle.net_script.specs.NameLemmas.{node_injective}
 use Rattle.net_script.specs.Traces.{joined_words, serve_words, change_words, sent_words}
-use Rattle.net_script.specs.TraceLines.{IsChange, IsSent, AreFinalRows, IsTraceLine, final_words, trace_line_words, trace_line_text}
-use Rattle.net_script.specs.TraceLines.{whole_line, is_tidy, Knows}
+use Rattle.net_script.specs.TraceLines.{IsChange, IsSent, IsTraceLine, trace_line_words, trace_line_text, whole_line, is_tidy, Knows}
 use Rattle.net_script.proofs.WordLemmas.{differ}
-use Rattle.net_script.specs.NameLemmas.{node_injective, manager_injective, tx_injective}
-use Rattle.net_script.proofs.OneText.{HasOneText, texts_injective}
-use Rattle.net_script.proofs.TableLemmas.{rows_have_one_text}
-use Rattle.net_script.proofs.EventLemmas.{event_apart, event_injective}
-use Rattle.net_script.proofs.ScriptLemmas.{sizes_injective, table_injective}
-use Rattle.net_script.proofs.AnswerLemmas.{answer_injective}
-use Rattle.net_script.proofs.MessageLemmas.{message_injective}
-use Rattle.net_script.proofs.CleanWords.{IsClean, IsCommon, event_common, line_clean}
+use Rattle.net_script.proofs.OneText.{HasOneText}
+use Rattle.net_script.proofs.Arms.{Arm, made_of, IsSaid, arm_said, apart}
+use Rattle.net_script.proofs.EventLemmas.{event_apart, event_said}
+use Rattle.net_script.proofs.AnswerLemmas.{answer_said}
+use Rattle.net_script.proofs.MessageLemmas.{a_message}
+use Rattle.net_script.proofs.CleanWords.{all_clean}
 use Rattle.net_script.proofs.TidyText.{words_joined, tidy_joined, tidy_is_joined}
 
--- ---- lines
+-- ---- words of lines
 
 view_injective : (v w : View) → view_text v ≡ view_text w → v ≡ w
 view_injective View.Working View.Working e = refl
@@ -35,30 +31,57 @@ view_injective View.Committed View.Committed e = refl
 view_injective View.Aborted View.Aborted e = refl
 view_injective v w e = absurd (differ _ _ e refl)
 
--- a change and a datagram of these parts
-abbrev change : (rm : ℕ) (tx : TxParts) (view : View) → Change
-change rm tx view = record { rm = rm; tx = tx; view = view }
+view_common : (v : View) → IsCommon (view_text v)
+view_common View.Working = literal refl refl
+view_common v = literal refl refl
 
-abbrev datagram : (number : ℕ) (sender receiver : NodeId) (message : Kind) → Sent
-datagram number sender receiver message = record { number = number; sender = sender; receiver = receiver; message = message }
+a_view : IsSpelling (λ (v : View). Unit {0}) view_text
+a_view = record { one = λ v w p q e. view_injective v w e; common = λ v p. view_common v }
 
-change_injective : (a b : Change) → IsChange a → IsChange b → change_words a ≡ change_words b → a ≡ b
-change_injective a b p q e =
-    let rm : a.rm ≡ b.rm = manager_injective a.rm b.rm p.rm q.rm (cc) in
-    let tx : a.tx ≡ b.tx = tx_injective a.tx b.tx p.tx q.tx (cc) in
-    let view : a.view ≡ b.view = view_injective a.view b.view (cc) in
-    let same : change a.rm a.tx a.view ≡ change b.rm b.tx b.view = cc in
-    same
+-- a changed view
+pub a_change : AreSpellings IsChange change_words
+a_change =
+    shaped (λ (c : Change). (manager_of c.rm, (c.tx, (c.view, tt)))) (λ said. record { rm = said.0.0; tx = said.1.0; view = said.1.1.0 })
+    (λ c. refl) (λ c p. (p.rm, (p.tx, (tt, tt)))) (a_manager & a_tx & a_view & no_words)
 
-sent_injective : (a b : Sent) → IsSent a → IsSent b → sent_words a ≡ sent_words b → a ≡ b
-sent_injective a b p q e =
-    let number : a.number ≡ b.number =
-    decimal_injective a.number b.number (omega (arith, p.number)) (omega (arith, q.number)) (cc) in
-    let sender : a.sender ≡ b.sender = node_injective a.sender b.sender p.sender q.sender (cc) in
-    let receiver : a.receiver ≡ b.receiver = node_injective a.receiver b.receiver p.receiver q.receiver (cc) in
-    let message : a.message ≡ b.message = message_injective a.message b.message p.message q.message (cc) in
-    let same : datagram a.number a.sender a.receiver a.message ≡ datagram b.number b.sender b.receiver b.message = cc in
-    same
+-- a datagram
+pub a_sent : AreSpellings IsSent sent_words
+a_sent =
+    shaped (λ (s : Sent). (s.number, (s.sender, (s.receiver, s.message))))
+    (λ said. record { number = said.0; sender = said.1.0; receiver = said.1.1.0; message = said.1.1.1 }) (λ s. refl)
+    (λ s p. (p.number, (p.sender, (p.receiver, p.message)))) (a_number & a_node & a_node & a_message)
+
+-- ---- what comes after each first word
+
+pub cluster_arm : Arm a_sizes IsTraceLine trace_line_words (codes "cluster") Cluster
+cluster_arm (Cluster s) p args e = made_of s p (cc) refl
+cluster_arm (Happened d a) p args e = absurd (event_apart (codes "cluster") d refl (cc))
+cluster_arm line p args e = absurd (apart _ _ e refl)
+
+pub table_arm : Arm a_table IsTraceLine trace_line_words (codes "table") Contents
+table_arm (Contents t) p args e = made_of t p (cc) refl
+table_arm (Happened d a) p args e = absurd (event_apart (codes "table") d refl (cc))
+table_arm line p args e = absurd (apart _ _ e refl)
+
+pub now_arm : Arm a_change IsTraceLine trace_line_words (codes "now") Changed
+now_arm (Changed c) p args e = made_of c p (cc) refl
+now_arm (Happened d a) p args e = absurd (event_apart (codes "now") d refl (cc))
+now_arm line p args e = absurd (apart _ _ e refl)
+
+pub sent_arm : Arm a_sent IsTraceLine trace_line_words (codes "sent") Datagram
+sent_arm (Datagram s) p args e = made_of s p (cc) refl
+sent_arm (Happened d a) p args e = absurd (event_apart (codes "sent") d refl (cc))
+sent_arm line p args e = absurd (apart _ _ e refl)
+
+pub final_arm : Arm (a_manager & final_rows) IsTraceLine trace_line_words (codes "final") (λ said. Final said.0.0 said.1.0)
+final_arm (Final rm rows) p args e = made_of (manager_of rm, record { 0 = rows }) (p.0, p.1) (cc) refl
+final_arm (Happened d a) p args e = absurd (event_apart (codes "final") d refl (cc))
+final_arm line p args e = absurd (apart _ _ e refl)
+
+-- ---- what happened, and its answer
+
+pub serve_common : (n : NodeId) → IsNode n → AllByRecursion IsCommon (serve_words n)
+serve_common n is = (literal refl refl, (a_node.common n is, tt))
 
 arrow_is_none : IsCommon (codes "->") → ⊥
 arrow_is_none is = absurd (cc (is.bytes))
@@ -85,69 +108,61 @@ cut_arrow (v ∷ vs) (w ∷ ws) xs ys p q e =
 happened_injective : (d e : Event) (a b : Answer) → IsEvent d × IsAnswer a → IsEvent e × IsAnswer b
     → event_words d ++ codes "->" ∷ answer_words a ≡ event_words e ++ codes "->" ∷ answer_words b → Happened d a ≡ Happened e b
 happened_injective d e a b p q x =
-    let cut = cut_arrow (event_words d) (event_words e) (answer_words a) (answer_words b) (event_common d p.0) (event_common e q.0) x in
-    let event : d ≡ e = event_injective d e p.0 q.0 cut.0 in
-    let answer : a ≡ b = answer_injective a b p.1 q.1 cut.1 in
+    let first = event_said d p.0 in
+    let cut = cut_arrow _ _ (answer_words a) (answer_words b) first.common (event_said e q.0).common x in
+    let event : d ≡ e = first.one e q.0 cut.0 in
+    let answer : a ≡ b = (answer_said a p.1).one b q.1 cut.1 in
     cc
 
 served_injective : (m n : NodeId) (a b : Answer) → IsNode m × IsAnswer a → IsNode n × IsAnswer b
     → serve_words m ++ codes "->" ∷ answer_words a ≡ serve_words n ++ codes "->" ∷ answer_words b → Served m a ≡ Served n b
 served_injective m n a b p q x =
     let node : m ≡ n = node_injective m n p.0 q.0 (cc) in
-    let answer : a ≡ b = answer_injective a b p.1 q.1 (cc) in
+    let answer : a ≡ b = (answer_said a p.1).one b q.1 (cc) in
     cc
 
-final_injective : (m n : ℕ) (xs ys : List Row) → (m < 256) × AreFinalRows xs → (n < 256) × AreFinalRows ys
-    → final_words m xs ≡ final_words n ys → Final m xs ≡ Final n ys
-final_injective m n xs ys p q e =
-    let first : node_text (R m) ≡ node_text (R n) = cc in
-    let rm : m ≡ n = manager_injective m n p.0 q.0 first in
-    let rows : xs ≡ ys = texts_injective rows_have_one_text xs ys p.1.each q.1.each (cc) in
-    cc
+outcome_clean : (ws : List (List ℕ)) (a : Answer) → AllByRecursion IsCommon ws → IsAnswer a
+    → AllByRecursion IsClean (ws ++ codes "->" ∷ answer_words a)
+outcome_clean ws a are is =
+    let arrow : IsClean (codes "->") = record { some = refl; bytes = refl } in
+    all_join IsClean ws (codes "->" ∷ answer_words a) (all_clean ws are) (arrow, all_clean (answer_words a) (answer_said a is).common)
 
--- the first of some words
-abbrev first_of : List (List ℕ) → List ℕ
-first_of [] = []
-first_of (word ∷ rest) = word
+-- ---- lines
 
--- whether a line tells of an event
-abbrev pub is_happened : TraceLine → Bool
-is_happened (Happened e a) = true
-is_happened said = false
+-- whether a line tells of an event or of a serve
+abbrev is_outcome : TraceLine → Bool
+is_outcome (Happened e a) = true
+is_outcome (Served n a) = true
+is_outcome said = false
 
--- the first word of an event begins no other line
-pub happened_apart : (said : TraceLine) (e : Event) (rest : List (List ℕ)) → is_happened said ≡ false
-    → trace_line_words said ≡ event_word e ∷ rest → ⊥
-happened_apart (Cluster s) e rest h x = event_apart (codes "cluster") e refl (cc)
-happened_apart (Contents t) e rest h x = event_apart (codes "table") e refl (cc)
-happened_apart (Happened d a) e rest h x = absurd (cc)
-happened_apart (Served n a) e rest h x = event_apart (codes "serve") e refl (cc)
-happened_apart (Changed c) e rest h x = event_apart (codes "now") e refl (cc)
-happened_apart (Datagram s) e rest h x = event_apart (codes "sent") e refl (cc)
-happened_apart (Final rm rows) e rest h x = event_apart (codes "final") e refl (cc)
+other_said : (said : TraceLine) → is_outcome said ≡ false → IsTraceLine said → IsSaid IsTraceLine trace_line_words said
+other_said (Cluster s) other p = arm_said a_sizes cluster_arm (literal refl refl) _ p _ refl
+other_said (Contents t) other p = arm_said a_table table_arm (literal refl refl) _ p _ refl
+other_said (Happened e a) other p = absurd (cc)
+other_said (Served n a) other p = absurd (cc)
+other_said (Changed c) other p = arm_said a_change now_arm (literal refl refl) _ p _ refl
+other_said (Datagram s) other p = arm_said a_sent sent_arm (literal refl refl) _ p _ refl
+other_said (Final rm rows) other p = arm_said (a_manager & final_rows) final_arm (literal refl refl) _ p _ refl
 
 pub line_injective : (a b : TraceLine) → IsTraceLine a → IsTraceLine b → trace_line_words a ≡ trace_line_words b → a ≡ b
-line_injective (Cluster s) (Cluster t) p q e = ap Cluster (sizes_injective s t p q (cc))
-line_injective (Contents s) (Contents t) p q e = ap Contents (table_injective s t p q (cc))
 line_injective (Happened d a) (Happened f b) p q e = happened_injective d f a b p q e
 line_injective (Served m a) (Served n b) p q e = served_injective m n a b p q e
-line_injective (Changed c) (Changed d) p q e = ap Changed (change_injective c d p q (cc))
-line_injective (Datagram s) (Datagram t) p q e = ap Datagram (sent_injective s t p q (cc))
-line_injective (Final m xs) (Final n ys) p q e = final_injective m n xs ys p q (cc)
-line_injective (Happened d a) b p q e = absurd (happened_apart b d _ refl (sym e))
-line_injective a (Happened d b) p q e = absurd (happened_apart a d _ refl e)
-line_injective a b p q e = absurd (differ _ _ (ap first_of e) refl)
+line_injective (Happened d a) (Served n b) p q e = absurd (event_apart (codes "serve") d refl (cc))
+line_injective (Served m a) (Happened f b) p q e = absurd (event_apart (codes "serve") f refl (cc))
+line_injective (Happened d a) b p q e = sym ((other_said b refl q).one (Happened d a) p (sym e))
+line_injective (Served m a) b p q e = sym ((other_said b refl q).one (Served m a) p (sym e))
+line_injective a b p q e = (other_said a refl p).one b q e
+
+pub line_clean : (said : TraceLine) → IsTraceLine said → AllByRecursion IsClean (trace_line_words said)
+line_clean (Happened e a) is = outcome_clean (event_words e) a (event_said e is.0).common is.1
+line_clean (Served n a) is = outcome_clean (serve_words n) a (serve_common n is.0) is.1
+line_clean said is = all_clean (trace_line_words said) (other_said said refl is).common
 
 -- ---- the text of a line
 
 pub some_words : (said : TraceLine) → 0 < length (trace_line_words said)
 some_words (Cluster s) = omega arith
-some_words (Contents t) = omega arith
-some_words (Happened e a) = omega arith
-some_words (Served n a) = omega arith
-some_words (Changed c) = omega arith
-some_words (Datagram s) = omega arith
-some_words (Final rm rows) = omega arith
+some_words said = omega arith
 
 pub words_of_joined : (ws : List (List ℕ)) → AllByRecursion IsClean ws → words (joined_words ws) ≡ ws
 words_of_joined [] are = refl
@@ -179,52 +194,12 @@ push_injective (x' ∷ xs) (y' ∷ ys) x y e =
     let tail : xs ≡ ys = push_injective xs ys x y (cc) in
     cc
 
-whole_injective : (a b : TraceLine) → IsTraceLine a → IsTraceLine b → whole_line a ≡ whole_line b → a ≡ b
-whole_injective a b p q e =
-    let same : trace_line_text a ≡ trace_line_text b = push_injective (trace_line_text a) (trace_line_text b) 10 10 e in
-    line_injective a b p q (sym (line_text_words a (trace_line_text a) p refl) ∙ line_text_words b (trace_line_text a) q same)
-
 pub lines_have_one_text : HasOneText IsTraceLine whole_line
-lines_have_one_text = record { same = whole_injective }
-
--- ---- by the first word
-
-pub only_cluster : (said : TraceLine) (rest : List (List ℕ)) → IsTraceLine said → codes "cluster" ∷ rest ≡ trace_line_words said
-    → (s : Sizes) × IsSizes s × (rest ≡ sizes_words s)
-only_cluster (Cluster s) rest is e = (s, is, cc)
-only_cluster (Happened d a) rest is e = absurd (event_apart (codes "cluster") d refl (cc))
-only_cluster said rest is e = absurd (differ _ _ (ap first_of e) refl)
-
-pub only_sent : (said : TraceLine) (rest : List (List ℕ)) → IsTraceLine said → codes "sent" ∷ rest ≡ trace_line_words said
-    → (s : Sent) × IsSent s × (rest ≡ sent_words s)
-only_sent (Datagram s) rest is e = (s, is, cc)
-only_sent (Happened d a) rest is e = absurd (event_apart (codes "sent") d refl (cc))
-only_sent said rest is e = absurd (differ _ _ (ap first_of e) refl)
-
-pub only_change : (said : TraceLine) (rest : List (List ℕ)) → IsTraceLine said → codes "now" ∷ rest ≡ trace_line_words said
-    → (c : Change) × IsChange c × (rest ≡ change_words c)
-only_change (Changed c) rest is e = (c, is, cc)
-only_change (Happened d a) rest is e = absurd (event_apart (codes "now") d refl (cc))
-only_change said rest is e = absurd (differ _ _ (ap first_of e) refl)
-
-pub only_table : (said : TraceLine) (rest : List (List ℕ)) → IsTraceLine said → codes "table" ∷ rest ≡ trace_line_words said
-    → (t : Table) × IsContents t × (rest ≡ contents_words t)
-only_table (Contents t) rest is e = (t, is, cc)
-only_table (Happened d a) rest is e = absurd (event_apart (codes "table") d refl (cc))
-only_table said rest is e = absurd (differ _ _ (ap first_of e) refl)
-
-pub only_final : (said : TraceLine) (rest : List (List ℕ)) → IsTraceLine said → codes "final" ∷ rest ≡ trace_line_words said
-    → (rm : ℕ) × (rows : List Row) × (rm < 256) × AreFinalRows rows × (rest ≡ final_words rm rows)
-only_final (Final rm rows) rest is e = (rm, rows, is.0, is.1, cc)
-only_final (Happened d a) rest is e = absurd (event_apart (codes "final") d refl (cc))
-only_final said rest is e = absurd (differ _ _ (ap first_of e) refl)
-
-pub words_after : {given rest others : List (List ℕ)} {a b : List ℕ} → given ≡ a ∷ rest → given ≡ b ∷ others → rest ≡ others
-words_after p q = cc
-
-pub change_said : {args : List (List ℕ)} (change : Change) → IsChange change × (args ≡ change_words change)
-    → IsTraceLine (Changed change) × (codes "now" ∷ args ≡ trace_line_words (Changed change))
-change_said change says = (says.0, ap (λ (ws : List (List ℕ)). codes "now" ∷ ws) says.1)
+lines_have_one_text = record {
+  same = λ a b p q e.
+      let same : trace_line_text a ≡ trace_line_text b = push_injective (trace_line_text a) (trace_line_text b) 10 10 e in
+      line_injective a b p q (sym (line_text_words a (trace_line_text a) p refl) ∙ line_text_words b (trace_line_text a) q same);
+}
 
 -- the transaction that is known where a word is one
 pub known_is : (is_one : Bool) (known : Option TxParts) (word : List ℕ) (last tx : TxParts) → Knows is_one known word → is_one ≡ true

@@ -6,13 +6,13 @@ pub mod HexLemmas
 pub mod NameLemmas
 pub mod Laws
 pub mod Items
-pub mod RowLaws
 pub mod Answers
 pub mod Scripts
 pub mod Messages
 pub mod MessageLaws
 pub mod Traces
 pub mod TraceLines
+pub mod LineLaws
 pub mod TraceReading
 pub mod Telling
 pub mod TraceReaders

@@ -2,11 +2,11 @@
 
 ghost use Rattle.std.specs.Prelude.{◌≡◌, ◌≢◌, ◌∷◌, true, MatchOption};
 ghost use Rattle.net_script.specs.Basics.{Refusal, XaCode, Standing, View, number_of};
-ghost use Rattle.net_script.specs.Lines.{Reads, words};
+ghost use Rattle.net_script.specs.Lines.{words};
 ghost use Rattle.net_script.specs.Spelling.{Finds};
 ghost use Rattle.net_script.specs.Answers.{IsTold, IsAnswer, standing_text, view_text, code_text, answer_words};
 
-use crate::stop::{Stop, or_none};
+use crate::stop::Stop;
 use crate::word::{Words, is_word};
 use crate::words::next_word;
 use protocol::{Answer, Standing, View};
@@ -148,11 +148,9 @@ fn answer_by(alloc: Global, name: &[u8], args: &[u8]) -> Result<Answer, Stop>
 
 /// The answer of these words.
 #[inline(never)]
-pub(crate) fn read_answer(alloc: Global, args: &[u8]) -> Result<Option<Answer>, Refusal>
-    ensures { Reads IsAnswer answer_words (words args.now) result }
+pub(crate) fn read_answer(alloc: Global, args: &[u8]) -> Result<Answer, Stop>
+    ensures { Finds true IsAnswer answer_words (words args.now) result }
 {
-    let Some((name, args)) = next_word(args) else {
-        return Ok(None);
-    };
-    or_none(answer_by(alloc, name, args))
+    let (name, args) = next_word(args).ok_or(Stop::Wrong)?;
+    answer_by(alloc, name, args)
 }

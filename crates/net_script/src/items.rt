@@ -1,18 +1,18 @@
 //! The items of a script, each of one line.
 
-ghost use Rattle.std.specs.Prelude.{◌≡◌, ◌≢◌, Bool, MatchOption};
-ghost use Rattle.net_script.specs.Basics.{Sizes};
-ghost use Rattle.net_script.specs.Lines.{Reads, words};
+ghost use Rattle.std.specs.Prelude.{◌≡◌, ◌≢◌, ◌∷◌, Bool, MatchOption, true, false};
+ghost use Rattle.net_script.specs.Lines.{words};
+ghost use Rattle.net_script.specs.Spelling.{Finds};
 ghost use Rattle.net_script.specs.Items.{IsSizes, IsItem, bundled_words, sizes_words, item_words};
+ghost use Rattle.net_script.specs.LineLaws.{a_sizes};
 
 use crate::args::field;
 use crate::commands::command_by;
-use crate::stop::or_none;
-use crate::tables::read_table;
+use crate::stop::Stop;
 use crate::values::{Command, Sizes, Table};
+use crate::word::{Words, is_word};
 use crate::words::{is_over, next_word};
 use std::alloc::Global;
-use xid::Refusal;
 
 /// What one line says.
 #[derive(Drop)]
@@ -40,45 +40,41 @@ fn read_bundled(args: &[u8]) -> Option<bool>
     Some(true)
 }
 
-/// The cluster of these words.
-#[inline(never)]
-pub(crate) fn read_sizes(args: &[u8]) -> Option<Sizes>
-    ensures { MatchOption result
-        ((s : Sizes) → IsSizes s → words args.now ≢ sizes_words s)
-        (λ s. IsSizes s × (words args.now ≡ sizes_words s)) }
-{
-    let (acceptors, rest) = field(args, b"acceptors")?;
-    let (leaders, rest) = field(rest, b"leaders")?;
-    let (rms, rest) = field(rest, b"rms")?;
-    Some(Sizes {
-        acceptors,
-        leaders,
-        rms,
-        bundled: read_bundled(rest)?,
-    })
+impl Words for Sizes {
+    ghost fit = { IsSizes };
+
+    ghost texts = { sizes_words };
+
+    ghost allocate = { false };
+
+    ghost spellings = { a_sizes };
+
+    #[inline(never)]
+    fn read(_alloc: Global, args: &[u8]) -> Result<Sizes, Stop> {
+        let (acceptors, rest) = field(args, b"acceptors").ok_or(Stop::Wrong)?;
+        let (leaders, rest) = field(rest, b"leaders").ok_or(Stop::Wrong)?;
+        let (rms, rest) = field(rest, b"rms").ok_or(Stop::Wrong)?;
+        let bundled = read_bundled(rest).ok_or(Stop::Wrong)?;
+        Ok(Sizes {
+            acceptors,
+            leaders,
+            rms,
+            bundled,
+        })
+    }
 }
 
-/// What a line says.
-pub(crate) fn read_item(alloc: Global, line: &[u8]) -> Result<Option<Item>, Refusal>
-    ensures { Reads IsItem item_words (words line.now) result }
+/// What a line of this first word says, by those after it.
+pub(crate) fn item_by(alloc: Global, name: &[u8], args: &[u8]) -> Result<Item, Stop>
+    ensures { Finds true IsItem item_words (name.now ∷ words args.now) result }
 {
-    let Some((word, rest)) = next_word(line) else {
-        return Ok(None);
-    };
-    if word == b"cluster".as_slice() {
-        let Some(sizes) = read_sizes(rest) else {
-            return Ok(None);
-        };
-        return Ok(Some(Item::Cluster(sizes)));
+    if is_word(name, b"cluster") {
+        let sizes = Words::read(alloc, args)?;
+        return Ok(Item::Cluster(sizes));
     }
-    if word == b"table".as_slice() {
-        let Some(table) = read_table(alloc, rest)? else {
-            return Ok(None);
-        };
-        return Ok(Some(Item::Contents(table)));
+    if is_word(name, b"table") {
+        let table = Words::read(alloc, args)?;
+        return Ok(Item::Contents(table));
     }
-    let Some(command) = or_none(command_by(alloc, word, rest))? else {
-        return Ok(None);
-    };
-    Ok(Some(Item::Then(command)))
+    Ok(Item::Then(command_by(alloc, name, args)?))
 }

@@ -1,53 +1,52 @@
 //! Words that say what came of an event: a changed view, and last rows.
 
 ghost use Rattle.std.specs.Prelude.{◌≡◌, true};
-ghost use Rattle.net_script.specs.Basics.{Row};
-ghost use Rattle.net_script.specs.Lines.{Reads, words};
+ghost use Rattle.net_script.specs.Lines.{words};
 ghost use Rattle.net_script.specs.Spelling.{Finds};
 ghost use Rattle.net_script.specs.Items.{rows_words};
 ghost use Rattle.net_script.specs.Traces.{change_words};
 ghost use Rattle.net_script.specs.TraceLines.{IsChange, AreFinalRows, are_ascending};
+ghost use Rattle.net_script.specs.LineLaws.{final_rows};
 
 use crate::answer_words::view_named;
 use crate::args::manager;
 use crate::known::{KnownTx, know};
-use crate::stop::{Stop, or_none};
+use crate::stop::Stop;
 use crate::word::Words;
 use crate::words::{is_over, next_word};
 use protocol::{Boxed, Change, Row};
 use std::alloc::Global;
 use std::cmp::Ordering;
-use xid::{Refusal, Sequence};
+use xid::Sequence;
 
 /// The changed view of these words.
+#[inline(never)]
 pub(crate) fn read_change(
     alloc: Global,
     known: &mut Option<KnownTx>,
     args: &[u8],
-) -> Result<Option<Boxed<Change>>, Refusal>
-    ensures { Reads IsChange change_words (words args.now) result }
+) -> Result<Boxed<Change>, Stop>
+    ensures { Finds true IsChange change_words (words args.now) result }
 {
-    let Some((rm, rest)) = manager(args) else {
-        return Ok(None);
+    let (rm, rest) = manager(args).ok_or(Stop::Wrong)?;
+    let (text, rest) = next_word(rest).ok_or(Stop::Wrong)?;
+    let Ok(is_tx) = know(alloc, known, text) else {
+        return Err(Stop::Memory);
     };
-    let Some((text, rest)) = next_word(rest) else {
-        return Ok(None);
-    };
-    if !know(alloc, known, text)? {
-        return Ok(None);
+    if !is_tx {
+        return Err(Stop::Wrong);
     }
     let Some(last) = &*known else { unreachable!() };
-    let Some((word, rest)) = next_word(rest) else {
-        return Ok(None);
-    };
-    let Some(view) = view_named(word) else {
-        return Ok(None);
-    };
+    let (word, rest) = next_word(rest).ok_or(Stop::Wrong)?;
+    let view = view_named(word).ok_or(Stop::Wrong)?;
     if !is_over(rest) {
-        return Ok(None);
+        return Err(Stop::Wrong);
     }
     let tx = *last.tx();
-    Ok(Some(Boxed::new(alloc, Change { rm, tx, view })?))
+    let Ok(change) = Boxed::new(alloc, Change { rm, tx, view }) else {
+        return Err(Stop::Memory);
+    };
+    Ok(change)
 }
 
 /// Whether keys ascend strictly by their bytes.
@@ -66,21 +65,24 @@ fn are_ascending(rows: &[Row]) -> bool
     }
 }
 
-/// The last rows of the words.
-fn final_rows(alloc: Global, args: &[u8]) -> Result<Sequence<Row>, Stop>
-    ensures { Finds true AreFinalRows rows_words (words args.now) result }
-{
-    let rows: Sequence<Row> = Words::read(alloc, args)?;
-    if !are_ascending(rows.as_slice()) {
-        return Err(Stop::Wrong);
-    }
-    Ok(rows)
-}
+/// The last rows of a resource manager.
+#[derive(Drop)]
+pub struct FinalRows(pub Sequence<Row>);
 
-/// The last rows of the words, if they are some.
-#[inline(never)]
-pub(crate) fn read_final_rows(alloc: Global, args: &[u8]) -> Result<Option<Sequence<Row>>, Refusal>
-    ensures { Reads AreFinalRows rows_words (words args.now) result }
-{
-    or_none(final_rows(alloc, args))
+impl Words for FinalRows {
+    ghost fit = { λ rows. AreFinalRows rows.0 };
+
+    ghost texts = { λ rows. rows_words rows.0 };
+
+    ghost allocate = { true };
+
+    ghost spellings = { final_rows };
+
+    fn read(alloc: Global, args: &[u8]) -> Result<FinalRows, Stop> {
+        let rows: Sequence<Row> = Words::read(alloc, args)?;
+        if !are_ascending(rows.as_slice()) {
+            return Err(Stop::Wrong);
+        }
+        Ok(FinalRows(rows))
+    }
 }

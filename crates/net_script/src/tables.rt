@@ -2,19 +2,19 @@
 
 ghost use Rattle.std.specs.Prelude.{◌≢◌, ◌↔◌, IsTrue, true};
 ghost use Rattle.std.specs.List.{All, AllPairs};
-ghost use Rattle.net_script.specs.Lines.{Reads, words, row_text};
+ghost use Rattle.net_script.specs.Lines.{row_text};
 ghost use Rattle.net_script.specs.Items.{IsRow, IsContents, contents_words};
-ghost use Rattle.net_script.specs.RowLaws.{a_row};
+ghost use Rattle.net_script.specs.LineLaws.{a_row, a_table};
 
 use crate::byte_words::Hex;
 use crate::nodes::Manager;
-use crate::stop::{Stop, or_none};
+use crate::stop::Stop;
 use crate::values::Table;
 use crate::word::{Word, Words};
 use crate::words::split_once;
 use protocol::Row;
 use std::alloc::Global;
-use xid::{Bytes, MAX_KEY, MAX_VALUE, Refusal, Sequence};
+use xid::{Bytes, MAX_KEY, MAX_VALUE, Sequence};
 
 impl Word for Row {
     ghost fits = { IsRow };
@@ -65,16 +65,21 @@ fn are_distinct(rows: &[Row]) -> bool
     true
 }
 
-/// The first table of these words, if they are one.
-#[inline(never)]
-pub(crate) fn read_table(alloc: Global, args: &[u8]) -> Result<Option<Table>, Refusal>
-    ensures { Reads IsContents contents_words (words args.now) result }
-{
-    let Some((Manager(rm), rows)) = or_none(<(Manager, Sequence<Row>)>::read(alloc, args))? else {
-        return Ok(None);
-    };
-    if !are_distinct(rows.as_slice()) {
-        return Ok(None);
+impl Words for Table {
+    ghost fit = { IsContents };
+
+    ghost texts = { contents_words };
+
+    ghost allocate = { true };
+
+    ghost spellings = { a_table };
+
+    #[inline(never)]
+    fn read(alloc: Global, args: &[u8]) -> Result<Table, Stop> {
+        let (Manager(rm), rows): (Manager, Sequence<Row>) = Words::read(alloc, args)?;
+        if !are_distinct(rows.as_slice()) {
+            return Err(Stop::Wrong);
+        }
+        Ok(Table { rm, rows })
     }
-    Ok(Some(Table { rm, rows }))
 }

@@ -9,12 +9,12 @@ ghost use Rattle.net_script.specs.Telling.{sent_of, TellsSent};
 use crate::args::{node, number};
 use crate::known::{KnownTx, know};
 use crate::message_words::{Said, read_said};
-use crate::stop::or_none;
+use crate::stop::Stop;
 use crate::words::next_word;
 use protocol::{NodeId, Sent};
 use std::alloc::Global;
 use wire::{Kind, Message, is_ask, is_b1a, is_b1b, is_b2b, is_p1a, is_p1b, is_p2a, is_p2b};
-use xid::{Refusal, Tx};
+use xid::Tx;
 
 /// A datagram, but for its transaction.
 #[derive(Drop)]
@@ -143,44 +143,45 @@ impl ToldSent {
     }
 }
 
-/// The datagram of these words, but for its transaction, which is then the one that is known. Refused: `NoMemory` alone.
+/// The datagram of these words, but for its transaction, which is then the one that is known.
 #[inline(never)]
 pub(crate) fn read_told(
     alloc: Global,
     known: &mut Option<KnownTx>,
     args: &[u8],
-) -> Result<Option<ToldSent>, Refusal>
+) -> Result<ToldSent, Stop>
     ensures { TellsSent known.new (words args.now) result }
 {
     let Some((number, rest)) = number(args) else {
-        return Ok(None);
+        return Err(Stop::Wrong);
     };
     let Some((sender, rest)) = node(rest) else {
-        return Ok(None);
+        return Err(Stop::Wrong);
     };
     let Some((receiver, rest)) = node(rest) else {
-        return Ok(None);
+        return Err(Stop::Wrong);
     };
     let Some((name, rest)) = next_word(rest) else {
-        return Ok(None);
+        return Err(Stop::Wrong);
     };
     let Some((text, rest)) = next_word(rest) else {
-        return Ok(None);
+        return Err(Stop::Wrong);
     };
-    if !know(alloc, known, text)? {
-        return Ok(None);
+    let Ok(is_tx) = know(alloc, known, text) else {
+        return Err(Stop::Memory);
+    };
+    if !is_tx {
+        return Err(Stop::Wrong);
     }
     let Some(last) = &*known else { unreachable!() };
-    let Some(said) = or_none(read_said(alloc, name, rest))? else {
-        return Ok(None);
-    };
+    let said = read_said(alloc, name, rest)?;
     if !is_about(last.tx(), &said) {
-        return Ok(None);
+        return Err(Stop::Wrong);
     }
-    Ok(Some(ToldSent {
+    Ok(ToldSent {
         number,
         sender,
         receiver,
         said,
-    }))
+    })
 }

@@ -2,8 +2,7 @@
 
 ghost use Rattle.std.specs.Prelude.{◌≡◌, ◌≢◌, ◌++◌, List, ℕ, true, MatchOption, codes};
 ghost use Rattle.xid.specs.Text.{lacks};
-ghost use Rattle.net_script.specs.declared.trace_lines.LineName.{LineName};
-ghost use Rattle.net_script.specs.TraceLines.{is_tidy, line_name_text};
+ghost use Rattle.net_script.specs.TraceLines.{is_tidy};
 
 use crate::values::{Sizes, Table};
 use crate::words::split_once;
@@ -27,38 +26,6 @@ pub enum TraceLine {
     Datagram(Boxed<Sent>),
     /// Last rows of a resource manager.
     Final(u8, Sequence<Row>),
-}
-
-/// The first word of a line that tells of no event, no serve and no datagram.
-#[derive(Clone, Copy, Debug)]
-pub enum LineName {
-    /// `cluster`
-    Cluster,
-    /// `table`
-    Table,
-    /// `now`
-    Now,
-    /// `final`
-    Final,
-}
-
-/// The name that this word is.
-pub(crate) fn line_named(word: &[u8]) -> Option<LineName>
-    ensures { MatchOption result ((n : LineName) → word.now ≢ line_name_text n) (λ n. word.now ≡ line_name_text n) }
-{
-    if word == b"now".as_slice() {
-        return Some(LineName::Now);
-    }
-    if word == b"final".as_slice() {
-        return Some(LineName::Final);
-    }
-    if word == b"table".as_slice() {
-        return Some(LineName::Table);
-    }
-    if word == b"cluster".as_slice() {
-        return Some(LineName::Cluster);
-    }
-    None
 }
 
 /// Whether a line has words, one space between them, and none before or after them.

@@ -1,20 +1,19 @@
 //! A trace's text, read a line at a time.
 
-ghost use Rattle.std.specs.Prelude.{◌≡◌, [], Option, None, Some, IfOk, IfErr, MatchResult};
+ghost use Rattle.std.specs.Prelude.{◌≡◌, [], Option, None, IfOk, IfErr, MatchResult};
 ghost use Rattle.std.specs.Option.{ForSome};
-ghost use Rattle.net_script.specs.Basics.{NoMemory, TxParts};
-ghost use Rattle.net_script.specs.declared.said.Heard.TheVariants as heards;
-ghost use Rattle.net_script.specs.declared.trace_lines.TraceLine.TheVariants.{Datagram};
+ghost use Rattle.net_script.specs.Basics.{NoMemory};
+ghost use Rattle.net_script.specs.declared.trace_lines.TraceLine.{TraceLine};
 ghost use Rattle.net_script.specs.declared.values.Trace.{Trace};
 ghost use Rattle.net_script.specs.Items.{is_in_limits};
 ghost use Rattle.net_script.specs.TraceReading.{RefusesTrace};
-ghost use Rattle.net_script.specs.Telling.{sent_of, IsWhole};
-ghost use Rattle.net_script.specs.TraceReaders.{HasRead, IsRead, GivesNext, GivesHeard};
+ghost use Rattle.net_script.specs.Telling.{IsHeard, IsWhole};
+ghost use Rattle.net_script.specs.TraceReaders.{HasRead, IsRead, GivesHeard};
 
 use crate::known::KnownTx;
 use crate::said::{Heard, hear_line};
-use crate::so_far::{SoFar, follow_heard};
-use crate::told::ToldSent;
+use crate::so_far::{SoFar, follow};
+use crate::stop::at_line;
 use crate::trace_lines::TraceLine;
 use crate::values::Sizes;
 use crate::words::split_once;
@@ -24,7 +23,7 @@ use std::marker::Model;
 use xid::{MAX_LEADERS, MAX_MANAGERS, Refusal};
 
 /// A reader of a trace's text, which gives one line after another and keeps none of them.
-#[derive(Debug, Drop)]
+#[derive(Drop)]
 pub struct TraceReader<'a> {
     bytes: &'a [u8],
     rest: &'a [u8],
@@ -82,39 +81,29 @@ impl<'a> TraceReader<'a> {
         let Some((text, after)) = split_once(self.rest, b'\n') else {
             return Err(Refusal::BadScript { line });
         };
-        let Some(heard) = hear_line(alloc, &mut self.known, text)? else {
-            return Err(Refusal::BadScript { line });
-        };
-        if !follow_heard(alloc, &mut self.so_far, &heard)? {
-            return Err(Refusal::BadScript { line });
-        }
+        let heard = at_line(line, hear_line(alloc, &mut self.known, text))?;
+        at_line(line, follow(alloc, &mut self.so_far, &heard))?;
         self.rest = after;
         self.number = line;
         Ok(Some(heard))
     }
 
-    /// The next line, a datagram with its transaction. Refused as `hear` is; what is given after a refusal means nothing.
-    pub fn next(&mut self, alloc: Global) -> Result<Option<TraceLine>, Refusal>
-        ensures { (trace : Option Trace) → HasRead self.old trace → GivesNext self.old self.new trace result }
-    {
-        match self.hear(alloc)? {
-            Some(Heard::Line(said)) => Ok(Some(said)),
-            Some(Heard::Datagram(told)) => self.with_tx(alloc, told),
-            None => Ok(None),
-        }
-    }
-
-    /// The line of a datagram, with the transaction that is known. Refused: `NoMemory` alone.
-    fn with_tx(&self, alloc: Global, told: ToldSent) -> Result<Option<TraceLine>, Refusal>
-        requires { IsWhole self.now.known (heards.Datagram told) }
-        ensures ok { IfOk result (λ line. (tx : TxParts) → self.now.known ≡ Some tx → line ≡ Some (Datagram (sent_of tx told))) }
+    /// What was heard, a datagram with its transaction. Refused: `NoMemory` alone.
+    pub(crate) fn line_of(&self, alloc: Global, heard: Heard) -> Result<TraceLine, Refusal>
+        requires { IsWhole self.now.known heard }
+        ensures ok { IfOk result (λ line. (said : TraceLine) → IsHeard self.now.known heard said → said ≡ line) }
         ensures err { IfErr result (λ e. e ≡ NoMemory) }
     {
-        let Some(known) = &self.known else {
-            unreachable!();
-        };
-        let sent = Boxed::new(alloc, told.with_tx(known.tx()))?;
-        Ok(Some(TraceLine::Datagram(sent)))
+        match heard {
+            Heard::Line(said) => Ok(said),
+            Heard::Datagram(told) => {
+                let Some(known) = &self.known else {
+                    unreachable!();
+                };
+                let sent = Boxed::new(alloc, told.with_tx(known.tx()))?;
+                Ok(TraceLine::Datagram(sent))
+            }
+        }
     }
 
     /// Whether nothing is missing where all bytes are read.

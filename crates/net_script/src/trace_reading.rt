@@ -22,7 +22,8 @@ pub fn read_trace(alloc: Global, bytes: &[u8]) -> Result<Trace, Refusal>
 {
     let mut reader = TraceReader::new(bytes);
     let mut trace = None;
-    while let Some(said) = reader.next(alloc)? {
+    while let Some(heard) = reader.hear(alloc)? {
+        let said = reader.line_of(alloc, heard)?;
         trace = Some(with_line(alloc, trace, said)?);
     }
     let Some(trace) = trace else { unreachable!() };
