@@ -17,6 +17,5 @@ pub mod OutcomeLemmas
 pub mod DraftLemmas
 pub mod MoreLines
 pub mod EndedText
-pub mod TraceLoop
 pub mod ReaderLemmas
 pub mod WritingLemmas

@@ -32,32 +32,14 @@ fn is_about(tx: &Tx, said: &Said) -> bool
     let _ = tx.count();
     match said {
         Said::Prepare | Said::Commit | Said::Abort => true,
-        Said::P1a { instance, ballot } => is_p1a(tx, *instance, *ballot),
-        Said::P1b {
-            instance,
-            ballot,
-            report,
-            acceptor,
-        } => is_p1b(tx, *instance, *ballot, *report, *acceptor),
-        Said::P2a {
-            instance,
-            ballot,
-            vote,
-        } => is_p2a(tx, *instance, *ballot, *vote),
-        Said::P2b {
-            instance,
-            ballot,
-            vote,
-            acceptor,
-        } => is_p2b(tx, *instance, *ballot, *vote, *acceptor),
-        Said::Ask { rm } => is_ask(tx, *rm),
-        Said::B1a { ballot } => is_b1a(tx, *ballot),
-        Said::B1b {
-            ballot,
-            acceptor,
-            reports,
-        } => is_b1b(tx, *ballot, *acceptor, reports.get()),
-        Said::B2b { acceptor, accepts } => is_b2b(tx, *acceptor, accepts.get()),
+        Said::P1a(rm, ballot) => is_p1a(tx, *rm, *ballot),
+        Said::P1b(rm, ballot, report, acceptor) => is_p1b(tx, *rm, *ballot, *report, *acceptor),
+        Said::P2a(rm, ballot, vote) => is_p2a(tx, *rm, *ballot, *vote),
+        Said::P2b(rm, ballot, vote, acceptor) => is_p2b(tx, *rm, *ballot, *vote, *acceptor),
+        Said::Ask(rm) => is_ask(tx, *rm),
+        Said::B1a(ballot) => is_b1a(tx, *ballot),
+        Said::B1b(ballot, acceptor, reports) => is_b1b(tx, *ballot, *acceptor, reports.get()),
+        Said::B2b(acceptor, accepts) => is_b2b(tx, *acceptor, accepts.get()),
     }
 }
 
@@ -67,39 +49,25 @@ fn kind_of(tx: Tx, said: Said) -> Kind
 {
     match said {
         Said::Prepare => Kind::Prepare(tx),
-        Said::P1a { instance, ballot } => Kind::P1a {
+        Said::P1a(instance, ballot) => Kind::P1a {
             tx,
             instance,
             ballot,
         },
-        Said::P1b {
-            instance,
-            ballot,
-            report,
-            acceptor,
-        } => Kind::P1b {
+        Said::P1b(instance, ballot, report, acceptor) => Kind::P1b {
             tx,
             instance,
             ballot,
             report,
             acceptor,
         },
-        Said::P2a {
-            instance,
-            ballot,
-            vote,
-        } => Kind::P2a {
+        Said::P2a(instance, ballot, vote) => Kind::P2a {
             tx,
             instance,
             ballot,
             vote,
         },
-        Said::P2b {
-            instance,
-            ballot,
-            vote,
-            acceptor,
-        } => Kind::P2b {
+        Said::P2b(instance, ballot, vote, acceptor) => Kind::P2b {
             tx,
             instance,
             ballot,
@@ -108,19 +76,15 @@ fn kind_of(tx: Tx, said: Said) -> Kind
         },
         Said::Commit => Kind::Commit(tx),
         Said::Abort => Kind::Abort(tx),
-        Said::Ask { rm } => Kind::Ask { tx, rm },
-        Said::B1a { ballot } => Kind::B1a { tx, ballot },
-        Said::B1b {
-            ballot,
-            acceptor,
-            reports,
-        } => Kind::B1b {
+        Said::Ask(rm) => Kind::Ask { tx, rm },
+        Said::B1a(ballot) => Kind::B1a { tx, ballot },
+        Said::B1b(ballot, acceptor, reports) => Kind::B1b {
             tx,
             ballot,
             acceptor,
             reports: *reports.get(),
         },
-        Said::B2b { acceptor, accepts } => Kind::B2b {
+        Said::B2b(acceptor, accepts) => Kind::B2b {
             tx,
             acceptor,
             accepts: *accepts.get(),

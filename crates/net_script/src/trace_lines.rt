@@ -10,7 +10,7 @@ use protocol::{Answer, Boxed, Change, Event, NodeId, Row, Sent};
 use xid::Sequence;
 
 /// What one line of a trace says.
-#[derive(Debug, Drop)]
+#[derive(Drop)]
 pub enum TraceLine {
     /// How many nodes there are.
     Cluster(Sizes),

@@ -1,4 +1,4 @@
-use Rattle.net_script.proofs.TraceLoop.{one_text, text_has_no_fault, one_trace_fault}
+use Rattle.net_script.proofs.ReaderLemmas.{one_text, text_has_no_fault, one_trace_fault}
 use Rattle.net_script.proofs.trace_reading.one_trace.Goals as goal
 
 pub returns-clause-one : goal.returns-clause-one
