@@ -168,6 +168,3 @@ answer_said (Xids xs) p = arm_said (list_of_words an_xid) xids_arm (literal refl
 answer_said (Refused r) p = arm_said (a_refusal & no_words) refused_arm (literal refl refl) _ p _ refl
 answer_said (Code c) p = arm_said no_words (code_arm c) (code_common c) _ p _ refl
 answer_said (Stands s) p = arm_said no_words (standing_arm s) (standing_common s) _ p _ refl
-
-pub answer_injective : (a b : Answer) → IsAnswer a → IsAnswer b → answer_words a ≡ answer_words b → a ≡ b
-answer_injective a b p q e = (answer_said a p).one b q e

@@ -16,7 +16,7 @@ use Rattle.net_script.specs.TraceLines.{IsTraceLine, trace_line_words, trace_lin
 use Rattle.net_script.specs.TraceLines.{lines_of}
 use Rattle.net_script.specs.TraceReading.{ended_lines}
 use Rattle.net_script.specs.Spelling.{IsClean}
-use Rattle.net_script.proofs.CleanWords.{lacks_end}
+use Rattle.net_script.proofs.TidyText.{lacks_end}
 use Rattle.net_script.proofs.TraceLineLemmas.{line_clean}
 
 -- ---- lines of a text

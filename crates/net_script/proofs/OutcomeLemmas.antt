@@ -21,8 +21,7 @@ use Rattle.net_script.specs.Spelling.{IsClean, IsCommon}
 use Rattle.net_script.specs.Laws.{all_join}
 use Rattle.net_script.proofs.EventLemmas.{event_said}
 use Rattle.net_script.proofs.AnswerLemmas.{answer_said}
-use Rattle.net_script.proofs.CleanWords.{lacks_head, all_clean}
-use Rattle.net_script.proofs.TidyText.{tidy_is_joined, tidy_parts, joined_arrow}
+use Rattle.net_script.proofs.TidyText.{lacks_head, all_clean, tidy_is_joined, tidy_parts, joined_arrow}
 use Rattle.net_script.proofs.TraceLineLemmas.{serve_common, words_of_joined}
 
 -- ---- a text cut at an arrow's head

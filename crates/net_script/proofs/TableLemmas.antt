@@ -7,7 +7,7 @@ use Rattle.xid.specs.Text.{lacks}
 use Rattle.xid.proofs.Texts.{cut_same}
 use Rattle.stable_record.specs.Facts.{IsKey}
 use Rattle.net_script.specs.Basics.{IsBytes, hex_text, Row, Table}
-use Rattle.net_script.specs.LineLaws.{hex_lacks_equals, a_row}
+use Rattle.net_script.specs.Laws.{hex_lacks_equals, a_row}
 use Rattle.net_script.specs.Lines.{IsSome, bytes_text, row_text}
 use Rattle.net_script.specs.Items.{IsRow, IsContents, contents_words}
 use Rattle.net_script.specs.Spelling.{one_list}
@@ -37,9 +37,6 @@ long_value row back bytes is e read long =
     let same : bytes ≡ row.value = bytes_injective bytes row.value read.0 is.value.bytes (sym read.1 ∙ e) in
     let few = is.value.few in
     omega (arith, ap length same)
-
-pub rows_have_one_text : HasOneText IsRow row_text
-rows_have_one_text = record { same = a_row.one }
 
 pub table_rows : (rows : List Row) (t : Table) {rm : List ℕ} → All IsRow rows → IsContents t → rm ∷ map row_text rows ≡ contents_words t
     → rows ≡ t.rows

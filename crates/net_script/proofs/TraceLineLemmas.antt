@@ -1,26 +1,28 @@
 -- Each line of a trace says one thing, by words that are words: for the readers of lines, and for texts of lines.
-use Rattle.std.proofs.Common.{◌≡◌, ℕ, ◌<◌, Bool, true, false, Option, None, Some, List, [], ◌∷◌, ◌++◌, length, refl, sym, ap, subst}
-use Rattle.std.proofs.Common.{◌∙◌, arith, codes}
+use Rattle.std.proofs.Common.{◌≡◌, ℕ, ◌<◌, Bool, true, false, Option, None, Some, List, [], ◌∷◌, ◌++◌, length, refl, sym, ap, subst, ◌∙◌}
+use Rattle.std.proofs.Common.{arith, codes, Result, Ok, Err}
 use Rattle.std.specs.List.{AllByRecursion}
-use Rattle.net_script.specs.Basics.{TxParts, IsTx, tx_text, View, NodeId, R, Answer, Change, Sent, Event, TraceLine}
+use Rattle.net_script.specs.Basics.{TxParts, IsTx, tx_text, View, NodeId, R, Answer, Change, Sent, Event, TraceLine, Stop, Wrong, Memory}
 use Rattle.net_script.specs.declared.trace_lines.TraceLine.TheVariants.{Cluster, Contents, Happened, Served, Changed, Datagram, Final}
 use Rattle.net_script.specs.Lines.{words}
 use Rattle.net_script.specs.Events.{IsNode, IsEvent, event_word, event_words}
 use Rattle.net_script.specs.Answers.{IsAnswer, view_text, answer_words}
-use Rattle.net_script.specs.Spelling.{IsClean, IsCommon, IsSpelling, AreSpellings, no_words, ◌&◌, shaped}
-use Rattle.net_script.specs.Laws.{literal, all_join, a_number, a_node, manager_of, a_manager, a_tx}
-use Rattle.net_script.specs.LineLaws.{a_table, final_rows, a_sizes}
-use Rattle.net_script.specs.NameLemmas.{node_injective}
+use Rattle.net_script.specs.Spelling.{IsClean, IsCommon, IsSpelling, AreSpellings, no_words, ◌&◌, shaped, Finds}
+use Rattle.net_script.specs.Laws.{literal, all_join, a_number, a_node, manager_of, a_manager, a_tx, a_table, final_rows, a_sizes}
+use Rattle.net_script.specs.Laws.{node_injective}
 use Rattle.net_script.specs.Traces.{joined_words, serve_words, change_words, sent_words}
 use Rattle.net_script.specs.TraceLines.{IsChange, IsSent, IsTraceLine, trace_line_words, trace_line_text, whole_line, is_tidy, Knows}
+use Rattle.net_script.specs.TraceLines.{IsOutcome}
 use Rattle.net_script.proofs.WordLemmas.{differ}
 use Rattle.net_script.proofs.OneText.{HasOneText}
 use Rattle.net_script.proofs.Arms.{Arm, made_of, IsSaid, arm_said, apart}
 use Rattle.net_script.proofs.EventLemmas.{event_apart, event_said}
 use Rattle.net_script.proofs.AnswerLemmas.{answer_said}
 use Rattle.net_script.proofs.MessageLemmas.{a_message}
-use Rattle.net_script.proofs.CleanWords.{all_clean}
-use Rattle.net_script.proofs.TidyText.{words_joined, tidy_joined, tidy_is_joined}
+use Rattle.net_script.proofs.TidyText.{all_clean, words_joined, tidy_joined, tidy_is_joined}
+use Rattle.net_script.specs.declared.told.ToldSent.{ToldSent}
+use Rattle.net_script.specs.declared.said.Heard.{Heard}
+use Rattle.net_script.specs.Telling.{sent_of, TellsSent, HearsText, IsWhole}
 
 -- ---- words of lines
 
@@ -210,3 +212,55 @@ known_is true None word last tx is one now same = absurd (cc (now))
 known_is true (Some t) word last tx is one now same =
     let these : t ≡ tx = cc in
     subst (λ (u : TxParts). IsTx u × (word ≡ tx_text u)) these is
+
+-- what tells of an event or of a serve is a line
+outcome_line : (said : TraceLine) → IsOutcome said → IsTraceLine said
+outcome_line (Happened e a) is = is
+outcome_line (Served n a) is = is
+outcome_line said is = absurd is
+
+-- no other line has a first word but these
+pub record IsOther (word : List ℕ) : Type 0 where
+  pub now : word ≡ codes "now" → ⊥
+  pub final : word ≡ codes "final" → ⊥
+  pub table : word ≡ codes "table" → ⊥
+  pub cluster : word ≡ codes "cluster" → ⊥
+  pub sent : word ≡ codes "sent" → ⊥
+
+outcome_of : (said : TraceLine) (rest : List (List ℕ)) (word : List ℕ) → IsOther word → IsTraceLine said
+    → word ∷ rest ≡ trace_line_words said → IsOutcome said
+outcome_of (Cluster s) rest word other is e = absurd (other.cluster (cc))
+outcome_of (Contents t) rest word other is e = absurd (other.table (cc))
+outcome_of (Happened d a) rest word other is e = is
+outcome_of (Served n a) rest word other is e = is
+outcome_of (Changed c) rest word other is e = absurd (other.now (cc))
+outcome_of (Datagram s) rest word other is e = absurd (other.sent (cc))
+outcome_of (Final rm rows) rest word other is e = absurd (other.final (cc))
+
+-- so a line with another first word tells of an event or of a serve
+pub said_outcomes : {given rest : List (List ℕ)} {word : List ℕ} → given ≡ word ∷ rest → IsOther word → (r : Result TraceLine Stop)
+    → Finds true IsOutcome trace_line_words given r
+    → Finds true IsTraceLine trace_line_words (word ∷ rest) r
+said_outcomes cut other (Ok said) h = (outcome_line said h.0, sym cut ∙ h.1)
+said_outcomes cut other (Err Wrong) h = λ said is e. h said (outcome_of said _ _ other is e) (cut ∙ e)
+said_outcomes cut other (Err Memory) h = refl
+
+-- ---- the words of a datagram
+
+-- where one was, a tidy line says it
+pub told_line : (known : Option TxParts) (line : List ℕ) (args : List (List ℕ)) (told : ToldSent)
+    → TellsSent known args (Ok told) → is_tidy line ≡ true → words line ≡ codes "sent" ∷ args
+    → HearsText known line (Ok (Heard.Datagram told))
+told_line None line args told h tidy says = absurd h
+told_line (Some tx) line args told h tidy says =
+    let sent = Datagram (sent_of tx told) in
+    (sent, refl, h.0, line_text_of sent line tidy (says ∙ ap (λ (ws : List (List ℕ)). codes "sent" ∷ ws) h.1))
+
+-- ---- for the reader
+
+-- a datagram that was heard is one
+pub heard_whole : (known : Option TxParts) (line : List ℕ) (heard : Heard) → HearsText known line (Ok heard) → IsWhole known heard
+heard_whole None line (Heard.Line said) h = tt
+heard_whole (Some tx) line (Heard.Line said) h = tt
+heard_whole None line (Heard.Datagram told) h = absurd h.1
+heard_whole (Some tx) line (Heard.Datagram told) h = subst IsTraceLine h.1 h.2

@@ -1,10 +1,10 @@
--- Pieces, lines and words of a text, and the texts of nodes and bytes.
-use Rattle.std.proofs.Common.{eq-eqb, ◌≡◌, ℕ, ◌*◌, ◌<◌, ◌^◌, Bool, true, false, cond, not, ◌⊎◌, inl, inr, eqb, List, [], ◌∷◌}
-use Rattle.std.proofs.Common.{◌+◌, ◌-◌, ◌≤◌, take, get_or, ◌++◌, length, Ok, Option, None, Some, refl, sym, ap, subst, ◌∙◌, arith}
-use Rattle.std.proofs.Common.{decimal}
-use Rattle.std.proofs.lemmas.List.{length-append}
+-- Pieces, lines and words of a text, a text up to its first mark, and the texts of nodes and bytes: for readers of words.
+use Rattle.std.proofs.Common.{eq-eqb, ◌≡◌, ℕ, ◌*◌, ◌<◌, ◌^◌, Bool, true, false, cond, not, ◌⊎◌, inl, inr, eqb, List, [], ◌∷◌, ◌+◌, ◌-◌, ◌≤◌}
+use Rattle.std.proofs.Common.{take, get_or, ◌++◌, length, Ok, Option, None, Some, refl, sym, ap, subst, ◌∙◌, arith, decimal, zero, suc}
+use Rattle.std.proofs.Common.{◌&&◌, drop, eqb-true}
+use Rattle.std.proofs.lemmas.List.{length-append, append-nil, take_all, length-drop}
 use Rattle.std.specs.List.{onto_first}
-use Rattle.std.proofs.lemmas.Bool.{not-true}
+use Rattle.std.proofs.lemmas.Bool.{not-true, and_parts}
 use Rattle.std.specs.Str.{bytes_eq}
 use Rattle.std.proofs.lemmas.Slice.Eq.{bytes_eq-Decides}
 use Rattle.std.proofs.lemmas.Fmt.{decimal_injective, decimal-digits_value}
@@ -15,10 +15,11 @@ use Rattle.std.specs.Char.{digit_value}
 use Rattle.std.specs.Int.{IsInRange}
 use Rattle.std.specs.Str.Parse.{AllDigits, digits_value}
 use Rattle.xid.specs.Text.{lacks}
-use Rattle.xid.proofs.Texts.{first_true, second_true}
+use Rattle.xid.proofs.Texts.{first_true, second_true, both_true}
 use Rattle.net_script.specs.Lines.{pieces, IsFirstPiece, Reads}
-pub use Rattle.net_script.specs.HexLemmas.{differ, hex_some, hex_decodes}
-pub use Rattle.net_script.specs.HexLemmas.{hex_injective, bytes_are_hex, bytes_injective, hex_long}
+pub use Rattle.net_script.specs.Laws.{differ, hex_some, hex_decodes, hex_injective, bytes_are_hex, bytes_injective, hex_long}
+use Rattle.std.proofs.lemmas.Bool.Decides.{nat_tests}
+use Rattle.memchr.specs.Find.{IsFirstByte, is_byte}
 
 pub second_holds : {A B : Type 0} → A ⊎ B → (A → ⊥) → B
 second_holds (inl a) other = absurd (other a)
@@ -33,12 +34,6 @@ pub reads_none : {X W : Type 0} (IsIn : X → Type 0) (text : X → W) (given : 
     → (y : X) → IsIn y → given ≡ text y → ⊥
 reads_none IsIn text given None e h = h
 reads_none IsIn text given (Some x) e h = absurd (cc)
-
--- where something was
-pub reads_some : {X W : Type 0} (IsIn : X → Type 0) (text : X → W) (given : W) (o : Option X) (x : X) → o ≡ Some x
-    → Reads IsIn text given (Ok o)
-    → IsIn x × (given ≡ text x)
-reads_some {X = X} IsIn text given o x e h = subst (λ (p : Option X). Reads IsIn text given (Ok p)) e h
 
 -- ---- pieces
 
@@ -74,3 +69,38 @@ pub large_number : (m n : ℕ) → m < 2 ^ 32 → 255 < m → n < 256 → decima
 large_number m n small large lt e =
     let same : m ≡ n = decimal_injective m n (omega arith) (omega arith) e in
     omega arith
+
+lacks_until : (mark : ℕ) (text : List ℕ) (n : ℕ) → n ≤ length text
+    → ((k : ℕ) → k < n → eqb (get_or text k 0) mark ≡ true → ⊥) → lacks mark (take n text) ≡ true
+lacks_until mark text zero le none = refl
+lacks_until mark [] (suc n) le none = refl
+lacks_until mark (x ∷ xs) (suc n) le none =
+    both_true (not (eqb x mark)) (lacks mark (take n xs)) (off (eqb x mark) (none 0 (omega arith)))
+    (lacks_until mark xs n (omega arith) (λ k lt e. none (suc k) (omega arith) e))
+  where
+    off : (b : Bool) → (b ≡ true → ⊥) → not b ≡ true
+    off true none = absurd (none refl)
+    off false _ = refl
+
+cut_here : (text : List ℕ) (n : ℕ) → n < length text → text ≡ take n text ++ get_or text n 0 ∷ drop (suc n) text
+cut_here [] n lt = absurd (omega arith)
+cut_here (x ∷ xs) zero lt = refl
+cut_here (x ∷ xs) (suc n) lt = ap (λ (l : List ℕ). x ∷ l) (cut_here xs n (omega arith))
+
+pub marked_at : (mark : ℕ) (text : List ℕ) (n : ℕ) → IsFirstByte (is_byte mark) text (Some n)
+    → (text ≡ take n text ++ mark ∷ take (length text - (n + 1)) (drop (n + 1) text)) × (lacks mark (take n text) ≡ true)
+marked_at mark text n first =
+    let here : get_or text n 0 ≡ mark = eqb-true (get_or text n 0) mark first.1 in
+    let high = first.0.high in
+    let next : suc n ≡ n + 1 = omega arith in
+    let rest : drop (n + 1) text ≡ take (length text - (n + 1)) (drop (n + 1) text) =
+    sym (take_all (length text - (n + 1)) (drop (n + 1) text) (omega (arith, length-drop (n + 1) text))) in (
+      cut_here text n high ∙ ap (λ (byte : ℕ). take n text ++ byte ∷ drop (suc n) text) here
+          ∙ ap (λ (m : ℕ). take n text ++ mark ∷ drop m text) next ∙ ap (λ (l : List ℕ). take n text ++ mark ∷ l) rest,
+      lacks_until mark text n (omega (arith, high)) (λ k lt e. first.0.before k (omega arith) lt e),
+    )
+
+pub unmarked : (mark : ℕ) (text : List ℕ) → IsFirstByte (is_byte mark) text None → lacks mark text ≡ true
+unmarked mark text none =
+    ap (lacks mark) (sym (take_all (length text) text (omega arith)))
+    ∙ lacks_until mark text (length text) (omega arith) (λ k lt e. none k (omega arith) lt e)

@@ -2,9 +2,6 @@ pub mod Basics
 pub mod Lines
 pub mod Spelling
 pub mod Events
-pub mod HexLemmas
-pub mod NameLemmas
-pub mod Laws
 pub mod Items
 pub mod Answers
 pub mod Scripts
@@ -12,7 +9,7 @@ pub mod Messages
 pub mod MessageLaws
 pub mod Traces
 pub mod TraceLines
-pub mod LineLaws
+pub mod Laws
 pub mod TraceReading
 pub mod Telling
 pub mod TraceReaders

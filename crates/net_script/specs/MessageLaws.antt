@@ -1,6 +1,6 @@
 -- The words of votes, reports and items of bundles: one text each, which is a word.
-use Rattle.std.proofs.Common.{◌≡◌, ℕ, ◌<◌, ◌≤◌, ◌^◌, true, not, eqb, List, [], ◌∷◌, ◌++◌, Option, None, Some, refl, sym, ap}
-use Rattle.std.proofs.Common.{subst, ◌∙◌, arith, decimal, codes}
+use Rattle.std.proofs.Common.{◌≡◌, ℕ, ◌<◌, ◌≤◌, ◌^◌, true, not, eqb, List, [], ◌∷◌, ◌++◌, Option, None, Some, refl, sym, ap, subst, ◌∙◌}
+use Rattle.std.proofs.Common.{arith, decimal, codes}
 use Rattle.std.specs.List.{AllByRecursion, list_all}
 use Rattle.std.proofs.lemmas.Bool.Decides.{nat_tests}
 use Rattle.xid.specs.Text.{lacks}
@@ -8,12 +8,11 @@ use Rattle.xid.proofs.Texts.{both_true, cut_same, decimal_lacks_colon, lacks_not
 use Rattle.net_script.specs.Basics.{Vote, InstanceReport, InstanceAccept, A, R}
 use Rattle.net_script.specs.declared.message_words.Reported.{Reported}
 use Rattle.net_script.specs.Lines.{node_text}
-use Rattle.net_script.specs.Messages.{vote_text, report_words, accepted_text, report_text, report_item_text, accept_item_text}
-use Rattle.net_script.specs.Messages.{FitsReport, FitsReportItem, FitsAcceptItem, FitsReported, reported_words}
+use Rattle.net_script.specs.Messages.{vote_text, report_words, accepted_text, report_text, report_item_text, accept_item_text, FitsReport}
+use Rattle.net_script.specs.Messages.{FitsReportItem, FitsAcceptItem, FitsReported, reported_words}
 use Rattle.net_script.specs.Spelling.{is_common, IsCommon, IsSpelling, AreSpellings}
-use Rattle.net_script.specs.Laws.{all_join, joined, number_bytes, number_common, node_common}
-use Rattle.net_script.specs.HexLemmas.{differ}
-use Rattle.net_script.specs.NameLemmas.{number_one, node_injective, manager_injective}
+use Rattle.net_script.specs.Laws.{all_join, joined, number_bytes, number_common, node_common, differ, number_one, node_injective}
+use Rattle.net_script.specs.Laws.{manager_injective}
 
 -- ---- votes, reports and items
 

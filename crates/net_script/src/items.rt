@@ -4,7 +4,7 @@ ghost use Rattle.std.specs.Prelude.{◌≡◌, ◌≢◌, ◌∷◌, Bool, Match
 ghost use Rattle.net_script.specs.Lines.{words};
 ghost use Rattle.net_script.specs.Spelling.{Finds};
 ghost use Rattle.net_script.specs.Items.{IsSizes, IsItem, bundled_words, sizes_words, item_words};
-ghost use Rattle.net_script.specs.LineLaws.{a_sizes};
+ghost use Rattle.net_script.specs.Laws.{a_sizes};
 
 use crate::args::field;
 use crate::commands::command_by;

@@ -6,7 +6,7 @@ ghost use Rattle.net_script.specs.Spelling.{Finds};
 ghost use Rattle.net_script.specs.Items.{rows_words};
 ghost use Rattle.net_script.specs.Traces.{change_words};
 ghost use Rattle.net_script.specs.TraceLines.{IsChange, AreFinalRows, are_ascending};
-ghost use Rattle.net_script.specs.LineLaws.{final_rows};
+ghost use Rattle.net_script.specs.Laws.{final_rows};
 
 use crate::answer_words::view_named;
 use crate::args::manager;

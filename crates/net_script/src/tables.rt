@@ -4,7 +4,7 @@ ghost use Rattle.std.specs.Prelude.{◌≢◌, ◌↔◌, IsTrue, true};
 ghost use Rattle.std.specs.List.{All, AllPairs};
 ghost use Rattle.net_script.specs.Lines.{row_text};
 ghost use Rattle.net_script.specs.Items.{IsRow, IsContents, contents_words};
-ghost use Rattle.net_script.specs.LineLaws.{a_row, a_table};
+ghost use Rattle.net_script.specs.Laws.{a_row, a_table};
 
 use crate::byte_words::Hex;
 use crate::nodes::Manager;

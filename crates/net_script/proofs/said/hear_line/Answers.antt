@@ -3,8 +3,7 @@ use Rattle.net_script.specs.Lines.{words}
 use Rattle.net_script.specs.TraceLines.{is_tidy}
 use Rattle.net_script.specs.Telling.{HearsText}
 use Rattle.net_script.proofs.Arms.{passes_on}
-use Rattle.net_script.proofs.TraceLineLemmas.{sent_arm, line_text_words, line_text_tidy, line_text_of}
-use Rattle.net_script.proofs.MoreLines.{told_line}
+use Rattle.net_script.proofs.TraceLineLemmas.{sent_arm, line_text_words, line_text_tidy, line_text_of, told_line}
 use Rattle.net_script.proofs.said.hear_line.Goals as goal
 
 pub returns-then-not-is_tidy : goal.returns-then-not-is_tidy

@@ -1,8 +1,7 @@
 use Rattle.std.proofs.Common.{sym}
 use Rattle.std.proofs.lemmas.Bool.{iff_false}
 use Rattle.net_script.proofs.Arms.{stops}
-use Rattle.net_script.proofs.MoreLines.{said_outcomes}
-use Rattle.net_script.proofs.TraceLineLemmas.{cluster_arm, table_arm, now_arm, final_arm}
+use Rattle.net_script.proofs.TraceLineLemmas.{said_outcomes, cluster_arm, table_arm, now_arm, final_arm}
 use Rattle.net_script.proofs.said.said_words.Goals as goal
 
 pub returns-in_err-change : goal.returns-in_err-change

@@ -1,7 +1,7 @@
 use Rattle.std.proofs.Common.{◌≡◌, ◌∙◌, ◌+◌, sym, subst, refl, rules, Err, inl, inr}
 use Rattle.net_script.specs.Scripts.{items_so_far, ReadsLine, Refuses}
 use Rattle.net_script.proofs.Arms.{at_line_ok, refused_at}
-use Rattle.net_script.proofs.LineLemmas.{step_passed, step_said, step_fails}
+use Rattle.net_script.proofs.ScriptLemmas.{step_passed, step_said, step_fails}
 use Rattle.net_script.proofs.scripts.read_script.Goals as goal
 
 pub returns-in_err-longer-clause-err : goal.returns-in_err-longer-clause-err

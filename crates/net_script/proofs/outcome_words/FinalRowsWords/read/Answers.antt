@@ -1,5 +1,5 @@
 use Rattle.std.proofs.Common.{◌≡◌, ◌∙◌, sym, ap, true, false}
-use Rattle.net_script.specs.LineLaws.{a_row}
+use Rattle.net_script.specs.Laws.{a_row}
 use Rattle.net_script.specs.Spelling.{one_list}
 use Rattle.net_script.specs.TraceLines.{are_ascending}
 use Rattle.net_script.proofs.outcome_words.FinalRowsWords.read.Goals as goal

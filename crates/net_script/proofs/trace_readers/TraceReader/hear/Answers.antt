@@ -7,7 +7,7 @@ use Rattle.net_script.specs.TraceReading.{RefusesTrace}
 use Rattle.net_script.specs.TraceReaders.{ReaderParts, HasRead, ReadsOn, Follows, as_line}
 use Rattle.net_script.specs.Telling.{HearsText, IsWhole}
 use Rattle.net_script.proofs.Arms.{at_line_ok, refused_at}
-use Rattle.net_script.proofs.MoreLines.{heard_whole}
+use Rattle.net_script.proofs.TraceLineLemmas.{heard_whole}
 use Rattle.net_script.proofs.ReaderLemmas.{unended_line, unread_line, unfit_line, fit_line, heard_follows}
 use Rattle.net_script.proofs.trace_readers.TraceReader.hear.Goals as goal
 
