@@ -27,7 +27,7 @@ use Rattle.net_script.specs.declared.nodes.Leader.{Leader}
 use Rattle.net_script.specs.declared.nodes.Party.{Party}
 use Rattle.net_script.specs.declared.byte_words.Hex.{Hex}
 use Rattle.net_script.specs.Spelling.{is_common, IsCommon, IsSpelling, AreSpellings, named, shaped, ◌&◌, list_of_words}
-use Rattle.net_script.specs.declared.outcome_words.FinalRows.{FinalRows}
+use Rattle.net_script.specs.declared.said.FinalRows.{FinalRows}
 use Rattle.net_script.specs.Items.{IsSizes, IsRow, IsContents, bundled_words, sizes_words, rows_words, contents_words}
 use Rattle.net_script.specs.TraceLines.{AreFinalRows}
 

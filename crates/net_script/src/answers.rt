@@ -1,18 +1,23 @@
-//! What came of events, as a trace prints it.
+//! What came of events: answers, written and read, and changed views and datagrams, written.
 
-ghost use Rattle.std.specs.Prelude.{◌≡◌, ◌++◌, IfErr, OnOk};
-ghost use Rattle.net_script.specs.Basics.{NoMemory};
-ghost use Rattle.net_script.specs.Answers.{standing_text, view_text, answer_words};
+ghost use Rattle.std.specs.Prelude.{◌≡◌, ◌++◌, IfErr, OnOk, ◌≢◌, ◌∷◌, true, MatchOption};
+ghost use Rattle.net_script.specs.Basics.{NoMemory, Refusal, XaCode, Standing, View, number_of};
+ghost use Rattle.net_script.specs.Answers.{standing_text, view_text, answer_words, IsTold, IsAnswer, code_text};
 ghost use Rattle.net_script.specs.Traces.{spaced_words, change_text, sent_line};
 ghost use Rattle.net_script.specs.Writing.{Puts};
+ghost use Rattle.net_script.specs.Lines.{words};
+ghost use Rattle.net_script.specs.Spelling.{Finds};
 
 use crate::known::{KnownTx, put_known};
 use crate::messages::put_message;
 use crate::pieces::{put_bytes_word, put_manager, put_node, put_number, put_word, put_xid};
+use crate::stop::Stop;
+use crate::word::{Words, is_word};
+use crate::words::next_word;
 use itoa::Buffer;
 use protocol::{Answer, Change, Sent, Standing, View};
 use std::alloc::Global;
-use xid::Refusal;
+use xid::{Refusal, XaCode};
 
 /// The word of where a transaction stands.
 fn standing_word(standing: Standing) -> &'static [u8]
@@ -107,4 +112,146 @@ pub(crate) fn put_sent(
     put_message(alloc, out, known, sent.message.kind())?;
     out.push(b'\n')?;
     Ok(())
+}
+
+/// The code of this number.
+fn code_named(word: &[u8]) -> Option<XaCode>
+    ensures { MatchOption result ((c : XaCode) → word.now ≢ code_text c) (λ c. word.now ≡ code_text c) }
+{
+    if word == b"0".as_slice() {
+        return Some(XaCode::Ok);
+    }
+    if word == b"100".as_slice() {
+        return Some(XaCode::RbRollback);
+    }
+    if word == b"-4".as_slice() {
+        return Some(XaCode::Nota);
+    }
+    if word == b"-5".as_slice() {
+        return Some(XaCode::Inval);
+    }
+    if word == b"-6".as_slice() {
+        return Some(XaCode::Proto);
+    }
+    if word == b"-7".as_slice() {
+        return Some(XaCode::RmFail);
+    }
+    if word == b"-8".as_slice() {
+        return Some(XaCode::DupId);
+    }
+    None
+}
+
+/// Where a transaction stands, by its word.
+fn standing_named(word: &[u8]) -> Option<Standing>
+    ensures { MatchOption result ((s : Standing) → word.now ≢ standing_text s) (λ s. word.now ≡ standing_text s) }
+{
+    if word == b"unknown".as_slice() {
+        return Some(Standing::Unknown);
+    }
+    if word == b"undecided".as_slice() {
+        return Some(Standing::Undecided);
+    }
+    if word == b"working".as_slice() {
+        return Some(Standing::Working);
+    }
+    if word == b"prepared".as_slice() {
+        return Some(Standing::Prepared);
+    }
+    if word == b"committed".as_slice() {
+        return Some(Standing::Committed);
+    }
+    if word == b"aborted".as_slice() {
+        return Some(Standing::Aborted);
+    }
+    None
+}
+
+/// The view of this word.
+pub(crate) fn view_named(word: &[u8]) -> Option<View>
+    ensures { MatchOption result ((v : View) → word.now ≢ view_text v) (λ v. word.now ≡ view_text v) }
+{
+    if word == b"working".as_slice() {
+        return Some(View::Working);
+    }
+    if word == b"prepared".as_slice() {
+        return Some(View::Prepared);
+    }
+    if word == b"committed".as_slice() {
+        return Some(View::Committed);
+    }
+    if word == b"aborted".as_slice() {
+        return Some(View::Aborted);
+    }
+    None
+}
+
+/// The refusal of this number, of those that an event may be answered.
+fn refusal_numbered(number: u32) -> Option<Refusal>
+    ensures { MatchOption result
+        ((r : Refusal) → IsTold r → number ≢ number_of r)
+        (λ r. IsTold r × (number ≡ number_of r)) }
+{
+    match number {
+        2 => Some(Refusal::BadTx),
+        3 => Some(Refusal::BadMessage),
+        4 => Some(Refusal::Damaged),
+        5 => Some(Refusal::RecordFault),
+        6 => Some(Refusal::NoBallot),
+        8 => Some(Refusal::Down),
+        9 => Some(Refusal::Busy),
+        10 => Some(Refusal::Full),
+        11 => Some(Refusal::NoMemory),
+        12 => Some(Refusal::PortFault),
+        14 => Some(Refusal::Forged),
+        15 => Some(Refusal::NoSuch),
+        _ => None,
+    }
+}
+
+/// The answer of this first word, by those after it.
+fn answer_by(alloc: Global, name: &[u8], args: &[u8]) -> Result<Answer, Stop>
+    ensures { Finds true IsAnswer answer_words (name.now ∷ words args.now) result }
+{
+    if is_word(name, b"ok") {
+        let () = Words::read(alloc, args)?;
+        return Ok(Answer::Done);
+    }
+    if let Some(code) = code_named(name) {
+        let () = Words::read(alloc, args)?;
+        return Ok(Answer::Code(code));
+    }
+    if is_word(name, b"value") {
+        let (bytes, ()) = Words::read(alloc, args)?;
+        return Ok(Answer::Value(bytes));
+    }
+    if is_word(name, b"none") {
+        let () = Words::read(alloc, args)?;
+        return Ok(Answer::NoValue);
+    }
+    if is_word(name, b"xids") {
+        let xids = Words::read(alloc, args)?;
+        return Ok(Answer::Xids(xids));
+    }
+    if let Some(standing) = standing_named(name) {
+        let () = Words::read(alloc, args)?;
+        return Ok(Answer::Stands(standing));
+    }
+    if is_word(name, b"refused") {
+        let (number, ()) = Words::read(alloc, args)?;
+        let Some(refusal) = refusal_numbered(number) else {
+            return Err(Stop::Wrong);
+        };
+        return Ok(Answer::Refused(refusal));
+    }
+    Err(Stop::Wrong)
+}
+
+/// The answer of these words.
+#[inline(never)]
+pub(crate) fn read_answer(alloc: Global, args: &[u8]) -> Result<Answer, Stop>
+    ensures { Finds true IsAnswer answer_words (words args.now) result }
+{
+    let (name, args) = next_word(args).ok_or(Stop::Wrong)?;
+    answer_by(alloc, name, args)
 }

@@ -1,18 +1,90 @@
-//! The items of a script, each of one line.
+//! The items of a script, each of one line, and first tables.
 
-ghost use Rattle.std.specs.Prelude.{◌≡◌, ◌≢◌, ◌∷◌, Bool, MatchOption, true, false};
-ghost use Rattle.net_script.specs.Lines.{words};
+ghost use Rattle.std.specs.Prelude.{◌≢◌, ◌↔◌, IsTrue, true, ◌≡◌, ◌∷◌, Bool, MatchOption, false};
+ghost use Rattle.std.specs.List.{All, AllPairs};
+ghost use Rattle.net_script.specs.Lines.{row_text, words};
+ghost use Rattle.net_script.specs.Items.{IsRow, IsContents, contents_words, IsSizes, IsItem, bundled_words, sizes_words, item_words};
+ghost use Rattle.net_script.specs.Laws.{a_row, a_table, a_sizes};
 ghost use Rattle.net_script.specs.Spelling.{Finds};
-ghost use Rattle.net_script.specs.Items.{IsSizes, IsItem, bundled_words, sizes_words, item_words};
-ghost use Rattle.net_script.specs.Laws.{a_sizes};
 
-use crate::args::field;
-use crate::commands::command_by;
+use crate::byte_words::Hex;
+use crate::events::command_by;
+use crate::nodes::Manager;
 use crate::stop::Stop;
 use crate::values::{Command, Sizes, Table};
-use crate::word::{Words, is_word};
-use crate::words::{is_over, next_word};
+use crate::word::{Word, Words, is_word};
+use crate::words::{field, is_over, next_word, split_once};
+use protocol::Row;
 use std::alloc::Global;
+use xid::{Bytes, MAX_KEY, MAX_VALUE, Sequence};
+
+impl Word for Row {
+    ghost fits = { IsRow };
+
+    ghost text = { row_text };
+
+    ghost allocates = { true };
+
+    ghost spelling = { a_row };
+
+    fn read(alloc: Global, word: &[u8]) -> Result<Row, Stop> {
+        let Some((key, value)) = split_once(word, b'=') else {
+            return Err(Stop::Wrong);
+        };
+        let Hex(key) = Hex::read(alloc, key)?;
+        if key.as_slice().len() > MAX_KEY {
+            return Err(Stop::Wrong);
+        }
+        let value = <Bytes as Word>::read(alloc, value)?;
+        if value.as_slice().len() > MAX_VALUE {
+            return Err(Stop::Wrong);
+        }
+        Ok(Row { key, value })
+    }
+}
+
+/// Whether no row has this key.
+fn is_new(rows: &[Row], key: &[u8]) -> bool
+    ensures { IsTrue result ↔ All (λ row. row.key ≢ key.now) rows.now }
+{
+    for row in rows {
+        if row.key.as_slice() == key {
+            return false;
+        }
+    }
+    true
+}
+
+/// Whether keys are distinct.
+fn are_distinct(rows: &[Row]) -> bool
+    ensures { IsTrue result ↔ AllPairs (λ a b. a.key ≢ b.key) rows.now }
+{
+    for (at, row) in rows.iter().enumerate() {
+        if !is_new(&rows[..at], row.key.as_slice()) {
+            return false;
+        }
+    }
+    true
+}
+
+impl Words for Table {
+    ghost fit = { IsContents };
+
+    ghost texts = { contents_words };
+
+    ghost allocate = { true };
+
+    ghost spellings = { a_table };
+
+    #[inline(never)]
+    fn read(alloc: Global, args: &[u8]) -> Result<Table, Stop> {
+        let (Manager(rm), rows): (Manager, Sequence<Row>) = Words::read(alloc, args)?;
+        if !are_distinct(rows.as_slice()) {
+            return Err(Stop::Wrong);
+        }
+        Ok(Table { rm, rows })
+    }
+}
 
 /// What one line says.
 #[derive(Drop)]

@@ -4,8 +4,8 @@ ghost use Rattle.std.specs.Prelude.{◌≡◌, ◌≢◌, ◌∷◌, ◌++◌, �
 ghost use Rattle.net_script.specs.Basics.{R};
 ghost use Rattle.net_script.specs.Lines.{words, node_text};
 ghost use Rattle.net_script.specs.Spelling.{Finds};
-ghost use Rattle.net_script.specs.Messages.{vote_text, accepted_text, report_text, report_item_text, accept_item_text};
-ghost use Rattle.net_script.specs.Messages.{FitsReport, FitsReportItem, FitsAcceptItem, FitsReported, reported_words, FitsSaid, said_words};
+ghost use Rattle.net_script.specs.Messages.{vote_text, accepted_text, report_text, report_item_text, accept_item_text, FitsReport};
+ghost use Rattle.net_script.specs.Messages.{FitsReportItem, FitsAcceptItem, FitsReported, reported_words, FitsSaid, said_words};
 ghost use Rattle.net_script.specs.MessageLaws.{a_vote, a_report_item, an_accept_item, a_report};
 
 use crate::nodes::{Acceptor, Manager};
@@ -181,12 +181,7 @@ pub(crate) fn read_said(alloc: Global, name: &[u8], args: &[u8]) -> Result<Said,
     }
     if is_word(name, b"p1b") {
         let (Manager(rm), (ballot, Reported { report, acceptor })) = Words::read(alloc, args)?;
-        return Ok(Said::P1b(
-            ManagerNumber::from(rm),
-            ballot,
-            report,
-            acceptor,
-        ));
+        return Ok(Said::P1b(ManagerNumber::from(rm), ballot, report, acceptor));
     }
     if is_word(name, b"p2a") {
         let (Manager(rm), (ballot, (vote, ()))) = Words::read(alloc, args)?;

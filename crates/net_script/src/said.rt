@@ -1,23 +1,95 @@
 //! What one line of a trace says.
 
-ghost use Rattle.std.specs.Prelude.{◌≡◌, ◌≢◌, ◌∷◌, true, codes};
+ghost use Rattle.std.specs.Prelude.{◌≡◌, true, ◌≢◌, ◌∷◌, codes};
 ghost use Rattle.net_script.specs.Lines.{words};
 ghost use Rattle.net_script.specs.Spelling.{Finds};
-ghost use Rattle.net_script.specs.TraceLines.{IsTraceLine, IsOutcome, is_tidy, trace_line_words};
+ghost use Rattle.net_script.specs.Items.{rows_words};
+ghost use Rattle.net_script.specs.Traces.{change_words};
+ghost use Rattle.net_script.specs.TraceLines.{IsChange, AreFinalRows, are_ascending, IsTraceLine, IsOutcome, is_tidy, trace_line_words};
+ghost use Rattle.net_script.specs.Laws.{final_rows};
 ghost use Rattle.net_script.specs.Telling.{HearsText};
 
-use crate::answer_words::read_answer;
-use crate::args::last_node;
-use crate::commands::event_by;
-use crate::known::KnownTx;
+use crate::answers::{read_answer, view_named};
+use crate::events::event_by;
+use crate::known::{KnownTx, know};
 use crate::nodes::Manager;
-use crate::outcome_words::{FinalRows, read_change};
 use crate::stop::Stop;
 use crate::told::{ToldSent, read_told};
 use crate::trace_lines::{TraceLine, is_tidy, split_arrow};
 use crate::word::{Words, is_word};
-use crate::words::next_word;
+use crate::words::{is_over, last_node, manager, next_word};
+use protocol::{Boxed, Change, Row};
 use std::alloc::Global;
+use std::cmp::Ordering;
+use xid::Sequence;
+
+/// The changed view of these words.
+#[inline(never)]
+pub(crate) fn read_change(
+    alloc: Global,
+    known: &mut Option<KnownTx>,
+    args: &[u8],
+) -> Result<Boxed<Change>, Stop>
+    ensures { Finds true IsChange change_words (words args.now) result }
+{
+    let (rm, rest) = manager(args).ok_or(Stop::Wrong)?;
+    let (text, rest) = next_word(rest).ok_or(Stop::Wrong)?;
+    let Ok(is_tx) = know(alloc, known, text) else {
+        return Err(Stop::Memory);
+    };
+    if !is_tx {
+        return Err(Stop::Wrong);
+    }
+    let Some(last) = &*known else { unreachable!() };
+    let (word, rest) = next_word(rest).ok_or(Stop::Wrong)?;
+    let view = view_named(word).ok_or(Stop::Wrong)?;
+    if !is_over(rest) {
+        return Err(Stop::Wrong);
+    }
+    let tx = *last.tx();
+    let Ok(change) = Boxed::new(alloc, Change { rm, tx, view }) else {
+        return Err(Stop::Memory);
+    };
+    Ok(change)
+}
+
+/// Whether keys ascend strictly by their bytes.
+fn are_ascending(rows: &[Row]) -> bool
+    ensures { result ≡ are_ascending rows.now }
+{
+    let [first, rest @ ..] = rows else {
+        return true;
+    };
+    let [second, ..] = rest else {
+        return true;
+    };
+    match first.key.as_slice().cmp(second.key.as_slice()) {
+        Ordering::Less => are_ascending(rest),
+        _ => false,
+    }
+}
+
+/// The last rows of a resource manager.
+#[derive(Drop)]
+pub struct FinalRows(pub Sequence<Row>);
+
+impl Words for FinalRows {
+    ghost fit = { λ rows. AreFinalRows rows.0 };
+
+    ghost texts = { λ rows. rows_words rows.0 };
+
+    ghost allocate = { true };
+
+    ghost spellings = { final_rows };
+
+    fn read(alloc: Global, args: &[u8]) -> Result<FinalRows, Stop> {
+        let rows: Sequence<Row> = Words::read(alloc, args)?;
+        if !are_ascending(rows.as_slice()) {
+            return Err(Stop::Wrong);
+        }
+        Ok(FinalRows(rows))
+    }
+}
 
 /// What happened, and its answer behind an arrow.
 #[inline(never)]

@@ -8,8 +8,7 @@ ghost use Rattle.net_script.specs.declared.items.Item.TheVariants.{Contents};
 ghost use Rattle.net_script.specs.Lines.{lines, words, is_plain};
 ghost use Rattle.net_script.specs.Items.{IsItem, IsContents};
 ghost use Rattle.net_script.specs.Scripts.{is_note, lines_kept, script_items, items_so_far, IsLineOf, IsScript, GoesOn, ReadsLine};
-ghost use Rattle.net_script.specs.Scripts.{SpellsScript};
-ghost use Rattle.net_script.specs.Scripts.{Refuses, IsScriptFault};
+ghost use Rattle.net_script.specs.Scripts.{SpellsScript, Refuses, IsScriptFault};
 
 use crate::items::{Item, item_by};
 use crate::stop::{Stop, at_line};

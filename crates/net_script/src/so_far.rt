@@ -94,11 +94,7 @@ impl SoFar {
 }
 
 /// Adds a line to what was read so far, if it may follow.
-pub(crate) fn follow(
-    alloc: Global,
-    so_far: &mut Option<SoFar>,
-    heard: &Heard,
-) -> Result<(), Stop>
+pub(crate) fn follow(alloc: Global, so_far: &mut Option<SoFar>, heard: &Heard) -> Result<(), Stop>
     ensures { Follows so_far.old so_far.new (as_line heard.now) result }
 {
     let Some(begun) = so_far else {

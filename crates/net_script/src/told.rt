@@ -6,11 +6,10 @@ ghost use Rattle.net_script.specs.Lines.{words};
 ghost use Rattle.net_script.specs.Messages.{kind_of};
 ghost use Rattle.net_script.specs.Telling.{sent_of, TellsSent};
 
-use crate::args::{node, number};
 use crate::known::{KnownTx, know};
 use crate::message_words::{Said, read_said};
 use crate::stop::Stop;
-use crate::words::next_word;
+use crate::words::{next_word, node, number};
 use protocol::{NodeId, Sent};
 use std::alloc::Global;
 use wire::{Kind, Message, is_ask, is_b1a, is_b1b, is_b2b, is_p1a, is_p1b, is_p2a, is_p2b};

@@ -5,8 +5,8 @@ ghost use Rattle.std.specs.List.{flat_map};
 ghost use Rattle.net_script.specs.Basics.{NoMemory};
 ghost use Rattle.net_script.specs.Items.{bundled_words, sizes_words};
 ghost use Rattle.net_script.specs.Answers.{answer_words};
-ghost use Rattle.net_script.specs.Traces.{spaced_words, line_text, change_text, sent_line, step_text, final_line};
-ghost use Rattle.net_script.specs.Traces.{entry_text, final_lines, head_text, trace_text};
+ghost use Rattle.net_script.specs.Traces.{spaced_words, line_text, change_text, sent_line, step_text, final_line, entry_text, final_lines};
+ghost use Rattle.net_script.specs.Traces.{head_text, trace_text};
 ghost use Rattle.net_script.specs.Writing.{Puts};
 
 use crate::answers::{put_answer, put_change, put_sent};
