@@ -7,7 +7,7 @@ use Rattle.xid.specs.Limits.{most_managers}
 use Rattle.wire.specs.Messages.{IsInstance, IsReportBelow}
 use Rattle.wire.proofs.Fields.{tx_valid}
 use Rattle.wire.proofs.Instances.{instance_below, instances_below, few_instances}
-use Rattle.net_script.specs.Basics.{TxParts, IsTx, tx_text, IsMessage, message_tx, Vote, Kind, Prepare, P1a, P1b, P2a, P2b, Commit, Abort}
+use Rattle.net_script.specs.Basics.{TxParts, tx_text, IsMessage, message_tx, Vote, Kind, Prepare, P1a, P1b, P2a, P2b, Commit, Abort}
 use Rattle.net_script.specs.Basics.{B1a, B1b, B2b, InstanceReport, InstanceAccept}
 use Rattle.net_script.specs.declared.message_words.Said.{Said}
 use Rattle.net_script.specs.Messages.{message_word, message_args, message_words, FitsReport, FitsReportItem}

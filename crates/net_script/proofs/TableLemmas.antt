@@ -12,7 +12,6 @@ use Rattle.net_script.specs.Lines.{IsSome, bytes_text, row_text}
 use Rattle.net_script.specs.Items.{IsRow, IsContents, contents_words}
 use Rattle.net_script.specs.Spelling.{one_list}
 use Rattle.net_script.proofs.WordLemmas.{hex_injective, bytes_injective}
-use Rattle.net_script.proofs.OneText.{HasOneText}
 
 pub key_some : (xs : List ℕ) → IsKey xs → IsSome xs
 key_some xs is = (is.some, is.bytes)

@@ -2,10 +2,10 @@
 use Rattle.std.proofs.Common.{◌≡◌, ℕ, ◌<◌, Bool, true, false, Option, None, Some, List, [], ◌∷◌, ◌++◌, length, refl, sym, ap, subst, ◌∙◌}
 use Rattle.std.proofs.Common.{arith, codes, Result, Ok, Err}
 use Rattle.std.specs.List.{AllByRecursion}
-use Rattle.net_script.specs.Basics.{TxParts, IsTx, tx_text, View, NodeId, R, Answer, Change, Sent, Event, TraceLine, Stop, Wrong, Memory}
+use Rattle.net_script.specs.Basics.{TxParts, IsTx, tx_text, View, NodeId, Answer, Change, Sent, Event, TraceLine, Stop, Wrong, Memory}
 use Rattle.net_script.specs.declared.trace_lines.TraceLine.TheVariants.{Cluster, Contents, Happened, Served, Changed, Datagram, Final}
 use Rattle.net_script.specs.Lines.{words}
-use Rattle.net_script.specs.Events.{IsNode, IsEvent, event_word, event_words}
+use Rattle.net_script.specs.Events.{IsNode, IsEvent, event_words}
 use Rattle.net_script.specs.Answers.{IsAnswer, view_text, answer_words}
 use Rattle.net_script.specs.Spelling.{IsClean, IsCommon, IsSpelling, AreSpellings, no_words, ◌&◌, shaped, Finds}
 use Rattle.net_script.specs.Laws.{literal, all_join, a_number, a_node, manager_of, a_manager, a_tx, a_table, final_rows, a_sizes}

@@ -1,24 +1,17 @@
 -- Pieces, lines and words of a text, a text up to its first mark, and the texts of nodes and bytes: for readers of words.
-use Rattle.std.proofs.Common.{eq-eqb, ◌≡◌, ℕ, ◌*◌, ◌<◌, ◌^◌, Bool, true, false, cond, not, ◌⊎◌, inl, inr, eqb, List, [], ◌∷◌, ◌+◌, ◌-◌, ◌≤◌}
-use Rattle.std.proofs.Common.{take, get_or, ◌++◌, length, Ok, Option, None, Some, refl, sym, ap, subst, ◌∙◌, arith, decimal, zero, suc}
-use Rattle.std.proofs.Common.{◌&&◌, drop, eqb-true}
-use Rattle.std.proofs.lemmas.List.{length-append, append-nil, take_all, length-drop}
+use Rattle.std.proofs.Common.{eq-eqb, ◌≡◌, ℕ, ◌<◌, ◌^◌, Bool, true, false, cond, not, ◌⊎◌, inl, inr, eqb, List, [], ◌∷◌, ◌+◌, ◌-◌, ◌≤◌}
+use Rattle.std.proofs.Common.{take, get_or, ◌++◌, length, Ok, Option, None, Some, refl, sym, ap, ◌∙◌, arith, decimal, zero, suc}
+use Rattle.std.proofs.Common.{drop, eqb-true}
+use Rattle.std.proofs.lemmas.List.{length-append, take_all, length-drop}
 use Rattle.std.specs.List.{onto_first}
-use Rattle.std.proofs.lemmas.Bool.{not-true, and_parts}
+use Rattle.std.proofs.lemmas.Bool.{not-true}
 use Rattle.std.specs.Str.{bytes_eq}
 use Rattle.std.proofs.lemmas.Slice.Eq.{bytes_eq-Decides}
-use Rattle.std.proofs.lemmas.Fmt.{decimal_injective, decimal-digits_value}
-use Rattle.std.proofs.lemmas.Int.Digits.{digits_value_more, digits_more}
-use Rattle.std.proofs.lemmas.Str.{digit_value_digit}
-use Rattle.std.proofs.lemmas.Str.Parse.{numerals_by_value, tells_digits}
-use Rattle.std.specs.Char.{digit_value}
-use Rattle.std.specs.Int.{IsInRange}
-use Rattle.std.specs.Str.Parse.{AllDigits, digits_value}
+use Rattle.std.proofs.lemmas.Fmt.{decimal_injective}
 use Rattle.xid.specs.Text.{lacks}
 use Rattle.xid.proofs.Texts.{first_true, second_true, both_true}
 use Rattle.net_script.specs.Lines.{pieces, IsFirstPiece, Reads}
 pub use Rattle.net_script.specs.Laws.{differ, hex_some, hex_decodes, hex_injective, bytes_are_hex, bytes_injective, hex_long}
-use Rattle.std.proofs.lemmas.Bool.Decides.{nat_tests}
 use Rattle.memchr.specs.Find.{IsFirstByte, is_byte}
 
 pub second_holds : {A B : Type 0} → A ⊎ B → (A → ⊥) → B

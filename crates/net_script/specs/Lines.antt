@@ -1,5 +1,5 @@
 -- Lines and words of a text, and the one text of each value that a word can have.
-use Rattle.std.specs.Prelude.{◌≡◌, ◌≢◌, ℕ, ◌<◌, List, [], ◌∷◌, ◌++◌, length, Bool, true, false, not, ◌==◌, ◌&&◌, nat_le, if◌then◌else◌}
+use Rattle.std.specs.Prelude.{◌≡◌, ◌≢◌, ℕ, ◌<◌, List, [], ◌∷◌, ◌++◌, length, Bool, true, false, ◌==◌, ◌&&◌, nat_le, if◌then◌else◌}
 use Rattle.std.specs.Prelude.{codes, decimal, Result, Ok, Err, Option, Some, None}
 use Rattle.std.specs.List.{filter, onto_first}
 use Rattle.net_script.specs.Basics.{IsBytes, hex_text, Refusal, NoMemory, NodeId, A, L, R, Row}

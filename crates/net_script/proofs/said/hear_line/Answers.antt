@@ -1,4 +1,4 @@
-use Rattle.std.proofs.Common.{◌≡◌, ◌∷◌, ◌∙◌, ℕ, List, true, false, refl, sym, ap, codes}
+use Rattle.std.proofs.Common.{◌≡◌, ◌∷◌, ◌∙◌, ℕ, List, true, false, refl, sym, ap}
 use Rattle.net_script.specs.Lines.{words}
 use Rattle.net_script.specs.TraceLines.{is_tidy}
 use Rattle.net_script.specs.Telling.{HearsText}

@@ -1,4 +1,3 @@
-use Rattle.std.proofs.Common.{sym}
 use Rattle.std.proofs.lemmas.Bool.{iff_false}
 use Rattle.net_script.proofs.Arms.{stops}
 use Rattle.net_script.proofs.TraceLineLemmas.{said_outcomes, cluster_arm, table_arm, now_arm, final_arm}

@@ -1,4 +1,4 @@
-use Rattle.std.proofs.Common.{◌∙◌, sym, ap}
+use Rattle.std.proofs.Common.{◌∙◌, sym}
 use Rattle.net_script.specs.Scripts.{items_so_far, ReadsLine}
 use Rattle.net_script.proofs.Arms.{passes_on}
 use Rattle.net_script.proofs.ScriptLemmas.{reads_item}

@@ -1,4 +1,4 @@
-use Rattle.std.proofs.Common.{◌∙◌, ◌∷◌, ◌++◌, Option, ap, sym}
+use Rattle.std.proofs.Common.{◌∙◌, ◌∷◌, ◌++◌, Option, ap}
 use Rattle.net_script.specs.Basics.{Script, Item}
 use Rattle.net_script.specs.Scripts.{script_items, items_so_far}
 use Rattle.net_script.proofs.ScriptLemmas.{no_second_cluster}

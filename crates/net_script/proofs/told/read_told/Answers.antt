@@ -1,8 +1,8 @@
 use Rattle.std.proofs.Common.{◌≡◌, ◌∙◌, ◌∷◌, List, ℕ, sym, ap, subst, refl}
 use Rattle.std.proofs.lemmas.Bool.{iff_false}
 use Rattle.wire.proofs.Fields.{tx_valid}
-use Rattle.net_script.specs.Basics.{TxParts, Kind, IsMessage, message_tx}
-use Rattle.net_script.specs.Messages.{message_words, kind_of, said_words, FitsSaid}
+use Rattle.net_script.specs.Basics.{TxParts, IsMessage, message_tx}
+use Rattle.net_script.specs.Messages.{message_words, kind_of}
 use Rattle.net_script.specs.Laws.{tx_injective}
 use Rattle.net_script.specs.Lines.{words}
 use Rattle.net_script.specs.Telling.{TellsSent}

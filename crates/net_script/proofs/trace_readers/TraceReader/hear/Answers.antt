@@ -1,4 +1,4 @@
-use Rattle.std.proofs.Common.{◌≡◌, ◌∙◌, ◌+◌, ◌<◌, ℕ, List, Result, length, refl, sym, subst, arith, rules, Option, None, Some, Ok, Err, inl}
+use Rattle.std.proofs.Common.{◌≡◌, ◌∙◌, ◌+◌, ◌<◌, ℕ, List, Result, length, refl, sym, subst, arith, rules, Option, Some, Ok, Err, inl}
 use Rattle.std.proofs.lemmas.Bool.Decides.{nat_tests}
 use Rattle.net_script.specs.Basics.{Stop, Refusal, TxParts, BadScript}
 use Rattle.net_script.specs.Spelling.{at_line}
