@@ -1,6 +1,6 @@
 -- One reading of a text, and one first fault.
-use Rattle.std.proofs.Common.{◌≡◌, ℕ, ◌+◌, ◌<◌, ◌≤◌, not, List, [], ◌∷◌, ◌++◌, length, take, drop, map, append_assoc}
-use Rattle.std.proofs.Common.{refl, sym, ap, subst, ◌∙◌, arith, rules, ◌⊎◌, inl, inr}
+use Rattle.std.proofs.Common.{◌≡◌, ℕ, ◌+◌, ◌<◌, ◌≤◌, not, List, [], ◌∷◌, ◌++◌, length, take, drop, map, append_assoc, refl, sym, ap, subst}
+use Rattle.std.proofs.Common.{◌∙◌, arith, rules, ◌⊎◌, inl, inr}
 use Rattle.std.proofs.lemmas.Bool.{cases_lt}
 use Rattle.std.proofs.lemmas.List.{append-nil, nil_from_length, length-append, take-append-drop, take-take}
 use Rattle.std.proofs.lemmas.List.Elements.{filter-append}
@@ -11,7 +11,7 @@ use Rattle.net_script.specs.Items.{item_words}
 use Rattle.net_script.specs.Scripts.{is_note, lines_kept, script_items, SpelledBy, CanBegin, FailsAt}
 use Rattle.net_script.proofs.ScriptLemmas.{items_have_one_text, items_valid}
 use Rattle.net_script.specs.Spelling.{same_lists}
-use Rattle.net_script.proofs.OneText.{texts_injective}
+use Rattle.net_script.proofs.Arms.{texts_injective}
 
 -- ---- one reading
 

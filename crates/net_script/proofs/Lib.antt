@@ -1,15 +1,11 @@
-pub mod OneText
-pub mod TableLemmas
 pub mod Arms
 pub mod EventLemmas
-pub mod AnswerLemmas
 pub mod MessageLemmas
 pub mod ScriptLemmas
 pub mod LawLemmas
 pub mod TraceLemmas
 pub mod WordLemmas
 pub mod TidyText
-pub mod OutcomeLemmas
 pub mod DraftLemmas
 pub mod TraceLineLemmas
 pub mod EndedText

@@ -22,7 +22,7 @@ use Rattle.net_script.specs.TraceReaders.{told_of, told_by, last_of, so_far_of, 
 use Rattle.net_script.specs.TraceReaders.{bare_step, with_now, with_sent, at_last, grown, opened, begun_with, lines_so_far, ReaderParts}
 use Rattle.net_script.specs.TraceReaders.{HasRead, ReadsOn, IsRead, as_line, Follows, GivesHeard}
 use Rattle.net_script.specs.Telling.{IsHeard}
-use Rattle.net_script.proofs.OneText.{texts_injective, texts_go_on}
+use Rattle.net_script.proofs.Arms.{texts_injective, texts_go_on}
 use Rattle.net_script.proofs.LawLemmas.{one_line}
 use Rattle.net_script.proofs.TraceLineLemmas.{lines_have_one_text, push_injective, line_text_words, line_injective}
 use Rattle.net_script.proofs.DraftLemmas.{lines_same, begins, none_begins, opened_valid, lines_valid, so_far_valid, last_push, alone}

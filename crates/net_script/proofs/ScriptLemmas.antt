@@ -15,8 +15,7 @@ use Rattle.net_script.specs.Laws.{literal, a_number, a_table, a_sizes}
 use Rattle.net_script.specs.Scripts.{script_items, Says, GoesOn, ReadsLine, IsScript, is_note, lines_kept, SpelledBy, CanBegin}
 use Rattle.net_script.specs.Scripts.{IsScriptFault, items_so_far, IsLineOf}
 use Rattle.net_script.proofs.WordLemmas.{differ}
-use Rattle.net_script.proofs.Arms.{Arm, made_of, arm_said, apart}
-use Rattle.net_script.proofs.OneText.{HasOneText, texts_go_on}
+use Rattle.net_script.proofs.Arms.{Arm, made_of, arm_said, apart, HasOneText, texts_go_on}
 use Rattle.net_script.proofs.EventLemmas.{is_other, event_apart, event_injective, flow_arm}
 use Rattle.net_script.proofs.DraftLemmas.{managers_before}
 use Rattle.xid.proofs.Texts.{first_true, second_true}

@@ -4,8 +4,8 @@ use Rattle.std.proofs.lemmas.Fmt.{decimal_injective}
 use Rattle.net_script.specs.Basics.{XaCode, code_number, number_of}
 use Rattle.net_script.specs.Lines.{words}
 use Rattle.net_script.proofs.Arms.{arm_fails, stops, passes}
-use Rattle.net_script.proofs.AnswerLemmas.{code_digits, refusal_small, ok_arm, code_arm, value_arm, none_arm, xids_arm, standing_arm}
-use Rattle.net_script.proofs.AnswerLemmas.{refused_arm}
+use Rattle.net_script.proofs.EventLemmas.{code_digits, refusal_small, ok_arm, code_arm, value_arm, none_arm, xids_arm, standing_arm}
+use Rattle.net_script.proofs.EventLemmas.{refused_arm}
 use Rattle.net_script.proofs.answers.answer_by.Goals as goal
 
 pub returns-in_err-read : goal.returns-in_err-read

@@ -3,7 +3,7 @@ use Rattle.std.specs.List.{AllPairs}
 use Rattle.std.proofs.lemmas.Bool.{iff_false}
 use Rattle.std.proofs.lemmas.List.{take_all}
 use Rattle.net_script.specs.Basics.{Row}
-use Rattle.net_script.proofs.TableLemmas.{keys_before, keys_more}
+use Rattle.net_script.proofs.WordLemmas.{keys_before, keys_more}
 use Rattle.net_script.proofs.items.are_distinct.Goals as goal
 
 pub returns-then-not-is_new : goal.returns-then-not-is_new

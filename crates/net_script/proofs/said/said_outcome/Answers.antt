@@ -4,7 +4,7 @@ use Rattle.net_script.specs.declared.trace_lines.TraceLine.TheVariants.{Happened
 use Rattle.net_script.specs.Lines.{words}
 use Rattle.net_script.proofs.Arms.{passes}
 use Rattle.net_script.proofs.EventLemmas.{event_apart}
-use Rattle.net_script.proofs.OutcomeLemmas.{arrow_fails, answer_fails, event_fails, outcome_told}
+use Rattle.net_script.proofs.TraceLineLemmas.{arrow_fails, answer_fails, event_fails, outcome_told}
 use Rattle.net_script.proofs.said.said_outcome.Goals as goal
 
 head : {xs ys : List (List ℕ)} {x y : List ℕ} → x ∷ xs ≡ y ∷ ys → x ≡ y

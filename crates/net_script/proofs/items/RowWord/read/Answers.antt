@@ -1,7 +1,7 @@
 use Rattle.std.proofs.Common.{length, refl, ap, arith}
 use Rattle.net_script.specs.Laws.{hex_of}
 use Rattle.net_script.proofs.Arms.{passes}
-use Rattle.net_script.proofs.TableLemmas.{cut_row, key_some, long_key, long_value}
+use Rattle.net_script.proofs.WordLemmas.{cut_row, key_some, long_key, long_value}
 use Rattle.net_script.proofs.items.RowWord.read.Goals as goal
 
 pub returns-in_err-key : goal.returns-in_err-key

@@ -4,7 +4,7 @@ use Rattle.std.specs.List.{AllPairs}
 use Rattle.net_script.specs.Basics.{Row}
 use Rattle.net_script.specs.Laws.{manager_of}
 use Rattle.net_script.proofs.Arms.{passes}
-use Rattle.net_script.proofs.TableLemmas.{table_rows}
+use Rattle.net_script.proofs.WordLemmas.{table_rows}
 use Rattle.net_script.proofs.items.TableWords.read.Goals as goal
 
 pub returns-in_err-rm : goal.returns-in_err-rm
