@@ -118,72 +118,44 @@ pub(crate) fn put_sent(
 fn code_named(word: &[u8]) -> Option<XaCode>
     ensures { MatchOption result ((c : XaCode) → word.now ≢ code_text c) (λ c. word.now ≡ code_text c) }
 {
-    if word == b"0".as_slice() {
-        return Some(XaCode::Ok);
+    match word {
+        b"0" => Some(XaCode::Ok),
+        b"100" => Some(XaCode::RbRollback),
+        b"-4" => Some(XaCode::Nota),
+        b"-5" => Some(XaCode::Inval),
+        b"-6" => Some(XaCode::Proto),
+        b"-7" => Some(XaCode::RmFail),
+        b"-8" => Some(XaCode::DupId),
+        _ => None,
     }
-    if word == b"100".as_slice() {
-        return Some(XaCode::RbRollback);
-    }
-    if word == b"-4".as_slice() {
-        return Some(XaCode::Nota);
-    }
-    if word == b"-5".as_slice() {
-        return Some(XaCode::Inval);
-    }
-    if word == b"-6".as_slice() {
-        return Some(XaCode::Proto);
-    }
-    if word == b"-7".as_slice() {
-        return Some(XaCode::RmFail);
-    }
-    if word == b"-8".as_slice() {
-        return Some(XaCode::DupId);
-    }
-    None
 }
 
 /// Where a transaction stands, by its word.
 fn standing_named(word: &[u8]) -> Option<Standing>
     ensures { MatchOption result ((s : Standing) → word.now ≢ standing_text s) (λ s. word.now ≡ standing_text s) }
 {
-    if word == b"unknown".as_slice() {
-        return Some(Standing::Unknown);
+    match word {
+        b"unknown" => Some(Standing::Unknown),
+        b"undecided" => Some(Standing::Undecided),
+        b"working" => Some(Standing::Working),
+        b"prepared" => Some(Standing::Prepared),
+        b"committed" => Some(Standing::Committed),
+        b"aborted" => Some(Standing::Aborted),
+        _ => None,
     }
-    if word == b"undecided".as_slice() {
-        return Some(Standing::Undecided);
-    }
-    if word == b"working".as_slice() {
-        return Some(Standing::Working);
-    }
-    if word == b"prepared".as_slice() {
-        return Some(Standing::Prepared);
-    }
-    if word == b"committed".as_slice() {
-        return Some(Standing::Committed);
-    }
-    if word == b"aborted".as_slice() {
-        return Some(Standing::Aborted);
-    }
-    None
 }
 
 /// The view of this word.
 pub(crate) fn view_named(word: &[u8]) -> Option<View>
     ensures { MatchOption result ((v : View) → word.now ≢ view_text v) (λ v. word.now ≡ view_text v) }
 {
-    if word == b"working".as_slice() {
-        return Some(View::Working);
+    match word {
+        b"working" => Some(View::Working),
+        b"prepared" => Some(View::Prepared),
+        b"committed" => Some(View::Committed),
+        b"aborted" => Some(View::Aborted),
+        _ => None,
     }
-    if word == b"prepared".as_slice() {
-        return Some(View::Prepared);
-    }
-    if word == b"committed".as_slice() {
-        return Some(View::Committed);
-    }
-    if word == b"aborted".as_slice() {
-        return Some(View::Aborted);
-    }
-    None
 }
 
 /// The refusal of this number, of those that an event may be answered.

@@ -27,13 +27,11 @@ impl Word for Vote {
     ghost spelling = { a_vote };
 
     fn read(_alloc: Global, word: &[u8]) -> Result<Vote, Stop> {
-        if is_word(word, b"prepared") {
-            return Ok(Vote::Prepared);
+        match word {
+            b"prepared" => Ok(Vote::Prepared),
+            b"aborted" => Ok(Vote::Aborted),
+            _ => Err(Stop::Wrong),
         }
-        if is_word(word, b"aborted") {
-            return Ok(Vote::Aborted);
-        }
-        Err(Stop::Wrong)
     }
 }
 

@@ -61,9 +61,9 @@ pub fn is_over(line: &[u8]) -> bool
     false
 }
 
-/// The number behind this letter.
-fn lettered_number(word: &[u8], letter: u8) -> Option<u32>
-    ensures { MatchOption result ((n : ℕ) → n < 2 ^ 32 → word.now ≢ letter ∷ decimal n) (λ n. word.now ≡ letter ∷ decimal n) }
+/// The number below 256 behind this letter.
+pub(crate) fn lettered_word(word: &[u8], letter: u8) -> Option<u8>
+    ensures { MatchOption result ((n : ℕ) → n < 256 → word.now ≢ letter ∷ decimal n) (λ n. word.now ≡ letter ∷ decimal n) }
 {
     let [first, digits @ ..] = word else {
         return None;
@@ -71,16 +71,7 @@ fn lettered_number(word: &[u8], letter: u8) -> Option<u32>
     if *first != letter {
         return None;
     }
-    text::number(digits)
-}
-
-/// The number below 256 behind this letter.
-pub(crate) fn lettered_word(word: &[u8], letter: u8) -> Option<u8>
-    ensures { MatchOption result ((n : ℕ) → n < 256 → word.now ≢ letter ∷ decimal n) (λ n. word.now ≡ letter ∷ decimal n) }
-{
-    let Some(number) = lettered_number(word, letter) else {
-        return None;
-    };
+    let number = text::number(digits)?;
     if number > 255 {
         return None;
     }
