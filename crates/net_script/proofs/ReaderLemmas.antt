@@ -24,7 +24,7 @@ use Rattle.net_script.specs.TraceReaders.{HasRead, ReadsOn, IsRead, as_line, Fol
 use Rattle.net_script.specs.Telling.{IsHeard}
 use Rattle.net_script.proofs.Arms.{texts_injective, texts_go_on}
 use Rattle.net_script.proofs.LawLemmas.{one_line}
-use Rattle.net_script.proofs.TraceLineLemmas.{lines_have_one_text, push_injective, line_text_words, line_injective}
+use Rattle.net_script.proofs.TraceLineLemmas.{lines_have_one_text, same_front, line_text_words, line_injective}
 use Rattle.net_script.proofs.DraftLemmas.{lines_same, begins, none_begins, opened_valid, lines_valid, so_far_valid, last_push, alone}
 use Rattle.net_script.proofs.EndedText.{ended_cut, ended_last, ended_more, ended_all, unended, text_is_lines}
 
@@ -87,12 +87,9 @@ sent_full d (Entry.Serve node answer now sent) = told_full now sent d
 kept_after : (t : Trace) (said : TraceLine) → may_follow (so_far_of t) said ≡ true
     → so_far_of (grown t said) ≡ after_line (so_far_of t) said
 kept_after t (Cluster sizes) may = absurd (cc (may))
-kept_after t (Contents table) may =
-    ap (λ ms. record (so_far_of t) { managers = ms }) (map_push (λ (other : Table). other.rm) t.tables table)
-kept_after t (Happened event answer) may =
-    ap (λ l. record (so_far_of t) { last = l }) (last_push t.entries (bare_step event answer))
-kept_after t (Served node answer) may =
-    ap (λ l. record (so_far_of t) { last = l }) (last_push t.entries (Entry.Serve node answer None []))
+kept_after t (Contents table) may = simp map_push
+kept_after t (Happened event answer) may = simp last_push
+kept_after t (Served node answer) may = simp last_push
 kept_after t (Changed change) may =
     let parts = and_parts (eqb (length t.finals) 0) (is_alone (last_of t.entries)) may in
     let some = ap is_missing (alone (last_of t.entries) parts.1) in
@@ -186,7 +183,7 @@ line_fault : {r : ReaderParts} {trace : Option Trace} (line after : List ℕ) �
 line_fault {trace = trace} line after so cut none =
     fails_at (line ++ 10 ∷ []) (ended_lines after) so (ap ended_lines cut.0 ∙ ended_cut line after cut.1)
     (λ said is e u valid more parts.
-    none_begins trace said u more so.valid valid (none said is (push_injective line (trace_line_text said) 10 10 e)) parts)
+    none_begins trace said u more so.valid valid (none said is (same_front line (trace_line_text said) (10 ∷ []) e)) parts)
 
 -- a line that says nothing
 pub unread_line : {r : ReaderParts} {trace : Option Trace} (line after : List ℕ) → HasRead r trace

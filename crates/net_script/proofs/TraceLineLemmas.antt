@@ -191,21 +191,15 @@ pub line_text_of : (said : TraceLine) (line : List ℕ) → is_tidy line ≡ tru
     → line ≡ trace_line_text said
 line_text_of said line tidy e = sym (tidy_is_joined line tidy) ∙ ap joined_words e
 
-pub push_injective : (xs ys : List ℕ) (x y : ℕ) → xs ++ x ∷ [] ≡ ys ++ y ∷ [] → xs ≡ ys
-push_injective [] [] x y e = refl
-push_injective [] (y' ∷ []) x y e = absurd (cc)
-push_injective [] (y' ∷ (z ∷ ys)) x y e = absurd (cc)
-push_injective (x' ∷ []) [] x y e = absurd (cc)
-push_injective (x' ∷ (z ∷ xs)) [] x y e = absurd (cc)
-push_injective (x' ∷ xs) (y' ∷ ys) x y e =
-    let head : x' ≡ y' = cc in
-    let tail : xs ≡ ys = push_injective xs ys x y (cc) in
-    cc
+pub same_front : (xs ys s : List ℕ) → xs ++ s ≡ ys ++ s → xs ≡ ys
+same_front xs ys s e =
+    sym (take_at xs s (length xs) refl) ∙ ap (take (length xs)) e
+    ∙ take_at ys s (length xs) (omega (arith, ap length e, length-append xs s, length-append ys s))
 
 pub lines_have_one_text : HasOneText IsTraceLine whole_line
 lines_have_one_text = record {
   same = λ a b p q e.
-      let same : trace_line_text a ≡ trace_line_text b = push_injective (trace_line_text a) (trace_line_text b) 10 10 e in
+      let same : trace_line_text a ≡ trace_line_text b = same_front (trace_line_text a) (trace_line_text b) (10 ∷ []) e in
       line_injective a b p q (sym (line_text_words a (trace_line_text a) p refl) ∙ line_text_words b (trace_line_text a) q same);
 }
 
@@ -272,11 +266,6 @@ heard_whole None line (Heard.Datagram told) h = absurd h.1
 heard_whole (Some tx) line (Heard.Datagram told) h = subst IsTraceLine h.1 h.2
 
 -- ---- a text cut at an arrow's head
-
-same_front : (xs ys s : List ℕ) → xs ++ s ≡ ys ++ s → xs ≡ ys
-same_front xs ys s e =
-    sym (take_at xs s (length xs) refl) ∙ ap (take (length xs)) e
-    ∙ take_at ys s (length xs) (omega (arith, ap length e, length-append xs s, length-append ys s))
 
 lacks_join : (xs ys : List ℕ) → lacks 62 xs ≡ true → lacks 62 ys ≡ true → lacks 62 (xs ++ ys) ≡ true
 lacks_join xs ys p q = list_all_join (λ byte. not (eqb byte 62)) xs ys p q

@@ -15,15 +15,10 @@ third : {given rest after others : List (List ℕ)} {a b x y : List ℕ} → giv
     → after ≡ others
 third p q e = cc
 
-fourth : {given rest after last others : List (List ℕ)} {a b d x y z : List ℕ} → given ≡ a ∷ rest → rest ≡ b ∷ after → after ≡ d ∷ last
-    → given ≡ x ∷ y ∷ z ∷ others
-    → last ≡ others
-fourth p q r e = cc
-
 -- a name, a transaction and what is left, where these are a message's words
-named : {given rest after others : List (List ℕ)} {name text : List ℕ} → given ≡ name ∷ rest → rest ≡ text ∷ after → given ≡ others
-    → name ∷ text ∷ after ≡ others
-named p q e = cc
+named : {given r1 r2 r3 r4 after others : List (List ℕ)} {a b d x y z name text : List ℕ} → given ≡ a ∷ r1 → r1 ≡ b ∷ r2 → r2 ≡ d ∷ r3
+    → r3 ≡ name ∷ r4 → r4 ≡ text ∷ after → given ≡ x ∷ y ∷ z ∷ others → name ∷ text ∷ after ≡ others
+named p q r s t e = cc
 
 pub returns-in_default-node-2 : goal.returns-in_default-node-2
 returns-in_default-node-2 c = λ s is e.
@@ -33,15 +28,15 @@ pub returns-in_err-said : goal.returns-in_err-said
 returns-in_err-said c =
     passes_on (TellsSent c.know.new.known (words c.args.args.now)) (λ e. refl)
     (λ none s is e.
-    let after = fourth c.in-Some.ensures c.in-Some-node.ensures.1 c.in-Some-node-2.ensures.1 e in
-    let parts = same_words s.message (named c.in-Some-next_word.ensures.cut c.in-Some-next_word-2.ensures.cut after) in
+    let parts = same_words s.message (named c.in-Some.ensures c.in-Some-node.ensures.1 c.in-Some-node-2.ensures.1
+    c.in-Some-next_word.ensures.cut c.in-Some-next_word-2.ensures.cut e) in
     let own = beside s.message in
     none own.said (own.fits (message_fits s.message is.message)) parts.0) _ _ c.from_residual.ensures.1 c.in_err-said.ensures
 
 pub returns-then-not-is_about : goal.returns-then-not-is_about
 returns-then-not-is_about c = λ s is e.
-    let after = fourth c.in-Some.ensures c.in-Some-node.ensures.1 c.in-Some-node-2.ensures.1 e in
-    let parts = same_words s.message (named c.in-Some-next_word.ensures.cut c.in-Some-next_word-2.ensures.cut after) in
+    let parts = same_words s.message (named c.in-Some.ensures c.in-Some-node.ensures.1 c.in-Some-node-2.ensures.1
+    c.in-Some-next_word.ensures.cut c.in-Some-next_word-2.ensures.cut e) in
     let own = beside s.message in
     let text = known_is _ _ _ _ c.tx.result.now c.in-Ok.ensures.ok c.if-not-is_tx.false c.in-Some-known.is c.tx.ensures in
     let tx : c.tx.result.now ≡ message_tx s.message =
