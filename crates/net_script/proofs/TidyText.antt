@@ -100,16 +100,11 @@ record SpacedOut (line : List ℕ) : Type 0 where
   after_space : is_tidy_after true line ≡ true → spaced_words (words line) ≡ 32 ∷ line
   within : (x : ℕ) → eqb x 32 ≡ false → is_tidy_after false line ≡ true → spaced_words (words (x ∷ line)) ≡ 32 ∷ x ∷ line
 
-none_within : (x : ℕ) → eqb x 32 ≡ false → spaced_words (words (x ∷ [])) ≡ 32 ∷ x ∷ []
-none_within x other = rw other refl
-
 space_within : (x y : ℕ) (rest : List ℕ) → eqb x 32 ≡ false → eqb y 32 ≡ true
     → spaced_words (words rest) ≡ 32 ∷ rest
     → spaced_words (words (x ∷ y ∷ rest)) ≡ 32 ∷ x ∷ y ∷ rest
 space_within x y rest other here e =
-    let same : y ≡ 32 = eqb-true y 32 here in
-    let cut : words (x ∷ y ∷ rest) ≡ (x ∷ []) ∷ words rest = rw (other, here) refl in
-    ap spaced_words cut ∙ (ap (λ (t : List ℕ). 32 ∷ x ∷ t) e ∙ ap (λ (n : ℕ). 32 ∷ x ∷ n ∷ rest) (sym same))
+    simp (other, here, e) (ap (λ (n : ℕ). 32 ∷ x ∷ n ∷ rest) (sym (eqb-true y 32 here)))
 
 byte_within : (x y : ℕ) (rest : List ℕ) → eqb x 32 ≡ false → eqb y 32 ≡ false
     → spaced_words (words (y ∷ rest)) ≡ 32 ∷ y ∷ rest
@@ -124,33 +119,18 @@ byte_within x y rest other there e =
     ∙ (onto_words x y (pieces 32 rest) ∙ ap (λ (ps : List (List ℕ)). onto_first x (filter is_word ps)) (sym next)) in
     ap spaced_words cut ∙ spaced_onto x (words (y ∷ rest)) (y ∷ rest) e
 
-tidy_true : (y : ℕ) (rest : List ℕ) → eqb y 32 ≡ true → is_tidy_after true (y ∷ rest) ≡ true → ⊥
-tidy_true y rest here h =
-    let none : is_tidy_after true (y ∷ rest) ≡ false =
-    ap (λ (b : Bool). cond b (not true && is_tidy_after true rest) (is_tidy_after false rest)) here in
-    absurd (cc)
-
-tidy_next : (spaced : Bool) (y : ℕ) (rest : List ℕ) → eqb y 32 ≡ false → is_tidy_after spaced (y ∷ rest) ≡ true
-    → is_tidy_after false rest ≡ true
-tidy_next spaced y rest there h =
-    sym (ap (λ (b : Bool). cond b (not spaced && is_tidy_after true rest) (is_tidy_after false rest)) there) ∙ h
-
-tidy_space : (y : ℕ) (rest : List ℕ) → eqb y 32 ≡ true → is_tidy_after false (y ∷ rest) ≡ true → is_tidy_after true rest ≡ true
-tidy_space y rest here h =
-    sym (ap (λ (b : Bool). cond b (not false && is_tidy_after true rest) (is_tidy_after false rest)) here) ∙ h
-
 spaced_out : (line : List ℕ) → SpacedOut line
-spaced_out [] = record { after_space = λ h. absurd (cc); within = λ x other h. none_within x other }
+spaced_out [] = record { after_space = λ h. absurd (cc); within = λ x other h. rw other refl }
 spaced_out (y ∷ rest) =
     let tail = spaced_out rest in
     elim (either (eqb y 32)) [
       | inl here ↦ record {
-        after_space = λ h. absurd (tidy_true y rest here h);
-        within = λ x other h. space_within x y rest other here (tail.after_space (tidy_space y rest here h));
+        after_space = λ h. absurd (cc (simp here at h));
+        within = λ x other h. space_within x y rest other here (tail.after_space (simp here at h));
       }
       | inr there ↦ record {
-        after_space = λ h. tail.within y there (tidy_next true y rest there h);
-        within = λ x other h. byte_within x y rest other there (tail.within y there (tidy_next false y rest there h));
+        after_space = λ h. tail.within y there (simp there at h);
+        within = λ x other h. byte_within x y rest other there (tail.within y there (simp there at h));
       }
     ]
 
