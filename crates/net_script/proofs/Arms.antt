@@ -143,7 +143,8 @@ pub passes : {X Y V W : Type 0} {a b : Bool} {fit : X → Type 0} {text : X → 
 passes more fails d r from none = let p = err_from_is_err_and r from in rw (p.1, p.2) (unread more fails d none)
 
 -- the same of what says more than that nothing was read
-pub passes_on : {X Y V : Type 0} {a : Bool} {fit : X → Type 0} {text : X → V} {args : V} (P : Result Y Stop → Type 0) → (a ≡ true → P (Err Memory))
+pub passes_on : {X Y V : Type 0} {a : Bool} {fit : X → Type 0} {text : X → V} {args : V}
+    (P : Result Y Stop → Type 0) → (a ≡ true → P (Err Memory))
     → (((x : X) → fit x → args ≡ text x → ⊥) → P (Err Wrong)) → (d : Stop) (r : Result Y Stop)
     → IsErrAnd r (λ e. e ≡ d) → Finds a fit text args (Err d)
     → P r

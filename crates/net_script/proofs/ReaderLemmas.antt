@@ -10,7 +10,7 @@ use Rattle.std.proofs.lemmas.Option.{same_Some}
 use Rattle.std.proofs.lemmas.List.Concat.{flat_map-append}
 use Rattle.std.proofs.lemmas.List.{append-nil, append_assoc, length-append, length-map, length_push, map_push, take_at, take-append-drop}
 use Rattle.xid.specs.Text.{lacks}
-use Rattle.net_script.specs.Basics.{Refusal, TxParts, Change, Sent, BadScript, BadConfig, Sizes, Table, Entry, Trace, LastEntry, SoFar}
+use Rattle.net_script.specs.Basics.{Refusal, TxParts, Change, Sent, BadScript, BadConfig, Sizes, Entry, Trace, LastEntry, SoFar}
 use Rattle.net_script.specs.Basics.{TraceLine}
 use Rattle.net_script.specs.declared.said.Heard.{Heard}
 use Rattle.net_script.specs.declared.trace_lines.TraceLine.TheVariants.{Cluster, Contents, Happened, Served, Changed, Datagram, Final}
@@ -19,7 +19,7 @@ use Rattle.net_script.specs.Traces.{trace_text}
 use Rattle.net_script.specs.TraceLines.{IsTraceLine, trace_line_text, whole_line, lines_of}
 use Rattle.net_script.specs.TraceReading.{IsBegun, IsTrace, ended_lines, CanBeginTrace, IsTraceFault, RefusesTrace}
 use Rattle.net_script.specs.TraceReaders.{told_of, told_by, last_of, so_far_of, is_missing, is_alone, may_follow, after_line, follow}
-use Rattle.net_script.specs.TraceReaders.{bare_step, with_now, with_sent, at_last, grown, opened, begun_with, lines_so_far, ReaderParts}
+use Rattle.net_script.specs.TraceReaders.{with_now, with_sent, at_last, grown, opened, begun_with, lines_so_far, ReaderParts}
 use Rattle.net_script.specs.TraceReaders.{HasRead, ReadsOn, IsRead, as_line, Follows, GivesHeard}
 use Rattle.net_script.specs.Telling.{IsHeard}
 use Rattle.net_script.proofs.Arms.{texts_injective, texts_go_on}

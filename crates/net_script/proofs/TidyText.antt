@@ -110,14 +110,7 @@ byte_within : (x y : ℕ) (rest : List ℕ) → eqb x 32 ≡ false → eqb y 32 
     → spaced_words (words (y ∷ rest)) ≡ 32 ∷ y ∷ rest
     → spaced_words (words (x ∷ y ∷ rest)) ≡ 32 ∷ x ∷ y ∷ rest
 byte_within x y rest other there e =
-    let next : pieces 32 (y ∷ rest) ≡ onto_first y (pieces 32 rest) =
-    ap (λ (b : Bool). cond b ([] ∷ pieces 32 rest) (onto_first y (pieces 32 rest))) there in
-    let first : pieces 32 (x ∷ y ∷ rest) ≡ onto_first x (pieces 32 (y ∷ rest)) =
-    ap (λ (b : Bool). cond b ([] ∷ pieces 32 (y ∷ rest)) (onto_first x (pieces 32 (y ∷ rest)))) other in
-    let cut : words (x ∷ y ∷ rest) ≡ onto_first x (words (y ∷ rest)) =
-    ap (filter is_word) (first ∙ ap (onto_first x) next)
-    ∙ (onto_words x y (pieces 32 rest) ∙ ap (λ (ps : List (List ℕ)). onto_first x (filter is_word ps)) (sym next)) in
-    ap spaced_words cut ∙ spaced_onto x (words (y ∷ rest)) (y ∷ rest) e
+    simp (other, there, onto_words) (spaced_onto x (filter is_word (onto_first y (pieces 32 rest))) (y ∷ rest) (simp there at e))
 
 spaced_out : (line : List ℕ) → SpacedOut line
 spaced_out [] = record { after_space = λ h. absurd (cc); within = λ x other h. rw other refl }
@@ -148,22 +141,13 @@ tidy_is_joined line tidy =
 tidy_sides : (spaced : Bool) (front back : List ℕ)
     → is_tidy_after spaced (front ++ 32 ∷ back) ≡ (is_tidy_after spaced front && is_tidy_after true back)
 tidy_sides spaced [] back = refl
-tidy_sides spaced (x ∷ front) back =
+tidy_sides true (x ∷ front) back =
+    elim (either (eqb x 32)) [ inl here ↦ simp here | inr there ↦ simp (there, tidy_sides false front back) ]
+tidy_sides false (x ∷ front) back =
     elim (either (eqb x 32)) [
-      | inl here ↦ tidy_sides_space spaced x front back here (tidy_sides true front back)
-      | inr there ↦ tidy_sides_byte spaced x front back there (tidy_sides false front back)
+      | inl here ↦ simp (here, tidy_sides true front back)
+      | inr there ↦ simp (there, tidy_sides false front back)
     ]
-  where
-    tidy_sides_space : (spaced : Bool) (x : ℕ) (front back : List ℕ) → eqb x 32 ≡ true
-        → is_tidy_after true (front ++ 32 ∷ back) ≡ (is_tidy_after true front && is_tidy_after true back)
-        → is_tidy_after spaced (x ∷ (front ++ 32 ∷ back)) ≡ (is_tidy_after spaced (x ∷ front) && is_tidy_after true back)
-    tidy_sides_space true x front back here e = rw here refl
-    tidy_sides_space false x front back here e = rw here e
-
-    tidy_sides_byte : (spaced : Bool) (x : ℕ) (front back : List ℕ) → eqb x 32 ≡ false
-        → is_tidy_after false (front ++ 32 ∷ back) ≡ (is_tidy_after false front && is_tidy_after true back)
-        → is_tidy_after spaced (x ∷ (front ++ 32 ∷ back)) ≡ (is_tidy_after spaced (x ∷ front) && is_tidy_after true back)
-    tidy_sides_byte spaced x front back there e = rw there e
 
 -- what stands before an arrow, and what stands behind it
 pub tidy_parts : (line front back : List ℕ) → is_tidy line ≡ true → line ≡ front ++ (32 ∷ 45 ∷ 62 ∷ 32 ∷ back)

@@ -284,12 +284,8 @@ pub suffix_fails : (line front back suffix f b : List ℕ) → (line ≡ front +
     → bytes_eq (drop (length front - length suffix) front) suffix ≡ false → ⊥
 suffix_fails line front back suffix f b cut none e is fails =
     let same = (head_cut line front back f b cut none e).0 in
-    let len : length front - length suffix ≡ length f =
-    omega (arith, ap length same, ap length is, length-append f (32 ∷ 45 ∷ [])) in
-    let rest : drop (length front - length suffix) front ≡ suffix =
-    ap (λ (n : ℕ). drop n front) len ∙ ap (drop (length f)) same ∙ drop-append_seam f (32 ∷ 45 ∷ []) ∙ sym is in
-    let yes : bytes_eq (drop (length front - length suffix) front) suffix ≡ true = (bytes_eq-Decides _ _).1 rest in
-    absurd (cc)
+    let len : length (f ++ 32 ∷ 45 ∷ []) - 2 ≡ length f = omega (arith, length-append f (32 ∷ 45 ∷ [])) in
+    absurd (cc (simp (same, is, len, drop-append_seam) at fails))
 
 pub prefix_fails : (line front back prefix f b : List ℕ) → (line ≡ front ++ 62 ∷ back) × (lacks 62 front ≡ true) → lacks 62 f ≡ true
     → line ≡ f ++ (32 ∷ 45 ∷ 62 ∷ 32 ∷ b)
@@ -297,10 +293,7 @@ pub prefix_fails : (line front back prefix f b : List ℕ) → (line ≡ front +
     → bytes_eq (take (length prefix) back) prefix ≡ false → ⊥
 prefix_fails line front back prefix f b cut none e is fails =
     let same = (head_cut line front back f b cut none e).1 in
-    let first : take (length prefix) back ≡ prefix =
-    ap (λ (p : List ℕ). take (length p) back) is ∙ ap (take 1) same ∙ take_at (32 ∷ []) b 1 refl ∙ sym is in
-    let yes : bytes_eq (take (length prefix) back) prefix ≡ true = (bytes_eq-Decides _ _).1 first in
-    absurd (cc)
+    absurd (cc (simp (same, is) at fails))
 
 pub arrow_found : (line front back suffix prefix f b : List ℕ) → (line ≡ front ++ 62 ∷ back) × (lacks 62 front ≡ true)
     → suffix ≡ 32 ∷ 45 ∷ [] → prefix ≡ 32 ∷ []

@@ -3,7 +3,8 @@ use Rattle.std.specs.Prelude.{◌≡◌, ℕ, ◌+◌, ◌<◌, Bool, true, fals
 use Rattle.std.specs.Prelude.{Option, Some, None, Result, Ok, Err}
 use Rattle.std.specs.List.{list_all, flat_map}
 use Rattle.std.specs.Option.{ForSome, option_map}
-use Rattle.net_script.specs.Basics.{Refusal, Stop, Wrong, Memory, TxParts, Event, Answer, Change, Sent, Sizes, Entry, Table, Trace, LastEntry, SoFar, TraceLine}
+use Rattle.net_script.specs.Basics.{Refusal, Stop, Wrong, Memory, TxParts, Event, Answer, Change}
+use Rattle.net_script.specs.Basics.{Sent, Sizes, Entry, Table, Trace, LastEntry, SoFar, TraceLine}
 use Rattle.net_script.specs.declared.trace_lines.TraceLine.TheVariants.{Cluster, Contents, Happened, Served, Changed, Datagram, Final}
 use Rattle.net_script.specs.TraceLines.{whole_line, lines_of}
 use Rattle.net_script.specs.TraceReading.{IsBegun, SpellsTrace, RefusesTrace}

@@ -35,7 +35,9 @@ returns-in_err-heard-clause-next c = λ trace read.
 pub returns-in_err-at_line-clause-next : goal.returns-in_err-at_line-clause-next
 returns-in_err-at_line-clause-next c = λ trace read.
     let refused : c.from_residual-in_err-at_line.result ≡ Err c.in_err-at_line.field-0.0 = search rules in
-    let got = heard_of _ c.hear_line.new.known c.in-Some.text.now c.hear_line.result c.at_line.result c.in_ok-heard.heard c.at_line.ensures c.in_ok-heard.was c.hear_line.ensures in
+    let got =
+    heard_of _ c.hear_line.new.known c.in-Some.text.now c.hear_line.result c.at_line.result c.in_ok-heard.heard c.at_line.ensures
+    c.in_ok-heard.was c.hear_line.ensures in
     rw refused (subst (λ r. RefusesTrace r.bytes c.in_err-at_line.field-0.0) c.self.view_is
     (refused_at (c.self.inside.number + 1) c.follow.result _ (RefusesTrace c.self.inside.bytes.now)
     (sym c.at_line-2.ensures ∙ c.in_err-at_line.was) (inl refl)
@@ -46,7 +48,9 @@ returns-in_err-at_line-clause-next c = λ trace read.
 
 pub returns-clause-next : goal.returns-clause-next
 returns-clause-next c = λ trace read.
-    let got = heard_of _ c.hear_line.new.known c.in-Some.text.now c.hear_line.result c.at_line.result c.in_ok-heard.heard c.at_line.ensures c.in_ok-heard.was c.hear_line.ensures in
+    let got =
+    heard_of _ c.hear_line.new.known c.in-Some.text.now c.hear_line.result c.at_line.result c.in_ok-heard.heard c.at_line.ensures
+    c.in_ok-heard.was c.hear_line.ensures in
     let follows =
     subst (Follows c.self.inside.so_far c.follow.new.so_far (as_line c.in_ok-heard.heard))
     (at_line_ok _ _ _ (sym c.at_line-2.ensures ∙ c.in_ok-at_line.was)) c.follow.ensures in
@@ -67,7 +71,9 @@ returns-clause-next c = λ trace read.
 
 pub returns-clause-whole : goal.returns-clause-whole
 returns-clause-whole c = λ heard e.
-    let got = heard_of _ c.hear_line.new.known c.in-Some.text.now c.hear_line.result c.at_line.result c.in_ok-heard.heard c.at_line.ensures c.in_ok-heard.was c.hear_line.ensures in
+    let got =
+    heard_of _ c.hear_line.new.known c.in-Some.text.now c.hear_line.result c.at_line.result c.in_ok-heard.heard c.at_line.ensures
+    c.in_ok-heard.was c.hear_line.ensures in
     same c.hear_line.new.known c.in_ok-heard.heard heard e (heard_whole c.hear_line.new.known c.in-Some.text.now c.in_ok-heard.heard got)
   where
     same : (known : Option TxParts) (a b : Heard) → Some a ≡ Some b → IsWhole known a → IsWhole known b
