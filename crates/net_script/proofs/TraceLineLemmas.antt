@@ -311,11 +311,8 @@ arrow_found line front back suffix prefix f b cut is-suffix is-prefix at-end at-
     sym (take-append-drop (length prefix) back) ∙ ap (λ (l : List ℕ). l ++ drop (length prefix) back) (first ∙ is-prefix)
     ∙ ap (λ (l : List ℕ). 32 ∷ l) (sym at-front.1) in
     let both : (lacks 62 f && lacks 62 (32 ∷ 45 ∷ [])) ≡ true =
-    sym (list_all-append (λ byte. not (eqb byte 62)) f (32 ∷ 45 ∷ [])) ∙ ap (lacks 62) (sym front-is) ∙ cut.1 in (
-      cut.0 ∙ ap (λ (l : List ℕ). l ++ 62 ∷ back) front-is ∙ ap (λ (l : List ℕ). (f ++ 32 ∷ 45 ∷ []) ++ 62 ∷ l) back-is
-          ∙ append_assoc f (32 ∷ 45 ∷ []) (62 ∷ 32 ∷ b),
-      first_true (lacks 62 f) (lacks 62 (32 ∷ 45 ∷ [])) both,
-    )
+    sym (list_all-append (λ byte. not (eqb byte 62)) f (32 ∷ 45 ∷ [])) ∙ ap (lacks 62) (sym front-is) ∙ cut.1 in
+    (cut.0 ∙ (simp (front-is, back-is, append_assoc)), first_true (lacks 62 f) (lacks 62 (32 ∷ 45 ∷ [])) both)
 
 -- ---- words on both sides of an arrow
 
@@ -368,9 +365,7 @@ parts_make ws vs line front back are tidy cut p q =
     let front-is : front ≡ joined_words ws = sym tidy-parts.0 ∙ ap joined_words p in
     let back-is : back ≡ joined_words vs = sym tidy-parts.1 ∙ ap joined_words q in
     let whole : line ≡ joined_words (ws ++ codes "->" ∷ vs) =
-    cut ∙ ap (λ (l : List ℕ). l ++ (32 ∷ 45 ∷ 62 ∷ 32 ∷ back)) front-is
-    ∙ ap (λ (l : List ℕ). joined_words ws ++ (32 ∷ 45 ∷ 62 ∷ 32 ∷ l)) back-is
-    ∙ sym (arrow_text ws vs are.0 are.1) in
+    cut ∙ (simp (front-is, back-is, arrow_text ws vs are.0 are.1)) in
     ap words whole
     ∙ words_of_joined (ws ++ codes "->" ∷ vs)
     (all_join IsClean ws (codes "->" ∷ vs) (all_clean ws are.0.each) (arrow_clean, all_clean vs are.1.each))

@@ -2,7 +2,7 @@
 use Rattle.std.proofs.Common.{eq-eqb, ◌≡◌, ℕ, ◌<◌, ◌^◌, Bool, true, false, cond, not, ◌⊎◌, inl, inr, eqb, List, [], ◌∷◌, ◌+◌, ◌-◌, ◌≤◌}
 use Rattle.std.proofs.Common.{take, get_or, ◌++◌, length, Ok, Option, None, Some, refl, sym, ap, ◌∙◌, arith, decimal, zero, suc, drop}
 use Rattle.std.proofs.Common.{eqb-true, map}
-use Rattle.std.proofs.lemmas.List.{length-append, take_all, length-drop, get_or_default, get_or-take, length-take, take_more}
+use Rattle.std.proofs.lemmas.List.{length-append, take_all, take_rest, get_or_default, get_or-take, length-take, take_more}
 use Rattle.std.specs.List.{onto_first, All, AllPairs}
 use Rattle.std.proofs.lemmas.Bool.{not-true}
 use Rattle.std.specs.Str.{bytes_eq}
@@ -91,11 +91,8 @@ pub marked_at : (mark : ℕ) (text : List ℕ) (n : ℕ) → IsFirstByte (is_byt
 marked_at mark text n first =
     let here : get_or text n 0 ≡ mark = eqb-true (get_or text n 0) mark first.1 in
     let high = first.0.high in
-    let next : suc n ≡ n + 1 = omega arith in
-    let rest : drop (n + 1) text ≡ take (length text - (n + 1)) (drop (n + 1) text) =
-    sym (take_all (length text - (n + 1)) (drop (n + 1) text) (omega (arith, length-drop (n + 1) text))) in (
-      cut_here text n high ∙ ap (λ (byte : ℕ). take n text ++ byte ∷ drop (suc n) text) here
-          ∙ ap (λ (m : ℕ). take n text ++ mark ∷ drop m text) next ∙ ap (λ (l : List ℕ). take n text ++ mark ∷ l) rest,
+    let next : suc n ≡ n + 1 = omega arith in (
+      cut_here text n high ∙ (simp (here, next, take_rest)),
       lacks_until mark text n (omega (arith, high)) (λ k lt e. first.0.before k (omega arith) lt e),
     )
 
