@@ -7,15 +7,14 @@ use Rattle.xid.specs.Limits.{most_managers}
 use Rattle.wire.specs.Messages.{IsInstance, IsReportBelow}
 use Rattle.wire.proofs.Fields.{tx_valid}
 use Rattle.wire.proofs.Instances.{instance_below, instances_below, few_instances}
-use Rattle.net_script.specs.Basics.{TxParts, tx_text, IsMessage, message_tx, Vote, Kind, Prepare, P1a, P1b, P2a, P2b, Commit, Abort}
-use Rattle.net_script.specs.Basics.{B1a, B1b, B2b, InstanceReport, InstanceAccept}
+use Rattle.net_script.specs.Basics.{TxParts, tx_text, IsMessage, message_tx, Vote, Kind, Prepare, P1a, P1b, P2a, P2b, Commit, Abort, B1a}
+use Rattle.net_script.specs.Basics.{B1b, B2b, InstanceReport, InstanceAccept}
 use Rattle.net_script.specs.declared.message_words.Said.{Said}
-use Rattle.net_script.specs.Messages.{message_word, message_args, message_words, FitsReport, FitsReportItem}
-use Rattle.net_script.specs.Messages.{FitsAcceptItem, FitsKind, IsForm}
-use Rattle.net_script.specs.Messages.{kind_of, said_words, FitsSaid}
+use Rattle.net_script.specs.Messages.{message_word, message_args, message_words, FitsReport, FitsReportItem, FitsAcceptItem, FitsKind}
+use Rattle.net_script.specs.Messages.{IsForm, kind_of, said_words, FitsSaid}
 use Rattle.net_script.specs.Spelling.{IsCommon, AreSpellings, no_words, ◌&◌, items_of_words}
-use Rattle.net_script.specs.Laws.{a_number, manager_of, a_manager, acceptor_of, an_acceptor, a_tx, literal}
-use Rattle.net_script.specs.MessageLaws.{a_vote, a_report_item, an_accept_item, reported, a_report}
+use Rattle.net_script.specs.Laws.{a_number, manager_of, a_manager, acceptor_of, an_acceptor, a_tx, literal, a_vote, a_report_item}
+use Rattle.net_script.specs.Laws.{an_accept_item, reported, a_report}
 use Rattle.net_script.proofs.Arms.{Arm, made_of, IsSaid, arm_said, apart}
 
 -- ---- the first words, and what comes after each and a transaction

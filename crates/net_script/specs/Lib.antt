@@ -6,7 +6,6 @@ pub mod Items
 pub mod Answers
 pub mod Scripts
 pub mod Messages
-pub mod MessageLaws
 pub mod Traces
 pub mod TraceLines
 pub mod Laws

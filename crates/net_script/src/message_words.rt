@@ -6,7 +6,7 @@ ghost use Rattle.net_script.specs.Lines.{words, node_text};
 ghost use Rattle.net_script.specs.Spelling.{Finds};
 ghost use Rattle.net_script.specs.Messages.{vote_text, accepted_text, report_text, report_item_text, accept_item_text, FitsReport};
 ghost use Rattle.net_script.specs.Messages.{FitsReportItem, FitsAcceptItem, FitsReported, reported_words, FitsSaid, said_words};
-ghost use Rattle.net_script.specs.MessageLaws.{a_vote, a_report_item, an_accept_item, a_report};
+ghost use Rattle.net_script.specs.Laws.{a_vote, a_report_item, an_accept_item, a_report};
 
 use crate::nodes::{Acceptor, Manager};
 use crate::stop::Stop;
