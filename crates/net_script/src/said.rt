@@ -82,6 +82,7 @@ impl Words for FinalRows {
 
     ghost spellings = { final_rows };
 
+    #[inline(never)]
     fn read(alloc: Global, args: &[u8]) -> Result<FinalRows, Stop> {
         let rows: Sequence<Row> = Words::read(alloc, args)?;
         if !are_ascending(rows.as_slice()) {
