@@ -1,3 +1,4 @@
+pub mod Doubled
 pub mod Arms
 pub mod EventLemmas
 pub mod MessageLemmas

@@ -32,17 +32,14 @@ pub enum TraceLine {
 pub(crate) fn is_tidy(line: &[u8]) -> bool
     ensures { result ≡ is_tidy line.now }
 {
-    let mut spaced = true;
-    for byte in line {
-        if *byte != b' ' {
-            spaced = false;
-        } else if spaced {
-            return false;
-        } else {
-            spaced = true;
-        }
+    if line.is_empty() {
+        return false;
     }
-    !spaced
+    let mut doubled = false;
+    for i in 1..line.len() {
+        doubled |= (line[i - 1] == b' ') & (line[i] == b' ');
+    }
+    (line[0] != b' ') & !doubled & (line[line.len() - 1] != b' ')
 }
 
 /// What stands before and after the first arrow.
