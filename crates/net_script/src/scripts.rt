@@ -34,12 +34,11 @@ fn is_passed_over(line: &[u8]) -> bool
 fn has_plain_bytes(line: &[u8]) -> bool
     ensures { result ≡ list_all is_plain line.now }
 {
+    let mut plain = true;
     for byte in line {
-        if *byte < 32 || *byte > 126 {
-            return false;
-        }
+        plain &= (*byte >= 32) & (*byte <= 126);
     }
-    true
+    plain
 }
 
 /// Whether no table is this resource manager's.
