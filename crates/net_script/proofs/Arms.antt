@@ -1,13 +1,77 @@
--- Lines of several kinds, each begun by a word of its own: what comes after it. The readers of such lines need it, and their laws.
-use Rattle.std.proofs.Common.{◌≡◌, ◌↔◌, IsTrue, ℕ, Bool, true, false, List, [], ◌∷◌, Result, Ok, Err, refl, Option, sym, ap, ◌∙◌}
-use Rattle.std.specs.List.{AllByRecursion}
+-- Values that have one text each, one after another, and lines of several kinds, each begun by a word of its own: for the readers of
+-- words and lines, and their laws.
+use Rattle.std.proofs.Common.{◌≡◌, List, [], ◌∷◌, ◌++◌, ◌<◌, length, map, refl, sym, ap, ◌∙◌, arith, ◌↔◌, IsTrue, ℕ, Bool, true, false}
+use Rattle.std.proofs.Common.{Result, Ok, Err, Option, subst}
+use Rattle.std.specs.List.{All, AllByRecursion}
+use Rattle.std.proofs.lemmas.List.{append_assoc, map_push, length-append, length-map}
+use Rattle.std.proofs.lemmas.List.Elements.{All-head, All-tail}
+use Rattle.net_script.specs.Spelling.{same_lists, Finds, or_none, at_line, IsCommon, AreSpellings}
 use Rattle.std.specs.Result.{IsErrAnd}
 use Rattle.std.proofs.lemmas.Result.{err_from_is_err_and}
 use Rattle.std.specs.Str.{bytes_eq}
-use Rattle.net_script.specs.Basics.{Stop, Wrong, Memory, Refusal}
+use Rattle.net_script.specs.Basics.{Stop, Wrong, Memory, Refusal, NoMemory, BadScript}
 use Rattle.net_script.specs.Lines.{Reads}
-use Rattle.net_script.specs.Spelling.{Finds, or_none, IsCommon, AreSpellings}
 use Rattle.net_script.proofs.WordLemmas.{differ}
+
+-- no two values in range have the same text
+pub record HasOneText {X W : Type 0} (IsIn : X → Type 0) (text : X → W) : Type 0 where
+  pub same : (x y : X) → IsIn x → IsIn y → text x ≡ text y → x ≡ y
+
+pub texts_injective : {X W : Type 0} {IsIn : X → Type 0} {text : X → W} → HasOneText IsIn text → (xs ys : List X) → All IsIn xs
+    → All IsIn ys
+    → map text xs ≡ map text ys → xs ≡ ys
+texts_injective one = same_lists one.same
+
+-- values go on after some first ones: the next has this text, and the later ones have those
+pub record GoesOn {X W : Type 0} (IsIn : X → Type 0) (text : X → W) (xs ys : List X) (word : W) (rest : List W) : Type 0 where
+  pub next : X
+  pub later : List X
+  pub valid : IsIn next
+  pub parts : ys ≡ xs ++ next ∷ later
+  pub says : word ≡ text next
+  pub says_later : rest ≡ map text later
+
+pub texts_go_on : {X W : Type 0} {IsIn : X → Type 0} {text : X → W} → HasOneText IsIn text → (xs ys : List X) (word : W) (rest : List W)
+    → All IsIn xs × All IsIn ys → map text xs ++ word ∷ rest ≡ map text ys → GoesOn IsIn text xs ys word rest
+texts_go_on {IsIn = IsIn} one [] (y ∷ ys) word rest are e =
+    record { next = y; later = ys; valid = All-head IsIn y ys are.1; parts = refl; says = cc; says_later = cc }
+texts_go_on {IsIn = IsIn} one (x ∷ xs) (y ∷ ys) word rest are e =
+    let head : x ≡ y = one.same x y (All-head IsIn x xs are.0) (All-head IsIn y ys are.1) (cc) in
+    let more = texts_go_on one xs ys word rest (All-tail IsIn x xs are.0, All-tail IsIn y ys are.1) (cc) in
+    let parts : ys ≡ xs ++ more.next ∷ more.later = more.parts in
+    record {
+      next = more.next;
+      later = more.later;
+      valid = more.valid;
+      parts = cc;
+      says = more.says;
+      says_later = more.says_later;
+    }
+texts_go_on one xs ys word rest are e = absurd (cc)
+
+-- ---- words that are read one by one, each the text of a value
+
+pub word_read : {X W : Type 0} (text : X → W) (xs : List X) (x : X) (given rest after : List W) (word : W) → given ≡ map text xs ++ rest
+    → rest ≡ word ∷ after → word ≡ text x
+    → given ≡ map text (xs ++ x ∷ []) ++ after
+word_read text xs x given rest after word so cut says = so ∙ simp (cut, says, map_push, append_assoc)
+
+-- a word that is no value's text ends it
+pub word_unread : {X W : Type 0} {IsIn : X → Type 0} {text : X → W} → HasOneText IsIn text → (xs ys : List X) (given rest after : List W)
+    (word : W)
+    → All IsIn xs × All IsIn ys → given ≡ map text xs ++ rest → rest ≡ word ∷ after → ((x : X) → IsIn x → word ≡ text x → ⊥)
+    → given ≡ map text ys → ⊥
+word_unread {W = W} {text = text} one xs ys given rest after word are so cut none e =
+    let on = texts_go_on one xs ys word after are (ap (λ (ws : List W). map text xs ++ ws) (sym cut) ∙ (sym so ∙ e)) in
+    none on.next on.valid on.says
+
+-- where a word is left, more values follow
+pub more_follow : {X W : Type 0} (text : X → W) (xs ys : List X) (given rest after : List W) (word : W) → given ≡ map text xs ++ rest
+    → rest ≡ word ∷ after → given ≡ map text ys
+    → length xs < length ys
+more_follow text xs ys given rest after word so cut e =
+    omega
+    (arith, ap length so, ap length cut, ap length e, length-append (map text xs) rest, length-map xs text, length-map ys text)
 
 -- a line that is made of a value, whose words these are
 pub record IsMadeOf {X Y : Type 0} (fit : X → Type 0) (texts : X → List (List ℕ)) (make : X → Y) (args : List (List ℕ)) (line : Y)
@@ -78,6 +142,15 @@ pub passes : {X Y V W : Type 0} {a b : Bool} {fit : X → Type 0} {text : X → 
     → Finds b IsIn words given r
 passes more fails d r from none = let p = err_from_is_err_and r from in rw (p.1, p.2) (unread more fails d none)
 
+-- the same of what says more than that nothing was read
+pub passes_on : {X Y V : Type 0} {a : Bool} {fit : X → Type 0} {text : X → V} {args : V}
+    (P : Result Y Stop → Type 0) → (a ≡ true → P (Err Memory))
+    → (((x : X) → fit x → args ≡ text x → ⊥) → P (Err Wrong)) → (d : Stop) (r : Result Y Stop)
+    → IsErrAnd r (λ e. e ≡ d) → Finds a fit text args (Err d)
+    → P r
+passes_on P memory wrong Wrong r from none = let p = err_from_is_err_and r from in subst P (sym (p.1 ∙ ap Err p.2)) (wrong none)
+passes_on P memory wrong Memory r from none = let p = err_from_is_err_and r from in subst P (sym (p.1 ∙ ap Err p.2)) (memory none)
+
 -- the words after a first one
 pub arm_fails : {X Y : Type 0} {a b : Bool} {fit : X → Type 0} {texts : X → List (List ℕ)} {IsIn : Y → Type 0} {words : Y → List (List ℕ)}
     {name : List ℕ} {make : X → Y}
@@ -105,3 +178,19 @@ pub found : {X W : Type 0} (a : Bool) (fits : X → Type 0) (text : X → W) (gi
 found a fits text given (Ok x) same h = rw same h
 found a fits text given (Err Wrong) same h = rw same h
 found a fits text given (Err Memory) same h = rw same
+
+-- ---- what was found in a line, and the refusal of that line
+
+pub at_line_ok : {X : Type 0} (line : ℕ) (r : Result X Stop) (x : X) → at_line line r ≡ Ok x → r ≡ Ok x
+at_line_ok line (Ok y) x e =
+    let same : y ≡ x = cc in
+    ap Ok same
+at_line_ok line (Err Wrong) x e = absurd (cc)
+at_line_ok line (Err Memory) x e = absurd (cc)
+
+-- where nothing was found, the line is refused, or memory ran out
+pub refused_at : {X : Type 0} (line : ℕ) (r : Result X Stop) (e : Refusal) (P : Refusal → Type 0) → at_line line r ≡ Err e → P NoMemory
+    → (r ≡ Err Wrong → P (BadScript line)) → P e
+refused_at line (Ok x) e P was memory wrong = absurd (cc)
+refused_at line (Err Wrong) e P was memory wrong = let same : BadScript line ≡ e = cc in subst P same (wrong refl)
+refused_at line (Err Memory) e P was memory wrong = let same : NoMemory ≡ e = cc in subst P same memory

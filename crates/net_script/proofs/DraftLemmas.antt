@@ -10,6 +10,7 @@ use Rattle.std.proofs.lemmas.List.{nil_from_length, append-nil, append_assoc, le
 use Rattle.std.proofs.lemmas.List.{get_or_append_left}
 use Rattle.std.proofs.lemmas.List.Concat.{flat_map-append}
 use Rattle.std.proofs.lemmas.List.Folds.{list_all-map}
+use Rattle.std.proofs.lemmas.List.Sums.{AllPass-from_list_all, list_all-from_AllPass}
 use Rattle.std.proofs.lemmas.List.Elements.{All-nil, All-cons, All-head, All-tail, All-push, All-append, All-map}
 use Rattle.std.proofs.lemmas.List.Quantifiers.{all_pairs_push}
 use Rattle.xid.proofs.Texts.{both_true}
@@ -60,16 +61,10 @@ abbrev pub IsOther : ℕ → Table → Type 0
 IsOther n table = table.rm ≡ n → ⊥
 
 pub others_all : (n : ℕ) (tables : List Table) → All (IsOther n) tables → list_all (is_other n) tables ≡ true
-others_all n [] all = refl
-others_all n (x ∷ tables) all =
-    both_true (is_other n x) (list_all (is_other n) tables) (other_number x.rm n (All-head (IsOther n) x tables all))
-    (others_all n tables (All-tail (IsOther n) x tables all))
+others_all n tables all = list_all-from_AllPass (is_other n) tables (λ k d lt. other_number _ n (all k d lt))
 
 pub all_others : (n : ℕ) (tables : List Table) → list_all (is_other n) tables ≡ true → All (IsOther n) tables
-all_others n [] h = All-nil (IsOther n)
-all_others n (x ∷ tables) h =
-    let parts = and_parts (is_other n x) (list_all (is_other n) tables) h in
-    All-cons (IsOther n) x tables (number_other x.rm n parts.0) (all_others n tables parts.1)
+all_others n tables h = λ k d lt. number_other _ n (AllPass-from_list_all (is_other n) tables h k d lt)
 
 -- the same of the numbers of their resource managers
 managers_all : (n : ℕ) (tables : List Table)

@@ -15,7 +15,9 @@ use Rattle.net_script.specs.Traces.{joined_words, spaced_words, table_line, chan
 use Rattle.net_script.specs.TraceLines.{IsTraceLine, trace_line_words, trace_line_text, whole_line, changed_lines, entry_lines, rows_lines}
 use Rattle.net_script.specs.TraceLines.{lines_of}
 use Rattle.net_script.specs.TraceReading.{ended_lines}
-use Rattle.net_script.proofs.CleanWords.{IsClean, lacks_end, line_clean}
+use Rattle.net_script.specs.Spelling.{IsClean}
+use Rattle.net_script.proofs.TidyText.{lacks_end}
+use Rattle.net_script.proofs.TraceLineLemmas.{line_clean}
 
 -- ---- lines of a text
 

@@ -1,22 +1,14 @@
-pub mod OneText
-pub mod WordLemmas
-pub mod TableLemmas
+pub mod Doubled
 pub mod Arms
 pub mod EventLemmas
-pub mod AnswerLemmas
 pub mod MessageLemmas
 pub mod ScriptLemmas
-pub mod LineLemmas
 pub mod LawLemmas
 pub mod TraceLemmas
-pub mod CutLemmas
-mod CleanWords
+pub mod WordLemmas
 pub mod TidyText
-pub mod TraceLineLemmas
-pub mod OutcomeLemmas
 pub mod DraftLemmas
-pub mod MoreLines
+pub mod TraceLineLemmas
 pub mod EndedText
-pub mod TraceLoop
 pub mod ReaderLemmas
 pub mod WritingLemmas

@@ -7,15 +7,14 @@ use Rattle.xid.specs.Limits.{most_managers}
 use Rattle.wire.specs.Messages.{IsInstance, IsReportBelow}
 use Rattle.wire.proofs.Fields.{tx_valid}
 use Rattle.wire.proofs.Instances.{instance_below, instances_below, few_instances}
-use Rattle.net_script.specs.Basics.{TxParts, tx_text, IsMessage, message_tx, Vote, Kind, Prepare, P1a, P1b, P2a, P2b, Commit, Abort}
-use Rattle.net_script.specs.Basics.{B1a, B1b, B2b, InstanceReport, InstanceAccept}
+use Rattle.net_script.specs.Basics.{TxParts, tx_text, IsMessage, message_tx, Vote, Kind, Prepare, P1a, P1b, P2a, P2b, Commit, Abort, B1a}
+use Rattle.net_script.specs.Basics.{B1b, B2b, InstanceReport, InstanceAccept}
 use Rattle.net_script.specs.declared.message_words.Said.{Said}
-use Rattle.net_script.specs.Messages.{message_word, message_args, message_words, FitsReport, FitsReportItem}
-use Rattle.net_script.specs.Messages.{FitsAcceptItem, FitsKind, IsForm}
-use Rattle.net_script.specs.Messages.{kind_of, said_words, FitsSaid}
-use Rattle.net_script.specs.Spelling.{IsCommon, no_words, ◌&◌, items_of_words}
-use Rattle.net_script.specs.Laws.{a_number, manager_of, a_manager, acceptor_of, an_acceptor, a_tx, literal}
-use Rattle.net_script.specs.MessageLaws.{a_vote, a_report_item, an_accept_item, reported, a_report}
+use Rattle.net_script.specs.Messages.{message_word, message_args, message_words, FitsReport, FitsReportItem, FitsAcceptItem, FitsKind}
+use Rattle.net_script.specs.Messages.{IsForm, kind_of, said_words, FitsSaid}
+use Rattle.net_script.specs.Spelling.{IsCommon, AreSpellings, no_words, ◌&◌, items_of_words}
+use Rattle.net_script.specs.Laws.{a_number, manager_of, a_manager, acceptor_of, an_acceptor, a_tx, literal, a_vote, a_report_item}
+use Rattle.net_script.specs.Laws.{an_accept_item, reported, a_report}
 use Rattle.net_script.proofs.Arms.{Arm, made_of, IsSaid, arm_said, apart}
 
 -- ---- the first words, and what comes after each and a transaction
@@ -85,42 +84,42 @@ said_alone (Said.B2b a vs) p = arm_said (an_acceptor & items_of_words an_accept_
 -- ---- with a transaction
 
 -- what a message says of its transaction
-pub record Says (m : Kind) : Type 0 where
+pub record Beside (m : Kind) : Type 0 where
   pub said : Said
   pub is : kind_of (message_tx m) said ≡ m
   pub words : said_words said ≡ message_word m ∷ message_args m
   pub fits : FitsKind m → FitsSaid said
 
-pub says : (m : Kind) → Says m
-says (Prepare t) = record { said = Said.Prepare; is = refl; words = refl; fits = λ p. p }
-says (P1a t rm n) = record { said = Said.P1a rm n; is = refl; words = refl; fits = λ p. p }
-says (P1b t rm n r a) = record { said = Said.P1b rm n r a; is = refl; words = refl; fits = λ p. p }
-says (P2a t rm n v) = record { said = Said.P2a rm n v; is = refl; words = refl; fits = λ p. p }
-says (P2b t rm n v a) = record { said = Said.P2b rm n v a; is = refl; words = refl; fits = λ p. p }
-says (Commit t) = record { said = Said.Commit; is = refl; words = refl; fits = λ p. p }
-says (Abort t) = record { said = Said.Abort; is = refl; words = refl; fits = λ p. p }
-says (Kind.Ask t rm) = record { said = Said.Ask rm; is = refl; words = refl; fits = λ p. p }
-says (B1a t n) = record { said = Said.B1a n; is = refl; words = refl; fits = λ p. p }
-says (B1b t n a rs) = record { said = Said.B1b n a rs; is = refl; words = refl; fits = λ p. p }
-says (B2b t a vs) = record { said = Said.B2b a vs; is = refl; words = refl; fits = λ p. p }
+pub beside : (m : Kind) → Beside m
+beside (Prepare t) = record { said = Said.Prepare; is = refl; words = refl; fits = λ p. p }
+beside (P1a t rm n) = record { said = Said.P1a rm n; is = refl; words = refl; fits = λ p. p }
+beside (P1b t rm n r a) = record { said = Said.P1b rm n r a; is = refl; words = refl; fits = λ p. p }
+beside (P2a t rm n v) = record { said = Said.P2a rm n v; is = refl; words = refl; fits = λ p. p }
+beside (P2b t rm n v a) = record { said = Said.P2b rm n v a; is = refl; words = refl; fits = λ p. p }
+beside (Commit t) = record { said = Said.Commit; is = refl; words = refl; fits = λ p. p }
+beside (Abort t) = record { said = Said.Abort; is = refl; words = refl; fits = λ p. p }
+beside (Kind.Ask t rm) = record { said = Said.Ask rm; is = refl; words = refl; fits = λ p. p }
+beside (B1a t n) = record { said = Said.B1a n; is = refl; words = refl; fits = λ p. p }
+beside (B1b t n a rs) = record { said = Said.B1b n a rs; is = refl; words = refl; fits = λ p. p }
+beside (B2b t a vs) = record { said = Said.B2b a vs; is = refl; words = refl; fits = λ p. p }
 
 around : {a b t u : List ℕ} {xs ys : List (List ℕ)} → a ∷ t ∷ xs ≡ b ∷ u ∷ ys → (a ∷ xs ≡ b ∷ ys) × (t ≡ u)
 around e = (cc, cc)
 
 -- a message's words are those of what it says, and of its transaction
 pub same_words : (m : Kind) {a t : List ℕ} {xs : List (List ℕ)} → a ∷ t ∷ xs ≡ message_words m
-    → (a ∷ xs ≡ said_words (says m).said) × (t ≡ tx_text (message_tx m))
-same_words m e = let parts = around e in (parts.0 ∙ sym (says m).words, parts.1)
+    → (a ∷ xs ≡ said_words (beside m).said) × (t ≡ tx_text (message_tx m))
+same_words m e = let parts = around e in (parts.0 ∙ sym (beside m).words, parts.1)
 
 pub message_said : (m : Kind) → IsForm m → IsSaid IsForm message_words m
 message_said m p =
-    let own = says m in
+    let own = beside m in
     let law = said_alone own.said (own.fits p.1) in
     let common : AllByRecursion IsCommon (message_word m ∷ message_args m) =
     subst (AllByRecursion IsCommon) own.words law.common in
     record {
       one = λ other q e.
-          let its = says other in
+          let its = beside other in
           let parts = same_words other e in
           let tx : message_tx m ≡ message_tx other = a_tx.one (message_tx m) (message_tx other) p.0 q.0 parts.1 in
           let same : own.said ≡ its.said = law.one its.said (its.fits q.1) (own.words ∙ parts.0) in
@@ -192,5 +191,9 @@ message_fits (B2b tx acceptor accepts) is =
 pub message_form : (m : Kind) → IsMessage m → IsForm m
 message_form m is = (tx_valid m is, message_fits m is)
 
-pub message_injective : (a b : Kind) → IsMessage a → IsMessage b → message_words a ≡ message_words b → a ≡ b
-message_injective a b p q e = (message_said a (message_form a p)).one b (message_form b q) e
+-- a message
+pub a_message : AreSpellings IsMessage message_words
+a_message = record {
+  one = λ a b p q e. (message_said a (message_form a p)).one b (message_form b q) e;
+  common = λ a p. (message_said a (message_form a p)).common;
+}

@@ -1,24 +1,64 @@
 -- What a reader of lines keeps says which line may follow as the trace so far does, and what it gives and refuses is right: for
--- `TraceReader`.
-use Rattle.std.proofs.Common.{◌≡◌, ℕ, ◌+◌, ◌<◌, ◌≤◌, Bool, true, false, not, cond, eqb, ltb, List, [], ◌∷◌, ◌++◌, length, inl, inr, Option}
-use Rattle.std.proofs.Common.{None, Some, refl, sym, ap, subst, ◌∙◌, arith, eqb-true}
-use Rattle.std.specs.Prelude.{Result, Ok, Err, is_some, IfErr}
-use Rattle.std.specs.Option.{option_map}
+-- `TraceReader`; and a text is that of one trace: for `one_trace`.
+use Rattle.std.proofs.Common.{◌≡◌, ℕ, ◌+◌, ◌<◌, ◌≤◌, Bool, true, false, not, cond, eqb, ltb, List, [], ◌∷◌, ◌++◌, length, take, drop, map}
+use Rattle.std.proofs.Common.{inl, inr, Option, None, Some, refl, sym, ap, subst, ◌∙◌, arith, eqb-true}
+use Rattle.std.specs.Prelude.{Result, Ok, Err, IfErr}
+use Rattle.std.specs.List.{flat_map}
+use Rattle.std.specs.Option.{ForSome, option_map}
 use Rattle.std.proofs.lemmas.Bool.{and_parts, not-true}
 use Rattle.std.proofs.lemmas.Option.{same_Some}
-use Rattle.std.proofs.lemmas.List.{length-append, length_push, map_push}
+use Rattle.std.proofs.lemmas.List.Concat.{flat_map-append}
+use Rattle.std.proofs.lemmas.List.{append-nil, append_assoc, length-append, length-map, length_push, map_push, take_at, take-append-drop}
 use Rattle.xid.specs.Text.{lacks}
-use Rattle.net_script.specs.Basics.{Refusal, Change, Sent, BadScript, BadConfig, Table, Entry, Trace, LastEntry, SoFar, TraceLine}
+use Rattle.net_script.specs.Basics.{Refusal, TxParts, Change, Sent, BadScript, BadConfig, Sizes, Entry, Trace, LastEntry, SoFar}
+use Rattle.net_script.specs.Basics.{TraceLine}
+use Rattle.net_script.specs.declared.said.Heard.{Heard}
 use Rattle.net_script.specs.declared.trace_lines.TraceLine.TheVariants.{Cluster, Contents, Happened, Served, Changed, Datagram, Final}
-use Rattle.net_script.specs.Items.{is_in_limits}
-use Rattle.net_script.specs.TraceLines.{IsTraceLine, trace_line_text}
-use Rattle.net_script.specs.TraceReading.{RefusesTrace}
+use Rattle.net_script.specs.Items.{IsSizes, is_in_limits}
+use Rattle.net_script.specs.Traces.{trace_text}
+use Rattle.net_script.specs.TraceLines.{IsTraceLine, trace_line_text, whole_line, lines_of}
+use Rattle.net_script.specs.TraceReading.{IsBegun, IsTrace, ended_lines, CanBeginTrace, IsTraceFault, RefusesTrace}
 use Rattle.net_script.specs.TraceReaders.{told_of, told_by, last_of, so_far_of, is_missing, is_alone, may_follow, after_line, follow}
-use Rattle.net_script.specs.TraceReaders.{bare_step, with_now, with_sent, at_last, grown, begun_with, ReaderParts, HasRead, ReadsOn, IsRead}
-use Rattle.net_script.specs.TraceReaders.{GivesNext}
-use Rattle.net_script.proofs.TraceLineLemmas.{line_text_words, line_injective}
-use Rattle.net_script.proofs.DraftLemmas.{last_push, alone}
-use Rattle.net_script.proofs.TraceLoop.{Told, unended_fault, line_fault, line_told, nothing_fault, missing_fault, all_told}
+use Rattle.net_script.specs.TraceReaders.{with_now, with_sent, at_last, grown, opened, begun_with, lines_so_far, ReaderParts}
+use Rattle.net_script.specs.TraceReaders.{HasRead, ReadsOn, IsRead, as_line, Follows, GivesHeard}
+use Rattle.net_script.specs.Telling.{IsHeard}
+use Rattle.net_script.proofs.Arms.{texts_injective, texts_go_on}
+use Rattle.net_script.proofs.LawLemmas.{one_line}
+use Rattle.net_script.proofs.TraceLineLemmas.{lines_have_one_text, same_front, line_text_words, line_injective}
+use Rattle.net_script.proofs.DraftLemmas.{lines_same, begins, none_begins, opened_valid, lines_valid, so_far_valid, last_push, alone}
+use Rattle.net_script.proofs.EndedText.{ended_cut, ended_last, ended_more, ended_all, unended, text_is_lines}
+
+-- ---- texts of traces
+
+pub ended_text : (t : Trace) → IsBegun t → ended_lines (trace_text t) ≡ map whole_line (lines_of t)
+ended_text t is = ap ended_lines (text_is_lines t) ∙ ended_all (lines_of t) (lines_valid t is)
+
+pub one_text : (t u : Trace) → IsBegun t → IsBegun u → trace_text t ≡ trace_text u → t ≡ u
+one_text t u p q e =
+    lines_same t u p q
+    (texts_injective lines_have_one_text (lines_of t) (lines_of u) (lines_valid t p) (lines_valid u q)
+    (sym (ended_text t p) ∙ ap ended_lines e ∙ ended_text u q))
+
+begins_take : (n : ℕ) (ls : List (List ℕ)) → CanBeginTrace ls → CanBeginTrace (take n ls)
+begins_take n ls can = record {
+  trace = can.trace;
+  valid = can.valid;
+  more = drop n ls ++ can.more;
+  begins = can.begins ∙ simp (← append_assoc, take-append-drop);
+}
+
+own_begins : (t : Trace) → IsBegun t → CanBeginTrace (ended_lines (trace_text t))
+own_begins t is = record { trace = t; valid = is; more = []; begins = sym (append-nil (ended_lines (trace_text t))) }
+
+pub text_has_no_fault : (t : Trace) (n : ℕ) → IsTrace t → IsTraceFault (trace_text t) n → ⊥
+text_has_no_fault t n is (inl fault) = fault.fails (begins_take n (ended_lines (trace_text t)) (own_begins t is.begun))
+text_has_no_fault t n is (inr lacks) = lacks.0.short t is refl
+
+pub one_trace_fault : (bytes : List ℕ) (m n : ℕ) → IsTraceFault bytes m → IsTraceFault bytes n → m ≡ n
+one_trace_fault bytes m n (inl p) (inl q) = one_line begins_take (ended_lines bytes) m n p q
+one_trace_fault bytes m n (inl p) (inr q) = absurd (p.fails (begins_take m (ended_lines bytes) q.0.can))
+one_trace_fault bytes m n (inr p) (inl q) = absurd (q.fails (begins_take n (ended_lines bytes) p.0.can))
+one_trace_fault bytes m n (inr p) (inr q) = p.1 ∙ sym q.1
 
 -- ---- which lines may follow
 
@@ -47,12 +87,9 @@ sent_full d (Entry.Serve node answer now sent) = told_full now sent d
 kept_after : (t : Trace) (said : TraceLine) → may_follow (so_far_of t) said ≡ true
     → so_far_of (grown t said) ≡ after_line (so_far_of t) said
 kept_after t (Cluster sizes) may = absurd (cc (may))
-kept_after t (Contents table) may =
-    ap (λ ms. record (so_far_of t) { managers = ms }) (map_push (λ (other : Table). other.rm) t.tables table)
-kept_after t (Happened event answer) may =
-    ap (λ l. record (so_far_of t) { last = l }) (last_push t.entries (bare_step event answer))
-kept_after t (Served node answer) may =
-    ap (λ l. record (so_far_of t) { last = l }) (last_push t.entries (Entry.Serve node answer None []))
+kept_after t (Contents table) may = simp map_push
+kept_after t (Happened event answer) may = simp last_push
+kept_after t (Served node answer) may = simp last_push
 kept_after t (Changed change) may =
     let parts = and_parts (eqb (length t.finals) 0) (is_alone (last_of t.entries)) may in
     let some = ap is_missing (alone (last_of t.entries) parts.1) in
@@ -77,22 +114,83 @@ follows_so (Some t) said = by (may_follow (so_far_of t) said) (kept_after t said
     by true same = ap (λ (s : SoFar). Some s) (same refl)
     by false same = refl
 
--- ---- what a reader refuses, and what it gives
+-- ---- the next line
 
-told : {r : ReaderParts} {trace : Option Trace} → HasRead r trace → Told r.bytes r.rest r.number trace
-told so = record { text = so.text; counted = so.counted; valid = so.valid }
+begins_so_far : (trace : Option Trace) → ForSome trace IsBegun → CanBeginTrace (map whole_line (lines_so_far trace))
+begins_so_far None is =
+    let sizes : Sizes = record { acceptors = 0; leaders = 0; rms = 0; bundled = false } in
+    let small : IsSizes sizes = record { acceptors = omega arith; leaders = omega arith; rms = omega arith } in
+    record { trace = opened sizes; valid = opened_valid sizes small; more = ended_lines (trace_text (opened sizes)); begins = refl }
+begins_so_far (Some t) is = record {
+  trace = t;
+  valid = is t refl;
+  more = [];
+  begins = ended_text t (is t refl) ∙ sym (append-nil (map whole_line (lines_of t)));
+}
 
+-- no trace has these lines and then this one
+no_line : (trace : Option Trace) (line : List ℕ) → ForSome trace IsBegun
+    → ((said : TraceLine) → IsTraceLine said → line ≡ whole_line said → (u : Trace) → IsBegun u → (more : List TraceLine)
+    → lines_of u ≡ lines_so_far trace ++ said ∷ more → ⊥)
+    → CanBeginTrace (map whole_line (lines_so_far trace) ++ line ∷ [])
+    → ⊥
+no_line trace line valid none can =
+    let seen : List TraceLine = lines_so_far trace in
+    let says : map whole_line seen ++ line ∷ can.more ≡ map whole_line (lines_of can.trace) =
+    sym (append_assoc (map whole_line seen) (line ∷ []) can.more) ∙ sym can.begins ∙ ended_text can.trace can.valid in
+    let on = texts_go_on lines_have_one_text seen (lines_of can.trace) line can.more
+    (so_far_valid trace valid, lines_valid can.trace can.valid) says in
+    none on.next on.valid on.says can.trace can.valid on.later on.parts
+
+-- a line that no trace has there
+fails_at : {r : ReaderParts} {trace : Option Trace} (line : List ℕ) (later : List (List ℕ)) → HasRead r trace
+    → ended_lines r.rest ≡ line ∷ later
+    → ((said : TraceLine) → IsTraceLine said → line ≡ whole_line said → (u : Trace) → IsBegun u → (more : List TraceLine)
+    → lines_of u ≡ lines_so_far trace ++ said ∷ more → ⊥)
+    → RefusesTrace r.bytes (BadScript (r.number + 1))
+fails_at {r = r} {trace = trace} line later so next none =
+    let seen : List (List ℕ) = map whole_line (lines_so_far trace) in
+    let left = ap ended_lines so.text ∙ ended_more (lines_so_far trace) r.rest (so_far_valid trace so.valid) in
+    let all : ended_lines r.bytes ≡ seen ++ line ∷ later = left ∙ ap (λ (l : List (List ℕ)). seen ++ l) next in
+    let len : length seen ≡ r.number = length-map (lines_so_far trace) whole_line ∙ so.counted in
+    let longer : length (seen ++ line ∷ []) ≡ r.number + 1 = length_push seen line ∙ ap (λ (n : ℕ). n + 1) len in
+    let front = ap (take r.number) all ∙ take_at seen (line ∷ later) r.number len in
+    let more = take_at (seen ++ line ∷ []) later (r.number + 1) longer in
+    let up_to = ap (take (r.number + 1)) all ∙ simp append_assoc at more in
+    inr (inl (
+      r.number + 1,
+      refl,
+      inl (record {
+        before = r.number;
+        counted = omega arith;
+        within = omega (arith, ap length all, length-append seen (line ∷ later));
+        can = subst CanBeginTrace (sym front) (begins_so_far trace so.valid);
+        fails = λ can. no_line trace line so.valid none (subst CanBeginTrace up_to can);
+      }),
+    ))
+
+-- the last line lacks its end
 pub unended_line : {r : ReaderParts} {trace : Option Trace} → HasRead r trace → 0 < length r.rest → lacks 10 r.rest ≡ true
     → RefusesTrace r.bytes (BadScript (r.number + 1))
-unended_line {r = r} so some none = inr (inl (r.number + 1, refl, unended_fault (told so) some none))
+unended_line {r = r} so some none =
+    fails_at r.rest [] so (ended_last r.rest some none) (λ said is e u valid more parts. unended said r.rest none e)
+
+-- no trace goes on with what the line says
+line_fault : {r : ReaderParts} {trace : Option Trace} (line after : List ℕ) → HasRead r trace
+    → (r.rest ≡ line ++ 10 ∷ after) × (lacks 10 line ≡ true)
+    → ((said : TraceLine) → IsTraceLine said → line ≡ trace_line_text said → begun_with trace said ≡ None)
+    → RefusesTrace r.bytes (BadScript (r.number + 1))
+line_fault {trace = trace} line after so cut none =
+    fails_at (line ++ 10 ∷ []) (ended_lines after) so (ap ended_lines cut.0 ∙ ended_cut line after cut.1)
+    (λ said is e u valid more parts.
+    none_begins trace said u more so.valid valid (none said is (same_front line (trace_line_text said) (10 ∷ []) e)) parts)
 
 -- a line that says nothing
 pub unread_line : {r : ReaderParts} {trace : Option Trace} (line after : List ℕ) → HasRead r trace
     → (r.rest ≡ line ++ 10 ∷ after) × (lacks 10 line ≡ true)
     → ((said : TraceLine) → IsTraceLine said → line ≡ trace_line_text said → ⊥)
     → RefusesTrace r.bytes (BadScript (r.number + 1))
-unread_line {r = r} line after so cut none =
-    inr (inl (r.number + 1, refl, line_fault line after (told so) cut (λ said is e. absurd (none said is e))))
+unread_line line after so cut none = line_fault line after so cut (λ said is e. absurd (none said is e))
 
 none_kept : (o : Option Trace) → option_map so_far_of o ≡ None → o ≡ None
 none_kept None e = refl
@@ -101,94 +199,136 @@ none_kept (Some t) e = absurd (cc)
 -- a line that can't follow
 pub unfit_line : {r : ReaderParts} {trace : Option Trace} (line after : List ℕ) (said : TraceLine) → HasRead r trace
     → (r.rest ≡ line ++ 10 ∷ after) × (lacks 10 line ≡ true)
-    → IsTraceLine said → line ≡ trace_line_text said → false ≡ is_some (follow r.so_far said)
+    → IsTraceLine said → line ≡ trace_line_text said → follow r.so_far said ≡ None
     → RefusesTrace r.bytes (BadScript (r.number + 1))
 unfit_line {r = r} {trace = trace} line after said so cut is says unfit =
-    inr (inl (
-      r.number + 1,
-      refl,
-      line_fault line after (told so) cut (λ other range e.
-          let same : said ≡ other =
-          line_injective said other is range (sym (line_text_words said line is says) ∙ line_text_words other line range e) in
-          none_kept (begun_with trace other)
-          (follows_so trace other ∙ ap (λ s. follow s other) (sym so.kept) ∙ ap (follow r.so_far) (sym same) ∙ nothing _ unfit)),
-    ))
-  where
-    nothing : (o : Option SoFar) → false ≡ is_some o → o ≡ None
-    nothing None e = refl
-    nothing (Some s) e = absurd (cc (e))
+    line_fault line after so cut (λ other range e.
+    let same : said ≡ other =
+    line_injective said other is range (sym (line_text_words said line is says) ∙ line_text_words other line range e) in
+    none_kept (begun_with trace other)
+    (follows_so trace other ∙ ap (λ s. follow s other) (sym so.kept) ∙ ap (follow r.so_far) (sym same) ∙ unfit))
 
 some_kept : (o : Option Trace) (s : SoFar) → option_map so_far_of o ≡ Some s → (t : Trace) × (o ≡ Some t)
 some_kept None s e = absurd (cc)
 some_kept (Some t) s e = (t, refl)
 
-something : (o : Option SoFar) → true ≡ is_some o → (s : SoFar) × (o ≡ Some s)
-something None e = absurd (cc (e))
-something (Some s) e = (s, refl)
+one_more : (seen : List TraceLine) (said : TraceLine) (after : List ℕ)
+    → flat_map whole_line seen ++ (trace_line_text said ++ 10 ∷ after) ≡ flat_map whole_line (seen ++ said ∷ []) ++ after
+one_more seen said after = simp (flat_map-append, append_assoc)
 
 -- a line that follows
 pub fit_line : {r new : ReaderParts} {trace : Option Trace} (line : List ℕ) (said : TraceLine) → HasRead r trace
     → (r.rest ≡ line ++ 10 ∷ new.rest) × (lacks 10 line ≡ true)
-    → IsTraceLine said → line ≡ trace_line_text said → true ≡ is_some (follow r.so_far said) → new.so_far ≡ follow r.so_far said
-    → new.bytes ≡ r.bytes → new.number ≡ r.number + 1
+    → IsTraceLine said → line ≡ trace_line_text said → Follows r.so_far new.so_far said (Ok tt) → new.bytes ≡ r.bytes
+    → new.number ≡ r.number + 1
     → ReadsOn r new trace said
-fit_line {r = r} {new = new} {trace = trace} line said so cut is says some fits bytes number =
-    let after = follows_so trace said ∙ ap (λ k. follow k said) (sym so.kept) in
-    let kept = something (follow r.so_far said) some in
-    let got = some_kept (begun_with trace said) kept.0 (after ∙ kept.1) in
-    let more = line_told line new.rest said got.0 (told so) cut is says got.1 in
+fit_line {r = r} {new = new} {trace = trace} line said so cut is says (s, now, fits) bytes number =
+    let after = follows_so trace said ∙ ap (λ k. follow k said) (sym so.kept) ∙ fits in
+    let (longer, grows) = some_kept (begun_with trace said) s after in
+    let on = begins trace said longer so.valid is grows in
     record {
       bytes = bytes;
       shorter = omega (arith, ap length cut.0, length-append line (10 ∷ new.rest));
-      longer = got.0;
-      grown = sym got.1;
+      longer = longer;
+      grown = sym grows;
       read = record {
-        text = bytes ∙ more.text;
-        counted = more.counted ∙ sym number;
-        valid = more.valid;
-        kept = fits ∙ sym after ∙ ap (option_map so_far_of) got.1;
+        text = bytes ∙ so.text ∙ (simp (cut.0, says)) ∙ one_more (lines_so_far trace) said new.rest
+            ∙ ap (λ (ls : List TraceLine). flat_map whole_line ls ++ new.rest) (sym on.1);
+        counted = let before = so.counted in omega (arith, ap length on.1, length_push (lines_so_far trace) said);
+        valid = λ u e. subst IsBegun (let same : longer ≡ u = cc in same) on.0;
+        kept = now ∙ sym after ∙ ap (option_map so_far_of) grows;
       };
     }
 
+any_sent : (s : Option SoFar) (d e : Sent) → follow s (Datagram d) ≡ follow s (Datagram e)
+any_sent None d e = refl
+any_sent (Some s) d e = refl
+
+-- what is heard of a line follows as the line does
+pub heard_follows : (known : Option TxParts) (heard : Heard) (said : TraceLine) (s : Option SoFar) → IsHeard known heard said
+    → follow s said ≡ follow s (as_line heard)
+heard_follows known (Heard.Line line) said s h = ap (follow s) h
+heard_follows None (Heard.Datagram told) said s h = absurd h
+heard_follows (Some tx) (Heard.Datagram told) said s h = ap (follow s) h ∙ any_sent s _ _
+
 -- ---- all bytes are read
+
+whole_text : {r : ReaderParts} {trace : Option Trace} → HasRead r trace → r.rest ≡ []
+    → r.bytes ≡ flat_map whole_line (lines_so_far trace)
+whole_text so none = so.text ∙ (simp (none, append-nil))
+
+missing : {r : ReaderParts} {trace : Option Trace} → HasRead r trace → r.rest ≡ []
+    → ((u : Trace) → IsTrace u → lines_of u ≡ lines_so_far trace → ⊥)
+    → RefusesTrace r.bytes (BadScript (r.number + 1))
+missing {r = r} {trace = trace} so none short =
+    let seen : List TraceLine = lines_so_far trace in
+    let all : ended_lines r.bytes ≡ map whole_line seen =
+    ap ended_lines (whole_text so none) ∙ ended_all seen (so_far_valid trace so.valid) in
+    inr (inl (
+      r.number + 1,
+      refl,
+      inr (
+        record {
+          can = subst CanBeginTrace (sym all) (begins_so_far trace so.valid);
+          short =
+              λ u valid e. short u valid
+              (texts_injective lines_have_one_text (lines_of u) seen (lines_valid u valid.begun) (so_far_valid trace so.valid)
+              (sym (ended_text u valid.begun) ∙ ap ended_lines (sym e) ∙ all));
+        },
+        let counted = so.counted in omega (arith, ap length all, length-map seen whole_line),
+      ),
+    ))
 
 pub nothing_read : {r : ReaderParts} {trace : Option Trace} → HasRead r trace → r.rest ≡ [] → r.so_far ≡ None
     → RefusesTrace r.bytes (BadScript (r.number + 1))
-nothing_read {r = r} {trace = trace} so none unkept =
+nothing_read {trace = trace} so none unkept =
     let nothing = none_kept trace (sym so.kept ∙ unkept) in
-    inr (inl (r.number + 1, refl, nothing_fault (subst (Told r.bytes r.rest r.number) nothing (told so)) none))
+    missing so none (λ u valid e. absurd (cc (e ∙ ap lines_so_far nothing)))
 
 -- the trace so far, where a reader keeps something of it
 record Kept (r : ReaderParts) (trace : Option Trace) (s : SoFar) : Type 0 where
   so_far : Trace
   is : trace ≡ Some so_far
   kept : so_far_of so_far ≡ s
-  told : Told r.bytes r.rest r.number (Some so_far)
+  begun : IsBegun so_far
+  read : HasRead r (Some so_far)
 
 kept_of : {r : ReaderParts} {trace : Option Trace} (s : SoFar) → HasRead r trace → r.so_far ≡ Some s → Kept r trace s
 kept_of {r = r} {trace = trace} s so some =
-    let got = some_kept trace s (sym so.kept ∙ some) in
+    let (t, is) = some_kept trace s (sym so.kept ∙ some) in
     record {
-      so_far = got.0;
-      is = got.1;
-      kept = same_Some (so_far_of got.0) s (sym (ap (option_map so_far_of) got.1) ∙ sym so.kept ∙ some);
-      told = subst (Told r.bytes r.rest r.number) got.1 (told so);
+      so_far = t;
+      is = is;
+      kept = same_Some (so_far_of t) s (sym (ap (option_map so_far_of) is) ∙ sym so.kept ∙ some);
+      begun = so.valid t is;
+      read = subst (HasRead r) is so;
     }
 
 pub rows_missing : {r : ReaderParts} {trace : Option Trace} (s : SoFar) → HasRead r trace → r.rest ≡ [] → r.so_far ≡ Some s
     → s.finals < s.sizes.rms
     → RefusesTrace r.bytes (BadScript (r.number + 1))
-rows_missing {r = r} s so none some few =
+rows_missing s so none some few =
     let got = kept_of s so some in
     let fewer = subst (λ (k : SoFar). k.finals < k.sizes.rms) (sym got.kept) few in
-    inr (inl (r.number + 1, refl, missing_fault got.so_far got.told none fewer))
+    missing got.read none
+    (λ u valid e.
+    let same : u ≡ got.so_far = lines_same u got.so_far valid.begun got.begun e in
+    let whole = subst (λ (x : Trace). length x.finals ≡ x.sizes.rms) same valid.whole in
+    omega arith)
+
+all_told : {r : ReaderParts} {trace : Option Trace} {s : SoFar} (got : Kept r trace s) → r.rest ≡ [] → s.sizes.rms ≤ s.finals
+    → IsTrace got.so_far × (r.bytes ≡ trace_text got.so_far)
+all_told got none enough =
+    let more = subst (λ (k : SoFar). k.sizes.rms ≤ k.finals) (sym got.kept) enough in
+    let few = got.begun.few in
+    (record { begun = got.begun; whole = omega arith }, whole_text got.read none ∙ sym (text_is_lines got.so_far))
 
 pub too_large : {r : ReaderParts} {trace : Option Trace} (s : SoFar) → HasRead r trace → r.rest ≡ [] → r.so_far ≡ Some s
     → s.sizes.rms ≤ s.finals → is_in_limits s.sizes ≡ false
     → RefusesTrace r.bytes BadConfig
 too_large s so none some enough beyond =
     let got = kept_of s so some in
-    let all = all_told got.so_far got.told none (subst (λ (k : SoFar). k.sizes.rms ≤ k.finals) (sym got.kept) enough) in
+    let all = all_told got none enough in
     let limits = ap (λ (k : SoFar). is_in_limits k.sizes) got.kept ∙ beyond in
     inr (inr (refl, record { trace = got.so_far; valid = all.0; limits = limits; text = all.1 }))
 
@@ -197,14 +337,14 @@ pub all_read : {r : ReaderParts} {trace : Option Trace} (s : SoFar) → HasRead 
     → IsRead r.bytes trace
 all_read s so none some enough within =
     let got = kept_of s so some in
-    let all = all_told got.so_far got.told none (subst (λ (k : SoFar). k.sizes.rms ≤ k.finals) (sym got.kept) enough) in
+    let all = all_told got none enough in
     let limits = ap (λ (k : SoFar). is_in_limits k.sizes) got.kept ∙ within in
     record { whole = got.so_far; is = got.is; spelled = record { valid = all.0; limits = limits; text = all.1 } }
 
 -- what a reader refuses, its caller does
-pub refused_next : {X : Type 0} (bytes : List ℕ) (old new : ReaderParts) (trace : Option Trace) (r : Result (Option TraceLine) Refusal)
+pub refused_next : {X : Type 0} (bytes : List ℕ) (old new : ReaderParts) (trace : Option Trace) (r : Result (Option Heard) Refusal)
     (out : Result X Refusal) (e : Refusal)
-    → r ≡ Err e → out ≡ Err e → old.bytes ≡ bytes → GivesNext old new trace r
+    → r ≡ Err e → out ≡ Err e → old.bytes ≡ bytes → GivesHeard old new trace r
     → IfErr out (λ x. RefusesTrace bytes x)
 refused_next bytes old new trace (Ok x) out e is same all given = absurd (cc)
 refused_next bytes old new trace (Err x) (Ok y) e is same all given = tt

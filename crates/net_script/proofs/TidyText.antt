@@ -1,16 +1,45 @@
--- Lines of words with one space between them, and texts of such lines.
-use Rattle.std.proofs.Common.{◌≡◌, ℕ, Bool, true, false, not, ◌&&◌, cond, ◌⊎◌, inl, inr, eqb, List, [], ◌∷◌, ◌++◌, drop}
-use Rattle.std.proofs.Common.{refl, sym, ap, ◌∙◌, codes, eqb-true}
+-- Words whose bytes are tested, lines of words with one space between them, and texts of such lines: for readers of lines.
+use Rattle.std.proofs.Common.{◌≡◌, ℕ, Bool, true, not, eqb, List, [], ◌∷◌, refl, false, ◌&&◌, cond, ◌⊎◌, inl, inr, ◌++◌, drop, sym, ap, ◌∙◌}
+use Rattle.std.proofs.Common.{codes, eqb-true}
 use Rattle.std.specs.List.{AllByRecursion, list_all, filter, onto_first}
+use Rattle.xid.specs.Text.{lacks}
+use Rattle.xid.proofs.Texts.{first_true, second_true, both_true}
+use Rattle.net_script.specs.Spelling.{is_clean, is_common, IsClean, IsCommon}
 use Rattle.std.proofs.lemmas.Bool.{not-true}
 use Rattle.std.proofs.lemmas.List.{append-nil, append_assoc}
 use Rattle.std.proofs.lemmas.List.Concat.{flat_map-append}
-use Rattle.xid.proofs.Texts.{first_true, second_true}
 use Rattle.net_script.specs.Lines.{pieces, words, is_word}
 use Rattle.net_script.specs.Traces.{spaced_words, joined_words}
 use Rattle.net_script.specs.TraceLines.{is_tidy_after, is_tidy}
 use Rattle.net_script.proofs.WordLemmas.{pieces-cut, pieces-whole}
-use Rattle.net_script.proofs.CleanWords.{IsClean, is_clean, lacks_space}
+
+pub list_all_weaker : {X : Type 0} (p q : X → Bool) → ((x : X) → p x ≡ true → q x ≡ true) → (xs : List X) → list_all p xs ≡ true
+    → list_all q xs ≡ true
+list_all_weaker p q weaker [] h = refl
+list_all_weaker p q weaker (x ∷ xs) h =
+    both_true (q x) (list_all q xs) (weaker x (first_true (p x) (list_all p xs) h))
+    (list_all_weaker p q weaker xs (second_true (p x) (list_all p xs) h))
+
+common_is_clean : (b : ℕ) → is_common b ≡ true → is_clean b ≡ true
+common_is_clean b h = second_true (not (eqb b 62)) (is_clean b) h
+
+pub clean : (w : List ℕ) → IsCommon w → IsClean w
+clean w is = record { some = is.some; bytes = list_all_weaker is_common is_clean common_is_clean w is.bytes }
+
+pub all_clean : (ws : List (List ℕ)) → AllByRecursion IsCommon ws → AllByRecursion IsClean ws
+all_clean [] are = tt
+all_clean (w ∷ ws) are = (clean w are.0, all_clean ws are.1)
+
+pub lacks_space : (w : List ℕ) → list_all is_clean w ≡ true → lacks 32 w ≡ true
+lacks_space w h =
+    list_all_weaker is_clean (λ b. not (eqb b 32)) (λ b is. second_true (not (eqb b 10)) (not (eqb b 32)) is) w h
+
+pub lacks_end : (w : List ℕ) → list_all is_clean w ≡ true → lacks 10 w ≡ true
+lacks_end w h =
+    list_all_weaker is_clean (λ b. not (eqb b 10)) (λ b is. first_true (not (eqb b 10)) (not (eqb b 32)) is) w h
+
+pub lacks_head : (w : List ℕ) → list_all is_common w ≡ true → lacks 62 w ≡ true
+lacks_head w h = list_all_weaker is_common (λ b. not (eqb b 62)) (λ b is. first_true (not (eqb b 62)) (is_clean b) is) w h
 
 pub either : (b : Bool) → (b ≡ true) ⊎ (b ≡ false)
 either true = inl refl
@@ -71,57 +100,30 @@ record SpacedOut (line : List ℕ) : Type 0 where
   after_space : is_tidy_after true line ≡ true → spaced_words (words line) ≡ 32 ∷ line
   within : (x : ℕ) → eqb x 32 ≡ false → is_tidy_after false line ≡ true → spaced_words (words (x ∷ line)) ≡ 32 ∷ x ∷ line
 
-none_within : (x : ℕ) → eqb x 32 ≡ false → spaced_words (words (x ∷ [])) ≡ 32 ∷ x ∷ []
-none_within x other = rw other refl
-
 space_within : (x y : ℕ) (rest : List ℕ) → eqb x 32 ≡ false → eqb y 32 ≡ true
     → spaced_words (words rest) ≡ 32 ∷ rest
     → spaced_words (words (x ∷ y ∷ rest)) ≡ 32 ∷ x ∷ y ∷ rest
 space_within x y rest other here e =
-    let same : y ≡ 32 = eqb-true y 32 here in
-    let cut : words (x ∷ y ∷ rest) ≡ (x ∷ []) ∷ words rest = rw (other, here) refl in
-    ap spaced_words cut ∙ (ap (λ (t : List ℕ). 32 ∷ x ∷ t) e ∙ ap (λ (n : ℕ). 32 ∷ x ∷ n ∷ rest) (sym same))
+    simp (other, here, e) (ap (λ (n : ℕ). 32 ∷ x ∷ n ∷ rest) (sym (eqb-true y 32 here)))
 
 byte_within : (x y : ℕ) (rest : List ℕ) → eqb x 32 ≡ false → eqb y 32 ≡ false
     → spaced_words (words (y ∷ rest)) ≡ 32 ∷ y ∷ rest
     → spaced_words (words (x ∷ y ∷ rest)) ≡ 32 ∷ x ∷ y ∷ rest
 byte_within x y rest other there e =
-    let next : pieces 32 (y ∷ rest) ≡ onto_first y (pieces 32 rest) =
-    ap (λ (b : Bool). cond b ([] ∷ pieces 32 rest) (onto_first y (pieces 32 rest))) there in
-    let first : pieces 32 (x ∷ y ∷ rest) ≡ onto_first x (pieces 32 (y ∷ rest)) =
-    ap (λ (b : Bool). cond b ([] ∷ pieces 32 (y ∷ rest)) (onto_first x (pieces 32 (y ∷ rest)))) other in
-    let cut : words (x ∷ y ∷ rest) ≡ onto_first x (words (y ∷ rest)) =
-    ap (filter is_word) (first ∙ ap (onto_first x) next)
-    ∙ (onto_words x y (pieces 32 rest) ∙ ap (λ (ps : List (List ℕ)). onto_first x (filter is_word ps)) (sym next)) in
-    ap spaced_words cut ∙ spaced_onto x (words (y ∷ rest)) (y ∷ rest) e
-
-tidy_true : (y : ℕ) (rest : List ℕ) → eqb y 32 ≡ true → is_tidy_after true (y ∷ rest) ≡ true → ⊥
-tidy_true y rest here h =
-    let none : is_tidy_after true (y ∷ rest) ≡ false =
-    ap (λ (b : Bool). cond b (not true && is_tidy_after true rest) (is_tidy_after false rest)) here in
-    absurd (cc)
-
-tidy_next : (spaced : Bool) (y : ℕ) (rest : List ℕ) → eqb y 32 ≡ false → is_tidy_after spaced (y ∷ rest) ≡ true
-    → is_tidy_after false rest ≡ true
-tidy_next spaced y rest there h =
-    sym (ap (λ (b : Bool). cond b (not spaced && is_tidy_after true rest) (is_tidy_after false rest)) there) ∙ h
-
-tidy_space : (y : ℕ) (rest : List ℕ) → eqb y 32 ≡ true → is_tidy_after false (y ∷ rest) ≡ true → is_tidy_after true rest ≡ true
-tidy_space y rest here h =
-    sym (ap (λ (b : Bool). cond b (not false && is_tidy_after true rest) (is_tidy_after false rest)) here) ∙ h
+    simp (other, there, onto_words) (spaced_onto x (filter is_word (onto_first y (pieces 32 rest))) (y ∷ rest) (simp there at e))
 
 spaced_out : (line : List ℕ) → SpacedOut line
-spaced_out [] = record { after_space = λ h. absurd (cc); within = λ x other h. none_within x other }
+spaced_out [] = record { after_space = λ h. absurd (cc); within = λ x other h. rw other refl }
 spaced_out (y ∷ rest) =
     let tail = spaced_out rest in
     elim (either (eqb y 32)) [
       | inl here ↦ record {
-        after_space = λ h. absurd (tidy_true y rest here h);
-        within = λ x other h. space_within x y rest other here (tail.after_space (tidy_space y rest here h));
+        after_space = λ h. absurd (cc (simp here at h));
+        within = λ x other h. space_within x y rest other here (tail.after_space (simp here at h));
       }
       | inr there ↦ record {
-        after_space = λ h. tail.within y there (tidy_next true y rest there h);
-        within = λ x other h. byte_within x y rest other there (tail.within y there (tidy_next false y rest there h));
+        after_space = λ h. tail.within y there (simp there at h);
+        within = λ x other h. byte_within x y rest other there (tail.within y there (simp there at h));
       }
     ]
 
@@ -139,22 +141,13 @@ tidy_is_joined line tidy =
 tidy_sides : (spaced : Bool) (front back : List ℕ)
     → is_tidy_after spaced (front ++ 32 ∷ back) ≡ (is_tidy_after spaced front && is_tidy_after true back)
 tidy_sides spaced [] back = refl
-tidy_sides spaced (x ∷ front) back =
+tidy_sides true (x ∷ front) back =
+    elim (either (eqb x 32)) [ inl here ↦ simp here | inr there ↦ simp (there, tidy_sides false front back) ]
+tidy_sides false (x ∷ front) back =
     elim (either (eqb x 32)) [
-      | inl here ↦ tidy_sides_space spaced x front back here (tidy_sides true front back)
-      | inr there ↦ tidy_sides_byte spaced x front back there (tidy_sides false front back)
+      | inl here ↦ simp (here, tidy_sides true front back)
+      | inr there ↦ simp (there, tidy_sides false front back)
     ]
-  where
-    tidy_sides_space : (spaced : Bool) (x : ℕ) (front back : List ℕ) → eqb x 32 ≡ true
-        → is_tidy_after true (front ++ 32 ∷ back) ≡ (is_tidy_after true front && is_tidy_after true back)
-        → is_tidy_after spaced (x ∷ (front ++ 32 ∷ back)) ≡ (is_tidy_after spaced (x ∷ front) && is_tidy_after true back)
-    tidy_sides_space true x front back here e = rw here refl
-    tidy_sides_space false x front back here e = rw here e
-
-    tidy_sides_byte : (spaced : Bool) (x : ℕ) (front back : List ℕ) → eqb x 32 ≡ false
-        → is_tidy_after false (front ++ 32 ∷ back) ≡ (is_tidy_after false front && is_tidy_after true back)
-        → is_tidy_after spaced (x ∷ (front ++ 32 ∷ back)) ≡ (is_tidy_after spaced (x ∷ front) && is_tidy_after true back)
-    tidy_sides_byte spaced x front back there e = rw there e
 
 -- what stands before an arrow, and what stands behind it
 pub tidy_parts : (line front back : List ℕ) → is_tidy line ≡ true → line ≡ front ++ (32 ∷ 45 ∷ 62 ∷ 32 ∷ back)

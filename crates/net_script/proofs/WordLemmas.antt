@@ -1,18 +1,24 @@
--- Pieces, lines and words of a text, and the texts of nodes and bytes.
-use Rattle.std.proofs.Common.{eq-eqb, ◌≡◌, ℕ, ◌<◌, ◌^◌, Bool, true, false, cond, not, ◌⊎◌, inl, inr, eqb, List, [], ◌∷◌}
-use Rattle.std.proofs.Common.{◌++◌, length, Ok, Option, None, Some, refl, ap, subst, ◌∙◌, arith}
-use Rattle.std.proofs.Common.{decimal}
-use Rattle.std.proofs.lemmas.List.{length-append}
-use Rattle.std.specs.List.{onto_first}
+-- Pieces, lines and words of a text, a text up to its first mark, and rows: for readers of words.
+use Rattle.std.proofs.Common.{eq-eqb, ◌≡◌, ℕ, ◌<◌, ◌^◌, Bool, true, false, cond, not, ◌⊎◌, inl, inr, eqb, List, [], ◌∷◌, ◌+◌, ◌-◌, ◌≤◌}
+use Rattle.std.proofs.Common.{take, get_or, ◌++◌, length, Ok, Option, None, Some, refl, sym, ap, ◌∙◌, arith, decimal, zero, suc, drop}
+use Rattle.std.proofs.Common.{eqb-true, map}
+use Rattle.std.proofs.lemmas.List.{length-append, take_all, take_rest, get_or_default, get_or-take, length-take, take_more}
+use Rattle.std.specs.List.{onto_first, All, AllPairs}
 use Rattle.std.proofs.lemmas.Bool.{not-true}
 use Rattle.std.specs.Str.{bytes_eq}
 use Rattle.std.proofs.lemmas.Slice.Eq.{bytes_eq-Decides}
 use Rattle.std.proofs.lemmas.Fmt.{decimal_injective}
 use Rattle.xid.specs.Text.{lacks}
-use Rattle.xid.proofs.Texts.{first_true, second_true}
-use Rattle.net_script.specs.Lines.{pieces, IsFirstPiece, Reads}
-pub use Rattle.net_script.specs.HexLemmas.{differ, hex_some, hex_decodes}
-pub use Rattle.net_script.specs.HexLemmas.{hex_injective, bytes_are_hex, bytes_injective, hex_long}
+use Rattle.xid.proofs.Texts.{first_true, second_true, both_true, cut_same}
+use Rattle.net_script.specs.Lines.{pieces, IsFirstPiece, Reads, IsSome, bytes_text, row_text}
+pub use Rattle.net_script.specs.Laws.{differ, hex_some, hex_decodes, hex_injective, bytes_are_hex, bytes_injective, hex_long}
+use Rattle.memchr.specs.Find.{IsFirstByte, is_byte}
+use Rattle.std.proofs.lemmas.List.Quantifiers.{all_pairs_push}
+use Rattle.stable_record.specs.Facts.{IsKey}
+use Rattle.net_script.specs.Basics.{IsBytes, hex_text, Row, Table}
+use Rattle.net_script.specs.Laws.{hex_lacks_equals, a_row}
+use Rattle.net_script.specs.Items.{IsRow, IsContents, contents_words}
+use Rattle.net_script.specs.Spelling.{one_list}
 
 pub second_holds : {A B : Type 0} → A ⊎ B → (A → ⊥) → B
 second_holds (inl a) other = absurd (other a)
@@ -27,12 +33,6 @@ pub reads_none : {X W : Type 0} (IsIn : X → Type 0) (text : X → W) (given : 
     → (y : X) → IsIn y → given ≡ text y → ⊥
 reads_none IsIn text given None e h = h
 reads_none IsIn text given (Some x) e h = absurd (cc)
-
--- where something was
-pub reads_some : {X W : Type 0} (IsIn : X → Type 0) (text : X → W) (given : W) (o : Option X) (x : X) → o ≡ Some x
-    → Reads IsIn text given (Ok o)
-    → IsIn x × (given ≡ text x)
-reads_some {X = X} IsIn text given o x e h = subst (λ (p : Option X). Reads IsIn text given (Ok p)) e h
 
 -- ---- pieces
 
@@ -68,3 +68,83 @@ pub large_number : (m n : ℕ) → m < 2 ^ 32 → 255 < m → n < 256 → decima
 large_number m n small large lt e =
     let same : m ≡ n = decimal_injective m n (omega arith) (omega arith) e in
     omega arith
+
+lacks_until : (mark : ℕ) (text : List ℕ) (n : ℕ) → n ≤ length text
+    → ((k : ℕ) → k < n → eqb (get_or text k 0) mark ≡ true → ⊥) → lacks mark (take n text) ≡ true
+lacks_until mark text zero le none = refl
+lacks_until mark [] (suc n) le none = refl
+lacks_until mark (x ∷ xs) (suc n) le none =
+    both_true (not (eqb x mark)) (lacks mark (take n xs)) (off (eqb x mark) (none 0 (omega arith)))
+    (lacks_until mark xs n (omega arith) (λ k lt e. none (suc k) (omega arith) e))
+  where
+    off : (b : Bool) → (b ≡ true → ⊥) → not b ≡ true
+    off true none = absurd (none refl)
+    off false _ = refl
+
+cut_here : (text : List ℕ) (n : ℕ) → n < length text → text ≡ take n text ++ get_or text n 0 ∷ drop (suc n) text
+cut_here [] n lt = absurd (omega arith)
+cut_here (x ∷ xs) zero lt = refl
+cut_here (x ∷ xs) (suc n) lt = ap (λ (l : List ℕ). x ∷ l) (cut_here xs n (omega arith))
+
+pub marked_at : (mark : ℕ) (text : List ℕ) (n : ℕ) → IsFirstByte (is_byte mark) text (Some n)
+    → (text ≡ take n text ++ mark ∷ take (length text - (n + 1)) (drop (n + 1) text)) × (lacks mark (take n text) ≡ true)
+marked_at mark text n first =
+    let here : get_or text n 0 ≡ mark = eqb-true (get_or text n 0) mark first.1 in
+    let high = first.0.high in
+    let next : suc n ≡ n + 1 = omega arith in (
+      cut_here text n high ∙ (simp (here, next, take_rest)),
+      lacks_until mark text n (omega (arith, high)) (λ k lt e. first.0.before k (omega arith) lt e),
+    )
+
+pub unmarked : (mark : ℕ) (text : List ℕ) → IsFirstByte (is_byte mark) text None → lacks mark text ≡ true
+unmarked mark text none =
+    ap (lacks mark) (sym (take_all (length text) text (omega arith)))
+    ∙ lacks_until mark text (length text) (omega arith) (λ k lt e. none k (omega arith) lt e)
+
+pub key_some : (xs : List ℕ) → IsKey xs → IsSome xs
+key_some xs is = (is.some, is.bytes)
+
+-- a row's text is cut at its first `=` in one way
+pub cut_row : (row : Row) (text front back : List ℕ) → IsRow row → text ≡ row_text row
+    → (text ≡ front ++ 61 ∷ back) × (lacks 61 front ≡ true)
+    → (front ≡ hex_text row.key) × (back ≡ bytes_text row.value)
+cut_row row text front back is e cut =
+    cut_same 61 front back (hex_text row.key) (bytes_text row.value) cut.1 (hex_lacks_equals row.key is.key.bytes) (sym cut.0 ∙ e)
+
+pub long_key : (row : Row) (front bytes : List ℕ) → IsRow row → front ≡ hex_text row.key → IsSome bytes × (front ≡ hex_text bytes)
+    → 64 < length bytes → ⊥
+long_key row front bytes is e read long =
+    let same : bytes ≡ row.key = hex_injective bytes row.key read.0.1 is.key.bytes (sym read.1 ∙ e) in
+    let few = is.key.few in
+    omega (arith, ap length same)
+
+pub long_value : (row : Row) (back bytes : List ℕ) → IsRow row → back ≡ bytes_text row.value → IsBytes bytes × (back ≡ bytes_text bytes)
+    → 256 < length bytes → ⊥
+long_value row back bytes is e read long =
+    let same : bytes ≡ row.value = bytes_injective bytes row.value read.0 is.value.bytes (sym read.1 ∙ e) in
+    let few = is.value.few in
+    omega (arith, ap length same)
+
+pub table_rows : (rows : List Row) (t : Table) {rm : List ℕ} → All IsRow rows → IsContents t → rm ∷ map row_text rows ≡ contents_words t
+    → rows ≡ t.rows
+table_rows rows t each is e = one_list a_row rows t.rows each is.rows.each (cc)
+
+-- ---- a row, and those before it
+
+-- rows with distinct keys: those before one have other keys
+pub keys_before : (rows : List Row) (at : ℕ) (row : Row) (key : List ℕ) → at < length rows → row ≡ get_or rows at row → key ≡ row.key
+    → AllPairs (λ (a b : Row). a.key ≡ b.key → ⊥) rows
+    → All (λ (x : Row). x.key ≡ key → ⊥) (take at rows)
+keys_before rows at row key lt is same pairs k d less e =
+    let before : k < at = omega (arith, length-take at rows) in
+    let here : get_or rows at d ≡ row = get_or_default rows at d row lt ∙ sym is in
+    pairs k at d before lt (rw here (ap (λ (x : Row). x.key) (sym (get_or-take at rows k d before)) ∙ e ∙ same))
+
+-- one row more, whose key is new
+pub keys_more : (rows : List Row) (at : ℕ) (row : Row) (key : List ℕ) → at < length rows → row ≡ get_or rows at row → key ≡ row.key
+    → AllPairs (λ (a b : Row). a.key ≡ b.key → ⊥) (take at rows) → All (λ (x : Row). x.key ≡ key → ⊥) (take at rows)
+    → AllPairs (λ (a b : Row). a.key ≡ b.key → ⊥) (take (at + 1) rows)
+keys_more rows at row key lt is same pairs new =
+    rw (take_more rows at row lt)
+    (all_pairs_push (λ (a b : Row). a.key ≡ b.key → ⊥) (take at rows) (get_or rows at row) pairs
+    (λ k d less e. new k d less (e ∙ ap (λ (x : Row). x.key) (sym is) ∙ sym same)))

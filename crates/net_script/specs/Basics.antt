@@ -39,7 +39,6 @@ pub use Rattle.net_script.specs.declared.values.Entry.{Entry}
 pub use Rattle.net_script.specs.declared.values.Trace.{Trace}
 pub use Rattle.net_script.specs.declared.items.Item.{Item}
 pub use Rattle.net_script.specs.declared.trace_lines.TraceLine.{TraceLine}
-pub use Rattle.net_script.specs.declared.trace_lines.LineName.{LineName}
 pub use Rattle.net_script.specs.declared.so_far.LastEntry.{LastEntry}
 pub use Rattle.net_script.specs.declared.so_far.SoFar.{SoFar}
 pub use Rattle.net_script.specs.declared.stop.Stop.{Stop}

@@ -2,7 +2,7 @@
 use Rattle.std.specs.Prelude.{◌≡◌, ◌≢◌, ℕ, suc, ◌+◌, ◌<◌, ◌⊎◌, List, [], ◌∷◌, ◌++◌, length, take, map, Bool, true, false, not, ◌==◌, Option}
 use Rattle.std.specs.Prelude.{Some, None, Result, Ok, Err}
 use Rattle.std.specs.List.{All, AllPairs, list_all, filter}
-use Rattle.net_script.specs.Basics.{Refusal, NoMemory, BadScript, Script, Item}
+use Rattle.net_script.specs.Basics.{Refusal, NoMemory, BadScript, Stop, Wrong, Memory, Script, Item}
 use Rattle.net_script.specs.declared.items.Item.TheVariants.{Cluster, Contents, Then}
 use Rattle.net_script.specs.Lines.{lines, words, is_plain}
 use Rattle.net_script.specs.Items.{IsSizes, IsContents, IsCommand, IsItem, item_words}
@@ -39,9 +39,9 @@ pub record SpelledBy (ls : List (List ℕ)) (s : Script) : Type 0 where
 abbrev pub SpellsScript : List ℕ → Script → Type 0
 SpellsScript bytes s = SpelledBy (lines bytes) s
 
--- lines that say nothing so far, or a script: what may follow it is left out
+-- lines that say nothing so far, or with which those of a script begin
 abbrev pub CanBegin : List (List ℕ) → Type 0
-CanBegin ls = (lines_kept ls ≡ []) ⊎ ((s : Script) × SpelledBy ls s)
+CanBegin ls = (lines_kept ls ≡ []) ⊎ ((more : List (List ℕ)) × (s : Script) × SpelledBy (ls ++ more) s)
 
 -- the lines before this one can stand at the beginning, and those up to it can't
 pub record FailsAt (Can : List (List ℕ) → Type 0) (ls : List (List ℕ)) (n : ℕ) : Type 0 where
@@ -52,8 +52,8 @@ pub record FailsAt (Can : List (List ℕ) → Type 0) (ls : List (List ℕ)) (n 
   pub fails : Can (take n ls) → ⊥
 
 -- the first line at fault, from 1; where no line says anything it is the one after the last
-abbrev pub IsFirstFault : List ℕ → ℕ → Type 0
-IsFirstFault bytes n = FailsAt CanBegin (lines bytes) n ⊎ ((lines_kept (lines bytes) ≡ []) × (n ≡ length (lines bytes) + 1))
+abbrev pub IsScriptFault : List ℕ → ℕ → Type 0
+IsScriptFault bytes n = FailsAt CanBegin (lines bytes) n ⊎ ((lines_kept (lines bytes) ≡ []) × (n ≡ length (lines bytes) + 1))
 
 -- the line that says an item of a script, by the item's place: as many lines before it say something
 pub record IsLineOf (bytes : List ℕ) (place line : ℕ) : Type 0 where
@@ -74,14 +74,18 @@ abbrev pub items_so_far : Option Script → List Item
 items_so_far None = []
 items_so_far (Some s) = script_items s
 
+-- a script of these items and one more; where there is none, no script goes on so
+abbrev pub GoesOn : List Item → Item → Result Script Stop → Type 0
+GoesOn before item (Ok s) = IsScript s × (script_items s ≡ before ++ item ∷ [])
+GoesOn before item (Err Wrong) = (later : List Item) (s : Script) → IsScript s → script_items s ≢ before ++ item ∷ later
+GoesOn before item (Err Memory) = Unit {0}
+
 -- what one more line makes of the items before it; nothing, where it says no item that may follow them
-abbrev pub ReadsLine : List Item → List ℕ → Result (Option Script) Refusal → Type 0
-ReadsLine before line (Ok (Some s)) =
-    IsScript s × (item : Item) × IsItem item × Says line item × (script_items s ≡ before ++ item ∷ [])
-ReadsLine before line (Ok None) =
-    (item : Item) → IsItem item → Says line item → (s : Script) → IsScript s → script_items s ≢ before ++ item ∷ []
-ReadsLine before line (Err e) = e ≡ NoMemory
+abbrev pub ReadsLine : List Item → List ℕ → Result Script Stop → Type 0
+ReadsLine before line (Ok s) = (item : Item) × IsItem item × Says line item × GoesOn before item (Ok s)
+ReadsLine before line (Err Wrong) = (item : Item) → IsItem item → Says line item → GoesOn before item (Err Wrong)
+ReadsLine before line (Err Memory) = Unit {0}
 
 -- why a script is refused
 abbrev pub Refuses : List ℕ → Refusal → Type 0
-Refuses bytes e = (e ≡ NoMemory) ⊎ ((line : ℕ) × (e ≡ BadScript line) × IsFirstFault bytes line)
+Refuses bytes e = (e ≡ NoMemory) ⊎ ((line : ℕ) × (e ≡ BadScript line) × IsScriptFault bytes line)

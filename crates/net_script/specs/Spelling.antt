@@ -1,10 +1,11 @@
 -- Values that have one text each, which is a word, and values that have one list of words each: what readers of words rest on.
 use Rattle.std.specs.Prelude.{◌≡◌, ◌≢◌, ℕ, ◌<◌, ◌≤◌, List, [], ◌∷◌, length, Bool, true, not, ◌&&◌, ◌==◌, map, refl, Result, Ok, Err, Option}
+use Rattle.std.proofs.Common.{sym, ap, ◌∙◌}
 use Rattle.std.specs.Prelude.{Some, None}
 use Rattle.std.specs.List.{All, AllByRecursion, list_all}
 use Rattle.std.proofs.lemmas.List.Elements.{All-head, All-tail}
 use Rattle.xid.specs.Limits.{most_branches}
-use Rattle.net_script.specs.Basics.{Stop, Wrong, Memory, Refusal, NoMemory}
+use Rattle.net_script.specs.Basics.{Stop, Wrong, Memory, Refusal, NoMemory, BadScript}
 use Rattle.net_script.specs.Lines.{is_word}
 
 -- neither a line's end nor a space
@@ -48,6 +49,12 @@ or_none (Ok x) = Ok (Some x)
 or_none (Err Wrong) = Ok None
 or_none (Err Memory) = Err NoMemory
 
+-- what was found in the line of this number, or why the text is refused
+abbrev pub at_line : {X : Type 0} → ℕ → Result X Stop → Result X Refusal
+at_line line (Ok x) = Ok x
+at_line line (Err Wrong) = Err (BadScript line)
+at_line line (Err Memory) = Err NoMemory
+
 -- ---- no words, a word before others, and words of one kind
 
 -- no words: the words of the one value of no parts
@@ -66,6 +73,20 @@ first & others = record {
       let same : (x.0, x.1) ≡ (y.0, y.1) = cc in
       same;
   common = λ x p. (first.common x.0 p.0, others.common x.1 p.1);
+}
+
+-- one word for all values, before others
+pub named : {X : Type 0} {fit : X → Type 0} {texts : X → List (List ℕ)} {name : List ℕ} → IsCommon name → AreSpellings fit texts
+    → AreSpellings fit (λ x. name ∷ texts x)
+named is others = record { one = λ x y p q e. others.one x y p q (cc); common = λ x p. (is, others.common x p) }
+
+-- values of which another value says all
+pub shaped : {X Y : Type 0} {fit : X → Type 0} {texts : X → List (List ℕ)} {fits : Y → Type 0} (shape : Y → X) (back : X → Y)
+    → ((y : Y) → back (shape y) ≡ y) → ((y : Y) → fits y → fit (shape y)) → AreSpellings fit texts
+    → AreSpellings fits (λ y. texts (shape y))
+shaped shape back same fit law = record {
+  one = λ x y p q e. sym (same x) ∙ ap back (law.one (shape x) (shape y) (fit x p) (fit y q) e) ∙ same y;
+  common = λ x p. law.common (shape x) (fit x p);
 }
 
 -- a list of values is the only one with its texts

@@ -5,7 +5,7 @@ use Rattle.std.specs.Prelude.{Option, Some, None}
 use Rattle.std.specs.Cmp.Lexicographic.{slice_cmp}
 use Rattle.std.specs.List.{All, flat_map}
 use Rattle.std.specs.Ordering.{nat_cmp, is_lt}
-use Rattle.net_script.specs.Basics.{TxParts, IsTx, tx_text, IsMessage, R, Row, Change, Sent, Entry, Trace, TraceLine, LineName}
+use Rattle.net_script.specs.Basics.{TxParts, IsTx, tx_text, IsMessage, R, Row, Change, Sent, Entry, Trace, TraceLine}
 use Rattle.net_script.specs.declared.trace_lines.TraceLine.TheVariants.{Cluster, Contents, Happened, Served, Changed, Datagram, Final}
 use Rattle.net_script.specs.Lines.{node_text}
 use Rattle.net_script.specs.Events.{IsNode, IsEvent, event_words}
@@ -119,10 +119,3 @@ abbrev pub IsOutcome : TraceLine → Type 0
 IsOutcome (Happened event answer) = IsEvent event × IsAnswer answer
 IsOutcome (Served node answer) = IsNode node × IsAnswer answer
 IsOutcome said = ⊥
-
--- the first word of a line
-abbrev pub line_name_text : LineName → List ℕ
-line_name_text LineName.Cluster = codes "cluster"
-line_name_text LineName.Table = codes "table"
-line_name_text LineName.Now = codes "now"
-line_name_text LineName.Final = codes "final"

@@ -3,12 +3,14 @@ use Rattle.std.specs.Prelude.{◌≡◌, ℕ, ◌+◌, ◌<◌, Bool, true, fals
 use Rattle.std.specs.Prelude.{Option, Some, None, Result, Ok, Err}
 use Rattle.std.specs.List.{list_all, flat_map}
 use Rattle.std.specs.Option.{ForSome, option_map}
-use Rattle.net_script.specs.Basics.{Refusal, TxParts, Event, Answer, Change, Sent, Sizes, Entry, Table, Trace, LastEntry, SoFar, TraceLine}
+use Rattle.net_script.specs.Basics.{Refusal, Stop, Wrong, Memory, TxParts, Event, Answer, Change}
+use Rattle.net_script.specs.Basics.{Sent, Sizes, Entry, Table, Trace, LastEntry, SoFar, TraceLine}
 use Rattle.net_script.specs.declared.trace_lines.TraceLine.TheVariants.{Cluster, Contents, Happened, Served, Changed, Datagram, Final}
 use Rattle.net_script.specs.TraceLines.{whole_line, lines_of}
 use Rattle.net_script.specs.TraceReading.{IsBegun, SpellsTrace, RefusesTrace}
 use Rattle.net_script.specs.declared.said.Heard.{Heard}
-use Rattle.net_script.specs.Telling.{IsHeard}
+use Rattle.net_script.specs.Messages.{no_tx}
+use Rattle.net_script.specs.Telling.{sent_of, IsHeard}
 
 -- ---- which lines may follow
 
@@ -78,6 +80,17 @@ follow None (Cluster sizes) = Some (record { sizes = sizes; managers = []; last 
 follow None said = None
 follow (Some s) said = if may_follow s said then Some (after_line s said) else None
 
+-- a line for what is heard of one: a datagram's transaction doesn't matter to what may follow
+abbrev pub as_line : Heard → TraceLine
+as_line (Heard.Line said) = said
+as_line (Heard.Datagram told) = Datagram (sent_of no_tx told)
+
+-- what comes of one more line
+abbrev pub Follows : Option SoFar → Option SoFar → TraceLine → Result Unit Stop → Type 0
+Follows old new said (Ok x) = (s : SoFar) × (new ≡ Some s) × (follow old said ≡ Some s)
+Follows old new said (Err Wrong) = follow old said ≡ None
+Follows old new said (Err Memory) = Unit {0}
+
 -- ---- a trace so far, and one line more
 
 -- what an event and its answer are alone
@@ -93,6 +106,12 @@ with_now change (Entry.Serve node answer now sent) = Entry.Serve node answer (So
 abbrev pub with_sent : Sent → Entry → Entry
 with_sent datagram (Entry.Step step) = Entry.Step (record step { sent = step.sent ++ datagram ∷ [] })
 with_sent datagram (Entry.Serve node answer now sent) = Entry.Serve node answer now (sent ++ datagram ∷ [])
+
+-- an entry of which one more line tells
+abbrev pub with_told : TraceLine → Entry → Entry
+with_told (Changed change) entry = with_now change entry
+with_told (Datagram sent) entry = with_sent sent entry
+with_told said entry = entry
 
 -- entries of which the last is made anew
 abbrev pub at_last : (Entry → Entry) → List Entry → List Entry
@@ -156,13 +175,7 @@ pub record IsRead (bytes : List ℕ) (trace : Option Trace) : Type 0 where
   pub is : trace ≡ Some whole
   pub spelled : SpellsTrace bytes whole
 
--- what a reader gives next, where it has read this
-abbrev pub GivesNext : (old new : ReaderParts) → Option Trace → Result (Option TraceLine) Refusal → Type 0
-GivesNext old new trace (Ok (Some said)) = ReadsOn old new trace said
-GivesNext old new trace (Ok None) = IsRead old.bytes trace
-GivesNext old new trace (Err e) = RefusesTrace old.bytes e
-
--- what it hears next
+-- what a reader hears next, where it has read this
 abbrev pub GivesHeard : (old new : ReaderParts) → Option Trace → Result (Option Heard) Refusal → Type 0
 GivesHeard old new trace (Ok (Some heard)) = (said : TraceLine) × IsHeard new.known heard said × ReadsOn old new trace said
 GivesHeard old new trace (Ok None) = IsRead old.bytes trace

@@ -1,18 +1,24 @@
-//! What came of events, as a trace prints it.
+//! What came of events: answers, written and read, and changed views and datagrams, written.
 
-ghost use Rattle.std.specs.Prelude.{◌≡◌, ◌++◌, IfErr, OnOk};
-ghost use Rattle.net_script.specs.Basics.{NoMemory};
-ghost use Rattle.net_script.specs.Answers.{standing_text, view_text, answer_words};
+ghost use Rattle.std.specs.Prelude.{◌≡◌, ◌++◌, IfErr, OnOk, ◌≢◌, ◌∷◌, true, MatchOption};
+ghost use Rattle.net_script.specs.Basics.{NoMemory, Refusal, XaCode, Standing, View, number_of};
+ghost use Rattle.net_script.specs.Answers.{standing_text, view_text, answer_words, IsTold, IsAnswer, code_text};
 ghost use Rattle.net_script.specs.Traces.{spaced_words, change_text, datagram_line, sent_line};
 ghost use Rattle.net_script.specs.Writing.{Puts};
+ghost use Rattle.net_script.specs.Lines.{words};
+ghost use Rattle.net_script.specs.Spelling.{Finds};
 
 use crate::messages::put_message;
 use crate::pieces::{put_bytes_word, put_manager, put_node, put_number, put_word, put_xid};
+use crate::stop::Stop;
+use crate::word::{Words, is_word};
+use crate::words::next_word;
 use crate::written::WrittenTx;
 use itoa::Buffer;
 use protocol::{Answer, Change, NodeId, Sent, Standing, View};
+use std::alloc::Global;
 use wire::{MAX_DATAGRAM, MAX_TX_BYTES, MessageView, SpelledTx, encode, view_of};
-use xid::Refusal;
+use xid::{Refusal, XaCode};
 
 /// The word of where a transaction stands.
 fn standing_word(standing: Standing) -> &'static [u8]
@@ -151,4 +157,118 @@ pub(crate) fn put_sent(
         sent.receiver,
         &buffer[..len],
     )
+}
+
+/// The code of this number.
+fn code_named(word: &[u8]) -> Option<XaCode>
+    ensures { MatchOption result ((c : XaCode) → word.now ≢ code_text c) (λ c. word.now ≡ code_text c) }
+{
+    match word {
+        b"0" => Some(XaCode::Ok),
+        b"100" => Some(XaCode::RbRollback),
+        b"-4" => Some(XaCode::Nota),
+        b"-5" => Some(XaCode::Inval),
+        b"-6" => Some(XaCode::Proto),
+        b"-7" => Some(XaCode::RmFail),
+        b"-8" => Some(XaCode::DupId),
+        _ => None,
+    }
+}
+
+/// Where a transaction stands, by its word.
+fn standing_named(word: &[u8]) -> Option<Standing>
+    ensures { MatchOption result ((s : Standing) → word.now ≢ standing_text s) (λ s. word.now ≡ standing_text s) }
+{
+    match word {
+        b"unknown" => Some(Standing::Unknown),
+        b"undecided" => Some(Standing::Undecided),
+        b"working" => Some(Standing::Working),
+        b"prepared" => Some(Standing::Prepared),
+        b"committed" => Some(Standing::Committed),
+        b"aborted" => Some(Standing::Aborted),
+        _ => None,
+    }
+}
+
+/// The view of this word.
+pub(crate) fn view_named(word: &[u8]) -> Option<View>
+    ensures { MatchOption result ((v : View) → word.now ≢ view_text v) (λ v. word.now ≡ view_text v) }
+{
+    match word {
+        b"working" => Some(View::Working),
+        b"prepared" => Some(View::Prepared),
+        b"committed" => Some(View::Committed),
+        b"aborted" => Some(View::Aborted),
+        _ => None,
+    }
+}
+
+/// The refusal of this number, of those that an event may be answered.
+fn refusal_numbered(number: u32) -> Option<Refusal>
+    ensures { MatchOption result
+        ((r : Refusal) → IsTold r → number ≢ number_of r)
+        (λ r. IsTold r × (number ≡ number_of r)) }
+{
+    match number {
+        2 => Some(Refusal::BadTx),
+        3 => Some(Refusal::BadMessage),
+        4 => Some(Refusal::Damaged),
+        5 => Some(Refusal::RecordFault),
+        6 => Some(Refusal::NoBallot),
+        8 => Some(Refusal::Down),
+        9 => Some(Refusal::Busy),
+        10 => Some(Refusal::Full),
+        11 => Some(Refusal::NoMemory),
+        12 => Some(Refusal::PortFault),
+        14 => Some(Refusal::Forged),
+        15 => Some(Refusal::NoSuch),
+        _ => None,
+    }
+}
+
+/// The answer of this first word, by those after it.
+fn answer_by(alloc: Global, name: &[u8], args: &[u8]) -> Result<Answer, Stop>
+    ensures { Finds true IsAnswer answer_words (name.now ∷ words args.now) result }
+{
+    if is_word(name, b"ok") {
+        let () = Words::read(alloc, args)?;
+        return Ok(Answer::Done);
+    }
+    if let Some(code) = code_named(name) {
+        let () = Words::read(alloc, args)?;
+        return Ok(Answer::Code(code));
+    }
+    if is_word(name, b"value") {
+        let (bytes, ()) = Words::read(alloc, args)?;
+        return Ok(Answer::Value(bytes));
+    }
+    if is_word(name, b"none") {
+        let () = Words::read(alloc, args)?;
+        return Ok(Answer::NoValue);
+    }
+    if is_word(name, b"xids") {
+        let xids = Words::read(alloc, args)?;
+        return Ok(Answer::Xids(xids));
+    }
+    if let Some(standing) = standing_named(name) {
+        let () = Words::read(alloc, args)?;
+        return Ok(Answer::Stands(standing));
+    }
+    if is_word(name, b"refused") {
+        let (number, ()) = Words::read(alloc, args)?;
+        let Some(refusal) = refusal_numbered(number) else {
+            return Err(Stop::Wrong);
+        };
+        return Ok(Answer::Refused(refusal));
+    }
+    Err(Stop::Wrong)
+}
+
+/// The answer of these words.
+#[inline(never)]
+pub(crate) fn read_answer(alloc: Global, args: &[u8]) -> Result<Answer, Stop>
+    ensures { Finds true IsAnswer answer_words (words args.now) result }
+{
+    let (name, args) = next_word(args).ok_or(Stop::Wrong)?;
+    answer_by(alloc, name, args)
 }

@@ -1,18 +1,90 @@
-//! The items of a script, each of one line.
+//! The items of a script, each of one line, and first tables.
 
-ghost use Rattle.std.specs.Prelude.{◌≡◌, ◌≢◌, Bool, MatchOption};
-ghost use Rattle.net_script.specs.Basics.{Sizes};
-ghost use Rattle.net_script.specs.Lines.{Reads, words};
-ghost use Rattle.net_script.specs.Items.{IsSizes, IsItem, bundled_words, sizes_words, item_words};
+ghost use Rattle.std.specs.Prelude.{◌≢◌, ◌↔◌, IsTrue, true, ◌≡◌, ◌∷◌, Bool, MatchOption, false};
+ghost use Rattle.std.specs.List.{All, AllPairs};
+ghost use Rattle.net_script.specs.Lines.{row_text, words};
+ghost use Rattle.net_script.specs.Items.{IsRow, IsContents, contents_words, IsSizes, IsItem, bundled_words, sizes_words, item_words};
+ghost use Rattle.net_script.specs.Laws.{a_row, a_table, a_sizes};
+ghost use Rattle.net_script.specs.Spelling.{Finds};
 
-use crate::args::field;
-use crate::commands::command_by;
-use crate::stop::or_none;
-use crate::tables::read_table;
+use crate::byte_words::Hex;
+use crate::events::command_by;
+use crate::nodes::Manager;
+use crate::stop::Stop;
 use crate::values::{Command, Sizes, Table};
-use crate::words::{is_over, next_word};
+use crate::word::{Word, Words, is_word};
+use crate::words::{field, is_over, next_word, split_once};
+use protocol::Row;
 use std::alloc::Global;
-use xid::Refusal;
+use xid::{Bytes, MAX_KEY, MAX_VALUE, Sequence};
+
+impl Word for Row {
+    ghost fits = { IsRow };
+
+    ghost text = { row_text };
+
+    ghost allocates = { true };
+
+    ghost spelling = { a_row };
+
+    fn read(alloc: Global, word: &[u8]) -> Result<Row, Stop> {
+        let Some((key, value)) = split_once(word, b'=') else {
+            return Err(Stop::Wrong);
+        };
+        let Hex(key) = Hex::read(alloc, key)?;
+        if key.as_slice().len() > MAX_KEY {
+            return Err(Stop::Wrong);
+        }
+        let value = <Bytes as Word>::read(alloc, value)?;
+        if value.as_slice().len() > MAX_VALUE {
+            return Err(Stop::Wrong);
+        }
+        Ok(Row { key, value })
+    }
+}
+
+/// Whether no row has this key.
+fn is_new(rows: &[Row], key: &[u8]) -> bool
+    ensures { IsTrue result ↔ All (λ row. row.key ≢ key.now) rows.now }
+{
+    for row in rows {
+        if row.key.as_slice() == key {
+            return false;
+        }
+    }
+    true
+}
+
+/// Whether keys are distinct.
+fn are_distinct(rows: &[Row]) -> bool
+    ensures { IsTrue result ↔ AllPairs (λ a b. a.key ≢ b.key) rows.now }
+{
+    for (at, row) in rows.iter().enumerate() {
+        if !is_new(&rows[..at], row.key.as_slice()) {
+            return false;
+        }
+    }
+    true
+}
+
+impl Words for Table {
+    ghost fit = { IsContents };
+
+    ghost texts = { contents_words };
+
+    ghost allocate = { true };
+
+    ghost spellings = { a_table };
+
+    #[inline(never)]
+    fn read(alloc: Global, args: &[u8]) -> Result<Table, Stop> {
+        let (Manager(rm), rows): (Manager, Sequence<Row>) = Words::read(alloc, args)?;
+        if !are_distinct(rows.as_slice()) {
+            return Err(Stop::Wrong);
+        }
+        Ok(Table { rm, rows })
+    }
+}
 
 /// What one line says.
 #[derive(Drop)]
@@ -40,45 +112,41 @@ fn read_bundled(args: &[u8]) -> Option<bool>
     Some(true)
 }
 
-/// The cluster of these words.
-#[inline(never)]
-pub(crate) fn read_sizes(args: &[u8]) -> Option<Sizes>
-    ensures { MatchOption result
-        ((s : Sizes) → IsSizes s → words args.now ≢ sizes_words s)
-        (λ s. IsSizes s × (words args.now ≡ sizes_words s)) }
-{
-    let (acceptors, rest) = field(args, b"acceptors")?;
-    let (leaders, rest) = field(rest, b"leaders")?;
-    let (rms, rest) = field(rest, b"rms")?;
-    Some(Sizes {
-        acceptors,
-        leaders,
-        rms,
-        bundled: read_bundled(rest)?,
-    })
+impl Words for Sizes {
+    ghost fit = { IsSizes };
+
+    ghost texts = { sizes_words };
+
+    ghost allocate = { false };
+
+    ghost spellings = { a_sizes };
+
+    #[inline(never)]
+    fn read(_alloc: Global, args: &[u8]) -> Result<Sizes, Stop> {
+        let (acceptors, rest) = field(args, b"acceptors").ok_or(Stop::Wrong)?;
+        let (leaders, rest) = field(rest, b"leaders").ok_or(Stop::Wrong)?;
+        let (rms, rest) = field(rest, b"rms").ok_or(Stop::Wrong)?;
+        let bundled = read_bundled(rest).ok_or(Stop::Wrong)?;
+        Ok(Sizes {
+            acceptors,
+            leaders,
+            rms,
+            bundled,
+        })
+    }
 }
 
-/// What a line says.
-pub(crate) fn read_item(alloc: Global, line: &[u8]) -> Result<Option<Item>, Refusal>
-    ensures { Reads IsItem item_words (words line.now) result }
+/// What a line of this first word says, by those after it.
+pub(crate) fn item_by(alloc: Global, name: &[u8], args: &[u8]) -> Result<Item, Stop>
+    ensures { Finds true IsItem item_words (name.now ∷ words args.now) result }
 {
-    let Some((word, rest)) = next_word(line) else {
-        return Ok(None);
-    };
-    if word == b"cluster".as_slice() {
-        let Some(sizes) = read_sizes(rest) else {
-            return Ok(None);
-        };
-        return Ok(Some(Item::Cluster(sizes)));
+    if is_word(name, b"cluster") {
+        let sizes = Words::read(alloc, args)?;
+        return Ok(Item::Cluster(sizes));
     }
-    if word == b"table".as_slice() {
-        let Some(table) = read_table(alloc, rest)? else {
-            return Ok(None);
-        };
-        return Ok(Some(Item::Contents(table)));
+    if is_word(name, b"table") {
+        let table = Words::read(alloc, args)?;
+        return Ok(Item::Contents(table));
     }
-    let Some(command) = or_none(command_by(alloc, word, rest))? else {
-        return Ok(None);
-    };
-    Ok(Some(Item::Then(command)))
+    Ok(Item::Then(command_by(alloc, name, args)?))
 }

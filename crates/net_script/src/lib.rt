@@ -2,29 +2,23 @@
 //! what came of each event and what the tables hold at the end.
 #![tactic(auto)]
 
-mod answer_words;
 mod answers;
-mod args;
 mod byte_words;
-mod commands;
 mod events;
 mod items;
 mod known;
 mod message_words;
 mod messages;
 mod nodes;
-mod outcome_words;
 mod pieces;
 mod said;
 mod scripts;
 mod so_far;
 mod stop;
-mod tables;
 mod told;
 mod trace_drafts;
 mod trace_lines;
 mod trace_readers;
-mod trace_reading;
 mod traces;
 mod values;
 mod word;
@@ -33,16 +27,14 @@ mod writing;
 mod written;
 
 pub use answers::{put_answer, write_datagram};
-pub use args::{last_node, last_tx, node};
-pub use commands::read_command;
+pub use events::read_command;
 pub use pieces::{put_node, put_rows, put_tx};
 pub use said::Heard;
 pub use scripts::{line_of, one_reading, read_script};
 pub use trace_lines::TraceLine;
-pub use trace_readers::TraceReader;
-pub use trace_reading::{one_trace, read_trace};
+pub use trace_readers::{TraceReader, one_trace, read_trace};
 pub use traces::{write_answered, write_finals, write_head, write_step, write_trace};
 pub use values::{Command, Entry, Script, Sizes, Table, Trace};
-pub use words::{is_over, next_word};
+pub use words::{is_over, last_node, last_tx, next_word, node};
 pub use writing::{file_refusal, write_number, write_text};
 pub use written::WrittenTx;

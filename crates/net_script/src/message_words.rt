@@ -4,9 +4,9 @@ ghost use Rattle.std.specs.Prelude.{◌≡◌, ◌≢◌, ◌∷◌, ◌++◌, �
 ghost use Rattle.net_script.specs.Basics.{R};
 ghost use Rattle.net_script.specs.Lines.{words, node_text};
 ghost use Rattle.net_script.specs.Spelling.{Finds};
-ghost use Rattle.net_script.specs.Messages.{vote_text, accepted_text, report_text, report_item_text, accept_item_text};
-ghost use Rattle.net_script.specs.Messages.{FitsReport, FitsReportItem, FitsAcceptItem, FitsReported, reported_words, FitsSaid, said_words};
-ghost use Rattle.net_script.specs.MessageLaws.{a_vote, a_report_item, an_accept_item, a_report};
+ghost use Rattle.net_script.specs.Messages.{vote_text, accepted_text, report_text, report_item_text, accept_item_text, FitsReport};
+ghost use Rattle.net_script.specs.Messages.{FitsReportItem, FitsAcceptItem, FitsReported, reported_words, FitsSaid, said_words};
+ghost use Rattle.net_script.specs.Laws.{a_vote, a_report_item, an_accept_item, a_report};
 
 use crate::nodes::{Acceptor, Manager};
 use crate::stop::Stop;
@@ -27,13 +27,11 @@ impl Word for Vote {
     ghost spelling = { a_vote };
 
     fn read(_alloc: Global, word: &[u8]) -> Result<Vote, Stop> {
-        if is_word(word, b"prepared") {
-            return Ok(Vote::Prepared);
+        match word {
+            b"prepared" => Ok(Vote::Prepared),
+            b"aborted" => Ok(Vote::Aborted),
+            _ => Err(Stop::Wrong),
         }
-        if is_word(word, b"aborted") {
-            return Ok(Vote::Aborted);
-        }
-        Err(Stop::Wrong)
     }
 }
 
@@ -154,44 +152,16 @@ impl Words for Reported {
 #[derive(Drop)]
 pub enum Said {
     Prepare,
-    P1a {
-        instance: ManagerNumber,
-        ballot: Ballot,
-    },
-    P1b {
-        instance: ManagerNumber,
-        ballot: Ballot,
-        report: Option<(Ballot, Vote)>,
-        acceptor: u8,
-    },
-    P2a {
-        instance: ManagerNumber,
-        ballot: Ballot,
-        vote: Vote,
-    },
-    P2b {
-        instance: ManagerNumber,
-        ballot: Ballot,
-        vote: Vote,
-        acceptor: u8,
-    },
+    P1a(ManagerNumber, Ballot),
+    P1b(ManagerNumber, Ballot, Option<(Ballot, Vote)>, u8),
+    P2a(ManagerNumber, Ballot, Vote),
+    P2b(ManagerNumber, Ballot, Vote, u8),
     Commit,
     Abort,
-    Ask {
-        rm: ManagerNumber,
-    },
-    B1a {
-        ballot: Ballot,
-    },
-    B1b {
-        ballot: Ballot,
-        acceptor: u8,
-        reports: Boxed<Items<InstanceReport>>,
-    },
-    B2b {
-        acceptor: u8,
-        accepts: Boxed<Items<InstanceAccept>>,
-    },
+    Ask(ManagerNumber),
+    B1a(Ballot),
+    B1b(Ballot, u8, Boxed<Items<InstanceReport>>),
+    B2b(u8, Boxed<Items<InstanceAccept>>),
 }
 
 /// What a message of this name says, by the words after its transaction; it may be one of no transaction.
@@ -205,36 +175,19 @@ pub(crate) fn read_said(alloc: Global, name: &[u8], args: &[u8]) -> Result<Said,
     }
     if is_word(name, b"p1a") {
         let (Manager(rm), (ballot, ())) = Words::read(alloc, args)?;
-        return Ok(Said::P1a {
-            instance: ManagerNumber::from(rm),
-            ballot,
-        });
+        return Ok(Said::P1a(ManagerNumber::from(rm), ballot));
     }
     if is_word(name, b"p1b") {
         let (Manager(rm), (ballot, Reported { report, acceptor })) = Words::read(alloc, args)?;
-        return Ok(Said::P1b {
-            instance: ManagerNumber::from(rm),
-            ballot,
-            report,
-            acceptor,
-        });
+        return Ok(Said::P1b(ManagerNumber::from(rm), ballot, report, acceptor));
     }
     if is_word(name, b"p2a") {
         let (Manager(rm), (ballot, (vote, ()))) = Words::read(alloc, args)?;
-        return Ok(Said::P2a {
-            instance: ManagerNumber::from(rm),
-            ballot,
-            vote,
-        });
+        return Ok(Said::P2a(ManagerNumber::from(rm), ballot, vote));
     }
     if is_word(name, b"p2b") {
         let (Manager(rm), (ballot, (vote, (Acceptor(acceptor), ())))) = Words::read(alloc, args)?;
-        return Ok(Said::P2b {
-            instance: ManagerNumber::from(rm),
-            ballot,
-            vote,
-            acceptor,
-        });
+        return Ok(Said::P2b(ManagerNumber::from(rm), ballot, vote, acceptor));
     }
     if is_word(name, b"commit") {
         let () = Words::read(alloc, args)?;
@@ -246,31 +199,25 @@ pub(crate) fn read_said(alloc: Global, name: &[u8], args: &[u8]) -> Result<Said,
     }
     if is_word(name, b"ask") {
         let (Manager(rm), ()) = Words::read(alloc, args)?;
-        return Ok(Said::Ask {
-            rm: ManagerNumber::from(rm),
-        });
+        return Ok(Said::Ask(ManagerNumber::from(rm)));
     }
     if is_word(name, b"b1a") {
         let (ballot, ()) = Words::read(alloc, args)?;
-        return Ok(Said::B1a { ballot });
+        return Ok(Said::B1a(ballot));
     }
     if is_word(name, b"b1b") {
         let (ballot, (Acceptor(acceptor), reports)) = Words::read(alloc, args)?;
         let Ok(reports) = Boxed::new(alloc, reports) else {
             return Err(Stop::Memory);
         };
-        return Ok(Said::B1b {
-            ballot,
-            acceptor,
-            reports,
-        });
+        return Ok(Said::B1b(ballot, acceptor, reports));
     }
     if is_word(name, b"b2b") {
         let (Acceptor(acceptor), accepts) = Words::read(alloc, args)?;
         let Ok(accepts) = Boxed::new(alloc, accepts) else {
             return Err(Stop::Memory);
         };
-        return Ok(Said::B2b { acceptor, accepts });
+        return Ok(Said::B2b(acceptor, accepts));
     }
     Err(Stop::Wrong)
 }

@@ -1,139 +1,151 @@
 //! What one line of a trace says.
 
-ghost use Rattle.std.specs.Prelude.{◌≡◌, ◌≢◌, ◌∷◌, true, Ok, codes};
-ghost use Rattle.net_script.specs.Lines.{words, Reads};
-ghost use Rattle.net_script.specs.declared.trace_lines.LineName.{LineName};
-ghost use Rattle.net_script.specs.TraceLines.{IsTraceLine, IsOutcome, is_tidy, line_name_text, trace_line_words};
+ghost use Rattle.std.specs.Prelude.{◌≡◌, true, ◌≢◌, ◌∷◌, codes};
+ghost use Rattle.net_script.specs.Lines.{words};
+ghost use Rattle.net_script.specs.Spelling.{Finds};
+ghost use Rattle.net_script.specs.Items.{rows_words};
+ghost use Rattle.net_script.specs.Traces.{change_words};
+ghost use Rattle.net_script.specs.TraceLines.{IsChange, AreFinalRows, are_ascending, IsTraceLine, IsOutcome, is_tidy, trace_line_words};
+ghost use Rattle.net_script.specs.Laws.{final_rows};
 ghost use Rattle.net_script.specs.Telling.{HearsText};
 
-use crate::answer_words::read_answer;
-use crate::args::{last_node, manager};
-use crate::commands::event_by;
-use crate::items::read_sizes;
-use crate::known::KnownTx;
-use crate::outcome_words::{read_change, read_final_rows};
-use crate::stop::or_none;
-use crate::tables::read_table;
+use crate::answers::{read_answer, view_named};
+use crate::events::event_by;
+use crate::known::{KnownTx, know};
+use crate::nodes::Manager;
+use crate::stop::Stop;
 use crate::told::{ToldSent, read_told};
-use crate::trace_lines::{LineName, TraceLine, is_tidy, line_named, split_arrow};
-use crate::word::is_word;
-use crate::words::next_word;
+use crate::trace_lines::{TraceLine, is_tidy, split_arrow};
+use crate::word::{Words, is_word};
+use crate::words::{is_over, last_node, manager, next_word};
+use protocol::{Boxed, Change, Row};
 use std::alloc::Global;
-use xid::Refusal;
-
-/// The cluster of these words.
-#[inline(never)]
-fn said_sizes(args: &[u8]) -> Option<TraceLine>
-    ensures { Reads IsTraceLine trace_line_words (line_name_text LineName.Cluster ∷ words args.now) (Ok result) }
-{
-    let Some(sizes) = read_sizes(args) else {
-        return None;
-    };
-    Some(TraceLine::Cluster(sizes))
-}
+use std::cmp::Ordering;
+use xid::Sequence;
 
 /// The changed view of these words.
 #[inline(never)]
-fn said_change(
+pub(crate) fn read_change(
     alloc: Global,
     known: &mut Option<KnownTx>,
     args: &[u8],
-) -> Result<Option<TraceLine>, Refusal>
-    ensures { Reads IsTraceLine trace_line_words (line_name_text LineName.Now ∷ words args.now) result }
+) -> Result<Boxed<Change>, Stop>
+    ensures { Finds true IsChange change_words (words args.now) result }
 {
-    let Some(change) = read_change(alloc, known, args)? else {
-        return Ok(None);
+    let (rm, rest) = manager(args).ok_or(Stop::Wrong)?;
+    let (text, rest) = next_word(rest).ok_or(Stop::Wrong)?;
+    let Ok(is_tx) = know(alloc, known, text) else {
+        return Err(Stop::Memory);
     };
-    Ok(Some(TraceLine::Changed(change)))
+    if !is_tx {
+        return Err(Stop::Wrong);
+    }
+    let Some(last) = &*known else { unreachable!() };
+    let (word, rest) = next_word(rest).ok_or(Stop::Wrong)?;
+    let view = view_named(word).ok_or(Stop::Wrong)?;
+    if !is_over(rest) {
+        return Err(Stop::Wrong);
+    }
+    let tx = *last.tx();
+    let Ok(change) = Boxed::new(alloc, Change { rm, tx, view }) else {
+        return Err(Stop::Memory);
+    };
+    Ok(change)
 }
 
-/// The last rows of these words.
-#[inline(never)]
-fn said_rows(alloc: Global, args: &[u8]) -> Result<Option<TraceLine>, Refusal>
-    ensures { Reads IsTraceLine trace_line_words (line_name_text LineName.Final ∷ words args.now) result }
+/// Whether keys ascend strictly by their bytes.
+fn are_ascending(rows: &[Row]) -> bool
+    ensures { result ≡ are_ascending rows.now }
 {
-    let Some((rm, rest)) = manager(args) else {
-        return Ok(None);
+    let [first, rest @ ..] = rows else {
+        return true;
     };
-    let Some(rows) = read_final_rows(alloc, rest)? else {
-        return Ok(None);
+    let [second, ..] = rest else {
+        return true;
     };
-    Ok(Some(TraceLine::Final(rm, rows)))
+    match first.key.as_slice().cmp(second.key.as_slice()) {
+        Ordering::Less => are_ascending(rest),
+        _ => false,
+    }
 }
 
-/// The first table of these words.
-#[inline(never)]
-fn said_table(alloc: Global, args: &[u8]) -> Result<Option<TraceLine>, Refusal>
-    ensures { Reads IsTraceLine trace_line_words (line_name_text LineName.Table ∷ words args.now) result }
-{
-    let Some(table) = read_table(alloc, args)? else {
-        return Ok(None);
-    };
-    Ok(Some(TraceLine::Contents(table)))
-}
+/// The last rows of a resource manager.
+#[derive(Drop)]
+pub struct FinalRows(pub Sequence<Row>);
 
-/// What a line of this first word says.
-#[inline(never)]
-fn said_named(
-    alloc: Global,
-    known: &mut Option<KnownTx>,
-    name: LineName,
-    args: &[u8],
-) -> Result<Option<TraceLine>, Refusal>
-    ensures { Reads IsTraceLine trace_line_words (line_name_text name ∷ words args.now) result }
-{
-    match name {
-        LineName::Cluster => Ok(said_sizes(args)),
-        LineName::Table => said_table(alloc, args),
-        LineName::Now => said_change(alloc, known, args),
-        LineName::Final => said_rows(alloc, args),
+impl Words for FinalRows {
+    ghost fit = { λ rows. AreFinalRows rows.0 };
+
+    ghost texts = { λ rows. rows_words rows.0 };
+
+    ghost allocate = { true };
+
+    ghost spellings = { final_rows };
+
+    #[inline(never)]
+    fn read(alloc: Global, args: &[u8]) -> Result<FinalRows, Stop> {
+        let rows: Sequence<Row> = Words::read(alloc, args)?;
+        if !are_ascending(rows.as_slice()) {
+            return Err(Stop::Wrong);
+        }
+        Ok(FinalRows(rows))
     }
 }
 
 /// What happened, and its answer behind an arrow.
 #[inline(never)]
-fn said_outcome(alloc: Global, line: &[u8]) -> Result<Option<TraceLine>, Refusal>
+fn said_outcome(alloc: Global, line: &[u8]) -> Result<TraceLine, Stop>
     requires { is_tidy line.now ≡ true }
-    ensures { Reads IsOutcome trace_line_words (words line.now) result }
+    ensures { Finds true IsOutcome trace_line_words (words line.now) result }
 {
     let Some((front, back)) = split_arrow(line) else {
-        return Ok(None);
+        return Err(Stop::Wrong);
     };
-    let Some(answer) = read_answer(alloc, back)? else {
-        return Ok(None);
-    };
+    let answer = read_answer(alloc, back)?;
     let Some((name, args)) = next_word(front) else {
-        return Ok(None);
+        return Err(Stop::Wrong);
     };
     if is_word(name, b"serve") {
         let Some(node) = last_node(args) else {
-            return Ok(None);
+            return Err(Stop::Wrong);
         };
-        return Ok(Some(TraceLine::Served(node, answer)));
+        return Ok(TraceLine::Served(node, answer));
     }
-    let Some(event) = or_none(event_by(alloc, name, args))? else {
-        return Ok(None);
-    };
-    Ok(Some(TraceLine::Happened(event, answer)))
+    let event = event_by(alloc, name, args)?;
+    Ok(TraceLine::Happened(event, answer))
 }
 
 /// What a line of words with one space between them says, by its first word and those after it; it is no datagram.
+#[inline(never)]
 fn said_words(
     alloc: Global,
     known: &mut Option<KnownTx>,
     line: &[u8],
     word: &[u8],
     args: &[u8],
-) -> Result<Option<TraceLine>, Refusal>
+) -> Result<TraceLine, Stop>
     requires tidy { is_tidy line.now ≡ true }
     requires words { words line.now ≡ word.now ∷ words args.now }
     requires other { word.now ≢ codes "sent" }
-    ensures { Reads IsTraceLine trace_line_words (words line.now) result }
+    ensures { Finds true IsTraceLine trace_line_words (word.now ∷ words args.now) result }
 {
-    let Some(name) = line_named(word) else {
-        return said_outcome(alloc, line);
-    };
-    said_named(alloc, known, name, args)
+    if is_word(word, b"now") {
+        let change = read_change(alloc, known, args)?;
+        return Ok(TraceLine::Changed(change));
+    }
+    if is_word(word, b"final") {
+        let (Manager(rm), FinalRows(rows)) = Words::read(alloc, args)?;
+        return Ok(TraceLine::Final(rm, rows));
+    }
+    if is_word(word, b"table") {
+        let table = Words::read(alloc, args)?;
+        return Ok(TraceLine::Contents(table));
+    }
+    if is_word(word, b"cluster") {
+        let sizes = Words::read(alloc, args)?;
+        return Ok(TraceLine::Cluster(sizes));
+    }
+    said_outcome(alloc, line)
 }
 
 /// What is heard of a line.
@@ -145,28 +157,24 @@ pub enum Heard {
     Datagram(ToldSent),
 }
 
-/// What is heard of a line, if a line of a trace may be so. Refused: `NoMemory` alone.
+/// What is heard of a line, if a line of a trace may be so.
 pub(crate) fn hear_line(
     alloc: Global,
     known: &mut Option<KnownTx>,
     line: &[u8],
-) -> Result<Option<Heard>, Refusal>
+) -> Result<Heard, Stop>
     ensures { HearsText known.new line.now result }
 {
     if !is_tidy(line) {
-        return Ok(None);
+        return Err(Stop::Wrong);
     }
     let Some((word, args)) = next_word(line) else {
-        return Ok(None);
+        return Err(Stop::Wrong);
     };
     if is_word(word, b"sent") {
-        let Some(told) = read_told(alloc, known, args)? else {
-            return Ok(None);
-        };
-        return Ok(Some(Heard::Datagram(told)));
+        let told = read_told(alloc, known, args)?;
+        return Ok(Heard::Datagram(told));
     }
-    let Some(said) = said_words(alloc, known, line, word, args)? else {
-        return Ok(None);
-    };
-    Ok(Some(Heard::Line(said)))
+    let said = said_words(alloc, known, line, word, args)?;
+    Ok(Heard::Line(said))
 }

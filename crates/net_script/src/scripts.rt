@@ -4,16 +4,17 @@ ghost use Rattle.std.specs.Prelude.{◌≡◌, not, ◌==◌, ℕ, [], ◌∷◌
 ghost use Rattle.std.specs.List.{list_all};
 ghost use Rattle.std.specs.Option.{ForSome};
 ghost use Rattle.net_script.specs.Basics.{NoMemory, Script};
-ghost use Rattle.net_script.specs.declared.items.Item.TheVariants.{Contents, Then};
-ghost use Rattle.net_script.specs.Lines.{Reads, lines, words, is_plain};
-ghost use Rattle.net_script.specs.Items.{IsItem, IsContents, IsCommand};
-ghost use Rattle.net_script.specs.Scripts.{is_note, lines_kept, script_items, items_so_far, IsLineOf, IsScript, ReadsLine, SpellsScript};
-ghost use Rattle.net_script.specs.Scripts.{Refuses, IsFirstFault};
+ghost use Rattle.net_script.specs.declared.items.Item.TheVariants.{Contents};
+ghost use Rattle.net_script.specs.Lines.{lines, words, is_plain};
+ghost use Rattle.net_script.specs.Items.{IsItem, IsContents};
+ghost use Rattle.net_script.specs.Scripts.{is_note, lines_kept, script_items, items_so_far, IsLineOf, IsScript, GoesOn, ReadsLine};
+ghost use Rattle.net_script.specs.Scripts.{SpellsScript, Refuses, IsScriptFault};
 
-use crate::items::{Item, read_item};
+use crate::items::{Item, item_by};
+use crate::stop::{Stop, at_line};
 use crate::trace_drafts::push;
 use crate::values::{Command, Script, Table};
-use crate::words::next_piece;
+use crate::words::{next_piece, next_word};
 use std::alloc::Global;
 use xid::{Refusal, Sequence};
 
@@ -33,12 +34,11 @@ fn is_passed_over(line: &[u8]) -> bool
 fn has_plain_bytes(line: &[u8]) -> bool
     ensures { result ≡ list_all is_plain line.now }
 {
+    let mut plain = true;
     for byte in line {
-        if *byte < 32 || *byte > 126 {
-            return false;
-        }
+        plain &= (*byte >= 32) & (*byte <= 126);
     }
-    true
+    plain
 }
 
 /// Whether no table is this resource manager's.
@@ -54,65 +54,63 @@ fn is_free(tables: &[Table], rm: u8) -> bool
 }
 
 /// The script with one more table, if it may stand there.
-fn with_table(alloc: Global, mut script: Script, table: Table) -> Result<Option<Script>, Refusal>
+fn with_table(alloc: Global, mut script: Script, table: Table) -> Result<Script, Stop>
     requires valid { IsScript script }
     requires range { IsContents table }
-    ensures { Reads IsScript script_items (script_items script ++ Contents table ∷ []) result }
+    ensures { GoesOn (script_items script) (Contents table) result }
 {
     if !script.commands.as_slice().is_empty() {
-        return Ok(None);
+        return Err(Stop::Wrong);
     }
     if u32::from(table.rm) >= script.sizes.rms {
-        return Ok(None);
+        return Err(Stop::Wrong);
     }
     if !is_free(script.tables.as_slice(), table.rm) {
-        return Ok(None);
+        return Err(Stop::Wrong);
     }
     push(alloc, &mut script.tables, table)?;
-    Ok(Some(script))
+    Ok(script)
 }
 
 /// The script so far with one more item, if it may follow.
-fn with_item(alloc: Global, script: Option<Script>, item: Item) -> Result<Option<Script>, Refusal>
+fn with_item(alloc: Global, script: Option<Script>, item: Item) -> Result<Script, Stop>
     requires valid { ForSome script IsScript }
     requires range { IsItem item }
-    ensures { Reads IsScript script_items (items_so_far script ++ item ∷ []) result }
+    ensures { GoesOn (items_so_far script) item result }
 {
     let Some(mut script) = script else {
         let Item::Cluster(sizes) = item else {
-            return Ok(None);
+            return Err(Stop::Wrong);
         };
-        return Ok(Some(Script {
+        return Ok(Script {
             sizes,
             tables: Sequence::new(Vec::new(alloc)),
             commands: Sequence::new(Vec::new(alloc)),
-        }));
+        });
     };
     match item {
-        Item::Cluster(_) => Ok(None),
+        Item::Cluster(_) => Err(Stop::Wrong),
         Item::Contents(table) => with_table(alloc, script, table),
         Item::Then(command) => {
             push(alloc, &mut script.commands, command)?;
-            Ok(Some(script))
+            Ok(script)
         }
     }
 }
 
 /// The script so far with what one more line says.
-fn read_line(alloc: Global, script: Option<Script>, line: &[u8]) -> Result<Option<Script>, Refusal>
+fn read_line(alloc: Global, script: Option<Script>, line: &[u8]) -> Result<Script, Stop>
     requires valid { ForSome script IsScript }
     ensures { ReadsLine (items_so_far script) line.now result }
 {
     if !has_plain_bytes(line) {
-        return Ok(None);
+        return Err(Stop::Wrong);
     }
-    let Some(item) = read_item(alloc, line)? else {
-        return Ok(None);
+    let Some((name, args)) = next_word(line) else {
+        return Err(Stop::Wrong);
     };
-    let Some(script) = with_item(alloc, script, item)? else {
-        return Ok(None);
-    };
-    Ok(Some(script))
+    let item = item_by(alloc, name, args)?;
+    with_item(alloc, script, item)
 }
 
 /// The script that a text spells. Refused: `BadScript` with the first line at fault, counted from 1 (where no line says
@@ -127,9 +125,7 @@ pub fn read_script(alloc: Global, bytes: &[u8]) -> Result<Script, Refusal>
     while let Some((line, after)) = next_piece(rest, b'\n') {
         number += 1;
         if !is_passed_over(line) {
-            let Some(longer) = read_line(alloc, script, line)? else {
-                return Err(Refusal::BadScript { line: number });
-            };
+            let longer = at_line(number, read_line(alloc, script, line))?;
             script = Some(longer);
         }
         rest = after;
@@ -164,6 +160,6 @@ pub fn line_of(bytes: &[u8], place: usize) -> Option<usize>
 /// A text spells at most one script; one with a first line at fault spells none, and has one such line.
 pub fn one_reading()
     ensures one { (bytes : List ℕ) (s t : Script) → SpellsScript bytes s → SpellsScript bytes t → s ≡ t }
-    ensures apart { (bytes : List ℕ) (s : Script) (line : ℕ) → SpellsScript bytes s → IsFirstFault bytes line → ⊥ }
-    ensures first { (bytes : List ℕ) (line other : ℕ) → IsFirstFault bytes line → IsFirstFault bytes other → line ≡ other }
+    ensures apart { (bytes : List ℕ) (s : Script) (line : ℕ) → SpellsScript bytes s → IsScriptFault bytes line → ⊥ }
+    ensures first { (bytes : List ℕ) (line other : ℕ) → IsScriptFault bytes line → IsScriptFault bytes other → line ≡ other }
 {}

@@ -2,7 +2,7 @@
 
 ghost use Rattle.std.specs.Prelude.{◌≡◌};
 ghost use Rattle.net_script.specs.Basics.{Memory};
-ghost use Rattle.net_script.specs.Spelling.{or_none};
+ghost use Rattle.net_script.specs.Spelling.{or_none, at_line};
 
 use std::alloc::{AllocError, AllocFailed};
 use xid::Refusal;
@@ -39,6 +39,17 @@ pub(crate) fn or_none<X: Drop>(found: Result<X, Stop>) -> Result<Option<X>, Refu
     match found {
         Ok(value) => Ok(Some(value)),
         Err(Stop::Wrong) => Ok(None),
+        Err(Stop::Memory) => Err(Refusal::NoMemory),
+    }
+}
+
+/// What was found in the line of this number, or why the text is refused.
+pub(crate) fn at_line<X: Drop>(line: usize, found: Result<X, Stop>) -> Result<X, Refusal>
+    ensures { result ≡ at_line line found }
+{
+    match found {
+        Ok(value) => Ok(value),
+        Err(Stop::Wrong) => Err(Refusal::BadScript { line }),
         Err(Stop::Memory) => Err(Refusal::NoMemory),
     }
 }

@@ -6,15 +6,14 @@ ghost use Rattle.net_script.specs.Lines.{words};
 ghost use Rattle.net_script.specs.Messages.{kind_of};
 ghost use Rattle.net_script.specs.Telling.{sent_of, TellsSent};
 
-use crate::args::{node, number};
 use crate::known::{KnownTx, know};
 use crate::message_words::{Said, read_said};
-use crate::stop::or_none;
-use crate::words::next_word;
+use crate::stop::Stop;
+use crate::words::{next_word, node, number};
 use protocol::{NodeId, Sent};
 use std::alloc::Global;
 use wire::{Kind, Message, is_ask, is_b1a, is_b1b, is_b2b, is_p1a, is_p1b, is_p2a, is_p2b};
-use xid::{Refusal, Tx};
+use xid::Tx;
 
 /// A datagram, but for its transaction.
 #[derive(Drop)]
@@ -32,32 +31,14 @@ fn is_about(tx: &Tx, said: &Said) -> bool
     let _ = tx.count();
     match said {
         Said::Prepare | Said::Commit | Said::Abort => true,
-        Said::P1a { instance, ballot } => is_p1a(tx, *instance, *ballot),
-        Said::P1b {
-            instance,
-            ballot,
-            report,
-            acceptor,
-        } => is_p1b(tx, *instance, *ballot, *report, *acceptor),
-        Said::P2a {
-            instance,
-            ballot,
-            vote,
-        } => is_p2a(tx, *instance, *ballot, *vote),
-        Said::P2b {
-            instance,
-            ballot,
-            vote,
-            acceptor,
-        } => is_p2b(tx, *instance, *ballot, *vote, *acceptor),
-        Said::Ask { rm } => is_ask(tx, *rm),
-        Said::B1a { ballot } => is_b1a(tx, *ballot),
-        Said::B1b {
-            ballot,
-            acceptor,
-            reports,
-        } => is_b1b(tx, *ballot, *acceptor, reports.get()),
-        Said::B2b { acceptor, accepts } => is_b2b(tx, *acceptor, accepts.get()),
+        Said::P1a(rm, ballot) => is_p1a(tx, *rm, *ballot),
+        Said::P1b(rm, ballot, report, acceptor) => is_p1b(tx, *rm, *ballot, *report, *acceptor),
+        Said::P2a(rm, ballot, vote) => is_p2a(tx, *rm, *ballot, *vote),
+        Said::P2b(rm, ballot, vote, acceptor) => is_p2b(tx, *rm, *ballot, *vote, *acceptor),
+        Said::Ask(rm) => is_ask(tx, *rm),
+        Said::B1a(ballot) => is_b1a(tx, *ballot),
+        Said::B1b(ballot, acceptor, reports) => is_b1b(tx, *ballot, *acceptor, reports.get()),
+        Said::B2b(acceptor, accepts) => is_b2b(tx, *acceptor, accepts.get()),
     }
 }
 
@@ -67,39 +48,25 @@ fn kind_of(tx: Tx, said: Said) -> Kind
 {
     match said {
         Said::Prepare => Kind::Prepare(tx),
-        Said::P1a { instance, ballot } => Kind::P1a {
+        Said::P1a(instance, ballot) => Kind::P1a {
             tx,
             instance,
             ballot,
         },
-        Said::P1b {
-            instance,
-            ballot,
-            report,
-            acceptor,
-        } => Kind::P1b {
+        Said::P1b(instance, ballot, report, acceptor) => Kind::P1b {
             tx,
             instance,
             ballot,
             report,
             acceptor,
         },
-        Said::P2a {
-            instance,
-            ballot,
-            vote,
-        } => Kind::P2a {
+        Said::P2a(instance, ballot, vote) => Kind::P2a {
             tx,
             instance,
             ballot,
             vote,
         },
-        Said::P2b {
-            instance,
-            ballot,
-            vote,
-            acceptor,
-        } => Kind::P2b {
+        Said::P2b(instance, ballot, vote, acceptor) => Kind::P2b {
             tx,
             instance,
             ballot,
@@ -108,19 +75,15 @@ fn kind_of(tx: Tx, said: Said) -> Kind
         },
         Said::Commit => Kind::Commit(tx),
         Said::Abort => Kind::Abort(tx),
-        Said::Ask { rm } => Kind::Ask { tx, rm },
-        Said::B1a { ballot } => Kind::B1a { tx, ballot },
-        Said::B1b {
-            ballot,
-            acceptor,
-            reports,
-        } => Kind::B1b {
+        Said::Ask(rm) => Kind::Ask { tx, rm },
+        Said::B1a(ballot) => Kind::B1a { tx, ballot },
+        Said::B1b(ballot, acceptor, reports) => Kind::B1b {
             tx,
             ballot,
             acceptor,
             reports: *reports.get(),
         },
-        Said::B2b { acceptor, accepts } => Kind::B2b {
+        Said::B2b(acceptor, accepts) => Kind::B2b {
             tx,
             acceptor,
             accepts: *accepts.get(),
@@ -143,44 +106,45 @@ impl ToldSent {
     }
 }
 
-/// The datagram of these words, but for its transaction, which is then the one that is known. Refused: `NoMemory` alone.
+/// The datagram of these words, but for its transaction, which is then the one that is known.
 #[inline(never)]
 pub(crate) fn read_told(
     alloc: Global,
     known: &mut Option<KnownTx>,
     args: &[u8],
-) -> Result<Option<ToldSent>, Refusal>
+) -> Result<ToldSent, Stop>
     ensures { TellsSent known.new (words args.now) result }
 {
     let Some((number, rest)) = number(args) else {
-        return Ok(None);
+        return Err(Stop::Wrong);
     };
     let Some((sender, rest)) = node(rest) else {
-        return Ok(None);
+        return Err(Stop::Wrong);
     };
     let Some((receiver, rest)) = node(rest) else {
-        return Ok(None);
+        return Err(Stop::Wrong);
     };
     let Some((name, rest)) = next_word(rest) else {
-        return Ok(None);
+        return Err(Stop::Wrong);
     };
     let Some((text, rest)) = next_word(rest) else {
-        return Ok(None);
+        return Err(Stop::Wrong);
     };
-    if !know(alloc, known, text)? {
-        return Ok(None);
+    let Ok(is_tx) = know(alloc, known, text) else {
+        return Err(Stop::Memory);
+    };
+    if !is_tx {
+        return Err(Stop::Wrong);
     }
     let Some(last) = &*known else { unreachable!() };
-    let Some(said) = or_none(read_said(alloc, name, rest))? else {
-        return Ok(None);
-    };
+    let said = read_said(alloc, name, rest)?;
     if !is_about(last.tx(), &said) {
-        return Ok(None);
+        return Err(Stop::Wrong);
     }
-    Ok(Some(ToldSent {
+    Ok(ToldSent {
         number,
         sender,
         receiver,
         said,
-    }))
+    })
 }

@@ -2,8 +2,7 @@
 
 ghost use Rattle.std.specs.Prelude.{◌≡◌, ◌≢◌, ◌++◌, List, ℕ, true, MatchOption, codes};
 ghost use Rattle.xid.specs.Text.{lacks};
-ghost use Rattle.net_script.specs.declared.trace_lines.LineName.{LineName};
-ghost use Rattle.net_script.specs.TraceLines.{is_tidy, line_name_text};
+ghost use Rattle.net_script.specs.TraceLines.{is_tidy};
 
 use crate::values::{Sizes, Table};
 use crate::words::split_once;
@@ -11,7 +10,7 @@ use protocol::{Answer, Boxed, Change, Event, NodeId, Row, Sent};
 use xid::Sequence;
 
 /// What one line of a trace says.
-#[derive(Debug, Drop)]
+#[derive(Drop)]
 pub enum TraceLine {
     /// How many nodes there are.
     Cluster(Sizes),
@@ -29,53 +28,18 @@ pub enum TraceLine {
     Final(u8, Sequence<Row>),
 }
 
-/// The first word of a line that tells of no event, no serve and no datagram.
-#[derive(Clone, Copy, Debug)]
-pub enum LineName {
-    /// `cluster`
-    Cluster,
-    /// `table`
-    Table,
-    /// `now`
-    Now,
-    /// `final`
-    Final,
-}
-
-/// The name that this word is.
-pub(crate) fn line_named(word: &[u8]) -> Option<LineName>
-    ensures { MatchOption result ((n : LineName) → word.now ≢ line_name_text n) (λ n. word.now ≡ line_name_text n) }
-{
-    if word == b"now".as_slice() {
-        return Some(LineName::Now);
-    }
-    if word == b"final".as_slice() {
-        return Some(LineName::Final);
-    }
-    if word == b"table".as_slice() {
-        return Some(LineName::Table);
-    }
-    if word == b"cluster".as_slice() {
-        return Some(LineName::Cluster);
-    }
-    None
-}
-
 /// Whether a line has words, one space between them, and none before or after them.
 pub(crate) fn is_tidy(line: &[u8]) -> bool
     ensures { result ≡ is_tidy line.now }
 {
-    let mut spaced = true;
-    for byte in line {
-        if *byte != b' ' {
-            spaced = false;
-        } else if spaced {
-            return false;
-        } else {
-            spaced = true;
-        }
+    if line.is_empty() {
+        return false;
     }
-    !spaced
+    let mut doubled = false;
+    for i in 1..line.len() {
+        doubled |= (line[i - 1] == b' ') & (line[i] == b' ');
+    }
+    (line[0] != b' ') & !doubled & (line[line.len() - 1] != b' ')
 }
 
 /// What stands before and after the first arrow.

@@ -1,22 +1,23 @@
-//! A trace's text, read a line at a time.
+//! A trace's text, read a line at a time or whole.
 
-ghost use Rattle.std.specs.Prelude.{◌≡◌, [], Option, None, Some, IfOk, IfErr, MatchResult};
+ghost use Rattle.std.specs.Prelude.{◌≡◌, [], Option, None, IfOk, IfErr, MatchResult, ℕ, List};
 ghost use Rattle.std.specs.Option.{ForSome};
-ghost use Rattle.net_script.specs.Basics.{NoMemory, TxParts};
-ghost use Rattle.net_script.specs.declared.said.Heard.TheVariants as heards;
-ghost use Rattle.net_script.specs.declared.trace_lines.TraceLine.TheVariants.{Datagram};
+ghost use Rattle.net_script.specs.Basics.{NoMemory, Trace};
+ghost use Rattle.net_script.specs.declared.trace_lines.TraceLine.{TraceLine};
 ghost use Rattle.net_script.specs.declared.values.Trace.{Trace};
 ghost use Rattle.net_script.specs.Items.{is_in_limits};
-ghost use Rattle.net_script.specs.TraceReading.{RefusesTrace};
-ghost use Rattle.net_script.specs.Telling.{sent_of, IsWhole};
-ghost use Rattle.net_script.specs.TraceReaders.{HasRead, IsRead, GivesNext, GivesHeard};
+ghost use Rattle.net_script.specs.TraceReading.{RefusesTrace, IsTrace, IsTraceFault, SpellsTrace};
+ghost use Rattle.net_script.specs.Telling.{IsHeard, IsWhole};
+ghost use Rattle.net_script.specs.TraceReaders.{HasRead, IsRead, GivesHeard};
+ghost use Rattle.net_script.specs.Traces.{trace_text};
 
 use crate::known::KnownTx;
 use crate::said::{Heard, hear_line};
-use crate::so_far::{SoFar, follow_heard};
-use crate::told::ToldSent;
+use crate::so_far::{SoFar, follow};
+use crate::stop::at_line;
+use crate::trace_drafts::with_line;
 use crate::trace_lines::TraceLine;
-use crate::values::Sizes;
+use crate::values::{Sizes, Trace};
 use crate::words::split_once;
 use protocol::Boxed;
 use std::alloc::Global;
@@ -24,7 +25,7 @@ use std::marker::Model;
 use xid::{MAX_LEADERS, MAX_MANAGERS, Refusal};
 
 /// A reader of a trace's text, which gives one line after another and keeps none of them.
-#[derive(Debug, Drop)]
+#[derive(Drop)]
 pub struct TraceReader<'a> {
     bytes: &'a [u8],
     rest: &'a [u8],
@@ -82,39 +83,29 @@ impl<'a> TraceReader<'a> {
         let Some((text, after)) = split_once(self.rest, b'\n') else {
             return Err(Refusal::BadScript { line });
         };
-        let Some(heard) = hear_line(alloc, &mut self.known, text)? else {
-            return Err(Refusal::BadScript { line });
-        };
-        if !follow_heard(alloc, &mut self.so_far, &heard)? {
-            return Err(Refusal::BadScript { line });
-        }
+        let heard = at_line(line, hear_line(alloc, &mut self.known, text))?;
+        at_line(line, follow(alloc, &mut self.so_far, &heard))?;
         self.rest = after;
         self.number = line;
         Ok(Some(heard))
     }
 
-    /// The next line, a datagram with its transaction. Refused as `hear` is; what is given after a refusal means nothing.
-    pub fn next(&mut self, alloc: Global) -> Result<Option<TraceLine>, Refusal>
-        ensures { (trace : Option Trace) → HasRead self.old trace → GivesNext self.old self.new trace result }
-    {
-        match self.hear(alloc)? {
-            Some(Heard::Line(said)) => Ok(Some(said)),
-            Some(Heard::Datagram(told)) => self.with_tx(alloc, told),
-            None => Ok(None),
-        }
-    }
-
-    /// The line of a datagram, with the transaction that is known. Refused: `NoMemory` alone.
-    fn with_tx(&self, alloc: Global, told: ToldSent) -> Result<Option<TraceLine>, Refusal>
-        requires { IsWhole self.now.known (heards.Datagram told) }
-        ensures ok { IfOk result (λ line. (tx : TxParts) → self.now.known ≡ Some tx → line ≡ Some (Datagram (sent_of tx told))) }
+    /// What was heard, a datagram with its transaction. Refused: `NoMemory` alone.
+    pub(crate) fn line_of(&self, alloc: Global, heard: Heard) -> Result<TraceLine, Refusal>
+        requires { IsWhole self.now.known heard }
+        ensures ok { IfOk result (λ line. (said : TraceLine) → IsHeard self.now.known heard said → said ≡ line) }
         ensures err { IfErr result (λ e. e ≡ NoMemory) }
     {
-        let Some(known) = &self.known else {
-            unreachable!();
-        };
-        let sent = Boxed::new(alloc, told.with_tx(known.tx()))?;
-        Ok(Some(TraceLine::Datagram(sent)))
+        match heard {
+            Heard::Line(said) => Ok(said),
+            Heard::Datagram(told) => {
+                let Some(known) = &self.known else {
+                    unreachable!();
+                };
+                let sent = Boxed::new(alloc, told.with_tx(known.tx()))?;
+                Ok(TraceLine::Datagram(sent))
+            }
+        }
     }
 
     /// Whether nothing is missing where all bytes are read.
@@ -136,3 +127,29 @@ impl<'a> TraceReader<'a> {
         Ok(())
     }
 }
+
+/// The trace of which this is the text, as `write_trace` writes it. Refused: `BadScript` with the first line at fault, counted from 1
+/// (a last line without its end is at fault; where all lines are right, but some are missing, it is the one after the last; last rows of
+/// a resource manager whose number is above 255 are at fault, since no word names it);
+/// `BadConfig` for the text of a trace with sizes outside the limits (1, 3, 5 or 7 acceptors, 1 to 4 leaders, 1 to 64 resource
+/// managers); and `NoMemory`.
+pub fn read_trace(alloc: Global, bytes: &[u8]) -> Result<Trace, Refusal>
+    ensures ok { IfOk result (λ t. SpellsTrace bytes.now t) }
+    ensures err { IfErr result (λ e. RefusesTrace bytes.now e) }
+{
+    let mut reader = TraceReader::new(bytes);
+    let mut trace = None;
+    while let Some(heard) = reader.hear(alloc)? {
+        let said = reader.line_of(alloc, heard)?;
+        trace = Some(with_line(alloc, trace, said)?);
+    }
+    let Some(trace) = trace else { unreachable!() };
+    Ok(trace)
+}
+
+/// A text is that of at most one trace; one with a first line at fault is that of none, and has one such line.
+pub fn one_trace()
+    ensures one { (t u : Trace) → IsTrace t → IsTrace u → trace_text t ≡ trace_text u → t ≡ u }
+    ensures apart { (t : Trace) (line : ℕ) → IsTrace t → IsTraceFault (trace_text t) line → ⊥ }
+    ensures first { (bytes : List ℕ) (line other : ℕ) → IsTraceFault bytes line → IsTraceFault bytes other → line ≡ other }
+{}

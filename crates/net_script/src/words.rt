@@ -1,14 +1,17 @@
-//! Lines and words of a text, and words that are nodes and bytes.
+//! Lines and words of a text, words that are nodes, and the words after the first of a line.
 
-ghost use Rattle.std.specs.Prelude.{◌≡◌, ◌≢◌, ℕ, ◌<◌, ◌^◌, [], ◌∷◌, ◌++◌, ◌↔◌, true, IsTrue, MatchOption, decimal};
+ghost use Rattle.std.specs.Prelude.{◌≡◌, ◌≢◌, ℕ, ◌<◌, ◌^◌, [], ◌∷◌, ◌++◌, ◌↔◌, true, IsTrue, MatchOption, decimal, List};
 ghost use Rattle.xid.specs.Text.{lacks};
-ghost use Rattle.net_script.specs.Basics.{NodeId, A, L, R};
+ghost use Rattle.net_script.specs.Basics.{NodeId, A, L, R, IsTx, tx_text};
 ghost use Rattle.net_script.specs.Events.{IsNode};
-ghost use Rattle.net_script.specs.Lines.{IsFirstPiece, IsFirstWord, words, node_text};
+ghost use Rattle.net_script.specs.Lines.{IsFirstPiece, IsFirstWord, words, node_text, Reads};
 
+use crate::stop::or_none;
+use crate::word::Words;
 use memchr::memchr;
-use protocol::NodeId;
-use xid::text;
+use protocol::{Boxed, NodeId};
+use std::alloc::Global;
+use xid::{Refusal, Tx, text};
 
 /// The text before the first mark, and the text after it. None where the mark isn't there.
 pub(crate) fn split_once(text: &[u8], mark: u8) -> Option<(&[u8], &[u8])>
@@ -58,9 +61,9 @@ pub fn is_over(line: &[u8]) -> bool
     false
 }
 
-/// The number behind this letter.
-fn lettered_number(word: &[u8], letter: u8) -> Option<u32>
-    ensures { MatchOption result ((n : ℕ) → n < 2 ^ 32 → word.now ≢ letter ∷ decimal n) (λ n. word.now ≡ letter ∷ decimal n) }
+/// The number below 256 behind this letter.
+pub(crate) fn lettered_word(word: &[u8], letter: u8) -> Option<u8>
+    ensures { MatchOption result ((n : ℕ) → n < 256 → word.now ≢ letter ∷ decimal n) (λ n. word.now ≡ letter ∷ decimal n) }
 {
     let [first, digits @ ..] = word else {
         return None;
@@ -68,16 +71,7 @@ fn lettered_number(word: &[u8], letter: u8) -> Option<u32>
     if *first != letter {
         return None;
     }
-    text::number(digits)
-}
-
-/// The number below 256 behind this letter.
-pub(crate) fn lettered_word(word: &[u8], letter: u8) -> Option<u8>
-    ensures { MatchOption result ((n : ℕ) → n < 256 → word.now ≢ letter ∷ decimal n) (λ n. word.now ≡ letter ∷ decimal n) }
-{
-    let Some(number) = lettered_number(word, letter) else {
-        return None;
-    };
+    let number = text::number(digits)?;
     if number > 255 {
         return None;
     }
@@ -105,4 +99,70 @@ pub(crate) fn node_word(word: &[u8]) -> Option<NodeId>
         return Some(NodeId::L(leader));
     }
     None
+}
+
+/// The number that is the first word, and the rest.
+pub(crate) fn number(args: &[u8]) -> Option<(u32, &[u8])>
+    ensures { MatchOption result
+        ((n : ℕ) (ws : List (List ℕ)) → n < 2 ^ 32 → words args.now ≢ decimal n ∷ ws)
+        (λ found. words args.now ≡ decimal found.0 ∷ words found.1.now) }
+{
+    let (digits, rest) = next_word(args)?;
+    Some((text::number(digits)?, rest))
+}
+
+/// The number after this word, and the rest.
+pub(crate) fn field<'a>(args: &'a [u8], name: &[u8]) -> Option<(u32, &'a [u8])>
+    ensures { MatchOption result
+        ((n : ℕ) (ws : List (List ℕ)) → n < 2 ^ 32 → words args.now ≢ name.now ∷ decimal n ∷ ws)
+        (λ found. words args.now ≡ name.now ∷ decimal found.0 ∷ words found.1.now) }
+{
+    let (word, rest) = next_word(args)?;
+    if word != name {
+        return None;
+    }
+    number(rest)
+}
+
+/// The resource manager of the first word, and the rest.
+pub(crate) fn manager(args: &[u8]) -> Option<(u8, &[u8])>
+    ensures { MatchOption result
+        ((n : ℕ) (ws : List (List ℕ)) → n < 256 → words args.now ≢ node_text (R n) ∷ ws)
+        (λ found. words args.now ≡ node_text (R found.0) ∷ words found.1.now) }
+{
+    let (word, rest) = next_word(args)?;
+    Some((manager_word(word)?, rest))
+}
+
+/// The node of the first word, and the rest.
+pub fn node(args: &[u8]) -> Option<(NodeId, &[u8])>
+    ensures { MatchOption result
+        ((n : NodeId) (ws : List (List ℕ)) → IsNode n → words args.now ≢ node_text n ∷ ws)
+        (λ found. IsNode found.0 × (words args.now ≡ node_text found.0 ∷ words found.1.now)) }
+{
+    let (word, rest) = next_word(args)?;
+    Some((node_word(word)?, rest))
+}
+
+/// The node that is the only word.
+pub fn last_node(args: &[u8]) -> Option<NodeId>
+    ensures { MatchOption result
+        ((n : NodeId) → IsNode n → words args.now ≢ node_text n ∷ [])
+        (λ n. IsNode n × (words args.now ≡ node_text n ∷ [])) }
+{
+    let (node, rest) = node(args)?;
+    if !is_over(rest) {
+        return None;
+    }
+    Some(node)
+}
+
+/// The transaction that is the only word, or none.
+pub fn last_tx(alloc: Global, args: &[u8]) -> Result<Option<Boxed<Tx>>, Refusal>
+    ensures { Reads IsTx (λ tx. tx_text tx ∷ []) (words args.now) result }
+{
+    let Some((tx, ())) = or_none(Words::read(alloc, args))? else {
+        return Ok(None);
+    };
+    Ok(Some(tx))
 }

@@ -19,7 +19,7 @@ use Rattle.net_script.specs.declared.values.Command.{Command}
 use Rattle.net_script.specs.declared.values.Entry.{Entry}
 use Rattle.net_script.specs.declared.values.Script.{Script}
 use Rattle.net_script.specs.Items.{is_in_limits}
-use Rattle.net_script.specs.Scripts.{SpellsScript, IsFirstFault, IsLineOf}
+use Rattle.net_script.specs.Scripts.{SpellsScript, IsScriptFault, IsLineOf}
 use Rattle.net_script.specs.Traces.{trace_text}
 use Rattle.cluster_run.specs.Traces.{config_of}
 use Rattle.udp_run.specs.Sites.{SiteParts, place_in, node_count}
@@ -176,5 +176,5 @@ RefusesScript bytes script e =
 -- why a run is refused: memory, the first line at fault, or what its script is refused for
 abbrev pub RefusesUdp : List ℕ → Refusal → Type 0
 RefusesUdp bytes e =
-    (e ≡ NoMemory) ⊎ ((line : ℕ) × (e ≡ BadScript line) × IsFirstFault bytes line)
+    (e ≡ NoMemory) ⊎ ((line : ℕ) × (e ≡ BadScript line) × IsScriptFault bytes line)
     ⊎ ((script : Script) × SpellsScript bytes script × RefusesScript bytes script e)

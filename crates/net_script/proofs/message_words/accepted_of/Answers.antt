@@ -1,4 +1,4 @@
-use Rattle.net_script.specs.MessageLaws.{cut_accepted}
+use Rattle.net_script.specs.Laws.{cut_accepted}
 use Rattle.net_script.proofs.Arms.{passes}
 use Rattle.net_script.proofs.message_words.accepted_of.Goals as goal
 

@@ -1,4 +1,4 @@
-use Rattle.net_script.specs.MessageLaws.{cut_item}
+use Rattle.net_script.specs.Laws.{cut_item}
 use Rattle.net_script.proofs.message_words.item_of.Goals as goal
 
 pub returns-in_err-manager_word : goal.returns-in_err-manager_word

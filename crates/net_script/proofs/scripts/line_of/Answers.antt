@@ -1,5 +1,5 @@
 use Rattle.std.proofs.Common.{◌∙◌, ◌<◌, sym, arith}
-use Rattle.net_script.proofs.LineLemmas.{count_passed, count_said, count_found}
+use Rattle.net_script.proofs.ScriptLemmas.{count_passed, count_said, count_found}
 use Rattle.net_script.proofs.scripts.line_of.Goals as goal
 
 pub returns-then-passed-place : goal.returns-then-passed-place

@@ -1,5 +1,5 @@
 use Rattle.std.proofs.Common.{length}
-use Rattle.net_script.proofs.LineLemmas.{Counted}
+use Rattle.net_script.proofs.ScriptLemmas.{Counted}
 use Rattle.net_script.proofs.scripts.line_of.Given as goal
 
 abbrev pub invariant-loop-line : goal.invariant-loop-line

@@ -1,13 +1,17 @@
-use Rattle.std.proofs.Common.{◌∙◌, [], ◌∷◌, ◌++◌, ap, sym}
-use Rattle.net_script.specs.Basics.{Item}
-use Rattle.net_script.specs.Scripts.{items_so_far}
-use Rattle.net_script.proofs.WordLemmas.{reads_none, reads_some}
-use Rattle.net_script.proofs.ScriptLemmas.{item_injective}
+use Rattle.std.proofs.Common.{◌∙◌, sym}
+use Rattle.net_script.specs.Scripts.{items_so_far, ReadsLine}
+use Rattle.net_script.proofs.Arms.{passes_on}
+use Rattle.net_script.proofs.ScriptLemmas.{reads_item}
 use Rattle.net_script.proofs.scripts.read_line.Goals as goal
 
-pub returns-in_default-2 : goal.returns-in_default-2
-returns-in_default-2 c = λ item is says s valid e.
-    let read = reads_some _ _ _ _ c.in-Some.item c.in-Some.is c.in_ok-item.ensures in
-    let same = item_injective item c.in-Some.item is read.0 (sym says.1 ∙ read.1) in
-    reads_none _ _ _ _ c.in_default-2.is c.in_ok-script.ensures s valid
-    (sym (e ∙ ap (λ (i : Item). items_so_far c.args.script ++ i ∷ []) same))
+pub returns-in_err-item : goal.returns-in_err-item
+returns-in_err-item c =
+    passes_on (ReadsLine (items_so_far c.args.script) c.args.line.now) (λ e. tt)
+    (λ none item is says later s valid e. none item is (sym c.in-Some.ensures.cut ∙ says.1)) _ _ c.from_residual.ensures.1
+    c.in_err-item.ensures
+
+pub returns : goal.returns
+returns c =
+    let item = c.in_ok-item.ensures in
+    reads_item (items_so_far c.args.script) c.args.line.now c.in_ok-item.item item.0
+    (sym c.has_plain_bytes.ensures ∙ c.if-not-has_plain_bytes.false, c.in-Some.ensures.cut ∙ item.1) _ c.with_item.ensures

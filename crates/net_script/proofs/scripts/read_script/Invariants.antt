@@ -1,5 +1,5 @@
 use Rattle.std.proofs.Common.{length}
-use Rattle.net_script.proofs.LineLemmas.{Progress}
+use Rattle.net_script.proofs.ScriptLemmas.{Progress}
 use Rattle.net_script.proofs.scripts.read_script.Given as goal
 
 abbrev pub invariant-loop-line : goal.invariant-loop-line

@@ -1,4 +1,4 @@
-use Rattle.net_script.proofs.OutcomeLemmas.{suffix_fails, prefix_fails, arrow_found}
+use Rattle.net_script.proofs.TraceLineLemmas.{suffix_fails, prefix_fails, arrow_found}
 use Rattle.net_script.proofs.trace_lines.split_arrow.Goals as goal
 
 pub returns-in_default-strip_suffix : goal.returns-in_default-strip_suffix

@@ -1,6 +1,6 @@
 use Rattle.std.proofs.Common.{subst}
 use Rattle.memchr.specs.Find.{IsFirstByte, is_byte}
-use Rattle.net_script.proofs.CutLemmas.{marked_at, unmarked}
+use Rattle.net_script.proofs.WordLemmas.{marked_at, unmarked}
 use Rattle.net_script.proofs.words.split_once.Goals as goal
 
 pub returns-in_default : goal.returns-in_default

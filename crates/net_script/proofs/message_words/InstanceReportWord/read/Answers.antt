@@ -1,5 +1,5 @@
 use Rattle.net_script.specs.Messages.{report_text}
-use Rattle.net_script.specs.MessageLaws.{same_item}
+use Rattle.net_script.specs.Laws.{same_item}
 use Rattle.net_script.proofs.Arms.{passes}
 use Rattle.net_script.proofs.message_words.InstanceReportWord.read.Goals as goal
 

@@ -2,9 +2,8 @@ use Rattle.std.proofs.Common.{◌≡◌, ◌∙◌, ◌++◌, ℕ, ◌<◌, List
 use Rattle.std.proofs.lemmas.Bool.{iff_false}
 use Rattle.net_script.specs.Basics.{Vote, A}
 use Rattle.net_script.specs.Lines.{words, node_text}
-use Rattle.net_script.specs.Laws.{acceptor_of}
+use Rattle.net_script.specs.Laws.{acceptor_of, report_front}
 use Rattle.net_script.specs.Messages.{vote_text, FitsReport, report_words}
-use Rattle.net_script.specs.MessageLaws.{report_front}
 use Rattle.net_script.proofs.Arms.{passes}
 use Rattle.net_script.proofs.message_words.ReportedWords.read.Goals as goal
 

@@ -3,8 +3,7 @@ use Rattle.std.proofs.lemmas.List.{length-append}
 use Rattle.std.proofs.lemmas.List.Elements.{All-nil, All-push}
 use Rattle.net_script.specs.Lines.{words}
 use Rattle.net_script.specs.Spelling.{AreItems}
-use Rattle.net_script.proofs.Arms.{passes}
-use Rattle.net_script.proofs.OneText.{word_read, word_unread, more_follow}
+use Rattle.net_script.proofs.Arms.{passes, word_read, word_unread, more_follow}
 use Rattle.net_script.proofs.word.ItemsWords.read.Goals as goal
 
 pub returns-in_err-read : goal.returns-in_err-read

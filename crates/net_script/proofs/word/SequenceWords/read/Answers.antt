@@ -2,8 +2,7 @@ use Rattle.std.proofs.Common.{◌∙◌, ◌++◌, List, ap, refl, sym, subst, m
 use Rattle.std.specs.List.{All}
 use Rattle.std.proofs.lemmas.List.Elements.{All-push}
 use Rattle.net_script.specs.Lines.{words}
-use Rattle.net_script.proofs.Arms.{passes}
-use Rattle.net_script.proofs.OneText.{word_read, word_unread}
+use Rattle.net_script.proofs.Arms.{passes, word_read, word_unread}
 use Rattle.net_script.proofs.word.SequenceWords.read.Goals as goal
 
 pub returns-in_err-read : goal.returns-in_err-read

@@ -1,5 +1,0 @@
-use Rattle.std.proofs.Common.{length}
-use Rattle.net_script.proofs.outcome_words.+are_ascending.Given as goal
-
-abbrev pub decreases-are_ascending : goal.decreases-are_ascending
-decreases-are_ascending l = length l.rows.now

@@ -1,9 +1,0 @@
-use Rattle.std.proofs.Common.{rules}
-use Rattle.net_script.proofs.ReaderLemmas.{refused_next}
-use Rattle.net_script.proofs.trace_reading.read_trace.Goals as goal
-
-pub returns-in_err-said-clause-err : goal.returns-in_err-said-clause-err
-returns-in_err-said-clause-err c =
-    refused_next c.args.bytes.now c.loop-trace.reader c.next.new.self c.loop-trace.trace c.next.result c.from_residual.result
-    c.in_err-said.field-0.0 c.in_err-said.was (search rules) c.loop-trace.invariant.0
-    (c.next.ensures c.loop-trace.trace c.loop-trace.invariant.1)
