@@ -68,7 +68,8 @@ module _ (config : Config) (world : World) (sizes : Sizes) (nodes : List NodePar
 -- ---- no such node, and no room
 
 module _ (config : Config) (world : World) (sizes : Sizes) (nodes : List NodeParts) (network : NetworkParts)
-    (s : ClusterStands config (cluster_of sizes nodes network) world) (who : NodeId) (none : None ≡ place (sized sizes) who) (answered : Answered)
+    (s : ClusterStands config (cluster_of sizes nodes network) world) (who : NodeId) (none : None ≡ place (sized sizes) who)
+    (answered : Answered)
     (answer_is : answered.answer ≡ Refused refusals.NoSuch) (now_is : answered.now ≡ None) where
   abbrev cluster : ClusterParts
   cluster = cluster_of sizes nodes network
@@ -99,7 +100,8 @@ module _ (config : Config) (world : World) (sizes : Sizes) (nodes : List NodePar
 
 -- no room was made, and the network stands for what it stood for
 pub no_room : (event : Event) (sizes : Sizes) (nodes : List NodeParts) (before after : NetworkParts)
-    → ((net : List Datagram) → StandsFor before net → StandsFor after net) → (answered : Answered) → answered.answer ≡ Refused refusals.NoMemory
+    → ((net : List Datagram) → StandsFor before net → StandsFor after net) → (answered : Answered)
+    → answered.answer ≡ Refused refusals.NoMemory
     → answered.now ≡ None → (config : Config) (world : World)
     → ClusterStands config (cluster_of sizes nodes before) world
     → HappensAs config world event (cluster_of sizes nodes before) (cluster_of sizes nodes after) answered
@@ -301,7 +303,8 @@ module _ (sizes : Sizes) (nodes : List NodeParts) (network after marked : Networ
       let none : node_at config world d.receiver ≡ None =
       none_there config world sizes nodes network s d.receiver (ap (λ (w : NodeId). place (sized sizes) w) (sym receiver_is) ∙ nowhere) in
       occurs_delivered config world (cluster_of sizes nodes network) (cluster_of sizes nodes marked) answered s n d f.1
-      (reaches_none config (with_mark world n) (cluster_of sizes nodes network) (cluster_of sizes nodes marked) answered refl refl d.receiver
+      (reaches_none config (with_mark world n) (cluster_of sizes nodes network) (cluster_of sizes nodes marked) answered refl refl
+      d.receiver
       (Received d.message) none answer_is now_is (stands_marked config world s))
 
   -- it is found again

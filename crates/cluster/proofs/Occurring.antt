@@ -30,7 +30,8 @@ use Rattle.node_core.specs.Nodes.{NodeParts, datagram_input}
 use Rattle.network.specs.Networks.{NetworkParts, StandsFor}
 use Rattle.cluster.specs.declared.handing.Answered.{Answered}
 use Rattle.cluster.specs.Clusters.{ClusterParts, cluster_of, ClusterStands, IsSound, IsSameCluster, ReachesAs, ComesTo, BefallsAt}
-use Rattle.cluster.specs.Clusters.{BefallsReached, IsArmed, BefallsRestarted, BefallsCompacted, BefallsEvent, BefallsIn, HappensAs, Happens, Occurs}
+use Rattle.cluster.specs.Clusters.{BefallsReached, IsArmed, BefallsRestarted, BefallsCompacted, BefallsEvent, BefallsIn}
+use Rattle.cluster.specs.Clusters.{HappensAs, Happens, Occurs}
 use Rattle.cluster.specs.Clusters.{sent_after, step_by, handed, handed_cut}
 use Rattle.cluster.specs.Clusters.{place_reached, StayBut}
 use Rattle.cluster.proofs.Sent.{none_by, sent_is}
@@ -191,7 +192,8 @@ module _ (config : Config) (world : World) (old new : ClusterParts) (answered : 
         → ClusterStands config new world → HappensAs config world (Deliver n) old new answered
     undelivered none =
         not_there sizes_are nodes_are (Deliver n)
-        (none_handed config world old new answered (handed world (Deliver n)) (ap (option_map (λ (d : Datagram). (d.receiver, Received d.message))) none))
+        (none_handed config world old new answered (handed world (Deliver n))
+        (ap (option_map (λ (d : Datagram). (d.receiver, Received d.message))) none))
         (ap (if_found world _) none)
 
     pub unlost : datagram_at world.net n ≡ None → answered.answer ≡ Refused refusals.NoSuch → answered.now ≡ None
@@ -201,7 +203,8 @@ module _ (config : Config) (world : World) (old new : ClusterParts) (answered : 
     pub uncut : (k : ℕ) → datagram_at world.net n ≡ None → answered.answer ≡ Refused refusals.NoSuch → answered.now ≡ None
         → ClusterStands config new world → HappensAs config world (Cut n k) old new answered
     uncut k none =
-        not_there sizes_are nodes_are (Cut n k) (none_handed config world old new answered (handed world (Cut n k)) (ap (option_and_then (handed_cut k)) none))
+        not_there sizes_are nodes_are (Cut n k)
+        (none_handed config world old new answered (handed world (Cut n k)) (ap (option_and_then (handed_cut k)) none))
         (ap (if_found world _) none)
 
   module _ (sizes_are : new.sizes ≡ old.sizes) (nodes_are : new.nodes ≡ old.nodes) (who : NodeId) (none : node_at config world who ≡ None)
@@ -253,7 +256,8 @@ module _ (config : Config) (world : World) (old new : ClusterParts) (answered : 
         let fewer : nat_lt k (length (spelling d.message)) ≡ true = lt-ltb k (length (spelling d.message)) lt in
         let to : handed world (Cut n k) ≡ Some (d.receiver, ReceivedNoise) =
         ap (option_and_then (handed_cut k)) is ∙ ap (λ (b : Bool). if b then Some (d.receiver, ReceivedNoise) else None) fewer in
-        occurs config world (Cut n k) old new answered stood r.same (handed_to config world old new answered (handed world (Cut n k)) d.receiver ReceivedNoise to r.others) r.fault
+        occurs config world (Cut n k) old new answered stood r.same
+        (handed_to config world old new answered (handed world (Cut n k)) d.receiver ReceivedNoise to r.others) r.fault
         r.reached
         (subst (λ (h : Option (NodeId × Input)). BefallsReached config world old.nodes new.nodes h r.fault) (sym to) r.befalls)
         (at_node config world d.receiver ReceivedNoise r.fault)

@@ -16,7 +16,8 @@ use Rattle.protocol.specs.declared.answers.Answer.TheVariants.{Refused}
 use Rattle.protocol.specs.declared.events.Event.TheVariants.{Deliver, Noise}
 use Rattle.protocol.specs.declared.nodes.NodeId.{NodeId}
 use Rattle.protocol.specs.Effects.{Config, Effect}
-use Rattle.protocol.specs.Nodes.{NodeState, Memory, Input, Received, ReceivedNoise, Fault, Outcome, NoFault, NoMemoryBefore, NoMemoryAt, RecordFails, node_step}
+use Rattle.protocol.specs.Nodes.{NodeState, Memory, Input, Received, ReceivedNoise, Fault, Outcome, NoFault}
+use Rattle.protocol.specs.Nodes.{NoMemoryBefore, NoMemoryAt, RecordFails, node_step}
 use Rattle.protocol.specs.Nodes.{effect_of, effect_outcome, accepts_input}
 use Rattle.protocol.specs.Worlds.{World, Datagram, StepResult, place, node_at, at_node, datagrams_of, dispatch, if_found, outcome_result}
 use Rattle.protocol.specs.Worlds.{answer_result, with_mark, world_step}

@@ -226,7 +226,14 @@ fn cut<R: Record>(
         answered.answers(Answer::Refused(Refusal::NoSuch));
         return;
     }
-    hand_noise(sizes, nodes, kept.receiver, &kept.bytes[..len], out, answered);
+    hand_noise(
+        sizes,
+        nodes,
+        kept.receiver,
+        &kept.bytes[..len],
+        out,
+        answered,
+    );
 }
 
 /// Hands bytes to a node that nobody sent, unless they spell a message.
@@ -252,7 +259,13 @@ fn noise<R: Record>(
 }
 
 /// Arms a tear on a node's record.
-fn tear<R: Tear>(sizes: Sizes, nodes: &mut Vec<Node<R>>, who: NodeId, bytes: u32, answered: &mut Answered)
+fn tear<R: Tear>(
+    sizes: Sizes,
+    nodes: &mut Vec<Node<R>>,
+    who: NodeId,
+    bytes: u32,
+    answered: &mut Answered,
+)
     requires count { length nodes.old.items ≡ node_count sizes }
     ensures { (network : NetworkParts) → Happens (Tears who bytes) (cluster_of sizes nodes.old.items network)
         (cluster_of sizes nodes.new.items network) answered.new }

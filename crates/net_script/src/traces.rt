@@ -67,11 +67,7 @@ fn put_outcome(
 }
 
 /// The datagrams that an event sent.
-fn put_all_sent(
-    out: &mut Vec<u8>,
-    written: &mut WrittenTx,
-    sent: &[Sent],
-) -> Result<(), Refusal>
+fn put_all_sent(out: &mut Vec<u8>, written: &mut WrittenTx, sent: &[Sent]) -> Result<(), Refusal>
     ensures { Puts out.old.items out.new.items result (flat_map sent_line sent.now) }
 {
     for datagram in sent {
@@ -100,11 +96,7 @@ pub fn write_answered(
 
 /// Writes the lines of an event after what stands in `out`: its answer, the view that it changed, and what it sent. The only refusal is
 /// `NoMemory`, and then what is new in `out` is no whole text.
-pub fn write_step(
-    out: &mut Vec<u8>,
-    written: &mut WrittenTx,
-    step: &Step,
-) -> Result<(), Refusal>
+pub fn write_step(out: &mut Vec<u8>, written: &mut WrittenTx, step: &Step) -> Result<(), Refusal>
     ensures ok { OnOk result (out.new.items ≡ out.old.items ++ step_text step.entry.now) }
     ensures err { IfErr result (λ e. e ≡ NoMemory) }
 {
@@ -113,11 +105,7 @@ pub fn write_step(
 }
 
 /// The lines of what happened and of what came of it.
-fn put_entry(
-    out: &mut Vec<u8>,
-    written: &mut WrittenTx,
-    entry: &Entry,
-) -> Result<(), Refusal>
+fn put_entry(out: &mut Vec<u8>, written: &mut WrittenTx, entry: &Entry) -> Result<(), Refusal>
     ensures { Puts out.old.items out.new.items result (entry_text entry.now) }
 {
     match entry {

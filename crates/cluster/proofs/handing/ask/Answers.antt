@@ -6,7 +6,7 @@ pub put_out-requires : goal.put_out-requires
 put_out-requires g c =
     ask_room c.args.sizes c.args.nodes.now.items c.args.network.now c.make_room.new.network c.make_room.ensures.same c.args.who c.in-Some.at
     c.in-Some.ensures c.args.request.now c.index_mut-node.result.now c.step_into.new.self c.step_into.new.out c.index_mut-node.ensures.value
-    c.step_into.ensures c.requires c.most_asked.result 
+    c.step_into.ensures c.requires c.most_asked.result
     c.most_asked.ensures.bound
     c.in-Ok.ensures.room
 
