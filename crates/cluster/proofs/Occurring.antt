@@ -267,7 +267,8 @@ module _ (config : Config) (world : World) (old new : ClusterParts) (answered : 
         r.comes
 
     pub not_cut : new.sizes ≡ old.sizes → new.nodes ≡ old.nodes → (k : ℕ) → length (spelling d.message) ≤ k
-        → answered.answer ≡ Refused refusals.NoSuch → answered.now ≡ None → ClusterStands config new world → HappensAs config world (Cut n k) old new answered
+        → answered.answer ≡ Refused refusals.NoSuch → answered.now ≡ None → ClusterStands config new world
+        → HappensAs config world (Cut n k) old new answered
     not_cut sizes_are nodes_are k le =
         let all : nat_lt k (length (spelling d.message)) ≡ false = le-ltb k (length (spelling d.message)) le in
         not_there sizes_are nodes_are (Cut n k)
@@ -284,7 +285,8 @@ module _ (config : Config) (world : World) (old new : ClusterParts) (answered : 
         let no : spells_message bytes ≡ false = ap is_some none in
         let to : handed world (Noise who bytes) ≡ Some (who, ReceivedNoise) =
         ap (λ (b : Bool). if b then None else Some (who, ReceivedNoise)) no in
-        occurs config world (Noise who bytes) old new answered stood r.same (handed_to config world old new answered (handed world (Noise who bytes)) who ReceivedNoise to r.others)
+        occurs config world (Noise who bytes) old new answered stood r.same
+        (handed_to config world old new answered (handed world (Noise who bytes)) who ReceivedNoise to r.others)
         r.fault r.reached
         (subst (λ (h : Option (NodeId × Input)). BefallsReached config world old.nodes new.nodes h r.fault) (sym to) r.befalls)
         (at_node config world who ReceivedNoise r.fault)

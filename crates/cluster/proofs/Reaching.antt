@@ -89,8 +89,8 @@ delivered_few config world n kept fault most (d, at, is) bound = by_fault fault
 
     handed : (fault : Fault) → length (dispatch config world (Deliver n) fault).sent ≤ most
     handed fault =
-        subst (λ (o : Option Datagram). length (if_found world (λ d. at_node config (with_mark world n) d.receiver (Received d.message) fault)
-        o).sent ≤ most) (sym at)
+        subst (λ (o : Option Datagram). length (if_found world (λ d.
+        at_node config (with_mark world n) d.receiver (Received d.message) fault) o).sent ≤ most) (sym at)
         (sent_few config (with_mark world n) d.receiver (Received d.message) fault most (λ facts memory.
         subst (λ (input : Input). count config d.receiver (effect_of config d.receiver facts memory input).sends ≤ most) input_is
         (subst (λ (who : NodeId). count config who (effect_of config who facts memory (datagram_input kept.bytes)).sends ≤ most)

@@ -281,7 +281,8 @@ pub count_after : (config : Config) (world : World) (event : Event) (fault : Fau
     → length new.datagrams ≡ length old.datagrams + length (world_step config world event fault).sent
 count_after config world event fault old new stood stands =
     let result = world_step config world event fault in
-    let all : length (numbered 1 result.world.net) ≡ length (numbered 1 world.net) + length (numbered (suc (length world.net)) result.sent) =
+    let all : length (numbered 1 result.world.net)
+    ≡ length (numbered 1 world.net) + length (numbered (suc (length world.net)) result.sent) =
     ap length (event_sent config world event fault)
     ∙ length-append (numbered 1 world.net) (numbered (suc (length world.net)) result.sent) in
     omega (

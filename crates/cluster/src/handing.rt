@@ -111,7 +111,8 @@ fn ask<R: Record>(
     answered: &mut Answered,
 )
     requires { IsSound (cluster_of sizes nodes.old.items network.old) }
-    ensures { Happens (Ask who request.now) (cluster_of sizes nodes.old.items network.old) (cluster_of sizes nodes.new.items network.new) answered.new }
+    ensures { Happens (Ask who request.now) (cluster_of sizes nodes.old.items network.old)
+        (cluster_of sizes nodes.new.items network.new) answered.new }
 {
     let Some(at) = place_of(sizes, who) else {
         answered.answers(Answer::Refused(Refusal::NoSuch));
@@ -139,7 +140,8 @@ fn deliver<R: Record>(
     answered: &mut Answered,
 )
     requires { IsSound (cluster_of sizes nodes.old.items network.old) }
-    ensures { Happens (Deliver number) (cluster_of sizes nodes.old.items network.old) (cluster_of sizes nodes.new.items network.new) answered.new }
+    ensures { Happens (Deliver number) (cluster_of sizes nodes.old.items network.old)
+        (cluster_of sizes nodes.new.items network.new) answered.new }
 {
     let who = match network.get(number) {
         Some(kept) => kept.receiver,
@@ -215,7 +217,8 @@ fn cut<R: Record>(
     answered: &mut Answered,
 )
     requires sound { IsSound (cluster_of sizes nodes.old.items network.now) }
-    ensures { Happens (Cut number bytes) (cluster_of sizes nodes.old.items network.now) (cluster_of sizes nodes.new.items network.now) answered.new }
+    ensures { Happens (Cut number bytes) (cluster_of sizes nodes.old.items network.now)
+        (cluster_of sizes nodes.new.items network.now) answered.new }
 {
     let Some(kept) = network.get(number) else {
         answered.answers(Answer::Refused(Refusal::NoSuch));

@@ -5,6 +5,7 @@ use Rattle.net_script.proofs.answers.put_sent.Goals as goal
 pub returns : goal.returns
 returns c =
     puts_also c.write_datagram.result c.args.out.now.items c.write_datagram.new.out.items
-    (sym (datagram_seen c.args.sent.now.number c.args.sent.now.sender c.args.sent.now.receiver (take c.encode-len.result c.encode-len.new.out)
+    (sym (datagram_seen c.args.sent.now.number c.args.sent.now.sender c.args.sent.now.receiver
+    (take c.encode-len.result c.encode-len.new.out)
     c.args.sent.now.message (record { message = c.kind.ensures.valid; spelled = c.encode-len.ensures.spells })))
     c.write_datagram.ensures.ok c.write_datagram.ensures.err

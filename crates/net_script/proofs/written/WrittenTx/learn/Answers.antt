@@ -12,4 +12,5 @@ invariant_of-self-2 c = λ is.
     ∙ c.as_bytes.ensures.value in
     c.in_ok-write.ensures.ok
     ∙ ap (λ (l : List ℕ). l ++ tx_text c.to_tx.result) c.clear-2.ensures.items
-    ∙ ap tx_text (c.to_tx.ensures.value ∙ sym (spelled_is c.extend_from_slice.new.self.items c.args.tx.now c.as_bytes.ensures.valid spelled))
+    ∙ ap tx_text (c.to_tx.ensures.value
+    ∙ sym (spelled_is c.extend_from_slice.new.self.items c.args.tx.now c.as_bytes.ensures.valid spelled))
