@@ -27,31 +27,6 @@ OpenAll role result =
     (config : Config) (who : NodeId) (facts : List Fact) (memory : Memory) → RoleStands config who role facts memory
     → SaysOpen who facts result
 
-pub manager_open : (p : ManagerParts) (txs : List TxParts)
-    → ((config : Config) (number : ℕ) (facts : List Fact) (branches : List Branch) → manager_specs.StandsFor config number p facts branches
-    → txs ≡ open_in facts) → OpenAll (Role.Manager p) (Ok txs)
-manager_open p txs h config (A a) facts memory s = absurd s
-manager_open p txs h config (L l) facts memory s = absurd s
-manager_open p txs h config (R rm) facts memory s = h config rm facts memory.branches s
-
-pub none_open : (p : ManagerParts) (e : Refusal) → e ≡ Refusal.NoMemory → OpenAll (Role.Manager p) (Err e)
-none_open p e is config (A a) facts memory s = absurd s
-none_open p e is config (L l) facts memory s = absurd s
-none_open p e is config (R rm) facts memory s = is
-
-pub acceptor_open : (p : AcceptorParts) → OpenAll (Role.Acceptor p) (Err Refusal.NoSuch)
-acceptor_open p config (A a) facts memory s = refl
-acceptor_open p config (L l) facts memory s = absurd s
-acceptor_open p config (R rm) facts memory s = absurd s
-
-pub leader_open : (p : LeaderParts) → OpenAll (Role.Leader p) (Err Refusal.NoSuch)
-leader_open p config (A a) facts memory s = absurd s
-leader_open p config (L l) facts memory s = refl
-leader_open p config (R rm) facts memory s = absurd s
-
-pub open_so : (role inner : Role) (result : Result (List TxParts) Refusal) → role ≡ inner → OpenAll inner result → OpenAll role result
-open_so role inner result is h = subst (λ r. OpenAll r result) (sym is) h
-
 up_lists : (who : NodeId) (facts : List Fact) (up : Role) (result : Result (List TxParts) Refusal) → SaysOpen who facts result
     → ListsOpen who facts (Some up) result
 up_lists (A a) facts up result h = h

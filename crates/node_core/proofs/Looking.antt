@@ -60,31 +60,6 @@ TablesAll role result =
     (config : Config) (who : NodeId) (facts : List Fact) (memory : Memory) → RoleStands config who role facts memory
     → SaysTable config who facts result
 
-pub manager_table : (p : ManagerParts) (rows : List Row)
-    → ((config : Config) (number : ℕ) (facts : List Fact) (branches : List Branch) → manager_specs.StandsFor config number p facts branches
-    → rows ≡ table (first_rows config number) facts) → TablesAll (Role.Manager p) (Ok rows)
-manager_table p rows h config (A a) facts memory s = absurd s
-manager_table p rows h config (L l) facts memory s = absurd s
-manager_table p rows h config (R rm) facts memory s = h config rm facts memory.branches s
-
-pub no_table : (p : ManagerParts) (e : Refusal) → e ≡ Refusal.NoMemory → TablesAll (Role.Manager p) (Err e)
-no_table p e is config (A a) facts memory s = absurd s
-no_table p e is config (L l) facts memory s = absurd s
-no_table p e is config (R rm) facts memory s = is
-
-pub acceptor_table : (p : AcceptorParts) → TablesAll (Role.Acceptor p) (Err Refusal.NoSuch)
-acceptor_table p config (A a) facts memory s = refl
-acceptor_table p config (L l) facts memory s = absurd s
-acceptor_table p config (R rm) facts memory s = absurd s
-
-pub leader_table : (p : LeaderParts) → TablesAll (Role.Leader p) (Err Refusal.NoSuch)
-leader_table p config (A a) facts memory s = absurd s
-leader_table p config (L l) facts memory s = refl
-leader_table p config (R rm) facts memory s = absurd s
-
-pub tables_so : (role inner : Role) (result : Result (List Row) Refusal) → role ≡ inner → TablesAll inner result → TablesAll role result
-tables_so role inner result is h = subst (λ r. TablesAll r result) (sym is) h
-
 -- ---- what is read of a record
 
 pub peeked : (config : Config) (who : NodeId) (own : List Row) (old new : Held) (role : Role) (len : ℕ) (bytes : List ℕ)
