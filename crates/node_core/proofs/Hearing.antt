@@ -70,7 +70,8 @@ module _ (config : Config) (who : NodeId) (facts : List Fact) (memory : Memory) 
       → out ≡ output_of (Refused Refusal.BadMessage) None → RoleStands config who role facts memory
       → IsDone config who facts (heard config who facts memory bytes) held held role out
   noise_done bytes out none is s =
-      answered (heard config who facts memory bytes) (Refused Refusal.BadMessage) out (ap (effect_of config who facts memory) (is_noise bytes none)) is s
+      answered (heard config who facts memory bytes) (Refused Refusal.BadMessage) out
+      (ap (effect_of config who facts memory) (is_noise bytes none)) is s
 
   pub outside_done : (bytes : List ℕ) (k : Kind) (out : Output) → Spells k bytes → false ≡ is_message_inside config k
       → out ≡ output_of Answer.Done None → RoleStands config who role facts memory

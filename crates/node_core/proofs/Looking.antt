@@ -33,28 +33,6 @@ SaysAll role tx result =
     (config : Config) (who : NodeId) (facts : List Fact) (memory : Memory) → RoleStands config who role facts memory
     → SaysView config who facts tx result
 
-pub manager_says : (p : ManagerParts) (tx : TxParts) (result : Result View Refusal)
-    → ((config : Config) (number : ℕ) (facts : List Fact) (branches : List Branch) → manager_specs.StandsFor config number p facts branches
-    → view_answer result ≡ (on_view_call config number (stored_votes number facts) branches tx).answer)
-    → SaysAll (Role.Manager p) tx result
-manager_says p tx result h config (A a) facts memory s = absurd s
-manager_says p tx result h config (L l) facts memory s = absurd s
-manager_says p tx result h config (R rm) facts memory s = h config rm facts memory.branches s
-
-pub acceptor_says : (p : AcceptorParts) (tx : TxParts) → SaysAll (Role.Acceptor p) tx (Err Refusal.NoSuch)
-acceptor_says p tx config (A a) facts memory s = refl
-acceptor_says p tx config (L l) facts memory s = absurd s
-acceptor_says p tx config (R rm) facts memory s = absurd s
-
-pub leader_says : (p : LeaderParts) (tx : TxParts) → SaysAll (Role.Leader p) tx (Err Refusal.NoSuch)
-leader_says p tx config (A a) facts memory s = absurd s
-leader_says p tx config (L l) facts memory s = refl
-leader_says p tx config (R rm) facts memory s = absurd s
-
-pub says_so : (role inner : Role) (tx : TxParts) (result : Result View Refusal) → role ≡ inner → SaysAll inner tx result
-    → SaysAll role tx result
-says_so role inner tx result is h = subst (λ r. SaysAll r tx result) (sym is) h
-
 abbrev pub TablesAll : Role → Result (List Row) Refusal → Type 0
 TablesAll role result =
     (config : Config) (who : NodeId) (facts : List Fact) (memory : Memory) → RoleStands config who role facts memory

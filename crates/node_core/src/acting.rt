@@ -90,9 +90,7 @@ fn play<R: Record>(
         → RoleStands config who role.old facts memory → (on_message config who facts memory message.now).fact ≡ None → result ≡ true }
 {
     match role {
-        Role::Acceptor(acceptor) => {
-            accept(&mut work.frame, device, who, acceptor, message, out)
-        }
+        Role::Acceptor(acceptor) => { accept(&mut work.frame, device, who, acceptor, message, out) }
         Role::Leader(leader) => lead(leader, message, out),
         Role::Manager(_) => manage(work, device, who, role, message, out),
     }
