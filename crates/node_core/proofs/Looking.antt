@@ -147,9 +147,6 @@ module _ (node : NodeParts) (held : Held) where
       → Tables config node.who node.rows m node.held held node.role result → TablesAs config m node with_held result
   tables_as config m result v = record { same = same_with (said_may_fail (List Row) _ result v.says); role_is = refl; tables = v }
 
-  pub same_armed : (n : ℕ) → held ≡ armed_with (Some n) node.held → IsSameNode node with_held
-  same_armed n is = same_with (ap (λ (r : Held). r.may_fail) is)
-
 -- a tear that is armed
 pub armed_stands : (config : Config) (who : NodeId) (own : List Row) (m : NodeState) (old new : Held) (role : Option Role) (n : ℕ)
     → new ≡ armed_with (Some n) old → Stands config who own old role m → Stands config who own new role (record m { tear = Some n })

@@ -83,10 +83,6 @@ module _ (compacted : Bool) (old new : Role) where
   pub barred : (entry : Entry) → may_stand compacted entry ≡ false → PlaysEntry compacted old new entry (Err Damaged)
   barred entry not config who facts s = λ may. absurd (both_ways (may_stand compacted entry) not may)
 
-  pub played_so : (entry inner : Entry) (r : Result (Unit {0}) Refusal) → entry ≡ inner → PlaysEntry compacted old new inner r
-      → PlaysEntry compacted old new entry r
-  played_so entry inner r is h = subst (λ e. PlaysEntry compacted old new e r) (sym is) h
-
 -- ---- all of them
 
 module _ (config : Config) (who : NodeId) (compacted : Bool) (bytes : List ℕ) where

@@ -142,21 +142,6 @@ shortens_so role inner r is h = subst (λ x. IfOk r (λ frames. Shortens x frame
 
 -- ---- the record is replaced
 
--- what comes of replacing it
-pub rewritten : (role : Role) (bytes : List ℕ) (old new : Held) (r : Result (Unit {0}) Refusal) → Shortens role bytes
-    → IsReplaced bytes old new r → Recompacts role old new r
-rewritten role bytes old new (Ok done) shortens put config who facts memory s played =
-    (bytes, shortens config who facts memory s played, put)
-rewritten role bytes old new (Err Refusal.RecordFault) shortens put config who facts memory s played =
-    (bytes, shortens config who facts memory s played, put)
-rewritten role bytes old new (Err Refusal.NoMemory) shortens put config who facts memory s played = put
-rewritten role bytes old new (Err other) shortens put config who facts memory s played = absurd put
-
-pub rewritten_text : (role : Role) (bytes text : List ℕ) (old new : Held) (r : Result (Unit {0}) Refusal) → Shortens role bytes
-    → text ≡ bytes → IsReplaced text old new r → Recompacts role old new r
-rewritten_text role bytes text old new r shortens is put =
-    rewritten role bytes old new r shortens (subst (λ (xs : List ℕ). IsReplaced xs old new r) is put)
-
 module _ (config : Config) (who : NodeId) (own : List Row) (m : NodeState) (old new : Held) (up : Role)
     (s : Stands config who own old (Some up) m) where
   -- a record of these bytes keeps the facts

@@ -28,16 +28,14 @@ fn has_form(sizes: Sizes, rest: Rest<'_>) -> bool
 {
     match rest {
         Rest::P1a { .. } => !sizes.bundled,
-        Rest::P1b { acceptor, .. } => acceptor < sizes.acceptors && !sizes.bundled,
-        Rest::P2b { acceptor, .. } => acceptor < sizes.acceptors && !sizes.bundled,
+        Rest::P1b { acceptor, .. } | Rest::P2b { acceptor, .. } => {
+            acceptor < sizes.acceptors && !sizes.bundled
+        }
         Rest::B1a { .. } => sizes.bundled,
-        Rest::B1b { acceptor, .. } => acceptor < sizes.acceptors && sizes.bundled,
-        Rest::B2b { acceptor, .. } => acceptor < sizes.acceptors && sizes.bundled,
-        Rest::Prepare => true,
-        Rest::Commit => true,
-        Rest::Abort => true,
-        Rest::P2a { .. } => true,
-        Rest::Ask { .. } => true,
+        Rest::B1b { acceptor, .. } | Rest::B2b { acceptor, .. } => {
+            acceptor < sizes.acceptors && sizes.bundled
+        }
+        Rest::Prepare | Rest::Commit | Rest::Abort | Rest::P2a { .. } | Rest::Ask { .. } => true,
     }
 }
 
