@@ -6,17 +6,10 @@ use Rattle.xid.specs.declared.refusals.Refusal.{Refusal}
 use Rattle.stable_record.specs.declared.fact.FactKind.{FactKind as Fact}
 use Rattle.stable_record.specs.Held.{Held, armed_with}
 use Rattle.protocol.specs.declared.nodes.NodeId.{NodeId}
-use Rattle.protocol.specs.declared.nodes.NodeId.TheVariants.{A, L, R}
 use Rattle.protocol.specs.declared.rows.Row.{Row}
 use Rattle.protocol.specs.declared.states.View.{View}
 use Rattle.protocol.specs.Effects.{Config}
-use Rattle.protocol.specs.Managers.{Branch, on_view_call, stored_votes}
-use Rattle.protocol.specs.Nodes.{NodeState, Memory, empty_memory, first_rows}
-use Rattle.protocol.specs.Tables.{table}
-use Rattle.acceptor.specs.Acceptors.{AcceptorParts}
-use Rattle.leader.specs.Leaders.{LeaderParts}
-use Rattle.resource_manager.specs.Managers as manager_specs
-use Rattle.resource_manager.specs.Managers.{ManagerParts, view_answer}
+use Rattle.protocol.specs.Nodes.{NodeState, Memory, empty_memory}
 use Rattle.node_core.specs.declared.config.Sizes.{Sizes}
 use Rattle.node_core.specs.declared.role.Role.{Role}
 use Rattle.node_core.specs.Roles.{RoleStands}

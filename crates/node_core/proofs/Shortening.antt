@@ -22,7 +22,7 @@ use Rattle.resource_manager.specs.Compacted.{IsShortened}
 use Rattle.node_core.specs.declared.role.Role.{Role}
 use Rattle.node_core.specs.Roles.{RoleStands}
 use Rattle.node_core.specs.Nodes.{begun, SameState, Keeps, Stands, NodeParts, NodeStands, IsSound}
-use Rattle.node_core.specs.Opening.{AreFrames, IsReplaced}
+use Rattle.node_core.specs.Opening.{AreFrames}
 use Rattle.node_core.specs.Compacting.{IsShorter, Shortens, IsRecompacted, Recompacts, BefallsCompact, IsCompactedUp, role_kept}
 use Rattle.node_core.specs.Compacting.{Compacts, CompactsAs}
 use Rattle.node_core.proofs.Starting.{of_facts}
