@@ -40,14 +40,6 @@ all_play_both config who before (x ∷ xs) ys =
     and_three false b c = refl
 
 -- one
-one_plays : (config : Config) (who : NodeId) (before : List Fact) (fact : Fact) → plays config who before fact ≡ true
-    → all_play config who before (fact ∷ []) ≡ true
-one_plays config who before fact h = and_from (plays config who before fact) true h refl
-
-one_fails : (config : Config) (who : NodeId) (before : List Fact) (fact : Fact) (later : List Fact) → plays config who before fact ≡ false
-    → all_play config who before (fact ∷ later) ≡ false
-one_fails config who before fact later h = ap (λ b. b && all_play config who (before ++ fact ∷ []) later) h
-
 -- ---- all of them
 
 module _ (config : Config) (who : NodeId) (compacted : Bool) (bytes : List ℕ) where
