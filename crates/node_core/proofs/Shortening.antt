@@ -228,13 +228,6 @@ compacts_up config who own m old new was role up r given is role_is given_is h s
     subst (λ x. Compacts config who own m old new role x) (sym given_is)
     (recompacted config who own m old new up t role r (h config who m.facts m.memory t.role_is.2 t.played) role_is)
 
--- one that is down
-pub compacts_down : (config : Config) (who : NodeId) (own : List Row) (m : NodeState) (held : Held) (role : Option Role) → role ≡ None
-    → Stands config who own held role m → Compacts config who own m held held role (Err Refusal.Down)
-compacts_down config who own m held role is s =
-    let t : Stands config who own held None m = subst (λ x. Stands config who own held x m) is s in
-    inr (record { down = t.role_is; result_is = refl; same = refl; stands = s })
-
 -- ---- the whole node
 
 -- whether the record may fail of itself stays
