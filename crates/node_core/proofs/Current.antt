@@ -1,9 +1,9 @@
 -- Frames of both versions, and those that are written today.
 use Rattle.std.proofs.Common.{◌≡◌, ◌≢◌, ◌∙◌, ℕ, ◌+◌, ◌<◌, ◌≤◌, true, false, ◌==◌, List, [], ◌∷◌, ◌++◌, length, drop, take, get_or, refl}
 use Rattle.std.proofs.Common.{sym, ap, subst}
-use Rattle.std.proofs.Common.{append_assoc, append-nil, length-append, arith, Some, None, inl, inr}
+use Rattle.std.proofs.Common.{append_assoc, append-nil, length-append, arith, Some, None}
 use Rattle.xid.specs.declared.refusals.Refusal.{Refusal}
-use Rattle.std.specs.Prelude.{◌⊎◌, map, Result, Ok, Err}
+use Rattle.std.specs.Prelude.{map, Result, Ok}
 use Rattle.std.proofs.lemmas.Bool.Decides.{nat_tests}
 use Rattle.std.proofs.lemmas.Grind.{flat_map-append}
 use Rattle.std.proofs.lemmas.List.{drop_at, take_more, map-append}
@@ -18,11 +18,11 @@ use Rattle.stable_record.specs.declared.entry.EntryKind.{EntryKind as Entry}
 use Rattle.stable_record.specs.declared.fact.FactKind.{FactKind as Fact}
 use Rattle.stable_record.specs.Facts.{IsFact}
 use Rattle.stable_record.specs.Entries.{IsEntry, IsEntryIn}
-use Rattle.stable_record.specs.Grammar.{IsStored, IsDamaged, IsTail, frame, body_spelling}
-use Rattle.stable_record.specs.Held.{Held, HasPut, with_bytes}
+use Rattle.stable_record.specs.Grammar.{IsStored, IsTail, frame, body_spelling}
+use Rattle.stable_record.specs.Held.{Held, HasPut}
 use Rattle.stable_record.proofs.Framed.{short_tail, tail_unframed, one_stored, stored_joined, stored_same}
 use Rattle.stable_record.proofs.Lengths.{body_few, entry_in_version_2}
-use Rattle.node_core.specs.Opening.{frames_of, AreFrames, IsCurrent, IsReplaced, Rewrites}
+use Rattle.node_core.specs.Opening.{frames_of, AreFrames, IsReplaced, Rewrites}
 
 -- what is taken at the front of a frame: the length of its body, and the body with what follows
 head_taken : (v : VersionNumber) (e : Entry) (rest : List ℕ) → IsEntryIn (version_of v) e
@@ -189,18 +189,6 @@ pub replaced : (next : List ℕ) (old new : Held) → HasPut next old new (Ok tt
 replaced next old new h = h
 
 module _ (old new : Held) (bytes : List ℕ) (is : old.bytes ≡ bytes) where
-  -- nothing is to be written anew
-  pub rewritten_none : IsCurrent bytes true → new ≡ old → Rewrites old new (Ok tt)
-  rewritten_none current same all stored =
-      let now : old.bytes ≡ frames_of all = is ∙ current all (subst (λ (xs : List ℕ). IsStored xs all []) is stored) in
-      same ∙ ap (λ (xs : List ℕ). with_bytes xs old) now
-
-  -- the bytes hold entries, so that they can be read
-  pub rewritten_unread : (e : Refusal) → ((e ≡ Refusal.Damaged) × IsDamaged bytes) ⊎ (e ≡ Refusal.NoMemory) → new ≡ old
-      → Rewrites old new (Err e)
-  rewritten_unread e (inl h) same all stored = absurd (h.1 all [] (subst (λ (xs : List ℕ). IsStored xs all []) is stored))
-  rewritten_unread e (inr h) same all stored = subst (λ r. IsReplaced (frames_of all) old new (Err r)) (sym h) same
-
   rewritten_so : (read : List Entry) (tail frames : List ℕ) (r : Result (Unit {0}) Refusal) → IsStored bytes read tail
       → AreFrames frames read → IsReplaced frames old new r → Rewrites old new r
   rewritten_so read tail frames r there h put all stored =

@@ -446,17 +446,6 @@ module _ (config : Config) (who : NodeId) (own : List Row) where
   gathers_stands from to [] (o ∷ outs) text s g = absurd g
   gathers_stands from to (i ∷ inputs) [] text s g = absurd g
 
-  pub gathers_none : (from : Place) (role : Option Role) (frames : Held) → from.role ≡ role → frames.armed ≡ None
-      → GathersOn config who own from [] [] role frames frames
-  gathers_none from role frames is untorn = record {
-    text = [];
-    to = from;
-    gathers = (refl, refl);
-    role_is = is;
-    bytes_are = sym (append-nil frames.bytes);
-    armed_is = untorn;
-  }
-
   pub gathers_more : (from : Place) (inputs : List Input) (outs : List Output) (role after : Option Role) (old mid new : Held)
       → (input : Input) (out : Output) → from.held.armed ≡ None → Stands config who own from.held from.role from.state
       → GathersOn config who own from inputs outs role old mid

@@ -47,6 +47,16 @@ pub down_by : (read : Option Kind) → down_answer (handed read) ≡ Refused Ref
 down_by None = refl
 down_by (Some k) = refl
 
+module _ (config : Config) (who : NodeId) (facts : List Fact) (memory : Memory) where
+  abbrev heard : List ℕ → Effect Memory
+  heard bytes = effect_of config who facts memory (datagram_input bytes)
+
+  pub heard_is : (bytes : List ℕ) (k : Kind) (inside : Bool) → Spells k bytes → inside ≡ is_message_inside config k
+      → heard bytes ≡ (if inside then on_message config who facts memory k else no_effect memory)
+  heard_is bytes k inside spells is =
+      ap (effect_of config who facts memory) (is_received bytes k spells)
+      ∙ ap (λ (b : Bool). if b then on_message config who facts memory k else no_effect memory) (sym is)
+
 module _ (config : Config) (who : NodeId) (facts : List Fact) (memory : Memory) (held : Held) (role : Role) where
   answered : (e : Effect Memory) (answer : Answer) (out : Output) → e ≡ answer_only memory answer → out ≡ output_of answer None
       → RoleStands config who role facts memory → IsDone config who facts e held held role out
@@ -56,33 +66,25 @@ module _ (config : Config) (who : NodeId) (facts : List Fact) (memory : Memory) 
     kept = record { same = refl; now_is = ap (λ (o : Output). o.now) is; stands = s };
   })
 
-  abbrev heard : List ℕ → Effect Memory
-  heard bytes = effect_of config who facts memory (datagram_input bytes)
-
   pub noise_done : (bytes : List ℕ) (out : Output) → ((k : Kind) → IsMessage k → bytes ≢ spelling k)
       → out ≡ output_of (Refused Refusal.BadMessage) None → RoleStands config who role facts memory
-      → IsDone config who facts (heard bytes) held held role out
+      → IsDone config who facts (heard config who facts memory bytes) held held role out
   noise_done bytes out none is s =
-      answered (heard bytes) (Refused Refusal.BadMessage) out (ap (effect_of config who facts memory) (is_noise bytes none)) is s
-
-  pub heard_is : (bytes : List ℕ) (k : Kind) (inside : Bool) → Spells k bytes → inside ≡ is_message_inside config k
-      → heard bytes ≡ (if inside then on_message config who facts memory k else no_effect memory)
-  heard_is bytes k inside spells is =
-      ap (effect_of config who facts memory) (is_received bytes k spells)
-      ∙ ap (λ (b : Bool). if b then on_message config who facts memory k else no_effect memory) (sym is)
+      answered (heard config who facts memory bytes) (Refused Refusal.BadMessage) out
+      (ap (effect_of config who facts memory) (is_noise bytes none)) is s
 
   pub outside_done : (bytes : List ℕ) (k : Kind) (out : Output) → Spells k bytes → false ≡ is_message_inside config k
       → out ≡ output_of Answer.Done None → RoleStands config who role facts memory
-      → IsDone config who facts (heard bytes) held held role out
+      → IsDone config who facts (heard config who facts memory bytes) held held role out
   outside_done bytes k out spells is out_is s =
-      answered (heard bytes) Answer.Done out (heard_is bytes k false spells is) out_is s
+      answered (heard config who facts memory bytes) Answer.Done out (heard_is config who facts memory bytes k false spells is) out_is s
 
   pub inside_carries : (bytes : List ℕ) (k : Kind) (new : Held) (now : Role) (done : Result Output Output) → Spells k bytes
       → true ≡ is_message_inside config k
       → Carries config who facts memory (on_message config who facts memory k) held new now done
-      → Carries config who facts memory (heard bytes) held new now done
+      → Carries config who facts memory (heard config who facts memory bytes) held new now done
   inside_carries bytes k new now done spells is h =
-      subst (λ e. Carries config who facts memory e held new now done) (sym (heard_is bytes k true spells is)) h
+      subst (λ e. Carries config who facts memory e held new now done) (sym (heard_is config who facts memory bytes k true spells is)) h
 
   -- what was decided is done where there is nothing to store, with the record as it is
   pub nothing_stored : (e : Effect Memory) (fact : Option Fact) (out new : Output) → e.fact ≡ None

@@ -21,6 +21,5 @@ pub mod Loading
 pub mod Restarting
 pub mod Sizing
 pub mod Looking
-pub mod Listing
 pub mod Shortening
 pub mod Replying

@@ -135,11 +135,6 @@ module _ (config : Config) (who : NodeId) (own : List Row) (old : Held) where
   pub stayed_whole : (new : Held) → new ≡ old → HasStayed old new × IsTrimmed config who old.bytes new.bytes
   stayed_whole new is = (stayed_same old new is, inl (ap (λ (r : Held). r.bytes) is))
 
-  pub read_refused : (T : Type 0) (new : Held) (e : RecordError) → HasRead {T = T} old new (Err e)
-      → Loads config who own old new (Err (refusal_of e))
-  read_refused T new Fault h = (read_faulted T old new h, inl (inl (either_same new.bytes old.bytes h.bytes)))
-  read_refused T new Memory h = stayed_whole new h
-
   -- a record that holds nothing that plays
   pub replay_refused : (new : Held) (bytes : List ℕ) (e : Refusal) → bytes ≡ old.bytes → new ≡ old → Reads config who own bytes (Err e)
       → Loads config who own old new (Err e)

@@ -6,17 +6,10 @@ use Rattle.xid.specs.declared.refusals.Refusal.{Refusal}
 use Rattle.stable_record.specs.declared.fact.FactKind.{FactKind as Fact}
 use Rattle.stable_record.specs.Held.{Held, armed_with}
 use Rattle.protocol.specs.declared.nodes.NodeId.{NodeId}
-use Rattle.protocol.specs.declared.nodes.NodeId.TheVariants.{A, L, R}
 use Rattle.protocol.specs.declared.rows.Row.{Row}
 use Rattle.protocol.specs.declared.states.View.{View}
 use Rattle.protocol.specs.Effects.{Config}
-use Rattle.protocol.specs.Managers.{Branch, on_view_call, stored_votes}
-use Rattle.protocol.specs.Nodes.{NodeState, Memory, empty_memory, first_rows}
-use Rattle.protocol.specs.Tables.{table}
-use Rattle.acceptor.specs.Acceptors.{AcceptorParts}
-use Rattle.leader.specs.Leaders.{LeaderParts}
-use Rattle.resource_manager.specs.Managers as manager_specs
-use Rattle.resource_manager.specs.Managers.{ManagerParts, view_answer}
+use Rattle.protocol.specs.Nodes.{NodeState, Memory, empty_memory}
 use Rattle.node_core.specs.declared.config.Sizes.{Sizes}
 use Rattle.node_core.specs.declared.role.Role.{Role}
 use Rattle.node_core.specs.Roles.{RoleStands}
@@ -33,57 +26,10 @@ SaysAll role tx result =
     (config : Config) (who : NodeId) (facts : List Fact) (memory : Memory) → RoleStands config who role facts memory
     → SaysView config who facts tx result
 
-pub manager_says : (p : ManagerParts) (tx : TxParts) (result : Result View Refusal)
-    → ((config : Config) (number : ℕ) (facts : List Fact) (branches : List Branch) → manager_specs.StandsFor config number p facts branches
-    → view_answer result ≡ (on_view_call config number (stored_votes number facts) branches tx).answer)
-    → SaysAll (Role.Manager p) tx result
-manager_says p tx result h config (A a) facts memory s = absurd s
-manager_says p tx result h config (L l) facts memory s = absurd s
-manager_says p tx result h config (R rm) facts memory s = h config rm facts memory.branches s
-
-pub acceptor_says : (p : AcceptorParts) (tx : TxParts) → SaysAll (Role.Acceptor p) tx (Err Refusal.NoSuch)
-acceptor_says p tx config (A a) facts memory s = refl
-acceptor_says p tx config (L l) facts memory s = absurd s
-acceptor_says p tx config (R rm) facts memory s = absurd s
-
-pub leader_says : (p : LeaderParts) (tx : TxParts) → SaysAll (Role.Leader p) tx (Err Refusal.NoSuch)
-leader_says p tx config (A a) facts memory s = absurd s
-leader_says p tx config (L l) facts memory s = refl
-leader_says p tx config (R rm) facts memory s = absurd s
-
-pub says_so : (role inner : Role) (tx : TxParts) (result : Result View Refusal) → role ≡ inner → SaysAll inner tx result
-    → SaysAll role tx result
-says_so role inner tx result is h = subst (λ r. SaysAll r tx result) (sym is) h
-
 abbrev pub TablesAll : Role → Result (List Row) Refusal → Type 0
 TablesAll role result =
     (config : Config) (who : NodeId) (facts : List Fact) (memory : Memory) → RoleStands config who role facts memory
     → SaysTable config who facts result
-
-pub manager_table : (p : ManagerParts) (rows : List Row)
-    → ((config : Config) (number : ℕ) (facts : List Fact) (branches : List Branch) → manager_specs.StandsFor config number p facts branches
-    → rows ≡ table (first_rows config number) facts) → TablesAll (Role.Manager p) (Ok rows)
-manager_table p rows h config (A a) facts memory s = absurd s
-manager_table p rows h config (L l) facts memory s = absurd s
-manager_table p rows h config (R rm) facts memory s = h config rm facts memory.branches s
-
-pub no_table : (p : ManagerParts) (e : Refusal) → e ≡ Refusal.NoMemory → TablesAll (Role.Manager p) (Err e)
-no_table p e is config (A a) facts memory s = absurd s
-no_table p e is config (L l) facts memory s = absurd s
-no_table p e is config (R rm) facts memory s = is
-
-pub acceptor_table : (p : AcceptorParts) → TablesAll (Role.Acceptor p) (Err Refusal.NoSuch)
-acceptor_table p config (A a) facts memory s = refl
-acceptor_table p config (L l) facts memory s = absurd s
-acceptor_table p config (R rm) facts memory s = absurd s
-
-pub leader_table : (p : LeaderParts) → TablesAll (Role.Leader p) (Err Refusal.NoSuch)
-leader_table p config (A a) facts memory s = absurd s
-leader_table p config (L l) facts memory s = refl
-leader_table p config (R rm) facts memory s = absurd s
-
-pub tables_so : (role inner : Role) (result : Result (List Row) Refusal) → role ≡ inner → TablesAll inner result → TablesAll role result
-tables_so role inner result is h = subst (λ r. TablesAll r result) (sym is) h
 
 -- ---- what is read of a record
 
@@ -193,9 +139,6 @@ module _ (node : NodeParts) (held : Held) where
   pub tables_as : (config : Config) (m : NodeState) (result : Result (List Row) Refusal)
       → Tables config node.who node.rows m node.held held node.role result → TablesAs config m node with_held result
   tables_as config m result v = record { same = same_with (said_may_fail (List Row) _ result v.says); role_is = refl; tables = v }
-
-  pub same_armed : (n : ℕ) → held ≡ armed_with (Some n) node.held → IsSameNode node with_held
-  same_armed n is = same_with (ap (λ (r : Held). r.may_fail) is)
 
 -- a tear that is armed
 pub armed_stands : (config : Config) (who : NodeId) (own : List Row) (m : NodeState) (old new : Held) (role : Option Role) (n : ℕ)

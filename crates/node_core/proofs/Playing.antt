@@ -1,6 +1,6 @@
 -- A role that is made ready for a fact, and plays it.
 use Rattle.std.proofs.Common.{rules, tests}
-use Rattle.std.proofs.Common.{◌≡◌, ◌∙◌, ℕ, ◌<◌, Bool, true, false, List, [], ◌∷◌, ◌++◌, refl, sym, ap, subst, arith, inl, inr}
+use Rattle.std.proofs.Common.{◌≡◌, ◌∙◌, ℕ, ◌<◌, Bool, true, List, [], ◌∷◌, ◌++◌, refl, sym, ap, subst, arith, inl, inr}
 use Rattle.node_core.proofs.Deciding.{no_config}
 use Rattle.std.specs.Prelude.{if◌then◌else◌, Result, Ok, Err, OnOk, IfErr, nat_lt}
 use Rattle.std.proofs.lemmas.Bool.{both_ways, and_parts}
@@ -9,6 +9,7 @@ use Rattle.xid.specs.declared.refusals.Refusal.{Refusal}
 use Rattle.xid.specs.declared.refusals.Refusal.TheVariants.{NoMemory}
 use Rattle.stable_record.specs.declared.fact.FactKind.{FactKind as Fact}
 use Rattle.stable_record.specs.Parts.{Part, IsMadeReady, IsPlayed}
+use Rattle.protocol.specs.declared.nodes.NodeId.{NodeId}
 use Rattle.protocol.specs.declared.nodes.NodeId.TheVariants.{A, L, R}
 use Rattle.protocol.specs.Effects.{Config}
 use Rattle.protocol.specs.Facts.{last_ballot}
@@ -199,40 +200,15 @@ no_ballot leaders l facts other none h = absurd (cc (h))
 
 -- ---- replayed
 
-abbrev PartReplays : {Value : Type 0} → Part Value → Value → List Fact → Fact → Result (Unit {0}) Refusal → Type 0
-PartReplays part new facts fact (Ok done) = (part.plays facts fact ≡ true) × part.StandsFor new (facts ++ fact ∷ [])
-PartReplays part new facts fact (Err Refusal.Damaged) = part.plays facts fact ≡ false
-PartReplays part new facts fact (Err Refusal.NoMemory) = Unit {0}
-PartReplays part new facts fact (Err other) = ⊥
-
-part_replays : {Value : Type 0} (part : Part Value) (old new : Value) (facts : List Fact) (fact : Fact) (r : Result (Unit {0}) Refusal)
-    → IsPlayed part old new fact r → part.StandsFor old facts → PartReplays part new facts fact r
-part_replays part old new facts fact (Ok done) h s = (h.0 facts s, h.1 facts s)
-part_replays part old new facts fact (Err Refusal.Damaged) h s = h.0 facts s
-part_replays part old new facts fact (Err Refusal.NoMemory) h s = tt
-part_replays part old new facts fact (Err other) h s = absurd h
-
-module _ (config : Config) (facts : List Fact) (fact : Fact) where
-  acceptor_replayed : (a : ℕ) (new : AcceptorParts) (r : Result (Unit {0}) Refusal)
-      → PartReplays (acceptor_part config a) new facts fact r → IsReplayed config (A a) facts (Role.Acceptor new) fact r
-  acceptor_replayed a new (Ok done) h = h
-  acceptor_replayed a new (Err Refusal.Damaged) h = h
-  acceptor_replayed a new (Err Refusal.NoMemory) h = h
-  acceptor_replayed a new (Err other) h = absurd h
-
-  leader_replayed : (l : ℕ) (new : LeaderParts) (r : Result (Unit {0}) Refusal)
-      → PartReplays (leader_part config l empty_memory.leader) new facts fact r → IsReplayed config (L l) facts (Role.Leader new) fact r
-  leader_replayed l new (Ok done) h = h
-  leader_replayed l new (Err Refusal.Damaged) h = h
-  leader_replayed l new (Err Refusal.NoMemory) h = h
-  leader_replayed l new (Err other) h = absurd h
-
-  manager_replayed : (rm : ℕ) (new : ManagerParts) (r : Result (Unit {0}) Refusal)
-      → PartReplays (manager_part config rm []) new facts fact r → IsReplayed config (R rm) facts (Role.Manager new) fact r
-  manager_replayed rm new (Ok done) h = h
-  manager_replayed rm new (Err Refusal.Damaged) h = h
-  manager_replayed rm new (Err Refusal.NoMemory) h = h
-  manager_replayed rm new (Err other) h = absurd h
+-- what a part says of a fact is what its role says
+replayed : {Value : Type 0} (part : Part Value) (old new : Value) (config : Config) (who : NodeId) (role : Role) (facts : List Fact)
+    (fact : Fact) (r : Result (Unit {0}) Refusal) → part.plays facts fact ≡ plays config who facts fact
+    → (part.StandsFor new (facts ++ fact ∷ []) → RoleStands config who role (facts ++ fact ∷ []) empty_memory)
+    → IsPlayed part old new fact r → part.StandsFor old facts → IsReplayed config who facts role fact r
+replayed part old new config who role facts fact (Ok done) same stands h s = (sym same ∙ h.0 facts s, stands (h.1 facts s))
+replayed part old new config who role facts fact (Err Refusal.Damaged) same stands h s = sym same ∙ h.0 facts s
+replayed part old new config who role facts fact (Err Refusal.NoMemory) same stands h s = tt
+replayed part old new config who role facts fact (Err other) same stands h s = absurd h
 
 -- where there are none but prepared branches, any fact may come
 playable_alone : (rm : ℕ) (fact : Fact) → manager_specs.IsPlayable rm [] fact
@@ -243,7 +219,7 @@ pub acceptor_replays : (old new : AcceptorParts) (fact : Fact) (r : Result (Unit
     → ((config : Config) (number : ℕ) → IsPlayed (acceptor_part config number) old new fact r)
     → Replays (Role.Acceptor old) (Role.Acceptor new) fact r
 acceptor_replays old new fact r h config (A a) facts s =
-    acceptor_replayed config facts fact a new r (part_replays (acceptor_part config a) old new facts fact r (h config a) s)
+    replayed (acceptor_part config a) old new config (A a) (Role.Acceptor new) facts fact r refl (λ x. x) (h config a) s
 acceptor_replays old new fact r h config (L l) facts s = absurd s
 acceptor_replays old new fact r h config (R rm) facts s = absurd s
 
@@ -253,8 +229,8 @@ pub leader_replays : (old new : LeaderParts) (fact : Fact) (r : Result (Unit {0}
 leader_replays old new fact r h config (A a) facts s = absurd s
 leader_replays old new fact r h config (R rm) facts s = absurd s
 leader_replays old new fact r h config (L l) facts s =
-    leader_replayed config facts fact l new r
-    (part_replays (leader_part config l empty_memory.leader) old new facts fact r (h config l empty_memory.leader) s)
+    replayed (leader_part config l empty_memory.leader) old new config (L l) (Role.Leader new) facts fact r refl (λ x. x)
+    (h config l empty_memory.leader) s
 
 pub manager_replays : (old new : ManagerParts) (fact : Fact) (r : Result (Unit {0}) Refusal)
     → ((config : Config) (number : ℕ) (branches : List Branch) → manager_specs.IsPlayable number branches fact
@@ -263,8 +239,8 @@ pub manager_replays : (old new : ManagerParts) (fact : Fact) (r : Result (Unit {
 manager_replays old new fact r h config (A a) facts s = absurd s
 manager_replays old new fact r h config (L l) facts s = absurd s
 manager_replays old new fact r h config (R rm) facts s =
-    manager_replayed config facts fact rm new r
-    (part_replays (manager_part config rm []) old new facts fact r (h config rm [] (playable_alone rm fact)) s)
+    replayed (manager_part config rm []) old new config (R rm) (Role.Manager new) facts fact r refl (λ x. x)
+    (h config rm [] (playable_alone rm fact)) s
 
 -- ---- what is played, under other names
 

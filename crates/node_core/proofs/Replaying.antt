@@ -1,7 +1,7 @@
 -- The entries of bytes are played, one after the other.
 use Rattle.std.proofs.Common.{◌≡◌, ◌∙◌, ℕ, ◌-◌, Bool, true, false, ◌&&◌, List, [], ◌∷◌, ◌++◌, length, refl, sym, ap, subst}
 use Rattle.std.proofs.Common.{append_assoc, append-nil, inl, inr}
-use Rattle.std.specs.Prelude.{◌⊎◌, Result, Ok, Err}
+use Rattle.std.specs.Prelude.{◌⊎◌, Err}
 use Rattle.std.specs.List.{list_all, flat_map}
 use Rattle.std.proofs.lemmas.Bool.{and_parts, and_from, both_ways}
 use Rattle.std.proofs.lemmas.Grind.{flat_map-append}
@@ -9,7 +9,6 @@ use Rattle.std.proofs.lemmas.List.Folds.{list_all-append}
 use Rattle.xid.specs.declared.refusals.Refusal.{Refusal}
 use Rattle.xid.specs.declared.refusals.Refusal.TheVariants.{Damaged, NoMemory}
 use Rattle.stable_record.specs.declared.entry.EntryKind.{EntryKind as Entry}
-use Rattle.stable_record.specs.declared.entry.EntryKind.TheVariants as entries
 use Rattle.stable_record.specs.declared.fact.FactKind.{FactKind as Fact}
 use Rattle.stable_record.specs.Grammar.{IsFramed, IsTail, HasNoFrame}
 use Rattle.stable_record.proofs.Framed.{all_read, nothing_stored}
@@ -18,10 +17,10 @@ use Rattle.protocol.specs.Effects.{Config}
 use Rattle.protocol.specs.Nodes.{empty_memory, plays, all_play}
 use Rattle.resource_manager.specs.Compacted.{facts_of}
 use Rattle.node_core.specs.declared.role.Role.{Role}
-use Rattle.node_core.specs.Roles.{RoleStands, Replays, IsReplayed}
-use Rattle.node_core.specs.Opening.{may_stand, AreReplayed, ReplaysAll, IsEntryPlayed, IsPlayedAs, PlaysEntry, HasPlayed, IsUnplayable}
+use Rattle.node_core.specs.Roles.{RoleStands}
+use Rattle.node_core.specs.Opening.{may_stand, IsEntryPlayed, IsPlayedAs, HasPlayed, IsUnplayable}
 use Rattle.node_core.specs.Opening.{IsPlayedWhole, HasPlayedTo}
-use Rattle.node_core.proofs.Reading.{nothing_read, read_more, then_came}
+use Rattle.node_core.proofs.Reading.{read_more, then_came}
 
 -- ---- facts that play one after the other
 
@@ -41,60 +40,11 @@ all_play_both config who before (x ∷ xs) ys =
     and_three false b c = refl
 
 -- one
-one_plays : (config : Config) (who : NodeId) (before : List Fact) (fact : Fact) → plays config who before fact ≡ true
-    → all_play config who before (fact ∷ []) ≡ true
-one_plays config who before fact h = and_from (plays config who before fact) true h refl
-
-one_fails : (config : Config) (who : NodeId) (before : List Fact) (fact : Fact) (later : List Fact) → plays config who before fact ≡ false
-    → all_play config who before (fact ∷ later) ≡ false
-one_fails config who before fact later h = ap (λ b. b && all_play config who (before ++ fact ∷ []) later) h
-
--- ---- one entry
-
-module _ (compacted : Bool) (old new : Role) where
-  stands_fact : (c : Bool) (fact : Fact) → may_stand c (entries.Fact fact) ≡ true
-  stands_fact true fact = refl
-  stands_fact false fact = refl
-
-  pub fact_played : (fact : Fact) (r : Result (Unit {0}) Refusal) → Replays old new fact r
-      → PlaysEntry compacted old new (entries.Fact fact) r
-  fact_played fact r h config who facts s = by r (h config who facts s)
-    where
-      by : (r : Result (Unit {0}) Refusal) → IsReplayed config who facts new fact r
-          → IsPlayedAs config who compacted facts new (entries.Fact fact) r
-      by (Ok done) p = record { may = stands_fact compacted fact; fits = one_plays config who facts fact p.0; stands = p.1 }
-      by (Err Refusal.Damaged) p = λ may. one_fails config who facts fact [] p
-      by (Err Refusal.NoMemory) p = tt
-      by (Err other) p = absurd p
-
-  -- an entry that stands for facts
-  pub past_played : (entry : Entry) (r : Result (Unit {0}) Refusal) → may_stand compacted entry ≡ true
-      → ReplaysAll old new (facts_of entry) r → PlaysEntry compacted old new entry r
-  past_played entry r may h config who facts s = by r (h config who facts s)
-    where
-      by : (r : Result (Unit {0}) Refusal) → AreReplayed config who facts (facts_of entry) new r
-          → IsPlayedAs config who compacted facts new entry r
-      by (Ok done) p = record { may = may; fits = p.0; stands = p.1 }
-      by (Err Refusal.Damaged) p = λ may. p
-      by (Err Refusal.NoMemory) p = tt
-      by (Err other) p = absurd p
-
-  -- one that may not stand there
-  pub barred : (entry : Entry) → may_stand compacted entry ≡ false → PlaysEntry compacted old new entry (Err Damaged)
-  barred entry not config who facts s = λ may. absurd (both_ways (may_stand compacted entry) not may)
-
-  pub played_so : (entry inner : Entry) (r : Result (Unit {0}) Refusal) → entry ≡ inner → PlaysEntry compacted old new inner r
-      → PlaysEntry compacted old new entry r
-  played_so entry inner r is h = subst (λ e. PlaysEntry compacted old new e r) (sym is) h
-
 -- ---- all of them
 
 module _ (config : Config) (who : NodeId) (compacted : Bool) (bytes : List ℕ) where
   abbrev meant : List Entry → List Fact
   meant all = flat_map facts_of all
-
-  pub played_first : (role : Role) → RoleStands config who role [] empty_memory → HasPlayedTo config who compacted bytes bytes role
-  played_first role s = record { read = []; up_to = nothing_read bytes; may = refl; fits = refl; stands = s }
 
   module _ (rest after : List ℕ) (role : Role) (h : HasPlayedTo config who compacted bytes rest role) (entry : Entry)
       (framed : IsFramed entry rest after) where

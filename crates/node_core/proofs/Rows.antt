@@ -1,7 +1,7 @@
 -- The rows that stand behind a snapshot.
 use Rattle.std.proofs.Common.{◌≡◌, ◌∙◌, ℕ, suc, ◌-◌, Bool, true, false, ◌&&◌, List, [], ◌∷◌, ◌++◌, refl, sym, ap, subst}
 use Rattle.std.proofs.Common.{append_assoc, append-nil, inl, inr}
-use Rattle.std.specs.Prelude.{◌⊎◌, map, Option, Some, None, length, slice_get}
+use Rattle.std.specs.Prelude.{◌⊎◌, map, Option, Some, length, slice_get}
 use Rattle.std.specs.Option.{option_map_or}
 use Rattle.std.specs.List.{list_all}
 use Rattle.std.specs.Cmp.Lexicographic.{slice_cmp}
@@ -19,7 +19,7 @@ use Rattle.stable_record.proofs.Framed.{framed_same, nothing_stored}
 use Rattle.protocol.specs.declared.rows.Row.{Row}
 use Rattle.resource_manager.specs.Compacted.{row_entry, are_ascending, is_about_tx}
 use Rattle.branch_table.specs.Tables.{is_row}
-use Rattle.node_core.specs.Opening.{IsReadUpTo, row_of, is_snapshot, may_follow, AreRowsTo, AreAllRows, IsSnapshot, IsUncompacted}
+use Rattle.node_core.specs.Opening.{IsReadUpTo, row_of, is_snapshot, may_follow, AreRowsTo, AreAllRows, IsSnapshot}
 use Rattle.node_core.specs.Opening.{TakesNothing}
 use Rattle.node_core.proofs.Reading.{nothing_read, read_more, read_both, damaged_on}
 
@@ -89,16 +89,6 @@ module _ (bytes rest after : List ℕ) (rows : List Row) (entry : Entry) (h : Ar
           short = list_all-append is_row rows (row ∷ [])
               ∙ and_from (list_all is_row rows) (is_row row && true) h.short (and_from (is_row row) true short refl);
         }
-
-    -- the entry that stands there is no row
-    pub rows_end : row_of entry ≡ None → AreAllRows bytes rest rows
-    rows_end none = record {
-      read = h;
-      last = λ row left is.
-          let same = (framed_same entry (row_entry row) rest after left framed is).0 in
-          let a : row_of entry ≡ Some row = ap row_of same in
-          absurd (cc (a, none));
-    }
 
     -- it is a row that may not follow
     pub rows_break : (row : Row) → row_of entry ≡ Some row → may_follow rows row ≡ false → AreAllRows bytes rest rows
@@ -188,15 +178,6 @@ module _ (bytes after : List ℕ) (entry : Entry) (framed : IsFramed entry bytes
   snapshot_damaged e (inl is) =
       inl (is.0, damaged_on bytes after (entry ∷ []) (read_more bytes bytes after [] entry (nothing_read bytes) framed) is.1)
   snapshot_damaged e (inr is) = inr is
-
-  -- another entry stands in front
-  pub no_snapshot : is_snapshot entry ≡ false → IsUncompacted bytes
-  no_snapshot not all tail rows facts stored c =
-      let front =
-      framed_front bytes entries.Snapshot (map row_entry rows ++ c.later) tail (subst (λ es. IsStored bytes es tail) c.all_is stored) in
-      let same = (framed_same entry entries.Snapshot bytes after front.0 framed front.1).0 in
-      let a : is_snapshot entry ≡ true = ap is_snapshot same in
-      both_ways (is_snapshot entry) not a
 
 pub nothing_taken : (bytes : List ℕ) (e : Refusal) → ((e ≡ Damaged) × HasNoFrame bytes) ⊎ (e ≡ NoMemory) → TakesNothing bytes e
 nothing_taken bytes e (inl is) = inl (is.0, nothing_stored bytes is.1)

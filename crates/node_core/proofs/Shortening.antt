@@ -22,7 +22,7 @@ use Rattle.resource_manager.specs.Compacted.{IsShortened}
 use Rattle.node_core.specs.declared.role.Role.{Role}
 use Rattle.node_core.specs.Roles.{RoleStands}
 use Rattle.node_core.specs.Nodes.{begun, SameState, Keeps, Stands, NodeParts, NodeStands, IsSound}
-use Rattle.node_core.specs.Opening.{AreFrames, IsReplaced}
+use Rattle.node_core.specs.Opening.{AreFrames}
 use Rattle.node_core.specs.Compacting.{IsShorter, Shortens, IsRecompacted, Recompacts, BefallsCompact, IsCompactedUp, role_kept}
 use Rattle.node_core.specs.Compacting.{Compacts, CompactsAs}
 use Rattle.node_core.proofs.Starting.{of_facts}
@@ -142,21 +142,6 @@ shortens_so role inner r is h = subst (λ x. IfOk r (λ frames. Shortens x frame
 
 -- ---- the record is replaced
 
--- what comes of replacing it
-pub rewritten : (role : Role) (bytes : List ℕ) (old new : Held) (r : Result (Unit {0}) Refusal) → Shortens role bytes
-    → IsReplaced bytes old new r → Recompacts role old new r
-rewritten role bytes old new (Ok done) shortens put config who facts memory s played =
-    (bytes, shortens config who facts memory s played, put)
-rewritten role bytes old new (Err Refusal.RecordFault) shortens put config who facts memory s played =
-    (bytes, shortens config who facts memory s played, put)
-rewritten role bytes old new (Err Refusal.NoMemory) shortens put config who facts memory s played = put
-rewritten role bytes old new (Err other) shortens put config who facts memory s played = absurd put
-
-pub rewritten_text : (role : Role) (bytes text : List ℕ) (old new : Held) (r : Result (Unit {0}) Refusal) → Shortens role bytes
-    → text ≡ bytes → IsReplaced text old new r → Recompacts role old new r
-rewritten_text role bytes text old new r shortens is put =
-    rewritten role bytes old new r shortens (subst (λ (xs : List ℕ). IsReplaced xs old new r) is put)
-
 module _ (config : Config) (who : NodeId) (own : List Row) (m : NodeState) (old new : Held) (up : Role)
     (s : Stands config who own old (Some up) m) where
   -- a record of these bytes keeps the facts
@@ -242,13 +227,6 @@ compacts_up config who own m old new was role up r given is role_is given_is h s
     let t : Stands config who own old (Some up) m = subst (λ x. Stands config who own old x m) is s in
     subst (λ x. Compacts config who own m old new role x) (sym given_is)
     (recompacted config who own m old new up t role r (h config who m.facts m.memory t.role_is.2 t.played) role_is)
-
--- one that is down
-pub compacts_down : (config : Config) (who : NodeId) (own : List Row) (m : NodeState) (held : Held) (role : Option Role) → role ≡ None
-    → Stands config who own held role m → Compacts config who own m held held role (Err Refusal.Down)
-compacts_down config who own m held role is s =
-    let t : Stands config who own held None m = subst (λ x. Stands config who own held x m) is s in
-    inr (record { down = t.role_is; result_is = refl; same = refl; stands = s })
 
 -- ---- the whole node
 

@@ -1,10 +1,8 @@
 -- Inputs that want no memory and store nothing are handled without a fault: what was decided is carried out, and the node stays up.
-use Rattle.std.proofs.Common.{◌≡◌, ◌∙◌, ℕ, true, false, List, None, refl, sym, ap}
-use Rattle.std.proofs.lemmas.Bool.{false≢true}
+use Rattle.std.proofs.Common.{◌≡◌, ◌∙◌, ℕ, true, List, None, refl, sym, ap}
 use Rattle.wire.specs.Grammar.{Spells}
 use Rattle.wire.specs.declared.message.Kind.{Kind}
 use Rattle.stable_record.specs.declared.fact.FactKind.{FactKind as Fact}
-use Rattle.stable_record.specs.Held.{Held}
 use Rattle.protocol.specs.declared.decisions.Decision.{Decision}
 use Rattle.protocol.specs.declared.nodes.NodeId.{NodeId}
 use Rattle.protocol.specs.declared.nodes.NodeId.TheVariants.{A, L, R}
@@ -12,7 +10,7 @@ use Rattle.protocol.specs.declared.requests.Request.{Request}
 use Rattle.protocol.specs.Effects.{Config, Effect}
 use Rattle.protocol.specs.Nodes.{Memory, Received, effect_of, is_message_inside, on_message}
 use Rattle.node_core.specs.declared.role.Role.{Role}
-use Rattle.node_core.specs.Roles.{RoleStands, IsDecided, is_manager}
+use Rattle.node_core.specs.Roles.{RoleStands, IsDecided}
 use Rattle.node_core.specs.Nodes.{datagram_input}
 use Rattle.node_core.specs.Sparing.{asks_freely, hears_freely, is_free, serves_freely}
 use Rattle.node_core.proofs.Hearing.{heard_is, is_received}
@@ -39,22 +37,15 @@ pub hears_so : (config : Config) (who : NodeId) (role : Role) (facts : List Fact
 hears_so config who role facts memory bytes message spells s is =
     hears_by config who role facts memory message s (sym (ap (is_free who) (is_received bytes message spells)) ∙ is)
 
--- a resource manager may want it
-pub manager_asks : (role : Role) → is_manager role ≡ true → hears_freely role ≡ false
-manager_asks (Role.Manager p) is = refl
-manager_asks (Role.Acceptor p) is = absurd (false≢true is)
-manager_asks (Role.Leader p) is = absurd (false≢true is)
-
 -- where the effect stores nothing, nothing was decided that is to be stored
 pub decides_nothing : (config : Config) (who : NodeId) (facts : List Fact) (memory : Memory) (role : Role) (decision : Decision)
     (e : Effect Memory) → IsDecided config who facts memory role decision e → e.fact ≡ None → decision.fact ≡ None
 decides_nothing config who facts memory role decision e is none = ap (λ (d : Decision). d.fact) is.effect_is ∙ none
 
 -- a message of the cluster has the effect of its rule
-pub heard_fact : (config : Config) (who : NodeId) (facts : List Fact) (memory : Memory) (held : Held) (role : Role) (bytes : List ℕ)
-    (message : Kind)
+pub heard_fact : (config : Config) (who : NodeId) (facts : List Fact) (memory : Memory) (bytes : List ℕ) (message : Kind)
     → Spells message bytes → true ≡ is_message_inside config message
     → (effect_of config who facts memory (datagram_input bytes)).fact ≡ None
     → (on_message config who facts memory message).fact ≡ None
-heard_fact config who facts memory held role bytes message spells inside none =
-    sym (ap (λ (e : Effect Memory). e.fact) (heard_is config who facts memory held role bytes message true spells inside)) ∙ none
+heard_fact config who facts memory bytes message spells inside none =
+    sym (ap (λ (e : Effect Memory). e.fact) (heard_is config who facts memory bytes message true spells inside)) ∙ none

@@ -1,6 +1,6 @@
 -- What the bytes of a record say, with a snapshot in front or without one.
 use Rattle.std.proofs.Common.{◌≡◌, ◌∙◌, ℕ, suc, ◌+◌, ◌-◌, ◌≤◌, true, false, ◌&&◌, List, [], ◌∷◌, ◌++◌, length, drop, refl, sym, ap}
-use Rattle.std.proofs.Common.{subst, length-append, arith, inl, inr}
+use Rattle.std.proofs.Common.{subst, length-append, arith}
 use Rattle.std.specs.Prelude.{map, replicate, unwrap_or, Option, Some, None, Result, Ok, Err}
 use Rattle.std.specs.List.{list_all, flat_map}
 use Rattle.std.proofs.lemmas.List.{drop_at, drop-drop, get_or-replicate}
@@ -20,7 +20,7 @@ use Rattle.node_core.specs.declared.config.Sizes.{Sizes}
 use Rattle.node_core.specs.declared.role.Role.{Role}
 use Rattle.node_core.specs.Nodes.{Kept, MeansFrom, Holds, begun, AreSizes, HasRows}
 use Rattle.node_core.specs.Opening.{is_fact, Goes, HasPlayed, IsUnplayable, IsPlayedFrom, IsSnapshot, IsManager}
-use Rattle.node_core.specs.Opening.{IsPlain, IsBad, IsReadAs, Reads, TakesNothing}
+use Rattle.node_core.specs.Opening.{IsPlain, IsBad, IsReadAs, Reads}
 
 -- ---- the cluster in which a table begins with the rows of a record
 
@@ -192,12 +192,6 @@ module _ (config : Config) (who : NodeId) (own : List Row) (bytes : List ℕ) wh
       → Reads config who own bytes r
   plain_reads (Ok read) plain h = plain_read read.0 read.1 h
   plain_reads (Err e) plain h = plain_unread e plain h
-
-  -- where no entries stand
-  pub nothing_reads : (e : Refusal) → TakesNothing bytes e → Reads config who own bytes (Err e)
-  nothing_reads e (inl is) =
-      subst (λ x. Reads config who own bytes (Err x)) (sym is.0) (λ kept tail h. is.1 h.all tail h.stored)
-  nothing_reads e (inr is) = subst (λ x. Reads config who own bytes (Err x)) (sym is) tt
 
 -- with one, at whatever node
 module _ (config : Config) (own : List Row) (bytes rest : List ℕ) (rows : List Row) (s : IsSnapshot bytes rest rows) where

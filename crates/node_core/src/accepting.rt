@@ -1,15 +1,14 @@
 //! What an acceptor does on a datagram: its message is seen over the bytes, and so is the fact that is stored. No transaction is built.
 
-ghost use Rattle.std.specs.Prelude.{◌≡◌, ◌&&◌, ℕ, true, IfErr, OnOk, List, None};
+ghost use Rattle.std.specs.Prelude.{◌≡◌, ◌&&◌, true, IfErr, OnOk, List, None};
 ghost use Rattle.xid.specs.Transactions.{TxParts};
 ghost use Rattle.xid.specs.declared.refusals.Refusal.TheVariants.{NoMemory};
-ghost use Rattle.wire.specs.Grammar.{Spells};
 ghost use Rattle.wire.specs.Said.{said};
 ghost use Rattle.stable_record.specs.declared.fact.FactKind.{FactKind};
 ghost use Rattle.protocol.specs.Effects.{Config, Effect};
-ghost use Rattle.protocol.specs.Nodes.{Memory, effect_of, is_acceptor_inside, is_form_of, is_message_inside};
+ghost use Rattle.protocol.specs.Nodes.{Memory, is_acceptor_inside, is_form_of, is_message_inside, on_message};
 ghost use Rattle.node_core.specs.declared.role.Role.TheVariants as roles;
-ghost use Rattle.node_core.specs.Nodes.{AreSizes, datagram_input};
+ghost use Rattle.node_core.specs.Nodes.{AreSizes};
 ghost use Rattle.node_core.specs.Roles.{IsDecided, HasRoomFor, IsSame, RoleStands, Takes, decided};
 ghost use Rattle.node_core.specs.Storing.{Carries, carried};
 
@@ -17,9 +16,9 @@ use crate::config::Sizes;
 use crate::output::Output;
 use crate::storing::store_spelled;
 use acceptor::Acceptor;
-use protocol::{Answer, NodeId};
+use protocol::NodeId;
 use stable_record::{Record, SpelledFact};
-use wire::{MessageView, Rest, view_of};
+use wire::{MessageView, Rest};
 use xid::Refusal;
 
 /// Whether what a message says beside its transaction names none but nodes of the cluster, and has the form that goes there.
@@ -29,16 +28,14 @@ fn has_form(sizes: Sizes, rest: Rest<'_>) -> bool
 {
     match rest {
         Rest::P1a { .. } => !sizes.bundled,
-        Rest::P1b { acceptor, .. } => acceptor < sizes.acceptors && !sizes.bundled,
-        Rest::P2b { acceptor, .. } => acceptor < sizes.acceptors && !sizes.bundled,
+        Rest::P1b { acceptor, .. } | Rest::P2b { acceptor, .. } => {
+            acceptor < sizes.acceptors && !sizes.bundled
+        }
         Rest::B1a { .. } => sizes.bundled,
-        Rest::B1b { acceptor, .. } => acceptor < sizes.acceptors && sizes.bundled,
-        Rest::B2b { acceptor, .. } => acceptor < sizes.acceptors && sizes.bundled,
-        Rest::Prepare => true,
-        Rest::Commit => true,
-        Rest::Abort => true,
-        Rest::P2a { .. } => true,
-        Rest::Ask { .. } => true,
+        Rest::B1b { acceptor, .. } | Rest::B2b { acceptor, .. } => {
+            acceptor < sizes.acceptors && sizes.bundled
+        }
+        Rest::Prepare | Rest::Commit | Rest::Abort | Rest::P2a { .. } | Rest::Ask { .. } => true,
     }
 }
 
@@ -112,56 +109,24 @@ fn carry_out<R: Record>(
     }
 }
 
-/// What an acceptor that is up does on a message, whatever bytes spelled it. False where it goes down.
-fn accept<R: Record>(
+/// What an acceptor that is up does on a message of the cluster. False where it goes down.
+pub(crate) fn accept<R: Record>(
     frame: &mut Vec<u8>,
     device: &mut R,
     who: NodeId,
-    sizes: Sizes,
     acceptor: &mut Acceptor,
     message: &MessageView<'_>,
     out: &mut Output,
 ) -> bool
-    ensures carries { (config : Config) (facts : List FactKind) (memory : Memory) (bytes : List ℕ) → AreSizes config sizes
-        → Spells message.now bytes → RoleStands config who (roles.Acceptor acceptor.old) facts memory
-        → Carries config who facts memory (effect_of config who facts memory (datagram_input bytes))
+    ensures carries { (config : Config) (facts : List FactKind) (memory : Memory)
+        → RoleStands config who (roles.Acceptor acceptor.old) facts memory
+        → Carries config who facts memory (on_message config who facts memory message.now)
         (R.held device.old) (R.held device.new) (roles.Acceptor acceptor.new) (carried result out.new) }
-    ensures free { (config : Config) (facts : List FactKind) (memory : Memory) (bytes : List ℕ) → AreSizes config sizes
-        → Spells message.now bytes → RoleStands config who (roles.Acceptor acceptor.old) facts memory
-        → (effect_of config who facts memory (datagram_input bytes)).fact ≡ None → result ≡ true }
+    ensures free { (config : Config) (facts : List FactKind) (memory : Memory)
+        → RoleStands config who (roles.Acceptor acceptor.old) facts memory
+        → (on_message config who facts memory message.now).fact ≡ None → result ≡ true }
 {
-    if !is_of_cluster(sizes, message) {
-        out.answer(Answer::Done);
-        return true;
-    }
     let decision = acceptor.on_message(message);
     out.put_reply(&decision.reply);
     carry_out(frame, device, who, acceptor, &decision.fact, out)
-}
-
-/// What an acceptor that is up does on the bytes of a datagram. False where it goes down.
-pub(crate) fn accept_bytes<R: Record>(
-    frame: &mut Vec<u8>,
-    device: &mut R,
-    who: NodeId,
-    sizes: Sizes,
-    acceptor: &mut Acceptor,
-    bytes: &[u8],
-    out: &mut Output,
-) -> bool
-    ensures carries { (config : Config) (facts : List FactKind) (memory : Memory) → AreSizes config sizes
-        → RoleStands config who (roles.Acceptor acceptor.old) facts memory
-        → Carries config who facts memory (effect_of config who facts memory (datagram_input bytes.now))
-        (R.held device.old) (R.held device.new) (roles.Acceptor acceptor.new) (carried result out.new) }
-    ensures free { (config : Config) (facts : List FactKind) (memory : Memory) → AreSizes config sizes
-        → RoleStands config who (roles.Acceptor acceptor.old) facts memory
-        → (effect_of config who facts memory (datagram_input bytes.now)).fact ≡ None → result ≡ true }
-{
-    match &view_of(bytes) {
-        Ok(message) => accept(frame, device, who, sizes, acceptor, message, out),
-        Err(_) => {
-            out.refuse(Refusal::BadMessage);
-            true
-        }
-    }
 }

@@ -3,25 +3,98 @@
 ghost use Rattle.std.specs.Prelude.{◌≡◌, true, false, List, Option, Some, None};
 ghost use Rattle.stable_record.specs.declared.fact.FactKind.{FactKind};
 ghost use Rattle.protocol.specs.Effects.{Config};
-ghost use Rattle.protocol.specs.Nodes.{Memory, Asked, effect_of, down_answer as down_answer_of};
-ghost use Rattle.node_core.specs.Roles.{RoleStands};
+ghost use Rattle.protocol.specs.Nodes.{Memory, Asked, effect_of, on_message, down_answer as down_answer_of};
+ghost use Rattle.protocol.specs.declared.nodes.NodeId.{NodeId as Id};
+ghost use Rattle.stable_record.specs.Held.{Held};
+ghost use Rattle.node_core.specs.declared.role.Role.TheVariants as roles;
+ghost use Rattle.node_core.specs.Roles.{RoleStands, is_manager};
 ghost use Rattle.node_core.specs.Storing.{Carries, carried};
 ghost use Rattle.node_core.specs.declared.config.Sizes.{Sizes as SizesParts};
 ghost use Rattle.node_core.specs.Nodes.{AreSizes, datagram_input, input_of, role_settled};
-ghost use Rattle.node_core.specs.Sparing.{asks_freely, is_free};
+ghost use Rattle.node_core.specs.Sparing.{asks_freely, hears_freely, is_free};
 ghost use Rattle.node_core.specs.Handling.{Handles};
 
-use crate::accepting::accept_bytes;
+use crate::accepting::{accept, is_of_cluster};
 use crate::config::Sizes;
-use crate::leading::lead_bytes;
-use crate::managing::manage_bytes;
 use crate::output::{Input, Output};
 use crate::requests::accepts_request;
 use crate::role::Role;
 use crate::storing::{Workspace, carry_out};
+use leader::Leader;
 use protocol::{Answer, NodeId, Request};
 use stable_record::Record;
+use wire::{MessageView, view_of};
 use xid::{Refusal, XaCode};
+
+/// What a leader that is up does on a message of the cluster, with nothing to store. False where it goes down.
+fn lead(leader: &mut Leader, message: &MessageView<'_>, out: &mut Output) -> bool
+    ensures { (config : Config) (who : Id) (facts : List FactKind) (memory : Memory) (held : Held)
+        → RoleStands config who (roles.Leader leader.old) facts memory
+        → Carries config who facts memory (on_message config who facts memory message.now) held held (roles.Leader leader.new)
+        (carried result out.new) }
+{
+    match out.sends.lead(leader, message, &mut out.reply) {
+        Ok(()) => {
+            out.keep_view();
+            true
+        }
+        Err(refusal) => {
+            out.refuse(refusal);
+            false
+        }
+    }
+}
+
+/// What a resource manager that is up does on a message of the cluster. False where it goes down.
+fn manage<R: Record>(
+    work: &mut Workspace,
+    device: &mut R,
+    who: NodeId,
+    role: &mut Role,
+    message: &MessageView<'_>,
+    out: &mut Output,
+) -> bool
+    requires { is_manager role.old ≡ true }
+    ensures { (config : Config) (facts : List FactKind) (memory : Memory) → RoleStands config who role.old facts memory
+        → Carries config who facts memory (on_message config who facts memory message.now)
+        (R.held device.old) (R.held device.new) role.new (carried result out.new) }
+{
+    let Role::Manager(manager) = &*role else {
+        unreachable!();
+    };
+    match out
+        .sends
+        .manage(manager, message, &mut out.reply, &mut work.fact)
+    {
+        Ok(()) => carry_out(work, device, who, role, out),
+        Err(refusal) => {
+            out.refuse(refusal);
+            false
+        }
+    }
+}
+
+/// What a node that is up does on a message of the cluster. False where it goes down.
+fn play<R: Record>(
+    work: &mut Workspace,
+    device: &mut R,
+    who: NodeId,
+    role: &mut Role,
+    message: &MessageView<'_>,
+    out: &mut Output,
+) -> bool
+    ensures carries { (config : Config) (facts : List FactKind) (memory : Memory) → RoleStands config who role.old facts memory
+        → Carries config who facts memory (on_message config who facts memory message.now)
+        (R.held device.old) (R.held device.new) role.new (carried result out.new) }
+    ensures free { hears_freely role.old ≡ true → (config : Config) (facts : List FactKind) (memory : Memory)
+        → RoleStands config who role.old facts memory → (on_message config who facts memory message.now).fact ≡ None → result ≡ true }
+{
+    match role {
+        Role::Acceptor(acceptor) => { accept(&mut work.frame, device, who, acceptor, message, out) }
+        Role::Leader(leader) => lead(leader, message, out),
+        Role::Manager(_) => manage(work, device, who, role, message, out),
+    }
+}
 
 /// What a node that is up does on the bytes of a datagram. False where it goes down.
 fn hear<R: Record>(
@@ -41,12 +114,18 @@ fn hear<R: Record>(
         → AreSizes config sizes → RoleStands config who role.old facts memory
         → (effect_of config who facts memory (datagram_input bytes.now)).fact ≡ None → result ≡ true }
 {
-    match role {
-        Role::Acceptor(acceptor) => {
-            accept_bytes(&mut work.frame, device, who, sizes, acceptor, bytes, out)
+    match &view_of(bytes) {
+        Ok(message) => {
+            if !is_of_cluster(sizes, message) {
+                out.answer(Answer::Done);
+                return true;
+            }
+            play(work, device, who, role, message, out)
         }
-        Role::Leader(leader) => lead_bytes(sizes, leader, bytes, out),
-        Role::Manager(_) => manage_bytes(work, device, who, sizes, role, bytes, out),
+        Err(_) => {
+            out.refuse(Refusal::BadMessage);
+            true
+        }
     }
 }
 

@@ -6,62 +6,25 @@ ghost use Rattle.protocol.specs.declared.rows.Row.{Row};
 ghost use Rattle.protocol.specs.Effects.{Config};
 ghost use Rattle.protocol.specs.Nodes.{NodeState};
 ghost use Rattle.protocol.specs.declared.nodes.NodeId.{NodeId as Id};
-ghost use Rattle.node_core.specs.declared.role.Role.TheVariants as roles;
 ghost use Rattle.node_core.specs.Nodes.{Stands};
 ghost use Rattle.node_core.specs.Compacting.{Shortens, Recompacts, role_kept, Compacts};
 
 use crate::frames::{entry_frames, fact_frames};
 use crate::migrating::replace;
 use crate::role::Role;
-use acceptor::Acceptor;
-use leader::Leader;
-use resource_manager::ResourceManager;
 use stable_record::Record;
 use std::alloc::Global;
 use xid::Refusal;
 
-/// The frames of a shorter record that says the same as an acceptor. Refused, as of each of these: `NoMemory` alone.
-fn acceptor_frames(alloc: Global, acceptor: &Acceptor) -> Result<Vec<u8>, Refusal>
-    ensures ok { IfOk result (λ frames. Shortens (roles.Acceptor acceptor.now) frames.items) }
-    ensures err { IfErr result (λ e. e ≡ NoMemory) }
-{
-    match acceptor.shorter() {
-        Ok(facts) => fact_frames(alloc, &facts),
-        Err(refusal) => Err(refusal),
-    }
-}
-
-/// The frames of a shorter record that says the same as a leader.
-fn leader_frames(alloc: Global, leader: &Leader) -> Result<Vec<u8>, Refusal>
-    ensures ok { IfOk result (λ frames. Shortens (roles.Leader leader.now) frames.items) }
-    ensures err { IfErr result (λ e. e ≡ NoMemory) }
-{
-    match leader.shorter() {
-        Ok(facts) => fact_frames(alloc, &facts),
-        Err(refusal) => Err(refusal),
-    }
-}
-
-/// The frames of a shorter record that says the same as a resource manager.
-fn manager_frames(alloc: Global, manager: &ResourceManager) -> Result<Vec<u8>, Refusal>
-    ensures ok { IfOk result (λ frames. Shortens (roles.Manager manager.now) frames.items) }
-    ensures err { IfErr result (λ e. e ≡ NoMemory) }
-{
-    match manager.shorter(alloc) {
-        Ok(entries) => entry_frames(alloc, &entries),
-        Err(refusal) => Err(refusal),
-    }
-}
-
-/// The frames of a shorter record that says the same as a role.
+/// The frames of a shorter record that says the same as a role. Refused: `NoMemory` alone.
 fn shorter(alloc: Global, role: &Role) -> Result<Vec<u8>, Refusal>
     ensures ok { IfOk result (λ frames. Shortens role.now frames.items) }
     ensures err { IfErr result (λ e. e ≡ NoMemory) }
 {
     match role {
-        Role::Acceptor(acceptor) => acceptor_frames(alloc, acceptor),
-        Role::Leader(leader) => leader_frames(alloc, leader),
-        Role::Manager(manager) => manager_frames(alloc, manager),
+        Role::Acceptor(acceptor) => fact_frames(alloc, &acceptor.shorter()?),
+        Role::Leader(leader) => fact_frames(alloc, &leader.shorter()?),
+        Role::Manager(manager) => entry_frames(alloc, &manager.shorter(alloc)?),
     }
 }
 
@@ -70,10 +33,7 @@ fn shorter(alloc: Global, role: &Role) -> Result<Vec<u8>, Refusal>
 fn recompact<R: Record>(alloc: Global, device: &mut R, role: &Role) -> Result<(), Refusal>
     ensures { Recompacts role.now (R.held device.old) (R.held device.new) result }
 {
-    match shorter(alloc, role) {
-        Ok(frames) => replace(device, &frames),
-        Err(refusal) => Err(refusal),
-    }
+    replace(device, &shorter(alloc, role)?)
 }
 
 /// What was done, whatever it is; where it was refused, the node is down.

@@ -8,8 +8,6 @@ mod compacting;
 mod config;
 mod frames;
 mod grouping;
-mod leading;
-mod managing;
 mod migrating;
 mod node;
 mod opening;

@@ -46,10 +46,7 @@ fn is_current(bytes: &[u8]) -> bool
 pub(crate) fn replace<R: Record>(device: &mut R, bytes: &[u8]) -> Result<(), Refusal>
     ensures { IsReplaced bytes.now (R.held device.old) (R.held device.new) result }
 {
-    match device.replace(bytes) {
-        Ok(()) => Ok(()),
-        Err(error) => Err(Refusal::from(error)),
-    }
+    Ok(device.replace(bytes)?)
 }
 
 /// Where a frame of version 1 stands in a record, which holds these bytes and no tail, puts the frames of the same entries in version 2 in

@@ -58,10 +58,7 @@ fn new_role(alloc: Global, who: NodeId, sizes: Sizes, rows: Vec<Row>) -> Result<
             sizes.managers,
             sizes.bundled,
         ))),
-        NodeId::R(rm) => match ResourceManager::new(alloc, rm, sizes.managers, rows) {
-            Ok(manager) => Ok(Role::Manager(manager)),
-            Err(refusal) => Err(refusal),
-        },
+        NodeId::R(rm) => Ok(Role::Manager(ResourceManager::new(alloc, rm, sizes.managers, rows)?)),
     }
 }
 
@@ -82,14 +79,9 @@ fn play_from(
     ensures read { (config : Config) → AreSizes config sizes → HasRows config who rows.items
         → IsPlayedFrom config who compacted bytes.now result }
 {
-    let mut role = match new_role(alloc, who, sizes, rows) {
-        Ok(role) => role,
-        Err(refusal) => return Err(refusal),
-    };
-    match replay(alloc, &mut role, compacted, bytes) {
-        Ok(len) => Ok((role, len)),
-        Err(refusal) => Err(refusal),
-    }
+    let mut role = new_role(alloc, who, sizes, rows)?;
+    let len = replay(alloc, &mut role, compacted, bytes)?;
+    Ok((role, len))
 }
 
 /// The rows of the snapshot with which a resource manager's record begins, and what follows them; none where it begins with none, and at

@@ -99,10 +99,10 @@ impl Output {
             FactKind::VoteAborted(tx) => self.put_change(rm, tx, View::Aborted),
             FactKind::Committed(tx) => self.put_change(rm, tx, View::Committed),
             FactKind::Aborted(tx) => self.put_change(rm, tx, View::Aborted),
-            FactKind::Promise { .. } => self.keep_view(),
-            FactKind::PromiseAll { .. } => self.keep_view(),
-            FactKind::Accept { .. } => self.keep_view(),
-            FactKind::Ballot { .. } => self.keep_view(),
+            FactKind::Promise { .. }
+            | FactKind::PromiseAll { .. }
+            | FactKind::Accept { .. }
+            | FactKind::Ballot { .. } => self.keep_view(),
         }
     }
 

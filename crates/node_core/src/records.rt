@@ -20,10 +20,8 @@ fn play_past(alloc: Global, role: &mut Role, tx: Tx, outcome: Fact) -> Result<()
 {
     let keys = Sequence::new(Vec::new(alloc));
     let vote = Fact::new(FactKind::VotePrepared { tx, keys });
-    match role.replay(vote) {
-        Ok(()) => role.replay(outcome),
-        Err(refusal) => Err(refusal),
-    }
+    role.replay(vote)?;
+    role.replay(outcome)
 }
 
 /// Plays an entry of a record. Refused: it may not stand there, or doesn't play (`Damaged`), or `NoMemory`.

@@ -61,15 +61,7 @@ pub(crate) fn at_leader(
             time_out(leader, tx.get(), out, fact);
             Ok(())
         }
-        Request::Call { .. } => {
-            not_taken(out, fact);
-            Ok(())
-        }
-        Request::Recover => {
-            not_taken(out, fact);
-            Ok(())
-        }
-        Request::View { .. } => {
+        Request::Call { .. } | Request::Recover | Request::View { .. } => {
             not_taken(out, fact);
             Ok(())
         }
@@ -133,20 +125,14 @@ pub(crate) fn at_manager(
     ensures free { manages_freely request.now ≡ true → IsOk result }
 {
     match request {
-        Request::Call { xid, action } => match call(manager, xid, action) {
-            Ok(answer) => {
-                out.take_answer(answer, fact);
-                Ok(())
-            }
-            Err(refusal) => Err(refusal),
-        },
-        Request::Recover => match manager.recover() {
-            Ok(answer) => {
-                out.take_answer(answer, fact);
-                Ok(())
-            }
-            Err(refusal) => Err(refusal),
-        },
+        Request::Call { xid, action } => {
+            out.take_answer(call(manager, xid, action)?, fact);
+            Ok(())
+        }
+        Request::Recover => {
+            out.take_answer(manager.recover()?, fact);
+            Ok(())
+        }
         Request::View { tx } => {
             show(manager, tx.get(), out, fact);
             Ok(())
@@ -155,11 +141,7 @@ pub(crate) fn at_manager(
             remind(manager, tx.get(), out, fact);
             Ok(())
         }
-        Request::Commit { .. } => {
-            not_taken(out, fact);
-            Ok(())
-        }
-        Request::Status { .. } => {
+        Request::Commit { .. } | Request::Status { .. } => {
             not_taken(out, fact);
             Ok(())
         }

@@ -144,14 +144,10 @@ impl NodeSends {
         self.replied.clear();
         self.question.clear();
         forget_led(&mut self.led.sends);
-        match manager.decide(message, &mut self.decided) {
-            Ok(()) => {
-                *reply = mem::replace(&mut self.decided.answer, Answer::Done);
-                hand_over(&mut self.decided.fact, fact);
-                Ok(())
-            }
-            Err(refusal) => Err(refusal),
-        }
+        manager.decide(message, &mut self.decided)?;
+        *reply = mem::replace(&mut self.decided.answer, Answer::Done);
+        hand_over(&mut self.decided.fact, fact);
+        Ok(())
     }
 
     /// What a leader sends on a message, in place of what was sent before; beside it the answer is left. What it decided to store is
@@ -169,13 +165,9 @@ impl NodeSends {
         self.replied.clear();
         self.decided.sends.clear();
         self.question.clear();
-        match leader.decide(message, &mut self.led) {
-            Ok(()) => {
-                *reply = mem::replace(&mut self.led.answer, Answer::Done);
-                Ok(())
-            }
-            Err(refusal) => Err(refusal),
-        }
+        leader.decide(message, &mut self.led)?;
+        *reply = mem::replace(&mut self.led.answer, Answer::Done);
+        Ok(())
     }
 
     /// What a resource manager sends when nothing was heard for too long, in place of what was sent before.

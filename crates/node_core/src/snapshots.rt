@@ -19,10 +19,10 @@ fn into_row(entry: Entry) -> Option<Row>
 {
     match entry.into_kind() {
         EntryKind::Row { key, value } => Some(Row { key, value }),
-        EntryKind::Fact(_) => None,
-        EntryKind::Snapshot => None,
-        EntryKind::PastCommitted(_) => None,
-        EntryKind::PastAborted(_) => None,
+        EntryKind::Fact(_)
+        | EntryKind::Snapshot
+        | EntryKind::PastCommitted(_)
+        | EntryKind::PastAborted(_) => None,
     }
 }
 

@@ -64,10 +64,7 @@ fn table_of(role: &Role) -> Result<Sequence<Row>, Refusal>
         → SaysTable config who facts result }
 {
     match role {
-        Role::Manager(manager) => match manager.rows() {
-            Ok(rows) => Ok(Sequence::new(rows)),
-            Err(refusal) => Err(refusal),
-        },
+        Role::Manager(manager) => Ok(Sequence::new(manager.rows()?)),
         Role::Acceptor(_) => Err(Refusal::NoSuch),
         Role::Leader(_) => Err(Refusal::NoSuch),
     }
@@ -136,10 +133,7 @@ fn open_of(alloc: Global, role: &Role) -> Result<Sequence<Tx>, Refusal>
         → SaysOpen who facts result }
 {
     match role {
-        Role::Manager(manager) => match manager.open_transactions(alloc) {
-            Ok(txs) => Ok(Sequence::new(txs)),
-            Err(refusal) => Err(refusal),
-        },
+        Role::Manager(manager) => Ok(Sequence::new(manager.open_transactions(alloc)?)),
         Role::Acceptor(_) => Err(Refusal::NoSuch),
         Role::Leader(_) => Err(Refusal::NoSuch),
     }

@@ -1,8 +1,5 @@
-use Rattle.node_core.proofs.Shortening.{compacts_up, compacts_down}
+use Rattle.node_core.proofs.Shortening.{compacts_up}
 use Rattle.node_core.proofs.compacting.compact.Goals as goal
-
-pub returns-in-None : goal.returns-in-None
-returns-in-None g c = λ config who own m s. compacts_down config who own m _ c.args.role.now c.in-None.is s
 
 pub returns : goal.returns
 returns g c = λ config who own m s.
