@@ -17,7 +17,7 @@ use crate::stop::Stop;
 use crate::told::{ToldSent, read_told};
 use crate::trace_lines::{TraceLine, is_tidy, split_arrow};
 use crate::word::{Words, is_word};
-use crate::words::{is_over, last_node, manager, next_word};
+use crate::words::{is_over, last_node, manager_word, next_word};
 use protocol::{Boxed, Change, Row};
 use std::alloc::Global;
 use std::cmp::Ordering;
@@ -32,7 +32,8 @@ pub(crate) fn read_change(
 ) -> Result<Boxed<Change>, Stop>
     ensures { Finds true IsChange change_words (words args.now) result }
 {
-    let (rm, rest) = manager(args).ok_or(Stop::Wrong)?;
+    let (word, rest) = next_word(args).ok_or(Stop::Wrong)?;
+    let rm = manager_word(word).ok_or(Stop::Wrong)?;
     let (text, rest) = next_word(rest).ok_or(Stop::Wrong)?;
     let Ok(is_tx) = know(alloc, known, text) else {
         return Err(Stop::Memory);
