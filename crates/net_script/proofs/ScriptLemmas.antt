@@ -139,13 +139,16 @@ table_added s t is range takes =
 item_added : (o : Option Script) (i : Item) (s : Script) → ForSome o IsScript → IsItem i → script_with o i ≡ Some s
     → IsScript s × (script_items s ≡ items_so_far o ++ i ∷ [])
 item_added None (Cluster z) s is range e =
-    rw (← (same_Some (script z [] []) s e)) (record {
-      sizes = range;
-      tables = All-nil IsContents;
-      managers = All-nil (λ (u : Table). u.rm < z.rms);
-      once = λ i j d less within. absurd (omega arith);
-      commands = All-nil IsCommand;
-    }, refl)
+    rw (← (same_Some (script z [] []) s e)) (
+      record {
+        sizes = range;
+        tables = All-nil IsContents;
+        managers = All-nil (λ (u : Table). u.rm < z.rms);
+        once = λ i j d less within. absurd (omega arith);
+        commands = All-nil IsCommand;
+      },
+      refl,
+    )
 item_added None i s is range e = absurd (cc)
 item_added (Some r) (Cluster z) s is range e = absurd (cc)
 item_added (Some r) (Contents t) s is range e =
@@ -153,13 +156,16 @@ item_added (Some r) (Contents t) s is range e =
     rw (← got.1) (table_added r t (is r refl) range got.0)
 item_added (Some r) (Then c) s is range e =
     let before = is r refl in
-    rw (← (same_Some (record r { commands = r.commands ++ c ∷ [] }) s e)) (record {
-      sizes = before.sizes;
-      tables = before.tables;
-      managers = before.managers;
-      once = before.once;
-      commands = All-push IsCommand r.commands c before.commands range;
-    }, simp (map_push, append_assoc))
+    rw (← (same_Some (record r { commands = r.commands ++ c ∷ [] }) s e)) (
+      record {
+        sizes = before.sizes;
+        tables = before.tables;
+        managers = before.managers;
+        once = before.once;
+        commands = All-push IsCommand r.commands c before.commands range;
+      },
+      simp (map_push, append_assoc),
+    )
 
 -- what a line makes of the items before it is what its item does
 pub reads_item : (o : Option Script) (line : List ℕ) (item : Item) → ForSome o IsScript → IsItem item → Says line item

@@ -35,9 +35,7 @@ pub(crate) fn read_change(
     let (word, rest) = next_word(args).ok_or(Stop::Wrong)?;
     let rm = manager_word(word).ok_or(Stop::Wrong)?;
     let (text, rest) = next_word(rest).ok_or(Stop::Wrong)?;
-    let Ok(is_tx) = know(alloc, known, text) else {
-        return Err(Stop::Memory);
-    };
+    let is_tx = know(alloc, known, text).ok().ok_or(Stop::Memory)?;
     if !is_tx {
         return Err(Stop::Wrong);
     }
@@ -48,10 +46,8 @@ pub(crate) fn read_change(
         return Err(Stop::Wrong);
     }
     let tx = *last.tx();
-    let Ok(change) = Boxed::new(alloc, Change { rm, tx, view }) else {
-        return Err(Stop::Memory);
-    };
-    Ok(change)
+    let change = Boxed::new(alloc, Change { rm, tx, view });
+    change.ok().ok_or(Stop::Memory)
 }
 
 /// Whether keys ascend strictly by their bytes.
