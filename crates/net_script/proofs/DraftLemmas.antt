@@ -53,12 +53,6 @@ run_more t u said rest may is =
 
 -- ---- tables
 
-other_number : (m n : ℕ) → (m ≡ n → ⊥) → not (eqb m n) ≡ true
-other_number m n other = grind (arith, nat_tests)
-
-number_other : (m n : ℕ) → not (eqb m n) ≡ true → m ≡ n → ⊥
-number_other m n other same = grind (arith, nat_tests)
-
 abbrev pub is_other : ℕ → Table → Bool
 is_other n table = not (eqb table.rm n)
 
@@ -66,10 +60,10 @@ abbrev pub IsOther : ℕ → Table → Type 0
 IsOther n table = table.rm ≡ n → ⊥
 
 pub others_all : (n : ℕ) (tables : List Table) → All (IsOther n) tables → list_all (is_other n) tables ≡ true
-others_all n tables all = list_all-from_AllPass (is_other n) tables (λ k d lt. other_number _ n (all k d lt))
+others_all n tables all = list_all-from_AllPass (is_other n) tables (λ k d lt. let other = all k d lt in grind (arith, nat_tests))
 
 pub all_others : (n : ℕ) (tables : List Table) → list_all (is_other n) tables ≡ true → All (IsOther n) tables
-all_others n tables h = λ k d lt. number_other _ n (AllPass-from_list_all (is_other n) tables h k d lt)
+all_others n tables h k d lt same = let other = AllPass-from_list_all (is_other n) tables h k d lt in grind (arith, nat_tests)
 
 -- the same of the numbers of their resource managers
 managers_all : (n : ℕ) (tables : List Table)

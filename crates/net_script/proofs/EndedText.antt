@@ -17,7 +17,7 @@ use Rattle.net_script.specs.TraceLines.{lines_of}
 use Rattle.net_script.specs.TraceReading.{ended_lines}
 use Rattle.net_script.specs.Spelling.{IsClean}
 use Rattle.net_script.proofs.TidyText.{lacks_end}
-use Rattle.net_script.proofs.TraceLineLemmas.{line_clean}
+use Rattle.net_script.proofs.TraceLineLemmas.{line_clean, joined_lacks}
 
 -- ---- lines of a text
 
@@ -41,19 +41,9 @@ pub ended_last : (a : List ℕ) → 0 < length a → lacks 10 a ≡ true → end
 ended_last [] some h = absurd (omega arith)
 ended_last (x ∷ a) some h = ended_one x a h
 
-spaced_lacks : (ws : List (List ℕ)) → AllByRecursion IsClean ws → lacks 10 (spaced_words ws) ≡ true
-spaced_lacks [] are = refl
-spaced_lacks (w ∷ ws) are =
-    list_all_join (λ byte. not (eqb byte 10)) (32 ∷ w) (spaced_words ws) (lacks_end w are.0.bytes) (spaced_lacks ws are.1)
-
-joined_lacks : (ws : List (List ℕ)) → AllByRecursion IsClean ws → lacks 10 (joined_words ws) ≡ true
-joined_lacks [] are = refl
-joined_lacks (w ∷ ws) are =
-    list_all_join (λ byte. not (eqb byte 10)) w (spaced_words ws) (lacks_end w are.0.bytes) (spaced_lacks ws are.1)
-
 -- no line has an end within it
 line_lacks : (said : TraceLine) → IsTraceLine said → lacks 10 (trace_line_text said) ≡ true
-line_lacks said is = joined_lacks (trace_line_words said) (line_clean said is)
+line_lacks said is = joined_lacks 10 refl (λ w is. lacks_end w is.bytes) (trace_line_words said) (line_clean said is)
 
 -- a line that lacks its end is none of a trace
 pub unended : (said : TraceLine) (line : List ℕ) → lacks 10 line ≡ true → line ≡ whole_line said → ⊥

@@ -12,7 +12,7 @@ use Rattle.net_script.specs.declared.items.Item.TheVariants.{Cluster, Contents, 
 use Rattle.net_script.specs.Items.{IsContents, IsCommand, IsItem, command_words, item_words}
 use Rattle.net_script.specs.Spelling.{no_words, ◌&◌}
 use Rattle.net_script.specs.Laws.{literal, a_number, a_table, a_sizes}
-use Rattle.net_script.specs.Scripts.{script_items, Says, GoesOn, ReadsLine, IsScript, is_note, lines_kept, SpelledBy, CanBegin}
+use Rattle.net_script.specs.Scripts.{script_items, Says, ReadsLine, IsScript, is_note, lines_kept, SpelledBy, CanBegin}
 use Rattle.net_script.specs.Scripts.{IsScriptFault, items_so_far, IsLineOf, takes_table, script_with, Adds}
 use Rattle.std.specs.List.{AllPairs}
 use Rattle.std.specs.Option.{ForSome}
@@ -71,8 +71,8 @@ items_valid s is = search (All-cons, All-append, All-map)
 -- ---- the order of items
 
 -- a script of these parts
-abbrev script : Sizes → List Table → List Command → Script
-script sizes tables commands = record { sizes = sizes; tables = tables; commands = commands }
+abbrev script_of : Sizes → List Table → List Command → Script
+script_of sizes tables commands = record { sizes = sizes; tables = tables; commands = commands }
 
 -- items of a script
 abbrev on : Script → Item → Option Script
@@ -82,21 +82,21 @@ abbrev later_items : Script → List Item
 later_items s = map Contents s.tables ++ map Then s.commands
 
 run_tables : (s : Sizes) (done ts : List Table) → All (λ table. table.rm < s.rms) ts → AllPairs Apart (done ++ ts)
-    → run on (Some (script s done [])) (map Contents ts) ≡ Some (script s (done ++ ts) [])
+    → run on (Some (script_of s done [])) (map Contents ts) ≡ Some (script_of s (done ++ ts) [])
 run_tables s done [] below once = simp append-nil
 run_tables s done (x ∷ ts) below once =
-    let takes : takes_table (script s done []) x ≡ true =
+    let takes : takes_table (script_of s done []) x ≡ true =
     both_true (ltb x.rm s.rms) (list_all (is_free x.rm) done) (lt-ltb x.rm s.rms (All-head (λ table. table.rm < s.rms) x ts below))
     (others_all x.rm done (managers_before done ts x once)) in
     let rest = run_tables s (done ++ x ∷ []) ts (All-tail (λ table. table.rm < s.rms) x ts below) (rw append_assoc once) in
-    ap (λ (b : Bool). run on (cond b (Some (script s (done ++ x ∷ []) [])) None) (map Contents ts)) takes ∙ simp (rest, append_assoc)
+    ap (λ (b : Bool). run on (cond b (Some (script_of s (done ++ x ∷ []) [])) None) (map Contents ts)) takes ∙ simp (rest, append_assoc)
 
 run_commands : (s : Sizes) (ts : List Table) (done cs : List Command)
-    → run on (Some (script s ts done)) (map Then cs) ≡ Some (script s ts (done ++ cs))
+    → run on (Some (script_of s ts done)) (map Then cs) ≡ Some (script_of s ts (done ++ cs))
 run_commands s ts done [] = simp append-nil
 run_commands s ts done (c ∷ cs) = simp (run_commands s ts (done ++ c ∷ []) cs, append_assoc)
 
-run_items : (s : Script) → IsScript s → run on (Some (script s.sizes [] [])) (later_items s) ≡ Some s
+run_items : (s : Script) → IsScript s → run on (Some (script_of s.sizes [] [])) (later_items s) ≡ Some s
 run_items s is = simp (run_append, run_tables s.sizes [] s.tables is.managers is.once, run_commands s.sizes s.tables [] s.commands)
 
 pub scripts_same : (s t : Script) → IsScript s → IsScript t → script_items s ≡ script_items t → s ≡ t
@@ -113,8 +113,8 @@ nothing_follows None i later t is valid none e = absurd (cc)
 nothing_follows (Some s) i later t is valid none e =
     let sizes : t.sizes ≡ s.sizes = cc in
     let parts : later_items t ≡ later_items s ++ i ∷ later = ap (drop 1) e in
-    let front = run_append on (Some (script s.sizes [] [])) (later_items s) (i ∷ later) in
-    let gone : run on (Some (script t.sizes [] [])) (later_items t) ≡ None =
+    let front = run_append on (Some (script_of s.sizes [] [])) (later_items s) (i ∷ later) in
+    let gone : run on (Some (script_of t.sizes [] [])) (later_items t) ≡ None =
     rw (sizes, parts, front, run_items s (is s refl)) (ap (λ (r : Option Script). run on r later) none) in
     none-some t (sym gone ∙ run_items t valid)
 
@@ -139,7 +139,7 @@ table_added s t is range takes =
 item_added : (o : Option Script) (i : Item) (s : Script) → ForSome o IsScript → IsItem i → script_with o i ≡ Some s
     → IsScript s × (script_items s ≡ items_so_far o ++ i ∷ [])
 item_added None (Cluster z) s is range e =
-    rw (← (same_Some (script z [] []) s e)) (
+    rw (← (same_Some (script_of z [] []) s e)) (
       record {
         sizes = range;
         tables = All-nil IsContents;
@@ -170,7 +170,9 @@ item_added (Some r) (Then c) s is range e =
 -- what a line makes of the items before it is what its item does
 pub reads_item : (o : Option Script) (line : List ℕ) (item : Item) → ForSome o IsScript → IsItem item → Says line item
     → (r : Result Script Stop) → Adds o item r → ReadsLine (items_so_far o) line r
-reads_item o line item valid is says (Ok s) adds = (item, is, says, item_added o item s valid is adds)
+reads_item o line item valid is says (Ok s) adds =
+    let added = item_added o item s valid is adds in
+    (item, is, says, added.0, added.1)
 reads_item o line item valid is says (Err Wrong) adds = λ other q own later s whole e.
     nothing_follows o item later s valid whole adds
     (e ∙ ap (λ (i : Item). items_so_far o ++ i ∷ later) (item_injective other item q is (sym own.1 ∙ says.1)))
@@ -222,13 +224,13 @@ so_far_begins seen (Some s) said = inr ([], s, rw append-nil said)
 said_more : (seen more : List (List ℕ)) (line : List ℕ) (script : Option Script) (s : Script)
     → lines_kept more ≡ lines_kept seen ++ line ∷ [] → SoFar seen script → ReadsLine (items_so_far script) line (Ok s)
     → SpelledBy more s
-said_more seen more line script s kept said (item, is, own, on) =
+said_more seen more line script s kept said (item, is, own, valid, parts) =
     let before = so_far_say seen script said in
     record {
       plain = simp (kept, list_all-append, before.plain, own.0);
       says = ap (map words) kept ∙ map-append words (lines_kept seen) (line ∷ [])
-          ∙ (rw (before.says, own.1) (sym (ap (map item_words) on.1 ∙ map-append item_words (items_so_far script) (item ∷ []))));
-      valid = on.0;
+          ∙ (rw (before.says, own.1) (sym (ap (map item_words) parts ∙ map-append item_words (items_so_far script) (item ∷ []))));
+      valid = valid;
     }
 
 nil_not_push : {X : Type 0} (xs : List X) (x : X) → xs ++ x ∷ [] ≡ [] → ⊥

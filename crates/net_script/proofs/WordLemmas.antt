@@ -15,7 +15,6 @@ use Rattle.net_script.specs.Lines.{pieces, IsFirstPiece, Reads, IsSome, bytes_te
 pub use Rattle.net_script.specs.Laws.{differ, hex_some, hex_decodes, bytes_are_hex, bytes_injective, hex_long}
 use Rattle.memchr.specs.Find.{IsFirstByte, is_byte}
 use Rattle.std.proofs.lemmas.List.Quantifiers.{all_pairs_push}
-use Rattle.stable_record.specs.Facts.{IsKey}
 use Rattle.net_script.specs.Basics.{IsBytes, hex_text, Row, Table}
 use Rattle.net_script.specs.Laws.{hex_lacks_equals, a_row}
 use Rattle.net_script.specs.Items.{IsRow, IsContents, contents_words}
@@ -101,9 +100,6 @@ pub unmarked : (mark : ℕ) (text : List ℕ) → IsFirstByte (is_byte mark) tex
 unmarked mark text none =
     ap (lacks mark) (sym (take_all (length text) text (omega arith)))
     ∙ lacks_until mark text (length text) (omega arith) (λ k lt e. none k (omega arith) lt e)
-
-pub key_some : (xs : List ℕ) → IsKey xs → IsSome xs
-key_some xs is = (is.some, is.bytes)
 
 -- a row's text is cut at its first `=` in one way
 pub cut_row : (row : Row) (text front back : List ℕ) → IsRow row → text ≡ row_text row

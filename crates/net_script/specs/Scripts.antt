@@ -92,16 +92,12 @@ Adds before item (Ok s) = script_with before item ≡ Some s
 Adds before item (Err Wrong) = script_with before item ≡ None
 Adds before item (Err Memory) = Unit {0}
 
--- a script of these items and one more; where there is none, no script goes on so
-abbrev pub GoesOn : List Item → Item → Result Script Stop → Type 0
-GoesOn before item (Ok s) = IsScript s × (script_items s ≡ before ++ item ∷ [])
-GoesOn before item (Err Wrong) = (later : List Item) (s : Script) → IsScript s → script_items s ≢ before ++ item ∷ later
-GoesOn before item (Err Memory) = Unit {0}
-
 -- what one more line makes of the items before it; nothing, where it says no item that may follow them
 abbrev pub ReadsLine : List Item → List ℕ → Result Script Stop → Type 0
-ReadsLine before line (Ok s) = (item : Item) × IsItem item × Says line item × GoesOn before item (Ok s)
-ReadsLine before line (Err Wrong) = (item : Item) → IsItem item → Says line item → GoesOn before item (Err Wrong)
+ReadsLine before line (Ok s) =
+    (item : Item) × IsItem item × Says line item × IsScript s × (script_items s ≡ before ++ item ∷ [])
+ReadsLine before line (Err Wrong) =
+    (item : Item) → IsItem item → Says line item → (later : List Item) (s : Script) → IsScript s → script_items s ≢ before ++ item ∷ later
 ReadsLine before line (Err Memory) = Unit {0}
 
 -- why a script is refused
