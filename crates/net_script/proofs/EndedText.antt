@@ -1,21 +1,20 @@
 -- The text of a trace is that of its lines, one after another.
 use Rattle.std.proofs.Common.{suc, ◌≡◌, ℕ, ◌<◌, true, false, not, eqb, List, [], ◌∷◌, ◌++◌, length, map, Option, None, Some, refl, sym, ap}
 use Rattle.std.proofs.Common.{subst, ◌∙◌, arith}
-use Rattle.std.specs.List.{All, AllByRecursion, flat_map}
+use Rattle.std.specs.List.{All, flat_map}
 use Rattle.std.proofs.lemmas.Bool.{not-true}
 use Rattle.std.proofs.lemmas.List.{append-nil, append_assoc}
 use Rattle.std.proofs.lemmas.List.Concat.{flat_map-append}
 use Rattle.std.proofs.lemmas.List.Folds.{flat_map-map}
 use Rattle.std.proofs.lemmas.List.Elements.{All-head, All-tail}
 use Rattle.xid.specs.Text.{lacks}
-use Rattle.xid.proofs.Texts.{first_true, second_true, list_all_join, lacks_not}
+use Rattle.xid.proofs.Texts.{first_true, second_true, lacks_not}
 use Rattle.net_script.specs.Basics.{Change, Sent, Row, Table, Entry, Trace, TraceLine}
 use Rattle.net_script.specs.declared.trace_lines.TraceLine.TheVariants.{Cluster, Contents, Happened, Served, Changed, Datagram}
-use Rattle.net_script.specs.Traces.{joined_words, spaced_words, table_line, change_text, sent_line, entry_text, final_lines, trace_text}
+use Rattle.net_script.specs.Traces.{table_line, change_text, sent_line, entry_text, final_lines, trace_text}
 use Rattle.net_script.specs.TraceLines.{IsTraceLine, trace_line_words, trace_line_text, whole_line, changed_lines, entry_lines, rows_lines}
 use Rattle.net_script.specs.TraceLines.{lines_of}
 use Rattle.net_script.specs.TraceReading.{ended_lines}
-use Rattle.net_script.specs.Spelling.{IsClean}
 use Rattle.net_script.proofs.TidyText.{lacks_end}
 use Rattle.net_script.proofs.TraceLineLemmas.{line_clean, joined_lacks}
 

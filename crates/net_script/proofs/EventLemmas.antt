@@ -1,5 +1,5 @@
 -- Events and answers: what comes after each first word, and one value for one list of words. For their readers, and for lines of traces.
-use Rattle.std.proofs.Common.{◌≡◌, ℕ, Bool, true, false, ◌||◌, List, refl, ap, codes, ◌<◌, ◌^◌, ◌∷◌, sym, subst, ◌∙◌, arith, decimal}
+use Rattle.std.proofs.Common.{◌≡◌, ℕ, Bool, true, false, ◌||◌, List, refl, ap, codes, ◌<◌, ◌^◌, sym, subst, ◌∙◌, arith, decimal}
 use Rattle.std.specs.Str.{bytes_eq}
 use Rattle.net_script.specs.Basics.{A, L, R, Start, Put, Del, Get, End, EndFail, Rollback, Request, Call, Recover, Timeout, Event, Ask}
 use Rattle.net_script.specs.Basics.{Deliver, Lose, Cut, Noise, Tear, Restart, Compact, Do, Flow, code_number, number_of, XaCode, Refusal}

@@ -1,9 +1,9 @@
 -- Items of a script, their order, and the lines of a text as far as they were read: for `read_script` and `line_of`.
-use Rattle.std.proofs.Common.{◌≡◌, ℕ, ◌<◌, Bool, true, false, List, [], ◌∷◌, ◌++◌, length, get_or, drop, map, refl, sym, ap, subst, ◌∙◌}
+use Rattle.std.proofs.Common.{◌≡◌, ℕ, ◌<◌, Bool, true, false, List, [], ◌∷◌, ◌++◌, length, drop, map, refl, sym, ap, ◌∙◌}
 use Rattle.std.proofs.Common.{arith, codes, Result, Ok, Err, suc, ◌+◌, ◌≤◌, not, take, inl, inr, Option, Some, None}
 use Rattle.std.specs.List.{All, list_all}
 use Rattle.std.specs.Str.{bytes_eq}
-use Rattle.std.proofs.lemmas.List.{length-append, get_or_at, nil_from_length, append-nil, map_push, map-append, take_at, append_assoc}
+use Rattle.std.proofs.lemmas.List.{length-append, nil_from_length, append-nil, map_push, map-append, take_at, append_assoc}
 use Rattle.std.proofs.lemmas.List.{length_push}
 use Rattle.std.proofs.lemmas.List.Elements.{All-cons, All-append, All-map, All-push, filter-append, All-nil}
 use Rattle.std.proofs.lemmas.List.Quantifiers.{all_pairs_push}
