@@ -36,7 +36,8 @@ run step None items = None
 run step (Some s) [] = Some s
 run step (Some s) (i ∷ rest) = run step (step s i) rest
 
-pub run_append : {S I : Type 0} (step : S → I → Option S) (o : Option S) (xs ys : List I) → run step o (xs ++ ys) ≡ run step (run step o xs) ys
+pub run_append : {S I : Type 0} (step : S → I → Option S) (o : Option S) (xs ys : List I)
+    → run step o (xs ++ ys) ≡ run step (run step o xs) ys
 run_append step None xs ys = refl
 run_append step (Some s) [] ys = refl
 run_append step (Some s) (x ∷ xs) ys = run_append step (step s x) xs ys

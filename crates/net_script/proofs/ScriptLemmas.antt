@@ -119,7 +119,8 @@ nothing_follows (Some s) i later t is valid none e =
     none-some t (sym gone ∙ run_items t valid)
 
 table_added : (s : Script) (t : Table) → IsScript s → IsContents t → takes_table s t ≡ true
-    → IsScript (record s { tables = s.tables ++ t ∷ [] }) × (script_items (record s { tables = s.tables ++ t ∷ [] }) ≡ script_items s ++ Contents t ∷ [])
+    → IsScript (record s { tables = s.tables ++ t ∷ [] })
+    × (script_items (record s { tables = s.tables ++ t ∷ [] }) ≡ script_items s ++ Contents t ∷ [])
 table_added s t is range takes =
     let parts = and_parts _ _ takes in
     let front = and_parts (eqb (length s.commands) 0) (ltb t.rm s.sizes.rms) parts.0 in

@@ -491,7 +491,8 @@ an_accept_item = record { one = accept_item_injective; common = accept_item_comm
 -- a number's text isn't the word for none
 decimal_not_none : (n : ℕ) → n < 2 ^ 32 → codes "none" ≡ decimal n → ⊥
 decimal_not_none n lt e =
-    let digits : lacks 110 (decimal n) ≡ true = list_all-decimal (λ byte. not (eqb byte 110)) n (λ c low high. grind (arith, nat_tests)) lt in
+    let digits : lacks 110 (decimal n) ≡ true =
+    list_all-decimal (λ byte. not (eqb byte 110)) n (λ c low high. grind (arith, nat_tests)) lt in
     let none : lacks 110 (codes "none") ≡ true = subst (λ (t : List ℕ). lacks 110 t ≡ true) (sym e) digits in
     absurd (cc)
 

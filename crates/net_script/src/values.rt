@@ -2,7 +2,7 @@ use protocol::{Answer, Change, Event, NodeId, Row, Sent, Step};
 use xid::Sequence;
 
 /// The first rows of a resource manager.
-#[derive(Drop)]
+#[derive(Debug, Drop)]
 pub struct Table {
     /// The number of the resource manager.
     pub rm: u8,
