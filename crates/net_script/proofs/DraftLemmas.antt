@@ -1,4 +1,5 @@
--- A trace line by line: its lines give it back, and nothing else follows them. For `TraceReader`, and for traces made of lines.
+-- A trace line by line: its lines give it back, and nothing else follows them. For `TraceReader`, for traces made of lines, and its
+-- steps and tables for scripts too.
 use Rattle.std.proofs.Common.{zero, suc, ◌≡◌, ℕ, ◌+◌, ◌-◌, ◌<◌, ◌≤◌, Bool, true, false, not, cond, eqb, ltb, List, [], ◌∷◌, ◌++◌, length}
 use Rattle.std.proofs.Common.{get_or, set, drop, map, Option, None, Some, refl, sym, ap, subst, ◌∙◌, arith, eqb-true, eq-eqb}
 use Rattle.std.specs.List.{All, AllPairs, list_all, flat_map}
@@ -36,6 +37,7 @@ run step None items = None
 run step (Some s) [] = Some s
 run step (Some s) (i ∷ rest) = run step (step s i) rest
 
+-- those of two lists are made one list after the other
 pub run_append : {S I : Type 0} (step : S → I → Option S) (o : Option S) (xs ys : List I)
     → run step o (xs ++ ys) ≡ run step (run step o xs) ys
 run_append step None xs ys = refl
