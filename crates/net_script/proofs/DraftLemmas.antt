@@ -1,4 +1,5 @@
--- A trace line by line: its lines give it back, and nothing else follows them. For `TraceReader`, and for traces made of lines.
+-- A trace line by line: its lines give it back, and nothing else follows them. For `TraceReader`, for traces made of lines, and its
+-- steps and tables for scripts too.
 use Rattle.std.proofs.Common.{zero, suc, ◌≡◌, ℕ, ◌+◌, ◌-◌, ◌<◌, ◌≤◌, Bool, true, false, not, cond, eqb, ltb, List, [], ◌∷◌, ◌++◌, length}
 use Rattle.std.proofs.Common.{get_or, set, drop, map, Option, None, Some, refl, sym, ap, subst, ◌∙◌, arith, eqb-true, eq-eqb}
 use Rattle.std.specs.List.{All, AllPairs, list_all, flat_map}
@@ -30,29 +31,30 @@ trace sizes tables entries finals = record { sizes = sizes; tables = tables; ent
 
 -- ---- one line after another
 
-abbrev run : Option Trace → List TraceLine → Option Trace
-run None lines = None
-run (Some t) [] = Some t
-run (Some t) (said ∷ rest) = run (begun_with (Some t) said) rest
+-- steps one after another, until one can't be made
+abbrev pub run : {S I : Type 0} → (S → I → Option S) → Option S → List I → Option S
+run step None items = None
+run step (Some s) [] = Some s
+run step (Some s) (i ∷ rest) = run step (step s i) rest
 
-run_append : (o : Option Trace) (xs ys : List TraceLine) → run o (xs ++ ys) ≡ run (run o xs) ys
-run_append None xs ys = refl
-run_append (Some t) [] ys = refl
-run_append (Some t) (x ∷ xs) ys = run_append (begun_with (Some t) x) xs ys
+-- those of two lists are made one list after the other
+pub run_append : {S I : Type 0} (step : S → I → Option S) (o : Option S) (xs ys : List I)
+    → run step o (xs ++ ys) ≡ run step (run step o xs) ys
+run_append step None xs ys = refl
+run_append step (Some s) [] ys = refl
+run_append step (Some s) (x ∷ xs) ys = run_append step (step s x) xs ys
+
+-- lines of a trace
+abbrev on : Trace → TraceLine → Option Trace
+on t said = begun_with (Some t) said
 
 -- a line that may follow
 run_more : (t u : Trace) (said : TraceLine) (rest : List TraceLine) → may_follow (so_far_of t) said ≡ true → grown t said ≡ u
-    → run (Some t) (said ∷ rest) ≡ run (Some u) rest
+    → run on (Some t) (said ∷ rest) ≡ run on (Some u) rest
 run_more t u said rest may is =
-    ap (λ (b : Bool). run (cond b (Some (grown t said)) None) rest) may ∙ ap (λ (v : Trace). run (Some v) rest) is
+    ap (λ (b : Bool). run on (cond b (Some (grown t said)) None) rest) may ∙ ap (λ (v : Trace). run on (Some v) rest) is
 
 -- ---- tables
-
-other_number : (m n : ℕ) → (m ≡ n → ⊥) → not (eqb m n) ≡ true
-other_number m n other = grind (arith, nat_tests)
-
-number_other : (m n : ℕ) → not (eqb m n) ≡ true → m ≡ n → ⊥
-number_other m n other same = grind (arith, nat_tests)
 
 abbrev pub is_other : ℕ → Table → Bool
 is_other n table = not (eqb table.rm n)
@@ -61,10 +63,10 @@ abbrev pub IsOther : ℕ → Table → Type 0
 IsOther n table = table.rm ≡ n → ⊥
 
 pub others_all : (n : ℕ) (tables : List Table) → All (IsOther n) tables → list_all (is_other n) tables ≡ true
-others_all n tables all = list_all-from_AllPass (is_other n) tables (λ k d lt. other_number _ n (all k d lt))
+others_all n tables all = list_all-from_AllPass (is_other n) tables (λ k d lt. let other = all k d lt in grind (arith, nat_tests))
 
 pub all_others : (n : ℕ) (tables : List Table) → list_all (is_other n) tables ≡ true → All (IsOther n) tables
-all_others n tables h = λ k d lt. number_other _ n (AllPass-from_list_all (is_other n) tables h k d lt)
+all_others n tables h k d lt same = let other = AllPass-from_list_all (is_other n) tables h k d lt in grind (arith, nat_tests)
 
 -- the same of the numbers of their resource managers
 managers_all : (n : ℕ) (tables : List Table)
@@ -81,7 +83,7 @@ managers_before xs zs t pairs k d lt e =
     pairs k (length xs) d lt (omega (arith, length-append xs (t ∷ zs))) (rw (at, here) e)
 
 run_tables : (s : Sizes) (done ts : List Table) → All (λ table. table.rm < s.rms) ts → AllPairs Apart (done ++ ts)
-    → run (Some (trace s done [] [])) (map Contents ts) ≡ Some (trace s (done ++ ts) [] [])
+    → run on (Some (trace s done [] [])) (map Contents ts) ≡ Some (trace s (done ++ ts) [] [])
 run_tables s done [] below once = simp append-nil
 run_tables s done (x ∷ ts) below once =
     let takes : takes_table (so_far_of (trace s done [] [])) x.rm ≡ true =
@@ -119,7 +121,7 @@ record IsMaker (make : Option Change → List Sent → Entry) : Type 0 where
 
 run_changed : (s : Sizes) (ts : List Table) (done : List Entry) (make : Option Change → List Sent → Entry) → IsMaker make
     → (now : Option Change)
-    → run (Some (trace s ts (done ++ make None [] ∷ []) [])) (changed_lines now) ≡ Some (trace s ts (done ++ make now [] ∷ []) [])
+    → run on (Some (trace s ts (done ++ make None [] ∷ []) [])) (changed_lines now) ≡ Some (trace s ts (done ++ make now [] ∷ []) [])
 run_changed s ts done make is None = refl
 run_changed s ts done make is (Some c) =
     run_more (trace s ts (done ++ make None [] ∷ []) []) (trace s ts (done ++ make (Some c) [] ∷ []) []) (Changed c) []
@@ -127,7 +129,7 @@ run_changed s ts done make is (Some c) =
 
 run_sent : (s : Sizes) (ts : List Table) (done : List Entry) (make : Option Change → List Sent → Entry) → IsMaker make
     → (now : Option Change) (told more : List Sent)
-    → run (Some (trace s ts (done ++ make now told ∷ []) [])) (map Datagram more)
+    → run on (Some (trace s ts (done ++ make now told ∷ []) [])) (map Datagram more)
     ≡ Some (trace s ts (done ++ make now (told ++ more) ∷ []) [])
 run_sent s ts done make is now told [] = simp append-nil
 run_sent s ts done make is now told (d ∷ more) =
@@ -137,7 +139,7 @@ run_sent s ts done make is now told (d ∷ more) =
 
 run_outcome : (s : Sizes) (ts : List Table) (done : List Entry) (make : Option Change → List Sent → Entry) → IsMaker make
     → (now : Option Change) (sent : List Sent)
-    → run (Some (trace s ts (done ++ make None [] ∷ []) [])) (changed_lines now ++ map Datagram sent)
+    → run on (Some (trace s ts (done ++ make None [] ∷ []) [])) (changed_lines now ++ map Datagram sent)
     ≡ Some (trace s ts (done ++ make now sent ∷ []) [])
 run_outcome s ts done make is now sent = simp (run_append, run_changed s ts done make is now, run_sent s ts done make is now [] sent)
 
@@ -145,7 +147,7 @@ abbrev make_step : Event → Answer → Option Change → List Sent → Entry
 make_step event answer now sent = Entry.Step (record { event = event; answer = answer; now = now; sent = sent })
 
 run_entry : (s : Sizes) (ts : List Table) (done : List Entry) (e : Entry)
-    → run (Some (trace s ts done [])) (entry_lines e) ≡ Some (trace s ts (done ++ e ∷ []) [])
+    → run on (Some (trace s ts done [])) (entry_lines e) ≡ Some (trace s ts (done ++ e ∷ []) [])
 run_entry s ts done (Entry.Step step) =
     run_outcome s ts done (make_step step.event step.answer)
     (record { bare = refl; changes = λ c. refl; sends = λ now sent d. refl }) step.now step.sent
@@ -154,14 +156,14 @@ run_entry s ts done (Entry.Serve node answer now sent) =
     sent
 
 run_entries : (s : Sizes) (ts : List Table) (done es : List Entry)
-    → run (Some (trace s ts done [])) (flat_map entry_lines es) ≡ Some (trace s ts (done ++ es) [])
+    → run on (Some (trace s ts done [])) (flat_map entry_lines es) ≡ Some (trace s ts (done ++ es) [])
 run_entries s ts done [] = simp append-nil
 run_entries s ts done (e ∷ es) = simp (run_append, run_entry s ts done e, run_entries s ts (done ++ e ∷ []) es, append_assoc)
 
 -- ---- last rows
 
 run_finals : (s : Sizes) (ts : List Table) (es : List Entry) (done fs : List (List Row)) → length done + length fs ≤ s.rms
-    → run (Some (trace s ts es done)) (rows_lines (length done) fs) ≡ Some (trace s ts es (done ++ fs))
+    → run on (Some (trace s ts es done)) (rows_lines (length done) fs) ≡ Some (trace s ts es (done ++ fs))
 run_finals s ts es done [] few = simp append-nil
 run_finals s ts es done (f ∷ fs) few =
     let takes : may_follow (so_far_of (trace s ts es done)) (Final (length done) f) ≡ true =
@@ -174,7 +176,7 @@ run_finals s ts es done (f ∷ fs) few =
 
 -- ---- whole traces
 
-run_lines : (u : Trace) → IsBegun u → run (Some (opened u.sizes)) (later_lines u) ≡ Some u
+run_lines : (u : Trace) → IsBegun u → run on (Some (opened u.sizes)) (later_lines u) ≡ Some u
 run_lines u is =
     let tables = run_tables u.sizes [] u.tables is.managers is.once in
     let finals = run_finals u.sizes u.tables u.entries [] u.finals (let few = is.few in omega arith) in
@@ -191,9 +193,9 @@ nothing_follows : (t u : Trace) (said : TraceLine) (more : List TraceLine) → I
 nothing_follows t u said more p q none e =
     let sizes : u.sizes ≡ t.sizes = cc in
     let later : later_lines u ≡ later_lines t ++ said ∷ more = ap (drop 1) e in
-    let front = run_append (Some (opened t.sizes)) (later_lines t) (said ∷ more) in
-    let gone : run (Some (opened u.sizes)) (later_lines u) ≡ None =
-    rw (sizes, later, front, run_lines t p) (ap (λ (o : Option Trace). run o more) none) in
+    let front = run_append on (Some (opened t.sizes)) (later_lines t) (said ∷ more) in
+    let gone : run on (Some (opened u.sizes)) (later_lines u) ≡ None =
+    rw (sizes, later, front, run_lines t p) (ap (λ (o : Option Trace). run on o more) none) in
     none-some u (sym gone ∙ run_lines u q)
 
 -- ---- one line more

@@ -1,23 +1,22 @@
 -- The text of a trace is that of its lines, one after another.
 use Rattle.std.proofs.Common.{suc, ◌≡◌, ℕ, ◌<◌, true, false, not, eqb, List, [], ◌∷◌, ◌++◌, length, map, Option, None, Some, refl, sym, ap}
 use Rattle.std.proofs.Common.{subst, ◌∙◌, arith}
-use Rattle.std.specs.List.{All, AllByRecursion, flat_map}
+use Rattle.std.specs.List.{All, flat_map}
 use Rattle.std.proofs.lemmas.Bool.{not-true}
 use Rattle.std.proofs.lemmas.List.{append-nil, append_assoc}
 use Rattle.std.proofs.lemmas.List.Concat.{flat_map-append}
 use Rattle.std.proofs.lemmas.List.Folds.{flat_map-map}
 use Rattle.std.proofs.lemmas.List.Elements.{All-head, All-tail}
 use Rattle.xid.specs.Text.{lacks}
-use Rattle.xid.proofs.Texts.{first_true, second_true, list_all_join, lacks_not}
+use Rattle.xid.proofs.Texts.{first_true, second_true, lacks_not}
 use Rattle.net_script.specs.Basics.{Change, Sent, Row, Table, Entry, Trace, TraceLine}
 use Rattle.net_script.specs.declared.trace_lines.TraceLine.TheVariants.{Cluster, Contents, Happened, Served, Changed, Datagram}
-use Rattle.net_script.specs.Traces.{joined_words, spaced_words, table_line, change_text, sent_line, entry_text, final_lines, trace_text}
+use Rattle.net_script.specs.Traces.{table_line, change_text, sent_line, entry_text, final_lines, trace_text}
 use Rattle.net_script.specs.TraceLines.{IsTraceLine, trace_line_words, trace_line_text, whole_line, changed_lines, entry_lines, rows_lines}
 use Rattle.net_script.specs.TraceLines.{lines_of}
 use Rattle.net_script.specs.TraceReading.{ended_lines}
-use Rattle.net_script.specs.Spelling.{IsClean}
 use Rattle.net_script.proofs.TidyText.{lacks_end}
-use Rattle.net_script.proofs.TraceLineLemmas.{line_clean}
+use Rattle.net_script.proofs.TraceLineLemmas.{line_clean, joined_lacks}
 
 -- ---- lines of a text
 
@@ -41,19 +40,9 @@ pub ended_last : (a : List ℕ) → 0 < length a → lacks 10 a ≡ true → end
 ended_last [] some h = absurd (omega arith)
 ended_last (x ∷ a) some h = ended_one x a h
 
-spaced_lacks : (ws : List (List ℕ)) → AllByRecursion IsClean ws → lacks 10 (spaced_words ws) ≡ true
-spaced_lacks [] are = refl
-spaced_lacks (w ∷ ws) are =
-    list_all_join (λ byte. not (eqb byte 10)) (32 ∷ w) (spaced_words ws) (lacks_end w are.0.bytes) (spaced_lacks ws are.1)
-
-joined_lacks : (ws : List (List ℕ)) → AllByRecursion IsClean ws → lacks 10 (joined_words ws) ≡ true
-joined_lacks [] are = refl
-joined_lacks (w ∷ ws) are =
-    list_all_join (λ byte. not (eqb byte 10)) w (spaced_words ws) (lacks_end w are.0.bytes) (spaced_lacks ws are.1)
-
 -- no line has an end within it
 line_lacks : (said : TraceLine) → IsTraceLine said → lacks 10 (trace_line_text said) ≡ true
-line_lacks said is = joined_lacks (trace_line_words said) (line_clean said is)
+line_lacks said is = joined_lacks 10 refl (λ w is. lacks_end w is.bytes) (trace_line_words said) (line_clean said is)
 
 -- a line that lacks its end is none of a trace
 pub unended : (said : TraceLine) (line : List ℕ) → lacks 10 line ≡ true → line ≡ whole_line said → ⊥

@@ -1,5 +1,5 @@
 -- Events and answers: what comes after each first word, and one value for one list of words. For their readers, and for lines of traces.
-use Rattle.std.proofs.Common.{◌≡◌, ℕ, Bool, true, false, ◌||◌, List, refl, ap, codes, ◌<◌, ◌^◌, ◌∷◌, sym, subst, ◌∙◌, arith, decimal}
+use Rattle.std.proofs.Common.{◌≡◌, ℕ, Bool, true, false, ◌||◌, List, refl, ap, codes, ◌<◌, ◌^◌, sym, subst, ◌∙◌, arith, decimal}
 use Rattle.std.specs.Str.{bytes_eq}
 use Rattle.net_script.specs.Basics.{A, L, R, Start, Put, Del, Get, End, EndFail, Rollback, Request, Call, Recover, Timeout, Event, Ask}
 use Rattle.net_script.specs.Basics.{Deliver, Lose, Cut, Noise, Tear, Restart, Compact, Do, Flow, code_number, number_of, XaCode, Refusal}
@@ -213,44 +213,6 @@ standing_injective Standing.Committed Standing.Committed e = refl
 standing_injective Standing.Aborted Standing.Aborted e = refl
 standing_injective s t e = absurd (differ _ _ e refl)
 
--- the first words that no code has, and those that say no standing
-abbrev is_code : List ℕ → Bool
-is_code word =
-    bytes_eq word (codes "0") || bytes_eq word (codes "100") || bytes_eq word (codes "-4") || bytes_eq word (codes "-5")
-    || bytes_eq word (codes "-6") || bytes_eq word (codes "-7") || bytes_eq word (codes "-8")
-
-code_is : (c : XaCode) → is_code (code_text c) ≡ true
-code_is XaCode.Ok = refl
-code_is c = refl
-
-code_apart : (c : XaCode) (word : List ℕ) → is_code word ≡ false → code_text c ≡ word → ⊥
-code_apart c word none e =
-    let is = code_is c in
-    let same : is_code (code_text c) ≡ is_code word = ap is_code e in
-    absurd (cc)
-
-abbrev is_standing : List ℕ → Bool
-is_standing word =
-    bytes_eq word (codes "unknown") || bytes_eq word (codes "undecided") || bytes_eq word (codes "working")
-    || bytes_eq word (codes "prepared") || bytes_eq word (codes "committed") || bytes_eq word (codes "aborted")
-
-standing_is : (s : Standing) → (is_standing (standing_text s) ≡ true) × (is_code (standing_text s) ≡ false)
-standing_is Standing.Unknown = (refl, refl)
-standing_is s = (refl, refl)
-
-standing_apart : (s : Standing) (word : List ℕ) → is_standing word ≡ false → standing_text s ≡ word → ⊥
-standing_apart s word none e =
-    let is = (standing_is s).0 in
-    let same : is_standing (standing_text s) ≡ is_standing word = ap is_standing e in
-    absurd (cc)
-
--- a first word that no code has, and one that says no standing
-not_code : (c : XaCode) (word : List ℕ) (v w : List (List ℕ)) → is_code word ≡ false → word ∷ v ≡ signed_decimal (code_number c) ∷ w → ⊥
-not_code c word v w none e = code_apart c word none (sym (code_digits c) ∙ sym (ap first_word e))
-
-not_standing : (s : Standing) (word : List ℕ) (v w : List (List ℕ)) → is_standing word ≡ false → word ∷ v ≡ standing_text s ∷ w → ⊥
-not_standing s word v w none e = standing_apart s word none (sym (ap first_word e))
-
 -- the number of a refusal that is told
 pub a_refusal : IsSpelling IsTold (λ r. decimal (number_of r))
 a_refusal = record {
@@ -264,46 +226,60 @@ a_refusal = record {
 -- ---- what comes after each first word
 
 pub ok_arm : Arm no_words IsAnswer answer_words (codes "ok") (λ _. Done)
+unfolding digits
 ok_arm Done p args e = made_of tt tt (cc) refl
-ok_arm (Code c) p args e = absurd (not_code c _ _ _ refl e)
-ok_arm (Stands s) p args e = absurd (not_standing s _ _ _ refl e)
+ok_arm (Code XaCode.Ok) p args e = absurd (apart _ _ e refl)
+ok_arm (Stands Standing.Unknown) p args e = absurd (apart _ _ e refl)
 ok_arm line p args e = absurd (apart _ _ e refl)
 
 pub value_arm : Arm (some_bytes & no_words) IsAnswer answer_words (codes "value") (λ said. Value said.0)
+unfolding digits
 value_arm (Value xs) p args e = made_of (xs, tt) (p, tt) (cc) refl
-value_arm (Code c) p args e = absurd (not_code c _ _ _ refl e)
-value_arm (Stands s) p args e = absurd (not_standing s _ _ _ refl e)
+value_arm (Code XaCode.Ok) p args e = absurd (apart _ _ e refl)
+value_arm (Stands Standing.Unknown) p args e = absurd (apart _ _ e refl)
 value_arm line p args e = absurd (apart _ _ e refl)
 
 pub none_arm : Arm no_words IsAnswer answer_words (codes "none") (λ _. NoValue)
+unfolding digits
 none_arm NoValue p args e = made_of tt tt (cc) refl
-none_arm (Code c) p args e = absurd (not_code c _ _ _ refl e)
-none_arm (Stands s) p args e = absurd (not_standing s _ _ _ refl e)
+none_arm (Code XaCode.Ok) p args e = absurd (apart _ _ e refl)
+none_arm (Stands Standing.Unknown) p args e = absurd (apart _ _ e refl)
 none_arm line p args e = absurd (apart _ _ e refl)
 
 pub xids_arm : Arm (list_of_words an_xid) IsAnswer answer_words (codes "xids") (λ said. Xids said)
+unfolding digits
 xids_arm (Xids xs) p args e = made_of xs p (cc) refl
-xids_arm (Code c) p args e = absurd (not_code c _ _ _ refl e)
-xids_arm (Stands s) p args e = absurd (not_standing s _ _ _ refl e)
+xids_arm (Code XaCode.Ok) p args e = absurd (apart _ _ e refl)
+xids_arm (Stands Standing.Unknown) p args e = absurd (apart _ _ e refl)
 xids_arm line p args e = absurd (apart _ _ e refl)
 
 pub refused_arm : Arm (a_refusal & no_words) IsAnswer answer_words (codes "refused") (λ said. Refused said.0)
+unfolding digits
 refused_arm (Refused r) p args e = made_of (r, tt) (p, tt) (cc) refl
-refused_arm (Code c) p args e = absurd (not_code c _ _ _ refl e)
-refused_arm (Stands s) p args e = absurd (not_standing s _ _ _ refl e)
+refused_arm (Code XaCode.Ok) p args e = absurd (apart _ _ e refl)
+refused_arm (Stands Standing.Unknown) p args e = absurd (apart _ _ e refl)
 refused_arm line p args e = absurd (apart _ _ e refl)
 
+code_no_standing : (c : XaCode) (s : Standing) → bytes_eq (signed_decimal (code_number c)) (standing_text s) ≡ false
+unfolding digits
+code_no_standing XaCode.Ok Standing.Unknown = refl
+code_no_standing c Standing.Unknown = refl
+code_no_standing c s = refl
+
 pub code_arm : (c : XaCode) → Arm no_words IsAnswer answer_words (signed_decimal (code_number c)) (λ _. Code c)
+unfolding digits
 code_arm c (Code d) p args e =
     made_of tt tt (cc) (ap Code (code_text_injective c d (sym (code_digits c) ∙ ap first_word e ∙ code_digits d)))
-code_arm c (Stands s) p args e = absurd (not_code c _ _ _ (standing_is s).1 (sym e))
-code_arm c line p args e = absurd (not_code c _ _ _ refl (sym e))
+code_arm c (Stands s) p args e = absurd (apart _ _ e (code_no_standing c s))
+code_arm XaCode.Ok line p args e = absurd (apart _ _ e refl)
+code_arm c line p args e = absurd (apart _ _ e refl)
 
 pub standing_arm : (s : Standing) → Arm no_words IsAnswer answer_words (standing_text s) (λ _. Stands s)
-standing_arm s (Stands t) p args e =
-    made_of tt tt (cc) (ap Stands (standing_injective s t (ap first_word e)))
-standing_arm s (Code c) p args e = absurd (not_code c _ _ _ (standing_is s).1 e)
-standing_arm s line p args e = absurd (not_standing s _ _ _ refl (sym e))
+unfolding digits
+standing_arm s (Stands t) p args e = made_of tt tt (cc) (ap Stands (standing_injective s t (ap first_word e)))
+standing_arm s (Code c) p args e = absurd (apart _ _ (sym e) (code_no_standing c s))
+standing_arm Standing.Unknown line p args e = absurd (apart _ _ e refl)
+standing_arm s line p args e = absurd (apart _ _ e refl)
 
 code_text_common : (c : XaCode) → IsCommon (code_text c)
 code_text_common XaCode.Ok = literal refl refl

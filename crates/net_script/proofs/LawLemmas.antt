@@ -1,44 +1,20 @@
 -- One reading of a text, and one first fault.
-use Rattle.std.proofs.Common.{◌≡◌, ℕ, ◌+◌, ◌<◌, ◌≤◌, not, List, [], ◌∷◌, ◌++◌, length, take, drop, map, append_assoc, refl, sym, ap, subst}
-use Rattle.std.proofs.Common.{◌∙◌, arith, rules, ◌⊎◌, inl, inr}
+use Rattle.std.proofs.Common.{◌≡◌, ℕ, ◌+◌, ◌<◌, ◌≤◌, not, List, [], ◌++◌, length, take, drop, map, append_assoc, sym, ap, subst}
+use Rattle.std.proofs.Common.{◌∙◌, arith, ◌⊎◌, inl, inr}
 use Rattle.std.proofs.lemmas.Bool.{cases_lt}
 use Rattle.std.proofs.lemmas.List.{append-nil, nil_from_length, length-append, take-append-drop, take-take}
 use Rattle.std.proofs.lemmas.List.Elements.{filter-append}
-use Rattle.net_script.specs.Basics.{Command, Table, Script}
-use Rattle.net_script.specs.declared.items.Item.TheVariants.{Contents, Then}
+use Rattle.net_script.specs.Basics.{Script}
 use Rattle.net_script.specs.Lines.{words}
 use Rattle.net_script.specs.Items.{item_words}
 use Rattle.net_script.specs.Scripts.{is_note, lines_kept, script_items, SpelledBy, CanBegin, FailsAt}
-use Rattle.net_script.proofs.ScriptLemmas.{items_have_one_text, items_valid}
-use Rattle.net_script.specs.Spelling.{same_lists}
+use Rattle.net_script.proofs.ScriptLemmas.{items_have_one_text, items_valid, scripts_same}
 use Rattle.net_script.proofs.Arms.{texts_injective}
 
 -- ---- one reading
 
-commands_same : (es fs : List Command) → map Then es ≡ map Then fs → es ≡ fs
-commands_same es fs e =
-    same_lists {fits = λ (c : Command). Unit {0}} (λ x y p q same. cc) es fs (λ k d lt. tt) (λ k d lt. tt) e
-
-parts_same : (ts us : List Table) (es fs : List Command) → map Contents ts ++ map Then es ≡ map Contents us ++ map Then fs → (ts ≡ us)
-    × (es ≡ fs)
-parts_same [] [] es fs e = (refl, commands_same es fs e)
-parts_same [] (u ∷ us) [] fs e = absurd (cc)
-parts_same (t ∷ ts) [] es [] e = absurd (cc)
-parts_same (t ∷ ts) (u ∷ us) es fs e =
-    let head : t ≡ u = cc in
-    let tail = parts_same ts us es fs (cc) in
-    let tables : ts ≡ us = tail.0 in
-    (cc, tail.1)
-parts_same ts us es fs e = absurd (cc)
-
-scripts_same : (s t : Script) → script_items s ≡ script_items t → s ≡ t
-scripts_same s t e =
-    let sizes : s.sizes ≡ t.sizes = cc in
-    let parts = parts_same s.tables t.tables s.commands t.commands (cc) in
-    search rules
-
 pub one_script : (ls : List (List ℕ)) (s t : Script) → SpelledBy ls s → SpelledBy ls t → s ≡ t
-one_script ls s t p q = scripts_same s t
+one_script ls s t p q = scripts_same s t p.valid q.valid
     (texts_injective items_have_one_text (script_items s) (script_items t) (items_valid s p.valid) (items_valid t q.valid)
     (sym p.says ∙ q.says))
 

@@ -1,4 +1,3 @@
-pub mod Doubled
 pub mod Arms
 pub mod EventLemmas
 pub mod MessageLemmas

@@ -285,61 +285,47 @@ nothing_read {trace = trace} so none unkept =
     let nothing = none_kept trace (sym so.kept ∙ unkept) in
     missing so none (λ u valid e. absurd (cc (e ∙ ap lines_so_far nothing)))
 
--- the trace so far, where a reader keeps something of it
-record Kept (r : ReaderParts) (trace : Option Trace) (s : SoFar) : Type 0 where
-  so_far : Trace
-  is : trace ≡ Some so_far
-  kept : so_far_of so_far ≡ s
-  begun : IsBegun so_far
-  read : HasRead r (Some so_far)
-
-kept_of : {r : ReaderParts} {trace : Option Trace} (s : SoFar) → HasRead r trace → r.so_far ≡ Some s → Kept r trace s
-kept_of {r = r} {trace = trace} s so some =
-    let (t, is) = some_kept trace s (sym so.kept ∙ some) in
-    record {
-      so_far = t;
-      is = is;
-      kept = same_Some (so_far_of t) s (sym (ap (option_map so_far_of) is) ∙ sym so.kept ∙ some);
-      begun = so.valid t is;
-      read = subst (HasRead r) is so;
-    }
+-- what a reader keeps of the trace so far
+kept_of : {r : ReaderParts} {t : Trace} {s : SoFar} → HasRead r (Some t) → r.so_far ≡ Some s → so_far_of t ≡ s
+kept_of {t = t} {s = s} so some = same_Some (so_far_of t) s (sym so.kept ∙ some)
 
 pub rows_missing : {r : ReaderParts} {trace : Option Trace} (s : SoFar) → HasRead r trace → r.rest ≡ [] → r.so_far ≡ Some s
     → s.finals < s.sizes.rms
     → RefusesTrace r.bytes (BadScript (r.number + 1))
-rows_missing s so none some few =
-    let got = kept_of s so some in
-    let fewer = subst (λ (k : SoFar). k.finals < k.sizes.rms) (sym got.kept) few in
-    missing got.read none
+rows_missing {trace = None} s so none some few = absurd (cc (sym so.kept ∙ some))
+rows_missing {trace = Some t} s so none some few =
+    let fewer = subst (λ (k : SoFar). k.finals < k.sizes.rms) (sym (kept_of so some)) few in
+    missing so none
     (λ u valid e.
-    let same : u ≡ got.so_far = lines_same u got.so_far valid.begun got.begun e in
+    let same : u ≡ t = lines_same u t valid.begun (so.valid t refl) e in
     let whole = subst (λ (x : Trace). length x.finals ≡ x.sizes.rms) same valid.whole in
     omega arith)
 
-all_told : {r : ReaderParts} {trace : Option Trace} {s : SoFar} (got : Kept r trace s) → r.rest ≡ [] → s.sizes.rms ≤ s.finals
-    → IsTrace got.so_far × (r.bytes ≡ trace_text got.so_far)
-all_told got none enough =
-    let more = subst (λ (k : SoFar). k.sizes.rms ≤ k.finals) (sym got.kept) enough in
-    let few = got.begun.few in
-    (record { begun = got.begun; whole = omega arith }, whole_text got.read none ∙ sym (text_is_lines got.so_far))
+all_told : {r : ReaderParts} {t : Trace} (s : SoFar) → HasRead r (Some t) → r.rest ≡ [] → r.so_far ≡ Some s → s.sizes.rms ≤ s.finals
+    → IsTrace t × (r.bytes ≡ trace_text t)
+all_told {t = t} s so none some enough =
+    let more = subst (λ (k : SoFar). k.sizes.rms ≤ k.finals) (sym (kept_of so some)) enough in
+    let begun = so.valid t refl in
+    let few = begun.few in
+    (record { begun = begun; whole = omega arith }, whole_text so none ∙ sym (text_is_lines t))
 
 pub too_large : {r : ReaderParts} {trace : Option Trace} (s : SoFar) → HasRead r trace → r.rest ≡ [] → r.so_far ≡ Some s
     → s.sizes.rms ≤ s.finals → is_in_limits s.sizes ≡ false
     → RefusesTrace r.bytes BadConfig
-too_large s so none some enough beyond =
-    let got = kept_of s so some in
-    let all = all_told got none enough in
-    let limits = ap (λ (k : SoFar). is_in_limits k.sizes) got.kept ∙ beyond in
-    inr (inr (refl, record { trace = got.so_far; valid = all.0; limits = limits; text = all.1 }))
+too_large {trace = None} s so none some enough beyond = absurd (cc (sym so.kept ∙ some))
+too_large {trace = Some t} s so none some enough beyond =
+    let all = all_told s so none some enough in
+    let limits = ap (λ (k : SoFar). is_in_limits k.sizes) (kept_of so some) ∙ beyond in
+    inr (inr (refl, record { trace = t; valid = all.0; limits = limits; text = all.1 }))
 
 pub all_read : {r : ReaderParts} {trace : Option Trace} (s : SoFar) → HasRead r trace → r.rest ≡ [] → r.so_far ≡ Some s
     → s.sizes.rms ≤ s.finals → is_in_limits s.sizes ≡ true
     → IsRead r.bytes trace
-all_read s so none some enough within =
-    let got = kept_of s so some in
-    let all = all_told got none enough in
-    let limits = ap (λ (k : SoFar). is_in_limits k.sizes) got.kept ∙ within in
-    record { whole = got.so_far; is = got.is; spelled = record { valid = all.0; limits = limits; text = all.1 } }
+all_read {trace = None} s so none some enough within = absurd (cc (sym so.kept ∙ some))
+all_read {trace = Some t} s so none some enough within =
+    let all = all_told s so none some enough in
+    let limits = ap (λ (k : SoFar). is_in_limits k.sizes) (kept_of so some) ∙ within in
+    record { whole = t; is = refl; spelled = record { valid = all.0; limits = limits; text = all.1 } }
 
 -- what a reader refuses, its caller does
 pub refused_next : {X : Type 0} (bytes : List ℕ) (old new : ReaderParts) (trace : Option Trace) (r : Result (Option Heard) Refusal)

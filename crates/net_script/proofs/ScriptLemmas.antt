@@ -1,9 +1,9 @@
 -- Items of a script, their order, and the lines of a text as far as they were read: for `read_script` and `line_of`.
-use Rattle.std.proofs.Common.{◌≡◌, ℕ, ◌<◌, Bool, true, false, List, [], ◌∷◌, ◌++◌, length, get_or, drop, map, refl, sym, ap, subst, ◌∙◌}
+use Rattle.std.proofs.Common.{◌≡◌, ℕ, ◌<◌, Bool, true, false, List, [], ◌∷◌, ◌++◌, length, drop, map, refl, sym, ap, ◌∙◌}
 use Rattle.std.proofs.Common.{arith, codes, Result, Ok, Err, suc, ◌+◌, ◌≤◌, not, take, inl, inr, Option, Some, None}
 use Rattle.std.specs.List.{All, list_all}
 use Rattle.std.specs.Str.{bytes_eq}
-use Rattle.std.proofs.lemmas.List.{length-append, get_or_at, nil_from_length, append-nil, map_push, map-append, take_at, append_assoc}
+use Rattle.std.proofs.lemmas.List.{length-append, nil_from_length, append-nil, map_push, map-append, take_at, append_assoc}
 use Rattle.std.proofs.lemmas.List.{length_push}
 use Rattle.std.proofs.lemmas.List.Elements.{All-cons, All-append, All-map, All-push, filter-append, All-nil}
 use Rattle.std.proofs.lemmas.List.Quantifiers.{all_pairs_push}
@@ -12,13 +12,21 @@ use Rattle.net_script.specs.declared.items.Item.TheVariants.{Cluster, Contents, 
 use Rattle.net_script.specs.Items.{IsContents, IsCommand, IsItem, command_words, item_words}
 use Rattle.net_script.specs.Spelling.{no_words, ◌&◌}
 use Rattle.net_script.specs.Laws.{literal, a_number, a_table, a_sizes}
-use Rattle.net_script.specs.Scripts.{script_items, Says, GoesOn, ReadsLine, IsScript, is_note, lines_kept, SpelledBy, CanBegin}
-use Rattle.net_script.specs.Scripts.{IsScriptFault, items_so_far, IsLineOf}
+use Rattle.net_script.specs.Scripts.{script_items, Says, ReadsLine, IsScript, is_note, lines_kept, SpelledBy, CanBegin}
+use Rattle.net_script.specs.Scripts.{IsScriptFault, items_so_far, IsLineOf, takes_table, script_with, Adds}
+use Rattle.std.specs.List.{AllPairs}
+use Rattle.std.specs.Option.{ForSome}
+use Rattle.std.proofs.Common.{ltb, cond, eqb, eqb-true}
+use Rattle.std.proofs.lemmas.Bool.{lt-ltb, and_parts}
+use Rattle.std.proofs.lemmas.Bool.Decides.{nat_tests}
+use Rattle.std.proofs.lemmas.Option.{cond_some, none-some, same_Some}
+use Rattle.std.proofs.lemmas.List.Elements.{All-head, All-tail}
 use Rattle.net_script.proofs.WordLemmas.{differ}
 use Rattle.net_script.proofs.Arms.{Arm, made_of, arm_said, apart, HasOneText, texts_go_on}
 use Rattle.net_script.proofs.EventLemmas.{is_other, event_apart, event_injective, flow_arm}
-use Rattle.net_script.proofs.DraftLemmas.{managers_before}
-use Rattle.xid.proofs.Texts.{first_true, second_true}
+use Rattle.net_script.proofs.DraftLemmas.{run, run_append, Apart, managers_before, others_all, all_others}
+use Rattle.net_script.proofs.DraftLemmas.{is_other as is_free}
+use Rattle.xid.proofs.Texts.{first_true, second_true, both_true}
 use Rattle.std.proofs.lemmas.List.Folds.{list_all-append}
 use Rattle.net_script.specs.Lines.{lines, words, is_plain, IsFirstPiece}
 
@@ -60,93 +68,116 @@ items_have_one_text = record { same = item_injective }
 pub items_valid : (s : Script) → IsScript s → All IsItem (script_items s)
 items_valid s is = search (All-cons, All-append, All-map)
 
--- what a line makes of the items before it is what its item does
-pub reads_item : (before : List Item) (line : List ℕ) (item : Item) → IsItem item → Says line item → (r : Result Script Stop)
-    → GoesOn before item r → ReadsLine before line r
-reads_item before line item is says (Ok s) on = (item, is, says, on)
-reads_item before line item is says (Err Wrong) on = λ other q own later s valid e.
-    on later s valid (e ∙ ap (λ (i : Item). before ++ i ∷ later) (item_injective other item q is (sym own.1 ∙ says.1)))
-reads_item before line item is says (Err Memory) on = tt
-
 -- ---- the order of items
 
--- commands are followed by commands
-late_item : (es fs : List Command) (i : Item) (more : List Item) → ((f : Command) → i ≡ Then f → ⊥)
-    → map Then es ++ i ∷ more ≡ map Then fs → ⊥
-late_item [] (f ∷ fs) i more other e = other f (cc)
-late_item (x ∷ es) (f ∷ fs) i more other e = late_item es fs i more other (cc)
-late_item es fs i more other e = absurd (cc)
+-- a script of these parts
+abbrev script_of : Sizes → List Table → List Command → Script
+script_of sizes tables commands = record { sizes = sizes; tables = tables; commands = commands }
 
-late_cluster : (ts us : List Table) (es fs : List Command) (s : Sizes) (more : List Item)
-    → (map Contents ts ++ map Then es) ++ Cluster s ∷ more ≡ map Contents us ++ map Then fs → ⊥
-late_cluster [] [] es fs s more e = late_item es fs (Cluster s) more (λ f same. absurd (cc)) e
-late_cluster [] (u ∷ us) [] fs s more e = absurd (cc)
-late_cluster (t ∷ ts) [] es [] s more e = absurd (cc)
-late_cluster (t ∷ ts) (u ∷ us) es fs s more e = late_cluster ts us es fs s more (cc)
-late_cluster ts us es fs s more e = absurd (cc)
+-- items of a script
+abbrev on : Script → Item → Option Script
+on s item = script_with (Some s) item
 
-late_table : (ts us : List Table) (es fs : List Command) (t : Table) (more : List Item) → 0 < length es
-    → (map Contents ts ++ map Then es) ++ Contents t ∷ more ≡ map Contents us ++ map Then fs → ⊥
-late_table [] [] es fs t more some e = late_item es fs (Contents t) more (λ f same. absurd (cc)) e
-late_table [] (u ∷ us) [] fs t more some e = absurd (omega arith)
-late_table (s ∷ ts) [] es [] t more some e = absurd (cc)
-late_table (s ∷ ts) (u ∷ us) es fs t more some e = late_table ts us es fs t more some (cc)
-late_table ts us es fs t more some e = absurd (cc)
+abbrev later_items : Script → List Item
+later_items s = map Contents s.tables ++ map Then s.commands
 
-next_table : (ts us : List Table) (fs : List Command) (t : Table) (more : List Item)
-    → map Contents ts ++ Contents t ∷ more ≡ map Contents us ++ map Then fs → (vs : List Table) × (us ≡ ts ++ t ∷ vs)
-next_table [] (u ∷ us) fs t more e =
-    let same : u ≡ t = cc in
-    (us, ap (λ (z : Table). z ∷ us) same)
-next_table [] [] (f ∷ fs) t more e = absurd (cc)
-next_table (s ∷ ts) [] (f ∷ fs) t more e = absurd (cc)
-next_table (s ∷ ts) (u ∷ us) fs t more e =
-    let head : s ≡ u = cc in
-    let tail = next_table ts us fs t more (cc) in
-    let rest : us ≡ ts ++ t ∷ tail.0 = tail.1 in
-    (tail.0, cc)
-next_table ts us fs t more e = absurd (cc)
+run_tables : (s : Sizes) (done ts : List Table) → All (λ table. table.rm < s.rms) ts → AllPairs Apart (done ++ ts)
+    → run on (Some (script_of s done [])) (map Contents ts) ≡ Some (script_of s (done ++ ts) [])
+run_tables s done [] below once = simp append-nil
+run_tables s done (x ∷ ts) below once =
+    let takes : takes_table (script_of s done []) x ≡ true =
+    both_true (ltb x.rm s.rms) (list_all (is_free x.rm) done) (lt-ltb x.rm s.rms (All-head (λ table. table.rm < s.rms) x ts below))
+    (others_all x.rm done (managers_before done ts x once)) in
+    let rest = run_tables s (done ++ x ∷ []) ts (All-tail (λ table. table.rm < s.rms) x ts below) (rw append_assoc once) in
+    ap (λ (b : Bool). run on (cond b (Some (script_of s (done ++ x ∷ []) [])) None) (map Contents ts)) takes ∙ simp (rest, append_assoc)
 
--- no script has a second cluster, nor a table after a command
-pub no_second_cluster : (s : Script) (z : Sizes) (later : List Item) (r : Script)
-    → script_items r ≡ script_items s ++ Cluster z ∷ later → ⊥
-no_second_cluster s z later r e = late_cluster s.tables r.tables s.commands r.commands z later (cc)
+run_commands : (s : Sizes) (ts : List Table) (done cs : List Command)
+    → run on (Some (script_of s ts done)) (map Then cs) ≡ Some (script_of s ts (done ++ cs))
+run_commands s ts done [] = simp append-nil
+run_commands s ts done (c ∷ cs) = simp (run_commands s ts (done ++ c ∷ []) cs, append_assoc)
 
-pub no_late_table : (s : Script) (t : Table) (later : List Item) (r : Script) → 0 < length s.commands
-    → script_items r ≡ script_items s ++ Contents t ∷ later → ⊥
-no_late_table s t later r some e = late_table s.tables r.tables s.commands r.commands t later some (cc)
+run_items : (s : Script) → IsScript s → run on (Some (script_of s.sizes [] [])) (later_items s) ≡ Some s
+run_items s is = simp (run_append, run_tables s.sizes [] s.tables is.managers is.once, run_commands s.sizes s.tables [] s.commands)
 
--- a table that goes on with a script with no command
-pub table_belongs : (s : Script) (t : Table) (later : List Item) (r : Script) → length s.commands ≡ 0 → IsScript r
-    → script_items r ≡ script_items s ++ Contents t ∷ later
-    → (t.rm < s.sizes.rms) × All (λ (x : Table). x.rm ≡ t.rm → ⊥) s.tables
-table_belongs s t later r none is e =
-    let sizes : r.sizes ≡ s.sizes = cc in
-    let last : s.commands ≡ [] = nil_from_length s.commands none in
-    let rest : (map Contents s.tables ++ map Then s.commands) ++ Contents t ∷ later ≡ map Contents r.tables ++ map Then r.commands =
-    sym (ap (drop 1) e) in
-    let (more, tables) = next_table s.tables r.tables r.commands t later (simp (last, append-nil) at rest) in
-    let managers = subst (λ (l : List Table). All (λ (u : Table). u.rm < s.sizes.rms) l) tables (rw sizes at is.managers) in
-    let here : get_or (s.tables ++ t ∷ more) (length s.tables) t ≡ t = get_or_at s.tables t more t (length s.tables) refl in
-    let below = managers (length s.tables) t (omega (arith, length-append s.tables (t ∷ more))) in
-    (rw here at below, managers_before s.tables more t (rw tables at is.once))
+pub scripts_same : (s t : Script) → IsScript s → IsScript t → script_items s ≡ script_items t → s ≡ t
+scripts_same s t p q e =
+    let sizes : s.sizes ≡ t.sizes = cc in
+    let later : later_items s ≡ later_items t = ap (drop 1) e in
+    same_Some s t (sym (run_items s p) ∙ rw (sizes, later) (run_items t q))
 
--- the script with one more table
-abbrev pub with_last : Script → Table → Script
-with_last s t = record { sizes = s.sizes; tables = s.tables ++ t ∷ []; commands = s.commands }
+-- no script has an item that can't follow
+nothing_follows : (o : Option Script) (i : Item) (later : List Item) (t : Script) → ForSome o IsScript → IsScript t
+    → script_with o i ≡ None → script_items t ≡ items_so_far o ++ i ∷ later → ⊥
+nothing_follows None (Cluster z) later t is valid none e = absurd (cc)
+nothing_follows None i later t is valid none e = absurd (cc)
+nothing_follows (Some s) i later t is valid none e =
+    let sizes : t.sizes ≡ s.sizes = cc in
+    let parts : later_items t ≡ later_items s ++ i ∷ later = ap (drop 1) e in
+    let front = run_append on (Some (script_of s.sizes [] [])) (later_items s) (i ∷ later) in
+    let gone : run on (Some (script_of t.sizes [] [])) (later_items t) ≡ None =
+    rw (sizes, parts, front, run_items s (is s refl)) (ap (λ (r : Option Script). run on r later) none) in
+    none-some t (sym gone ∙ run_items t valid)
 
-pub table_added : (s : Script) (t : Table) → length s.commands ≡ 0 → script_items (with_last s t) ≡ script_items s ++ Contents t ∷ []
-table_added s t none = simp (nil_from_length s.commands none, map_push, append-nil)
+table_added : (s : Script) (t : Table) → IsScript s → IsContents t → takes_table s t ≡ true
+    → IsScript (record s { tables = s.tables ++ t ∷ [] })
+    × (script_items (record s { tables = s.tables ++ t ∷ [] }) ≡ script_items s ++ Contents t ∷ [])
+table_added s t is range takes =
+    let parts = and_parts _ _ takes in
+    let front = and_parts (eqb (length s.commands) 0) (ltb t.rm s.sizes.rms) parts.0 in
+    let none = nil_from_length s.commands (eqb-true (length s.commands) 0 front.0) in
+    let less : t.rm < s.sizes.rms = let lt = front.1 in grind (arith, nat_tests) in (
+      record {
+        sizes = is.sizes;
+        tables = All-push IsContents s.tables t is.tables range;
+        managers = All-push (λ (u : Table). u.rm < s.sizes.rms) s.tables t is.managers less;
+        once = all_pairs_push Apart s.tables t is.once (all_others t.rm s.tables parts.1);
+        commands = is.commands;
+      },
+      simp (none, map_push, append-nil),
+    )
 
-pub table_valid : (s : Script) (t : Table) → IsScript s → IsContents t → t.rm < s.sizes.rms → All (λ (x : Table). x.rm ≡ t.rm → ⊥) s.tables
-    → IsScript (with_last s t)
-table_valid s t is range below new = record {
-  sizes = is.sizes;
-  tables = All-push IsContents s.tables t is.tables range;
-  managers = All-push (λ (u : Table). u.rm < s.sizes.rms) s.tables t is.managers below;
-  once = all_pairs_push (λ (a b : Table). a.rm ≡ b.rm → ⊥) s.tables t is.once new;
-  commands = is.commands;
-}
+-- the script with one more item is one, of the items so far and that one
+item_added : (o : Option Script) (i : Item) (s : Script) → ForSome o IsScript → IsItem i → script_with o i ≡ Some s
+    → IsScript s × (script_items s ≡ items_so_far o ++ i ∷ [])
+item_added None (Cluster z) s is range e =
+    rw (← (same_Some (script_of z [] []) s e)) (
+      record {
+        sizes = range;
+        tables = All-nil IsContents;
+        managers = All-nil (λ (u : Table). u.rm < z.rms);
+        once = λ i j d less within. absurd (omega arith);
+        commands = All-nil IsCommand;
+      },
+      refl,
+    )
+item_added None i s is range e = absurd (cc)
+item_added (Some r) (Cluster z) s is range e = absurd (cc)
+item_added (Some r) (Contents t) s is range e =
+    let got = cond_some (takes_table r t) (record r { tables = r.tables ++ t ∷ [] }) s e in
+    rw (← got.1) (table_added r t (is r refl) range got.0)
+item_added (Some r) (Then c) s is range e =
+    let before = is r refl in
+    rw (← (same_Some (record r { commands = r.commands ++ c ∷ [] }) s e)) (
+      record {
+        sizes = before.sizes;
+        tables = before.tables;
+        managers = before.managers;
+        once = before.once;
+        commands = All-push IsCommand r.commands c before.commands range;
+      },
+      simp (map_push, append_assoc),
+    )
+
+-- what a line makes of the items before it is what its item does
+pub reads_item : (o : Option Script) (line : List ℕ) (item : Item) → ForSome o IsScript → IsItem item → Says line item
+    → (r : Result Script Stop) → Adds o item r → ReadsLine (items_so_far o) line r
+reads_item o line item valid is says (Ok s) adds =
+    let added = item_added o item s valid is adds in
+    (item, is, says, added.0, added.1)
+reads_item o line item valid is says (Err Wrong) adds = λ other q own later s whole e.
+    nothing_follows o item later s valid whole adds
+    (e ∙ ap (λ (i : Item). items_so_far o ++ i ∷ later) (item_injective other item q is (sym own.1 ∙ says.1)))
+reads_item o line item valid is says (Err Memory) adds = tt
 
 -- what lines say so far
 abbrev pub SoFar : List (List ℕ) → Option Script → Type 0
@@ -194,13 +225,13 @@ so_far_begins seen (Some s) said = inr ([], s, rw append-nil said)
 said_more : (seen more : List (List ℕ)) (line : List ℕ) (script : Option Script) (s : Script)
     → lines_kept more ≡ lines_kept seen ++ line ∷ [] → SoFar seen script → ReadsLine (items_so_far script) line (Ok s)
     → SpelledBy more s
-said_more seen more line script s kept said (item, is, own, on) =
+said_more seen more line script s kept said (item, is, own, valid, parts) =
     let before = so_far_say seen script said in
     record {
       plain = simp (kept, list_all-append, before.plain, own.0);
       says = ap (map words) kept ∙ map-append words (lines_kept seen) (line ∷ [])
-          ∙ (rw (before.says, own.1) (sym (ap (map item_words) on.1 ∙ map-append item_words (items_so_far script) (item ∷ []))));
-      valid = on.0;
+          ∙ (rw (before.says, own.1) (sym (ap (map item_words) parts ∙ map-append item_words (items_so_far script) (item ∷ []))));
+      valid = valid;
     }
 
 nil_not_push : {X : Type 0} (xs : List X) (x : X) → xs ++ x ∷ [] ≡ [] → ⊥

@@ -27,7 +27,7 @@ use Rattle.std.proofs.lemmas.List.{append_assoc, length-append, take_at, take-ap
 use Rattle.std.proofs.lemmas.List.Folds.{list_all-append}
 use Rattle.std.proofs.Math.Seq.{drop-append_seam}
 use Rattle.xid.specs.Text.{lacks}
-use Rattle.xid.proofs.Texts.{first_true, list_all_join, cut_same}
+use Rattle.xid.proofs.Texts.{first_true, both_true, list_all_join, cut_same}
 use Rattle.net_script.specs.declared.trace_lines.TraceLine.{TraceLine}
 
 -- ---- words of lines
@@ -316,13 +316,23 @@ arrow_found line front back suffix prefix f b cut is-suffix is-prefix at-end at-
 
 -- ---- words on both sides of an arrow
 
-spaced_lacks : (ws : List (List ℕ)) → AllByRecursion IsCommon ws → lacks 62 (spaced_words ws) ≡ true
-spaced_lacks [] are = refl
-spaced_lacks (w ∷ ws) are = lacks_join (32 ∷ w) (spaced_words ws) (lacks_head w are.0.bytes) (spaced_lacks ws are.1)
+-- words that lack a byte make a text that lacks it
+spaced_lacks : {C : List ℕ → Type 0} (mark : ℕ) → not (eqb 32 mark) ≡ true → ((w : List ℕ) → C w → lacks mark w ≡ true)
+    → (ws : List (List ℕ)) → AllByRecursion C ws → lacks mark (spaced_words ws) ≡ true
+spaced_lacks mark other each [] are = refl
+spaced_lacks mark other each (w ∷ ws) are =
+    both_true (not (eqb 32 mark)) (lacks mark (w ++ spaced_words ws)) other
+    (list_all_join (λ byte. not (eqb byte mark)) w (spaced_words ws) (each w are.0) (spaced_lacks mark other each ws are.1))
 
-joined_lacks : (ws : List (List ℕ)) → AllByRecursion IsCommon ws → lacks 62 (joined_words ws) ≡ true
-joined_lacks [] are = refl
-joined_lacks (w ∷ ws) are = lacks_join w (spaced_words ws) (lacks_head w are.0.bytes) (spaced_lacks ws are.1)
+pub joined_lacks : {C : List ℕ → Type 0} (mark : ℕ) → not (eqb 32 mark) ≡ true → ((w : List ℕ) → C w → lacks mark w ≡ true)
+    → (ws : List (List ℕ)) → AllByRecursion C ws → lacks mark (joined_words ws) ≡ true
+joined_lacks mark other each [] are = refl
+joined_lacks mark other each (w ∷ ws) are =
+    list_all_join (λ byte. not (eqb byte mark)) w (spaced_words ws) (each w are.0) (spaced_lacks mark other each ws are.1)
+
+-- an arrow's head is in no word but an arrow
+head_lacks : (ws : List (List ℕ)) → AllByRecursion IsCommon ws → lacks 62 (joined_words ws) ≡ true
+head_lacks ws are = joined_lacks 62 refl (λ w is. lacks_head w is.bytes) ws are
 
 -- words of which there is at least one
 pub record AreSome (ws : List (List ℕ)) : Type 0 where
@@ -352,7 +362,7 @@ parts_are ws vs line front back are tidy e cut =
     let same =
     head_cut line (front ++ 32 ∷ 45 ∷ []) (32 ∷ back) (joined_words ws) (joined_words vs)
     (cut.0 ∙ sym (append_assoc front (32 ∷ 45 ∷ []) (62 ∷ 32 ∷ back)), lacks_join front (32 ∷ 45 ∷ []) cut.1 refl)
-    (joined_lacks ws are.0.each) whole in
+    (head_lacks ws are.0.each) whole in
     let front-is : front ≡ joined_words ws = same_front front (joined_words ws) (32 ∷ 45 ∷ []) same.0 in
     let back-is : back ≡ joined_words vs = ap (drop 1) same.1 in
     (ap words front-is ∙ words_of_joined ws (all_clean ws are.0.each), ap words back-is ∙ words_of_joined vs (all_clean vs are.1.each))
@@ -403,7 +413,7 @@ pub arrow_fails : (line : List ℕ) → is_tidy line ≡ true
     → (said : TraceLine) → IsOutcome said → words line ≡ trace_line_words said → ⊥
 arrow_fails line tidy none said p x =
     let does = doing said p in
-    none (joined_words does.happened) (joined_words (answer_words does.answer)) (joined_lacks does.happened does.are.0.each)
+    none (joined_words does.happened) (joined_words (answer_words does.answer)) (head_lacks does.happened does.are.0.each)
     (line_cut does.happened (answer_words does.answer) line does.are.0 does.are.1 tidy (x ∙ does.parts))
 
 -- the words on both sides of a line's arrow

@@ -10,11 +10,11 @@ use Rattle.std.proofs.lemmas.Slice.Eq.{bytes_eq-Decides}
 use Rattle.std.proofs.lemmas.Fmt.{decimal_injective}
 use Rattle.xid.specs.Text.{lacks}
 use Rattle.xid.proofs.Texts.{first_true, second_true, both_true, cut_same}
+use Rattle.xid.proofs.TransactionTexts.{hex_same}
 use Rattle.net_script.specs.Lines.{pieces, IsFirstPiece, Reads, IsSome, bytes_text, row_text}
-pub use Rattle.net_script.specs.Laws.{differ, hex_some, hex_decodes, hex_injective, bytes_are_hex, bytes_injective, hex_long}
+pub use Rattle.net_script.specs.Laws.{differ, hex_some, hex_decodes, bytes_are_hex, bytes_injective, hex_long}
 use Rattle.memchr.specs.Find.{IsFirstByte, is_byte}
 use Rattle.std.proofs.lemmas.List.Quantifiers.{all_pairs_push}
-use Rattle.stable_record.specs.Facts.{IsKey}
 use Rattle.net_script.specs.Basics.{IsBytes, hex_text, Row, Table}
 use Rattle.net_script.specs.Laws.{hex_lacks_equals, a_row}
 use Rattle.net_script.specs.Items.{IsRow, IsContents, contents_words}
@@ -101,9 +101,6 @@ unmarked mark text none =
     ap (lacks mark) (sym (take_all (length text) text (omega arith)))
     ∙ lacks_until mark text (length text) (omega arith) (λ k lt e. none k (omega arith) lt e)
 
-pub key_some : (xs : List ℕ) → IsKey xs → IsSome xs
-key_some xs is = (is.some, is.bytes)
-
 -- a row's text is cut at its first `=` in one way
 pub cut_row : (row : Row) (text front back : List ℕ) → IsRow row → text ≡ row_text row
     → (text ≡ front ++ 61 ∷ back) × (lacks 61 front ≡ true)
@@ -114,7 +111,7 @@ cut_row row text front back is e cut =
 pub long_key : (row : Row) (front bytes : List ℕ) → IsRow row → front ≡ hex_text row.key → IsSome bytes × (front ≡ hex_text bytes)
     → 64 < length bytes → ⊥
 long_key row front bytes is e read long =
-    let same : bytes ≡ row.key = hex_injective bytes row.key read.0.1 is.key.bytes (sym read.1 ∙ e) in
+    let same : bytes ≡ row.key = hex_same bytes row.key read.0.1 is.key.bytes (sym read.1 ∙ e) in
     let few = is.key.few in
     omega (arith, ap length same)
 

@@ -1,6 +1,6 @@
 -- The words of numbers, nodes, bytes, XIDs, transactions, rows, messages and of the lines that they stand in: one text each, which is a
 -- word.
-use Rattle.std.proofs.Common.{◌≡◌, ℕ, ◌*◌, ◌<◌, Bool, true, false, eqb, List, [], ◌∷◌, length, Ok, Err, refl, sym, ap, ◌∙◌, arith, ◌≤◌, ◌^◌}
+use Rattle.std.proofs.Common.{◌≡◌, ℕ, ◌*◌, ◌<◌, Bool, true, false, eqb, List, [], ◌∷◌, length, Ok, Err, refl, sym, ap, ◌∙◌, arith, ◌^◌}
 use Rattle.std.proofs.Common.{not, ◌++◌, drop, subst, decimal, Option, None, Some, codes}
 use Rattle.std.specs.Str.{bytes_eq}
 use Rattle.std.proofs.lemmas.Slice.Eq.{bytes_eq-Decides}
@@ -49,10 +49,6 @@ pub hex_decodes : (y text : List ℕ) (e : FromHexError) → IsSome y → text �
 hex_decodes y text e is same h =
     let d : decode_of text ≡ Ok y = ap decode_of same ∙ decode_of-encode_lower y is.1 in absurd (cc)
 
--- bytes are the only ones of their hex
-pub hex_injective : (a b : List ℕ) → IsBytes a → IsBytes b → hex_text a ≡ hex_text b → a ≡ b
-hex_injective a b bytes-a bytes-b e = hex_same a b bytes-a bytes-b e
-
 -- hex is no dash
 hex_not_dash : (y : List ℕ) → hex_text y ≡ 45 ∷ [] → ⊥
 hex_not_dash y e = omega (arith, ap length e, length-hex_text y)
@@ -67,7 +63,7 @@ pub bytes_injective : (a b : List ℕ) → IsBytes a → IsBytes b → bytes_tex
 bytes_injective [] [] p q e = refl
 bytes_injective [] (y ∷ b) p q e = absurd (hex_not_dash (y ∷ b) (sym e))
 bytes_injective (x ∷ a) [] p q e = absurd (hex_not_dash (x ∷ a) e)
-bytes_injective (x ∷ a) (y ∷ b) p q e = hex_injective (x ∷ a) (y ∷ b) p q e
+bytes_injective (x ∷ a) (y ∷ b) p q e = hex_same (x ∷ a) (y ∷ b) p q e
 
 -- what is decoded of a text that is not empty is not empty
 pub hex_long : (text bytes : List ℕ) (r : Bool) → r ≡ eqb (length text) 0 → r ≡ false → length text ≡ 2 * length bytes → 0 < length bytes
@@ -84,9 +80,9 @@ node_injective (L m) (L n) p q e = ap L (number_one m n (omega arith) (omega ari
 node_injective (R m) (R n) p q e = ap R (number_one m n (omega arith) (omega arith) (ap (drop 1) e))
 node_injective m n p q e = absurd (differ _ _ e refl)
 
--- a resource manager is the only one of its text
-pub manager_injective : (m n : ℕ) → m < 256 → n < 256 → node_text (R m) ≡ node_text (R n) → m ≡ n
-manager_injective m n p q e = number_one m n (omega arith) (omega arith) (ap (drop 1) e)
+-- a number behind a letter is the only one of its text
+lettered_one : (letter m n : ℕ) → m < 256 → n < 256 → letter ∷ decimal m ≡ letter ∷ decimal n → m ≡ n
+lettered_one letter m n p q e = number_one m n (omega arith) (omega arith) (ap (drop 1) e)
 
 -- an XID is the only one of its text
 pub xid_injective : (x y : XidParts) → IsXid x → IsXid y → xid_text x ≡ xid_text y → x ≡ y
@@ -99,28 +95,22 @@ xid_injective x y p q e =
     cut_same 58 (hex_text x.gtrid) (hex_text x.bqual) (hex_text y.gtrid) (hex_text y.bqual) (hex_lacks_colon x.gtrid p.gtrid.bytes)
     (hex_lacks_colon y.gtrid q.gtrid.bytes) front.1 in
     let format : x.format ≡ y.format = decimal_injective x.format y.format (omega (arith, p.format)) (omega (arith, q.format)) front.0 in
-    let gtrid : x.gtrid ≡ y.gtrid = hex_injective x.gtrid y.gtrid p.gtrid.bytes q.gtrid.bytes back.0 in
-    let bqual : x.bqual ≡ y.bqual = hex_injective x.bqual y.bqual p.bqual.bytes q.bqual.bytes back.1 in
+    let gtrid : x.gtrid ≡ y.gtrid = hex_same x.gtrid y.gtrid p.gtrid.bytes q.gtrid.bytes back.0 in
+    let bqual : x.bqual ≡ y.bqual = hex_same x.bqual y.bqual p.bqual.bytes q.bqual.bytes back.1 in
     grind arith
 
 -- ---- transactions
 
-no_mark : (mark c : ℕ) → 57 < mark → 48 ≤ c → c ≤ 57 → not (eqb c mark) ≡ true
-no_mark mark c above low high = grind (arith, nat_tests)
-
-no_comma : (c : ℕ) → 48 ≤ c → c ≤ 57 → not (eqb c 44) ≡ true
-no_comma c low high = grind (arith, nat_tests)
-
 branch_lacks_comma : (b : BranchParts) → IsBranch b → lacks 44 (branch_text b) ≡ true
 branch_lacks_comma b is =
     list_all_join (λ byte. not (eqb byte 44)) (decimal b.rm) (61 ∷ hex_text b.bqual)
-    (list_all-decimal (λ byte. not (eqb byte 44)) b.rm no_comma (omega (arith, is.rm)))
+    (list_all-decimal (λ byte. not (eqb byte 44)) b.rm (λ c low high. grind (arith, nat_tests)) (omega (arith, is.rm)))
     (both_true true (lacks 44 (hex_text b.bqual)) refl (list_all-hex_text (λ byte. not (eqb byte 44)) b.bqual refl is.bqual.bytes))
 
 branch_injective : (b c : BranchParts) → IsBranch b → IsBranch c → branch_text b ≡ branch_text c → b ≡ c
 branch_injective b c p q e =
     let lack =
-    list_all-decimal (λ byte. not (eqb byte 61)) b.rm (λ x low high. no_mark 61 x (omega arith) low high) (omega (arith, p.rm)) in
+    list_all-decimal (λ byte. not (eqb byte 61)) b.rm (λ c low high. grind (arith, nat_tests)) (omega (arith, p.rm)) in
     let cut = cut_branch c (branch_text b) (decimal b.rm) (hex_text b.bqual) q e (refl, lack) in
     branch_same b.rm b.bqual c (decimal b.rm) (hex_text b.bqual) (omega (arith, p.rm)) p.bqual.bytes q cut refl refl
 
@@ -169,7 +159,7 @@ tx_injective x y p q e =
     cut_gtrid y (hex_text x.gtrid ++ 47 ∷ branches_text x.branches) (hex_text x.gtrid) (branches_text x.branches) q front.1
     (refl, list_all-hex_text (λ byte. not (eqb byte 47)) x.gtrid refl p.gtrid.bytes) in
     let format : x.format ≡ y.format = decimal_injective x.format y.format (omega (arith, p.format)) (omega (arith, q.format)) front.0 in
-    let gtrid : x.gtrid ≡ y.gtrid = hex_injective x.gtrid y.gtrid p.gtrid.bytes q.gtrid.bytes back.0 in
+    let gtrid : x.gtrid ≡ y.gtrid = hex_same x.gtrid y.gtrid p.gtrid.bytes q.gtrid.bytes back.0 in
     let branches : x.branches ≡ y.branches =
     some_branches x.branches y.branches p.branches.some q.branches.some p.branches.each q.branches.each back.1 in
     grind arith
@@ -189,12 +179,9 @@ some_word : (w : List ℕ) → 0 < length w → is_word w ≡ true
 some_word [] some = absurd (omega arith)
 some_word (x ∷ w) some = refl
 
-digit_common : (c : ℕ) → 48 ≤ c → c ≤ 57 → is_common c ≡ true
-digit_common c low high = grind (arith, nat_tests)
-
 -- a number's digits are common
 pub number_bytes : (n : ℕ) → n < 2 ^ 32 → list_all is_common (decimal n) ≡ true
-number_bytes n lt = list_all-decimal is_common n digit_common lt
+number_bytes n lt = list_all-decimal is_common n (λ c low high. grind (arith, nat_tests)) lt
 
 hex_bytes : (xs : List ℕ) → IsBytes xs → list_all is_common (hex_text xs) ≡ true
 hex_bytes xs bytes = list_all-hex_text is_common xs refl bytes
@@ -294,9 +281,6 @@ party_of node = record { 0 = node }
 abbrev pub hex_of : List ℕ → Hex
 hex_of bytes = record { 0 = bytes }
 
-lettered_one : (letter m n : ℕ) → m < 256 → n < 256 → letter ∷ decimal m ≡ letter ∷ decimal n → m ≡ n
-lettered_one letter m n p q e = number_one m n (omega arith) (omega arith) (ap (drop 1) e)
-
 is_node : (n : NodeId) → IsParty n → IsNode n
 is_node (A n) p = absurd p
 is_node (L n) p = p
@@ -323,7 +307,7 @@ a_party = record {
 
 -- bytes of which there is one at least
 pub a_hex : IsSpelling (λ (h : Hex). IsSome h.0) (λ h. hex_text h.0)
-a_hex = record { one = λ x y p q e. ap hex_of (hex_injective x.0 y.0 p.1 q.1 e); common = λ x p. hex_common x.0 p }
+a_hex = record { one = λ x y p q e. ap hex_of (hex_same x.0 y.0 p.1 q.1 e); common = λ x p. hex_common x.0 p }
 
 ending_one : (a b : Action) → IsEnding a → IsEnding b → action_words a ≡ action_words b → a ≡ b
 ending_one End End p q e = refl
@@ -352,7 +336,7 @@ row_injective a b is-a is-b e =
     let cut =
     cut_same 61 (hex_text a.key) (bytes_text a.value) (hex_text b.key) (bytes_text b.value) (hex_lacks_equals a.key is-a.key.bytes)
     (hex_lacks_equals b.key is-b.key.bytes) e in
-    let key : a.key ≡ b.key = hex_injective a.key b.key is-a.key.bytes is-b.key.bytes cut.0 in
+    let key : a.key ≡ b.key = hex_same a.key b.key is-a.key.bytes is-b.key.bytes cut.0 in
     let value : a.value ≡ b.value = bytes_injective a.value b.value is-a.value.bytes is-b.value.bytes cut.1 in
     grind arith
 
@@ -450,7 +434,7 @@ report_item_injective : (a b : InstanceReport) → FitsReportItem a → FitsRepo
 report_item_injective a b p q e =
     let cut = cut_item b.instance (report_text b.report) (report_item_text a) (node_text (R a.instance)) (report_text a.report) q.instance e
     (refl, manager_lacks_colon a.instance p.instance) in
-    let instance : a.instance ≡ b.instance = manager_injective a.instance b.instance p.instance q.instance cut.0 in
+    let instance : a.instance ≡ b.instance = lettered_one _ a.instance b.instance p.instance q.instance cut.0 in
     let report : a.report ≡ b.report = report_text_injective a.report b.report p.report q.report cut.1 in
     grind arith
 
@@ -458,7 +442,7 @@ accept_item_injective : (a b : InstanceAccept) → FitsAcceptItem a → FitsAcce
 accept_item_injective a b p q e =
     let cut = cut_item b.instance (accepted_text b.ballot b.vote) (accept_item_text a) (node_text (R a.instance))
     (accepted_text a.ballot a.vote) q.instance e (refl, manager_lacks_colon a.instance p.instance) in
-    let instance : a.instance ≡ b.instance = manager_injective a.instance b.instance p.instance q.instance cut.0 in
+    let instance : a.instance ≡ b.instance = lettered_one _ a.instance b.instance p.instance q.instance cut.0 in
     let accepted = accepted_injective a.ballot b.ballot a.vote b.vote p.ballot q.ballot cut.1 in
     let ballot : a.ballot ≡ b.ballot = accepted.0 in
     let vote : a.vote ≡ b.vote = accepted.1 in
@@ -505,12 +489,10 @@ an_accept_item = record { one = accept_item_injective; common = accept_item_comm
 -- ---- a report and its acceptor
 
 -- a number's text isn't the word for none
-no_digit : (c : ℕ) → 48 ≤ c → c ≤ 57 → not (eqb c 110) ≡ true
-no_digit c low high = grind (arith, nat_tests)
-
 decimal_not_none : (n : ℕ) → n < 2 ^ 32 → codes "none" ≡ decimal n → ⊥
 decimal_not_none n lt e =
-    let digits : lacks 110 (decimal n) ≡ true = list_all-decimal (λ byte. not (eqb byte 110)) n no_digit lt in
+    let digits : lacks 110 (decimal n) ≡ true =
+    list_all-decimal (λ byte. not (eqb byte 110)) n (λ c low high. grind (arith, nat_tests)) lt in
     let none : lacks 110 (codes "none") ≡ true = subst (λ (t : List ℕ). lacks 110 t ≡ true) (sym e) digits in
     absurd (cc)
 

@@ -1,8 +1,8 @@
 -- Which texts spell a script, and which line of one that spells none is the first at fault.
 use Rattle.std.specs.Prelude.{◌≡◌, ◌≢◌, ℕ, suc, ◌+◌, ◌<◌, ◌⊎◌, List, [], ◌∷◌, ◌++◌, length, take, map, Bool, true, false, not, ◌==◌, Option}
-use Rattle.std.specs.Prelude.{Some, None, Result, Ok, Err}
+use Rattle.std.specs.Prelude.{Some, None, Result, Ok, Err, ◌&&◌, nat_lt, if◌then◌else◌}
 use Rattle.std.specs.List.{All, AllPairs, list_all, filter}
-use Rattle.net_script.specs.Basics.{Refusal, NoMemory, BadScript, Stop, Wrong, Memory, Script, Item}
+use Rattle.net_script.specs.Basics.{Refusal, NoMemory, BadScript, Stop, Wrong, Memory, Table, Script, Item}
 use Rattle.net_script.specs.declared.items.Item.TheVariants.{Cluster, Contents, Then}
 use Rattle.net_script.specs.Lines.{lines, words, is_plain}
 use Rattle.net_script.specs.Items.{IsSizes, IsContents, IsCommand, IsItem, item_words}
@@ -74,16 +74,30 @@ abbrev pub items_so_far : Option Script → List Item
 items_so_far None = []
 items_so_far (Some s) = script_items s
 
--- a script of these items and one more; where there is none, no script goes on so
-abbrev pub GoesOn : List Item → Item → Result Script Stop → Type 0
-GoesOn before item (Ok s) = IsScript s × (script_items s ≡ before ++ item ∷ [])
-GoesOn before item (Err Wrong) = (later : List Item) (s : Script) → IsScript s → script_items s ≢ before ++ item ∷ later
-GoesOn before item (Err Memory) = Unit {0}
+-- whether a table may follow
+abbrev pub takes_table : Script → Table → Bool
+takes_table s table = (length s.commands == 0) && nat_lt table.rm s.sizes.rms && list_all (λ other. not (other.rm == table.rm)) s.tables
+
+-- the script so far with one more item, the first or another; none, where it can't follow
+abbrev pub script_with : Option Script → Item → Option Script
+script_with None (Cluster sizes) = Some (record { sizes = sizes; tables = []; commands = [] })
+script_with None item = None
+script_with (Some s) (Cluster sizes) = None
+script_with (Some s) (Contents table) = if takes_table s table then Some (record s { tables = s.tables ++ table ∷ [] }) else None
+script_with (Some s) (Then command) = Some (record s { commands = s.commands ++ command ∷ [] })
+
+-- what comes of one more item
+abbrev pub Adds : Option Script → Item → Result Script Stop → Type 0
+Adds before item (Ok s) = script_with before item ≡ Some s
+Adds before item (Err Wrong) = script_with before item ≡ None
+Adds before item (Err Memory) = Unit {0}
 
 -- what one more line makes of the items before it; nothing, where it says no item that may follow them
 abbrev pub ReadsLine : List Item → List ℕ → Result Script Stop → Type 0
-ReadsLine before line (Ok s) = (item : Item) × IsItem item × Says line item × GoesOn before item (Ok s)
-ReadsLine before line (Err Wrong) = (item : Item) → IsItem item → Says line item → GoesOn before item (Err Wrong)
+ReadsLine before line (Ok s) =
+    (item : Item) × IsItem item × Says line item × IsScript s × (script_items s ≡ before ++ item ∷ [])
+ReadsLine before line (Err Wrong) =
+    (item : Item) → IsItem item → Says line item → (later : List Item) (s : Script) → IsScript s → script_items s ≢ before ++ item ∷ later
 ReadsLine before line (Err Memory) = Unit {0}
 
 -- why a script is refused

@@ -91,9 +91,6 @@ impl Word for Boxed<Tx> {
         let Ok(tx) = Tx::read(word) else {
             return Err(Stop::Wrong);
         };
-        let Ok(tx) = Boxed::new(alloc, tx) else {
-            return Err(Stop::Memory);
-        };
-        Ok(tx)
+        Boxed::new(alloc, tx).ok().ok_or(Stop::Memory)
     }
 }

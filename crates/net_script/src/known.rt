@@ -9,7 +9,7 @@ use std::marker::Model;
 use xid::{Refusal, Tx};
 
 /// A transaction, and its word. None is known at first.
-#[derive(Debug, Drop)]
+#[derive(Drop)]
 pub(crate) struct KnownTx {
     word: Vec<u8>,
     tx: Tx,

@@ -207,16 +207,12 @@ pub(crate) fn read_said(alloc: Global, name: &[u8], args: &[u8]) -> Result<Said,
     }
     if is_word(name, b"b1b") {
         let (ballot, (Acceptor(acceptor), reports)) = Words::read(alloc, args)?;
-        let Ok(reports) = Boxed::new(alloc, reports) else {
-            return Err(Stop::Memory);
-        };
+        let reports = Boxed::new(alloc, reports).ok().ok_or(Stop::Memory)?;
         return Ok(Said::B1b(ballot, acceptor, reports));
     }
     if is_word(name, b"b2b") {
         let (Acceptor(acceptor), accepts) = Words::read(alloc, args)?;
-        let Ok(accepts) = Boxed::new(alloc, accepts) else {
-            return Err(Stop::Memory);
-        };
+        let accepts = Boxed::new(alloc, accepts).ok().ok_or(Stop::Memory)?;
         return Ok(Said::B2b(acceptor, accepts));
     }
     Err(Stop::Wrong)

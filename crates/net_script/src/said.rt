@@ -17,7 +17,7 @@ use crate::stop::Stop;
 use crate::told::{ToldSent, read_told};
 use crate::trace_lines::{TraceLine, is_tidy, split_arrow};
 use crate::word::{Words, is_word};
-use crate::words::{is_over, last_node, manager, next_word};
+use crate::words::{is_over, last_node, manager_word, next_word};
 use protocol::{Boxed, Change, Row};
 use std::alloc::Global;
 use std::cmp::Ordering;
@@ -32,11 +32,10 @@ pub(crate) fn read_change(
 ) -> Result<Boxed<Change>, Stop>
     ensures { Finds true IsChange change_words (words args.now) result }
 {
-    let (rm, rest) = manager(args).ok_or(Stop::Wrong)?;
+    let (word, rest) = next_word(args).ok_or(Stop::Wrong)?;
+    let rm = manager_word(word).ok_or(Stop::Wrong)?;
     let (text, rest) = next_word(rest).ok_or(Stop::Wrong)?;
-    let Ok(is_tx) = know(alloc, known, text) else {
-        return Err(Stop::Memory);
-    };
+    let is_tx = know(alloc, known, text).ok().ok_or(Stop::Memory)?;
     if !is_tx {
         return Err(Stop::Wrong);
     }
@@ -47,10 +46,8 @@ pub(crate) fn read_change(
         return Err(Stop::Wrong);
     }
     let tx = *last.tx();
-    let Ok(change) = Boxed::new(alloc, Change { rm, tx, view }) else {
-        return Err(Stop::Memory);
-    };
-    Ok(change)
+    let change = Boxed::new(alloc, Change { rm, tx, view });
+    change.ok().ok_or(Stop::Memory)
 }
 
 /// Whether keys ascend strictly by their bytes.

@@ -1,13 +1,12 @@
 //! Whole scripts, line by line.
 
-ghost use Rattle.std.specs.Prelude.{◌≡◌, not, ◌==◌, ℕ, [], ◌∷◌, ◌++◌, ◌≤◌, List, length, IfOk, IfErr, MatchResult, MatchOption};
+ghost use Rattle.std.specs.Prelude.{◌≡◌, not, ◌==◌, ℕ, [], ◌∷◌, ◌++◌, ◌≤◌, List, length, IfOk, IfErr, MatchResult, MatchOption, Some};
 ghost use Rattle.std.specs.List.{list_all};
 ghost use Rattle.std.specs.Option.{ForSome};
 ghost use Rattle.net_script.specs.Basics.{NoMemory, Script};
 ghost use Rattle.net_script.specs.declared.items.Item.TheVariants.{Contents};
 ghost use Rattle.net_script.specs.Lines.{lines, words, is_plain};
-ghost use Rattle.net_script.specs.Items.{IsItem, IsContents};
-ghost use Rattle.net_script.specs.Scripts.{is_note, lines_kept, script_items, items_so_far, IsLineOf, IsScript, GoesOn, ReadsLine};
+ghost use Rattle.net_script.specs.Scripts.{is_note, lines_kept, items_so_far, IsLineOf, IsScript, Adds, ReadsLine};
 ghost use Rattle.net_script.specs.Scripts.{SpellsScript, Refuses, IsScriptFault};
 
 use crate::items::{Item, item_by};
@@ -55,9 +54,7 @@ fn is_free(tables: &[Table], rm: u8) -> bool
 
 /// The script with one more table, if it may stand there.
 fn with_table(alloc: Global, mut script: Script, table: Table) -> Result<Script, Stop>
-    requires valid { IsScript script }
-    requires range { IsContents table }
-    ensures { GoesOn (script_items script) (Contents table) result }
+    ensures { Adds (Some script) (Contents table) result }
 {
     if !script.commands.as_slice().is_empty() {
         return Err(Stop::Wrong);
@@ -74,9 +71,7 @@ fn with_table(alloc: Global, mut script: Script, table: Table) -> Result<Script,
 
 /// The script so far with one more item, if it may follow.
 fn with_item(alloc: Global, script: Option<Script>, item: Item) -> Result<Script, Stop>
-    requires valid { ForSome script IsScript }
-    requires range { IsItem item }
-    ensures { GoesOn (items_so_far script) item result }
+    ensures { Adds script item result }
 {
     let Some(mut script) = script else {
         let Item::Cluster(sizes) = item else {

@@ -124,16 +124,6 @@ pub(crate) fn field<'a>(args: &'a [u8], name: &[u8]) -> Option<(u32, &'a [u8])>
     number(rest)
 }
 
-/// The resource manager of the first word, and the rest.
-pub(crate) fn manager(args: &[u8]) -> Option<(u8, &[u8])>
-    ensures { MatchOption result
-        ((n : ℕ) (ws : List (List ℕ)) → n < 256 → words args.now ≢ node_text (R n) ∷ ws)
-        (λ found. words args.now ≡ node_text (R found.0) ∷ words found.1.now) }
-{
-    let (word, rest) = next_word(args)?;
-    Some((manager_word(word)?, rest))
-}
-
 /// The node of the first word, and the rest.
 pub fn node(args: &[u8]) -> Option<(NodeId, &[u8])>
     ensures { MatchOption result

@@ -13,7 +13,7 @@ use wire::SpelledTx;
 use xid::Refusal;
 
 /// A transaction as it is spelled, and its text. None was written at first.
-#[derive(Debug, Drop)]
+#[derive(Drop)]
 pub struct WrittenTx {
     spelled: Vec<u8>,
     text: Vec<u8>,

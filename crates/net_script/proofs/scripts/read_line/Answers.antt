@@ -13,5 +13,5 @@ returns-in_err-item c =
 pub returns : goal.returns
 returns c =
     let item = c.in_ok-item.ensures in
-    reads_item (items_so_far c.args.script) c.args.line.now c.in_ok-item.item item.0
+    reads_item c.args.script c.args.line.now c.in_ok-item.item c.requires.valid item.0
     (sym c.has_plain_bytes.ensures ∙ c.if-not-has_plain_bytes.false, c.in-Some.ensures.cut ∙ item.1) _ c.with_item.ensures

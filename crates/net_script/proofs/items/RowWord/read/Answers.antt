@@ -1,12 +1,12 @@
 use Rattle.std.proofs.Common.{length, refl, ap, arith}
 use Rattle.net_script.specs.Laws.{hex_of}
 use Rattle.net_script.proofs.Arms.{passes}
-use Rattle.net_script.proofs.WordLemmas.{cut_row, key_some, long_key, long_value}
+use Rattle.net_script.proofs.WordLemmas.{cut_row, long_key, long_value}
 use Rattle.net_script.proofs.items.RowWord.read.Goals as goal
 
 pub returns-in_err-key : goal.returns-in_err-key
 returns-in_err-key c =
-    passes (λ e. refl) (λ none y is e. none (hex_of y.key) (key_some y.key is.key) (cut_row y _ _ _ is e c.in-Some.ensures).0)
+    passes (λ e. refl) (λ none y is e. none (hex_of y.key) (is.key.some, is.key.bytes) (cut_row y _ _ _ is e c.in-Some.ensures).0)
     _ _ c.from_residual.ensures.1 c.in_err-key.ensures
 
 pub returns-in_err-value : goal.returns-in_err-value
