@@ -11,7 +11,7 @@ pub struct Table {
 }
 
 /// How many nodes of each kind there are, and how they speak. A script may say any numbers of 32 bits.
-#[derive(Clone, Copy)]
+#[derive(Clone, Copy, Debug, PartialEq, Eq)]
 pub struct Sizes {
     /// Acceptors.
     pub acceptors: u32,
@@ -24,7 +24,7 @@ pub struct Sizes {
 }
 
 /// What a script asks for.
-#[derive(Drop)]
+#[derive(Debug, Drop)]
 pub enum Command {
     /// An event.
     Do(Event),
@@ -33,7 +33,7 @@ pub enum Command {
 }
 
 /// A cluster, what its tables hold at first, and what happens to it.
-#[derive(Drop)]
+#[derive(Debug, Drop)]
 pub struct Script {
     /// The cluster.
     pub sizes: Sizes,
@@ -44,7 +44,7 @@ pub struct Script {
 }
 
 /// What a trace tells of, and what came of it.
-#[derive(Drop)]
+#[derive(Debug, Drop)]
 pub enum Entry {
     /// An event.
     Step(Step),
@@ -62,7 +62,7 @@ pub enum Entry {
 }
 
 /// A run of a script.
-#[derive(Drop)]
+#[derive(Debug, Drop)]
 pub struct Trace {
     /// The cluster.
     pub sizes: Sizes,
