@@ -93,10 +93,3 @@ moves_safely event old new step sound happens =
       occurs = o;
       safe = safe_move event old new step sound.config sound.world sound.reached sound.is o;
     }
-
--- the same of a cluster and a step in other words
-pub moved_as : (event : Event) (old was new : ClusterParts) (made step : Step) → old ≡ was → step ≡ made → IsSound old
-    → Occurs event old new made → MovesSafely event was new step
-moved_as event old was new made step is same sound happens =
-    subst (λ (p : ClusterParts). MovesSafely event p new step) is
-    (subst (λ (s : Step). MovesSafely event old new s) (sym same) (moves_safely event old new made sound happens))

@@ -44,7 +44,8 @@ loop-judge-preserved c =
 pub returns-clause-ok : goal.returns-clause-ok
 returns-clause-ok c =
     let so = c.loop-judge.invariant in
-    let read = subst (λ o. GivesHeard c.loop-judge.reader c.hear.new.self so.1 (Ok o)) c.in_default.is (c.in_ok-heard.ensures.next so.1 so.2) in
+    let read =
+    subst (λ o. GivesHeard c.loop-judge.reader c.hear.new.self so.1 (Ok o)) c.in_default.is (c.in_ok-heard.ensures.next so.1 so.2) in
     found_text c.args.bytes.now c.loop-judge.judge c.loop-judge.lines so.1 c.verdict.result
     (subst (λ (bytes : List ℕ). IsRead bytes so.1) so.0 read) so.3 c.verdict.ensures.ok
 
