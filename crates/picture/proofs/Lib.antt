@@ -2,6 +2,8 @@ pub mod Joins
 pub mod Lines
 pub mod Loops
 pub mod Made
+pub mod Ordered
+pub mod Passed
 pub mod Plain
 pub mod Several
 pub mod TrueStrokes

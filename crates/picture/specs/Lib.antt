@@ -1,6 +1,8 @@
 pub mod Drawing
 pub mod Elements
 pub mod Labels
+pub mod Order
+pub mod Passing
 pub mod Pictures
 pub mod Places
 pub mod Rows

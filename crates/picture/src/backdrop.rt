@@ -5,11 +5,14 @@ ghost use Rattle.std.specs.List.{flat_map};
 ghost use Rattle.xid.specs.declared.refusals.Refusal.TheVariants.{NoMemory};
 ghost use Rattle.picture.specs.Drawing.{band_elements, carried_elements, carried_view, change_elements, lane_elements, lane_on};
 ghost use Rattle.picture.specs.Drawing.{lanes_elements, page_elements};
-ghost use Rattle.picture.specs.Drawing.{page_note, pages_elements, view_after, view_before};
+ghost use Rattle.picture.specs.Drawing.{page_note, pages_elements};
+ghost use Rattle.picture.specs.Order.{Ascend};
+ghost use Rattle.picture.specs.Passing.{AreBefore, page_line};
 
 use crate::elements::{Element, Lettering, Pen, Point};
 use crate::places::{PAGE_LINES, lane_x, page_end, page_of, page_top, row_y};
 use crate::rows::{Row, What};
+use crate::views::Views;
 use itoa::Buffer;
 use net_script::Sizes;
 use protocol::View;
@@ -89,39 +92,6 @@ fn draw_lanes(
     Ok(())
 }
 
-/// The view of a resource manager after a row, if the row is before a line.
-fn view_after(rm: u32, line: u32, view: View, row: &Row) -> View
-    ensures { result ≡ view_after rm line view row.now }
-{
-    match row.what {
-        What::Changes {
-            rm: changed,
-            view: new,
-        } => {
-            if u32::from(changed) == rm && row.line < line {
-                return new;
-            }
-            view
-        }
-        What::At { .. }
-        | What::Takes { .. }
-        | What::Loses { .. }
-        | What::Misses
-        | What::Sends { .. } => view,
-    }
-}
-
-/// The view of a resource manager before a line.
-fn view_before(rows: &[Row], rm: u32, line: u32) -> View
-    ensures { result ≡ view_before rows.now rm line }
-{
-    let mut view = View::Working;
-    for row in rows {
-        view = view_after(rm, line, view, row);
-    }
-    view
-}
-
 /// The band of a view from here to the end of the page, if the resource manager isn't working.
 fn draw_band(
     out: &mut Vec<Element>,
@@ -150,19 +120,26 @@ fn draw_band(
     Ok(())
 }
 
+/// The first line of a page.
+fn page_line(page: u32) -> u32
+    ensures { result ≡ page_line page }
+{
+    page.saturating_mul(PAGE_LINES).saturating_add(1)
+}
+
 /// The view of a resource manager with which a page begins.
 fn draw_carried_view(
     out: &mut Vec<Element>,
     lines: u32,
-    rows: &[Row],
+    views: &Views<'_>,
     page: u32,
     rm: u32,
 ) -> Result<(), Refusal>
-    ensures ok { OnOk result (out.new.items ≡ out.old.items ++ carried_view lines rows.now page rm) }
+    requires { AreBefore views.now (page_line page) }
+    ensures ok { OnOk result (out.new.items ≡ out.old.items ++ carried_view lines views.now.rows.now page rm) }
     ensures err { IfErr result (λ e. e ≡ NoMemory) }
 {
-    let line = page.saturating_mul(PAGE_LINES).saturating_add(1);
-    let view = view_before(rows, rm, line);
+    let view = views.view_of(rm);
     draw_band(out, lines, page, rm, page_top(page) + 22, view)
 }
 
@@ -170,15 +147,16 @@ fn draw_carried_view(
 fn draw_carried(
     out: &mut Vec<Element>,
     lines: u32,
-    rows: &[Row],
+    views: &Views<'_>,
     page: u32,
     rms: u32,
 ) -> Result<(), Refusal>
-    ensures ok { OnOk result (out.new.items ≡ out.old.items ++ carried_elements lines rows.now page rms) }
+    requires { AreBefore views.now (page_line page) }
+    ensures ok { OnOk result (out.new.items ≡ out.old.items ++ carried_elements lines views.now.rows.now page rms) }
     ensures err { IfErr result (λ e. e ≡ NoMemory) }
 {
     for rm in 0..rms {
-        draw_carried_view(out, lines, rows, page, rm)?;
+        draw_carried_view(out, lines, views, page, rm)?;
     }
     Ok(())
 }
@@ -219,10 +197,11 @@ fn draw_page(
     out: &mut Vec<Element>,
     sizes: Sizes,
     lines: u32,
-    rows: &[Row],
+    views: &Views<'_>,
     page: u32,
 ) -> Result<(), Refusal>
-    ensures ok { OnOk result (out.new.items ≡ out.old.items ++ page_elements sizes lines rows.now page) }
+    requires { AreBefore views.now (page_line page) }
+    ensures ok { OnOk result (out.new.items ≡ out.old.items ++ page_elements sizes lines views.now.rows.now page) }
     ensures err { IfErr result (λ e. e ≡ NoMemory) }
 {
     draw_page_note(alloc, out, lines, page)?;
@@ -238,7 +217,7 @@ fn draw_page(
         sizes.leaders,
         sizes.acceptors,
     )?;
-    draw_carried(out, lines, rows, page, sizes.rms)
+    draw_carried(out, lines, views, page, sizes.rms)
 }
 
 /// What stands behind the events of all pages, but the views that change on them. The only refusal is `NoMemory`.
@@ -249,11 +228,14 @@ pub(crate) fn draw_pages(
     lines: u32,
     rows: &[Row],
 ) -> Result<(), Refusal>
+    requires { Ascend 0 rows.now }
     ensures ok { OnOk result (out.new.items ≡ out.old.items ++ pages_elements sizes lines rows.now) }
     ensures err { IfErr result (λ e. e ≡ NoMemory) }
 {
+    let mut views = Views::new(rows);
     for page in 0..page_of(lines) + 1 {
-        draw_page(alloc, out, sizes, lines, rows, page)?;
+        views.pass(page_line(page));
+        draw_page(alloc, out, sizes, lines, &views, page)?;
     }
     Ok(())
 }

@@ -11,6 +11,7 @@ mod places;
 mod rows;
 mod style;
 mod transcript;
+mod views;
 mod writing;
 
 pub use elements::{Element, Lettering, Mark, Pen, Point};
