@@ -1,3 +1,4 @@
+pub mod Firsts
 pub mod Joins
 pub mod Lines
 pub mod Loops

@@ -1,3 +1,4 @@
+pub mod Datagrams
 pub mod Drawing
 pub mod Elements
 pub mod Labels

@@ -1,14 +1,14 @@
 //! What each line of a trace adds to its picture.
 
-ghost use Rattle.std.specs.Prelude.{◌≡◌, ◌++◌, ◌∷◌, [], find, IfErr, OnOk};
-ghost use Rattle.std.specs.List.{flat_map, list_any};
-ghost use Rattle.std.specs.Option.{option_copied};
+ghost use Rattle.std.specs.Prelude.{◌≡◌, ◌++◌, ◌∷◌, [], IfErr, OnOk};
+ghost use Rattle.std.specs.List.{flat_map};
 ghost use Rattle.xid.specs.declared.refusals.Refusal.TheVariants.{NoMemory};
-ghost use Rattle.picture.specs.Drawing.{alone_elements, arrow_elements, arrow_pen, coming_from, short_way, half_way, is_sent};
+ghost use Rattle.picture.specs.Drawing.{alone_elements, arrow_elements, arrow_pen, coming_from, short_way, half_way};
 ghost use Rattle.picture.specs.Drawing.{label_element, linked_elements};
-ghost use Rattle.picture.specs.Drawing.{loss_elements, lost_elements, mark_elements, sent_elements, settles, sign_elements};
-ghost use Rattle.picture.specs.Drawing.{stroke_elements, taken_elements, takes, view_element, whole_way, work_element};
+ghost use Rattle.picture.specs.Drawing.{loss_elements, lost_elements, mark_elements, sent_elements, sign_elements};
+ghost use Rattle.picture.specs.Drawing.{stroke_elements, taken_elements, view_element, whole_way, work_element};
 
+use crate::datagrams::IndexedRows;
 use crate::elements::{Element, Lettering, Mark, Pen, Point};
 use crate::places::{BESIDE, ROW_HEIGHT, node_x, page_of, page_top, row_y};
 use crate::rows::{Row, What};
@@ -23,65 +23,6 @@ const GAP: u64 = 11;
 const BASELINE: u64 = 3;
 /// How far the stroke of a datagram reaches that was never taken.
 const REACH: u64 = 26;
-
-/// Whether a row is that of a datagram of this number, sent before a line.
-fn is_sent(number: u32, line: u32, row: &Row) -> bool
-    ensures { result ≡ is_sent number line row.now }
-{
-    match row.what {
-        What::Sends { number: other, .. } => other == number && row.line < line,
-        What::At { .. }
-        | What::Takes { .. }
-        | What::Loses { .. }
-        | What::Misses
-        | What::Changes { .. } => false,
-    }
-}
-
-/// Whether a row is that of a datagram of this number, taken before a line.
-fn takes(number: u32, line: u32, row: &Row) -> bool
-    ensures { result ≡ takes number line row.now }
-{
-    match row.what {
-        What::Takes { number: other, .. } => other == number && row.line < line,
-        What::At { .. }
-        | What::Sends { .. }
-        | What::Loses { .. }
-        | What::Misses
-        | What::Changes { .. } => false,
-    }
-}
-
-/// Whether a row is that of a datagram of this number, taken or lost.
-fn settles(number: u32, row: &Row) -> bool
-    ensures { result ≡ settles number row.now }
-{
-    match row.what {
-        What::Takes { number: other, .. } | What::Loses { number: other } => other == number,
-        What::At { .. } | What::Misses | What::Sends { .. } | What::Changes { .. } => false,
-    }
-}
-
-/// The row of the datagram of this number, sent before a line.
-fn find_sent(rows: &[Row], number: u32, line: u32) -> Option<&Row>
-    ensures { option_copied result ≡ find (is_sent number line) rows.now }
-{
-    rows.iter().find(|row| is_sent(number, line, row))
-}
-
-/// Whether the datagram of this number was taken before a line.
-fn is_taken_before(rows: &[Row], number: u32, line: u32) -> bool
-    ensures { result ≡ list_any (takes number line) rows.now }
-{
-    rows.iter().any(|row| takes(number, line, row))
-}
-
-/// Whether the datagram of this number is taken or lost.
-fn is_settled(rows: &[Row], number: u32) -> bool
-    ensures { result ≡ list_any (settles number) rows.now }
-{
-    rows.iter().any(|row| settles(number, row))
-}
 
 /// Words beside a point, on the side that is away from where the datagram comes from.
 fn draw_label(
@@ -185,10 +126,10 @@ fn half_way(sizes: Sizes, row: &Row, line: u32) -> Ends
 }
 
 /// How a datagram is drawn that is taken: thin, where it was taken before, or where a part is taken.
-fn arrow_pen(rows: &[Row], line: u32, number: u32, is_whole: bool) -> Pen
+fn arrow_pen(rows: &IndexedRows<'_>, line: u32, number: u32, is_whole: bool) -> Pen
     ensures { result ≡ arrow_pen rows.now line number is_whole }
 {
-    if is_whole && !is_taken_before(rows, number, line) {
+    if is_whole && !rows.is_taken_before(number, line) {
         Pen::Arrow
     } else {
         Pen::Again
@@ -199,7 +140,7 @@ fn arrow_pen(rows: &[Row], line: u32, number: u32, is_whole: bool) -> Pen
 fn draw_arrow(
     out: &mut Vec<Element>,
     sizes: Sizes,
-    rows: &[Row],
+    rows: &IndexedRows<'_>,
     line: u32,
     number: u32,
     is_whole: bool,
@@ -207,7 +148,7 @@ fn draw_arrow(
     ensures ok { OnOk result (out.new.items ≡ out.old.items ++ arrow_elements sizes rows.now line number is_whole) }
     ensures err { IfErr result (λ e. e ≡ NoMemory) }
 {
-    let Some(row) = find_sent(rows, number, line) else {
+    let Some(row) = rows.find_sent(number, line) else {
         return Ok(());
     };
     let Ends { from, to } = whole_way(sizes, row, line);
@@ -220,14 +161,14 @@ fn draw_arrow(
 fn draw_loss(
     out: &mut Vec<Element>,
     sizes: Sizes,
-    rows: &[Row],
+    rows: &IndexedRows<'_>,
     line: u32,
     number: u32,
 ) -> Result<(), Refusal>
     ensures ok { OnOk result (out.new.items ≡ out.old.items ++ loss_elements sizes rows.now line number) }
     ensures err { IfErr result (λ e. e ≡ NoMemory) }
 {
-    let Some(row) = find_sent(rows, number, line) else {
+    let Some(row) = rows.find_sent(number, line) else {
         return Ok(());
     };
     let Ends { from, to } = half_way(sizes, row, line);
@@ -276,7 +217,7 @@ fn short_way(at: Point, receiver: u64) -> Point
 /// A datagram that is sent, and its beginning where it is neither taken nor lost.
 fn draw_sent(
     out: &mut Vec<Element>,
-    rows: &[Row],
+    rows: &IndexedRows<'_>,
     number: u32,
     at: Point,
     receiver: u64,
@@ -285,7 +226,7 @@ fn draw_sent(
     ensures err { IfErr result (λ e. e ≡ NoMemory) }
 {
     draw_work(out, at)?;
-    if is_settled(rows, number) {
+    if rows.is_settled(number) {
         return Ok(());
     }
     out.push(Element::Stroke {
@@ -300,7 +241,7 @@ fn draw_sent(
 fn draw_strokes(
     out: &mut Vec<Element>,
     sizes: Sizes,
-    rows: &[Row],
+    rows: &IndexedRows<'_>,
     row: &Row,
 ) -> Result<(), Refusal>
     ensures ok { OnOk result (out.new.items ≡ out.old.items ++ stroke_elements sizes rows.now row.now) }
@@ -375,7 +316,7 @@ fn draw_taken(
     alloc: Global,
     out: &mut Vec<Element>,
     sizes: Sizes,
-    rows: &[Row],
+    rows: &IndexedRows<'_>,
     row: &Row,
     number: u32,
     mark: Mark,
@@ -383,7 +324,7 @@ fn draw_taken(
     ensures ok { OnOk result (out.new.items ≡ out.old.items ++ taken_elements sizes rows.now row.now number mark) }
     ensures err { IfErr result (λ e. e ≡ NoMemory) }
 {
-    let Some(sent) = find_sent(rows, number, row.line) else {
+    let Some(sent) = rows.find_sent(number, row.line) else {
         return draw_alone(alloc, out, mark, BESIDE, row.line, row.label.as_slice());
     };
     let ends = whole_way(sizes, sent, row.line);
@@ -395,14 +336,14 @@ fn draw_lost(
     alloc: Global,
     out: &mut Vec<Element>,
     sizes: Sizes,
-    rows: &[Row],
+    rows: &IndexedRows<'_>,
     row: &Row,
     number: u32,
 ) -> Result<(), Refusal>
     ensures ok { OnOk result (out.new.items ≡ out.old.items ++ lost_elements sizes rows.now row.now number) }
     ensures err { IfErr result (λ e. e ≡ NoMemory) }
 {
-    let Some(sent) = find_sent(rows, number, row.line) else {
+    let Some(sent) = rows.find_sent(number, row.line) else {
         let label = row.label.as_slice();
         return draw_alone(alloc, out, Mark::Refusal, BESIDE, row.line, label);
     };
@@ -438,7 +379,7 @@ fn draw_signs(
     alloc: Global,
     out: &mut Vec<Element>,
     sizes: Sizes,
-    rows: &[Row],
+    rows: &IndexedRows<'_>,
     row: &Row,
 ) -> Result<(), Refusal>
     ensures ok { OnOk result (out.new.items ≡ out.old.items ++ sign_elements sizes rows.now row.now) }
@@ -466,7 +407,7 @@ fn draw_linked(
     alloc: Global,
     out: &mut Vec<Element>,
     sizes: Sizes,
-    rows: &[Row],
+    rows: &IndexedRows<'_>,
     row: &Row,
 ) -> Result<(), Refusal>
     ensures ok { OnOk result (out.new.items ≡ out.old.items ++ linked_elements sizes rows.now row.now) }
@@ -491,12 +432,13 @@ fn draw_linked(
 pub(crate) fn draw_all_strokes(
     out: &mut Vec<Element>,
     sizes: Sizes,
-    rows: &[Row],
+    rows: &IndexedRows<'_>,
 ) -> Result<(), Refusal>
     ensures ok { OnOk result (out.new.items ≡ out.old.items ++ flat_map (stroke_elements sizes rows.now) rows.now) }
     ensures err { IfErr result (λ e. e ≡ NoMemory) }
 {
-    for row in rows {
+    let all = rows.as_slice();
+    for row in all {
         draw_strokes(out, sizes, rows, row)?;
     }
     Ok(())
@@ -507,12 +449,13 @@ pub(crate) fn draw_all_signs(
     alloc: Global,
     out: &mut Vec<Element>,
     sizes: Sizes,
-    rows: &[Row],
+    rows: &IndexedRows<'_>,
 ) -> Result<(), Refusal>
     ensures ok { OnOk result (out.new.items ≡ out.old.items ++ flat_map (linked_elements sizes rows.now) rows.now) }
     ensures err { IfErr result (λ e. e ≡ NoMemory) }
 {
-    for row in rows {
+    let all = rows.as_slice();
+    for row in all {
         draw_linked(alloc, out, sizes, rows, row)?;
     }
     Ok(())

@@ -2,6 +2,7 @@
 #![tactic(auto)]
 
 mod backdrop;
+mod datagrams;
 mod elements;
 mod happenings;
 mod labels;

@@ -10,6 +10,7 @@ ghost use Rattle.picture.specs.Pictures.{tells_of_sockets, trace_rows};
 ghost use Rattle.picture.specs.Ways.{IsTrueOf};
 
 use crate::backdrop::{draw_changes, draw_pages};
+use crate::datagrams::IndexedRows;
 use crate::elements::{Element, Lettering, Point};
 use crate::happenings::{draw_all_signs, draw_all_strokes};
 use crate::names::address_of;
@@ -86,9 +87,10 @@ fn draw_front(
     ensures ok { OnOk result (out.new.items ≡ out.old.items ++ front_elements bytes.now trace.now) }
     ensures err { IfErr result (λ e. e ≡ NoMemory) }
 {
+    let indexed = IndexedRows::new(alloc, rows)?;
     draw_lines(alloc, out, bytes)?;
-    draw_all_strokes(out, trace.sizes, rows)?;
-    draw_all_signs(alloc, out, trace.sizes, rows)
+    draw_all_strokes(out, trace.sizes, &indexed)?;
+    draw_all_signs(alloc, out, trace.sizes, &indexed)
 }
 
 /// The parts of the picture of a trace, whose text this is. The only refusal is `NoMemory`.

@@ -4,4 +4,4 @@ use Rattle.picture.specs.Drawing.{linked_elements}
 use Rattle.picture.proofs.happenings.draw_all_signs.Given as goal
 
 abbrev pub invariant-loop-row : goal.invariant-loop-row
-invariant-loop-row l = l.out.items ≡ l.fn.out.items ++ flat_map (linked_elements l.sizes l.rows) (take l.row-index l.rows)
+invariant-loop-row l = l.out.items ≡ l.fn.out.items ++ flat_map (linked_elements l.sizes l.rows) (take l.row-index l.all)
