@@ -5,6 +5,7 @@ pub mod ScriptLemmas
 pub mod LawLemmas
 pub mod TraceLemmas
 pub mod WordLemmas
+mod KeyLemmas
 pub mod TidyText
 pub mod DraftLemmas
 pub mod TraceLineLemmas

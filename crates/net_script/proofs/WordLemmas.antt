@@ -128,20 +128,3 @@ table_rows rows t each is e = one_list a_row rows t.rows each is.rows.each (cc)
 
 -- ---- a row, and those before it
 
--- rows with distinct keys: those before one have other keys
-pub keys_before : (rows : List Row) (at : ℕ) (row : Row) (key : List ℕ) → at < length rows → row ≡ get_or rows at row → key ≡ row.key
-    → AllPairs (λ (a b : Row). a.key ≡ b.key → ⊥) rows
-    → All (λ (x : Row). x.key ≡ key → ⊥) (take at rows)
-keys_before rows at row key lt is same pairs k d less e =
-    let before : k < at = omega (arith, length-take at rows) in
-    let here : get_or rows at d ≡ row = get_or_default rows at d row lt ∙ sym is in
-    pairs k at d before lt (rw here (ap (λ (x : Row). x.key) (sym (get_or-take at rows k d before)) ∙ e ∙ same))
-
--- one row more, whose key is new
-pub keys_more : (rows : List Row) (at : ℕ) (row : Row) (key : List ℕ) → at < length rows → row ≡ get_or rows at row → key ≡ row.key
-    → AllPairs (λ (a b : Row). a.key ≡ b.key → ⊥) (take at rows) → All (λ (x : Row). x.key ≡ key → ⊥) (take at rows)
-    → AllPairs (λ (a b : Row). a.key ≡ b.key → ⊥) (take (at + 1) rows)
-keys_more rows at row key lt is same pairs new =
-    rw (take_more rows at row lt)
-    (all_pairs_push (λ (a b : Row). a.key ≡ b.key → ⊥) (take at rows) (get_or rows at row) pairs
-    (λ k d less e. new k d less (e ∙ ap (λ (x : Row). x.key) (sym is) ∙ sym same)))

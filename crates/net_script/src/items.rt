@@ -1,7 +1,8 @@
 //! The items of a script, each of one line, and first tables.
 
-ghost use Rattle.std.specs.Prelude.{◌≢◌, ◌↔◌, IsTrue, true, ◌≡◌, ◌∷◌, Bool, MatchOption, false};
-ghost use Rattle.std.specs.List.{All, AllPairs};
+ghost use Rattle.std.specs.Prelude.{◌≢◌, ◌↔◌, IsTrue, true, ◌≡◌, ◌∷◌, Bool, MatchOption, false, map, IfOk, IfErr};
+ghost use Rattle.std.specs.List.{AllPairs};
+ghost use Rattle.net_script.specs.Basics.{Memory};
 ghost use Rattle.net_script.specs.Lines.{row_text, words};
 ghost use Rattle.net_script.specs.Items.{IsRow, IsContents, contents_words, IsSizes, IsItem, bundled_words, sizes_words, item_words};
 ghost use Rattle.net_script.specs.Laws.{a_row, a_table, a_sizes};
@@ -43,28 +44,27 @@ impl Word for Row {
     }
 }
 
-/// Whether no row has this key.
-fn is_new(rows: &[Row], key: &[u8]) -> bool
-    ensures { IsTrue result ↔ All (λ row. row.key ≢ key.now) rows.now }
+/// Whether keys are distinct: sorted, no two stand beside each other that are the same.
+fn are_distinct(alloc: Global, rows: &[Row]) -> Result<bool, Stop>
+    ensures ok { IfOk result (λ distinct. IsTrue distinct ↔ AllPairs (λ a b. a.key ≢ b.key) rows.now) }
+    ensures err { IfErr result (λ e. e ≡ Memory) }
 {
-    for row in rows {
-        if row.key.as_slice() == key {
-            return false;
-        }
-    }
-    true
+    let mut keys = keys_of(alloc, rows)?;
+    keys.sort_unstable();
+    keys.dedup();
+    Ok(keys.len() == rows.len())
 }
 
-/// Whether keys are distinct.
-fn are_distinct(rows: &[Row]) -> bool
-    ensures { IsTrue result ↔ AllPairs (λ a b. a.key ≢ b.key) rows.now }
+/// The keys of rows.
+fn keys_of(alloc: Global, rows: &[Row]) -> Result<Vec<&[u8]>, Stop>
+    ensures ok { IfOk result (λ keys. map (λ key. key.now) keys.items ≡ map (λ row. row.key) rows.now) }
+    ensures err { IfErr result (λ e. e ≡ Memory) }
 {
-    for (at, row) in rows.iter().enumerate() {
-        if !is_new(&rows[..at], row.key.as_slice()) {
-            return false;
-        }
+    let mut keys = Vec::with_capacity(alloc, rows.len())?;
+    for row in rows {
+        keys.push(row.key.as_slice())?;
     }
-    true
+    Ok(keys)
 }
 
 impl Words for Table {
@@ -79,7 +79,8 @@ impl Words for Table {
     #[inline(never)]
     fn read(alloc: Global, args: &[u8]) -> Result<Table, Stop> {
         let (Manager(rm), rows): (Manager, Sequence<Row>) = Words::read(alloc, args)?;
-        if !are_distinct(rows.as_slice()) {
+        let distinct = are_distinct(alloc, rows.as_slice())?;
+        if !distinct {
             return Err(Stop::Wrong);
         }
         Ok(Table { rm, rows })
