@@ -1,5 +1,5 @@
 -- Datagrams that go out by a port, one send after another.
-use Rattle.std.proofs.Common.{◌≡◌, ◌∙◌, ℕ, false, ◌+◌, ◌<◌, List, [], ◌∷◌, ◌++◌, length, map, take, get_or, refl, sym, ap, subst, Result}
+use Rattle.std.proofs.Common.{◌≡◌, ◌∙◌, ℕ, ◌+◌, ◌<◌, List, [], ◌∷◌, ◌++◌, length, map, take, get_or, refl, sym, ap, subst, Result}
 use Rattle.std.proofs.Common.{None}
 use Rattle.std.specs.List.{flat_map, range_with_len}
 use Rattle.std.proofs.lemmas.Grind.{flat_map-append}
@@ -8,7 +8,6 @@ use Rattle.xid.specs.declared.refusals.Refusal.{Refusal}
 use Rattle.xid.specs.Transactions.{TxParts}
 use Rattle.wire.specs.Grammar.{spelling}
 use Rattle.wire.specs.Messages.{message_tx}
-use Rattle.wire.specs.declared.message.Kind.{Kind}
 use Rattle.protocol.specs.declared.decisions.Address.{Address}
 use Rattle.protocol.specs.declared.decisions.Address.TheVariants as addresses
 use Rattle.protocol.specs.declared.decisions.Outgoing.{Outgoing}
@@ -24,11 +23,7 @@ use Rattle.protocol.specs.Nodes.{Input}
 use Rattle.node_core.specs.declared.output.Output.{Output}
 use Rattle.node_core.specs.Sends.{sent}
 use Rattle.node_core.specs.Storing.{output_of}
-use Rattle.port.specs.Calls.{Sending, SendsAll, datagrams_from}
-
--- an unmarked datagram
-abbrev pub datagram_for : NodeId → Kind → NodeId → Datagram
-datagram_for sender message receiver = record { sender = sender; receiver = receiver; message = message; marked = false }
+use Rattle.port.specs.Calls.{Sending, SendsAll, datagrams_from, datagram_for}
 
 module _ {P : Type 0} (Sent : Sending P) where
   -- more of them after some

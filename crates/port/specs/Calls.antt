@@ -1,8 +1,10 @@
 -- What a node makes of an input at its port: the machine's step, and one send for each datagram of it.
-use Rattle.std.specs.Prelude.{◌≡◌, ℕ, List, [], ◌∷◌, Option, Some, None, Result, Ok, Err}
-use Rattle.std.specs.List.{flat_map}
+use Rattle.std.specs.Prelude.{◌≡◌, ℕ, List, [], ◌∷◌, map, false, Option, Some, None, Result, Ok, Err}
+use Rattle.std.specs.List.{flat_map, range_with_len}
 use Rattle.xid.specs.declared.refusals.Refusal.{Refusal}
 use Rattle.wire.specs.Grammar.{spelling}
+use Rattle.wire.specs.declared.message.Kind.{Kind}
+use Rattle.protocol.specs.declared.nodes.NodeId.TheVariants.{L}
 use Rattle.stable_record.specs.declared.record.RecordError.{RecordError}
 use Rattle.protocol.specs.declared.nodes.NodeId.{NodeId}
 use Rattle.protocol.specs.Effects.{Config}
@@ -13,6 +15,14 @@ use Rattle.node_core.specs.Sends.{sent}
 use Rattle.node_core.specs.Nodes.{NodeParts, NodeStands, StepsAs, datagram_input}
 use Rattle.node_core.specs.Groups.{GroupsAs}
 use Rattle.port.specs.declared.calling.Served.{Served}
+
+-- an unmarked datagram
+abbrev pub datagram_for : NodeId → Kind → NodeId → Datagram
+datagram_for sender message receiver = record { sender = sender; receiver = receiver; message = message; marked = false }
+
+-- so many leaders
+abbrev pub leaders_below : ℕ → List NodeId
+leaders_below count = map L (range_with_len 0 count)
 
 -- a way in which sends change a port
 abbrev pub Sending : Type 0 → Type 1

@@ -2,16 +2,18 @@ ghost use Rattle.std.specs.Prelude.{◌≡◌, [], length, map, IfErr};
 ghost use Rattle.std.specs.List.{flat_map};
 ghost use Rattle.xid.specs.declared.refusals.Refusal.TheVariants.{PortFault};
 ghost use Rattle.stable_record.specs.Held.{IsCounted};
+ghost use Rattle.wire.specs.declared.message.Kind.{Kind};
+ghost use Rattle.wire.specs.Grammar.{Spells};
 ghost use Rattle.protocol.specs.declared.nodes.NodeId.{NodeId as Sender};
 ghost use Rattle.protocol.specs.Worlds.{datagrams_of};
 ghost use Rattle.node_core.specs.Configs.{config_by};
 ghost use Rattle.node_core.specs.Sends.{sent as sent_by};
 ghost use Rattle.node_core.specs.Nodes.{input_of};
-ghost use Rattle.port.specs.Calls.{SendsAll, Calls, CallsAll, Serves, datagrams_from};
+ghost use Rattle.port.specs.Calls.{SendsAll, Calls, CallsAll, Serves, datagrams_from, datagram_for, leaders_below};
 
 use crate::port::{MAX_TAKEN, Port};
 use node_core::{Input, Node, NodeSends, Output, Sizes, receiver_at, receiver_count};
-use protocol::{Answer, Change, Outgoing};
+use protocol::{Address, Answer, Change, NodeId, Outgoing};
 use stable_record::{Record, RecordError};
 use wire::{MAX_DATAGRAM, encode};
 use xid::Refusal;
@@ -38,14 +40,39 @@ fn send<P: Port>(port: &mut P, sizes: Sizes, outgoing: &Outgoing)
     }
 }
 
-/// Sends all messages that a node puts out, in their order.
-fn send_all<P: Port>(port: &mut P, sizes: Sizes, sends: &NodeSends)
+/// Sends bytes to each leader.
+fn send_to_leaders<P: Port>(port: &mut P, leaders: u8, bytes: &[u8])
+    ensures { (sender : Sender) (message : Kind) → Spells message bytes.now → SendsAll P.sent port.old port.new
+        (map (datagram_for sender message) (leaders_below leaders)) }
+{
+    for number in 0..leaders {
+        // what isn't sent is lost, as a datagram may be
+        let _ = port.send(NodeId::L(number), bytes);
+    }
+}
+
+/// Sends the messages of a node one by one, as `send_all` does.
+fn send_one_by_one<P: Port>(port: &mut P, sizes: Sizes, sends: &NodeSends)
     ensures { (sender : Sender) → SendsAll P.sent port.old port.new
         (flat_map (datagrams_of (config_by sizes []) sender) (sent_by sends.now)) }
 {
     for k in 0..sends.count() {
         let outgoing = sends.at(k);
         send(port, sizes, &outgoing);
+    }
+}
+
+/// Sends all messages that a node puts out, in their order. What an acceptor replies is spelled already, and goes to leaders.
+fn send_all<P: Port>(port: &mut P, sizes: Sizes, sends: &NodeSends)
+    ensures { (sender : Sender) → SendsAll P.sent port.old port.new
+        (flat_map (datagrams_of (config_by sizes []) sender) (sent_by sends.now)) }
+{
+    match sends.replied() {
+        Some((Address::Leaders, bytes)) => send_to_leaders(port, sizes.leaders, bytes),
+        Some((Address::Node(node), bytes)) => {
+            let _ = port.send(node, bytes);
+        }
+        _ => send_one_by_one(port, sizes, sends),
     }
 }
 

@@ -4,8 +4,8 @@ use Rattle.wire.specs.Messages.{message_tx}
 use Rattle.protocol.specs.declared.nodes.NodeId.{NodeId}
 use Rattle.protocol.specs.Effects.{receivers}
 use Rattle.node_core.specs.Configs.{config_by}
-use Rattle.port.specs.Calls.{SendsAll}
-use Rattle.port.proofs.Sending.{datagram_for, sends_next}
+use Rattle.port.specs.Calls.{SendsAll, datagram_for}
+use Rattle.port.proofs.Sending.{sends_next}
 use Rattle.port.proofs.calling.send.Goals as goal
 
 pub loop-i-preserved : goal.loop-i-preserved

@@ -3,8 +3,7 @@ use Rattle.wire.specs.Messages.{message_tx}
 use Rattle.protocol.specs.declared.nodes.NodeId.{NodeId}
 use Rattle.protocol.specs.Effects.{receivers}
 use Rattle.node_core.specs.Configs.{config_by}
-use Rattle.port.specs.Calls.{SendsAll}
-use Rattle.port.proofs.Sending.{datagram_for}
+use Rattle.port.specs.Calls.{SendsAll, datagram_for}
 use Rattle.port.proofs.calling.send.Given as goal
 
 -- it was sent to so many of its receivers

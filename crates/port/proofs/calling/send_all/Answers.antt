@@ -1,13 +1,23 @@
-use Rattle.std.proofs.Common.{[], ◌<◌, length, arith}
-use Rattle.protocol.specs.Worlds.{datagrams_of}
+use Rattle.std.proofs.Common.{◌≡◌, ◌∙◌, ap, sym, subst, List, [], ◌∷◌, map}
+use Rattle.std.specs.List.{flat_map}
+use Rattle.std.proofs.lemmas.List.{append-nil}
+use Rattle.protocol.specs.Worlds.{Datagram, datagrams_of}
+use Rattle.protocol.specs.declared.decisions.Address.{Address}
+use Rattle.protocol.specs.declared.decisions.Outgoing.{Outgoing}
 use Rattle.node_core.specs.Configs.{config_by}
-use Rattle.node_core.specs.Sends.{sent}
-use Rattle.port.proofs.Sending.{sends_more}
+use Rattle.port.specs.Calls.{SendsAll, datagram_for, leaders_below}
 use Rattle.port.proofs.calling.send_all.Goals as goal
 
-pub loop-k-preserved : goal.loop-k-preserved
-loop-k-preserved g c =
+pub returns-in-Some-Leaders-default : goal.returns-in-Some-Leaders-default
+returns-in-Some-Leaders-default g c =
     λ sender.
-    let lt : c.loop-k.k < length (sent c.args.sends.now) = omega (arith, c.loop-k-test.true, c.count-k-end.ensures) in
-    sends_more g.P.Port.sent (datagrams_of (config_by c.args.sizes []) sender) (sent c.args.sends.now) c.loop-k.k c.args.port.now
-    c.loop-k.port c.send.new.port c.at-outgoing.result lt c.at-outgoing.ensures (c.loop-k.invariant sender) (c.send.ensures sender)
+    let reply = c.in-Some-Leaders-default.ensures.spells in
+    let message = reply.0 in
+    let all = datagrams_of (config_by c.args.sizes []) sender in
+    let to : Address → Outgoing = λ address. record { to = address; message = message } in
+    let is : map (datagram_for sender message) (leaders_below c.args.sizes.leaders) ≡ flat_map all c.args.sends.now =
+    sym (append-nil (map (datagram_for sender message) (leaders_below c.args.sizes.leaders)))
+    ∙ ap (λ (address : Address). flat_map all (to address ∷ [])) (sym c.in-Some-Leaders-default.field-0-0-is)
+    ∙ ap (flat_map all) (sym reply.2) in
+    subst (λ (ds : List Datagram). SendsAll g.P.Port.sent c.args.port.now c.send_to_leaders.new.port ds) is
+    (c.send_to_leaders.ensures sender message reply.1)
