@@ -7,3 +7,4 @@ pub mod Deciding
 pub mod TransactionTexts
 pub mod Digits
 pub mod LowerHex
+pub mod HexTables

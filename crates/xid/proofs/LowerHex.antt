@@ -1,15 +1,14 @@
 -- Hex without capital letters is the one hex text of what it decodes to: for the readers of names, and of `Hex` in net_script.
-use Rattle.std.proofs.Common.{◌≡◌, ℕ, ◌+◌, ◌*◌, ◌<◌, ◌≤◌, true, List, [], ◌∷◌, length, Option, Some, None, Result, Ok, Err, MatchResult}
+use Rattle.std.proofs.Common.{◌≡◌, ℕ, ◌+◌, ◌*◌, ◌<◌, true, List, [], ◌∷◌, Option, Some, None, Result, Ok, Err}
 use Rattle.std.proofs.Common.{refl, sym, ap, ◌∙◌, arith}
 use Rattle.std.specs.List.{list_all}
 use Rattle.std.proofs.lemmas.Bool.{and_parts}
 use Rattle.std.proofs.lemmas.Bool.Decides.{nat_tests}
-use Rattle.hex.specs.Hex.{hex_digit_value, digit_or_error, value_at, pair_value, decode_pairs, decode_of, decode_sized, ◌>>=◌}
+use Rattle.hex.specs.Hex.{hex_digit_value, digit_or_error, value_at, pair_value, decode_pairs, decode_of, ◌>>=◌}
 use Rattle.hex.specs.declared.error.FromHexError.{FromHexError}
-use Rattle.hex.proofs.HexLemmas.{decode_of-even, decode_of-ok, decode_of-encode_lower, decode_sized-ok, decode_sized-twice}
-use Rattle.xid.proofs.Texts.{list_all-hex_text, length-hex_text}
-use Rattle.xid.specs.Limits.{most_component}
-use Rattle.xid.specs.Names.{IsBytes, IsComponent}
+use Rattle.hex.proofs.HexLemmas.{decode_of-even, decode_of-ok, decode_of-encode_lower}
+use Rattle.xid.proofs.Texts.{list_all-hex_text}
+use Rattle.xid.specs.Names.{IsBytes}
 use Rattle.xid.specs.Text.{hex_text, is_no_capital}
 
 -- hex has no capital letter
@@ -115,22 +114,3 @@ lower_again text bytes h lower =
     pairs_same 0 0 text (hex_text bytes) bytes (sym (decode_of-even text ok.0) ∙ h) (sym (decode_of-even (hex_text bytes) its.0) ∙ again)
     lower
     (hex_lacks bytes ok.3)
-
-sized_ok : (d : Result (List ℕ) FromHexError) (r : Result Unit FromHexError) (out : List ℕ)
-    → MatchResult d (λ bytes. (r ≡ Ok tt) × (out ≡ bytes)) (λ e. r ≡ Err e) → r ≡ Ok tt → d ≡ Ok out
-sized_ok (Ok bytes) r out h e = ap (λ (l : List ℕ). Ok l) (sym h.1)
-sized_ok (Err x) r out h e = absurd (cc (sym h ∙ e))
-
--- and so is what was decoded into its room
-pub lower_component : (text : List ℕ) (n : ℕ) (r : Result Unit FromHexError) (out : List ℕ)
-    → MatchResult (decode_sized text n) (λ bytes. (r ≡ Ok tt) × (out ≡ bytes)) (λ e. r ≡ Err e) → r ≡ Ok tt
-    → list_all is_no_capital text ≡ true → 0 < n → n ≤ most_component
-    → IsComponent out × (text ≡ hex_text out)
-lower_component text n r out h e lower some few =
-    let sized = sized_ok (decode_sized text n) r out h e in
-    let len = decode_sized-ok text n out sized in
-    let decoded : decode_of text ≡ Ok out = sym (decode_sized-twice text n len) ∙ sized in
-    let ok = decode_of-ok text out decoded in
-    let same = lower_again text out decoded lower in
-    let count : length out ≡ n = omega (arith, len, ap length same, length-hex_text out) in
-    (record { some = omega (arith, count); few = omega (arith, count); bytes = ok.3 }, same)

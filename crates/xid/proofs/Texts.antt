@@ -1,6 +1,6 @@
 -- Texts that are read: a number's, a component's, and a text cut at a mark.
 use Rattle.std.proofs.Common.{zero, suc, eq-eqb, ◌≡◌, ℕ, ◌*◌, ◌/◌, ◌%◌, ◌<◌, ◌≤◌, ◌^◌, Bool, true, false, not, ◌&&◌, eqb, List}
-use Rattle.std.proofs.Common.{[], ◌∷◌, ◌++◌, length, get_or, take, replicate, Result, Ok, Err, MatchResult}
+use Rattle.std.proofs.Common.{[], ◌∷◌, ◌++◌, length, get_or, Result, Ok}
 use Rattle.std.proofs.Common.{refl, sym, ap, subst, ◌∙◌, arith}
 use Rattle.std.specs.Fmt.{decimal}
 use Rattle.std.specs.List.{list_all}
@@ -10,12 +10,11 @@ use Rattle.std.specs.Str.Parse.{ParsesUnsigned}
 use Rattle.std.proofs.lemmas.Str.{IsUtf8-from_ascii}
 use Rattle.std.proofs.lemmas.Str.Parse.{numerals_by_value, tells_by_index}
 use Rattle.std.proofs.lemmas.Fmt.{IsAscii-decimal, parse-decimal, digits_decimal}
-use Rattle.std.proofs.lemmas.List.{append_assoc, length-take, length-replicate}
+use Rattle.std.proofs.lemmas.List.{append_assoc}
 use Rattle.std.proofs.lemmas.List.Folds.{list_all-append}
 use Rattle.std.proofs.lemmas.Bool.Decides.{nat_tests}
-use Rattle.hex.proofs.HexLemmas.{length-encode_with, decode_sized-encode_lower}
-use Rattle.hex.specs.Hex.{decode_sized, lower_digits, encode_with}
-use Rattle.hex.specs.declared.error.FromHexError.{FromHexError}
+use Rattle.hex.proofs.HexLemmas.{length-encode_with}
+use Rattle.hex.specs.Hex.{lower_digits, encode_with}
 use Rattle.xid.specs.Names.{IsBytes, XidParts, IsXid}
 use Rattle.xid.specs.Text.{hex_text, lacks, xid_text, Extends}
 
@@ -118,16 +117,6 @@ parsed n text r lt e h = parse-decimal 32 n text r lt (omega arith) e h
 -- the length of a hex text
 pub length-hex_text : (xs : List ℕ) → length (hex_text xs) ≡ 2 * length xs
 length-hex_text xs = length-encode_with lower_digits xs
-
-pub length-room : (n : ℕ) → n ≤ 64 → length (take n (replicate {A = ℕ} 64 0)) ≡ n
-length-room n few = simp (length-take, length-replicate) (omega arith)
-
--- what decoding a hex text gives
-pub decoded : (xs text : List ℕ) (n : ℕ) (r : Result Unit FromHexError) (out : List ℕ) → IsBytes xs → length xs ≡ n → text ≡ hex_text xs
-    → MatchResult (decode_sized text n) (λ bytes. (r ≡ Ok tt) × (out ≡ bytes)) (λ e. r ≡ Err e) → (r ≡ Ok tt) × (out ≡ xs)
-decoded xs text n r out bytes len e h =
-    let d : decode_sized text n ≡ Ok xs = ap (λ (t : List ℕ). decode_sized t n) e ∙ decode_sized-encode_lower xs n len bytes in
-    rw d at h
 
 -- ---- an XID
 

@@ -6,6 +6,7 @@ ghost use Rattle.std.specs.Ordering.{nat_cmp, as_partial_cmp};
 ghost use Rattle.std.specs.Hash as fed;
 ghost use Rattle.std.proofs.Common.{rules};
 ghost use Rattle.xid.specs.Limits.{most_component};
+ghost use Rattle.xid.specs.Padding.{Padded};
 
 use crate::limits::MAX_COMPONENT;
 use std::cmp::Ordering;
@@ -45,6 +46,17 @@ impl Component {
         Component {
             len: bytes.len() as u8,
             bytes: all,
+        }
+    }
+
+    /// The first bytes of an array as a component; the others are zero.
+    pub(crate) fn of_padded(len: usize, bytes: [u8; MAX_COMPONENT]) -> Component
+        requires { Padded len bytes }
+        ensures { result ≡ take len bytes }
+    {
+        Component {
+            len: len as u8,
+            bytes,
         }
     }
 

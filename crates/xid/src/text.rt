@@ -9,6 +9,7 @@ ghost use Rattle.xid.specs.Text.{hex_text, is_no_capital, lacks, Extends};
 ghost use Rattle.xid.specs.declared.refusals.Refusal.TheVariants.{NoMemory};
 
 use crate::component::Component;
+use crate::hex_digits::read_hex;
 use crate::limits::MAX_COMPONENT;
 use crate::refusals::Refusal;
 use itoa::Buffer;
@@ -145,13 +146,12 @@ pub(crate) fn component(text: &[u8]) -> Option<Component>
     if len == 0 || len > MAX_COMPONENT {
         return None;
     }
-    if !lacks_capitals(text) {
+    if text.len() % 2 != 0 {
         return None;
     }
     let mut bytes = [0; MAX_COMPONENT];
-    let shown = &mut bytes[..len];
-    let Ok(()) = hex::decode_to_slice(text, &mut *shown) else {
+    if !read_hex(text, &mut bytes[..len]) {
         return None;
-    };
-    Some(Component::new(shown))
+    }
+    Some(Component::of_padded(len, bytes))
 }
