@@ -3,13 +3,13 @@ use Rattle.std.proofs.Common.{◌≡◌, ℕ, zero, suc, ◌+◌, ◌*◌, ◌/�
 use Rattle.std.proofs.Common.{length, take, get_or, set, refl, sym, ap, subst, ◌∙◌, inl, inr, arith}
 use Rattle.std.specs.Int.Bits.{bit_or}
 use Rattle.std.proofs.lemmas.Nat.{or_lt, le_or_l, le_or_r}
-use Rattle.std.proofs.lemmas.Bool.{and_parts, or_cases, cases_lt}
+use Rattle.std.proofs.lemmas.Bool.{and_parts, or_cases, cases_lt, eqb-true}
 use Rattle.std.proofs.lemmas.Bool.Decides.{nat_tests}
 use Rattle.std.proofs.lemmas.List.{append_assoc, take_more, take_more_set, take_all}
 use Rattle.hex.specs.Hex.{lower_digits, encode_with}
 use Rattle.xid.specs.Names.{IsBytes}
 use Rattle.xid.specs.Text.{hex_text}
-use Rattle.xid.specs.declared.hex_digits.TheConstants.{VALUES}
+use Rattle.xid.specs.declared.hex_digits.TheConstants.{VALUES, PAIRS}
 use Rattle.xid.proofs.Texts.{hex_append, length-hex_text}
 
 -- a test of each number below a limit
@@ -47,6 +47,19 @@ value_of_digit : (v : ℕ) → v < 16 → get_or VALUES (get_or lower_digits v 0
 value_of_digit v small =
     let test = at_below (λ d. eqb (get_or VALUES (get_or lower_digits d 0) 0) d) 16 v refl small in
     grind (arith, nat_tests, test)
+
+-- the two digits of a byte
+abbrev is_pair : ℕ → Bool
+is_pair b =
+    eqb (get_or (get_or PAIRS b []) 0 0) (get_or lower_digits (b / 16) 0)
+    && eqb (get_or (get_or PAIRS b []) 1 0) (get_or lower_digits (b % 16) 0)
+
+pub pair_of : (b : ℕ) → b < 256
+    → (get_or (get_or PAIRS b []) 0 0 ≡ get_or lower_digits (b / 16) 0) × (get_or (get_or PAIRS b []) 1 0 ≡ get_or lower_digits (b % 16) 0)
+pair_of b byte =
+    let tests = and_parts (eqb (get_or (get_or PAIRS b []) 0 0) (get_or lower_digits (b / 16) 0))
+    (eqb (get_or (get_or PAIRS b []) 1 0) (get_or lower_digits (b % 16) 0)) (at_below is_pair 256 b refl byte) in
+    (eqb-true _ _ tests.0, eqb-true _ _ tests.1)
 
 -- ---- bytes that are read
 

@@ -9,7 +9,7 @@ ghost use Rattle.xid.specs.Text.{hex_text, is_no_capital, lacks, Extends};
 ghost use Rattle.xid.specs.declared.refusals.Refusal.TheVariants.{NoMemory};
 
 use crate::component::Component;
-use crate::hex_digits::read_hex;
+use crate::hex_digits::{read_hex, write_hex};
 use crate::limits::MAX_COMPONENT;
 use crate::refusals::Refusal;
 use itoa::Buffer;
@@ -114,9 +114,7 @@ fn put_short_hex(bytes: &[u8], out: &mut Vec<u8>) -> Result<(), Refusal>
 {
     let mut text = [0; 2 * MAX_COMPONENT];
     let written = &mut text[..2 * bytes.len()];
-    let Ok(()) = hex::encode_to_slice(bytes, written) else {
-        unreachable!();
-    };
+    write_hex(bytes, &mut *written);
     out.extend_from_slice(written)?;
     Ok(())
 }
