@@ -1,11 +1,12 @@
 -- Digits with no zero in front are the one text of the number that they write: for `short_number`.
-use Rattle.std.proofs.Common.{◌≡◌, ℕ, ◌+◌, ◌-◌, ◌*◌, ◌<◌, ◌≤◌, ◌^◌, List, length, take, get_or, decimal, sym, ap, subst, ◌∙◌, arith}
+use Rattle.std.proofs.Common.{◌≡◌, ℕ, ◌+◌, ◌-◌, ◌*◌, ◌/◌, ◌%◌, ◌<◌, ◌≤◌, ◌^◌, List, [], ◌∷◌, ◌++◌, append_assoc, refl, length, take, get_or, decimal, sym, ap, subst, ◌∙◌, arith}
 use Rattle.std.specs.Char.{digit_value}
 use Rattle.std.specs.Int.{IsInRange}
 use Rattle.std.specs.Str.Parse.{AllDigits, digits_value}
-use Rattle.std.proofs.lemmas.Fmt.{decimal-digits_value}
+use Rattle.std.proofs.lemmas.Fmt.{decimal-digits_value, decimal_digit}
 use Rattle.std.proofs.lemmas.Int.Digits.{digits_value_more, digits_more}
 use Rattle.std.proofs.lemmas.Str.{digit_value_digit}
+use Rattle.itoa.proofs.Decimal.{pair, decimal_two, decimal_pair, decimal_four}
 use Rattle.std.proofs.lemmas.Str.Parse.{numerals_by_value, tells_digits}
 
 -- digits, and the number that they write
@@ -32,3 +33,32 @@ pub digits_are_text : (text : List ℕ) (n : ℕ) → AreDigits text n → 0 < l
 digits_are_text text n are some lead small =
     let spelled = decimal-digits_value (numerals_by_value _ tells_digits) text are.digits some lead (omega (arith, are.value)) in
     sym (ap decimal are.value ∙ spelled)
+
+-- ---- numbers that are written some digits at a time
+
+abbrev pub four_digits : ℕ → List ℕ
+four_digits n = (48 + n / 1000) ∷ (48 + n / 100 % 10) ∷ (48 + n / 10 % 10) ∷ (48 + n % 10) ∷ []
+
+pub decimal_three : (n : ℕ) → 100 ≤ n → n < 1000 → decimal n ≡ (48 + n / 100) ∷ (48 + n % 100 / 10) ∷ (48 + n % 100 % 10) ∷ []
+decimal_three n low high =
+    decimal_pair n low (omega arith) ∙ ap (λ (front : List ℕ). front ++ pair (n % 100)) (decimal_digit (n / 100) (omega arith))
+
+four_are : (n : ℕ) → n < 10000 → pair (n / 100) ++ pair (n % 100) ≡ four_digits n
+four_are n high =
+    let a : n / 100 / 10 ≡ n / 1000 = omega arith in
+    let c : n % 100 / 10 ≡ n / 10 % 10 = omega arith in
+    let d : n % 100 % 10 ≡ n % 10 = omega arith in
+    rw (a, c, d) refl
+
+pub decimal_of_four : (n : ℕ) → 1000 ≤ n → n < 10000 → decimal n ≡ four_digits n
+decimal_of_four n low high =
+    decimal_pair n (omega arith) (omega arith) ∙ ap (λ (front : List ℕ). front ++ pair (n % 100)) (decimal_two (n / 100) (omega arith) (omega arith))
+    ∙ four_are n high
+
+-- the last four digits, behind those before them
+pub four_more : (n : ℕ) (old new : List ℕ) → new ≡ old ++ decimal (n / 10000) → 10000 ≤ n → n < 2 ^ 32
+    → new ++ four_digits (n % 10000) ≡ old ++ decimal n
+four_more n old new is low high =
+    ap (λ (front : List ℕ). front ++ four_digits (n % 10000)) is ∙ append_assoc old (decimal (n / 10000)) (four_digits (n % 10000))
+    ∙ ap (λ (back : List ℕ). old ++ (decimal (n / 10000) ++ back)) (sym (four_are (n % 10000) (omega arith)))
+    ∙ ap (λ (text : List ℕ). old ++ text) (sym (decimal_four n low (omega arith)))

@@ -17,7 +17,7 @@ abbrev all_below : (ℕ → Bool) → ℕ → Bool
 all_below p zero = true
 all_below p (suc n) = p n && all_below p n
 
-at_below : (p : ℕ → Bool) (n k : ℕ) → all_below p n ≡ true → k < n → p k ≡ true
+pub at_below : (p : ℕ → Bool) (n k : ℕ) → all_below p n ≡ true → k < n → p k ≡ true
 at_below p zero k h lt = absurd (omega arith)
 at_below p (suc n) k h lt =
     let parts = and_parts (p n) (all_below p n) h in

@@ -6,6 +6,7 @@ mod branch_id;
 mod branches;
 mod codes;
 mod component;
+mod digit_pairs;
 mod hex_digits;
 mod limits;
 mod refusals;
