@@ -155,12 +155,11 @@ pub fn split_once(text: &[u8], mark: u8) -> Option<(&[u8], &[u8])>
 pub fn lacks_capitals(text: &[u8]) -> bool
     ensures { result ≡ list_all is_no_capital text.now }
 {
+    let mut lacks = true;
     for byte in text {
-        if (b'A'..=b'Z').contains(byte) {
-            return false;
-        }
+        lacks &= (*byte < b'A') | (*byte > b'Z');
     }
-    true
+    lacks
 }
 
 /// Writes the hex text of a few bytes at the end. At `NoMemory`, the only refusal, there may be a beginning of it.

@@ -1,7 +1,7 @@
-use Rattle.std.proofs.Common.{◌≡◌, true, take}
+use Rattle.std.proofs.Common.{◌≡◌, ◌&&◌, drop}
 use Rattle.std.specs.List.{list_all}
 use Rattle.xid.specs.Text.{is_no_capital}
 use Rattle.xid.proofs.text.lacks_capitals.Given as goal
 
 abbrev pub invariant-loop-byte : goal.invariant-loop-byte
-invariant-loop-byte l = list_all is_no_capital (take l.byte-index l.text) ≡ true
+invariant-loop-byte l = list_all is_no_capital l.text ≡ l.lacks && list_all is_no_capital (drop l.byte-index l.text)
