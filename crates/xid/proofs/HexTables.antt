@@ -1,5 +1,6 @@
 -- Tables of hex digits, and loops over bytes and their two digits each.
-use Rattle.std.proofs.Common.{◌≡◌, ℕ, zero, suc, ◌+◌, ◌*◌, ◌/◌, ◌%◌, ◌<◌, ◌≤◌, ◌^◌, Bool, true, ◌&&◌, ◌||◌, eqb, nat_le, List, [], ◌∷◌, ◌++◌}
+use Rattle.std.proofs.Common.{◌≡◌, ℕ, zero, suc, ◌+◌, ◌*◌, ◌/◌, ◌%◌, ◌<◌, ◌≤◌}
+use Rattle.std.proofs.Common.{◌^◌, Bool, true, ◌&&◌, ◌||◌, eqb, nat_le, List, [], ◌∷◌, ◌++◌}
 use Rattle.std.proofs.Common.{length, take, get_or, set, refl, sym, ap, subst, ◌∙◌, inl, inr, arith}
 use Rattle.std.specs.Int.Bits.{bit_or}
 use Rattle.std.proofs.lemmas.Nat.{or_lt, le_or_l, le_or_r}
@@ -131,8 +132,10 @@ read_more text bytes i all high low b len at is h l byte small reads =
         let a : all < 16 = omega (arith, le_or_l all high, le_or_l (bit_or all high) low) in
         let hi : high < 16 = omega (arith, le_or_r all high, le_or_l (bit_or all high) low) in
         let lo : low < 16 = omega (arith, le_or_r (bit_or all high) low) in
-        let digit : get_or lower_digits high 0 ≡ first = ap (λ (v : ℕ). get_or lower_digits v 0) h ∙ digit_read first (is (2 * i)) (omega (arith, h)) in
-        let digit' : get_or lower_digits low 0 ≡ second = ap (λ (v : ℕ). get_or lower_digits v 0) l ∙ digit_read second (is (2 * i + 1)) (omega (arith, l)) in
+        let digit : get_or lower_digits high 0 ≡ first = ap (λ (v : ℕ). get_or lower_digits v 0) h
+        ∙ digit_read first (is (2 * i)) (omega (arith, h)) in
+        let digit' : get_or lower_digits low 0 ≡ second = ap (λ (v : ℕ). get_or lower_digits v 0) l
+        ∙ digit_read second (is (2 * i + 1)) (omega (arith, l)) in
         let two : 2 * (i + 1) ≡ 2 * i + 1 + 1 = omega arith in
         let pair : hex_text (b ∷ []) ≡ first ∷ second ∷ [] = one_byte b high low hi lo (byte hi lo)
         ∙ ap (λ (v : ℕ). v ∷ get_or lower_digits low 0 ∷ []) digit ∙ ap (λ (v : ℕ). first ∷ v ∷ []) digit' in
@@ -147,8 +150,10 @@ read_more text bytes i all high low b len at is h l byte small reads =
     other : 16 ≤ bit_or (bit_or all high) low → (xs : List ℕ) → IsBytes xs → text ≡ hex_text xs → ⊥
     other many xs bytes-of e =
         let values = small_values xs i bytes-of (omega (arith, ap length e, length-hex_text xs)) in
-        let hi : high < 16 = subst (λ (v : ℕ). v < 16) (sym (h ∙ ap (λ (t : List ℕ). get_or VALUES (get_or t (2 * i) 0) 0) e)) values.0 in
-        let lo : low < 16 = subst (λ (v : ℕ). v < 16) (sym (l ∙ ap (λ (t : List ℕ). get_or VALUES (get_or t (2 * i + 1) 0) 0) e)) values.1 in
+        let hi : high < 16 = subst (λ (v : ℕ). v < 16)
+        (sym (h ∙ ap (λ (t : List ℕ). get_or VALUES (get_or t (2 * i) 0) 0) e)) values.0 in
+        let lo : low < 16 = subst (λ (v : ℕ). v < 16)
+        (sym (l ∙ ap (λ (t : List ℕ). get_or VALUES (get_or t (2 * i + 1) 0) 0) e)) values.1 in
         elim (cases_lt all 16) [
           | inl few ↦
               let one : bit_or all high < 2 ^ 4 = or_lt 4 all high few hi in

@@ -15,27 +15,36 @@ use crate::limits::MAX_COMPONENT;
 use crate::refusals::Refusal;
 use itoa::Buffer;
 
-/// The least number to which no digit is put: what nine digits write has 32 bits.
-const TOO_LONG: u32 = 100_000_000;
+/// No number below 2^32 has more digits.
+const MOST_DIGITS: usize = 10;
 
-/// The number of a text that is its few digits, which most texts of numbers are.
+/// The number of a text that is its digits, with no zero in front.
 fn short_number(text: &[u8]) -> Option<u32>
     ensures { IfSome result (λ n. text.now ≡ decimal n) }
 {
     let [first, ..] = text else {
         return None;
     };
-    if *first == b'0' && text.len() > 1 {
+    if text.len() == 1 && *first >= b'0' && *first <= b'9' {
+        return Some(u32::from(*first - b'0'));
+    }
+    if *first == b'0' {
+        return None;
+    }
+    if text.len() > MOST_DIGITS {
         return None;
     }
     let mut number = 0;
     for byte in text {
-        if *byte < b'0' || *byte > b'9' || number >= TOO_LONG {
+        if *byte < b'0' || *byte > b'9' {
             return None;
         }
-        number = number * 10 + u32::from(*byte - b'0');
+        number = number * 10 + u64::from(*byte - b'0');
     }
-    Some(number)
+    if number >= 1 << 32 {
+        return None;
+    }
+    Some(number as u32)
 }
 
 /// The same of any text, which is read leniently and then compared with the one text of what was read.

@@ -18,4 +18,5 @@ loop-i-preserved c =
 
 pub returns : goal.returns
 returns c =
-    encode_done lower_digits c.args.bytes.now c.loop-i.text c.loop-i.i c.loop-i-test.false (omega (arith, c.loop-i.auto.text)) c.loop-i.invariant
+    encode_done lower_digits c.args.bytes.now c.loop-i.text c.loop-i.i c.loop-i-test.false (omega (arith, c.loop-i.auto.text))
+    c.loop-i.invariant

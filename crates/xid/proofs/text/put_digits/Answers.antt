@@ -17,4 +17,5 @@ returns-clause-ok c =
     let front = c.in_ok-put_four_digits.ensures.ok
     ∙ four_more high old c.put_short_number-2.new.out.items c.in_ok-put_short_number-2.ensures.ok c.if-high-lt10000.false (omega arith) in
     subst (λ (t : List ℕ). OnOk c.put_four_digits-3.result (c.put_four_digits-3.new.out.items ≡ t))
-    (four_more c.args.number old c.put_four_digits-2.new.out.items front c.if-number-lt10000.false (omega arith)) c.put_four_digits-3.ensures.ok
+    (four_more c.args.number old c.put_four_digits-2.new.out.items front c.if-number-lt10000.false (omega arith))
+    c.put_four_digits-3.ensures.ok
