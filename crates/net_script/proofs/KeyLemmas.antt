@@ -1,6 +1,6 @@
 -- Keys that are sorted, and of which each that is the one before it is let go: all are left exactly where no two are the same.
-use Rattle.std.proofs.Common.{◌≡◌, ◌≢◌, ◌∙◌, refl, sym, ap, subst, ℕ, ◌+◌, ◌-◌, ◌<◌, ◌≤◌, suc, zero, Bool, true, false, cond, arith, eqb}
-use Rattle.std.proofs.Common.{List, [], ◌∷◌, length, map, get_or, ◌↔◌, IsPermutation, nat_cmp, Ordering}
+use Rattle.std.proofs.Common.{◌≡◌, ◌≢◌, ◌∙◌, refl, sym, ap, subst, ℕ, ◌≤◌, suc, Bool, true, false, arith}
+use Rattle.std.proofs.Common.{List, [], ◌∷◌, length, map, ◌↔◌, IsPermutation, nat_cmp}
 use Rattle.std.specs.List.{AllPairs, AllByRecursion, IsDistinct, dedup, dedup_from}
 use Rattle.std.specs.List.Sorted.{IsSorted, IsStrictlySortedBy}
 use mathlib.Core.Path.{fun_ext}
@@ -117,19 +117,19 @@ module _ {K : Type 0} (f : K → List ℕ) where
   distinct_by_sorting rows keys sorted same moved many up =
       let texts = map (λ (row : Row). row.key) rows in
       let long : length sorted ≡ length rows =
-          many ∙ sym (length-map keys f) ∙ ap length same ∙ length-map rows (λ (row : Row). row.key) in (
+      many ∙ sym (length-map keys f) ∙ ap length same ∙ length-map rows (λ (row : Row). row.key) in (
         λ e.
-        let whole : dedup alike sorted ≡ sorted = none_goes alike sorted (e ∙ sym long) in
-        let rises = IsStrictlySortedBy-dedup ordered (λ x y. sym (is_eq-slice_cmp (f x) (f y))) sorted up in
-        let apart : IsDistinct alike sorted =
+            let whole : dedup alike sorted ≡ sorted = none_goes alike sorted (e ∙ sym long) in
+            let rises = IsStrictlySortedBy-dedup ordered (λ x y. sym (is_eq-slice_cmp (f x) (f y))) sorted up in
+            let apart : IsDistinct alike sorted =
             subst (λ (e : K → K → Bool). IsDistinct e sorted) (fun_ext (λ x. fun_ext (λ y. is_eq-slice_cmp (f x) (f y))))
             (IsDistinct-from_sorted (λ (x y : K). slice_cmp nat_cmp (f x) (f y)) sorted
             (subst (IsStrictlySortedBy (λ (x y : K). slice_cmp nat_cmp (f x) (f y))) whole rises)) in
-        let keys_are : IsDistinct alike keys = IsDistinct-IsPermutation alike flips sorted keys (IsPermutation-sym keys sorted moved) apart in
-        rows_apart rows (AllPairs-from_IsDistinct bytes_eq-Decides texts (subst (IsDistinct bytes_eq) same (mapped f keys keys_are))),
+            let keys_are : IsDistinct alike keys = IsDistinct-IsPermutation alike flips sorted keys (IsPermutation-sym keys sorted moved) apart in
+            rows_apart rows (AllPairs-from_IsDistinct bytes_eq-Decides texts (subst (IsDistinct bytes_eq) same (mapped f keys keys_are))),
         λ pairs.
-        let apart : IsDistinct bytes_eq (map f keys) =
+            let apart : IsDistinct bytes_eq (map f keys) =
             subst (IsDistinct bytes_eq) (sym same) (IsDistinct-from_AllPairs bytes_eq-Decides texts (keys_apart rows pairs)) in
-        let sorted_are : IsDistinct alike sorted = IsDistinct-IsPermutation alike flips keys sorted moved (given f keys apart) in
-        ap length (all_stay alike flips sorted sorted_are) ∙ long,
+            let sorted_are : IsDistinct alike sorted = IsDistinct-IsPermutation alike flips keys sorted moved (given f keys apart) in
+            ap length (all_stay alike flips sorted sorted_are) ∙ long,
       )

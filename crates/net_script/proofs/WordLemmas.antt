@@ -127,4 +127,3 @@ pub table_rows : (rows : List Row) (t : Table) {rm : List ℕ} → All IsRow row
 table_rows rows t each is e = one_list a_row rows t.rows each is.rows.each (cc)
 
 -- ---- a row, and those before it
-

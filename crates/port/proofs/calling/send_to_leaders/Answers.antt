@@ -12,7 +12,7 @@ loop-number-preserved g c =
     λ sender message spells.
     let n = c.loop-number.number in
     let more : map (datagram_for sender message) (leaders_below n) ++ datagram_for sender message (L n) ∷ []
-        ≡ map (datagram_for sender message) (leaders_below (n + 1)) =
+    ≡ map (datagram_for sender message) (leaders_below (n + 1)) =
     sym (map_push (datagram_for sender message) (leaders_below n) (L n))
     ∙ ap (map (datagram_for sender message)) (sym (map-range_with_len_more (λ k. L k) 0 n n (omega arith))) in
     subst (λ (ds : List Datagram). SendsAll g.P.Port.sent c.args.port.now c.send.new.self ds) more
