@@ -2,8 +2,8 @@
 use Rattle.std.proofs.Common.{eq-eqb, ◌≡◌, ℕ, ◌<◌, ◌^◌, Bool, true, false, cond, not, ◌⊎◌, inl, inr, eqb, List, [], ◌∷◌, ◌+◌, ◌-◌, ◌≤◌}
 use Rattle.std.proofs.Common.{take, get_or, ◌++◌, length, Ok, Option, None, Some, refl, sym, ap, ◌∙◌, arith, decimal, zero, suc, drop}
 use Rattle.std.proofs.Common.{eqb-true, map}
-use Rattle.std.proofs.lemmas.List.{length-append, take_all, take_rest, get_or_default, get_or-take, length-take, take_more}
-use Rattle.std.specs.List.{onto_first, All, AllPairs}
+use Rattle.std.proofs.lemmas.List.{length-append, take_all, take_rest}
+use Rattle.std.specs.List.{onto_first, All}
 use Rattle.std.proofs.lemmas.Bool.{not-true}
 use Rattle.std.specs.Str.{bytes_eq}
 use Rattle.std.proofs.lemmas.Slice.Eq.{bytes_eq-Decides}
@@ -14,7 +14,6 @@ use Rattle.xid.proofs.TransactionTexts.{hex_same}
 use Rattle.net_script.specs.Lines.{pieces, IsFirstPiece, Reads, IsSome, bytes_text, row_text}
 pub use Rattle.net_script.specs.Laws.{differ, hex_some, hex_decodes, bytes_are_hex, bytes_injective, hex_long}
 use Rattle.memchr.specs.Find.{IsFirstByte, is_byte}
-use Rattle.std.proofs.lemmas.List.Quantifiers.{all_pairs_push}
 use Rattle.net_script.specs.Basics.{IsBytes, hex_text, Row, Table}
 use Rattle.net_script.specs.Laws.{hex_lacks_equals, a_row}
 use Rattle.net_script.specs.Items.{IsRow, IsContents, contents_words}
