@@ -1,7 +1,7 @@
 //! The nodes of a cluster, as their processes drive them: groups of datagrams and of client calls go in, each group is stored by one
 //! append, and datagrams go out by a port, signed or not.
 use crate::digest::Digest;
-use crate::numbers::Numbers;
+use crate::numbers::{Numbers, rounds};
 use crate::posts::Post;
 use anyhow::{Result, bail};
 use hmac::Key;
@@ -21,6 +21,9 @@ const ROWS: u32 = 20_000;
 
 /// How many rounds of datagrams a transaction takes, at most.
 const ROUNDS: u32 = 32;
+
+/// How many pairs of clusters run, with other numbers in each.
+const PAIRS: u32 = 2;
 
 /// The nodes of the cluster, by their places: the one leader stands behind three acceptors, before two resource managers.
 const NODES: [NodeId; 6] = [
@@ -361,23 +364,29 @@ fn commit_all(
 }
 
 /// Transactions commit in a cluster that signs its datagrams, and in one that doesn't.
-pub fn commit(alloc: Global, seed: u32, parts: u32, digest: &mut Digest) -> Result<()> {
-    let mut numbers = Numbers::new(seed, 6);
+fn commit_pair(
+    alloc: Global,
+    parts: u32,
+    numbers: &mut Numbers,
+    digest: &mut Digest,
+) -> Result<()> {
     let key = Key::new(b"a key of thirty-two bytes, no less");
     commit_all(
         alloc,
         Some(key),
         2_400 / parts.max(1),
         parts,
-        &mut numbers,
+        numbers,
         digest,
     )?;
-    commit_all(
-        alloc,
-        None,
-        7_200 / parts.max(1),
-        parts,
-        &mut numbers,
-        digest,
-    )
+    commit_all(alloc, None, 7_200 / parts.max(1), parts, numbers, digest)
+}
+
+/// Transactions commit in clusters that sign their datagrams, and in as many that don't.
+pub fn commit(alloc: Global, seed: u32, parts: u32, digest: &mut Digest) -> Result<()> {
+    let mut numbers = Numbers::new(seed, 6);
+    for _ in 0..rounds(PAIRS, parts) {
+        commit_pair(alloc, parts, &mut numbers, digest)?;
+    }
+    Ok(())
 }

@@ -1,7 +1,7 @@
 //! The jobs over scripts and traces: simulating, auditing, drawing.
 use crate::digest::Digest;
 use crate::kinds::{COMMIT, FAILING, FAILING_BUNDLED, STEADY, Steady};
-use crate::numbers::Numbers;
+use crate::numbers::{Numbers, rounds};
 use crate::scripts::{failing, steady};
 use crate::tables::{Contents, KeyOrder, with_contents};
 use anyhow::Result;
@@ -10,6 +10,18 @@ use cluster_run::{run, run_to};
 use picture::picture;
 use std::alloc::{AllocError, Global};
 use xid::Refusal;
+
+/// How many rounds of scripts are run, with other numbers in each.
+const RUN_ROUNDS: u32 = 2;
+
+/// How many rounds of traces are audited.
+const AUDIT_ROUNDS: u32 = 2;
+
+/// How many rounds of large first tables there are.
+const TABLE_ROUNDS: u32 = 3;
+
+/// How many rounds of traces are drawn.
+const DRAW_ROUNDS: u32 = 2;
 
 /// How many short scripts of failing clusters make a campaign.
 const CAMPAIGN: u32 = 160;
@@ -33,22 +45,35 @@ fn simulate_one(alloc: Global, script: &[u8], digest: &mut Digest) {
     }
 }
 
-/// Runs scripts of all kinds.
-pub fn simulate(alloc: Global, seed: u32, parts: u32, digest: &mut Digest) -> Result<()> {
-    let mut numbers = Numbers::new(seed, 1);
+/// Runs scripts of all kinds, once.
+fn simulate_round(
+    alloc: Global,
+    parts: u32,
+    numbers: &mut Numbers,
+    digest: &mut Digest,
+) -> Result<()> {
     for kind in STEADY {
         let Steady {
             shape,
             transactions,
         } = kind.fewer(parts);
-        let script = steady(alloc, &shape, transactions, &mut numbers)?;
+        let script = steady(alloc, &shape, transactions, numbers)?;
         simulate_one(alloc, &script, digest);
     }
     for _ in 0..(CAMPAIGN / parts.max(1)).max(1) {
-        let script = failing(alloc, &FAILING, &mut numbers)?;
+        let script = failing(alloc, &FAILING, numbers)?;
         simulate_one(alloc, &script, digest);
-        let script = failing(alloc, &FAILING_BUNDLED, &mut numbers)?;
+        let script = failing(alloc, &FAILING_BUNDLED, numbers)?;
         simulate_one(alloc, &script, digest);
+    }
+    Ok(())
+}
+
+/// Runs scripts of all kinds.
+pub fn simulate(alloc: Global, seed: u32, parts: u32, digest: &mut Digest) -> Result<()> {
+    let mut numbers = Numbers::new(seed, 1);
+    for _ in 0..rounds(RUN_ROUNDS, parts) {
+        simulate_round(alloc, parts, &mut numbers, digest)?;
     }
     Ok(())
 }
@@ -101,20 +126,33 @@ fn audit_one(alloc: Global, script: &[u8], digest: &mut Digest) -> Result<()> {
     }
 }
 
-/// Audits traces of scripts of all kinds.
-pub fn audit(alloc: Global, seed: u32, parts: u32, digest: &mut Digest) -> Result<()> {
-    let mut numbers = Numbers::new(seed, 2);
+/// Audits traces of scripts of all kinds, once.
+fn audit_round(
+    alloc: Global,
+    parts: u32,
+    numbers: &mut Numbers,
+    digest: &mut Digest,
+) -> Result<()> {
     for kind in STEADY {
         let Steady {
             shape,
             transactions,
         } = kind.fewer(parts.saturating_mul(5));
-        let script = steady(alloc, &shape, transactions, &mut numbers)?;
+        let script = steady(alloc, &shape, transactions, numbers)?;
         audit_one(alloc, &script, digest)?;
     }
     for _ in 0..(CAMPAIGN / parts.saturating_mul(5).max(1)).max(1) {
-        let script = failing(alloc, &FAILING, &mut numbers)?;
+        let script = failing(alloc, &FAILING, numbers)?;
         audit_one(alloc, &script, digest)?;
+    }
+    Ok(())
+}
+
+/// Audits traces of scripts of all kinds.
+pub fn audit(alloc: Global, seed: u32, parts: u32, digest: &mut Digest) -> Result<()> {
+    let mut numbers = Numbers::new(seed, 2);
+    for _ in 0..rounds(AUDIT_ROUNDS, parts) {
+        audit_round(alloc, parts, &mut numbers, digest)?;
     }
     Ok(())
 }
@@ -159,15 +197,19 @@ const TABLES: [Contents; 6] = [
     },
 ];
 
-/// Runs scripts with large first tables, and audits their traces.
-pub fn tables(alloc: Global, seed: u32, parts: u32, digest: &mut Digest) -> Result<()> {
-    let mut numbers = Numbers::new(seed, 3);
+/// Runs scripts with large first tables, and audits their traces, once.
+fn tables_round(
+    alloc: Global,
+    parts: u32,
+    numbers: &mut Numbers,
+    digest: &mut Digest,
+) -> Result<()> {
     for full in TABLES {
         let contents = Contents {
             rows: (full.rows / parts.max(1)).max(10),
             ..full
         };
-        let script = with_contents(alloc, &contents, &mut numbers)?;
+        let script = with_contents(alloc, &contents, numbers)?;
         match run(alloc, &script) {
             Ok(trace) => {
                 digest.take(&trace);
@@ -179,6 +221,15 @@ pub fn tables(alloc: Global, seed: u32, parts: u32, digest: &mut Digest) -> Resu
             }
             Err(refusal) => digest.number(refused(refusal)),
         }
+    }
+    Ok(())
+}
+
+/// Runs scripts with large first tables, and audits their traces.
+pub fn tables(alloc: Global, seed: u32, parts: u32, digest: &mut Digest) -> Result<()> {
+    let mut numbers = Numbers::new(seed, 3);
+    for _ in 0..rounds(TABLE_ROUNDS, parts) {
+        tables_round(alloc, parts, &mut numbers, digest)?;
     }
     Ok(())
 }
@@ -206,17 +257,25 @@ fn draw_one(alloc: Global, script: &[u8], copies: u8, digest: &mut Digest) -> Re
     }
 }
 
-/// Draws traces of short, longer and long runs.
-pub fn draw(alloc: Global, seed: u32, parts: u32, digest: &mut Digest) -> Result<()> {
-    let mut numbers = Numbers::new(seed, 4);
+/// Draws traces of short, longer and long runs, once.
+fn draw_round(alloc: Global, parts: u32, numbers: &mut Numbers, digest: &mut Digest) -> Result<()> {
     for _ in 0..(20 / parts.max(1)).max(1) {
-        let script = failing(alloc, &FAILING, &mut numbers)?;
+        let script = failing(alloc, &FAILING, numbers)?;
         draw_one(alloc, &script, 2, digest)?;
     }
     for transactions in [8, 24, 48, 192] {
         let fewer = (transactions / parts.max(1)).max(1);
-        let script = steady(alloc, &COMMIT, fewer, &mut numbers)?;
+        let script = steady(alloc, &COMMIT, fewer, numbers)?;
         draw_one(alloc, &script, 2, digest)?;
+    }
+    Ok(())
+}
+
+/// Draws traces of short, longer and long runs.
+pub fn draw(alloc: Global, seed: u32, parts: u32, digest: &mut Digest) -> Result<()> {
+    let mut numbers = Numbers::new(seed, 4);
+    for _ in 0..rounds(DRAW_ROUNDS, parts) {
+        draw_round(alloc, parts, &mut numbers, digest)?;
     }
     Ok(())
 }

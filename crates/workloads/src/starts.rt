@@ -1,13 +1,16 @@
 //! Nodes that start over a record, make it shorter, and start over what is left.
 use crate::digest::Digest;
 use crate::frames::{BRANCHES, FrameVersion, acceptor_record, leader_record, manager_record};
-use crate::numbers::Numbers;
+use crate::numbers::{Numbers, rounds};
 use anyhow::{Result, bail};
 use node_core::{Config, Node};
 use protocol::{NodeId, Row};
 use stable_record::MemRecord;
 use std::alloc::Global;
 use xid::{Refusal, Sequence};
+
+/// How many rounds the job takes, with other numbers in each.
+const ROUNDS: u32 = 2;
 
 /// How many groups of transactions a record has.
 const GROUPS: u32 = 2_400;
@@ -57,22 +60,35 @@ fn start_one(alloc: Global, who: NodeId, bytes: Vec<u8>, digest: &mut Digest) ->
     Ok(())
 }
 
-/// Nodes of all kinds start over long records, and over some of the first version.
-pub fn start(alloc: Global, seed: u32, parts: u32, digest: &mut Digest) -> Result<()> {
-    let mut numbers = Numbers::new(seed, 5);
+/// Nodes of all kinds start over long records, and over some of the first version, once.
+fn start_round(
+    alloc: Global,
+    parts: u32,
+    numbers: &mut Numbers,
+    digest: &mut Digest,
+) -> Result<()> {
     let groups = (GROUPS / parts.max(1)).max(2);
     for version in [FrameVersion::First, FrameVersion::Second] {
         let so_many = match version {
             FrameVersion::First => groups / 2,
             FrameVersion::Second => groups,
         };
-        let bytes = acceptor_record(alloc, version, so_many, &mut numbers)?;
+        let bytes = acceptor_record(alloc, version, so_many, numbers)?;
         start_one(alloc, NodeId::A(1), bytes, digest)?;
         for keys in [1_000, 1_000_000] {
-            let bytes = manager_record(alloc, version, so_many, keys, &mut numbers)?;
+            let bytes = manager_record(alloc, version, so_many, keys, numbers)?;
             start_one(alloc, NodeId::R(2), bytes, digest)?;
         }
     }
-    let bytes = leader_record(alloc, groups, &mut numbers)?;
+    let bytes = leader_record(alloc, groups, numbers)?;
     start_one(alloc, NodeId::L(1), bytes, digest)
+}
+
+/// Nodes of all kinds start over long records, and over some of the first version.
+pub fn start(alloc: Global, seed: u32, parts: u32, digest: &mut Digest) -> Result<()> {
+    let mut numbers = Numbers::new(seed, 5);
+    for _ in 0..rounds(ROUNDS, parts) {
+        start_round(alloc, parts, &mut numbers, digest)?;
+    }
+    Ok(())
 }
