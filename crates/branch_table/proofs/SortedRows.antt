@@ -2,20 +2,17 @@
 use Rattle.std.proofs.Common.{◌≡◌, ◌∙◌, ◌⊎◌, ℕ, suc, ◌+◌, Bool, true, false, ◌&&◌, cond, List, [], ◌∷◌, get_or, map, Option, Some, None}
 use Rattle.std.proofs.Common.{refl, sym, ap, subst, arith, inl, inr}
 use Rattle.std.specs.List.{AllByRecursion, IsDistinct, cons_option, list_any}
-use Rattle.std.specs.List.Sorted.{IsSorted, IsPermutation}
+use Rattle.std.specs.List.Sorted.{IsSortedByKey, IsPermutation}
 use Rattle.std.specs.Option.{option_map}
 use Rattle.std.specs.Cmp.Lexicographic.{slice_cmp}
-use Rattle.std.specs.Ordering.{nat_cmp, is_lt, ordering_then}
+use Rattle.std.specs.Ordering.{nat_cmp, is_lt}
 use Rattle.std.specs.Str.{bytes_eq}
-use Rattle.std.specs.declared.cmp.Ordering.{Ordering}
-use Rattle.std.specs.declared.cmp.Ordering.TheVariants.{Less, Equal, Greater}
 use Rattle.std.proofs.lemmas.Bool.{and_from, and_parts, both_ways, or_cases, or_left, or_right}
 use Rattle.std.proofs.lemmas.List.Sorted.{IsPermutation-map, list_any-IsPermutation}
 use Rattle.std.proofs.lemmas.Map.Keys.{IsDistinct-IsPermutation}
 use Rattle.std.proofs.lemmas.Slice.Eq.{bytes_eq-Decides}
 use Rattle.protocol.specs.declared.rows.Row.{Row}
 use Rattle.protocol.specs.Branches.{row_at}
-use Rattle.protocol.specs.Rows.{row_cmp}
 use Rattle.branch_table.specs.Parts.{place_at, rows_in, table_of}
 use Rattle.branch_table.specs.declared.places.Place.{Place}
 use Rattle.branch_table.proofs.TableRows.{AscendRows, before_more, first_value, flipped, later_by, same_rows, table_ascends, table_at}
@@ -142,30 +139,26 @@ same_found rows sorted apart also moved key = by (row_at rows key) refl (row_at 
         let found = found_from rows key v apart (list_any-IsPermutation (is_row_of key v) rows sorted moved ∙ found_to sorted key v f) in
         absurd (cc (e, found))
 
--- ---- sorted they ascend
+-- ---- sorted by their keys they ascend
 
-then_lt : (o p : Ordering) → is_lt (ordering_then o p) ≡ false → is_lt o ≡ false
-then_lt Less p e = e
-then_lt Equal p e = refl
-then_lt Greater p e = refl
-
-sorted_ascend : (rows : List Row) → IsSorted row_cmp rows → IsDistinct bytes_eq (row_keys rows) → AscendRows rows
+sorted_ascend : (rows : List Row) → IsSortedByKey (λ (row : Row). row.key) (slice_cmp nat_cmp) rows → IsDistinct bytes_eq (row_keys rows)
+    → AscendRows rows
 unfolding IsDistinct
 sorted_ascend [] sorted apart = tt
 sorted_ascend (row ∷ []) sorted apart = (tt, tt)
 sorted_ascend (row ∷ next ∷ rows) sorted apart =
     let cmp = slice_cmp nat_cmp in
     let less = later_by row.key next.key (cmp next.key row.key) refl apart.0.0
-    (then_lt (cmp next.key row.key) (cmp next.value row.value) (sorted 0 row (omega arith) (omega arith))) in
+    (sorted 0 row (omega arith) (omega arith)) in
     let rest = sorted_ascend (next ∷ rows)
     (λ k d le lt.
     let more : suc k + 1 ≡ suc (k + 1) = omega arith in
-    subst (λ (n : ℕ). is_lt (row_cmp (get_or (row ∷ next ∷ rows) n d) (get_or (row ∷ next ∷ rows) (suc k) d)) ≡ false) more
+    subst (λ (n : ℕ). is_lt (cmp (get_or (row ∷ next ∷ rows) n d).key (get_or (row ∷ next ∷ rows) (suc k) d).key) ≡ false) more
     (sorted (suc k) d (omega arith) (omega (arith, lt)))) apart.1 in
     ((less, before_more row.key next.key rows less rest.0), rest)
 
 pub sorted_table : (places : Known) (sorted : List Row) → IsDistinct bytes_eq (keys_known places)
-    → IsPermutation (rows_in places) sorted → IsSorted row_cmp sorted → sorted ≡ table_of places
+    → IsPermutation (rows_in places) sorted → IsSortedByKey (λ (row : Row). row.key) (slice_cmp nat_cmp) sorted → sorted ≡ table_of places
 sorted_table places sorted apart moved ordered =
     let rows = rows_apart places apart in
     let also = IsDistinct-IsPermutation bytes_eq flipped (row_keys (rows_in places)) (row_keys sorted)

@@ -8,6 +8,7 @@ mod keys;
 mod looks;
 mod outcomes;
 mod places;
+mod sorting;
 mod table;
 
 pub use table::{BranchTable, Ending};

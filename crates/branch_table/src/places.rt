@@ -14,6 +14,7 @@ ghost use Rattle.branch_table.specs.Tables.{are_rows, first_table, is_row};
 
 use crate::hold::Hold;
 use crate::looks::Looks;
+use crate::sorting::sorted_by_keys;
 use indexmap::IndexMap;
 use protocol::Row;
 use stable_record::{Act, Touched};
@@ -238,7 +239,6 @@ impl Places {
                 rows.push(Row { key, value })?;
             }
         }
-        rows.sort_unstable();
-        Ok(rows)
+        Ok(sorted_by_keys(alloc, rows))
     }
 }

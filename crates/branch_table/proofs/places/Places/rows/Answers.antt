@@ -11,8 +11,8 @@ returns-clause-ok c =
     let places = known (λ k. k.items) c.self.inside.known.entries in
     let same : c.loop-key.rows.items ≡ rows_in c.args.self.now =
     grind (arith, common_steps, c.loop-key.invariant, c.in-None.ensures.steps) in
-    let moved = subst (λ rows. IsPermutation rows c.sort_unstable.new.self.items) (same ∙ ap rows_in (sym c.self.view_is))
-    c.sort_unstable.ensures.permutation in
-    sorted_table places c.sort_unstable.new.self.items (distinct_known (λ k. k.items) c.self.inside.known.entries c.len.ensures.unique)
+    let moved = subst (λ rows. IsPermutation rows c.sorted_by_keys.result.items) (same ∙ ap rows_in (sym c.self.view_is))
+    c.sorted_by_keys.ensures.permutation in
+    sorted_table places c.sorted_by_keys.result.items (distinct_known (λ k. k.items) c.self.inside.known.entries c.len.ensures.unique)
     moved
-    c.sort_unstable.ensures.sorted ∙ ap table_of c.self.view_is
+    c.sorted_by_keys.ensures.sorted ∙ ap table_of c.self.view_is
