@@ -25,7 +25,7 @@ use Rattle.stable_record.specs.Reading.{fact_at, row_at, about_at, entry_at, key
 use Rattle.stable_record.proofs.Spelled.{key_spelled, value_spelled, keys_spelled, leader_ballot_spelled, instance_spelled}
 
 -- a fact that was taken after its transaction
-record Fact_front (v : Version) (code : ℕ) (tx : TxParts) (bytes : List ℕ) (x : Fact × List ℕ) : Type 0 where
+pub record Fact_front (v : Version) (code : ℕ) (tx : TxParts) (bytes : List ℕ) (x : Fact × List ℕ) : Type 0 where
   pub front : Front bytes (rest_spelling v x.0) x.1
   pub numbered : code ≡ fact_byte x.0
   pub about : fact_tx x.0 ≡ tx
@@ -112,7 +112,7 @@ module _ (v : VersionNumber) (tx : TxParts) (valid : IsTx tx) (bytes : List ℕ)
   as_read : (code n : ℕ) → code ≡ n → Fact_front (version_of v) n tx bytes x → Fact_front (version_of v) code tx bytes x
   as_read code n e front = subst (λ (k : ℕ). Fact_front (version_of v) k tx bytes x) (sym e) front
 
-  rest_cases : (code : ℕ) → fact_at (version_of v) code tx bytes ≡ Some x → Fact_front (version_of v) code tx bytes x
+  pub rest_cases : (code : ℕ) → fact_at (version_of v) code tx bytes ≡ Some x → Fact_front (version_of v) code tx bytes x
   unfolding fact_at
   rest_cases code e =
       choose (code == 1) _ _ e (λ t e. as_read code 1 (eqb-true code 1 t) (promise_spelled e)) (λ e.

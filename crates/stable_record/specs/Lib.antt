@@ -7,3 +7,5 @@ pub mod Held
 pub mod Records
 pub mod Parts
 pub mod Spelled
+pub mod Rests
+pub mod Views

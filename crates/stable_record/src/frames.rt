@@ -1,9 +1,11 @@
-ghost use Rattle.std.specs.Prelude.{◌≡◌, ◌⊎◌, ℕ, ◌≤◌, List, length, drop, IfOk, IfErr, MatchOption};
+ghost use Rattle.std.specs.Prelude.{◌≡◌, ◌⊎◌, ℕ, ◌≤◌, List, length, drop, IfOk, IfErr, IfSome, MatchOption};
 ghost use Rattle.xid.specs.declared.refusals.Refusal.TheVariants.{Damaged, NoMemory};
 ghost use Rattle.stable_record.specs.Grammar.{most_body, IsTail, IsFramed, IsStored, IsDamaged, HasNoFrame};
+ghost use Rattle.stable_record.specs.Views.{HasBody, entry_seen};
 
 use crate::entry::Entry;
-use crate::reading::entry_of;
+use crate::reading::{entry_of, view_of};
+use crate::view::EntryView;
 use std::alloc::Global;
 use wire::take_number;
 use xid::Refusal;
@@ -11,11 +13,11 @@ use xid::Refusal;
 /// How many bytes the body of a frame has at most.
 pub const MAX_BODY: u32 = 32768;
 
-/// The entry whose frame stands at the front, and what follows it: for a record that is read one entry after the other. None where the
-/// bytes are a tail. Refused: `Damaged` where they are neither, and `NoMemory`.
-pub fn take_frame(alloc: Global, bytes: &[u8]) -> Result<Option<(Entry, &[u8])>, Refusal>
-    ensures ok { IfOk result (λ found. MatchOption found (IsTail bytes.now) (λ x. IsFramed x.0 bytes.now x.1.now)) }
-    ensures err { IfErr result (λ e. ((e ≡ Damaged) × HasNoFrame bytes.now) ⊎ (e ≡ NoMemory)) }
+/// The body of the frame that stands at the front, and what follows the frame. None where the bytes are a tail. Refused (`Damaged`) where
+/// they have no such length in front.
+fn take_body(bytes: &[u8]) -> Result<Option<(&[u8], &[u8])>, Refusal>
+    ensures ok { IfOk result (λ found. MatchOption found (IsTail bytes.now) (λ x. HasBody bytes.now x.0.now x.1.now)) }
+    ensures err { IfErr result (λ e. (e ≡ Damaged) × HasNoFrame bytes.now) }
 {
     let Some((len, rest)) = take_number(bytes) else {
         return Ok(None);
@@ -30,9 +32,38 @@ pub fn take_frame(alloc: Global, bytes: &[u8]) -> Result<Option<(Entry, &[u8])>,
     if rest.len() < len {
         return Ok(None);
     }
-    let (body, after) = rest.split_at(len);
-    match entry_of(alloc, body) {
-        Ok(kind) => Ok(Some((Entry::new(kind), after))),
+    Ok(Some(rest.split_at(len)))
+}
+
+/// The entry whose frame stands at the front, and what follows it: for a record that is read one entry after the other. None where the
+/// bytes are a tail. Refused: `Damaged` where they are neither, and `NoMemory`.
+pub fn take_frame(alloc: Global, bytes: &[u8]) -> Result<Option<(Entry, &[u8])>, Refusal>
+    ensures ok { IfOk result (λ found. MatchOption found (IsTail bytes.now) (λ x. IsFramed x.0 bytes.now x.1.now)) }
+    ensures err { IfErr result (λ e. ((e ≡ Damaged) × HasNoFrame bytes.now) ⊎ (e ≡ NoMemory)) }
+{
+    match take_body(bytes) {
+        Ok(Some((body, after))) => match entry_of(alloc, body) {
+            Ok(kind) => Ok(Some((Entry::new(kind), after))),
+            Err(e) => Err(e),
+        },
+        Ok(None) => Ok(None),
+        Err(e) => Err(e),
+    }
+}
+
+/// The entry whose frame stands at the front, over the bytes, and what follows it: for a record that is played. None where this is for
+/// `take_frame` to say: an entry about no transaction, a frame of version 1, or a tail. Refused as `take_frame` is.
+pub fn view_frame(alloc: Global, bytes: &[u8]) -> Result<Option<(EntryView<'_>, &[u8])>, Refusal>
+    ensures ok { IfOk result (λ found. IfSome found (λ x. IsFramed (entry_seen x.0) bytes.now x.1.now)) }
+    ensures err { IfErr result (λ e. ((e ≡ Damaged) × HasNoFrame bytes.now) ⊎ (e ≡ NoMemory)) }
+{
+    match take_body(bytes) {
+        Ok(Some((body, after))) => match view_of(alloc, body) {
+            Ok(Some(entry)) => Ok(Some((entry, after))),
+            Ok(None) => Ok(None),
+            Err(e) => Err(e),
+        },
+        Ok(None) => Ok(None),
         Err(e) => Err(e),
     }
 }

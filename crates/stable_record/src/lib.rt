@@ -11,16 +11,18 @@ mod memory;
 mod reading;
 mod record;
 mod spelled_fact;
+mod view;
 mod writing;
 
 pub use entry::{Entry, EntryKind};
 pub use fact::{Act, Fact, FactKind, Touched};
 pub use failing::{FailRecord, Leaves};
 pub use file::FileRecord;
-pub use frames::{MAX_BODY, entries, take_frame};
+pub use frames::{MAX_BODY, entries, take_frame, view_frame};
 pub use memory::MemRecord;
 pub use record::{Record, RecordError, Tear};
 pub use spelled_fact::{FactRest, SpelledFact};
+pub use view::{AnyRest, EntryView, FactView};
 
 #[cfg(test)]
 mod file_tests;

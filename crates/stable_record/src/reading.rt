@@ -1,16 +1,23 @@
 ghost use Rattle.std.specs.Prelude.{◌≡◌, ◌⊎◌, ℕ, ◌+◌, List, [], ◌++◌, length};
-ghost use Rattle.wire.specs.Versions.{version_of};
+ghost use Rattle.xid.specs.Transactions.{TxParts};
+ghost use Rattle.wire.specs.Versions.{version_of, version_2};
 ghost use Rattle.wire.specs.Reading.{taken, list_at, instance_at};
 ghost use Rattle.stable_record.specs.Reading.{IsRead, IsReadWhole, value_at, key_at, act_at, touched_at, are_ascending, keys_at};
 ghost use Rattle.stable_record.specs.Reading.{leader_ballot_at, promise_at, accept_at, ballot_at, promise_all_at, vote_prepared_at};
 ghost use Rattle.stable_record.specs.Reading.{fact_at, row_at, about_at, entry_at, version_at, body_at};
+ghost use Rattle.stable_record.specs.Rests.{fact_of};
+ghost use Rattle.stable_record.specs.Views.{IsReadAs, IsSeen, entry_seen};
 
 use crate::entry::EntryKind;
-use crate::fact::{Act, FactKind, Touched};
+use crate::fact::{Act, Touched};
+use crate::view::{AnyRest, EntryView, FactView};
 use byteorder::{BigEndian, ByteOrder};
 use std::alloc::Global;
 use std::cmp::Ordering;
-use wire::{VersionNumber, take_byte, take_component, take_number, take_rm, take_tx, take_vote};
+use wire::{
+    SpelledTx, VERSION, VersionNumber, take_byte, take_component, take_number, take_rm, take_tx,
+    take_vote,
+};
 use xid::{Bytes, MAX_TOUCHED, MAX_VALUE, Refusal, Sequence, Tx};
 
 /// Takes a value from the front. Each of these functions answers what it took and what follows it, and `Damaged` where it doesn't
@@ -153,8 +160,8 @@ fn take_leader_ballot(bytes: &[u8]) -> Option<(u32, &[u8])>
 }
 
 #[tactic(auto, unfolding(crate::specs::Reading::promise_at, wire::specs::Reading::instance_at))]
-fn take_promise(version: VersionNumber, tx: Tx, bytes: &[u8]) -> Result<(FactKind, &[u8]), Refusal>
-    ensures { IsRead (promise_at (version_of version) tx bytes.now) result }
+fn take_promise(version: VersionNumber, bytes: &[u8]) -> Result<(AnyRest, &[u8]), Refusal>
+    ensures { (tx : TxParts) → IsReadAs (fact_of tx) (promise_at (version_of version) tx bytes.now) result }
 {
     let Some((instance, rest)) = take_rm(version, bytes) else {
         return Err(Refusal::Damaged);
@@ -162,19 +169,12 @@ fn take_promise(version: VersionNumber, tx: Tx, bytes: &[u8]) -> Result<(FactKin
     let Some((ballot, rest)) = take_number(rest) else {
         return Err(Refusal::Damaged);
     };
-    Ok((
-        FactKind::Promise {
-            tx,
-            instance,
-            ballot,
-        },
-        rest,
-    ))
+    Ok((AnyRest::Promise { instance, ballot }, rest))
 }
 
 #[tactic(auto, unfolding(crate::specs::Reading::accept_at, wire::specs::Reading::instance_at))]
-fn take_accept(version: VersionNumber, tx: Tx, bytes: &[u8]) -> Result<(FactKind, &[u8]), Refusal>
-    ensures { IsRead (accept_at (version_of version) tx bytes.now) result }
+fn take_accept(version: VersionNumber, bytes: &[u8]) -> Result<(AnyRest, &[u8]), Refusal>
+    ensures { (tx : TxParts) → IsReadAs (fact_of tx) (accept_at (version_of version) tx bytes.now) result }
 {
     let Some((instance, rest)) = take_rm(version, bytes) else {
         return Err(Refusal::Damaged);
@@ -186,8 +186,7 @@ fn take_accept(version: VersionNumber, tx: Tx, bytes: &[u8]) -> Result<(FactKind
         return Err(Refusal::Damaged);
     };
     Ok((
-        FactKind::Accept {
-            tx,
+        AnyRest::Accept {
             instance,
             ballot,
             vote,
@@ -197,55 +196,54 @@ fn take_accept(version: VersionNumber, tx: Tx, bytes: &[u8]) -> Result<(FactKind
 }
 
 #[tactic(auto, unfolding(crate::specs::Reading::ballot_at))]
-fn take_ballot(tx: Tx, bytes: &[u8]) -> Result<(FactKind, &[u8]), Refusal>
-    ensures { IsRead (ballot_at tx bytes.now) result }
+fn take_ballot(bytes: &[u8]) -> Result<(AnyRest, &[u8]), Refusal>
+    ensures { (tx : TxParts) → IsReadAs (fact_of tx) (ballot_at tx bytes.now) result }
 {
     let Some((ballot, rest)) = take_leader_ballot(bytes) else {
         return Err(Refusal::Damaged);
     };
-    Ok((FactKind::Ballot { tx, ballot }, rest))
+    Ok((AnyRest::Ballot { ballot }, rest))
 }
 
 #[tactic(auto, unfolding(crate::specs::Reading::promise_all_at))]
-fn take_promise_all(tx: Tx, bytes: &[u8]) -> Result<(FactKind, &[u8]), Refusal>
-    ensures { IsRead (promise_all_at tx bytes.now) result }
+fn take_promise_all(bytes: &[u8]) -> Result<(AnyRest, &[u8]), Refusal>
+    ensures { (tx : TxParts) → IsReadAs (fact_of tx) (promise_all_at tx bytes.now) result }
 {
     let Some((ballot, rest)) = take_leader_ballot(bytes) else {
         return Err(Refusal::Damaged);
     };
-    Ok((FactKind::PromiseAll { tx, ballot }, rest))
+    Ok((AnyRest::PromiseAll { ballot }, rest))
 }
 
 #[tactic(auto, unfolding(crate::specs::Reading::vote_prepared_at))]
-fn take_vote_prepared(alloc: Global, tx: Tx, bytes: &[u8]) -> Result<(FactKind, &[u8]), Refusal>
-    ensures { IsRead (vote_prepared_at tx bytes.now) result }
+fn take_vote_prepared(alloc: Global, bytes: &[u8]) -> Result<(AnyRest, &[u8]), Refusal>
+    ensures { (tx : TxParts) → IsReadAs (fact_of tx) (vote_prepared_at tx bytes.now) result }
 {
     match take_keys(alloc, bytes) {
-        Ok((keys, rest)) => Ok((FactKind::VotePrepared { tx, keys }, rest)),
+        Ok((keys, rest)) => Ok((AnyRest::VotePrepared { keys }, rest)),
         Err(e) => Err(e),
     }
 }
 
-/// Takes the fact of a kind, by the kind's number, whose fields follow the transaction.
+/// Takes what follows the transaction of a fact of a kind, by the kind's number.
 #[tactic(auto, unfolding(crate::specs::Reading::fact_at))]
-fn take_fact(
+fn take_rest(
     alloc: Global,
     version: VersionNumber,
     code: u8,
-    tx: Tx,
     bytes: &[u8],
-) -> Result<(FactKind, &[u8]), Refusal>
-    ensures { IsRead (fact_at (version_of version) code tx bytes.now) result }
+) -> Result<(AnyRest, &[u8]), Refusal>
+    ensures { (tx : TxParts) → IsReadAs (fact_of tx) (fact_at (version_of version) code tx bytes.now) result }
 {
     match code {
-        1 => take_promise(version, tx, bytes),
-        2 => take_accept(version, tx, bytes),
-        3 => take_ballot(tx, bytes),
-        4 => take_vote_prepared(alloc, tx, bytes),
-        5 => Ok((FactKind::VoteAborted(tx), bytes)),
-        6 => Ok((FactKind::Committed(tx), bytes)),
-        7 => Ok((FactKind::Aborted(tx), bytes)),
-        8 => take_promise_all(tx, bytes),
+        1 => take_promise(version, bytes),
+        2 => take_accept(version, bytes),
+        3 => take_ballot(bytes),
+        4 => take_vote_prepared(alloc, bytes),
+        5 => Ok((AnyRest::VoteAborted, bytes)),
+        6 => Ok((AnyRest::Committed, bytes)),
+        7 => Ok((AnyRest::Aborted, bytes)),
+        8 => take_promise_all(bytes),
         _ => Err(Refusal::Damaged),
     }
 }
@@ -277,8 +275,8 @@ fn take_about(
     match code {
         11 => Ok((EntryKind::PastCommitted(tx), bytes)),
         12 => Ok((EntryKind::PastAborted(tx), bytes)),
-        _ => match take_fact(alloc, version, code, tx, bytes) {
-            Ok((fact, rest)) => Ok((EntryKind::Fact(fact), rest)),
+        _ => match take_rest(alloc, version, code, bytes) {
+            Ok((said, rest)) => Ok((EntryKind::Fact(said.with(tx)), rest)),
             Err(e) => Err(e),
         },
     }
@@ -330,6 +328,48 @@ pub(crate) fn entry_of(alloc: Global, body: &[u8]) -> Result<EntryKind, Refusal>
     };
     match take_entry(alloc, version, code, rest) {
         Ok((entry, [])) => Ok(entry),
+        Ok(_) => Err(Refusal::Damaged),
+        Err(e) => Err(e),
+    }
+}
+
+/// Takes the entry about a transaction over the bytes of that, by the kind's number, in version 2.
+#[tactic(auto, unfolding(crate::specs::Reading::about_at))]
+fn view_about<'a>(
+    alloc: Global,
+    code: u8,
+    tx: SpelledTx<'a>,
+    bytes: &'a [u8],
+) -> Result<(EntryView<'a>, &'a [u8]), Refusal>
+    ensures { IsReadAs entry_seen (about_at version_2 code tx.entry bytes.now) result }
+{
+    let _ = tx.count();
+    match code {
+        11 => Ok((EntryView::PastCommitted(tx), bytes)),
+        12 => Ok((EntryView::PastAborted(tx), bytes)),
+        _ => match take_rest(alloc, VersionNumber::Second, code, bytes) {
+            Ok((said, rest)) => Ok((EntryView::Fact(FactView::new(tx, said)), rest)),
+            Err(e) => Err(e),
+        },
+    }
+}
+
+/// The entry whose body this is, over the body, where it is one about a transaction, of version 2. None where it may be another.
+#[tactic(auto, unfolding(crate::specs::Reading::body_at, crate::specs::Reading::entry_at))]
+pub(crate) fn view_of(alloc: Global, body: &[u8]) -> Result<Option<EntryView<'_>>, Refusal>
+    ensures { IsSeen (body_at body.now) result }
+{
+    let [VERSION, code, fields @ ..] = body else {
+        return Ok(None);
+    };
+    if *code == 9 || *code == 10 {
+        return Ok(None);
+    }
+    let Some((tx, rest)) = SpelledTx::take(fields) else {
+        return Err(Refusal::Damaged);
+    };
+    match view_about(alloc, *code, tx, rest) {
+        Ok((entry, [])) => Ok(Some(entry)),
         Ok(_) => Err(Refusal::Damaged),
         Err(e) => Err(e),
     }

@@ -1,0 +1,129 @@
+ghost use Rattle.std.specs.Prelude.{◌≡◌};
+ghost use Rattle.stable_record.specs.Facts.{IsFact, fact_tx};
+ghost use Rattle.stable_record.specs.Rests.{fact_of};
+
+use crate::fact::{FactKind, Touched};
+use std::marker::Model;
+use wire::SpelledTx;
+use xid::{Ballot, ManagerNumber, Sequence, Tx, Vote};
+
+/// What a fact says beside its transaction: as `FactKind` has it.
+#[derive(Debug, Drop)]
+pub enum AnyRest {
+    /// An acceptor takes part in a ballot of an instance.
+    Promise {
+        instance: ManagerNumber,
+        ballot: Ballot,
+    },
+    /// An acceptor accepts a value in a ballot of an instance.
+    Accept {
+        instance: ManagerNumber,
+        ballot: Ballot,
+        vote: Vote,
+    },
+    /// A leader begins a ballot.
+    Ballot {
+        ballot: Ballot,
+    },
+    /// A resource manager votes prepared, with these keys.
+    VotePrepared {
+        keys: Sequence<Touched>,
+    },
+    /// A resource manager votes aborted.
+    VoteAborted,
+    /// A resource manager has learned that the transaction is committed.
+    Committed,
+    /// A resource manager has learned that the transaction is aborted.
+    Aborted,
+    /// An acceptor takes part in a ballot of every instance that stands below it.
+    PromiseAll {
+        ballot: Ballot,
+    },
+}
+
+impl AnyRest {
+    /// The fact of a transaction, as plain data.
+    pub(crate) fn with(self, tx: Tx) -> FactKind
+        ensures { result ≡ fact_of tx self }
+    {
+        match self {
+            AnyRest::Promise { instance, ballot } => FactKind::Promise {
+                tx,
+                instance,
+                ballot,
+            },
+            AnyRest::Accept {
+                instance,
+                ballot,
+                vote,
+            } => FactKind::Accept {
+                tx,
+                instance,
+                ballot,
+                vote,
+            },
+            AnyRest::Ballot { ballot } => FactKind::Ballot { tx, ballot },
+            AnyRest::VotePrepared { keys } => FactKind::VotePrepared { tx, keys },
+            AnyRest::VoteAborted => FactKind::VoteAborted(tx),
+            AnyRest::Committed => FactKind::Committed(tx),
+            AnyRest::Aborted => FactKind::Aborted(tx),
+            AnyRest::PromiseAll { ballot } => FactKind::PromiseAll { tx, ballot },
+        }
+    }
+}
+
+/// A fact of any kind over the bytes of its transaction, which stand elsewhere: as it is read to be played.
+#[derive(Debug, Drop)]
+pub struct FactView<'a> {
+    tx: SpelledTx<'a>,
+    rest: AnyRest,
+}
+
+impl<'a> Model for FactView<'a> {
+    ghost use Rattle.stable_record.specs.declared.fact.FactKind.{FactKind};
+    ghost use Rattle.stable_record.specs.Facts.{IsFact};
+    ghost use Rattle.stable_record.specs.Rests.{fact_of};
+
+    ghost Value = { FactKind };
+
+    ghost view = { λ f. fact_of f.tx f.rest };
+
+    ghost invariant = { λ f. IsFact (fact_of f.tx f.rest) };
+}
+
+impl<'a> FactView<'a> {
+    /// The fact of a transaction.
+    pub fn new(tx: SpelledTx<'a>, rest: AnyRest) -> FactView<'a>
+        requires { IsFact (fact_of tx rest) }
+        ensures { result ≡ fact_of tx.entry rest }
+    {
+        FactView { tx, rest }
+    }
+
+    /// The transaction that it is about.
+    pub fn tx(&self) -> &SpelledTx<'a>
+        ensures value { result.now ≡ fact_tx self.now }
+        ensures valid { IsFact self.now }
+    {
+        &self.tx
+    }
+
+    /// What it says beside that.
+    pub fn rest(&self) -> &AnyRest
+        ensures value { fact_of (fact_tx self.now) result.now ≡ self.now }
+        ensures valid { IsFact self.now }
+    {
+        &self.rest
+    }
+}
+
+/// An entry about a transaction, over the bytes of that.
+#[derive(Debug, Drop)]
+pub enum EntryView<'a> {
+    /// A fact.
+    Fact(FactView<'a>),
+    /// A transaction that was voted prepared and is committed.
+    PastCommitted(SpelledTx<'a>),
+    /// A transaction that was voted prepared and is aborted.
+    PastAborted(SpelledTx<'a>),
+}
