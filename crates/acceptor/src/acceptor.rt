@@ -18,7 +18,7 @@ use crate::decision::AcceptorDecision;
 use crate::rules::{Seat, on_1a, on_2a, on_b1a};
 use crate::slots::plays;
 use crate::table::{Table, begin};
-use stable_record::{Fact, FactKind, FactRest, SpelledFact};
+use stable_record::{AnyRest, Fact, FactKind, FactRest, FactView, SpelledFact};
 use std::alloc::Global;
 use std::marker::Model;
 use transactions::Order;
@@ -190,8 +190,16 @@ impl Acceptor {
             → IsPlayed (acceptor_part config number) self.old self.new (stated tx.now rest) result }
     {
         let mut buffer = [0; MAX_TX_BYTES];
-        let tx = SpelledTx::of(tx, &mut buffer);
-        self.play(&SpelledFact::new(&tx, rest))
+        self.play_said(&SpelledTx::of(tx, &mut buffer), rest)
+    }
+
+    /// Plays what a fact of a transaction says, over the bytes of that.
+    fn play_said(&mut self, tx: &SpelledTx<'_>, rest: FactRest) -> Result<(), Refusal>
+        requires { IsFact (stated tx.now rest) }
+        ensures { (config : Config) (number : ℕ)
+            → IsPlayed (acceptor_part config number) self.old self.new (stated tx.now rest) result }
+    {
+        self.play(&SpelledFact::new(tx, rest))
     }
 
     /// Plays a fact of a record as `play` does. One that is no acceptor's never plays (`Damaged`).
@@ -225,6 +233,38 @@ impl Acceptor {
             ),
             FactKind::PromiseAll { tx, ballot } => {
                 self.play_rest(tx, FactRest::PromiseAll { ballot: *ballot })
+            }
+            _ => Err(Refusal::Damaged),
+        }
+    }
+
+    /// Plays a fact of a record, seen over its bytes, as `replay` does.
+    pub fn replay_view(&mut self, fact: &FactView<'_>) -> Result<(), Refusal>
+        ensures { (config : Config) (number : ℕ) → IsPlayed (acceptor_part config number) self.old self.new fact.now result }
+    {
+        let tx = fact.tx();
+        match fact.rest() {
+            AnyRest::Promise { instance, ballot } => self.play_said(
+                tx,
+                FactRest::Promise {
+                    instance: *instance,
+                    ballot: *ballot,
+                },
+            ),
+            AnyRest::Accept {
+                instance,
+                ballot,
+                vote,
+            } => self.play_said(
+                tx,
+                FactRest::Accept {
+                    instance: *instance,
+                    ballot: *ballot,
+                    vote: *vote,
+                },
+            ),
+            AnyRest::PromiseAll { ballot } => {
+                self.play_said(tx, FactRest::PromiseAll { ballot: *ballot })
             }
             _ => Err(Refusal::Damaged),
         }

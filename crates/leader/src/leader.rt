@@ -8,6 +8,7 @@ ghost use Rattle.protocol.specs.Effects.{Config, decision_of, status_standing};
 ghost use Rattle.protocol.specs.LeaderMemory.{LeaderMemory, StoredBallots, nothing_heard, with_begun, with_met};
 ghost use Rattle.protocol.specs.Leaders as rules;
 ghost use Rattle.stable_record.specs.Parts.{IsMadeReady, IsPlayed};
+ghost use Rattle.stable_record.specs.declared.fact.FactKind.TheVariants as facts;
 ghost use Rattle.leader.specs.Leaders.{are_below, commit_messages, decided, taken_over, StandsFor, StandsForBallots, Follows};
 ghost use Rattle.leader.specs.Leaders.{FollowsOrRefuses, leader_part};
 ghost use Rattle.leader.specs.Compaction.{Compacts};
@@ -20,7 +21,7 @@ use crate::decision::LeaderDecision;
 use crate::orders::LeaderSends;
 use ballot::{next_owned, owner};
 use protocol::{Address, Answer, NodeId, Standing, Status};
-use stable_record::{Fact, FactKind};
+use stable_record::{AnyRest, Fact, FactKind, FactView};
 use std::alloc::Global;
 use std::marker::Model;
 use wire::{
@@ -408,15 +409,33 @@ impl Leader {
             return Err(Refusal::Damaged);
         };
         let mut buffer = [0; MAX_TX_BYTES];
-        let spelled = SpelledTx::of(tx, &mut buffer);
-        let place = self.courses.place_of(&spelled);
-        if *ballot <= self.courses.greatest_at(&spelled, place) {
+        self.play_ballot(&SpelledTx::of(tx, &mut buffer), *ballot)
+    }
+
+    /// Plays a fact seen over its bytes as `play` does.
+    pub fn play_view(&mut self, fact: &FactView<'_>) -> Result<(), Refusal>
+        ensures { (config : Config) (number : ℕ) (memory : LeaderMemory)
+            → IsPlayed (leader_part config number memory) self.old self.new fact.now result }
+    {
+        let AnyRest::Ballot { ballot } = fact.rest() else {
+            return Err(Refusal::Damaged);
+        };
+        self.play_ballot(fact.tx(), *ballot)
+    }
+
+    /// Plays a ballot.
+    fn play_ballot(&mut self, tx: &SpelledTx<'_>, ballot: Ballot) -> Result<(), Refusal>
+        ensures { (config : Config) (number : ℕ) (memory : LeaderMemory)
+            → IsPlayed (leader_part config number memory) self.old self.new (facts.Ballot tx.now ballot) result }
+    {
+        let place = self.courses.place_of(tx);
+        if ballot <= self.courses.greatest_at(tx, place) {
             return Err(Refusal::Damaged);
         }
-        if owner(*ballot, self.leaders) != self.number {
+        if owner(ballot, self.leaders) != self.number {
             return Err(Refusal::Damaged);
         }
-        self.courses.store(&spelled, place, *ballot)
+        self.courses.store(tx, place, ballot)
     }
 
     /// The facts of a shorter record that says the same: the greatest ballot of each transaction that has one, in the order of the first

@@ -1,7 +1,7 @@
 -- The entries of bytes are played, one after the other.
 use Rattle.std.proofs.Common.{◌≡◌, ◌∙◌, ℕ, ◌-◌, Bool, true, false, ◌&&◌, List, [], ◌∷◌, ◌++◌, length, refl, sym, ap, subst}
 use Rattle.std.proofs.Common.{append_assoc, append-nil, inl, inr}
-use Rattle.std.specs.Prelude.{◌⊎◌, Err}
+use Rattle.std.specs.Prelude.{◌⊎◌, Ok, Err}
 use Rattle.std.specs.List.{list_all, flat_map}
 use Rattle.std.proofs.lemmas.Bool.{and_parts, and_from, both_ways}
 use Rattle.std.proofs.lemmas.Grind.{flat_map-append}
@@ -19,7 +19,7 @@ use Rattle.resource_manager.specs.Compacted.{facts_of}
 use Rattle.node_core.specs.declared.role.Role.{Role}
 use Rattle.node_core.specs.Roles.{RoleStands}
 use Rattle.node_core.specs.Opening.{may_stand, IsEntryPlayed, IsPlayedAs, HasPlayed, IsUnplayable}
-use Rattle.node_core.specs.Opening.{IsPlayedWhole, HasPlayedTo}
+use Rattle.node_core.specs.Opening.{IsPlayedWhole, HasPlayedTo, IsFirstPlayed, PlaysFirst}
 use Rattle.node_core.proofs.Reading.{read_more, then_came}
 
 -- ---- facts that play one after the other
@@ -102,15 +102,24 @@ module _ (config : Config) (who : NodeId) (compacted : Bool) (bytes : List ℕ) 
         stands = h.stands;
       }
 
-  pub refused_frame : (rest : List ℕ) (role : Role) (e : Refusal) → HasPlayedTo config who compacted bytes rest role
-      → ((e ≡ Damaged) × HasNoFrame rest) ⊎ (e ≡ NoMemory) → IsPlayedWhole config who compacted bytes role (Err e)
-  refused_frame rest role e h (inl is) =
-      subst (λ x. IsPlayedWhole config who compacted bytes role (Err x)) (sym is.0) (played_none rest role h is.1)
-  refused_frame rest role e h (inr is) = subst (λ x. IsPlayedWhole config who compacted bytes role (Err x)) (sym is) tt
+  refused_frame : (rest : List ℕ) (role new : Role) (e : Refusal) → HasPlayedTo config who compacted bytes rest role
+      → ((e ≡ Damaged) × HasNoFrame rest) ⊎ (e ≡ NoMemory) → IsPlayedWhole config who compacted bytes new (Err e)
+  refused_frame rest role new e h (inl is) =
+      subst (λ x. IsPlayedWhole config who compacted bytes new (Err x)) (sym is.0) (played_none rest role h is.1)
+  refused_frame rest role new e h (inr is) = subst (λ x. IsPlayedWhole config who compacted bytes new (Err x)) (sym is) tt
 
-  pub refused_entry : (rest after : List ℕ) (role new : Role) (h : HasPlayedTo config who compacted bytes rest role) (entry : Entry)
+  refused_entry : (rest after : List ℕ) (role new : Role) (h : HasPlayedTo config who compacted bytes rest role) (entry : Entry)
       → IsFramed entry rest after → (e : Refusal) → IsPlayedAs config who compacted (meant h.read) new entry (Err e)
       → IsPlayedWhole config who compacted bytes new (Err e)
   refused_entry rest after role new h entry framed Damaged p = played_bad rest after role h entry framed p
   refused_entry rest after role new h entry framed NoMemory p = tt
   refused_entry rest after role new h entry framed other p = absurd p
+
+  -- the first entry of what is left was played, or why not
+  module _ (rest : List ℕ) (role new : Role) (h : HasPlayedTo config who compacted bytes rest role) where
+    pub first_on : (after : List ℕ) → IsFirstPlayed compacted rest after role new (Ok tt) → HasPlayedTo config who compacted bytes after new
+    first_on after p = played_on rest after role h p.entry p.framed new (p.plays config who (meant h.read) h.stands)
+
+    pub refused_first : (e : Refusal) → PlaysFirst compacted rest role new (Err e) → IsPlayedWhole config who compacted bytes new (Err e)
+    refused_first e (inl p) = refused_entry rest p.0 role new h p.1.entry p.1.framed e (p.1.plays config who (meant h.read) h.stands)
+    refused_first e (inr is) = refused_frame rest role new e h is

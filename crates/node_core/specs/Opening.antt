@@ -2,6 +2,7 @@
 use Rattle.std.specs.Prelude.{◌≡◌, ◌≢◌, ◌⊎◌, ℕ, ◌≤◌, Bool, true, false, List, [], ◌∷◌, ◌++◌, length, drop, map, Option, Some, None, is_some}
 use Rattle.std.specs.Prelude.{Result}
 use Rattle.std.specs.Prelude.{Ok, Err, IsTrue}
+use Rattle.std.specs.Borrow.{Bor}
 use Rattle.std.specs.List.{list_all, flat_map}
 use Rattle.std.specs.Cmp.Lexicographic.{slice_cmp}
 use Rattle.std.specs.Ordering.{nat_cmp, is_lt}
@@ -10,7 +11,7 @@ use Rattle.wire.specs.Versions.{version_2}
 use Rattle.stable_record.specs.declared.entry.EntryKind.{EntryKind as Entry}
 use Rattle.stable_record.specs.declared.entry.EntryKind.TheVariants as entries
 use Rattle.stable_record.specs.declared.fact.FactKind.{FactKind as Fact}
-use Rattle.stable_record.specs.Grammar.{IsStored, IsDamaged, IsFramed, frame}
+use Rattle.stable_record.specs.Grammar.{IsStored, IsDamaged, IsFramed, IsTail, HasNoFrame, frame}
 use Rattle.stable_record.specs.Held.{Held, IsCounted, HasFailed, with_bytes}
 use Rattle.protocol.specs.declared.nodes.NodeId.{NodeId}
 use Rattle.protocol.specs.declared.nodes.NodeId.TheVariants.{R}
@@ -72,6 +73,20 @@ abbrev pub PlaysEntry : (compacted : Bool) → (old new : Role) → Entry → Re
 PlaysEntry compacted old new entry result =
     (config : Config) (who : NodeId) (facts : List Fact) → RoleStands config who old facts empty_memory
     → IsPlayedAs config who compacted facts new entry result
+
+-- an entry stands in front of bytes, and was played, or not
+pub record IsFirstPlayed (compacted : Bool) (bytes after : List ℕ) (old new : Role) (result : Result (Unit {0}) Refusal) : Type 0 where
+  pub entry : Entry
+  pub framed : IsFramed entry bytes after
+  pub plays : PlaysEntry compacted old new entry result
+
+-- the entry in front of bytes was played, and these follow it; or the bytes are a tail; or why neither
+abbrev pub PlaysFirst : (compacted : Bool) → List ℕ → (old new : Role) → Result (Option (Bor (List ℕ))) Refusal → Type 0
+PlaysFirst compacted bytes old new (Ok (Some after)) = IsFirstPlayed compacted bytes after.now old new (Ok tt)
+PlaysFirst compacted bytes old new (Ok None) = IsTail bytes × (new ≡ old)
+PlaysFirst compacted bytes old new (Err e) =
+    ((after : List ℕ) × IsFirstPlayed compacted bytes after old new (Err e))
+    ⊎ (((e ≡ Refusal.Damaged) × HasNoFrame bytes) ⊎ (e ≡ Refusal.NoMemory))
 
 -- bytes hold entries that may stand there, and that play, and a tail
 pub record Goes (config : Config) (who : NodeId) (compacted : Bool) (bytes : List ℕ) (all : List Entry) (tail : List ℕ) : Type 0 where

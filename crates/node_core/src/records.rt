@@ -2,29 +2,74 @@
 
 ghost use Rattle.std.specs.Prelude.{◌≤◌, [], ◌∷◌, length, IfOk};
 ghost use Rattle.stable_record.specs.declared.fact.FactKind.TheVariants as facts;
+ghost use Rattle.stable_record.specs.Facts.{IsFact};
+ghost use Rattle.stable_record.specs.Rests.{fact_of};
+ghost use Rattle.stable_record.specs.Views.{entry_seen};
 ghost use Rattle.protocol.specs.Effects.{Config};
 ghost use Rattle.protocol.specs.Nodes.{empty_memory};
 ghost use Rattle.protocol.specs.declared.nodes.NodeId.{NodeId as Id};
 ghost use Rattle.node_core.specs.Roles.{RoleStands};
-ghost use Rattle.node_core.specs.Opening.{ReplaysAll, PlaysEntry, IsPlayedWhole};
+ghost use Rattle.node_core.specs.Opening.{ReplaysAll, PlaysEntry, PlaysFirst, IsPlayedWhole};
 
 use crate::role::Role;
-use stable_record::{Entry, EntryKind, Fact, FactKind, take_frame};
+use stable_record::{AnyRest, Entry, EntryKind, EntryView, Fact, FactView, take_frame, view_frame};
 use std::alloc::Global;
+use wire::{MAX_TX_BYTES, SpelledTx};
 use xid::{Refusal, Sequence, Tx};
 
 /// Plays a vote prepared with no keys, and then the outcome of its transaction. Refused: one of them doesn't play (`Damaged`), or
 /// `NoMemory`.
-fn play_past(alloc: Global, role: &mut Role, tx: Tx, outcome: Fact) -> Result<(), Refusal>
-    ensures { ReplaysAll role.old role.new (facts.VotePrepared tx [] ∷ outcome ∷ []) result }
+fn play_past(
+    alloc: Global,
+    role: &mut Role,
+    tx: &SpelledTx<'_>,
+    outcome: AnyRest,
+) -> Result<(), Refusal>
+    requires { IsFact (fact_of tx.now outcome) }
+    ensures { ReplaysAll role.old role.new (facts.VotePrepared tx.now [] ∷ fact_of tx.now outcome ∷ []) result }
 {
     let keys = Sequence::new(Vec::new(alloc));
-    let vote = Fact::new(FactKind::VotePrepared { tx, keys });
-    role.replay(vote)?;
-    role.replay(outcome)
+    role.replay_view(&FactView::new(tx.again(), AnyRest::VotePrepared { keys }))?;
+    role.replay_view(&FactView::new(tx.again(), outcome))
 }
 
-/// Plays an entry of a record. Refused: it may not stand there, or doesn't play (`Damaged`), or `NoMemory`.
+/// Does as `play_past`, of a transaction with its parts in place. It stands apart, since the room for its spelling is cleared.
+#[inline(never)]
+fn play_built(alloc: Global, role: &mut Role, tx: &Tx, outcome: AnyRest) -> Result<(), Refusal>
+    requires { IsFact (fact_of tx.now outcome) }
+    ensures { ReplaysAll role.old role.new (facts.VotePrepared tx.now [] ∷ fact_of tx.now outcome ∷ []) result }
+{
+    let mut buffer = [0; MAX_TX_BYTES];
+    play_past(alloc, role, &SpelledTx::of(tx, &mut buffer), outcome)
+}
+
+/// Plays an entry of a record, seen over its bytes. Refused: it may not stand there, or doesn't play (`Damaged`), or `NoMemory`.
+fn play_view(
+    alloc: Global,
+    role: &mut Role,
+    compacted: bool,
+    entry: EntryView<'_>,
+) -> Result<(), Refusal>
+    ensures { PlaysEntry compacted role.old role.new (entry_seen entry.entry) result }
+{
+    match entry {
+        EntryView::Fact(fact) => role.replay_view(&fact),
+        EntryView::PastCommitted(tx) => {
+            if !compacted {
+                return Err(Refusal::Damaged);
+            }
+            play_past(alloc, role, &tx, AnyRest::Committed)
+        }
+        EntryView::PastAborted(tx) => {
+            if !compacted {
+                return Err(Refusal::Damaged);
+            }
+            play_past(alloc, role, &tx, AnyRest::Aborted)
+        }
+    }
+}
+
+/// Plays an entry of a record, as `play_view` does.
 fn play_entry(alloc: Global, role: &mut Role, compacted: bool, entry: Entry) -> Result<(), Refusal>
     ensures { PlaysEntry compacted role.old role.new entry result }
 {
@@ -36,14 +81,53 @@ fn play_entry(alloc: Global, role: &mut Role, compacted: bool, entry: Entry) -> 
             if !compacted {
                 return Err(Refusal::Damaged);
             }
-            play_past(alloc, role, tx, Fact::new(FactKind::Committed(tx)))
+            play_built(alloc, role, &tx, AnyRest::Committed)
         }
         EntryKind::PastAborted(tx) => {
             if !compacted {
                 return Err(Refusal::Damaged);
             }
-            play_past(alloc, role, tx, Fact::new(FactKind::Aborted(tx)))
+            play_built(alloc, role, &tx, AnyRest::Aborted)
         }
+    }
+}
+
+/// Plays the entry whose frame stands at the front of bytes, and answers what follows it. None where the bytes are a tail. Refused: they are
+/// neither, or the entry isn't played (`Damaged`), or `NoMemory`.
+fn play_taken<'a>(
+    alloc: Global,
+    role: &mut Role,
+    compacted: bool,
+    bytes: &'a [u8],
+) -> Result<Option<&'a [u8]>, Refusal>
+    ensures { PlaysFirst compacted bytes.now role.old role.new result }
+{
+    match take_frame(alloc, bytes) {
+        Ok(Some((entry, after))) => match play_entry(alloc, role, compacted, entry) {
+            Ok(()) => Ok(Some(after)),
+            Err(refusal) => Err(refusal),
+        },
+        Ok(None) => Ok(None),
+        Err(refusal) => Err(refusal),
+    }
+}
+
+/// Does as `play_taken`, over the entry's bytes where that can be.
+fn play_first<'a>(
+    alloc: Global,
+    role: &mut Role,
+    compacted: bool,
+    bytes: &'a [u8],
+) -> Result<Option<&'a [u8]>, Refusal>
+    ensures { PlaysFirst compacted bytes.now role.old role.new result }
+{
+    match view_frame(alloc, bytes) {
+        Ok(Some((entry, after))) => match play_view(alloc, role, compacted, entry) {
+            Ok(()) => Ok(Some(after)),
+            Err(refusal) => Err(refusal),
+        },
+        Ok(None) => play_taken(alloc, role, compacted, bytes),
+        Err(refusal) => Err(refusal),
     }
 }
 
@@ -61,11 +145,8 @@ pub(crate) fn replay(
 {
     let mut rest = bytes;
     loop {
-        match take_frame(alloc, rest) {
-            Ok(Some((entry, after))) => match play_entry(alloc, role, compacted, entry) {
-                Ok(()) => rest = after,
-                Err(refusal) => return Err(refusal),
-            },
+        match play_first(alloc, role, compacted, rest) {
+            Ok(Some(after)) => rest = after,
             Ok(None) => return Ok(bytes.len() - rest.len()),
             Err(refusal) => return Err(refusal),
         }

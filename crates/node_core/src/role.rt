@@ -14,7 +14,7 @@ use acceptor::Acceptor;
 use leader::Leader;
 use protocol::Request;
 use resource_manager::ResourceManager;
-use stable_record::{Fact, FactKind};
+use stable_record::{Fact, FactKind, FactView};
 use wire::{MAX_TX_BYTES, SpelledTx};
 use xid::Refusal;
 
@@ -105,6 +105,17 @@ impl Role {
             Role::Acceptor(acceptor) => acceptor.replay(&fact),
             Role::Leader(leader) => leader.play(fact),
             Role::Manager(manager) => manager.play(fact),
+        }
+    }
+
+    /// Plays a fact of a record, seen over its bytes, as `replay` does.
+    pub fn replay_view(&mut self, fact: &FactView<'_>) -> Result<(), Refusal>
+        ensures { Replays self.old self.new fact.now result }
+    {
+        match self {
+            Role::Acceptor(acceptor) => acceptor.replay_view(fact),
+            Role::Leader(leader) => leader.play_view(fact),
+            Role::Manager(manager) => manager.play_view(fact),
         }
     }
 }

@@ -14,7 +14,7 @@ ghost use Rattle.resource_manager.specs.Playing.{IsThere, MeansSame, Plays, Play
 
 use crate::course::Course;
 use crate::manager::ResourceManager;
-use stable_record::{Fact, FactKind, Touched};
+use stable_record::{AnyRest, Fact, FactKind, FactView, Touched};
 use wire::{MAX_TX_BYTES, SpelledTx};
 use xid::{Refusal, Tx, Xid};
 
@@ -52,6 +52,32 @@ impl ResourceManager {
         ensures refused { OnErr result (StandsForSame self.old self.new) }
     {
         self.play_kind(fact)
+    }
+
+    /// Plays a fact seen over its bytes as `play` does.
+    pub fn play_view(&mut self, fact: &FactView<'_>) -> Result<(), Refusal>
+        ensures plays { (config : Config) (number : ℕ) (branches : List Branch) → IsPlayable number branches fact.now
+            → IsPlayed (manager_part config number branches) self.old self.new fact.now result }
+        ensures refused { OnErr result (StandsForSame self.old self.new) }
+    {
+        self.play_seen(fact)
+    }
+
+    /// Plays a fact seen over its bytes, by its kind.
+    fn play_seen(&mut self, fact: &FactView<'_>) -> Result<(), Refusal>
+        ensures { Plays self.old self.new fact.now result }
+    {
+        let tx = fact.tx();
+        match fact.rest() {
+            AnyRest::VotePrepared { keys } => self.play_prepared(tx, keys.as_slice()),
+            AnyRest::VoteAborted => self.play_refused(tx),
+            AnyRest::Committed => self.play_committed(tx),
+            AnyRest::Aborted => self.play_aborted(tx),
+            AnyRest::Promise { .. } => Err(Refusal::Damaged),
+            AnyRest::PromiseAll { .. } => Err(Refusal::Damaged),
+            AnyRest::Accept { .. } => Err(Refusal::Damaged),
+            AnyRest::Ballot { .. } => Err(Refusal::Damaged),
+        }
     }
 
     /// Plays a fact by its kind.
