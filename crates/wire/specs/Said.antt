@@ -29,6 +29,24 @@ said tx (rests.B1a ballot) = kinds.B1a tx ballot
 said tx (rests.B1b ballot acceptor reports) = kinds.B1b tx ballot acceptor (reports_spelled reports.now)
 said tx (rests.B2b acceptor accepts) = kinds.B2b tx acceptor (accepts_spelled accepts.now)
 
+-- what follows the transaction in that message
+abbrev pub said_spelling : Rest → List ℕ
+said_spelling rests.Prepare = []
+said_spelling (rests.P1a instance ballot) = rm_spelling version_2 instance ++ number_spelling ballot
+said_spelling (rests.P1b instance ballot report acceptor) = rm_spelling version_2 instance
+    ++ (number_spelling ballot ++ (report_spelling report ++ acceptor ∷ []))
+said_spelling (rests.P2a instance ballot vote) = rm_spelling version_2 instance ++ (number_spelling ballot ++ vote_byte vote ∷ [])
+said_spelling (rests.P2b instance ballot vote acceptor) = rm_spelling version_2 instance
+    ++ (number_spelling ballot ++ vote_byte vote ∷ acceptor ∷ [])
+said_spelling rests.Commit = []
+said_spelling rests.Abort = []
+said_spelling (rests.Ask rm) = rm_spelling version_2 rm
+said_spelling (rests.B1a ballot) = number_spelling ballot
+said_spelling (rests.B1b ballot acceptor reports) = number_spelling ballot
+    ++ acceptor ∷ length (reports_spelled reports.now) ∷ flat_map (report_item_spelling version_2) (reports_spelled reports.now)
+said_spelling (rests.B2b acceptor accepts) =
+    acceptor ∷ length (accepts_spelled accepts.now) ∷ flat_map (accept_item_spelling version_2) (accepts_spelled accepts.now)
+
 -- a rest that was taken, as the message that it makes, and the bytes after it
 abbrev pub heard : TxParts → Option (Rest × Bor (List ℕ)) → Option (Kind × List ℕ)
 heard tx None = None
