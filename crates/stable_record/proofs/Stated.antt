@@ -7,7 +7,12 @@ use Rattle.wire.specs.Versions.{version_2}
 use Rattle.stable_record.specs.declared.entry.EntryKind.{EntryKind as Entry}
 use Rattle.stable_record.specs.declared.spelled_fact.FactRest.{FactRest}
 use Rattle.stable_record.specs.declared.spelled_fact.FactRest.TheVariants as rests
+use Rattle.stable_record.specs.declared.fact.FactKind.{FactKind as Fact}
+use Rattle.stable_record.specs.declared.view.AnyRest.{AnyRest}
+use Rattle.stable_record.specs.declared.view.AnyRest.TheVariants as any_rests
+use Rattle.stable_record.specs.Facts.{IsFact}
 use Rattle.stable_record.specs.Grammar.{frame, body_spelling}
+use Rattle.stable_record.specs.Rests.{fact_of, any_byte, any_spelling, HasVoteKeys}
 use Rattle.stable_record.specs.Spelled.{stated, stated_byte, stated_spelling}
 
 pub stated_body : (tx : TxParts) (rest : FactRest)
@@ -17,22 +22,60 @@ stated_body tx (rests.Promise instance ballot) = refl
 stated_body tx (rests.Accept instance ballot vote) = refl
 stated_body tx (rests.PromiseAll ballot) = refl
 
--- what was put at the end, one after the other, is the frame
+pub any_body : (tx : TxParts) (rest : AnyRest)
+    → body_spelling version_2 (Entry.Fact (fact_of tx rest)) ≡ version_2.byte ∷ any_byte rest ∷
+    (tx_spelling version_2 tx ++ any_spelling rest)
+any_body tx (any_rests.Promise instance ballot) = refl
+any_body tx (any_rests.Accept instance ballot vote) = refl
+any_body tx (any_rests.Ballot ballot) = refl
+any_body tx (any_rests.VotePrepared keys) = refl
+any_body tx any_rests.VoteAborted = refl
+any_body tx any_rests.Committed = refl
+any_body tx any_rests.Aborted = refl
+any_body tx (any_rests.PromiseAll ballot) = refl
+
+-- a fact with keys has those of a vote
+pub vote_keys : (tx : TxParts) (rest : AnyRest) → IsFact (fact_of tx rest) → HasVoteKeys rest
+vote_keys tx (any_rests.VotePrepared keys) is = is.1
+vote_keys tx (any_rests.Promise instance ballot) is = tt
+vote_keys tx (any_rests.Accept instance ballot vote) is = tt
+vote_keys tx (any_rests.Ballot ballot) is = tt
+vote_keys tx any_rests.VoteAborted is = tt
+vote_keys tx any_rests.Committed is = tt
+vote_keys tx any_rests.Aborted is = tt
+vote_keys tx (any_rests.PromiseAll ballot) is = tt
+
+-- what was put at the end, one after the other, is the frame of a fact with this body
+pub framed_by : (old a b c d : List ℕ) (n : ℕ) (tx : TxParts) (spelled : List ℕ) (code : ℕ) (rest : List ℕ) (fact : Fact)
+    → body_spelling version_2 (Entry.Fact fact) ≡ version_2.byte ∷ code ∷ (tx_spelling version_2 tx ++ rest)
+    → spelled ≡ tx_spelling version_2 tx → n ≡ 2 + length spelled + length rest
+    → a ≡ old ++ number_spelling n → b ≡ a ++ version_2.byte ∷ code ∷ [] → c ≡ b ++ spelled → d ≡ c ++ rest
+    → d ≡ old ++ frame version_2 (Entry.Fact fact)
+framed_by old a b c d n tx spelled code rest fact same is len ea eb ec ed =
+    let body : version_2.byte ∷ code ∷ (spelled ++ rest) ≡ body_spelling version_2 (Entry.Fact fact) =
+    ap (λ (xs : List ℕ). version_2.byte ∷ code ∷ (xs ++ rest)) is ∙ sym same in
+    let all : n ≡ length (version_2.byte ∷ code ∷ (spelled ++ rest)) = omega (arith, len, length-append spelled rest) in
+    let parts : d ≡ ((old ++ number_spelling n) ++ version_2.byte ∷ code ∷ []) ++ (spelled ++ rest) =
+    ed ∙ ap (λ (xs : List ℕ). xs ++ rest) (ec ∙ ap (λ (xs : List ℕ). xs ++ spelled)
+    (eb ∙ ap (λ (xs : List ℕ). xs ++ version_2.byte ∷ code ∷ []) ea)) ∙ append_assoc _ spelled rest in
+    parts
+    ∙ append_assoc (old ++ number_spelling n) (version_2.byte ∷ code ∷ []) (spelled ++ rest)
+    ∙ append_assoc old (number_spelling n) (version_2.byte ∷ code ∷ (spelled ++ rest))
+    ∙ ap (λ (k : ℕ). old ++ (number_spelling k ++ version_2.byte ∷ code ∷ (spelled ++ rest))) all
+    ∙ ap (λ (xs : List ℕ). old ++ (number_spelling (length xs) ++ xs)) body
+
+-- the same of an acceptor's fact
 pub framed : (old a b c d : List ℕ) (n : ℕ) (tx : TxParts) (spelled : List ℕ) (rest : FactRest) → spelled ≡ tx_spelling version_2 tx
     → n ≡ 2 + length spelled + length (stated_spelling rest)
     → a ≡ old ++ number_spelling n → b ≡ a ++ version_2.byte ∷ stated_byte rest ∷ [] → c ≡ b ++ spelled → d ≡ c ++ stated_spelling rest
     → d ≡ old ++ frame version_2 (Entry.Fact (stated tx rest))
-framed old a b c d n tx spelled rest is len ea eb ec ed =
-    let body : version_2.byte ∷ stated_byte rest ∷ (spelled ++ stated_spelling rest) ≡ body_spelling version_2
-    (Entry.Fact (stated tx rest)) =
-    ap (λ (xs : List ℕ). version_2.byte ∷ stated_byte rest ∷ (xs ++ stated_spelling rest)) is ∙ sym (stated_body tx rest) in
-    let all : n ≡ length (version_2.byte ∷ stated_byte rest ∷ (spelled ++ stated_spelling rest)) =
-    omega (arith, len, length-append spelled (stated_spelling rest)) in
-    let parts : d ≡ ((old ++ number_spelling n) ++ version_2.byte ∷ stated_byte rest ∷ []) ++ (spelled ++ stated_spelling rest) =
-    ed ∙ ap (λ (xs : List ℕ). xs ++ stated_spelling rest) (ec ∙ ap (λ (xs : List ℕ). xs ++ spelled)
-    (eb ∙ ap (λ (xs : List ℕ). xs ++ version_2.byte ∷ stated_byte rest ∷ []) ea)) ∙ append_assoc _ spelled (stated_spelling rest) in
-    parts
-    ∙ append_assoc (old ++ number_spelling n) (version_2.byte ∷ stated_byte rest ∷ []) (spelled ++ stated_spelling rest)
-    ∙ append_assoc old (number_spelling n) (version_2.byte ∷ stated_byte rest ∷ (spelled ++ stated_spelling rest))
-    ∙ ap (λ (k : ℕ). old ++ (number_spelling k ++ version_2.byte ∷ stated_byte rest ∷ (spelled ++ stated_spelling rest))) all
-    ∙ ap (λ (xs : List ℕ). old ++ (number_spelling (length xs) ++ xs)) body
+framed old a b c d n tx spelled rest =
+    framed_by old a b c d n tx spelled (stated_byte rest) (stated_spelling rest) (stated tx rest) (stated_body tx rest)
+
+-- the same of any fact
+pub any_framed : (old a b c d : List ℕ) (n : ℕ) (tx : TxParts) (spelled : List ℕ) (rest : AnyRest) → spelled ≡ tx_spelling version_2 tx
+    → n ≡ 2 + length spelled + length (any_spelling rest)
+    → a ≡ old ++ number_spelling n → b ≡ a ++ version_2.byte ∷ any_byte rest ∷ [] → c ≡ b ++ spelled → d ≡ c ++ any_spelling rest
+    → d ≡ old ++ frame version_2 (Entry.Fact (fact_of tx rest))
+any_framed old a b c d n tx spelled rest =
+    framed_by old a b c d n tx spelled (any_byte rest) (any_spelling rest) (fact_of tx rest) (any_body tx rest)

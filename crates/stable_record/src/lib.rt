@@ -12,6 +12,7 @@ mod reading;
 mod record;
 mod spelled_fact;
 mod view;
+mod view_writing;
 mod writing;
 
 pub use entry::{Entry, EntryKind};

@@ -1,11 +1,17 @@
-ghost use Rattle.std.specs.Prelude.{◌≡◌};
+ghost use Rattle.std.specs.Prelude.{◌≡◌, ◌++◌, OnOk, IfErr};
+ghost use Rattle.xid.specs.declared.refusals.Refusal.TheVariants.{NoMemory};
+ghost use Rattle.wire.specs.Versions.{version_2};
+ghost use Rattle.stable_record.specs.declared.entry.EntryKind.{EntryKind};
 ghost use Rattle.stable_record.specs.Facts.{IsFact, fact_tx};
+ghost use Rattle.stable_record.specs.Grammar.{frame};
 ghost use Rattle.stable_record.specs.Rests.{fact_of};
 
 use crate::fact::{FactKind, Touched};
+use crate::view_writing::{code_of, len_of, put_rest};
+use crate::writing::put_number;
 use std::marker::Model;
-use wire::SpelledTx;
-use xid::{Ballot, ManagerNumber, Sequence, Tx, Vote};
+use wire::{SpelledTx, VERSION};
+use xid::{Ballot, ManagerNumber, Refusal, Sequence, Tx, Vote};
 
 /// What a fact says beside its transaction: as `FactKind` has it.
 #[derive(Debug, Drop)]
@@ -114,6 +120,20 @@ impl<'a> FactView<'a> {
         ensures valid { IsFact self.now }
     {
         &self.rest
+    }
+
+    /// Writes its frame, in version 2, at the end: that of the entry that it is. At `NoMemory`, the only refusal, the first bytes of it
+    /// may stand there.
+    pub fn write(&self, out: &mut Vec<u8>) -> Result<(), Refusal>
+        ensures ok { OnOk result (out.new.items ≡ out.old.items ++ frame version_2 (EntryKind.Fact self.now)) }
+        ensures err { IfErr result (λ e. e ≡ NoMemory) }
+        ensures valid { IsFact self.now }
+    {
+        let tx = self.tx.as_bytes();
+        put_number(out, (2 + tx.len() + len_of(&self.rest)) as u32)?;
+        out.extend_from_slice(&[VERSION, code_of(&self.rest)])?;
+        out.extend_from_slice(tx)?;
+        Ok(put_rest(out, &self.rest)?)
     }
 }
 

@@ -82,7 +82,7 @@ fn put_touched(out: &mut Vec<u8>, touched: &Touched) -> Result<(), AllocError>
     put_act(out, &touched.act)
 }
 
-fn put_keys(out: &mut Vec<u8>, keys: &[Touched]) -> Result<(), AllocError>
+pub(crate) fn put_keys(out: &mut Vec<u8>, keys: &[Touched]) -> Result<(), AllocError>
     requires { AreKeys keys.now }
     ensures { OnOk result (out.new.items ≡ out.old.items ++ keys_spelling keys.now) }
 {
