@@ -1,7 +1,7 @@
 -- What a resource manager decides is what the machine's rules say.
 use Rattle.std.proofs.Common.{◌≡◌, ◌∙◌, ℕ, Bool, true, false, ◌||◌, ◌&&◌, if◌then◌else◌, List, [], ◌∷◌, ◌++◌, Option}
 use Rattle.std.proofs.Common.{Some, None, Result, Ok, Err, is_some, refl, sym, ap, subst}
-use Rattle.std.specs.Prelude.{OnOk}
+use Rattle.std.specs.Prelude.{IfOk, OnOk}
 use Rattle.std.specs.List.{IsDistinct}
 use Rattle.std.proofs.lemmas.Bool.{both_ways, false_from_ne_true}
 use Rattle.xid.specs.Names.{XidParts, xid_eq}
@@ -38,11 +38,13 @@ use Rattle.protocol.proofs.Manager.Prepared.{names_held_once}
 use Rattle.protocol.proofs.Manager.Views.{prepared_shows, vote_in_stands}
 use Rattle.branch_table.specs.Tables.{AreTableBranches}
 use Rattle.resource_manager.specs.declared.course.Course.{Course}
+use Rattle.resource_manager.specs.declared.viewing.ManagerDecision.{ManagerDecision}
 use Rattle.resource_manager.specs.declared.messages.Reminder.{Reminder}
 use Rattle.resource_manager.specs.Courses.{Stored, stored_by, vote_of, view_of, vote_among, is_ended_among, is_new_course, view_among}
 use Rattle.resource_manager.specs.Courses.{course_in}
 use Rattle.resource_manager.specs.SpentNames.{is_spent_in}
 use Rattle.resource_manager.specs.Managers.{ManagerParts, StandsFor, IsDecision, IsOfIdleBranch, Decides, Rule, branches_in}
+use Rattle.resource_manager.specs.Decisions.{shown}
 use Rattle.resource_manager.specs.Managers.{unspent_branches}
 use Rattle.resource_manager.specs.Messages.{are_below, asked_by, IsReminder}
 use Rattle.resource_manager.proofs.Named.{same_idle, same_named}
@@ -454,6 +456,18 @@ pub first_ok : {A E : Type 0} (r : Result A E) (decision : Decision) (m : Manage
 first_ok (Ok done) decision m tx x name working are is =
     λ config number facts branches stands. first_is m tx x name working config number facts branches stands decision are (is branches)
 first_ok (Err refusal) decision m tx x name working are is = tt
+
+pub first_shown : (r : Result ManagerDecision Refusal) (m : ManagerParts) (tx : TxParts) (x : XidParts)
+    → xid_at tx m.number ≡ Some x → course_in m.courses tx ≡ Course.Working
+    → (is_spent_in m.spent x ≡ false → AreTableBranches m.table.branches)
+    → IfOk r (λ decision. (branches : List Branch) → shown decision
+    ≡ decision_of (first_vote m.number branches tx x (is_spent_in m.spent x) (idle_keys m.table.branches x)))
+    → IfOk r (λ decision. Decides m (shown decision)
+    (λ config number stored branches. on_manager_message number stored branches (xid_at tx number) (kinds.Prepare tx)))
+first_shown (Ok decision) m tx x name working are is =
+    λ config number facts branches stands.
+    first_is m tx x name working config number facts branches stands (shown decision) are (is branches)
+first_shown (Err refusal) m tx x name working are is = tt
 
 -- the messages that no resource manager takes
 abbrev pub IsOther : Kind → Type 0

@@ -5,3 +5,4 @@ pub mod Open
 pub mod Messages
 pub mod Playing
 pub mod Compacted
+pub mod Decisions

@@ -9,6 +9,8 @@ mod messages;
 mod playing;
 mod shorter;
 mod spent;
+mod viewing;
 
 pub use manager::ResourceManager;
 pub use messages::Reminder;
+pub use viewing::{ManagerDecision, SentMessage};

@@ -27,9 +27,23 @@ impl ResourceManager {
             → IsMadeReady (placed_part config number branches) self.old self.new fact.now result }
     {
         match fact.kind() {
-            FactKind::VotePrepared { tx, .. } => self.ready_places(tx),
-            FactKind::VoteAborted(tx) => self.ready_places(tx),
-            FactKind::Aborted(tx) => self.ready_places(tx),
+            FactKind::VotePrepared { tx, .. } => self.spell_and_ready(tx),
+            FactKind::VoteAborted(tx) => self.spell_and_ready(tx),
+            FactKind::Aborted(tx) => self.spell_and_ready(tx),
+            _ => Ok(()),
+        }
+    }
+
+    /// Makes itself ready for a fact seen over its bytes as `ready` does.
+    pub fn ready_view(&mut self, fact: &FactView<'_>) -> Result<(), Refusal>
+        ensures { (config : Config) (number : ℕ) (branches : List Branch)
+            → IsMadeReady (placed_part config number branches) self.old self.new fact.now result }
+    {
+        let tx = fact.tx();
+        match fact.rest() {
+            AnyRest::VotePrepared { .. } => self.ready_places(tx),
+            AnyRest::VoteAborted => self.ready_places(tx),
+            AnyRest::Aborted => self.ready_places(tx),
             _ => Ok(()),
         }
     }
@@ -120,14 +134,23 @@ impl ResourceManager {
         }
     }
 
-    /// Makes ready for a vote, or an abort.
-    fn ready_places(&mut self, tx: &Tx) -> Result<(), Refusal>
+    /// Makes ready for a vote, or an abort, of a transaction that isn't spelled yet.
+    fn spell_and_ready(&mut self, tx: &Tx) -> Result<(), Refusal>
         ensures ok { OnOk result (HasPlaces self.new tx.now) }
         ensures same { MeansSame self.old self.new }
         ensures err { IfErr result (λ e. e ≡ NoMemory) }
     {
         let mut buffer = [0; MAX_TX_BYTES];
-        match self.make_places(&SpelledTx::of(tx, &mut buffer)) {
+        self.ready_places(&SpelledTx::of(tx, &mut buffer))
+    }
+
+    /// Makes ready for a vote, or an abort.
+    fn ready_places(&mut self, tx: &SpelledTx<'_>) -> Result<(), Refusal>
+        ensures ok { OnOk result (HasPlaces self.new tx.now) }
+        ensures same { MeansSame self.old self.new }
+        ensures err { IfErr result (λ e. e ≡ NoMemory) }
+    {
+        match self.make_places(tx) {
             Ok(_) => Ok(()),
             Err(refusal) => Err(refusal),
         }
