@@ -6,8 +6,7 @@ use Rattle.protocol.specs.Effects.{stores}
 use Rattle.protocol.specs.declared.decisions.Outgoing.{Outgoing}
 use Rattle.node_core.specs.Roles.{memory_after}
 use Rattle.std.proofs.Common.{◌≡◌, ◌∙◌, ℕ, true, false, not, ◌||◌, List, [], ◌∷◌, ◌++◌, Option, Some, None, refl, sym, ap, subst}
-use Rattle.std.proofs.Common.{append-nil}
-use Rattle.std.specs.Prelude.{IfSome, IfNone, OnOk, Result, Ok, Err, nat_lt, ◌^◌}
+use Rattle.std.specs.Prelude.{IfSome, IfNone, Err, nat_lt, ◌^◌}
 use Rattle.xid.specs.Names.{XidParts}
 use Rattle.xid.specs.Transactions.{TxParts, xid_at}
 use Rattle.xid.specs.declared.refusals.Refusal.{Refusal}
@@ -42,8 +41,7 @@ use Rattle.resource_manager.specs.Managers as manager_specs
 use Rattle.resource_manager.specs.Managers.{ManagerParts, IsCall, call_effect}
 use Rattle.resource_manager.proofs.More.{unspent_all}
 use Rattle.node_core.specs.declared.role.Role.{Role}
-use Rattle.node_core.specs.declared.output.Output.{Output}
-use Rattle.node_core.specs.Roles.{RoleStands, decided, IsLeft, IsDecided, Decides, Rule, answering}
+use Rattle.node_core.specs.Roles.{RoleStands, IsLeft, IsDecided, Decides, Rule, answering}
 
 -- ---- acceptors
 
@@ -286,30 +284,6 @@ pub asked_so : (old new : Role) (d e : Decision) (r s : Request) → d ≡ e →
 asked_so old new d e r s is_d is_r h =
     let P : Decision → Request → Type 0 = λ x y. Decides old new x (λ config who facts memory. on_request config who facts memory y) in
     subst (λ x. P x r) (sym is_d) (subst (λ y. P e y) (sym is_r) h)
-
-pub told_so : (old inner new : Role) (d e : Decision) (rule : Rule) → old ≡ inner → d ≡ e → Decides inner new e rule
-    → Decides old new d rule
-told_so old inner new d e rule is is_d h =
-    let P : Role → Decision → Type 0 = λ x y. Decides x new y rule in
-    subst (λ x. P x d) (sym is) (subst (λ y. P inner y) (sym is_d) h)
-
--- what an acceptor or a resource manager decided, once its parts stand apart, beside no other message
-pub apart_so : (P : Decision → Type 0) (d : Decision) (answer : Answer) (fact : Option Fact) (replied question by_leader : List Outgoing)
-    → answer ≡ d.answer → fact ≡ d.fact → replied ≡ [] → question ≡ [] → by_leader ≡ [] → P d
-    → P (record { answer = answer; fact = fact; sends = replied ++ (d.sends ++ question ++ by_leader) })
-apart_so P d answer fact replied question by_leader answer_is fact_is replied_is question_is leader_is h =
-    let all = (λ i. replied_is i ++ (d.sends ++ question_is i ++ leader_is i)) ∙ append-nil (d.sends ++ []) ∙ append-nil d.sends in
-    subst P (λ i. record { answer = sym answer_is i; fact = sym fact_is i; sends = sym all i }) h
-
--- a resource manager that left what it decided in a place, or refused
-pub managed_so : (old : Role) (p : ManagerParts) (message : Kind) → old ≡ Role.Manager p → (result : Result (Unit {0}) Refusal)
-    (fact : Option Fact) (out : Output) → OnOk result (manager_specs.Decides p (decided fact out)
-    (λ config number stored branches. on_manager_message number stored branches (xid_at (message_tx message) number) message))
-    → OnOk result (Decides old (Role.Manager p) (decided fact out)
-    (λ config who facts memory. on_message config who facts memory message))
-managed_so old p message is (Ok done) fact out h =
-    told_so old (Role.Manager p) (Role.Manager p) _ _ _ is refl (manager_decides p (decided fact out) message h)
-managed_so old p message is (Err refusal) fact out h = tt
 
 -- what a leader decided, once its parts stand apart, beside no other message
 pub led_follows : (config : Config) (number : ℕ) (old new : LeaderParts) (rule : leader_specs.Rule) (d : LeaderDecision) (answer : Answer)

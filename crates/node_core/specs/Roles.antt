@@ -1,5 +1,5 @@
 -- The role of a node: which state of the machine it stands for, what it decides, and what playing a fact leaves.
-use Rattle.std.specs.Prelude.{◌≡◌, ℕ, Bool, true, false, List, [], ◌∷◌, ◌++◌, Option, Some, None, Result, Ok, Err}
+use Rattle.std.specs.Prelude.{◌≡◌, ℕ, true, false, List, [], ◌∷◌, ◌++◌, Option, Some, None, Result, Ok, Err}
 use Rattle.xid.specs.declared.refusals.Refusal.{Refusal}
 use Rattle.stable_record.specs.declared.fact.FactKind.{FactKind as Fact}
 use Rattle.protocol.specs.declared.nodes.NodeId.{NodeId}
@@ -22,11 +22,6 @@ RoleStands config (A a) (Role.Acceptor p) facts memory = of_acceptor.StandsFor c
 RoleStands config (L l) (Role.Leader p) facts memory = of_leader.StandsFor config l p facts memory.leader
 RoleStands config (R rm) (Role.Manager p) facts memory = of_manager.StandsFor config rm p facts memory.branches
 RoleStands config who role facts memory = ⊥
-
--- it is a resource manager's
-abbrev pub is_manager : Role → Bool
-is_manager (Role.Manager p) = true
-is_manager role = false
 
 -- it is ready for a fact: to play one that it decided takes no memory
 abbrev pub HasRoomFor : Role → Fact → Type 0

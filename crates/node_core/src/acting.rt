@@ -7,7 +7,7 @@ ghost use Rattle.protocol.specs.Nodes.{Memory, Asked, effect_of, on_message, dow
 ghost use Rattle.protocol.specs.declared.nodes.NodeId.{NodeId as Id};
 ghost use Rattle.stable_record.specs.Held.{Held};
 ghost use Rattle.node_core.specs.declared.role.Role.TheVariants as roles;
-ghost use Rattle.node_core.specs.Roles.{RoleStands, is_manager};
+ghost use Rattle.node_core.specs.Roles.{RoleStands};
 ghost use Rattle.node_core.specs.Storing.{Carries, carried};
 ghost use Rattle.node_core.specs.declared.config.Sizes.{Sizes as SizesParts};
 ghost use Rattle.node_core.specs.Nodes.{AreSizes, datagram_input, input_of, role_settled};
@@ -16,6 +16,7 @@ ghost use Rattle.node_core.specs.Handling.{Handles};
 
 use crate::accepting::{accept, is_of_cluster};
 use crate::config::Sizes;
+use crate::managing::manage;
 use crate::output::{Input, Output};
 use crate::requests::accepts_request;
 use crate::role::Role;
@@ -45,35 +46,6 @@ fn lead(leader: &mut Leader, message: &MessageView<'_>, out: &mut Output) -> boo
     }
 }
 
-/// What a resource manager that is up does on a message of the cluster. False where it goes down.
-fn manage<R: Record>(
-    work: &mut Workspace,
-    device: &mut R,
-    who: NodeId,
-    role: &mut Role,
-    message: &MessageView<'_>,
-    out: &mut Output,
-) -> bool
-    requires { is_manager role.old ≡ true }
-    ensures { (config : Config) (facts : List FactKind) (memory : Memory) → RoleStands config who role.old facts memory
-        → Carries config who facts memory (on_message config who facts memory message.now)
-        (R.held device.old) (R.held device.new) role.new (carried result out.new) }
-{
-    let Role::Manager(manager) = &*role else {
-        unreachable!();
-    };
-    match out
-        .sends
-        .manage(manager, message, &mut out.reply, &mut work.fact)
-    {
-        Ok(()) => carry_out(work, device, who, role, out),
-        Err(refusal) => {
-            out.refuse(refusal);
-            false
-        }
-    }
-}
-
 /// What a node that is up does on a message of the cluster. False where it goes down.
 fn play<R: Record>(
     work: &mut Workspace,
@@ -92,7 +64,7 @@ fn play<R: Record>(
     match role {
         Role::Acceptor(acceptor) => { accept(&mut work.frame, device, who, acceptor, message, out) }
         Role::Leader(leader) => lead(leader, message, out),
-        Role::Manager(_) => manage(work, device, who, role, message, out),
+        Role::Manager(manager) => { manage(&mut work.frame, device, who, manager, message, out) }
     }
 }
 

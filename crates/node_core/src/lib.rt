@@ -8,6 +8,7 @@ mod compacting;
 mod config;
 mod frames;
 mod grouping;
+mod managing;
 mod migrating;
 mod node;
 mod opening;

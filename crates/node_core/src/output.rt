@@ -1,6 +1,7 @@
 ghost use Rattle.std.specs.Prelude.{◌≡◌, None, Some};
 ghost use Rattle.protocol.specs.declared.answers.Answer.TheVariants.{Done, Refused};
 ghost use Rattle.acceptor.specs.Decisions.{sent_reply};
+ghost use Rattle.resource_manager.specs.Decisions.{sent_message};
 ghost use Rattle.node_core.specs.Roles.{decided, from_reminder, answering};
 ghost use Rattle.node_core.specs.Storing.{output_of, stopped_output, change_made};
 
@@ -9,8 +10,8 @@ use crate::storing::Stopped;
 use acceptor::SentReply;
 use leader::LeaderSends;
 use protocol::{Answer, Change, NodeId, Request, View};
-use resource_manager::Reminder;
-use stable_record::{Fact, FactKind};
+use resource_manager::{Reminder, SentMessage};
+use stable_record::{AnyRest, Fact, FactKind, FactView};
 use xid::{Refusal, Tx};
 
 /// What a node is handed.
@@ -106,6 +107,31 @@ impl Output {
         }
     }
 
+    /// The change of a view that a fact makes, as `put_change_by` puts it.
+    pub(crate) fn put_change_by_view(&mut self, who: NodeId, fact: &FactView<'_>)
+        ensures { self.new ≡ record { reply = self.old.reply; now = change_made who fact.now; sends = self.old.sends } }
+    {
+        let NodeId::R(rm) = who else {
+            self.keep_view();
+            return;
+        };
+        let view = match fact.rest() {
+            AnyRest::VotePrepared { .. } => View::Prepared,
+            AnyRest::VoteAborted => View::Aborted,
+            AnyRest::Committed => View::Committed,
+            AnyRest::Aborted => View::Aborted,
+            AnyRest::Promise { .. }
+            | AnyRest::PromiseAll { .. }
+            | AnyRest::Accept { .. }
+            | AnyRest::Ballot { .. } => {
+                self.keep_view();
+                return;
+            }
+        };
+        let tx = fact.tx().to_tx();
+        self.now = Some(Change { rm, tx, view });
+    }
+
     /// A view that is changed.
     fn put_change(&mut self, rm: u8, tx: &Tx, view: View)
         ensures { self.new ≡ record {
@@ -123,6 +149,28 @@ impl Output {
     {
         self.reply = Answer::Done;
         self.sends.reply(reply);
+    }
+
+    /// What a resource manager answers and sends.
+    pub(crate) fn put_sent(&mut self, sent: &Option<SentMessage<'_>>)
+        ensures { self.new ≡ record { reply = Done; now = self.old.now; sends = sent_message sent.now } }
+    {
+        self.reply = Answer::Done;
+        self.sends.send(sent);
+    }
+
+    /// The refusal of an append that was stopped, as `stop` puts it.
+    pub(crate) fn stop_by_view(&mut self, stopped: Stopped, who: NodeId, fact: &FactView<'_>)
+        ensures { self.new ≡ stopped_output stopped (change_made who fact.now) }
+    {
+        match stopped {
+            Stopped::Memory => self.refuse(Refusal::NoMemory),
+            Stopped::Fault { whole: false } => self.refuse(Refusal::RecordFault),
+            Stopped::Fault { whole: true } => {
+                self.answer(Answer::Refused(Refusal::RecordFault));
+                self.put_change_by_view(who, fact);
+            }
+        }
     }
 
     /// The refusal of an append that was stopped, with no change.

@@ -1,4 +1,4 @@
-//! What an acceptor sends, kept as it is spelled.
+//! What an acceptor or a resource manager sends on a message, kept as it is spelled.
 
 ghost use Rattle.std.specs.Prelude.{◌≡◌, ◌<◌, ◌≤◌, [], ◌∷◌, length};
 ghost use Rattle.wire.specs.declared.message.Kind.{Kind};
@@ -6,10 +6,11 @@ ghost use Rattle.wire.specs.Grammar.{Spells};
 
 use acceptor::SentReply;
 use protocol::{Address, Outgoing};
+use resource_manager::SentMessage;
 use std::marker::Model;
 use wire::{MAX_DATAGRAM, MAX_MESSAGE_BYTES, decode};
 
-/// A message of an acceptor by its spelled bytes, and whom it is for; or none.
+/// A message of an acceptor or a resource manager by its spelled bytes, and whom it is for; or none.
 #[derive(Debug, Drop)]
 pub(crate) struct Replied {
     to: Address,
@@ -49,12 +50,20 @@ impl Replied {
         self.len = 0;
     }
 
-    /// A message, in place of another.
+    /// A message of an acceptor, in place of another.
     pub(crate) fn put(&mut self, reply: &SentReply<'_>)
         ensures { self.new ≡ record { to = reply.now.to; message = reply.now.message } ∷ [] }
     {
         self.to = reply.to;
         self.len = reply.message.encode(&mut self.bytes);
+    }
+
+    /// A message of a resource manager, in place of another.
+    pub(crate) fn put_message(&mut self, sent: &SentMessage<'_>)
+        ensures { self.new ≡ record { to = sent.now.to; message = sent.now.message } ∷ [] }
+    {
+        self.to = sent.to;
+        self.len = sent.message.encode(&mut self.bytes);
     }
 
     /// How many there are: one, or none.

@@ -1,23 +1,19 @@
-ghost use Rattle.std.specs.Prelude.{◌≡◌, ℕ, ◌<◌, [], ◌++◌, ◌≤◌, ◌∷◌, length, slice_index_or, IfErr, IfSome, OnOk, Option, None};
-ghost use Rattle.xid.specs.Transactions.{xid_at};
-ghost use Rattle.xid.specs.declared.refusals.Refusal.TheVariants.{NoMemory};
+ghost use Rattle.std.specs.Prelude.{◌≡◌, ℕ, ◌<◌, [], ◌++◌, ◌≤◌, ◌∷◌, length, slice_index_or, IfSome, Option, None};
 ghost use Rattle.wire.specs.declared.message.Kind.{Kind};
 ghost use Rattle.wire.specs.Grammar.{Spells};
-ghost use Rattle.wire.specs.Messages.{message_tx};
 ghost use Rattle.stable_record.specs.declared.fact.FactKind.{FactKind};
 ghost use Rattle.protocol.specs.Effects.{Config};
 ghost use Rattle.protocol.specs.Leaders.{on_leader_message};
-ghost use Rattle.protocol.specs.Managers.{on_manager_message};
 ghost use Rattle.acceptor.specs.Decisions.{sent_reply};
+ghost use Rattle.resource_manager.specs.Decisions.{sent_message};
 ghost use Rattle.leader.specs.Leaders.{FollowsOrRefuses};
-ghost use Rattle.resource_manager.specs.Managers.{Decides as ManagerDecides};
 ghost use Rattle.node_core.specs.Sends.{led};
 
 use crate::replied::Replied;
 use acceptor::SentReply;
 use leader::{Leader, LeaderDecision, LeaderSends};
-use protocol::{Address, Answer, Decision, Outgoing, Sends};
-use resource_manager::ResourceManager;
+use protocol::{Address, Answer, Outgoing, Sends};
+use resource_manager::SentMessage;
 use stable_record::Fact;
 use std::marker::Model;
 use std::mem;
@@ -28,11 +24,11 @@ use xid::Refusal;
 /// for those of each kind of node, so that what is sent at one input can take the place of what was sent at another.
 #[derive(Debug)]
 pub struct NodeSends {
-    // what an acceptor replies, as it is spelled
+    // what an acceptor replies or a resource manager sends on a message, as it is spelled
     replied: Replied,
-    // what a resource manager decided, of which the message alone is sent
-    decided: Decision,
-    // what a resource manager asks when nothing was heard for too long
+    // the vote that a resource manager sends again when nothing was heard for too long
+    reminded: Sends,
+    // what it asks then
     question: Sends,
     // what a leader decided, of which the messages alone are sent
     led: LeaderDecision,
@@ -43,7 +39,7 @@ impl Drop for NodeSends {
     fn drop(self) {
         let NodeSends {
             replied: _,
-            decided: _,
+            reminded: _,
             question: _,
             led: _,
         } = self;
@@ -57,9 +53,9 @@ impl Model for NodeSends {
 
     ghost Value = { List Outgoing };
 
-    ghost view = { λ s. s.replied ++ (s.decided.sends ++ s.question ++ s.led.sends) };
+    ghost view = { λ s. s.replied ++ (s.reminded ++ s.question ++ s.led.sends) };
 
-    ghost invariant = { λ s. AreSends s.replied s.decided.sends s.question s.led.sends };
+    ghost invariant = { λ s. AreSends s.replied s.reminded s.question s.led.sends };
 }
 
 /// No message of a leader any more.
@@ -71,16 +67,6 @@ fn forget_led(sends: &mut LeaderSends)
         return;
     }
     *sends = LeaderDecision::nothing().sends;
-}
-
-/// Puts a fact in the place of another, and leaves it nowhere else.
-fn hand_over(from: &mut Option<Fact>, to: &mut Option<Fact>)
-    ensures { to.new ≡ from.old }
-{
-    match from {
-        Some(_) => mem::swap(from, to),
-        None => forget_fact(to),
-    }
 }
 
 /// No fact any more.
@@ -100,7 +86,7 @@ impl NodeSends {
     {
         NodeSends {
             replied: Replied::none(),
-            decided: Decision::nothing(),
+            reminded: Sends::none(),
             question: Sends::none(),
             led: LeaderDecision::nothing(),
         }
@@ -111,7 +97,7 @@ impl NodeSends {
         ensures { self.new ≡ [] }
     {
         self.replied.clear();
-        self.decided.sends.clear();
+        self.reminded.clear();
         self.question.clear();
         forget_led(&mut self.led.sends);
     }
@@ -127,27 +113,15 @@ impl NodeSends {
         }
     }
 
-    /// What a resource manager sends on a message, in place of what was sent before; beside it the answer and the fact are left that is
-    /// to be stored. Refused: `NoMemory`.
-    pub(crate) fn manage(
-        &mut self,
-        manager: &ResourceManager,
-        message: &MessageView<'_>,
-        reply: &mut Answer,
-        fact: &mut Option<Fact>,
-    ) -> Result<(), Refusal>
-        ensures ok { OnOk result (ManagerDecides manager.now (record { answer = reply.new; fact = fact.new; sends = self.new })
-            (λ config number stored branches. on_manager_message number stored branches
-            (xid_at (message_tx message.now) number) message.now)) }
-        ensures err { IfErr result (λ e. e ≡ NoMemory) }
+    /// What a resource manager sends on a message, in place of what was sent before.
+    pub(crate) fn send(&mut self, sent: &Option<SentMessage<'_>>)
+        ensures { self.new ≡ sent_message sent.now }
     {
-        self.replied.clear();
-        self.question.clear();
-        forget_led(&mut self.led.sends);
-        manager.decide(message, &mut self.decided)?;
-        *reply = mem::replace(&mut self.decided.answer, Answer::Done);
-        hand_over(&mut self.decided.fact, fact);
-        Ok(())
+        self.clear();
+        match sent {
+            Some(sent) => self.replied.put_message(sent),
+            None => {}
+        }
     }
 
     /// What a leader sends on a message, in place of what was sent before; beside it the answer is left. What it decided to store is
@@ -163,7 +137,7 @@ impl NodeSends {
             (λ stored memory. on_leader_message config stored memory message.now)) }
     {
         self.replied.clear();
-        self.decided.sends.clear();
+        self.reminded.clear();
         self.question.clear();
         leader.decide(message, &mut self.led)?;
         *reply = mem::replace(&mut self.led.answer, Answer::Done);
@@ -175,7 +149,7 @@ impl NodeSends {
         ensures { self.new ≡ vote ++ question }
     {
         self.replied.clear();
-        self.decided.sends = vote;
+        self.reminded = vote;
         self.question = question;
         forget_led(&mut self.led.sends);
     }
@@ -185,7 +159,7 @@ impl NodeSends {
         ensures { self.new ≡ sends }
     {
         self.replied.clear();
-        self.decided.sends.clear();
+        self.reminded.clear();
         self.question.clear();
         self.led.sends = sends;
     }
@@ -202,10 +176,11 @@ impl NodeSends {
         if led > 0 {
             return led;
         }
-        self.decided.sends.as_slice().len() + self.question.as_slice().len()
+        self.reminded.as_slice().len() + self.question.as_slice().len()
     }
 
-    /// Whom an acceptor's reply is for, and the bytes that spell it, where that is what is sent; nothing else is then.
+    /// Whom an acceptor's reply is for, or what a resource manager sends on a message, and the bytes that spell it, where that is what is
+    /// sent; nothing else is then.
     pub fn replied(&self) -> Option<(Address, &[u8])>
         ensures few { IfSome result (λ reply. length reply.1.now ≤ MAX_MESSAGE_BYTES) }
         ensures spells { IfSome result (λ reply. (message : Kind) × Spells message reply.1.now
@@ -225,7 +200,7 @@ impl NodeSends {
         if self.replied.count() > 0 {
             return self.replied.get();
         }
-        let first = self.decided.sends.as_slice();
+        let first = self.reminded.as_slice();
         if i < first.len() {
             return first[i];
         }

@@ -11,7 +11,7 @@ ghost use Rattle.node_core.specs.Storing.{HasStored, Carries, carried, fact_fram
 use crate::output::Output;
 use crate::role::Role;
 use protocol::NodeId;
-use stable_record::{Fact, MemRecord, Record, RecordError, SpelledFact};
+use stable_record::{Fact, FactView, MemRecord, Record, RecordError, SpelledFact};
 use std::alloc::Global;
 use xid::Refusal;
 
@@ -89,6 +89,22 @@ pub(crate) fn store_spelled<R: Record>(
     frame: &mut Vec<u8>,
     device: &mut R,
     fact: &SpelledFact<'_>,
+) -> Result<(), Stopped>
+    ensures stored { HasStored fact.now (R.held device.old) (R.held device.new) result }
+    ensures valid { IsFact fact.now }
+{
+    frame.clear();
+    match fact.write(frame) {
+        Ok(()) => append_frame(device, frame),
+        Err(_) => Err(Stopped::Memory),
+    }
+}
+
+/// The same of a fact of any kind over the bytes of its transaction.
+pub(crate) fn store_view<R: Record>(
+    frame: &mut Vec<u8>,
+    device: &mut R,
+    fact: &FactView<'_>,
 ) -> Result<(), Stopped>
     ensures stored { HasStored fact.now (R.held device.old) (R.held device.new) result }
     ensures valid { IsFact fact.now }
