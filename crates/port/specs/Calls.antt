@@ -4,7 +4,7 @@ use Rattle.std.specs.List.{flat_map, range_with_len}
 use Rattle.xid.specs.declared.refusals.Refusal.{Refusal}
 use Rattle.wire.specs.Grammar.{spelling}
 use Rattle.wire.specs.declared.message.Kind.{Kind}
-use Rattle.protocol.specs.declared.nodes.NodeId.TheVariants.{L}
+use Rattle.protocol.specs.declared.nodes.NodeId.TheVariants.{A, L}
 use Rattle.stable_record.specs.declared.record.RecordError.{RecordError}
 use Rattle.protocol.specs.declared.nodes.NodeId.{NodeId}
 use Rattle.protocol.specs.Effects.{Config}
@@ -23,6 +23,10 @@ datagram_for sender message receiver = record { sender = sender; receiver = rece
 -- so many leaders
 abbrev pub leaders_below : ℕ → List NodeId
 leaders_below count = map L (range_with_len 0 count)
+
+-- so many acceptors
+abbrev pub acceptors_below : ℕ → List NodeId
+acceptors_below count = map A (range_with_len 0 count)
 
 -- a way in which sends change a port
 abbrev pub Sending : Type 0 → Type 1

@@ -9,7 +9,7 @@ ghost use Rattle.protocol.specs.Worlds.{datagrams_of};
 ghost use Rattle.node_core.specs.Configs.{config_by};
 ghost use Rattle.node_core.specs.Sends.{sent as sent_by};
 ghost use Rattle.node_core.specs.Nodes.{input_of};
-ghost use Rattle.port.specs.Calls.{SendsAll, Calls, CallsAll, Serves, datagrams_from, datagram_for, leaders_below};
+ghost use Rattle.port.specs.Calls.{SendsAll, Calls, CallsAll, Serves, datagrams_from, datagram_for, leaders_below, acceptors_below};
 
 use crate::port::{MAX_TAKEN, Port};
 use node_core::{Input, Node, NodeSends, Output, Sizes, receiver_at, receiver_count};
@@ -51,6 +51,17 @@ fn send_to_leaders<P: Port>(port: &mut P, leaders: u8, bytes: &[u8])
     }
 }
 
+/// Sends bytes to each acceptor.
+fn send_to_acceptors<P: Port>(port: &mut P, acceptors: u8, bytes: &[u8])
+    ensures { (sender : Sender) (message : Kind) → Spells message bytes.now → SendsAll P.sent port.old port.new
+        (map (datagram_for sender message) (acceptors_below acceptors)) }
+{
+    for number in 0..acceptors {
+        // what isn't sent is lost, as a datagram may be
+        let _ = port.send(NodeId::A(number), bytes);
+    }
+}
+
 /// Sends the messages of a node one by one, as `send_all` does.
 fn send_one_by_one<P: Port>(port: &mut P, sizes: Sizes, sends: &NodeSends)
     ensures { (sender : Sender) → SendsAll P.sent port.old port.new
@@ -62,13 +73,15 @@ fn send_one_by_one<P: Port>(port: &mut P, sizes: Sizes, sends: &NodeSends)
     }
 }
 
-/// Sends all messages that a node puts out, in their order. What an acceptor replies is spelled already, and goes to leaders.
+/// Sends all messages that a node puts out, in their order. What an acceptor replies is spelled already, and goes to leaders; so is a vote,
+/// which goes to acceptors.
 fn send_all<P: Port>(port: &mut P, sizes: Sizes, sends: &NodeSends)
     ensures { (sender : Sender) → SendsAll P.sent port.old port.new
         (flat_map (datagrams_of (config_by sizes []) sender) (sent_by sends.now)) }
 {
     match sends.replied() {
         Some((Address::Leaders, bytes)) => send_to_leaders(port, sizes.leaders, bytes),
+        Some((Address::Acceptors, bytes)) => send_to_acceptors(port, sizes.acceptors, bytes),
         Some((Address::Node(node), bytes)) => {
             let _ = port.send(node, bytes);
         }

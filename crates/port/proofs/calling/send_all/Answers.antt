@@ -5,7 +5,7 @@ use Rattle.protocol.specs.Worlds.{Datagram, datagrams_of}
 use Rattle.protocol.specs.declared.decisions.Address.{Address}
 use Rattle.protocol.specs.declared.decisions.Outgoing.{Outgoing}
 use Rattle.node_core.specs.Configs.{config_by}
-use Rattle.port.specs.Calls.{SendsAll, datagram_for, leaders_below}
+use Rattle.port.specs.Calls.{SendsAll, acceptors_below, datagram_for, leaders_below}
 use Rattle.port.proofs.calling.send_all.Goals as goal
 
 pub returns-in-Some-Leaders-default : goal.returns-in-Some-Leaders-default
@@ -21,3 +21,17 @@ returns-in-Some-Leaders-default g c =
     ∙ ap (flat_map all) (sym reply.2) in
     subst (λ (ds : List Datagram). SendsAll g.P.Port.sent c.args.port.now c.send_to_leaders.new.port ds) is
     (c.send_to_leaders.ensures sender message reply.1)
+
+pub returns-in-Some-Acceptors-default : goal.returns-in-Some-Acceptors-default
+returns-in-Some-Acceptors-default g c =
+    λ sender.
+    let reply = c.in-Some-Acceptors-default.ensures.spells in
+    let message = reply.0 in
+    let all = datagrams_of (config_by c.args.sizes []) sender in
+    let to : Address → Outgoing = λ address. record { to = address; message = message } in
+    let is : map (datagram_for sender message) (acceptors_below c.args.sizes.acceptors) ≡ flat_map all c.args.sends.now =
+    sym (append-nil (map (datagram_for sender message) (acceptors_below c.args.sizes.acceptors)))
+    ∙ ap (λ (address : Address). flat_map all (to address ∷ [])) (sym c.in-Some-Acceptors-default.field-0-0-is)
+    ∙ ap (flat_map all) (sym reply.2) in
+    subst (λ (ds : List Datagram). SendsAll g.P.Port.sent c.args.port.now c.send_to_acceptors.new.port ds) is
+    (c.send_to_acceptors.ensures sender message reply.1)
