@@ -15,7 +15,6 @@ use Rattle.xid.specs.Transactions.{TxParts, IsTx, tx_eq}
 use Rattle.xid.specs.declared.refusals.Refusal.{Refusal}
 use Rattle.xid.specs.declared.refusals.Refusal.TheVariants.{NoMemory}
 use Rattle.xid.proofs.Deciding.{tx_decides}
-use Rattle.indexmap.specs.IndexSet.{insert_key}
 use Rattle.wire.specs.Grammar.{tx_spelling}
 use Rattle.wire.specs.Versions.{version_2}
 use Rattle.wire.specs.Decoding.{tx_in}
@@ -33,18 +32,10 @@ module _ {X : Type 0} (p q : X → Bool) where
   same_place [] h = refl
   same_place (x ∷ xs) h = λ i. cond (not (h.0 i)) (1 + same_place xs h.1 i) 0
 
-  pub same_any : (xs : List X) → AllByRecursion (λ x. p x ≡ q x) xs → list_any p xs ≡ list_any q xs
-  same_any [] h = refl
-  same_any (x ∷ xs) h = λ i. h.0 i || same_any xs h.1 i
-
 module _ {X Y : Type 0} (f : X → Y) (p : Y → Bool) where
   pub place-map : (xs : List X) → position_or_len p (map f xs) ≡ position_or_len (λ x. p (f x)) xs
   place-map [] = refl
   place-map (x ∷ xs) = ap (λ n. cond (not (p (f x))) (1 + n) 0) (place-map xs)
-
-  pub any-map : (xs : List X) → list_any p (map f xs) ≡ list_any (λ x. p (f x)) xs
-  any-map [] = refl
-  any-map (x ∷ xs) = ap (λ b. p (f x) || b) (any-map xs)
 
 -- ---- what a place says
 
@@ -157,43 +148,18 @@ module _ (seen : List TxParts) (tx : TxParts) where
   pub not_seen : None ≡ position (tx_eq tx) seen → list_any (tx_eq tx) seen ≡ false
   not_seen e = absent_from_place (tx_eq tx) seen (place_of_position (tx_eq tx) seen None e)
 
-map_added : {X Y : Type 0} (f : X → Y) (b : Bool) (xs : List X) (x : X) (y : Y) → f x ≡ y
-    → map f (cond b xs (xs ++ x ∷ [])) ≡ cond b (map f xs) (map f xs ++ y ∷ [])
-map_added f true xs x y e = refl
-map_added f false xs x y e = map-append f xs (x ∷ []) ∙ ap (λ z. map f xs ++ z ∷ []) e
+module _ {K : Type 0} (bytes : K → List ℕ) (keys : List K) (key : K) (tx : TxParts) (is : IsTx tx)
+    (spelled : bytes key ≡ tx_spelling version_2 tx) where
+  pub seen_pushed : list_any (tx_eq tx) (seen_of bytes keys) ≡ false → seen_of bytes (keys ++ key ∷ []) ≡ seen_with (seen_of bytes keys) tx
+  seen_pushed absent =
+      map-append (λ other. tx_spelled (bytes other)) keys (key ∷ [])
+      ∙ ap (λ (last : TxParts). seen_of bytes keys ++ last ∷ []) (spelled_is (bytes key) tx is spelled)
+      ∙ sym (ap (λ (b : Bool). cond b (seen_of bytes keys) (seen_of bytes keys ++ tx ∷ [])) absent)
 
-all_added : {X : Type 0} (P : X → Type 0) (b : Bool) (xs : List X) (x : X) → All P xs → P x → All P (cond b xs (xs ++ x ∷ []))
-all_added P true xs x each one = each
-all_added P false xs x each one = All-push P xs x each one
-
-module _ {K : Type 0} (bytes : K → List ℕ) (keys : List K) (each : All (λ key. IsSpelled (bytes key)) keys)
-    (key : K) (tx : TxParts) (is : IsTx tx) (spelled : bytes key ≡ tx_spelling version_2 tx) where
-  abbrev same_key : K → K → Bool
-  same_key a b = bytes_eq (bytes a) (bytes b)
-
-  tests : AllByRecursion (λ other. same_key key other ≡ tx_eq tx (tx_spelled (bytes other))) keys
-  tests = recursion_from_All (λ other. same_key key other ≡ tx_eq tx (tx_spelled (bytes other))) keys (λ k d lt.
-      ap (bytes_eq (bytes key)) (each k d lt).spelled
-      ∙ ap (λ (xs : List ℕ). bytes_eq xs (tx_spelling version_2 (tx_spelled (bytes (get_or keys k d))))) spelled
-      ∙ spelled_once tx (tx_spelled (bytes (get_or keys k d))) is (each k d lt).valid)
-
-  pub place_added : position_or_len (same_key key) keys ≡ place_in (seen_of bytes keys) tx
-  place_added =
-      same_place (same_key key) (λ other. tx_eq tx (tx_spelled (bytes other))) keys tests
-      ∙ sym (place-map (λ other. tx_spelled (bytes other)) (tx_eq tx) keys)
-
-  pub seen_added : seen_of bytes (insert_key same_key keys key) ≡ seen_with (seen_of bytes keys) tx
-  seen_added =
-      let any : list_any (same_key key) keys ≡ list_any (tx_eq tx) (seen_of bytes keys) =
-      same_any (same_key key) (λ other. tx_eq tx (tx_spelled (bytes other))) keys tests
-      ∙ sym (any-map (λ other. tx_spelled (bytes other)) (tx_eq tx) keys) in
-      map_added (λ other. tx_spelled (bytes other)) (list_any (same_key key) keys) keys key tx (spelled_is (bytes key) tx is spelled)
-      ∙ ap (λ (b : Bool). cond b (seen_of bytes keys) (seen_of bytes keys ++ tx ∷ [])) any
-
-  pub spelled_added : All (λ other. IsSpelled (bytes other)) (insert_key same_key keys key)
-  spelled_added =
+  pub spelled_pushed : All (λ other. IsSpelled (bytes other)) keys → All (λ other. IsSpelled (bytes other)) (keys ++ key ∷ [])
+  spelled_pushed each =
       let back = spelled_is (bytes key) tx is spelled in
-      all_added (λ other. IsSpelled (bytes other)) (list_any (same_key key) keys) keys key each
+      All-push (λ other. IsSpelled (bytes other)) keys key each
       (record { valid = subst IsTx (sym back) is; spelled = spelled ∙ ap (tx_spelling version_2) (sym back) })
 
 -- ---- no two are the same

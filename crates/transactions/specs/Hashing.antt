@@ -1,6 +1,7 @@
 -- How spelled bytes and numbers are hashed. Nothing that a contract says of transactions depends on it.
-use Rattle.std.specs.Prelude.{ℕ, ◌+◌, ◌-◌, ◌*◌, ◌/◌, ◌%◌, ◌^◌, ◌==◌, nat_lt, if◌then◌else◌, List, [], ◌∷◌, length, slice_index, bit_and}
+use Rattle.std.specs.Prelude.{ℕ, ◌+◌, ◌-◌, ◌*◌, ◌/◌, ◌%◌, ◌^◌, ◌==◌, nat_lt, if◌then◌else◌, List, [], ◌∷◌, length, drop, slice_index, bit_and}
 use Rattle.std.specs.Prelude.{bit_xor}
+use Rattle.std.specs.Int.{w64, from_le_bytes}
 use Rattle.transactions.specs.declared.hasher.SpellingHasher.{SpellingHasher}
 use Rattle.transactions.specs.declared.hasher.NumberHasher.{NumberHasher}
 
@@ -29,6 +30,31 @@ with_byte h byte =
 -- after bytes that are written at once: one by itself is taken
 abbrev pub written : SpellingHasher → List ℕ → SpellingHasher
 written h bytes = if length bytes == 1 then with_byte h (slice_index bytes 0) else h
+
+-- ---- by words of eight bytes
+
+-- eight bytes as a number, the first the lowest
+abbrev pub word_of : List ℕ → ℕ
+word_of bytes = from_le_bytes w64 bytes
+
+-- bytes taken into a word one by one
+abbrev pub taken : ℕ → List ℕ → ℕ
+taken word [] = word
+taken word (byte ∷ bytes) = taken (longer word byte) bytes
+
+-- the last eight bytes as a number, or all where there are fewer
+abbrev pub last_word : List ℕ → ℕ
+last_word bytes = if nat_lt (length bytes) 8 then taken 0 bytes else word_of (drop (length bytes - 8) bytes)
+
+-- words taken into a state, as many as there are
+unfoldable pub words_taken : ℕ → List ℕ → ℕ
+words_taken state (a ∷ b ∷ c ∷ d ∷ e ∷ f ∷ g ∷ h ∷ rest) =
+    words_taken (mixed state (word_of (a ∷ b ∷ c ∷ d ∷ e ∷ f ∷ g ∷ h ∷ []))) rest
+words_taken state rest = state
+
+-- the hash of bytes
+abbrev pub hash_of : List ℕ → ℕ
+hash_of bytes = mixed (words_taken (length bytes) bytes) (last_word bytes)
 
 -- ---- a number
 

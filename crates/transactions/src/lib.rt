@@ -1,6 +1,7 @@
 //! The transactions that a part of a node has seen, each with a number.
 #![tactic(auto)]
 
+mod hashed;
 mod hasher;
 mod numbers;
 mod order;

@@ -7,20 +7,20 @@ ghost use Rattle.wire.specs.Grammar.{tx_spelling};
 ghost use Rattle.wire.specs.Versions.{version_2};
 ghost use Rattle.transactions.specs.Seen.{place_in, seen_with};
 
-use crate::hasher::SpellingHasher;
-use indexmap::IndexSet;
+use crate::hashed::{HashedPlaces, stand_at};
+use crate::hasher::hash_of;
 use std::alloc::Global;
-use std::hash::BuildHasherDefault;
 use std::marker::Model;
 use wire::{MAX_TX_BYTES, SpelledTx, VersionNumber, take_tx};
 use xid::{Refusal, Tx};
 
 /// Transactions in the order of first sight. The number of a transaction is its place in that order, and stays. Each is kept by its
-/// spelled bytes.
+/// spelled bytes, and is found by a hash of them.
 #[derive(Debug, Drop)]
 pub struct Transactions {
     alloc: Global,
-    spelled: IndexSet<Vec<u8>, BuildHasherDefault<SpellingHasher>>,
+    spelled: Vec<Vec<u8>>,
+    places: HashedPlaces,
 }
 
 impl Model for Transactions {
@@ -28,12 +28,16 @@ impl Model for Transactions {
     ghost use Rattle.std.specs.List.{All};
     ghost use Rattle.xid.specs.Transactions.{TxParts};
     ghost use Rattle.wire.specs.Spelled.{tx_spelled, IsSpelled};
+    ghost use Rattle.transactions.specs.Found.{IsIndex, hint_of, other_of};
 
     ghost Value = { List TxParts };
 
-    ghost view = { λ t. map (λ key. tx_spelled key.items) t.spelled.keys };
+    ghost view = { λ t. map (λ key. tx_spelled key.items) t.spelled.items };
 
-    ghost invariant = { λ t. All (λ key. IsSpelled key.items) t.spelled.keys };
+    ghost invariant = { λ t. record {
+      spelled : All (λ key. IsSpelled key.items) t.spelled.items;
+      found : IsIndex (λ key. key.items) t.spelled.items (hint_of t.places) (other_of t.places);
+    } };
 }
 
 impl Transactions {
@@ -43,7 +47,8 @@ impl Transactions {
     {
         Transactions {
             alloc,
-            spelled: IndexSet::with_hasher(alloc, BuildHasherDefault::new()),
+            spelled: Vec::new(alloc),
+            places: HashedPlaces::new(alloc),
         }
     }
 
@@ -61,7 +66,7 @@ impl Transactions {
         ensures value { result ≡ position (λ tx. bytes_eq spelled.now (tx_spelling version_2 tx)) self.now }
         ensures valid { All IsTx self.now }
     {
-        self.spelled.get_index_of(spelled)
+        self.places.find(&self.spelled, hash_of(spelled), spelled)
     }
 
     /// The number of a transaction, where it was seen. It takes no memory.
@@ -78,7 +83,7 @@ impl Transactions {
     pub fn get(&self, number: usize) -> Option<Tx>
         ensures { result ≡ slice_get self.now number }
     {
-        let Some(spelled) = self.spelled.get_index(number) else {
+        let Some(spelled) = self.spelled.get(number) else {
             return None;
         };
         let Some(taken) = take_tx(VersionNumber::Second, spelled) else {
@@ -94,11 +99,7 @@ impl Transactions {
             × (number < length self.now) }
         ensures valid { All IsTx self.now }
     {
-        let _ = self.spelled.len();
-        match self.spelled.get_index(number) {
-            Some(key) => key.as_slice() == spelled,
-            None => false,
-        }
+        stand_at(&self.spelled, spelled, number)
     }
 
     /// The number of a transaction, where it was seen, as `number_of` gives it. A number that is likely, and the one after it, are
@@ -118,19 +119,23 @@ impl Transactions {
         self.number_of_spelled(spelled)
     }
 
-    /// Puts a transaction after the others, unless it was seen, and answers its number. It is likely to be new, so it isn't looked for
-    /// first. At `NoMemory`, the only refusal, all is as before, whether it was seen or not.
+    /// Puts a transaction after the others, unless it was seen, and answers its number. At `NoMemory`, the only refusal, all is as
+    /// before.
     pub fn insert_view(&mut self, tx: &SpelledTx<'_>) -> Result<usize, Refusal>
         ensures valid { IsTx tx.now }
         ensures ok { IfOk result (λ number. (number ≡ place_in self.old tx.now) × (self.new ≡ seen_with self.old tx.now)) }
         ensures err { IfErr result (λ e. (e ≡ NoMemory) × (self.new ≡ self.old)) }
     {
-        let Ok(key) = Vec::from_slice(self.alloc, tx.as_bytes()) else {
-            return Err(Refusal::NoMemory);
-        };
-        let Ok((number, _)) = self.spelled.insert_full(key) else {
-            return Err(Refusal::NoMemory);
-        };
+        let spelled = tx.as_bytes();
+        let hash = hash_of(spelled);
+        if let Some(number) = self.places.find(&self.spelled, hash, spelled) {
+            return Ok(number);
+        }
+        let key = Vec::from_slice(self.alloc, spelled)?;
+        self.spelled.reserve(1)?;
+        let number = self.spelled.len();
+        self.places.add(self.alloc, hash, spelled, number)?;
+        self.spelled.push(key)?;
         Ok(number)
     }
 

@@ -1,0 +1,19 @@
+-- Where a transaction stands, by what is found of its bytes.
+use Rattle.std.proofs.Common.{◌≡◌, ◌∙◌, ℕ, List, Option}
+use Rattle.std.specs.Prelude.{position}
+use Rattle.std.specs.List.{All}
+use Rattle.xid.specs.Transactions.{TxParts, IsTx, tx_eq}
+use Rattle.wire.specs.Grammar.{tx_spelling}
+use Rattle.wire.specs.Versions.{version_2}
+use Rattle.wire.specs.Spelled.{IsSpelled}
+use Rattle.transactions.specs.Found.{found, IsIndex}
+use Rattle.transactions.specs.Hashing.{hash_of}
+use Rattle.transactions.proofs.Index.{found_first}
+use Rattle.transactions.proofs.Keys.{seen_of, all_valid, place_by_bytes, position_by_tx}
+
+pub sought : {K : Type 0} (bytes : K → List ℕ) (keys : List K) (hint : ℕ → Option ℕ) (other : List ℕ → Option ℕ)
+    → IsIndex bytes keys hint other → All (λ key. IsSpelled (bytes key)) keys → (k : List ℕ) (tx : TxParts) → IsTx tx
+    → k ≡ tx_spelling version_2 tx → found bytes keys k (hint (hash_of k)) (other k) ≡ position (tx_eq tx) (seen_of bytes keys)
+sought bytes keys hint other index each k tx is e =
+    found_first bytes keys hint other index k ∙ place_by_bytes bytes k keys each
+    ∙ position_by_tx k tx (seen_of bytes keys) is e (all_valid bytes keys each)

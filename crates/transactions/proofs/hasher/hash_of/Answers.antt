@@ -1,0 +1,16 @@
+use Rattle.std.proofs.Common.{◌∙◌, sym, ap, arith}
+use Rattle.transactions.specs.Hashing.{mixed, words_taken}
+use Rattle.transactions.proofs.Words.{word_taken, words_ended}
+use Rattle.transactions.proofs.hasher.hash_of.Goals as goal
+
+pub loop-word-preserved : goal.loop-word-preserved
+loop-word-preserved c =
+    let step = word_taken c.loop-word.state c.loop-word.rest.now c.in-Some.word.now c.in-Some.after.now
+    (omega (arith, c.in-Some.ensures.cases.2)) c.in-Some.ensures.cases.0 c.in-Some.ensures.cases.1 in
+    ap (λ s. words_taken s c.in-Some.after.now) (c.mixed-state.ensures ∙ ap (mixed c.loop-word.state) c.from_le_bytes.ensures)
+    ∙ step ∙ c.loop-word.invariant
+
+pub returns : goal.returns
+returns c =
+    let all = sym (words_ended c.loop-word.state c.loop-word.rest.now c.in_default.ensures.cases) ∙ c.loop-word.invariant in
+    c.mixed.ensures ∙ (λ k. mixed (all k) (c.last_word.ensures k))
