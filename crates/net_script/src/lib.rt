@@ -7,6 +7,7 @@ mod byte_words;
 mod events;
 mod items;
 mod known;
+mod marks;
 mod message_words;
 mod messages;
 mod nodes;
