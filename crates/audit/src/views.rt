@@ -12,6 +12,7 @@ use protocol::{Change, View};
 use std::alloc::Global;
 use std::marker::Model;
 use transactions::Transactions;
+use wire::{MAX_TX_BYTES, SpelledTx};
 use xid::{ManagerNumber, Refusal, Tx};
 
 /// The views of a transaction's participants, in the order of its list.
@@ -34,6 +35,8 @@ impl Model for Course {
 pub struct Views {
     transactions: Transactions,
     courses: Vec<Course>,
+    // the number of the transaction that was noted last, since changes of one often follow each other
+    last: usize,
 }
 
 impl Model for Views {
@@ -150,6 +153,7 @@ impl Views {
         Views {
             transactions: Transactions::new(alloc),
             courses: Vec::new(alloc),
+            last: 0,
         }
     }
 
@@ -169,13 +173,17 @@ impl Views {
         ensures same { (other : TxParts) → views_in self.new other ≡ views_in self.old other }
         ensures err { IfErr result (λ e. e ≡ NoMemory) }
     {
-        if let Some(number) = self.transactions.number_of(tx) {
+        let mut buffer = [0; MAX_TX_BYTES];
+        let spelled = SpelledTx::of(tx, &mut buffer);
+        if let Some(number) = self.transactions.number_of_view(&spelled, self.last) {
+            self.last = number;
             return Ok(number);
         }
         let course = Course::working(alloc, tx)?;
         self.courses.reserve(1)?;
-        let number = self.transactions.add(tx)?;
+        let number = self.transactions.insert_view(&spelled)?;
         self.courses.push_reserved(course);
+        self.last = number;
         Ok(number)
     }
 
