@@ -7,9 +7,11 @@ ghost use Rattle.audit.specs.Stretches.{just_started, with_write, with_get};
 ghost use Rattle.audit.specs.Books.{stretch_of, Sets};
 
 use crate::stretch::Stretch;
+use hashing::WordHasher;
 use indexmap::IndexMap;
 use stable_record::Act;
 use std::alloc::Global;
+use std::hash::BuildHasherDefault;
 use std::marker::Model;
 use xid::{Refusal, Xid};
 
@@ -25,7 +27,7 @@ pub struct Name {
 /// What was done in each branch since it was last started.
 #[derive(Debug, Drop)]
 pub struct Branches {
-    named: IndexMap<Name, Stretch>,
+    named: IndexMap<Name, Stretch, BuildHasherDefault<WordHasher>>,
 }
 
 impl Model for Branches {
@@ -44,7 +46,7 @@ impl Branches {
         ensures { result ≡ [] }
     {
         Branches {
-            named: IndexMap::new(alloc),
+            named: IndexMap::with_hasher(alloc, BuildHasherDefault::new()),
         }
     }
 

@@ -11,7 +11,7 @@ use Rattle.std.proofs.lemmas.List.Elements.{recursion_from_All}
 use Rattle.std.proofs.lemmas.Option.{slice_get_read, slice_get_past}
 use Rattle.transactions.specs.Found.{is_at, found, or_new, hint_of, other_of, IsIndex, IsPlaced}
 use Rattle.transactions.specs.declared.hashed.HashedPlaces.{HashedPlaces}
-use Rattle.transactions.specs.Hashing.{hash_of}
+use Rattle.hashing.specs.Hashing.{hash_of}
 
 one_place : (a b : ℕ) → Some a ≡ Some b → a ≡ b
 one_place a b e = cc

@@ -3,6 +3,5 @@ pub mod Rows
 pub mod Pieces
 pub mod Places
 pub mod First
-pub mod Words
 pub mod Index
 pub mod Sought

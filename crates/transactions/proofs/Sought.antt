@@ -7,7 +7,7 @@ use Rattle.wire.specs.Grammar.{tx_spelling}
 use Rattle.wire.specs.Versions.{version_2}
 use Rattle.wire.specs.Spelled.{IsSpelled}
 use Rattle.transactions.specs.Found.{found, IsIndex}
-use Rattle.transactions.specs.Hashing.{hash_of}
+use Rattle.hashing.specs.Hashing.{hash_of}
 use Rattle.transactions.proofs.Index.{found_first}
 use Rattle.transactions.proofs.Keys.{seen_of, all_valid, place_by_bytes, position_by_tx}
 

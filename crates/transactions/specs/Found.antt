@@ -2,7 +2,7 @@
 use Rattle.std.specs.Prelude.{◌≡◌, ◌&&◌, ℕ, Bool, true, false, not, if◌then◌else◌, List, Option, Some, None, is_some, slice_get, nat_eq}
 use Rattle.std.specs.Map.{lookup}
 use Rattle.std.specs.Str.{bytes_eq}
-use Rattle.transactions.specs.Hashing.{hash_of}
+use Rattle.hashing.specs.Hashing.{hash_of}
 use Rattle.transactions.specs.declared.hashed.HashedPlaces.{HashedPlaces}
 
 -- what the hints say of a hash

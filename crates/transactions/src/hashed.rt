@@ -2,7 +2,7 @@ ghost use Rattle.std.specs.Prelude.{◌≡◌, [], true, None, is_some, IfErr, O
 ghost use Rattle.xid.specs.declared.refusals.Refusal.TheVariants.{NoMemory};
 ghost use Rattle.transactions.specs.Found.{is_at, found, hint_of, other_of, IsPlaced};
 
-use crate::hasher::{NumberHasher, SpellingHasher};
+use hashing::WordHasher;
 use indexmap::IndexMap;
 use std::alloc::Global;
 use std::hash::BuildHasherDefault;
@@ -12,9 +12,9 @@ use xid::Refusal;
 #[derive(Debug, Drop)]
 pub struct HashedPlaces {
     /// For a hash, the place of the first bytes that have it.
-    hints: IndexMap<u64, usize, BuildHasherDefault<NumberHasher>>,
+    hints: IndexMap<u64, usize, BuildHasherDefault<WordHasher>>,
     /// The places of other bytes, whose hash was taken.
-    others: IndexMap<Vec<u8>, usize, BuildHasherDefault<SpellingHasher>>,
+    others: IndexMap<Vec<u8>, usize, BuildHasherDefault<WordHasher>>,
 }
 
 /// Whether bytes stand at a place among keys.

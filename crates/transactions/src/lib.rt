@@ -2,7 +2,6 @@
 #![tactic(auto)]
 
 mod hashed;
-mod hasher;
 mod numbers;
 mod order;
 

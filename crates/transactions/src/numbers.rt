@@ -8,7 +8,7 @@ ghost use Rattle.wire.specs.Versions.{version_2};
 ghost use Rattle.transactions.specs.Seen.{place_in, seen_with};
 
 use crate::hashed::{HashedPlaces, stand_at};
-use crate::hasher::hash_of;
+use hashing::hash_of;
 use std::alloc::Global;
 use std::marker::Model;
 use wire::{MAX_TX_BYTES, SpelledTx, VersionNumber, take_tx};

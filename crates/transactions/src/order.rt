@@ -3,7 +3,7 @@ ghost use Rattle.std.specs.List.{IsDistinct, list_any};
 ghost use Rattle.xid.specs.declared.refusals.Refusal.TheVariants.{NoMemory};
 ghost use Rattle.transactions.specs.Seen.{numbered_with};
 
-use crate::hasher::NumberHasher;
+use hashing::WordHasher;
 use indexmap::IndexSet;
 use std::alloc::Global;
 use std::hash::BuildHasherDefault;
@@ -13,7 +13,7 @@ use xid::Refusal;
 /// Numbers of transactions in an order of their own, each once.
 #[derive(Debug, Drop)]
 pub struct Order {
-    numbers: IndexSet<usize, BuildHasherDefault<NumberHasher>>,
+    numbers: IndexSet<usize, BuildHasherDefault<WordHasher>>,
 }
 
 impl Model for Order {

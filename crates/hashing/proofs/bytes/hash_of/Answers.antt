@@ -1,7 +1,7 @@
 use Rattle.std.proofs.Common.{◌∙◌, sym, ap, arith}
-use Rattle.transactions.specs.Hashing.{mixed, words_taken}
-use Rattle.transactions.proofs.Words.{word_taken, words_ended}
-use Rattle.transactions.proofs.hasher.hash_of.Goals as goal
+use Rattle.hashing.specs.Hashing.{mixed, words_taken}
+use Rattle.hashing.proofs.Eights.{word_taken, words_ended}
+use Rattle.hashing.proofs.bytes.hash_of.Goals as goal
 
 pub loop-word-preserved : goal.loop-word-preserved
 loop-word-preserved c =

@@ -1,12 +1,10 @@
--- How spelled bytes and numbers are hashed. Nothing that a contract says of transactions depends on it.
-use Rattle.std.specs.Prelude.{ℕ, ◌+◌, ◌-◌, ◌*◌, ◌/◌, ◌%◌, ◌^◌, ◌==◌, nat_lt, if◌then◌else◌, List, [], ◌∷◌, length, drop, slice_index, bit_and}
-use Rattle.std.specs.Prelude.{bit_xor}
+-- How bytes are hashed. Nothing that a contract of a map says depends on it.
+use Rattle.std.specs.Prelude.{ℕ, ◌+◌, ◌*◌, ◌/◌, ◌%◌, ◌^◌, ◌-◌, ◌==◌, nat_lt, if◌then◌else◌, List, [], ◌∷◌, length, drop, bit_and, bit_xor}
 use Rattle.std.specs.Int.{w64, from_le_bytes}
-use Rattle.transactions.specs.declared.hasher.SpellingHasher.{SpellingHasher}
-use Rattle.transactions.specs.declared.hasher.NumberHasher.{NumberHasher}
+use Rattle.hashing.specs.declared.words.WordHasher.{WordHasher}
 
 -- nothing is hashed
-abbrev pub first : SpellingHasher
+abbrev pub first : WordHasher
 first = record { state = 0x243f6a8885a308d3; word = 1 }
 
 -- the two halves of a product of 128 bits, one into the other
@@ -22,14 +20,19 @@ abbrev pub longer : (word byte : ℕ) → ℕ
 longer word byte = (word * 256 % 2 ^ 64 + byte) % 2 ^ 64
 
 -- after one byte more: a full word goes into the state
-abbrev pub with_byte : SpellingHasher → ℕ → SpellingHasher
+abbrev pub with_byte : WordHasher → ℕ → WordHasher
 with_byte h byte =
     if nat_lt (longer h.word byte) (2 ^ 56) then record { state = h.state; word = longer h.word byte }
     else record { state = mixed h.state (longer h.word byte); word = 1 }
 
--- after bytes that are written at once: one by itself is taken
-abbrev pub written : SpellingHasher → List ℕ → SpellingHasher
-written h bytes = if length bytes == 1 then with_byte h (slice_index bytes 0) else h
+-- after bytes one by one
+abbrev pub with_bytes : WordHasher → List ℕ → WordHasher
+with_bytes h [] = h
+with_bytes h (byte ∷ bytes) = with_bytes (with_byte h byte) bytes
+
+-- after bytes that are written at once: eight are a word
+abbrev pub written : WordHasher → List ℕ → WordHasher
+written h bytes = if length bytes == 8 then record { state = mixed h.state (from_le_bytes w64 bytes); word = h.word } else with_bytes h bytes
 
 -- ---- by words of eight bytes
 
@@ -55,18 +58,3 @@ words_taken state rest = state
 -- the hash of bytes
 abbrev pub hash_of : List ℕ → ℕ
 hash_of bytes = mixed (words_taken (length bytes) bytes) (last_word bytes)
-
--- ---- a number
-
--- nothing is hashed
-abbrev pub no_number : NumberHasher
-no_number = record { state = 0 }
-
--- after one byte more of a number
-abbrev pub with_digit : NumberHasher → ℕ → NumberHasher
-with_digit h byte = record { state = longer h.state byte }
-
--- after all of them
-abbrev pub digits_written : NumberHasher → List ℕ → NumberHasher
-digits_written h [] = h
-digits_written h (byte ∷ bytes) = digits_written (with_digit h byte) bytes

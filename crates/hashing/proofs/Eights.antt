@@ -1,6 +1,6 @@
 -- Words of eight bytes, taken one after another.
 use Rattle.std.proofs.Common.{◌≡◌, ◌∙◌, ℕ, ◌<◌, ◌≤◌, List, [], ◌∷◌, length, take, drop, refl, arith}
-use Rattle.transactions.specs.Hashing.{mixed, word_of, words_taken}
+use Rattle.hashing.specs.Hashing.{mixed, word_of, words_taken}
 
 eight_taken : (state : ℕ) (bytes : List ℕ) → 8 ≤ length bytes
     → words_taken (mixed state (word_of (take 8 bytes))) (drop 8 bytes) ≡ words_taken state bytes

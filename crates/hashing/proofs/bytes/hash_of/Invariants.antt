@@ -1,6 +1,6 @@
 use Rattle.std.proofs.Common.{◌≡◌, length}
-use Rattle.transactions.specs.Hashing.{words_taken}
-use Rattle.transactions.proofs.hasher.hash_of.Given as goal
+use Rattle.hashing.specs.Hashing.{words_taken}
+use Rattle.hashing.proofs.bytes.hash_of.Given as goal
 
 abbrev pub invariant-loop-word : goal.invariant-loop-word
 invariant-loop-word l = words_taken l.state l.rest ≡ words_taken (length l.bytes) l.bytes

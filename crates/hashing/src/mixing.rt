@@ -1,0 +1,21 @@
+//! How a word is taken into a state.
+
+ghost use Rattle.std.specs.Prelude.{◌≡◌};
+ghost use Rattle.hashing.specs.Hashing.{folded_multiply, mixed};
+
+const MULTIPLIER: u64 = 0x9e37_79b9_7f4a_7c15;
+
+/// The two halves of a product of 128 bits, one into the other.
+fn folded_multiply(a: u64, b: u64) -> u64
+    ensures { result ≡ folded_multiply a b }
+{
+    let product = a as u128 * b as u128;
+    (product & 0xFFFF_FFFF_FFFF_FFFF) as u64 ^ (product >> 64) as u64
+}
+
+/// Takes a word into a state.
+pub(crate) fn mixed(state: u64, word: u64) -> u64
+    ensures { result ≡ mixed state word }
+{
+    folded_multiply(state ^ word, MULTIPLIER)
+}
