@@ -108,6 +108,7 @@ impl Output {
     }
 
     /// The change of a view that a fact makes, as `put_change_by` puts it.
+    #[inline(never)]
     pub(crate) fn put_change_by_view(&mut self, who: NodeId, fact: &FactView<'_>)
         ensures { self.new ≡ record { reply = self.old.reply; now = change_made who fact.now; sends = self.old.sends } }
     {

@@ -179,8 +179,8 @@ impl NodeSends {
         self.reminded.as_slice().len() + self.question.as_slice().len()
     }
 
-    /// Whom an acceptor's reply is for, or what a resource manager sends on a message, and the bytes that spell it, where that is what is
-    /// sent; nothing else is then.
+    /// Whom an acceptor's reply is for, or a resource manager's vote on a message, and the bytes that spell it, where that is what is sent;
+    /// nothing else is then.
     pub fn replied(&self) -> Option<(Address, &[u8])>
         ensures few { IfSome result (λ reply. length reply.1.now ≤ MAX_MESSAGE_BYTES) }
         ensures spells { IfSome result (λ reply. (message : Kind) × Spells message reply.1.now
