@@ -41,7 +41,7 @@ use Rattle.resource_manager.specs.Managers as manager_specs
 use Rattle.resource_manager.specs.Managers.{ManagerParts, IsCall, call_effect}
 use Rattle.resource_manager.proofs.More.{unspent_all}
 use Rattle.node_core.specs.declared.role.Role.{Role}
-use Rattle.node_core.specs.Roles.{RoleStands, IsLeft, IsDecided, Decides, Rule, answering}
+use Rattle.node_core.specs.Roles.{RoleStands, IsLeft, IsDecided, Decides, answering}
 
 -- ---- acceptors
 
