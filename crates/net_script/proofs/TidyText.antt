@@ -1,10 +1,11 @@
 -- Words whose bytes are tested, lines of words with one space between them, and texts of such lines: for readers of lines.
 use Rattle.std.proofs.Common.{◌≡◌, ℕ, Bool, true, not, eqb, List, [], ◌∷◌, refl, false, ◌&&◌, cond, ◌⊎◌, inl, inr, ◌++◌, drop, sym, ap, ◌∙◌}
-use Rattle.std.proofs.Common.{codes, eqb-true}
+use Rattle.std.proofs.Common.{codes, eqb-true, ◌<◌, length, arith}
 use Rattle.std.specs.List.{AllByRecursion, list_all, filter, onto_first}
 use Rattle.xid.specs.Text.{lacks}
 use Rattle.xid.proofs.Texts.{first_true, second_true, both_true}
 use Rattle.net_script.specs.Spelling.{is_clean, is_common, IsClean, IsCommon}
+use Rattle.std.proofs.Math.Dec.{eqb-suc-zero}
 use Rattle.std.proofs.lemmas.Bool.{not-true}
 use Rattle.std.proofs.lemmas.List.{append-nil, append_assoc}
 use Rattle.std.proofs.lemmas.List.Concat.{flat_map-append}
@@ -138,7 +139,7 @@ tidy_is_joined line tidy =
 
 -- ---- both sides of a space
 
-tidy_sides : (spaced : Bool) (front back : List ℕ)
+pub tidy_sides : (spaced : Bool) (front back : List ℕ)
     → is_tidy_after spaced (front ++ 32 ∷ back) ≡ (is_tidy_after spaced front && is_tidy_after true back)
 tidy_sides spaced [] back = refl
 tidy_sides true (x ∷ front) back =
@@ -165,3 +166,31 @@ pub joined_arrow : (w v : List ℕ) (ws vs : List (List ℕ))
 joined_arrow w v ws vs =
     ap (λ (t : List ℕ). w ++ t) (flat_map-append (λ word. 32 ∷ word) ws (codes "->" ∷ v ∷ vs))
     ∙ sym (append_assoc w (spaced_words ws) (spaced_words (codes "->" ∷ v ∷ vs)))
+
+-- ---- a line by its words, from the first on
+
+plain_after : (w : List ℕ) → lacks 32 w ≡ true → is_tidy_after false w ≡ true
+plain_after [] h = refl
+plain_after (x ∷ w) h =
+    let other : eqb x 32 ≡ false = not-true (eqb x 32) (first_true (not (eqb x 32)) (lacks 32 w) h) in
+    ap (λ (b : Bool). cond b (not false && is_tidy_after true w) (is_tidy_after false w)) other
+    ∙ plain_after w (second_true (not (eqb x 32)) (lacks 32 w) h)
+
+-- a line without spaces is tidy where it isn't empty
+pub plain_line : (x : ℕ) (w : List ℕ) → lacks 32 (x ∷ w) ≡ true → is_tidy (x ∷ w) ≡ true
+plain_line x w h =
+    let other : eqb x 32 ≡ false = not-true (eqb x 32) (first_true (not (eqb x 32)) (lacks 32 w) h) in
+    ap (λ (b : Bool). cond b (not true && is_tidy_after true w) (is_tidy_after false w)) other
+    ∙ plain_after w (second_true (not (eqb x 32)) (lacks 32 w) h)
+
+-- the last word of a line
+pub last_word : (line : List ℕ) → lacks 32 line ≡ true → is_tidy line ≡ not (eqb (length line) 0)
+last_word [] h = refl
+last_word (x ∷ w) h = plain_line x w h ∙ sym (ap not (eqb-suc-zero (length w)))
+
+-- a word that isn't empty, and what follows the space behind it
+pub tidy_behind : (line word after : List ℕ) → line ≡ word ++ 32 ∷ after → lacks 32 word ≡ true → eqb (length word) 0 ≡ false
+    → is_tidy line ≡ is_tidy after
+tidy_behind line [] after e h some = absurd (cc (some))
+tidy_behind line (x ∷ w) after e h some =
+    ap is_tidy e ∙ tidy_sides true (x ∷ w) after ∙ ap (λ (b : Bool). b && is_tidy after) (plain_line x w h)

@@ -32,14 +32,14 @@ pub enum TraceLine {
 pub(crate) fn is_tidy(line: &[u8]) -> bool
     ensures { result ≡ is_tidy line.now }
 {
-    if line.is_empty() {
-        return false;
+    let mut rest = line;
+    while let Some((word, after)) = split_once(rest, b' ') {
+        if word.is_empty() {
+            return false;
+        }
+        rest = after;
     }
-    let mut doubled = false;
-    for i in 1..line.len() {
-        doubled |= (line[i - 1] == b' ') & (line[i] == b' ');
-    }
-    (line[0] != b' ') & !doubled & (line[line.len() - 1] != b' ')
+    !rest.is_empty()
 }
 
 /// What stands before and after the first arrow.
