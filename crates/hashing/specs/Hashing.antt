@@ -1,6 +1,6 @@
 -- How bytes are hashed. Nothing that a contract of a map says depends on it.
 use Rattle.std.specs.Prelude.{ℕ, ◌+◌, ◌*◌, ◌/◌, ◌%◌, ◌^◌, ◌-◌, ◌==◌, nat_lt, if◌then◌else◌, List, [], ◌∷◌, length, drop, bit_and, bit_xor}
-use Rattle.std.specs.Int.{w64, from_le_bytes}
+use Rattle.std.specs.Int.{w64, from_le_bytes, rotate_left}
 use Rattle.hashing.specs.declared.words.WordHasher.{WordHasher}
 
 -- nothing is hashed
@@ -11,9 +11,9 @@ first = record { state = 0x243f6a8885a308d3; word = 1 }
 unfoldable pub folded_multiply : ℕ → ℕ → ℕ
 folded_multiply a b = bit_xor (bit_and (a * b) (2 ^ 64 - 1)) (a * b / 2 ^ 64)
 
--- a word taken into a state
+-- a word taken into a state, in which the state before shows too
 abbrev pub mixed : (state word : ℕ) → ℕ
-mixed state word = folded_multiply (bit_xor state word) 0x9e3779b97f4a7c15
+mixed state word = bit_xor (folded_multiply (bit_xor state word) 0x9e3779b97f4a7c15) (rotate_left w64 state 23)
 
 -- a word with one byte more
 abbrev pub longer : (word byte : ℕ) → ℕ

@@ -13,9 +13,9 @@ fn folded_multiply(a: u64, b: u64) -> u64
     (product & 0xFFFF_FFFF_FFFF_FFFF) as u64 ^ (product >> 64) as u64
 }
 
-/// Takes a word into a state.
+/// Takes a word into a state. What was the state before shows in it too, so that no word makes all states the same.
 pub(crate) fn mixed(state: u64, word: u64) -> u64
     ensures { result ≡ mixed state word }
 {
-    folded_multiply(state ^ word, MULTIPLIER)
+    folded_multiply(state ^ word, MULTIPLIER) ^ state.rotate_left(23)
 }
