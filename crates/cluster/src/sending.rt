@@ -84,7 +84,7 @@ pub(crate) fn send_all(network: &mut Network, sizes: Sizes, sender: NodeId, send
     if sends.count() == 0 {
         return;
     }
-    match sends.replied() {
+    match sends.spelled() {
         Some((to, bytes)) => send(network, sizes, sender, to, bytes),
         None => spell_and_send_all(network, sizes, sender, sends),
     }

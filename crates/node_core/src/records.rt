@@ -92,8 +92,8 @@ fn play_entry(alloc: Global, role: &mut Role, compacted: bool, entry: Entry) -> 
     }
 }
 
-/// Plays the entry whose frame stands at the front of bytes, and answers what follows it. None where the bytes are a tail. Refused: they are
-/// neither, or the entry isn't played (`Damaged`), or `NoMemory`.
+/// Plays the entry whose frame stands at the front of bytes, and answers what follows it. None where the bytes are a tail. Refused: they
+/// are neither, or the entry isn't played (`Damaged`), or `NoMemory`.
 fn play_taken<'a>(
     alloc: Global,
     role: &mut Role,

@@ -79,7 +79,7 @@ fn send_all<P: Port>(port: &mut P, sizes: Sizes, sends: &NodeSends)
     ensures { (sender : Sender) → SendsAll P.sent port.old port.new
         (flat_map (datagrams_of (config_by sizes []) sender) (sent_by sends.now)) }
 {
-    match sends.replied() {
+    match sends.spelled() {
         Some((Address::Leaders, bytes)) => send_to_leaders(port, sizes.leaders, bytes),
         Some((Address::Acceptors, bytes)) => send_to_acceptors(port, sizes.acceptors, bytes),
         Some((Address::Node(node), bytes)) => {
