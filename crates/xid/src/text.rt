@@ -18,6 +18,9 @@ use itoa::Buffer;
 /// No number below 2^32 has more digits.
 const MOST_DIGITS: usize = 10;
 
+/// How many bytes are looked at before an answer is given on them.
+const PIECE: usize = 64;
+
 /// The number of a text that is its digits, with no zero in front.
 fn short_number(text: &[u8]) -> Option<u32>
     ensures { IfSome result (λ n. text.now ≡ decimal n) }
@@ -160,15 +163,30 @@ pub fn split_once(text: &[u8], mark: u8) -> Option<(&[u8], &[u8])>
     None
 }
 
-/// Whether a text has no capital letter.
-pub fn lacks_capitals(text: &[u8]) -> bool
-    ensures { result ≡ list_all is_no_capital text.now }
+/// The same of a piece of a text: all of it is looked at, so that vectors serve.
+fn piece_lacks_capitals(piece: &[u8]) -> bool
+    ensures { result ≡ list_all is_no_capital piece.now }
 {
     let mut lacks = true;
-    for byte in text {
+    for byte in piece {
         lacks &= (*byte < b'A') | (*byte > b'Z');
     }
     lacks
+}
+
+/// Whether a text has no capital letter. What stands behind the piece of the first one isn't looked at.
+pub fn lacks_capitals(text: &[u8]) -> bool
+    ensures { result ≡ list_all is_no_capital text.now }
+{
+    let mut rest = text;
+    while rest.len() > PIECE {
+        let (piece, after) = rest.split_at(PIECE);
+        if !piece_lacks_capitals(piece) {
+            return false;
+        }
+        rest = after;
+    }
+    piece_lacks_capitals(rest)
 }
 
 /// Writes the hex text of a few bytes at the end. At `NoMemory`, the only refusal, there may be a beginning of it.

@@ -1,7 +1,10 @@
-use Rattle.std.proofs.Common.{◌≡◌, ◌&&◌, drop}
+use Rattle.std.proofs.Common.{◌≡◌, length}
 use Rattle.std.specs.List.{list_all}
 use Rattle.xid.specs.Text.{is_no_capital}
 use Rattle.xid.proofs.text.lacks_capitals.Given as goal
 
-abbrev pub invariant-loop-byte : goal.invariant-loop-byte
-invariant-loop-byte l = list_all is_no_capital l.text ≡ l.lacks && list_all is_no_capital (drop l.byte-index l.text)
+abbrev pub invariant-loop-rest : goal.invariant-loop-rest
+invariant-loop-rest l = list_all is_no_capital l.text ≡ list_all is_no_capital l.rest
+
+abbrev pub decreases-loop-rest : goal.decreases-loop-rest
+decreases-loop-rest l = length l.rest
