@@ -7,11 +7,9 @@ ghost use Rattle.audit.specs.Stretches.{just_started, with_write, with_get};
 ghost use Rattle.audit.specs.Books.{stretch_of, Sets};
 
 use crate::stretch::Stretch;
-use hashing::WordHasher;
 use indexmap::IndexMap;
 use stable_record::Act;
 use std::alloc::Global;
-use std::hash::BuildHasherDefault;
 use std::marker::Model;
 use xid::{Refusal, Xid};
 
@@ -27,7 +25,7 @@ pub struct Name {
 /// What was done in each branch since it was last started.
 #[derive(Debug, Drop)]
 pub struct Branches {
-    named: IndexMap<Name, Stretch, BuildHasherDefault<WordHasher>>,
+    named: IndexMap<Name, Stretch>,
 }
 
 impl Model for Branches {
@@ -46,7 +44,7 @@ impl Branches {
         ensures { result ≡ [] }
     {
         Branches {
-            named: IndexMap::with_hasher(alloc, BuildHasherDefault::new()),
+            named: IndexMap::new(alloc),
         }
     }
 

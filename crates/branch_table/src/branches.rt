@@ -13,19 +13,17 @@ ghost use Rattle.branch_table.specs.Outcomes.{prepared_names};
 ghost use Rattle.branch_table.specs.Parts.{branch_of, Replaces};
 
 use crate::branch::Branch;
-use hashing::WordHasher;
 use indexmap::IndexMap;
 use protocol::BranchState;
 use stable_record::Act;
 use std::alloc::Global;
-use std::hash::BuildHasherDefault;
 use std::marker::Model;
 use xid::{Refusal, Xid};
 
 /// Branches by their names.
 #[derive(Debug, Drop)]
 pub struct Branches {
-    named: IndexMap<Xid, Branch, BuildHasherDefault<WordHasher>>,
+    named: IndexMap<Xid, Branch>,
 }
 
 impl Model for Branches {
@@ -44,7 +42,7 @@ impl Branches {
         ensures { result ≡ [] }
     {
         Branches {
-            named: IndexMap::with_hasher(alloc, BuildHasherDefault::new()),
+            named: IndexMap::new(alloc),
         }
     }
 

@@ -15,12 +15,10 @@ ghost use Rattle.branch_table.specs.Tables.{are_rows, first_table, is_row};
 use crate::hold::Hold;
 use crate::looks::Looks;
 use crate::sorting::sorted_by_keys;
-use hashing::WordHasher;
 use indexmap::IndexMap;
 use protocol::Row;
 use stable_record::{Act, Touched};
 use std::alloc::Global;
-use std::hash::BuildHasherDefault;
 use std::marker::Model;
 use xid::{Bytes, Refusal};
 
@@ -57,7 +55,7 @@ impl Place {
 /// What is known of each key that has a row or is held. The rows are within the limits.
 #[derive(Debug, Drop)]
 pub struct Places {
-    known: IndexMap<Vec<u8>, Place, BuildHasherDefault<WordHasher>>,
+    known: IndexMap<Vec<u8>, Place>,
 }
 
 impl Model for Places {
@@ -82,7 +80,7 @@ impl Places {
         ensures err { IfErr result (λ e. e ≡ NoMemory) }
     {
         let mut places = Places {
-            known: IndexMap::with_hasher(alloc, BuildHasherDefault::new()),
+            known: IndexMap::new(alloc),
         };
         for row in rows {
             places.put(row)?;

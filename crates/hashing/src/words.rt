@@ -8,7 +8,7 @@ use std::hash::Hasher;
 const FULL: u64 = 0x0100_0000_0000_0000;
 
 /// Hashes single bytes by words of seven, and eight bytes that come at once, as those of a number or a length, as a word of their own:
-/// vectors and names hand their bytes on one by one, and to mix each in by itself takes longer. Its seed is fixed, so whoever picks the
+/// vectors hand their bytes on one by one, and to mix each in by itself takes longer. Its seed is fixed, so whoever picks the
 /// keys can make them collide.
 #[derive(Clone, Copy)]
 pub struct WordHasher {

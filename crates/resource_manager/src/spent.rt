@@ -4,17 +4,15 @@ ghost use Rattle.xid.specs.Names.{XidParts, xid_eq};
 ghost use Rattle.xid.specs.declared.refusals.Refusal.TheVariants.{NoMemory};
 ghost use Rattle.resource_manager.specs.SpentNames.{is_spent_in};
 
-use hashing::WordHasher;
 use indexmap::IndexSet;
 use std::alloc::Global;
-use std::hash::BuildHasherDefault;
 use std::marker::Model;
 use xid::{Refusal, Xid};
 
 /// The names that are spent: a vote or an outcome is stored of some transaction that has them here.
 #[derive(Debug, Drop)]
 pub struct SpentNames {
-    names: IndexSet<Xid, BuildHasherDefault<WordHasher>>,
+    names: IndexSet<Xid>,
 }
 
 impl Model for SpentNames {
@@ -32,7 +30,7 @@ impl SpentNames {
         ensures { result.names ≡ [] }
     {
         SpentNames {
-            names: IndexSet::with_hasher(alloc, BuildHasherDefault::new()),
+            names: IndexSet::new(alloc),
         }
     }
 
