@@ -125,7 +125,8 @@ module _ {K : Type 0} (f : K → List ℕ) where
             subst (λ (e : K → K → Bool). IsDistinct e sorted) (fun_ext (λ x. fun_ext (λ y. is_eq-slice_cmp (f x) (f y))))
             (IsDistinct-from_sorted (λ (x y : K). slice_cmp nat_cmp (f x) (f y)) sorted
             (subst (IsStrictlySortedBy (λ (x y : K). slice_cmp nat_cmp (f x) (f y))) whole rises)) in
-            let keys_are : IsDistinct alike keys = IsDistinct-IsPermutation alike flips sorted keys (IsPermutation-sym keys sorted moved) apart in
+            let keys_are : IsDistinct alike keys =
+            IsDistinct-IsPermutation alike flips sorted keys (IsPermutation-sym keys sorted moved) apart in
             rows_apart rows (AllPairs-from_IsDistinct bytes_eq-Decides texts (subst (IsDistinct bytes_eq) same (mapped f keys keys_are))),
         λ pairs.
             let apart : IsDistinct bytes_eq (map f keys) =

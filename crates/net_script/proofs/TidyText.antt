@@ -1,13 +1,12 @@
 -- Words whose bytes are tested, lines of words with one space between them, and texts of such lines: for readers of lines.
 use Rattle.std.proofs.Common.{◌≡◌, ℕ, Bool, true, not, eqb, List, [], ◌∷◌, refl, false, ◌&&◌, cond, ◌⊎◌, inl, inr, ◌++◌, drop, sym, ap, ◌∙◌}
-use Rattle.std.proofs.Common.{codes, eqb-true, ◌<◌, length, arith}
+use Rattle.std.proofs.Common.{codes, eqb-true, zero, suc, ◌+◌, ◌-◌, ◌<◌, ◌≤◌, length, get_or, arith}
 use Rattle.std.specs.List.{AllByRecursion, list_all, filter, onto_first}
 use Rattle.xid.specs.Text.{lacks}
 use Rattle.xid.proofs.Texts.{first_true, second_true, both_true}
 use Rattle.net_script.specs.Spelling.{is_clean, is_common, IsClean, IsCommon}
-use Rattle.std.proofs.Math.Dec.{eqb-suc-zero}
 use Rattle.std.proofs.lemmas.Bool.{not-true}
-use Rattle.std.proofs.lemmas.List.{append-nil, append_assoc}
+use Rattle.std.proofs.lemmas.List.{append-nil, append_assoc, drop_more}
 use Rattle.std.proofs.lemmas.List.Concat.{flat_map-append}
 use Rattle.net_script.specs.Lines.{pieces, words, is_word}
 use Rattle.net_script.specs.Traces.{spaced_words, joined_words}
@@ -139,7 +138,7 @@ tidy_is_joined line tidy =
 
 -- ---- both sides of a space
 
-pub tidy_sides : (spaced : Bool) (front back : List ℕ)
+tidy_sides : (spaced : Bool) (front back : List ℕ)
     → is_tidy_after spaced (front ++ 32 ∷ back) ≡ (is_tidy_after spaced front && is_tidy_after true back)
 tidy_sides spaced [] back = refl
 tidy_sides true (x ∷ front) back =
@@ -167,30 +166,32 @@ joined_arrow w v ws vs =
     ap (λ (t : List ℕ). w ++ t) (flat_map-append (λ word. 32 ∷ word) ws (codes "->" ∷ v ∷ vs))
     ∙ sym (append_assoc w (spaced_words ws) (spaced_words (codes "->" ∷ v ∷ vs)))
 
--- ---- a line by its words, from the first on
+-- ---- a line by the places of its bytes
 
-plain_after : (w : List ℕ) → lacks 32 w ≡ true → is_tidy_after false w ≡ true
-plain_after [] h = refl
-plain_after (x ∷ w) h =
-    let other : eqb x 32 ≡ false = not-true (eqb x 32) (first_true (not (eqb x 32)) (lacks 32 w) h) in
-    ap (λ (b : Bool). cond b (not false && is_tidy_after true w) (is_tidy_after false w)) other
-    ∙ plain_after w (second_true (not (eqb x 32)) (lacks 32 w) h)
+-- one byte more, which is no space behind a space
+tidy_step : (spaced : Bool) (byte : ℕ) (rest : List ℕ) → (spaced ≡ true → byte ≡ 32 → ⊥)
+    → is_tidy_after spaced (byte ∷ rest) ≡ is_tidy_after (eqb byte 32) rest
+tidy_step spaced byte rest apart = by spaced (eqb byte 32) (λ s b. apart s (eqb-true byte 32 b))
+  where
+    by : (s b : Bool) → (s ≡ true → b ≡ true → ⊥) → cond b (not s && is_tidy_after true rest) (is_tidy_after false rest) ≡ is_tidy_after b rest
+    by s false _ = refl
+    by false true _ = refl
+    by true true both = absurd (both refl refl)
 
--- a line without spaces is tidy where it isn't empty
-pub plain_line : (x : ℕ) (w : List ℕ) → lacks 32 (x ∷ w) ≡ true → is_tidy (x ∷ w) ≡ true
-plain_line x w h =
-    let other : eqb x 32 ≡ false = not-true (eqb x 32) (first_true (not (eqb x 32)) (lacks 32 w) h) in
-    ap (λ (b : Bool). cond b (not true && is_tidy_after true w) (is_tidy_after false w)) other
-    ∙ plain_after w (second_true (not (eqb x 32)) (lacks 32 w) h)
-
--- the last word of a line
-pub last_word : (line : List ℕ) → lacks 32 line ≡ true → is_tidy line ≡ not (eqb (length line) 0)
-last_word [] h = refl
-last_word (x ∷ w) h = plain_line x w h ∙ sym (ap not (eqb-suc-zero (length w)))
-
--- a word that isn't empty, and what follows the space behind it
-pub tidy_behind : (line word after : List ℕ) → line ≡ word ++ 32 ∷ after → lacks 32 word ≡ true → eqb (length word) 0 ≡ false
-    → is_tidy line ≡ is_tidy after
-tidy_behind line [] after e h some = absurd (cc (some))
-tidy_behind line (x ∷ w) after e h some =
-    ap is_tidy e ∙ tidy_sides true (x ∷ w) after ∙ ap (λ (b : Bool). b && is_tidy after) (plain_line x w h)
+-- some bytes more, none of which is a space behind a space
+pub tidy_further : (line : List ℕ) (at n : ℕ) → 0 < at → at + n ≤ length line
+    → ((k : ℕ) → k < n → get_or line (at - 1 + k) 0 ≡ 32 → get_or line (at - 1 + k + 1) 0 ≡ 32 → ⊥)
+    → is_tidy_after (eqb (get_or line (at - 1) 0) 32) (drop at line) ≡ is_tidy_after (eqb (get_or line (at + n - 1) 0) 32) (drop (at + n) line)
+tidy_further line at zero some room apart =
+    let same : at ≡ at + 0 = omega arith in
+    ap (λ i. is_tidy_after (eqb (get_or line (i - 1) 0) 32) (drop i line)) same
+tidy_further line at (suc n) some room apart =
+    let last : at + suc n - 1 ≡ at + n = omega arith in
+    let next : at + suc n ≡ at + n + 1 = omega arith in
+    tidy_further line at n some (omega (arith, room)) (λ k lt. apart k (omega (arith, lt)))
+    ∙ ap (is_tidy_after (eqb (get_or line (at + n - 1) 0) 32)) (drop_more line (at + n) 0 (omega (arith, room)))
+    ∙ tidy_step (eqb (get_or line (at + n - 1) 0) 32) (get_or line (at + n) 0) (drop (at + n + 1) line)
+    (λ before here. apart n (omega arith) (ap (λ i. get_or line i 0) (omega (arith, some)) ∙ eqb-true _ 32 before)
+    (ap (λ i. get_or line i 0) (omega (arith, some)) ∙ here))
+    ∙ ap (λ i. is_tidy_after (eqb (get_or line i 0) 32) (drop (at + n + 1) line)) (sym last)
+    ∙ ap (λ i. is_tidy_after (eqb (get_or line (at + suc n - 1) 0) 32) (drop i line)) (sym next)

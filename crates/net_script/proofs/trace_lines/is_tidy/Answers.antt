@@ -1,12 +1,18 @@
-use Rattle.std.proofs.Common.{◌∙◌, sym, ap, not}
-use Rattle.net_script.proofs.TidyText.{last_word, tidy_behind}
+use Rattle.std.proofs.Common.{◌∙◌, ◌+◌, ◌-◌, get_or, length, ap, arith}
+use Rattle.std.proofs.lemmas.Simd.{get_or-chunk}
+use Rattle.net_script.proofs.TidyText.{tidy_further}
 use Rattle.net_script.proofs.trace_lines.is_tidy.Goals as goal
 
-pub loop-word-preserved : goal.loop-word-preserved
-loop-word-preserved c =
-    c.loop-word.invariant
-    ∙ tidy_behind c.loop-word.rest.now c.in-Some.word.now c.in-Some.after.now c.in-Some.ensures.0 c.in-Some.ensures.1
-    (sym c.is_empty.ensures ∙ c.if-is_empty.false)
-
-pub returns : goal.returns
-returns c = ap not c.is_empty-2.ensures ∙ sym (c.loop-word.invariant ∙ last_word c.loop-word.rest.now c.in_default.ensures)
+pub loop-at-preserved : goal.loop-at-preserved
+loop-at-preserved c =
+    let line = c.args.line.now in
+    let at = c.loop-at.at in
+    let some = c.loop-at.invariant.1 in
+    let room = c.loop-at-test.true in (
+      c.loop-at.invariant.0 ∙ tidy_further line at 16 some room (λ k lt here there.
+          c.has_doubled_spaces.ensures c.if-not-has_doubled_spaces.true k lt
+          (get_or-chunk (at - 1) (length line - (at - 1)) line k 0 (omega (arith, lt, room, some)) ∙ here)
+          (get_or-chunk (at - 1) (length line - (at - 1)) line (k + 1) 0 (omega (arith, lt, room, some)) ∙ ap (λ i. get_or line i 0) (omega arith) ∙ there)),
+      omega arith,
+      room,
+    )

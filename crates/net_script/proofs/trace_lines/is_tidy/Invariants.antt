@@ -1,9 +1,15 @@
-use Rattle.std.proofs.Common.{◌≡◌, length}
-use Rattle.net_script.specs.TraceLines.{is_tidy}
+use Rattle.std.proofs.Common.{◌≡◌, ◌<◌, ◌≤◌, ◌+◌, ◌-◌, drop, get_or, length}
+use Rattle.std.specs.Prelude.{◌==◌}
+use Rattle.net_script.specs.TraceLines.{is_tidy, is_tidy_after}
 use Rattle.net_script.proofs.trace_lines.is_tidy.Given as goal
 
-abbrev pub invariant-loop-word : goal.invariant-loop-word
-invariant-loop-word l = is_tidy l.line ≡ is_tidy l.rest
+-- the spaces up to a place stand so that the line may be tidy
+abbrev pub invariant-loop-at : goal.invariant-loop-at
+invariant-loop-at l =
+    (is_tidy l.line ≡ is_tidy_after (get_or l.line (l.at - 1) 0 == 32) (drop l.at l.line)) × (0 < l.at) × (l.at ≤ length l.line)
 
-abbrev pub decreases-loop-word : goal.decreases-loop-word
-decreases-loop-word l = length l.rest
+abbrev pub decreases-loop-at : goal.decreases-loop-at
+decreases-loop-at l = length l.line + 1 - l.at
+
+abbrev pub invariant-loop-place : goal.invariant-loop-place
+invariant-loop-place l = is_tidy l.line ≡ is_tidy_after (get_or l.line (l.place - 1) 0 == 32) (drop l.place l.line)
