@@ -7,3 +7,4 @@ pub mod Standing
 pub mod Begun
 pub mod Compacting
 pub mod Writing
+pub mod Frames

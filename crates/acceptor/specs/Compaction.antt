@@ -1,10 +1,12 @@
 -- The facts that an acceptor's record holds in place of others once it is made shorter.
-use Rattle.std.specs.Prelude.{◌≡◌, ℕ, nat_lt, if◌then◌else◌, true, List, [], ◌∷◌, ◌++◌, Some, None}
+use Rattle.std.specs.Prelude.{◌≡◌, ℕ, nat_lt, if◌then◌else◌, true, List, [], ◌∷◌, ◌++◌, Some, None, map}
 use Rattle.std.specs.List.{flat_map}
 use Rattle.xid.specs.Transactions.{TxParts, participants}
 use Rattle.ballot.specs.declared.slot.Slot.{Slot}
 use Rattle.ballot.specs.Choice.{Report}
+use Rattle.stable_record.specs.declared.entry.EntryKind.TheVariants as entries
 use Rattle.stable_record.specs.declared.fact.FactKind.{FactKind as Fact}
+use Rattle.stable_record.specs.Written.{AreWritten}
 use Rattle.protocol.specs.declared.nodes.NodeId.TheVariants.{A}
 use Rattle.protocol.specs.Acceptors.{Slots}
 use Rattle.protocol.specs.Effects.{Config}
@@ -60,3 +62,9 @@ abbrev pub Compacts : AcceptorParts → (kept : List Fact) → Type 0
 Compacts acceptor kept =
     (config : Config) (number : ℕ) (facts : List Fact) → StandsFor config number acceptor facts
     → IsCompacted kept config number facts
+
+-- bytes are the frames of facts, as they are written today, and these are to be kept in place of whatever an acceptor stands for
+pub record AreShorterFrames (acceptor : AcceptorParts) (bytes : List ℕ) : Type 0 where
+  pub kept : List Fact
+  pub written : AreWritten bytes (map entries.Fact kept)
+  pub compacts : Compacts acceptor kept

@@ -11,7 +11,7 @@ ghost use Rattle.protocol.specs.Effects.{Config};
 ghost use Rattle.stable_record.specs.Parts.{IsMadeReady, IsPlayed};
 ghost use Rattle.acceptor.specs.Acceptors.{acceptor_part, StandsFor, Decides};
 ghost use Rattle.acceptor.specs.Decisions.{shown};
-ghost use Rattle.acceptor.specs.Compaction.{Compacts};
+ghost use Rattle.acceptor.specs.Compaction.{AreShorterFrames, Compacts};
 
 use crate::bundles::Accepted;
 use crate::decision::AcceptorDecision;
@@ -277,5 +277,13 @@ impl Acceptor {
         ensures err { IfErr result (λ e. e ≡ NoMemory) }
     {
         self.table.compacted(&self.begun)
+    }
+
+    /// The frames, in version 2, of the facts that `shorter` gives, one after the other: no `Fact` is built. `NoMemory` is the only refusal.
+    pub fn shorter_frames(&self) -> Result<Vec<u8>, Refusal>
+        ensures ok { IfOk result (λ frames. AreShorterFrames self.now frames.items) }
+        ensures err { IfErr result (λ e. e ≡ NoMemory) }
+    {
+        self.table.frames(&self.begun)
     }
 }

@@ -4,7 +4,7 @@ ghost use Rattle.wire.specs.Messages.{IsReportBelow};
 ghost use Rattle.acceptor.specs.Slots.{IsKept, slots_of};
 ghost use Rattle.transactions.specs.Seen.{AreInside, at_places};
 ghost use Rattle.acceptor.specs.Tables.{slot_in};
-ghost use Rattle.acceptor.specs.Compaction.{accept_facts, promise_facts, slot_facts, transaction_facts, compacted};
+ghost use Rattle.acceptor.specs.Compaction.{accept_facts, accepted_ballot, promise_facts, slot_facts, transaction_facts, compacted};
 
 use crate::slots::{KeptSlot, slot_at};
 use crate::table::Table;
@@ -13,7 +13,7 @@ use stable_record::{Fact, FactKind};
 use std::alloc::Global;
 use transactions::Order;
 use wire::{MAX_TX_BYTES, SpelledTx};
-use xid::{ManagerNumber, Refusal, Tx};
+use xid::{Ballot, ManagerNumber, Refusal, Tx};
 
 /// Puts what was accepted last of an instance, if anything was, after other facts.
 fn put_accept(
@@ -38,6 +38,16 @@ fn put_accept(
     Ok(())
 }
 
+/// The ballot of what was accepted last, 0 where nothing was.
+pub fn accepted_ballot(report: Report) -> Ballot
+    ensures { result ≡ accepted_ballot report }
+{
+    match report {
+        Some((ballot, _)) => ballot,
+        None => 0,
+    }
+}
+
 /// Puts the greatest ballot that an instance took part in, if it is above the one accepted in, after other facts.
 fn put_promise(
     facts: &mut Vec<Fact>,
@@ -50,10 +60,7 @@ fn put_promise(
     ensures err { IfErr result (λ e. e ≡ NoMemory) }
 {
     let _ = tx.count();
-    let accepted = match slot.report {
-        Some((ballot, _)) => ballot,
-        None => 0,
-    };
+    let accepted = accepted_ballot(slot.report);
     if accepted < slot.mbal {
         facts.push(Fact::new(FactKind::Promise {
             tx: *tx,

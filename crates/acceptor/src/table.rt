@@ -1,9 +1,11 @@
-ghost use Rattle.std.specs.Prelude.{◌≡◌, ℕ, ◌<◌, true, [], IfSome, IfOk, IfErr, OnOk, length, replicate, slice_get};
+ghost use Rattle.std.specs.Prelude.{◌≡◌, ℕ, ◌<◌, true, [], IfSome, IfOk, IfErr, OnOk, length, map, replicate, slice_get};
 ghost use Rattle.std.specs.List.{slice_index_or, All, IsDistinct};
 ghost use Rattle.xid.specs.Transactions.{TxParts, IsTx, tx_eq};
 ghost use Rattle.xid.specs.declared.refusals.Refusal.TheVariants.{NoMemory};
 ghost use Rattle.ballot.specs.Slots.{empty_slot};
+ghost use Rattle.stable_record.specs.declared.entry.EntryKind.TheVariants as kinds;
 ghost use Rattle.stable_record.specs.Facts.{fact_tx};
+ghost use Rattle.stable_record.specs.Written.{AreWritten};
 ghost use Rattle.transactions.specs.Seen.{AreInside, at_places, place_in, seen_with};
 ghost use Rattle.protocol.specs.Acceptors.{plays_at_acceptor};
 ghost use Rattle.acceptor.specs.Slots.{after_fact};
@@ -11,6 +13,7 @@ ghost use Rattle.acceptor.specs.Tables.{IsSeen, IsTable, slots_in, slot_in};
 ghost use Rattle.acceptor.specs.Compaction.{compacted};
 
 use crate::compaction::facts_of;
+use crate::shorter_frames::frames_of;
 use crate::slots::{KeptSlot, change};
 use stable_record::{Fact, SpelledFact};
 use std::alloc::{AllocError, Global};
@@ -145,6 +148,28 @@ impl Table {
         }
     }
 
+    /// The same over its spelled bytes.
+    pub fn begun_view(&self, begun: &Order, i: usize) -> Option<SpelledTx<'_>>
+        requires { AreInside (length self.now.transactions) begun.now.numbers }
+        ensures { result ≡ slice_get (at_places self.now.transactions begun.now.numbers) i }
+    {
+        match begun.get(i) {
+            Some(number) => self.transactions.view(number),
+            None => None,
+        }
+    }
+
+    /// The slots of a transaction, none where it wasn't seen: it is likely to be the one at a place of an order.
+    pub fn begun_slots(&self, begun: &Order, i: usize, tx: &SpelledTx<'_>) -> &[KeptSlot]
+        ensures { result.now ≡ slots_in self.now tx.now }
+    {
+        let likely = begun.get(i).unwrap_or(self.near);
+        match self.transactions.number_of_view(tx, likely) {
+            Some(number) => &self.slots[number],
+            None => &[],
+        }
+    }
+
     /// The facts that lead to its slots: for each transaction that has begun, in this order, and each instance ascending, what was
     /// accepted last, and then a promise above it. `NoMemory` is the only refusal.
     pub fn compacted(&self, begun: &Order) -> Result<Vec<Fact>, Refusal>
@@ -157,6 +182,19 @@ impl Table {
     {
         let _ = self.transactions.len();
         facts_of(self.alloc, self, begun)
+    }
+
+    /// The frames of those facts, one after the other. `NoMemory` is the only refusal.
+    pub fn frames(&self, begun: &Order) -> Result<Vec<u8>, Refusal>
+        requires { AreInside (length self.now.transactions) begun.now.numbers }
+        ensures ok { IfOk result (λ frames. AreWritten frames.items
+            (map kinds.Fact (compacted (at_places self.now.transactions begun.now.numbers) (slot_in self.now)))) }
+        ensures err { IfErr result (λ e. e ≡ NoMemory) }
+        ensures table { IsTable self.now }
+        ensures valid { All IsTx self.now.transactions }
+    {
+        let _ = self.transactions.len();
+        frames_of(self.alloc, self, begun)
     }
 }
 

@@ -32,7 +32,9 @@ with_bytes h (byte ∷ bytes) = with_bytes (with_byte h byte) bytes
 
 -- after bytes that are written at once: eight are a word
 abbrev pub written : WordHasher → List ℕ → WordHasher
-written h bytes = if length bytes == 8 then record { state = mixed h.state (from_le_bytes w64 bytes); word = h.word } else with_bytes h bytes
+written h bytes =
+    if length bytes == 8 then record { state = mixed h.state (from_le_bytes w64 bytes); word = h.word }
+    else with_bytes h bytes
 
 -- ---- by words of eight bytes
 

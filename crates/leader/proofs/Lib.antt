@@ -14,3 +14,4 @@ pub mod Rules
 pub mod Leading
 pub mod Storing
 pub mod Compacting
+pub mod Frames

@@ -1,8 +1,10 @@
 -- The facts that a leader's record holds in place of others once it is made shorter.
-use Rattle.std.specs.Prelude.{◌≡◌, ℕ, nat_lt, if◌then◌else◌, true, List, [], ◌∷◌, ◌++◌}
+use Rattle.std.specs.Prelude.{◌≡◌, ℕ, nat_lt, if◌then◌else◌, true, List, [], ◌∷◌, ◌++◌, map}
 use Rattle.std.specs.List.{flat_map}
 use Rattle.xid.specs.Transactions.{TxParts}
+use Rattle.stable_record.specs.declared.entry.EntryKind.TheVariants as entries
 use Rattle.stable_record.specs.declared.fact.FactKind.{FactKind as Fact}
+use Rattle.stable_record.specs.Written.{AreWritten}
 use Rattle.protocol.specs.declared.nodes.NodeId.TheVariants.{L}
 use Rattle.protocol.specs.Effects.{Config}
 use Rattle.protocol.specs.Facts.{last_ballot}
@@ -40,3 +42,9 @@ abbrev pub Compacts : LeaderParts → (kept : List Fact) → Type 0
 Compacts leader kept =
     (config : Config) (number : ℕ) (facts : List Fact) (memory : LeaderMemory) → StandsFor config number leader facts memory
     → all_play config (L number) [] facts ≡ true → IsCompacted kept config number facts
+
+-- bytes are the frames of facts, as they are written today, and these are to be kept in place of whatever plays and a leader stands for
+pub record AreShorterFrames (leader : LeaderParts) (bytes : List ℕ) : Type 0 where
+  pub kept : List Fact
+  pub written : AreWritten bytes (map entries.Fact kept)
+  pub compacts : Compacts leader kept

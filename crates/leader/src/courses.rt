@@ -1,8 +1,10 @@
-ghost use Rattle.std.specs.Prelude.{◌≡◌, ◌<◌, ◌≤◌, true, false, [], length, slice_get, Some, IfOk, OnOk, IfErr, OnErr};
+ghost use Rattle.std.specs.Prelude.{◌≡◌, ◌<◌, ◌≤◌, true, false, [], length, map, slice_get, Some, IfOk, OnOk, IfErr, OnErr};
 ghost use Rattle.std.specs.List.{IsDistinct};
 ghost use Rattle.xid.specs.Limits.{most_acceptors, most_branches};
 ghost use Rattle.xid.specs.declared.refusals.Refusal.TheVariants.{NoMemory};
 ghost use Rattle.xid.specs.Transactions.{tx_eq};
+ghost use Rattle.stable_record.specs.declared.entry.EntryKind.TheVariants as kinds;
+ghost use Rattle.stable_record.specs.Written.{AreWritten};
 ghost use Rattle.transactions.specs.Seen.{place_in};
 ghost use Rattle.protocol.specs.Leaders.{is_final};
 ghost use Rattle.leader.specs.Courses.{after_meeting, after_ballot, after_beginning, after_1b, proposals_after_1b, after_2b};
@@ -13,6 +15,7 @@ ghost use Rattle.leader.specs.Compaction.{compacted};
 use crate::compaction::facts_of;
 use crate::course::Course;
 use crate::proposals::Proposals;
+use crate::shorter_frames::frames_of;
 use protocol::Status;
 use stable_record::Fact;
 use std::alloc::Global;
@@ -310,11 +313,38 @@ impl Courses {
         }
     }
 
+    /// The same over its spelled bytes.
+    pub fn begun_view(&self, i: usize) -> Option<SpelledTx<'_>>
+        ensures { result ≡ slice_get self.now.begun i }
+    {
+        match self.begun.get(i) {
+            Some(place) => self.transactions.view(place),
+            None => None,
+        }
+    }
+
+    /// The greatest stored ballot of a transaction, 0 where there is none: it is likely to be the one at a place among those that begin.
+    pub fn begun_greatest(&self, i: usize, tx: &SpelledTx<'_>) -> Ballot
+        ensures { result ≡ (course_in self.now tx.now).greatest }
+    {
+        let likely = self.begun.get(i).unwrap_or(self.near);
+        self.greatest_at(tx, self.transactions.number_of_view(tx, likely))
+    }
+
     /// The greatest ballot of each transaction that has one, in the order of those that begin. `NoMemory` is the only refusal.
     pub fn compacted(&self) -> Result<Vec<Fact>, Refusal>
         ensures ok { IfOk result (λ facts. facts.items ≡ compacted self.now.begun (λ tx. (course_in self.now tx).greatest)) }
         ensures err { IfErr result (λ e. e ≡ NoMemory) }
     {
         facts_of(self.alloc, self)
+    }
+
+    /// The frames of those ballots, one after the other. `NoMemory` is the only refusal.
+    pub fn frames(&self) -> Result<Vec<u8>, Refusal>
+        ensures ok { IfOk result (λ frames. AreWritten frames.items
+            (map kinds.Fact (compacted self.now.begun (λ tx. (course_in self.now tx).greatest)))) }
+        ensures err { IfErr result (λ e. e ≡ NoMemory) }
+    {
+        frames_of(self.alloc, self)
     }
 }

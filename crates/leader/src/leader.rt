@@ -11,7 +11,7 @@ ghost use Rattle.stable_record.specs.Parts.{IsMadeReady, IsPlayed};
 ghost use Rattle.stable_record.specs.declared.fact.FactKind.TheVariants as facts;
 ghost use Rattle.leader.specs.Leaders.{are_below, commit_messages, decided, taken_over, StandsFor, StandsForBallots, Follows};
 ghost use Rattle.leader.specs.Leaders.{FollowsOrRefuses, leader_part};
-ghost use Rattle.leader.specs.Compaction.{Compacts};
+ghost use Rattle.leader.specs.Compaction.{AreShorterFrames, Compacts};
 ghost use Rattle.leader.specs.Decisions.{shown};
 ghost use Rattle.protocol.specs.declared.decisions.Address.TheVariants.{Managers};
 
@@ -445,6 +445,14 @@ impl Leader {
         ensures err { IfErr result (λ e. e ≡ NoMemory) }
     {
         self.courses.compacted()
+    }
+
+    /// The frames, in version 2, of the facts that `shorter` gives, one after the other: no `Fact` is built. `NoMemory` is the only refusal.
+    pub fn shorter_frames(&self) -> Result<Vec<u8>, Refusal>
+        ensures ok { IfOk result (λ frames. AreShorterFrames self.now frames.items) }
+        ensures err { IfErr result (λ e. e ≡ NoMemory) }
+    {
+        self.courses.frames()
     }
 }
 

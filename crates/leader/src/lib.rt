@@ -10,6 +10,7 @@ mod instance;
 mod leader;
 mod orders;
 mod proposals;
+mod shorter_frames;
 
 pub use decision::LeaderDecision;
 pub use leader::Leader;

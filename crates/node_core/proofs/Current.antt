@@ -3,10 +3,10 @@ use Rattle.std.proofs.Common.{◌≡◌, ◌≢◌, ◌∙◌, ℕ, ◌+◌, ◌
 use Rattle.std.proofs.Common.{sym, ap, subst}
 use Rattle.std.proofs.Common.{append_assoc, append-nil, length-append, arith, Some, None}
 use Rattle.xid.specs.declared.refusals.Refusal.{Refusal}
-use Rattle.std.specs.Prelude.{map, Result, Ok}
+use Rattle.std.specs.Prelude.{Result, Ok}
 use Rattle.std.proofs.lemmas.Bool.Decides.{nat_tests}
 use Rattle.std.proofs.lemmas.Grind.{flat_map-append}
-use Rattle.std.proofs.lemmas.List.{drop_at, take_more, map-append}
+use Rattle.std.proofs.lemmas.List.{drop_at, take_more}
 use Rattle.wire.specs.Reading.{number_at}
 use Rattle.wire.specs.Versions.{version_2, version_of}
 use Rattle.wire.specs.declared.grammar.VersionNumber.{VersionNumber}
@@ -15,8 +15,6 @@ use Rattle.wire.specs.Grammar.{number_spelling}
 use Rattle.wire.proofs.Fields.{number_again}
 use Rattle.wire.proofs.Spelled.{some_same}
 use Rattle.stable_record.specs.declared.entry.EntryKind.{EntryKind as Entry}
-use Rattle.stable_record.specs.declared.fact.FactKind.{FactKind as Fact}
-use Rattle.stable_record.specs.Facts.{IsFact}
 use Rattle.stable_record.specs.Entries.{IsEntry, IsEntryIn}
 use Rattle.stable_record.specs.Grammar.{IsStored, IsTail, frame, body_spelling}
 use Rattle.stable_record.specs.Held.{Held, HasPut}
@@ -169,18 +167,6 @@ frames_next all i entry bytes now lt is valid now_is h =
     take_more all i entry lt ∙ ap (λ e. take i all ++ e ∷ []) (sym is) in
     subst (λ es. AreFrames now es) (sym more)
     (subst (λ (xs : List ℕ). AreFrames xs (take i all ++ entry ∷ [])) (sym now_is) (frames_on bytes (take i all) entry valid h))
-
-pub fact_frames_next : (all : List Fact) (i : ℕ) (fact : Fact) (bytes now : List ℕ) → i < length all → fact ≡ get_or all i fact
-    → IsFact fact → now ≡ bytes ++ frame version_2 (Entry.Fact fact) → AreFrames bytes (map Entry.Fact (take i all))
-    → AreFrames now (map Entry.Fact (take (i + 1) all))
-fact_frames_next all i fact bytes now lt is valid now_is h =
-    let more : take (i + 1) all ≡ take i all ++ fact ∷ [] =
-    take_more all i fact lt ∙ ap (λ f. take i all ++ f ∷ []) (sym is) in
-    let entries : map Entry.Fact (take (i + 1) all) ≡ map Entry.Fact (take i all) ++ Entry.Fact fact ∷ [] =
-    ap (map Entry.Fact) more ∙ map-append Entry.Fact (take i all) (fact ∷ []) in
-    subst (λ es. AreFrames now es) (sym entries)
-    (subst (λ (xs : List ℕ). AreFrames xs (map Entry.Fact (take i all) ++ Entry.Fact fact ∷ [])) (sym now_is)
-    (frames_on bytes (map Entry.Fact (take i all)) (Entry.Fact fact) valid h))
 
 -- ---- the record is replaced
 

@@ -5,6 +5,7 @@ use Rattle.xid.specs.declared.refusals.Refusal.{Refusal}
 use Rattle.stable_record.specs.declared.entry.EntryKind.{EntryKind as Entry}
 use Rattle.stable_record.specs.declared.fact.FactKind.{FactKind as Fact}
 use Rattle.stable_record.specs.Held.{Held, with_bytes}
+use Rattle.stable_record.specs.Written.{AreWritten}
 use Rattle.protocol.specs.declared.nodes.NodeId.{NodeId}
 use Rattle.protocol.specs.declared.nodes.NodeId.TheVariants.{A, L, R}
 use Rattle.protocol.specs.declared.rows.Row.{Row}
@@ -18,7 +19,7 @@ use Rattle.leader.specs.Leaders.{LeaderParts}
 use Rattle.leader.specs.Compaction as of_leader
 use Rattle.resource_manager.specs.Managers as manager_specs
 use Rattle.resource_manager.specs.Managers.{ManagerParts}
-use Rattle.resource_manager.specs.Compacted.{IsShortened}
+use Rattle.resource_manager.specs.Compacted.{AreShorterFrames, IsShortened}
 use Rattle.node_core.specs.declared.role.Role.{Role}
 use Rattle.node_core.specs.Roles.{RoleStands}
 use Rattle.node_core.specs.Nodes.{begun, SameState, Keeps, Stands, NodeParts, NodeStands, IsSound}
@@ -26,6 +27,10 @@ use Rattle.node_core.specs.Opening.{AreFrames}
 use Rattle.node_core.specs.Compacting.{IsShorter, Shortens, IsRecompacted, Recompacts, BefallsCompact, IsCompactedUp, role_kept}
 use Rattle.node_core.specs.Compacting.{Compacts, CompactsAs}
 use Rattle.node_core.proofs.Starting.{of_facts}
+
+-- frames as they are written
+frames_so : (bytes : List ℕ) (all : List Entry) → AreWritten bytes all → AreFrames bytes all
+frames_so bytes all is = record { bytes_are = is.bytes_are; stored = is.stored }
 
 -- ---- facts that a part gives
 
@@ -114,26 +119,24 @@ module _ (bytes : List ℕ) (all : List Entry) (frames : AreFrames bytes all) wh
   manager_shortens p h config (A a) facts memory s played = absurd s
   manager_shortens p h config (L l) facts memory s played = absurd s
 
--- frames of what a part gives
-pub acceptor_framed : (p : AcceptorParts) (kept given : List Fact) (r : Result (Vec ℕ Global) Refusal) → of_acceptor.Compacts p kept
-    → given ≡ kept → IfOk r (λ frames. AreFrames frames.items (of_facts given)) → IfOk r (λ frames. Shortens (Role.Acceptor p) frames.items)
-acceptor_framed p kept given (Ok frames) h is framed =
-    acceptor_shortens frames.items kept (subst (λ fs. AreFrames frames.items (of_facts fs)) is framed) p h
-acceptor_framed p kept given (Err e) h is framed = tt
+-- frames that a part gives
+pub acceptor_framed : (p : AcceptorParts) (r : Result (Vec ℕ Global) Refusal)
+    → IfOk r (λ frames. of_acceptor.AreShorterFrames p frames.items)
+    → IfOk r (λ frames. Shortens (Role.Acceptor p) frames.items)
+acceptor_framed p (Ok frames) is =
+    acceptor_shortens frames.items is.kept (frames_so frames.items (of_facts is.kept) is.written) p is.compacts
+acceptor_framed p (Err e) is = tt
 
-pub leader_framed : (p : LeaderParts) (kept given : List Fact) (r : Result (Vec ℕ Global) Refusal) → of_leader.Compacts p kept
-    → given ≡ kept → IfOk r (λ frames. AreFrames frames.items (of_facts given)) → IfOk r (λ frames. Shortens (Role.Leader p) frames.items)
-leader_framed p kept given (Ok frames) h is framed =
-    leader_shortens frames.items kept (subst (λ fs. AreFrames frames.items (of_facts fs)) is framed) p h
-leader_framed p kept given (Err e) h is framed = tt
+pub leader_framed : (p : LeaderParts) (r : Result (Vec ℕ Global) Refusal) → IfOk r (λ frames. of_leader.AreShorterFrames p frames.items)
+    → IfOk r (λ frames. Shortens (Role.Leader p) frames.items)
+leader_framed p (Ok frames) is =
+    leader_shortens frames.items is.kept (frames_so frames.items (of_facts is.kept) is.written) p is.compacts
+leader_framed p (Err e) is = tt
 
-pub manager_framed : (p : ManagerParts) (all given : List Entry) (r : Result (Vec ℕ Global) Refusal)
-    → ((config : Config) (number : ℕ) (facts : List Fact) (branches : List Branch) → manager_specs.StandsFor config number p facts branches
-    → IsShortened config number facts all)
-    → given ≡ all → IfOk r (λ frames. AreFrames frames.items given) → IfOk r (λ frames. Shortens (Role.Manager p) frames.items)
-manager_framed p all given (Ok frames) h is framed =
-    manager_shortens frames.items all (subst (AreFrames frames.items) is framed) p h
-manager_framed p all given (Err e) h is framed = tt
+pub manager_framed : (p : ManagerParts) (r : Result (Vec ℕ Global) Refusal) → IfOk r (λ frames. AreShorterFrames p frames.items)
+    → IfOk r (λ frames. Shortens (Role.Manager p) frames.items)
+manager_framed p (Ok frames) is = manager_shortens frames.items is.all (frames_so frames.items is.all is.written) p is.shortened
+manager_framed p (Err e) is = tt
 
 -- the same of a role under another name
 pub shortens_so : (role inner : Role) (r : Result (Vec ℕ Global) Refusal) → role ≡ inner → IfOk r (λ frames. Shortens inner frames.items)

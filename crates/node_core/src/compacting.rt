@@ -9,7 +9,6 @@ ghost use Rattle.protocol.specs.declared.nodes.NodeId.{NodeId as Id};
 ghost use Rattle.node_core.specs.Nodes.{Stands};
 ghost use Rattle.node_core.specs.Compacting.{Shortens, Recompacts, role_kept, Compacts};
 
-use crate::frames::{entry_frames, fact_frames};
 use crate::migrating::replace;
 use crate::role::Role;
 use stable_record::Record;
@@ -22,9 +21,9 @@ fn shorter(alloc: Global, role: &Role) -> Result<Vec<u8>, Refusal>
     ensures err { IfErr result (λ e. e ≡ NoMemory) }
 {
     match role {
-        Role::Acceptor(acceptor) => fact_frames(alloc, &acceptor.shorter()?),
-        Role::Leader(leader) => fact_frames(alloc, &leader.shorter()?),
-        Role::Manager(manager) => entry_frames(alloc, &manager.shorter(alloc)?),
+        Role::Acceptor(acceptor) => acceptor.shorter_frames(),
+        Role::Leader(leader) => leader.shorter_frames(),
+        Role::Manager(manager) => manager.shorter_frames(alloc),
     }
 }
 

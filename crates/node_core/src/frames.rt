@@ -1,11 +1,10 @@
 //! Entries as they are written: in frames of version 2.
 
-ghost use Rattle.std.specs.Prelude.{◌≡◌, map, IfOk, IfErr};
+ghost use Rattle.std.specs.Prelude.{◌≡◌, IfOk, IfErr};
 ghost use Rattle.xid.specs.declared.refusals.Refusal.TheVariants.{NoMemory};
-ghost use Rattle.stable_record.specs.declared.entry.EntryKind.TheVariants as kinds;
 ghost use Rattle.node_core.specs.Opening.{AreFrames};
 
-use stable_record::{Entry, Fact};
+use stable_record::Entry;
 use std::alloc::Global;
 use xid::Refusal;
 
@@ -17,18 +16,6 @@ pub(crate) fn entry_frames(alloc: Global, all: &[Entry]) -> Result<Vec<u8>, Refu
     let mut frames = Vec::new(alloc);
     for entry in all {
         entry.write(alloc, &mut frames)?;
-    }
-    Ok(frames)
-}
-
-/// The frames of facts. Refused: `NoMemory` alone.
-pub(crate) fn fact_frames(alloc: Global, facts: &[Fact]) -> Result<Vec<u8>, Refusal>
-    ensures ok { IfOk result (λ frames. AreFrames frames.items (map kinds.Fact facts.now)) }
-    ensures err { IfErr result (λ e. e ≡ NoMemory) }
-{
-    let mut frames = Vec::new(alloc);
-    for fact in facts {
-        fact.write(alloc, &mut frames)?;
     }
     Ok(frames)
 }

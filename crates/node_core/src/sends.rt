@@ -193,8 +193,8 @@ impl NodeSends {
         Some((to, bytes))
     }
 
-    /// Whom an acceptor's reply, or a resource manager's vote on a message, is for, and the bytes that spell it, where that is what is sent;
-    /// nothing else is then.
+    /// Whom an acceptor's reply, or a resource manager's vote on a message, is for, and the bytes that spell it, where that is what is
+    /// sent; nothing else is then.
     pub fn spelled(&self) -> Option<(Address, &[u8])>
         ensures few { IfSome result (λ sent. length sent.1.now ≤ MAX_MESSAGE_BYTES) }
         ensures spells { IfSome result (λ sent. (message : Kind) × Spells message sent.1.now

@@ -17,3 +17,4 @@ pub mod Ascending
 pub mod Same
 pub mod Shortened
 pub mod Opened
+pub mod Frames

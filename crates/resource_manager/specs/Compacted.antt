@@ -10,6 +10,7 @@ use Rattle.stable_record.specs.declared.fact.FactKind.{FactKind as Fact}
 use Rattle.stable_record.specs.declared.fact.Touched.{Touched}
 use Rattle.stable_record.specs.declared.entry.EntryKind.{EntryKind as Entry}
 use Rattle.stable_record.specs.declared.entry.EntryKind.TheVariants as entries
+use Rattle.stable_record.specs.Written.{AreWritten}
 use Rattle.protocol.specs.declared.nodes.NodeId.TheVariants.{R}
 use Rattle.protocol.specs.declared.rows.Row.{Row}
 use Rattle.protocol.specs.Effects.{Config}
@@ -107,3 +108,11 @@ entry_at m tx = entry_of tx (stored_by (course_in m.courses tx)) (keys_here m tx
 -- what it writes of the whole
 abbrev pub entries_at : ManagerParts → List Entry
 entries_at m = entries.Snapshot ∷ (map row_entry m.table.rows ++ filter_map (entry_at m) m.courses.begun)
+
+-- bytes are the frames of entries, as they are written today, and these are the shorter record of whatever facts a resource manager stands
+-- for
+pub record AreShorterFrames (m : ManagerParts) (bytes : List ℕ) : Type 0 where
+  pub all : List Entry
+  pub written : AreWritten bytes all
+  pub shortened : (config : Config) (number : ℕ) (facts : List Fact) (branches : List Branch) → StandsFor config number m facts branches
+      → IsShortened config number facts all

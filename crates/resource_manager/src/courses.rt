@@ -78,7 +78,14 @@ impl Courses {
     pub fn of(&self, tx: &SpelledTx<'_>) -> Course
         ensures { result ≡ course_in self.now tx.now }
     {
-        match self.transactions.number_of_view(tx, self.near) {
+        self.of_likely(tx, self.near)
+    }
+
+    /// How far a transaction has come, which is likely to have this number. It takes no memory.
+    pub fn of_likely(&self, tx: &SpelledTx<'_>, likely: usize) -> Course
+        ensures { result ≡ course_in self.now tx.now }
+    {
+        match self.transactions.number_of_view(tx, likely) {
             Some(number) => self.courses[number],
             None => Course::Working,
         }
@@ -160,5 +167,12 @@ impl Courses {
         ensures { result ≡ slice_get self.now.transactions number }
     {
         self.transactions.get(number)
+    }
+
+    /// The transaction of a number over its spelled bytes, where there is one. It takes no memory.
+    pub fn view(&self, number: usize) -> Option<SpelledTx<'_>>
+        ensures { result ≡ slice_get self.now.transactions number }
+    {
+        self.transactions.view(number)
     }
 }

@@ -8,6 +8,7 @@ mod manager;
 mod messages;
 mod playing;
 mod shorter;
+mod shorter_frames;
 mod spent;
 mod viewing;
 

@@ -117,7 +117,7 @@ fn entry_of_row(row: Row) -> Entry
 }
 
 /// What a sequence of bytes is made of are bytes: a contract doesn't know it of a sequence.
-fn are_bytes(bytes: &[u8])
+pub(crate) fn are_bytes(bytes: &[u8])
     ensures { IsBytes bytes.now }
 {
     let _ = bytes;

@@ -6,3 +6,4 @@ pub mod SpelledEntries
 pub mod Lengths
 pub mod Framed
 pub mod Stated
+pub mod Written

@@ -9,3 +9,4 @@ pub mod Parts
 pub mod Spelled
 pub mod Rests
 pub mod Views
+pub mod Written

@@ -24,6 +24,7 @@ pub use memory::MemRecord;
 pub use record::{Record, RecordError, Tear};
 pub use spelled_fact::{FactRest, SpelledFact};
 pub use view::{AnyRest, EntryView, FactView};
+pub use writing::write_row;
 
 #[cfg(test)]
 mod file_tests;

@@ -1,10 +1,14 @@
-ghost use Rattle.std.specs.Prelude.{◌≡◌, ◌++◌, OnOk, IfErr};
+ghost use Rattle.std.specs.Prelude.{◌≡◌, ◌∷◌, ◌++◌, OnOk, IfErr, length};
 ghost use Rattle.xid.specs.declared.refusals.Refusal.TheVariants.{NoMemory};
+ghost use Rattle.xid.specs.Transactions.{IsTx};
+ghost use Rattle.wire.specs.Grammar.{number_spelling, tx_spelling};
 ghost use Rattle.wire.specs.Versions.{version_2};
+ghost use Rattle.stable_record.specs.Entries.{IsEntry};
 ghost use Rattle.stable_record.specs.declared.entry.EntryKind.{EntryKind};
 ghost use Rattle.stable_record.specs.Facts.{IsFact, fact_tx};
 ghost use Rattle.stable_record.specs.Grammar.{frame};
 ghost use Rattle.stable_record.specs.Rests.{fact_of};
+ghost use Rattle.stable_record.specs.Views.{entry_seen};
 
 use crate::fact::{FactKind, Touched};
 use crate::view_writing::{code_of, len_of, put_rest};
@@ -78,7 +82,7 @@ impl AnyRest {
     }
 }
 
-/// A fact of any kind over the bytes of its transaction, which stand elsewhere: as it is read to be played.
+/// A fact of any kind over the bytes of its transaction, which stand elsewhere: as it is read to be played, or written.
 #[derive(Debug, Drop)]
 pub struct FactView<'a> {
     tx: SpelledTx<'a>,
@@ -146,4 +150,34 @@ pub enum EntryView<'a> {
     PastCommitted(SpelledTx<'a>),
     /// A transaction that was voted prepared and is aborted.
     PastAborted(SpelledTx<'a>),
+}
+
+impl<'a> EntryView<'a> {
+    /// Writes its frame, in version 2, at the end. At `NoMemory`, the only refusal, the first bytes of it may stand there.
+    pub fn write(&self, out: &mut Vec<u8>) -> Result<(), Refusal>
+        ensures ok { OnOk result (out.new.items ≡ out.old.items ++ frame version_2 (entry_seen self.now)) }
+        ensures err { IfErr result (λ e. e ≡ NoMemory) }
+        ensures valid { IsEntry (entry_seen self.now) }
+    {
+        match self {
+            EntryView::Fact(fact) => fact.write(out),
+            EntryView::PastCommitted(tx) => write_past(out, 11, tx),
+            EntryView::PastAborted(tx) => write_past(out, 12, tx),
+        }
+    }
+}
+
+/// Writes the frame of an entry that is a transaction alone, of which this is the number of its kind. At `NoMemory`, the only refusal, the
+/// first bytes of it may stand there.
+fn write_past(out: &mut Vec<u8>, code: u8, tx: &SpelledTx<'_>) -> Result<(), Refusal>
+    ensures ok { OnOk result (out.new.items ≡ out.old.items
+        ++ (number_spelling (length (version_2.byte ∷ code ∷ tx_spelling version_2 tx.now))
+        ++ version_2.byte ∷ code ∷ tx_spelling version_2 tx.now)) }
+    ensures err { IfErr result (λ e. e ≡ NoMemory) }
+    ensures valid { IsTx tx.now }
+{
+    let tx = tx.as_bytes();
+    put_number(out, (2 + tx.len()) as u32)?;
+    out.extend_from_slice(&[VERSION, code])?;
+    Ok(out.extend_from_slice(tx)?)
 }

@@ -221,6 +221,20 @@ fn room(alloc: Global) -> Vec<u8>
     }
 }
 
+/// Writes the frame of a row, in version 2, at the end: that of its entry. At `NoMemory`, the only refusal, the first bytes of it may stand
+/// there.
+pub fn write_row(key: &[u8], value: &[u8], out: &mut Vec<u8>) -> Result<(), Refusal>
+    requires key { IsKey key.now }
+    requires value { IsValue value.now }
+    ensures ok { OnOk result (out.new.items ≡ out.old.items ++ frame version_2 (EntryKind.Row key.now value.now)) }
+    ensures err { IfErr result (λ e. e ≡ NoMemory) }
+{
+    put_number(out, (5 + key.len() + value.len()) as u32)?;
+    out.extend_from_slice(&[VERSION, 10])?;
+    put_key(out, key)?;
+    Ok(put_value(out, value)?)
+}
+
 impl Entry {
     /// Writes its frame, in version 2, at the end. At `NoMemory`, the only refusal, the content is as it was.
     pub fn write(&self, alloc: Global, out: &mut Vec<u8>) -> Result<(), Refusal>

@@ -8,7 +8,7 @@ use Rattle.std.specs.Map.{lookup}
 use Rattle.std.specs.Str.{bytes_eq}
 use Rattle.std.proofs.lemmas.Bool.{ltb-true, ltb-false, eq-eqb, false_from_ne_true}
 use Rattle.std.proofs.lemmas.List.Elements.{recursion_from_All}
-use Rattle.std.proofs.lemmas.Option.{slice_get_read, slice_get_past}
+use Rattle.std.proofs.lemmas.Option.{slice_get_read}
 use Rattle.transactions.specs.Found.{is_at, found, or_new, hint_of, other_of, IsIndex, IsPlaced}
 use Rattle.transactions.specs.declared.hashed.HashedPlaces.{HashedPlaces}
 use Rattle.hashing.specs.Hashing.{hash_of}
@@ -44,17 +44,10 @@ pub key_lent : {K : Type 0} (lent keys : List K) (n : ℕ) (key : K) → lent �
     → slice_get keys n ≡ Some key
 key_lent lent keys n key same t e = sym (key_got lent n key t e ∙ ap (λ (ks : List _). slice_get ks n) same)
 
-pub no_key : {K : Type 0} (keys : List K) (n : ℕ) → false ≡ ltb n (length keys) → None ≡ slice_get keys n
-no_key keys n t = sym (slice_get_past keys n (ltb-false _ _ (sym t)))
-
--- an empty map says nothing
-pub lookup_empty : {K : Type 0} (test : K → Bool) (es : List (K × ℕ)) → length es ≡ 0 → None ≡ lookup test es
-lookup_empty test [] e = refl
-lookup_empty test (entry ∷ es) e = absurd (omega (arith, e))
-
 module _ {K : Type 0} (bytes : K → List ℕ) where
   -- the key of a place where bytes stand
-  pub key_at : (keys : List K) (k : List ℕ) (n : ℕ) → is_at bytes keys k n ≡ true → (key : K) × (slice_get keys n ≡ Some key) × (k ≡ bytes key)
+  pub key_at : (keys : List K) (k : List ℕ) (n : ℕ) → is_at bytes keys k n ≡ true
+      → (key : K) × (slice_get keys n ≡ Some key) × (k ≡ bytes key)
   key_at [] k n e = absurd (cc)
   key_at (x ∷ xs) k zero e = (x, refl, (bytes_decides k (bytes x)).0 e)
   key_at (x ∷ xs) k (suc n) e = key_at xs k n e

@@ -93,6 +93,15 @@ impl Transactions {
         Some(tx)
     }
 
+    /// The transaction of a number over its spelled bytes, where there is one. It takes no memory.
+    pub fn view(&self, number: usize) -> Option<SpelledTx<'_>>
+        ensures { result ≡ slice_get self.now number }
+    {
+        let spelled = self.spelled.get(number)?;
+        let (tx, _) = SpelledTx::take(spelled)?;
+        Some(tx)
+    }
+
     /// Whether the transaction of a number is the one that these bytes spell.
     fn is_at(&self, number: usize, spelled: &[u8]) -> bool
         ensures place { IsTrue result → (number ≡ position_or_len (λ tx. bytes_eq spelled.now (tx_spelling version_2 tx)) self.now)

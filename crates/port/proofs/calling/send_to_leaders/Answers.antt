@@ -18,4 +18,5 @@ loop-number-preserved g c =
     subst (λ (ds : List Datagram). SendsAll g.P.Port.sent c.args.port.now c.send.new.self ds) more
     (sends_one g.P.Port.sent (map (datagram_for sender message) (leaders_below n)) c.args.port.now c.loop-number.port c.send.new.self
     (datagram_for sender message (L n)) c.send.result (c.loop-number.invariant sender message spells)
-    (subst (λ (bytes : List ℕ). g.P.Port.sent c.loop-number.port c.send.new.self (L n) bytes c.send.result) spells.spelled c.send.ensures.step))
+    (subst (λ (bytes : List ℕ). g.P.Port.sent c.loop-number.port c.send.new.self (L n) bytes c.send.result) spells.spelled
+    c.send.ensures.step))

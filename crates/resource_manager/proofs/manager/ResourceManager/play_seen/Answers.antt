@@ -9,7 +9,8 @@ use Rattle.resource_manager.proofs.manager.ResourceManager.play_seen.Goals as go
 pub returns-in-VotePrepared : goal.returns-in-VotePrepared
 returns-in-VotePrepared c =
     subst (λ f. Plays c.args.self.now c.play_prepared.new.self f c.play_prepared.result)
-    ((λ j. facts.VotePrepared (c.tx-tx.ensures.value j) (c.as_slice.ensures j)) ∙ ap (fact_of _) (sym c.in-VotePrepared.is) ∙ c.rest.ensures.value) c.play_prepared.ensures
+    ((λ j. facts.VotePrepared (c.tx-tx.ensures.value j) (c.as_slice.ensures j)) ∙ ap (fact_of _) (sym c.in-VotePrepared.is)
+    ∙ c.rest.ensures.value) c.play_prepared.ensures
 
 pub returns-in-VoteAborted : goal.returns-in-VoteAborted
 returns-in-VoteAborted c =

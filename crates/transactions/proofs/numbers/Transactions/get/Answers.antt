@@ -6,9 +6,11 @@ use Rattle.transactions.proofs.numbers.Transactions.get.Goals as goal
 
 pub returns-in_default-take_tx : goal.returns-in_default-take_tx
 returns-in_default-take_tx c =
-    absurd (taken_at (λ key. key.items) c.deref-2.result.now c.in-Some.spelled.now c.self.inside.spelled.items c.args.number c.self.invariant.spelled
+    absurd (taken_at (λ key. key.items) c.deref-2.result.now c.in-Some.spelled.now c.self.inside.spelled.items c.args.number
+    c.self.invariant.spelled
     (key_lent c.deref.result.now c.self.inside.spelled.items c.args.number c.in-Some.spelled.now c.deref.ensures.value
-    c.in-Some.ensures.lookup.0 c.in-Some.ensures.lookup.1) c.deref-2.ensures.value (none_is c.deref-2.result.now c.in_default-take_tx.ensures))
+    c.in-Some.ensures.lookup.0 c.in-Some.ensures.lookup.1) c.deref-2.ensures.value
+    (none_is c.deref-2.result.now c.in_default-take_tx.ensures))
 
 pub returns : goal.returns
 returns c =

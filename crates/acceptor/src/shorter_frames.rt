@@ -1,0 +1,114 @@
+//! The frames of a compacted record, written from the spelled bytes of its transactions.
+
+ghost use Rattle.std.specs.Prelude.{◌≡◌, ◌^◌, length, map, OnOk, IfOk, IfErr};
+ghost use Rattle.xid.specs.declared.refusals.Refusal.TheVariants.{NoMemory};
+ghost use Rattle.wire.specs.Messages.{IsReportBelow};
+ghost use Rattle.stable_record.specs.declared.entry.EntryKind.TheVariants as kinds;
+ghost use Rattle.stable_record.specs.Written.{AddsFacts, AreWritten};
+ghost use Rattle.transactions.specs.Seen.{AreInside, at_places};
+ghost use Rattle.acceptor.specs.Slots.{IsKept, slots_of};
+ghost use Rattle.acceptor.specs.Tables.{slot_in};
+ghost use Rattle.acceptor.specs.Compaction.{accept_facts, promise_facts, slot_facts, transaction_facts};
+ghost use Rattle.acceptor.specs.Compaction.{compacted};
+
+use crate::compaction::accepted_ballot;
+use crate::slots::{KeptSlot, slot_at};
+use crate::table::Table;
+use ballot::{Report, Slot};
+use stable_record::{FactRest, SpelledFact};
+use std::alloc::Global;
+use transactions::Order;
+use wire::SpelledTx;
+use xid::{ManagerNumber, Refusal};
+
+/// Writes the frame of what was accepted last of an instance, if anything was.
+fn write_accept(
+    frames: &mut Vec<u8>,
+    tx: &SpelledTx<'_>,
+    instance: ManagerNumber,
+    report: Report,
+) -> Result<(), Refusal>
+    requires { IsReportBelow (2 ^ 32) report }
+    ensures ok { OnOk result (AddsFacts frames.old.items frames.new.items (accept_facts tx.now instance report)) }
+    ensures err { IfErr result (λ e. e ≡ NoMemory) }
+{
+    let _ = tx.count();
+    let Some((ballot, vote)) = report else {
+        return Ok(());
+    };
+    let rest = FactRest::Accept {
+        instance,
+        ballot,
+        vote,
+    };
+    SpelledFact::new(tx, rest).write(frames)
+}
+
+/// Writes the frame of the greatest ballot that an instance took part in, if it is above the one accepted in.
+fn write_promise(
+    frames: &mut Vec<u8>,
+    tx: &SpelledTx<'_>,
+    instance: ManagerNumber,
+    slot: Slot,
+) -> Result<(), Refusal>
+    requires { IsKept slot }
+    ensures ok { OnOk result (AddsFacts frames.old.items frames.new.items (promise_facts tx.now instance slot)) }
+    ensures err { IfErr result (λ e. e ≡ NoMemory) }
+{
+    let _ = tx.count();
+    if accepted_ballot(slot.report) < slot.mbal {
+        let rest = FactRest::Promise {
+            instance,
+            ballot: slot.mbal,
+        };
+        return SpelledFact::new(tx, rest).write(frames);
+    }
+    Ok(())
+}
+
+/// Writes the frames of the facts that lead an instance to a slot.
+fn write_slot(
+    frames: &mut Vec<u8>,
+    tx: &SpelledTx<'_>,
+    instance: ManagerNumber,
+    slot: Slot,
+) -> Result<(), Refusal>
+    requires { IsKept slot }
+    ensures ok { OnOk result (AddsFacts frames.old.items frames.new.items (slot_facts tx.now instance slot)) }
+    ensures err { IfErr result (λ e. e ≡ NoMemory) }
+{
+    write_accept(frames, tx, instance, slot.report)?;
+    write_promise(frames, tx, instance, slot)
+}
+
+/// Writes the frames of the facts that lead each instance of a transaction to its slot, of which these are the slots.
+fn write_transaction(
+    frames: &mut Vec<u8>,
+    tx: &SpelledTx<'_>,
+    slots: &[KeptSlot],
+) -> Result<(), Refusal>
+    ensures ok { OnOk result (AddsFacts frames.old.items frames.new.items (transaction_facts (slots_of tx.now slots.now) tx.now)) }
+    ensures err { IfErr result (λ e. e ≡ NoMemory) }
+{
+    for place in 0..tx.count() {
+        write_slot(frames, tx, tx.rm(place), slot_at(slots, place))?;
+    }
+    Ok(())
+}
+
+/// The frames of the facts that lead each transaction that has begun to its slots.
+pub fn frames_of(alloc: Global, table: &Table, begun: &Order) -> Result<Vec<u8>, Refusal>
+    requires { AreInside (length table.now.transactions) begun.now.numbers }
+    ensures ok { IfOk result (λ frames. AreWritten frames.items
+        (map kinds.Fact (compacted (at_places table.now.transactions begun.now.numbers) (slot_in table.now)))) }
+    ensures err { IfErr result (λ e. e ≡ NoMemory) }
+{
+    let mut frames = Vec::new(alloc);
+    for i in 0..table.begun_count(begun) {
+        let Some(tx) = table.begun_view(begun, i) else {
+            unreachable!();
+        };
+        write_transaction(&mut frames, &tx, table.begun_slots(begun, i, &tx))?;
+    }
+    Ok(frames)
+}
