@@ -1,6 +1,6 @@
 -- Digits with no zero in front are the one text of the number that they write: for `short_number`.
 use Rattle.std.proofs.Common.{◌≡◌, ℕ, ◌+◌, ◌-◌, ◌*◌, ◌/◌, ◌%◌, ◌<◌, ◌≤◌, ◌^◌, List, []}
-use Rattle.std.proofs.Common.{◌∷◌, ◌++◌, append_assoc, refl, length, take, get_or, decimal, sym, ap, subst, ◌∙◌, arith}
+use Rattle.std.proofs.Common.{◌∷◌, ◌++◌, refl, length, take, get_or, decimal, sym, ap, subst, ◌∙◌, arith}
 use Rattle.std.specs.Char.{digit_value}
 use Rattle.std.specs.Int.{IsInRange}
 use Rattle.std.specs.Str.Parse.{AllDigits, digits_value}
@@ -72,10 +72,9 @@ decimal_of_four n low high =
     ∙ ap (λ (front : List ℕ). front ++ pair (n % 100)) (decimal_two (n / 100) (omega arith) (omega arith))
     ∙ four_are n high
 
--- the last four digits, behind those before them
-pub four_more : (n : ℕ) (old new : List ℕ) → new ≡ old ++ decimal (n / 10000) → 10000 ≤ n → n < 2 ^ 32
-    → new ++ four_digits (n % 10000) ≡ old ++ decimal n
-four_more n old new is low high =
-    ap (λ (front : List ℕ). front ++ four_digits (n % 10000)) is ∙ append_assoc old (decimal (n / 10000)) (four_digits (n % 10000))
-    ∙ ap (λ (back : List ℕ). old ++ (decimal (n / 10000) ++ back)) (sym (four_are (n % 10000) (omega arith)))
-    ∙ ap (λ (text : List ℕ). old ++ text) (sym (decimal_four n low (omega arith)))
+-- five digits: one, and the four behind it
+pub decimal_five : (n : ℕ) → 10000 ≤ n → n < 100000 → decimal n ≡ (48 + n / 10000) ∷ four_digits (n % 10000)
+decimal_five n low high =
+    decimal_four n low (omega (arith, high))
+    ∙ ap (λ (back : List ℕ). decimal (n / 10000) ++ back) (four_are (n % 10000) (omega arith))
+    ∙ ap (λ (front : List ℕ). front ++ four_digits (n % 10000)) (decimal_digit (n / 10000) (omega (arith, high)))

@@ -117,7 +117,29 @@ fn put_short_number(number: u32, out: &mut Vec<u8>) -> Result<(), Refusal>
     put_four_digits(number, out)
 }
 
-/// Writes the text of a number at the end, some digits at a time.
+/// Writes five digits at the end.
+#[inline(always)]
+fn put_five_digits(number: u32, out: &mut Vec<u8>) -> Result<(), Refusal>
+    requires { number < 100000 }
+    ensures ok { OnOk result (out.new.items ≡ out.old.items ++ (48 + number / 10000) ∷ (48 + number % 10000 / 1000)
+        ∷ (48 + number % 10000 / 100 % 10) ∷ (48 + number % 10000 / 10 % 10) ∷ (48 + number % 10000 % 10) ∷ []) }
+    ensures err { IfErr result (λ e. e ≡ NoMemory) }
+    ensures kept { Extends out.old.items out.new.items }
+{
+    let low = number % 10_000;
+    let [thousands, hundreds] = two_digits(low / 100);
+    let [tens, ones] = two_digits(low % 100);
+    out.extend_from_slice(&[
+        b'0' + (number / 10_000) as u8,
+        thousands,
+        hundreds,
+        tens,
+        ones,
+    ])?;
+    Ok(())
+}
+
+/// Writes the text of a number at the end, all of it at once.
 #[inline(never)]
 fn put_digits(number: u32, out: &mut Vec<u8>) -> Result<(), Refusal>
     ensures ok { OnOk result (out.new.items ≡ out.old.items ++ decimal number) }
@@ -127,14 +149,12 @@ fn put_digits(number: u32, out: &mut Vec<u8>) -> Result<(), Refusal>
     if number < 10_000 {
         return put_short_number(number, out);
     }
-    let high = number / 10_000;
-    if high < 10_000 {
-        put_short_number(high, out)?;
-        return put_four_digits(number % 10_000, out);
+    if number < 100_000 {
+        return put_five_digits(number, out);
     }
-    put_short_number(high / 10_000, out)?;
-    put_four_digits(high % 10_000, out)?;
-    put_four_digits(number % 10_000, out)
+    let mut digits = Buffer::new();
+    out.extend_from_slice(digits.format(number).as_bytes())?;
+    Ok(())
 }
 
 /// Writes a number's text at the end. At `NoMemory`, the only refusal, there may be a beginning of it.
