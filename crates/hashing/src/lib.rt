@@ -1,4 +1,4 @@
-//! How keys are hashed that are bytes, or that hand their bytes on one by one as names and vectors do.
+//! How bytes are hashed, and keys of maps that are numbers or vectors of bytes.
 #![tactic(auto)]
 
 mod bytes;

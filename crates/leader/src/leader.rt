@@ -447,7 +447,8 @@ impl Leader {
         self.courses.compacted()
     }
 
-    /// The frames, in version 2, of the facts that `shorter` gives, one after the other: no `Fact` is built. `NoMemory` is the only refusal.
+    /// The frames, in version 2, of the facts that `shorter` gives, one after the other: no `Fact` is built. `NoMemory` is the only
+    /// refusal.
     pub fn shorter_frames(&self) -> Result<Vec<u8>, Refusal>
         ensures ok { IfOk result (λ frames. AreShorterFrames self.now frames.items) }
         ensures err { IfErr result (λ e. e ≡ NoMemory) }

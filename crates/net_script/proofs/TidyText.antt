@@ -173,7 +173,8 @@ tidy_step : (spaced : Bool) (byte : ℕ) (rest : List ℕ) → (spaced ≡ true 
     → is_tidy_after spaced (byte ∷ rest) ≡ is_tidy_after (eqb byte 32) rest
 tidy_step spaced byte rest apart = by spaced (eqb byte 32) (λ s b. apart s (eqb-true byte 32 b))
   where
-    by : (s b : Bool) → (s ≡ true → b ≡ true → ⊥) → cond b (not s && is_tidy_after true rest) (is_tidy_after false rest) ≡ is_tidy_after b rest
+    by : (s b : Bool) → (s ≡ true → b ≡ true → ⊥)
+        → cond b (not s && is_tidy_after true rest) (is_tidy_after false rest) ≡ is_tidy_after b rest
     by s false _ = refl
     by false true _ = refl
     by true true both = absurd (both refl refl)
@@ -181,7 +182,8 @@ tidy_step spaced byte rest apart = by spaced (eqb byte 32) (λ s b. apart s (eqb
 -- some bytes more, none of which is a space behind a space
 pub tidy_further : (line : List ℕ) (at n : ℕ) → 0 < at → at + n ≤ length line
     → ((k : ℕ) → k < n → get_or line (at - 1 + k) 0 ≡ 32 → get_or line (at - 1 + k + 1) 0 ≡ 32 → ⊥)
-    → is_tidy_after (eqb (get_or line (at - 1) 0) 32) (drop at line) ≡ is_tidy_after (eqb (get_or line (at + n - 1) 0) 32) (drop (at + n) line)
+    → is_tidy_after (eqb (get_or line (at - 1) 0) 32) (drop at line)
+    ≡ is_tidy_after (eqb (get_or line (at + n - 1) 0) 32) (drop (at + n) line)
 tidy_further line at zero some room apart =
     let same : at ≡ at + 0 = omega arith in
     ap (λ i. is_tidy_after (eqb (get_or line (i - 1) 0) 32) (drop i line)) same

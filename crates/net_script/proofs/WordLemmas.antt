@@ -5,8 +5,6 @@ use Rattle.std.proofs.Common.{eqb-true, map}
 use Rattle.std.proofs.lemmas.List.{length-append, take_all, take_rest}
 use Rattle.std.specs.List.{onto_first, All}
 use Rattle.std.proofs.lemmas.Bool.{not-true}
-use Rattle.std.specs.Str.{bytes_eq}
-use Rattle.std.proofs.lemmas.Slice.Eq.{bytes_eq-Decides}
 use Rattle.std.proofs.lemmas.Fmt.{decimal_injective}
 use Rattle.xid.specs.Text.{lacks}
 use Rattle.xid.proofs.Texts.{first_true, second_true, both_true, cut_same}
@@ -22,10 +20,6 @@ use Rattle.net_script.specs.Spelling.{one_list}
 pub second_holds : {A B : Type 0} → A ⊎ B → (A → ⊥) → B
 second_holds (inl a) other = absurd (other a)
 second_holds (inr b) other = b
-
--- what `==` and `!=` of two texts say
-pub texts_differ : (a b : List ℕ) (r : Bool) → r ≡ bytes_eq a b → r ≡ false → a ≡ b → ⊥
-texts_differ a b r is no' e = let same : bytes_eq a b ≡ true = (bytes_eq-Decides a b).1 e in absurd (cc)
 
 -- where nothing was read
 pub reads_none : {X W : Type 0} (IsIn : X → Type 0) (text : X → W) (given : W) (o : Option X) → o ≡ None → Reads IsIn text given (Ok o)

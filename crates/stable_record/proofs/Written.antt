@@ -54,10 +54,6 @@ row_framed old a b c d n key value len ea eb ec ed =
 pub none_written : AreWritten [] []
 none_written = record { bytes_are = refl; stored = (refl, inl (omega arith)) }
 
-pub adds_then : (a b c : List ℕ) (first second : List Entry) → Adds a b first → Adds b c second → Adds a c (first ++ second)
-adds_then a b c first second one two all h =
-    subst (AreWritten c) (append_assoc all first second) (two (all ++ first) (one all h))
-
 pub adds_one : (old new : List ℕ) (entry : Entry) → IsEntry entry → new ≡ old ++ frame version_2 entry → Adds old new (entry ∷ [])
 adds_one old new entry valid is all h = record {
   bytes_are = is ∙ ap (λ (xs : List ℕ). xs ++ frame version_2 entry) h.bytes_are

@@ -68,16 +68,6 @@ module _ {K : Type 0} (bytes : K → List ℕ) where
       by true here e = ap (is_at bytes keys k) (sym (one_place p n e)) ∙ here
       by false here e = told n e
 
-  -- where nothing is found though there is a hint, the others say nothing
-  pub other_none : (keys : List K) (k : List ℕ) (hint other : Option ℕ) → found bytes keys k hint other ≡ None → is_some hint ≡ true
-      → other ≡ None
-  other_none keys k None other e there = absurd (cc)
-  other_none keys k (Some p) other e there = by (is_at bytes keys k p) e
-    where
-      by : (b : Bool) → (if b then Some p else other) ≡ None → other ≡ None
-      by true e = absurd (cc)
-      by false e = e
-
   -- what a hint comes to
   pub found_by : (keys : List K) (k : List ℕ) (hint other : Option ℕ) (p : ℕ) (b : Bool) → Some p ≡ hint → is_at bytes keys k p ≡ b
       → (if b then Some p else other) ≡ found bytes keys k hint other
@@ -280,21 +270,6 @@ module _ {K : Type 0} (bytes : K → List ℕ) where
           said : (q : List ℕ) (n : ℕ) → other_now q ≡ Some n → is_at bytes (keys ++ key ∷ []) q n ≡ true
           said q n e = kept (keys ++ key ∷ []) q (other q) (is_some (hint (hash_of (bytes key)))) (bytes_eq q (bytes key)) (length keys) n
               (λ before. stays keys q n (index.others q n before)) (λ eq. last keys q ∙ eq) (sym (others q) ∙ e)
-
-  -- ---- none
-
-  pub index_none : (hint : ℕ → Option ℕ) (other : List ℕ → Option ℕ) → ((k : List ℕ) → other k ≡ None) → IsIndex bytes [] hint other
-  index_none hint other none = record {
-    own = λ n key e. absurd (cc);
-    others = λ k n e. let there : None ≡ Some n = sym (none k) ∙ e in absurd (cc);
-  }
-
-  pub index_kept : (keys : List K) (hint hint_now : ℕ → Option ℕ) (other other_now : List ℕ → Option ℕ) → IsIndex bytes keys hint other
-      → ((h : ℕ) → hint_now h ≡ hint h) → ((q : List ℕ) → other_now q ≡ other q) → IsIndex bytes keys hint_now other_now
-  index_kept keys hint hint_now other other_now index hints others = record {
-    own = λ n key e. (λ k. found bytes keys (bytes key) (hints (hash_of (bytes key)) k) (others (bytes key) k)) ∙ index.own n key e;
-    others = λ q n e. index.others q n (sym (others q) ∙ e);
-  }
 
   -- ---- one more in hashed places
 

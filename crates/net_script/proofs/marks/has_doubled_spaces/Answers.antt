@@ -24,7 +24,8 @@ returns c = λ off k lt here there.
     let spaces : List ℕ → ℕ = λ bytes. mask_l (map (λ (byte : ℕ). eqb byte 32) bytes) in
     let none : bit_and c.marks.result c.marks-2.result ≡ 0 = eqb-true _ 0 (not-false _ off) in
     let first : bit_at c.marks.result k ≡ 1 =
-    ap (λ m. bit_at m k) c.marks.ensures ∙ spaced text 0 k (omega (arith, c.requires)) lt (ap (λ i. get_or text i 0) (omega arith) ∙ here) in
+    ap (λ m. bit_at m k) c.marks.ensures
+    ∙ spaced text 0 k (omega (arith, c.requires)) lt (ap (λ i. get_or text i 0) (omega arith) ∙ here) in
     let second : bit_at c.marks-2.result k ≡ 1 =
     ap (λ m. bit_at m k) (c.marks-2.ensures ∙ ap spaces (take-take 16 (length text - 1) (drop 1 text) (omega (arith, c.requires))))
     ∙ spaced text 1 k (omega (arith, c.requires)) lt (ap (λ i. get_or text i 0) (omega arith) ∙ there) in

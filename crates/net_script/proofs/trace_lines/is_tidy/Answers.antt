@@ -12,7 +12,8 @@ loop-at-preserved c =
       c.loop-at.invariant.0 ∙ tidy_further line at 16 some room (λ k lt here there.
           c.has_doubled_spaces.ensures c.if-not-has_doubled_spaces.true k lt
           (get_or-chunk (at - 1) (length line - (at - 1)) line k 0 (omega (arith, lt, room, some)) ∙ here)
-          (get_or-chunk (at - 1) (length line - (at - 1)) line (k + 1) 0 (omega (arith, lt, room, some)) ∙ ap (λ i. get_or line i 0) (omega arith) ∙ there)),
+          (get_or-chunk (at - 1) (length line - (at - 1)) line (k + 1) 0 (omega (arith, lt, room, some))
+          ∙ ap (λ i. get_or line i 0) (omega arith) ∙ there)),
       omega arith,
       room,
     )
