@@ -6,7 +6,6 @@ pub mod LawLemmas
 pub mod TraceLemmas
 pub mod WordLemmas
 mod KeyLemmas
-mod MarkLemmas
 pub mod TidyText
 pub mod DraftLemmas
 pub mod TraceLineLemmas

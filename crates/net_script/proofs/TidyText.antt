@@ -1,12 +1,12 @@
 -- Words whose bytes are tested, lines of words with one space between them, and texts of such lines: for readers of lines.
 use Rattle.std.proofs.Common.{◌≡◌, ℕ, Bool, true, not, eqb, List, [], ◌∷◌, refl, false, ◌&&◌, cond, ◌⊎◌, inl, inr, ◌++◌, drop, sym, ap, ◌∙◌}
-use Rattle.std.proofs.Common.{codes, eqb-true, zero, suc, ◌+◌, ◌-◌, ◌<◌, ◌≤◌, length, get_or, arith}
+use Rattle.std.proofs.Common.{codes, eqb-true}
 use Rattle.std.specs.List.{AllByRecursion, list_all, filter, onto_first}
 use Rattle.xid.specs.Text.{lacks}
 use Rattle.xid.proofs.Texts.{first_true, second_true, both_true}
 use Rattle.net_script.specs.Spelling.{is_clean, is_common, IsClean, IsCommon}
 use Rattle.std.proofs.lemmas.Bool.{not-true}
-use Rattle.std.proofs.lemmas.List.{append-nil, append_assoc, drop_more}
+use Rattle.std.proofs.lemmas.List.{append-nil, append_assoc}
 use Rattle.std.proofs.lemmas.List.Concat.{flat_map-append}
 use Rattle.net_script.specs.Lines.{pieces, words, is_word}
 use Rattle.net_script.specs.Traces.{spaced_words, joined_words}
@@ -165,35 +165,3 @@ pub joined_arrow : (w v : List ℕ) (ws vs : List (List ℕ))
 joined_arrow w v ws vs =
     ap (λ (t : List ℕ). w ++ t) (flat_map-append (λ word. 32 ∷ word) ws (codes "->" ∷ v ∷ vs))
     ∙ sym (append_assoc w (spaced_words ws) (spaced_words (codes "->" ∷ v ∷ vs)))
-
--- ---- a line by the places of its bytes
-
--- one byte more, which is no space behind a space
-tidy_step : (spaced : Bool) (byte : ℕ) (rest : List ℕ) → (spaced ≡ true → byte ≡ 32 → ⊥)
-    → is_tidy_after spaced (byte ∷ rest) ≡ is_tidy_after (eqb byte 32) rest
-tidy_step spaced byte rest apart = by spaced (eqb byte 32) (λ s b. apart s (eqb-true byte 32 b))
-  where
-    by : (s b : Bool) → (s ≡ true → b ≡ true → ⊥)
-        → cond b (not s && is_tidy_after true rest) (is_tidy_after false rest) ≡ is_tidy_after b rest
-    by s false _ = refl
-    by false true _ = refl
-    by true true both = absurd (both refl refl)
-
--- some bytes more, none of which is a space behind a space
-pub tidy_further : (line : List ℕ) (at n : ℕ) → 0 < at → at + n ≤ length line
-    → ((k : ℕ) → k < n → get_or line (at - 1 + k) 0 ≡ 32 → get_or line (at - 1 + k + 1) 0 ≡ 32 → ⊥)
-    → is_tidy_after (eqb (get_or line (at - 1) 0) 32) (drop at line)
-    ≡ is_tidy_after (eqb (get_or line (at + n - 1) 0) 32) (drop (at + n) line)
-tidy_further line at zero some room apart =
-    let same : at ≡ at + 0 = omega arith in
-    ap (λ i. is_tidy_after (eqb (get_or line (i - 1) 0) 32) (drop i line)) same
-tidy_further line at (suc n) some room apart =
-    let last : at + suc n - 1 ≡ at + n = omega arith in
-    let next : at + suc n ≡ at + n + 1 = omega arith in
-    tidy_further line at n some (omega (arith, room)) (λ k lt. apart k (omega (arith, lt)))
-    ∙ ap (is_tidy_after (eqb (get_or line (at + n - 1) 0) 32)) (drop_more line (at + n) 0 (omega (arith, room)))
-    ∙ tidy_step (eqb (get_or line (at + n - 1) 0) 32) (get_or line (at + n) 0) (drop (at + n + 1) line)
-    (λ before here. apart n (omega arith) (ap (λ i. get_or line i 0) (omega (arith, some)) ∙ eqb-true _ 32 before)
-    (ap (λ i. get_or line i 0) (omega (arith, some)) ∙ here))
-    ∙ ap (λ i. is_tidy_after (eqb (get_or line i 0) 32) (drop (at + n + 1) line)) (sym last)
-    ∙ ap (λ i. is_tidy_after (eqb (get_or line (at + suc n - 1) 0) 32) (drop i line)) (sym next)

@@ -7,7 +7,6 @@ mod byte_words;
 mod events;
 mod items;
 mod known;
-mod marks;
 mod message_words;
 mod messages;
 mod nodes;

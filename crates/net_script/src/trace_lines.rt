@@ -4,7 +4,6 @@ ghost use Rattle.std.specs.Prelude.{◌≡◌, ◌≢◌, ◌++◌, List, ℕ, t
 ghost use Rattle.xid.specs.Text.{lacks};
 ghost use Rattle.net_script.specs.TraceLines.{is_tidy};
 
-use crate::marks::{AT_ONCE, has_doubled_spaces};
 use crate::values::{Sizes, Table};
 use crate::words::split_once;
 use protocol::{Answer, Boxed, Change, Event, NodeId, Row, Sent};
@@ -29,27 +28,18 @@ pub enum TraceLine {
     Final(u8, Sequence<Row>),
 }
 
-/// Whether a line has words, one space between them, and none before or after them. Spaces that stand together are looked for in many bytes
-/// at once, and one by one at the end and where some are.
+/// Whether a line has words, one space between them, and none before or after them.
 pub(crate) fn is_tidy(line: &[u8]) -> bool
     ensures { result ≡ is_tidy line.now }
 {
-    let [first, ..] = line else {
-        return false;
-    };
-    if *first == b' ' {
+    if line.is_empty() {
         return false;
     }
-    let mut at = 1;
-    while at + AT_ONCE <= line.len() && !has_doubled_spaces(&line[at - 1..]) {
-        at += AT_ONCE;
+    let mut doubled = false;
+    for i in 1..line.len() {
+        doubled |= (line[i - 1] == b' ') & (line[i] == b' ');
     }
-    for place in at..line.len() {
-        if line[place - 1] == b' ' && line[place] == b' ' {
-            return false;
-        }
-    }
-    line[line.len() - 1] != b' '
+    (line[0] != b' ') & !doubled & (line[line.len() - 1] != b' ')
 }
 
 /// What stands before and after the first arrow.

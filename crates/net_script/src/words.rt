@@ -6,9 +6,9 @@ ghost use Rattle.net_script.specs.Basics.{NodeId, A, L, R, IsTx, tx_text};
 ghost use Rattle.net_script.specs.Events.{IsNode};
 ghost use Rattle.net_script.specs.Lines.{IsFirstPiece, IsFirstWord, words, node_text, Reads};
 
-use crate::marks::first_place;
 use crate::stop::or_none;
 use crate::word::Words;
+use memchr::memchr;
 use protocol::{Boxed, NodeId};
 use std::alloc::Global;
 use xid::{Refusal, Tx, text};
@@ -18,7 +18,7 @@ pub(crate) fn split_once(text: &[u8], mark: u8) -> Option<(&[u8], &[u8])>
     ensures { MatchOption result (lacks mark text.now ≡ true)
         (λ parts. (text.now ≡ parts.0.now ++ mark ∷ parts.1.now) × (lacks mark parts.0.now ≡ true)) }
 {
-    let Some(at) = first_place(mark, text) else {
+    let Some(at) = memchr(mark, text) else {
         return None;
     };
     Some((&text[..at], &text[at + 1..]))
