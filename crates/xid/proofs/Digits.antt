@@ -1,6 +1,6 @@
 -- Digits with no zero in front are the one text of the number that they write: for `short_number`.
-use Rattle.std.proofs.Common.{◌≡◌, ℕ, ◌+◌, ◌-◌, ◌*◌, ◌/◌, ◌%◌, ◌<◌, ◌≤◌, ◌^◌, List, []}
-use Rattle.std.proofs.Common.{◌∷◌, ◌++◌, refl, length, take, get_or, decimal, sym, ap, subst, ◌∙◌, arith}
+use Rattle.std.proofs.Common.{◌≡◌, ℕ, ◌+◌, ◌-◌, ◌*◌, ◌<◌, ◌≤◌, ◌^◌, List, []}
+use Rattle.std.proofs.Common.{◌∷◌, length, take, get_or, decimal, sym, ap, subst, ◌∙◌, arith}
 use Rattle.std.specs.Char.{digit_value}
 use Rattle.std.specs.Int.{IsInRange}
 use Rattle.std.specs.Str.Parse.{AllDigits, digits_value}
@@ -8,7 +8,6 @@ use Rattle.std.proofs.lemmas.Fmt.{decimal-digits_value, decimal_digit}
 use Rattle.std.proofs.lemmas.Int.Digits.{digits_value_more, digits_more}
 use Rattle.std.proofs.lemmas.Str.{digit_value_digit}
 use Rattle.std.proofs.lemmas.List.{length-take}
-use Rattle.itoa.proofs.Decimal.{pair, decimal_two, decimal_pair, decimal_four}
 use Rattle.std.proofs.lemmas.Str.Parse.{numerals_by_value, tells_digits, digits_value_short}
 
 -- digits, and the number that they write
@@ -49,32 +48,3 @@ pub digits_are_text : (text : List ℕ) (n : ℕ) → AreDigits text n → 0 < l
 digits_are_text text n are some lead small =
     let spelled = decimal-digits_value (numerals_by_value _ tells_digits) text are.digits some lead (omega (arith, are.value)) in
     sym (ap decimal are.value ∙ spelled)
-
--- ---- numbers that are written some digits at a time
-
-abbrev pub four_digits : ℕ → List ℕ
-four_digits n = (48 + n / 1000) ∷ (48 + n / 100 % 10) ∷ (48 + n / 10 % 10) ∷ (48 + n % 10) ∷ []
-
-pub decimal_three : (n : ℕ) → 100 ≤ n → n < 1000 → decimal n ≡ (48 + n / 100) ∷ (48 + n % 100 / 10) ∷ (48 + n % 100 % 10) ∷ []
-decimal_three n low high =
-    decimal_pair n low (omega arith) ∙ ap (λ (front : List ℕ). front ++ pair (n % 100)) (decimal_digit (n / 100) (omega arith))
-
-four_are : (n : ℕ) → n < 10000 → pair (n / 100) ++ pair (n % 100) ≡ four_digits n
-four_are n high =
-    let a : n / 100 / 10 ≡ n / 1000 = omega arith in
-    let c : n % 100 / 10 ≡ n / 10 % 10 = omega arith in
-    let d : n % 100 % 10 ≡ n % 10 = omega arith in
-    rw (a, c, d) refl
-
-pub decimal_of_four : (n : ℕ) → 1000 ≤ n → n < 10000 → decimal n ≡ four_digits n
-decimal_of_four n low high =
-    decimal_pair n (omega arith) (omega arith)
-    ∙ ap (λ (front : List ℕ). front ++ pair (n % 100)) (decimal_two (n / 100) (omega arith) (omega arith))
-    ∙ four_are n high
-
--- five digits: one, and the four behind it
-pub decimal_five : (n : ℕ) → 10000 ≤ n → n < 100000 → decimal n ≡ (48 + n / 10000) ∷ four_digits (n % 10000)
-decimal_five n low high =
-    decimal_four n low (omega (arith, high))
-    ∙ ap (λ (back : List ℕ). decimal (n / 10000) ++ back) (four_are (n % 10000) (omega arith))
-    ∙ ap (λ (front : List ℕ). front ++ four_digits (n % 10000)) (decimal_digit (n / 10000) (omega (arith, high)))

@@ -6,7 +6,6 @@ mod branch_id;
 mod branches;
 mod codes;
 mod component;
-mod digit_pairs;
 mod hex_digits;
 mod limits;
 mod refusals;

@@ -1,6 +1,6 @@
 //! Numbers and bytes as text. Each value has one text.
 
-ghost use Rattle.std.specs.Prelude.{◌≡◌, ◌≢◌, ℕ, ◌<◌, ◌^◌, ◌+◌, ◌/◌, ◌%◌, List, [], ◌∷◌, ◌++◌, ◌≤◌, length, true, decimal, MatchOption};
+ghost use Rattle.std.specs.Prelude.{◌≡◌, ◌≢◌, ℕ, ◌<◌, ◌^◌, List, ◌∷◌, ◌++◌, ◌≤◌, length, true, decimal, MatchOption};
 ghost use Rattle.std.specs.Prelude.{IfSome, IfErr, OnOk};
 ghost use Rattle.std.specs.List.{list_all};
 ghost use Rattle.xid.specs.Limits.{most_component};
@@ -9,7 +9,6 @@ ghost use Rattle.xid.specs.Text.{hex_text, is_no_capital, lacks, Extends};
 ghost use Rattle.xid.specs.declared.refusals.Refusal.TheVariants.{NoMemory};
 
 use crate::component::Component;
-use crate::digit_pairs::two_digits;
 use crate::hex_digits::{read_hex, write_hex};
 use crate::limits::MAX_COMPONENT;
 use crate::refusals::Refusal;
@@ -78,85 +77,6 @@ pub fn number(text: &[u8]) -> Option<u32>
     any_number(text)
 }
 
-/// Writes four digits at the end.
-#[inline(always)]
-fn put_four_digits(number: u32, out: &mut Vec<u8>) -> Result<(), Refusal>
-    requires { number < 10000 }
-    ensures ok { OnOk result (out.new.items ≡ out.old.items
-        ++ (48 + number / 1000) ∷ (48 + number / 100 % 10) ∷ (48 + number / 10 % 10) ∷ (48 + number % 10) ∷ []) }
-    ensures err { IfErr result (λ e. e ≡ NoMemory) }
-    ensures kept { Extends out.old.items out.new.items }
-{
-    let [thousands, hundreds] = two_digits(number / 100);
-    let [tens, ones] = two_digits(number % 100);
-    out.extend_from_slice(&[thousands, hundreds, tens, ones])?;
-    Ok(())
-}
-
-/// Writes the text of a number of up to four digits at the end.
-#[inline(always)]
-fn put_short_number(number: u32, out: &mut Vec<u8>) -> Result<(), Refusal>
-    requires { number < 10000 }
-    ensures ok { OnOk result (out.new.items ≡ out.old.items ++ decimal number) }
-    ensures err { IfErr result (λ e. e ≡ NoMemory) }
-    ensures kept { Extends out.old.items out.new.items }
-{
-    if number < 10 {
-        out.push(b'0' + number as u8)?;
-        return Ok(());
-    }
-    if number < 100 {
-        out.extend_from_slice(&two_digits(number))?;
-        return Ok(());
-    }
-    if number < 1000 {
-        let [tens, ones] = two_digits(number % 100);
-        out.extend_from_slice(&[b'0' + (number / 100) as u8, tens, ones])?;
-        return Ok(());
-    }
-    put_four_digits(number, out)
-}
-
-/// Writes five digits at the end.
-#[inline(always)]
-fn put_five_digits(number: u32, out: &mut Vec<u8>) -> Result<(), Refusal>
-    requires { number < 100000 }
-    ensures ok { OnOk result (out.new.items ≡ out.old.items ++ (48 + number / 10000) ∷ (48 + number % 10000 / 1000)
-        ∷ (48 + number % 10000 / 100 % 10) ∷ (48 + number % 10000 / 10 % 10) ∷ (48 + number % 10000 % 10) ∷ []) }
-    ensures err { IfErr result (λ e. e ≡ NoMemory) }
-    ensures kept { Extends out.old.items out.new.items }
-{
-    let low = number % 10_000;
-    let [thousands, hundreds] = two_digits(low / 100);
-    let [tens, ones] = two_digits(low % 100);
-    out.extend_from_slice(&[
-        b'0' + (number / 10_000) as u8,
-        thousands,
-        hundreds,
-        tens,
-        ones,
-    ])?;
-    Ok(())
-}
-
-/// Writes the text of a number at the end, all of it at once.
-#[inline(never)]
-fn put_digits(number: u32, out: &mut Vec<u8>) -> Result<(), Refusal>
-    ensures ok { OnOk result (out.new.items ≡ out.old.items ++ decimal number) }
-    ensures err { IfErr result (λ e. e ≡ NoMemory) }
-    ensures kept { Extends out.old.items out.new.items }
-{
-    if number < 10_000 {
-        return put_short_number(number, out);
-    }
-    if number < 100_000 {
-        return put_five_digits(number, out);
-    }
-    let mut digits = Buffer::new();
-    out.extend_from_slice(digits.format(number).as_bytes())?;
-    Ok(())
-}
-
 /// Writes a number's text at the end. At `NoMemory`, the only refusal, there may be a beginning of it.
 pub fn put_number(number: u32, out: &mut Vec<u8>) -> Result<(), Refusal>
     ensures ok { OnOk result (out.new.items ≡ out.old.items ++ decimal number) }
@@ -167,7 +87,9 @@ pub fn put_number(number: u32, out: &mut Vec<u8>) -> Result<(), Refusal>
         out.push(b'0' + number as u8)?;
         return Ok(());
     }
-    put_digits(number, out)
+    let mut digits = Buffer::new();
+    out.extend_from_slice(digits.format(number).as_bytes())?;
+    Ok(())
 }
 
 /// The text before the first mark, and the text after it. None where the mark isn't there.
