@@ -118,5 +118,3 @@ long_value row back bytes is e read long =
 pub table_rows : (rows : List Row) (t : Table) {rm : List ℕ} → All IsRow rows → IsContents t → rm ∷ map row_text rows ≡ contents_words t
     → rows ≡ t.rows
 table_rows rows t each is e = one_list a_row rows t.rows each is.rows.each (cc)
-
--- ---- a row, and those before it

@@ -49,6 +49,9 @@ fn are_distinct(alloc: Global, rows: &[Row]) -> Result<bool, Stop>
     ensures ok { IfOk result (λ distinct. IsTrue distinct ↔ AllPairs (λ a b. a.key ≢ b.key) rows.now) }
     ensures err { IfErr result (λ e. e ≡ Memory) }
 {
+    if rows.len() < 2 {
+        return Ok(true);
+    }
     let mut keys = keys_of(alloc, rows)?;
     keys.sort_unstable();
     keys.dedup();
