@@ -121,6 +121,9 @@ fn play_first<'a>(
 ) -> Result<Option<&'a [u8]>, Refusal>
     ensures { PlaysFirst compacted bytes.now role.old role.new result }
 {
+    if bytes.is_empty() {
+        return Ok(None);
+    }
     match view_frame(alloc, bytes) {
         Ok(Some((entry, after))) => match play_view(alloc, role, compacted, entry) {
             Ok(()) => Ok(Some(after)),
