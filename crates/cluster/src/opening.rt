@@ -6,7 +6,7 @@ ghost use Rattle.node_core.specs.Nodes.{AreSizes};
 ghost use Rattle.cluster.specs.Clusters.{node_count};
 ghost use Rattle.cluster.specs.Opening.{AreBegun, IsBegun, IsUnbegun, IsUnmade};
 
-use crate::receivers::name_at;
+use crate::receivers::{count_of, name_at};
 use node_core::{Config, Node, Sizes};
 use protocol::NodeId;
 use stable_record::Record;
@@ -51,7 +51,7 @@ pub(crate) fn open_all<R: Record + Drop>(
     ensures ok { IfOk result (λ nodes. AreBegun config.now (map R.Record.held records.items) nodes.items) }
     ensures err { IfErr result (λ e. IsUnmade config.now (map R.Record.held records.items) e) }
 {
-    let mut nodes = Vec::new(alloc);
+    let mut nodes = Vec::with_capacity(alloc, count_of(sizes))?;
     for device in records {
         let who = name_at(sizes, nodes.len());
         let node = match open_new(alloc, config, who, device) {
