@@ -52,7 +52,8 @@ pub fn take_frame(alloc: Global, bytes: &[u8]) -> Result<Option<(Entry, &[u8])>,
 }
 
 /// The entry whose frame stands at the front, over the bytes, and what follows it: for a record that is played. None where this is for
-/// `take_frame` to say: an entry about no transaction, a frame of version 1, or a tail. Refused as `take_frame` is.
+/// `take_frame` to say: a tail, a body of another version than 2 (known or not), and one of a snapshot or a row (well formed or not).
+/// Refused: `Damaged` where the bytes have no such length in front or any other body is no entry, and `NoMemory`.
 pub fn view_frame(alloc: Global, bytes: &[u8]) -> Result<Option<(EntryView<'_>, &[u8])>, Refusal>
     ensures ok { IfOk result (λ found. IfSome found (λ x. IsFramed (entry_seen x.0) bytes.now x.1.now)) }
     ensures err { IfErr result (λ e. ((e ≡ Damaged) × HasNoFrame bytes.now) ⊎ (e ≡ NoMemory)) }

@@ -1,19 +1,20 @@
 -- Walking over the branches on their bytes.
 use Rattle.std.proofs.Common.{◌≡◌, ◌≢◌, eqb, ℕ, zero, suc, ◌+◌, ◌-◌, ◌<◌, ◌≤◌, Bool}
 use Rattle.std.proofs.Common.{true, false, ltb, List, [], ◌∷◌, ◌++◌, length, take, drop, get_or}
-use Rattle.std.proofs.Common.{Option, Some, None, IsTrue, refl, sym, ap, ◌∙◌, arith, slice_index}
+use Rattle.std.proofs.Common.{Option, Some, None, IsTrue, refl, sym, ap, ◌∙◌, arith, slice_index, slice_set}
 use Rattle.std.specs.Prelude.{is_some, nat_lt, not, ◌||◌, ◌&&◌, cond}
 use Rattle.std.specs.List.{flat_map, All, list_all, list_any, position_or_len, find, slice_get}
 use Rattle.std.specs.List.Sorted.{IsStrictlyIncreasing}
 use Rattle.std.proofs.lemmas.Bool.Decides.{nat_tests}
 use Rattle.std.proofs.lemmas.Bool.{ltb-true, ltb-false, le-ltb, lt-ltb}
 use Rattle.std.proofs.lemmas.List.Concat.{flat_map-cons}
+use Rattle.std.proofs.lemmas.List.{get_or-map, get_or-set_other, get_or-set_same}
 use Rattle.std.proofs.lemmas.List.Folds.{find_at}
 use Rattle.std.proofs.lemmas.Option.{slice_get-get_or, slice_get_past}
 use Rattle.std.proofs.lemmas.Grind.{common_steps}
 use Rattle.byteorder.specs.Endian.{big_number}
 use Rattle.xid.specs.Limits.{most_component}
-use Rattle.xid.specs.Transactions.{BranchParts, IsBranch, is_at}
+use Rattle.xid.specs.Transactions.{TxParts, BranchParts, IsBranch, is_at, nth_branch, participants}
 use Rattle.wire.specs.Grammar.{branch_spelling}
 use Rattle.wire.specs.Reading.{branch_at, component_at}
 use Rattle.wire.specs.Spelled.{branches_from}
@@ -164,3 +165,20 @@ found bs rm i d e lt = find_at (is_at rm) bs ∙ ap (slice_get bs) (sym e) ∙ s
 
 pub not_found : (bs : List BranchParts) (rm i : ℕ) → i ≡ position_or_len (is_at rm) bs → length bs ≤ i → find (is_at rm) bs ≡ None
 not_found bs rm i e le = find_at (is_at rm) bs ∙ ap (slice_get bs) (sym e) ∙ slice_get_past bs i le
+
+-- the resource manager of a branch is the participant of its place
+pub participant_at : (tx : TxParts) (i rm : ℕ) → i < length tx.branches → rm ≡ (nth_branch tx i).rm → rm ≡ slice_index (participants tx) i
+participant_at tx i rm lt e = e ∙ sym (get_or-map (λ (b : BranchParts). b.rm) tx.branches i (record { rm = 0; bqual = [] }) 0 lt)
+
+-- the resource managers of the branches so far, with that of the next one
+pub one_more : (tx : TxParts) (rms : List ℕ) (place rm : ℕ) → place < length rms → rm ≡ (nth_branch tx place).rm
+    → ((k : ℕ) → k < place → slice_index rms k ≡ (nth_branch tx k).rm)
+    → (k : ℕ) → k < place + 1 → slice_index (slice_set rms place rm) k ≡ (nth_branch tx k).rm
+one_more tx rms place rm within e before k less = by (ltb k place) refl
+  where
+    by : (t : Bool) → ltb k place ≡ t → slice_index (slice_set rms place rm) k ≡ (nth_branch tx k).rm
+    by true et = get_or-set_other rms place k rm 0 (λ same. absurd (omega (arith, same, ltb-true k place et))) ∙ before k (ltb-true k place et)
+    by false et =
+        let same : k ≡ place = omega (arith, less, ltb-false k place et) in
+        ap (λ (n : ℕ). slice_index (slice_set rms place rm) n) same ∙ get_or-set_same rms place rm 0 within ∙ e
+        ∙ ap (λ (n : ℕ). (nth_branch tx n).rm) (sym same)

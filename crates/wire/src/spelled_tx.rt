@@ -1,4 +1,4 @@
-ghost use Rattle.std.specs.Prelude.{◌≡◌, ◌+◌, ◌≤◌, ◌<◌, IfSome, IsTrue, is_some, length, slice_index, MatchOption, nat_lt};
+ghost use Rattle.std.specs.Prelude.{◌≡◌, ℕ, ◌+◌, ◌≤◌, ◌<◌, IfSome, IsTrue, is_some, length, slice_index, MatchOption, nat_lt};
 ghost use Rattle.std.specs.List.{find, list_all, position_or_len};
 ghost use Rattle.std.specs.Option.{option_map};
 ghost use Rattle.xid.specs.Limits.{most_managers};
@@ -216,6 +216,22 @@ impl<'a> SpelledTx<'a> {
         ensures valid { IsTx self.now }
     {
         self.nth(i).0
+    }
+
+    /// The numbers of the resource managers that take part, by the places of their branches, in one walk. Zeros stand behind them.
+    pub fn managers(&self) -> [ManagerNumber; MAX_BRANCHES]
+        ensures value { (i : ℕ) → i < length self.now.branches → slice_index result i ≡ slice_index (participants self.now) i }
+        ensures branch { (i : ℕ) → i < length self.now.branches → slice_index result i ≡ (nth_branch self.now i).rm }
+        ensures valid { IsTx self.now }
+    {
+        let mut managers = [0; MAX_BRANCHES];
+        let mut rest = &self.branches()[1..];
+        for place in 0..self.count() {
+            let branch = self.branch_from(place, rest);
+            managers[place] = branch.0;
+            rest = branch.2;
+        }
+        managers
     }
 
     /// The place of a resource manager's branch, or how many branches there are where it takes no part.
