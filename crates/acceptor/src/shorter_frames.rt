@@ -90,8 +90,9 @@ fn write_transaction(
     ensures ok { OnOk result (AddsFacts frames.old.items frames.new.items (transaction_facts (slots_of tx.now slots.now) tx.now)) }
     ensures err { IfErr result (λ e. e ≡ NoMemory) }
 {
+    let managers = tx.managers();
     for place in 0..tx.count() {
-        write_slot(frames, tx, tx.rm(place), slot_at(slots, place))?;
+        write_slot(frames, tx, managers[place], slot_at(slots, place))?;
     }
     Ok(())
 }

@@ -1,4 +1,4 @@
-use Rattle.std.proofs.Common.{◌++◌, arith, refl}
+use Rattle.std.proofs.Common.{◌++◌, ◌<◌, length, slice_index, arith, refl}
 use Rattle.stable_record.proofs.Written.{more_added}
 use Rattle.acceptor.specs.Compaction.{slot_facts}
 use Rattle.acceptor.proofs.Writing.{slot_put}
@@ -6,10 +6,12 @@ use Rattle.acceptor.proofs.shorter_frames.write_transaction.Goals as goal
 
 pub loop-place-preserved : goal.loop-place-preserved
 loop-place-preserved c =
-    let one = slot_facts c.args.tx.now c.rm.result c.slot_at.result in
+    let place = c.loop-place.place in
+    let lt : place < length c.args.tx.now.branches = omega (arith, c.loop-place-test.true, c.count-place-end.ensures.value) in
+    let rm = slice_index c.managers-managers.result place in
+    let one = slot_facts c.args.tx.now rm c.slot_at.result in
     more_added c.args.frames.now.items c.loop-place.frames.items c.write_slot.new.frames.items c.loop-place.invariant.put one _ _
     c.loop-place.invariant.adds c.in_ok-write_slot.ensures.ok
-    (slot_put c.args.tx.now c.args.slots.now c.loop-place.place c.rm.result c.slot_at.result c.loop-place.invariant.put
-    (c.loop-place.invariant.put ++ one) _ c.rm.ensures.valid
-    (omega (arith, c.loop-place-test.true, c.count-place-end.ensures.value)) c.rm.ensures.value c.rm.ensures.branch
-    c.slot_at.ensures.value refl c.loop-place.invariant.left)
+    (slot_put c.args.tx.now c.args.slots.now place rm c.slot_at.result c.loop-place.invariant.put
+    (c.loop-place.invariant.put ++ one) _ c.managers-managers.ensures.valid lt (c.managers-managers.ensures.value place lt)
+    (c.managers-managers.ensures.branch place lt) c.slot_at.ensures.value refl c.loop-place.invariant.left)
