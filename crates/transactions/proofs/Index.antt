@@ -9,7 +9,8 @@ use Rattle.std.specs.Str.{bytes_eq}
 use Rattle.std.proofs.lemmas.Bool.{ltb-true, ltb-false, eq-eqb, false_from_ne_true}
 use Rattle.std.proofs.lemmas.List.Elements.{recursion_from_All}
 use Rattle.std.proofs.lemmas.Option.{slice_get_read}
-use Rattle.transactions.specs.Found.{is_at, found, or_new, hint_of, other_of, IsIndex, IsPlaced}
+use mathlib.Core.Logic.{inl, inr}
+use Rattle.transactions.specs.Found.{is_at, found, or_new, hint_of, other_of, IsFound, IsIndex, IsPlaced}
 use Rattle.transactions.specs.declared.hashed.HashedPlaces.{HashedPlaces}
 use Rattle.hashing.specs.Hashing.{hash_of}
 
@@ -148,6 +149,16 @@ module _ {K : Type 0} (bytes : K → List ℕ) where
     -- what is found is the first place
     pub found_first : (k : List ℕ) → found_of k ≡ position (test k) keys
     found_first k = place_is keys k (found_of k) (λ n e. found_at keys k (hint (hash_of k)) (other k) n (index.others k) e) (own_place k)
+
+    -- where bytes stand is their one place
+    pub settled : (k : List ℕ) (hash : ℕ) (r : Option ℕ) → hash ≡ hash_of k
+        → IsFound bytes keys k (found bytes keys k (hint hash) (other k)) r → r ≡ found_of k
+    settled k hash r is told = by r (subst (λ (h : ℕ). IsFound bytes keys k (found bytes keys k (hint h) (other k)) r) is told)
+      where
+        by : (r : Option ℕ) → IsFound bytes keys k (found_of k) r → r ≡ found_of k
+        by r (inl e) = e
+        by None (inr at) = absurd at
+        by (Some n) (inr at) = sym (own_place k n at)
 
     pub found_apart : IsDistinct (λ a b. bytes_eq (bytes a) (bytes b)) keys
     found_apart = apart keys (λ k n m a b. one_place n m (sym (own_place k n a) ∙ own_place k m b))

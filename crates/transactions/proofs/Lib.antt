@@ -5,3 +5,4 @@ pub mod Places
 pub mod First
 pub mod Index
 pub mod Sought
+pub mod Cutting

@@ -1,5 +1,6 @@
 -- Where bytes stand among keys: by a hint, and else by what the others say.
-use Rattle.std.specs.Prelude.{◌≡◌, ◌&&◌, ℕ, Bool, true, false, not, if◌then◌else◌, List, Option, Some, None, is_some, slice_get, nat_eq}
+use Rattle.std.specs.Prelude.{◌≡◌, ◌&&◌, ◌⊎◌, ℕ, Bool, true, false, not, if◌then◌else◌, List, Option, Some, None, is_some, slice_get, nat_eq}
+use Rattle.std.specs.Prelude.{IsSomeAnd}
 use Rattle.std.specs.Map.{lookup}
 use Rattle.std.specs.Str.{bytes_eq}
 use Rattle.hashing.specs.Hashing.{hash_of}
@@ -37,6 +38,10 @@ module _ {K : Type 0} (bytes : K → List ℕ) where
   abbrev pub found : List K → List ℕ → (hint other : Option ℕ) → Option ℕ
   found keys k None other = None
   found keys k (Some place) other = if is_at keys k place then Some place else other
+
+  -- what is found by a hint and what the others say, or else a place where the bytes stand
+  abbrev pub IsFound : List K → List ℕ → (by_hint result : Option ℕ) → Type 0
+  IsFound keys k by_hint result = (result ≡ by_hint) ⊎ IsSomeAnd result (λ place. is_at keys k place ≡ true)
 
   -- each key is found by its bytes, and bytes stand where the others say
   pub record IsIndex (keys : List K) (hint : ℕ → Option ℕ) (other : List ℕ → Option ℕ) : Type 0 where

@@ -1,7 +1,8 @@
 ghost use Rattle.std.specs.Prelude.{◌≡◌, [], true, None, is_some, IfErr, OnOk, OnErr};
 ghost use Rattle.xid.specs.declared.refusals.Refusal.TheVariants.{NoMemory};
-ghost use Rattle.transactions.specs.Found.{is_at, found, hint_of, other_of, IsPlaced};
+ghost use Rattle.transactions.specs.Found.{is_at, found, hint_of, other_of, IsFound, IsPlaced};
 
+use crate::spellings::Spellings;
 use hashing::WordHasher;
 use indexmap::IndexMap;
 use std::alloc::Global;
@@ -18,11 +19,11 @@ pub struct HashedPlaces {
 }
 
 /// Whether bytes stand at a place among keys.
-pub fn stand_at(keys: &[Vec<u8>], bytes: &[u8], place: usize) -> bool
-    ensures { result ≡ is_at (λ key. key.items) keys.now bytes.now place }
+pub fn stand_at(keys: &Spellings, bytes: &[u8], place: usize) -> bool
+    ensures { result ≡ is_at (λ key. key) keys.now bytes.now place }
 {
     match keys.get(place) {
-        Some(key) => bytes == key.as_slice(),
+        Some(key) => bytes == key,
         None => false,
     }
 }
@@ -40,8 +41,8 @@ impl HashedPlaces {
     }
 
     /// The place of bytes among keys, of which this is the hash. What a hint says counts where they stand there. It takes no memory.
-    pub fn find(&self, keys: &[Vec<u8>], hash: u64, bytes: &[u8]) -> Option<usize>
-        ensures { result ≡ found (λ key. key.items) keys.now bytes.now (hint_of self.now hash) (other_of self.now bytes.now) }
+    fn find_by_hint(&self, keys: &Spellings, hash: u64, bytes: &[u8]) -> Option<usize>
+        ensures { result ≡ found (λ key. key) keys.now bytes.now (hint_of self.now hash) (other_of self.now bytes.now) }
     {
         let place = *self.hints.get(&hash)?;
         if stand_at(keys, bytes, place) {
@@ -51,6 +52,19 @@ impl HashedPlaces {
             return None;
         }
         self.others.get(bytes).copied()
+    }
+
+    /// The same place, or another where the bytes stand. While no hash was taken twice a hint's index is its place, and so its value
+    /// isn't looked at. It takes no memory.
+    pub fn find(&self, keys: &Spellings, hash: u64, bytes: &[u8]) -> Option<usize>
+        ensures { IsFound (λ key. key) keys.now bytes.now
+            (found (λ key. key) keys.now bytes.now (hint_of self.now hash) (other_of self.now bytes.now)) result }
+    {
+        let index = self.hints.get_index_of(&hash)?;
+        if self.others.is_empty() && stand_at(keys, bytes, index) {
+            return Some(index);
+        }
+        self.find_by_hint(keys, hash, bytes)
     }
 
     /// Notes the place of bytes, of which this is the hash and which weren't found. Where it is refused, all is as before.

@@ -4,6 +4,7 @@
 mod hashed;
 mod numbers;
 mod order;
+mod spellings;
 
 pub use numbers::Transactions;
 pub use order::Order;

@@ -8,6 +8,7 @@ ghost use Rattle.wire.specs.Versions.{version_2};
 ghost use Rattle.transactions.specs.Seen.{place_in, seen_with};
 
 use crate::hashed::{HashedPlaces, stand_at};
+use crate::spellings::Spellings;
 use hashing::hash_of;
 use std::alloc::Global;
 use std::marker::Model;
@@ -19,7 +20,7 @@ use xid::{Refusal, Tx};
 #[derive(Debug, Drop)]
 pub struct Transactions {
     alloc: Global,
-    spelled: Vec<Vec<u8>>,
+    spelled: Spellings,
     places: HashedPlaces,
 }
 
@@ -32,11 +33,11 @@ impl Model for Transactions {
 
     ghost Value = { List TxParts };
 
-    ghost view = { λ t. map (λ key. tx_spelled key.items) t.spelled.items };
+    ghost view = { λ t. map tx_spelled t.spelled };
 
     ghost invariant = { λ t. record {
-      spelled : All (λ key. IsSpelled key.items) t.spelled.items;
-      found : IsIndex (λ key. key.items) t.spelled.items (hint_of t.places) (other_of t.places);
+      spelled : All (λ key. IsSpelled key) t.spelled;
+      found : IsIndex (λ key. key) t.spelled (hint_of t.places) (other_of t.places);
     } };
 }
 
@@ -47,7 +48,7 @@ impl Transactions {
     {
         Transactions {
             alloc,
-            spelled: Vec::new(alloc),
+            spelled: Spellings::new(alloc),
             places: HashedPlaces::new(alloc),
         }
     }
@@ -140,11 +141,12 @@ impl Transactions {
         if let Some(number) = self.places.find(&self.spelled, hash, spelled) {
             return Ok(number);
         }
-        let key = Vec::from_slice(self.alloc, spelled)?;
-        self.spelled.reserve(1)?;
         let number = self.spelled.len();
-        self.places.add(self.alloc, hash, spelled, number)?;
-        self.spelled.push(key)?;
+        self.spelled.push(spelled)?;
+        if let Err(refusal) = self.places.add(self.alloc, hash, spelled, number) {
+            self.spelled.pop();
+            return Err(refusal);
+        }
         Ok(number)
     }
 

@@ -1,22 +1,16 @@
-use Rattle.std.proofs.Common.{◌∙◌, ap}
+use Rattle.std.proofs.Common.{◌∙◌, refl, sym, ap}
 use Rattle.std.specs.Prelude.{slice_get}
-use Rattle.transactions.proofs.Index.{key_lent}
 use Rattle.transactions.proofs.Keys.{got_tx, taken_at, taken_is, none_is}
 use Rattle.transactions.proofs.numbers.Transactions.view.Goals as goal
 
 pub returns-in_err-tx : goal.returns-in_err-tx
 returns-in_err-tx c =
-    absurd (taken_at (λ key. key.items) c.deref-2.result.now c.in_ok-spelled.spelled.now c.self.inside.spelled.items c.args.number
-    c.self.invariant.spelled
-    (key_lent c.deref.result.now c.self.inside.spelled.items c.args.number c.in_ok-spelled.spelled.now c.deref.ensures.value
-    c.in_ok-spelled.ensures.lookup.0 c.in_ok-spelled.ensures.lookup.1) c.deref-2.ensures.value
-    (none_is c.deref-2.result.now c.in_err-tx.ensures))
+    absurd (taken_at (λ key. key) c.in_ok-spelled.spelled.now c.in_ok-spelled.spelled.now c.self.inside.spelled c.args.number
+    c.self.invariant.spelled (sym c.in_ok-spelled.ensures) refl (none_is c.in_ok-spelled.spelled.now c.in_err-tx.ensures))
 
 pub returns : goal.returns
 returns c =
-    got_tx (λ key. key.items) c.deref-2.result.now c.in_ok-spelled.spelled.now c.self.inside.spelled.items c.args.number c.in_ok-tx.tx
-    c.in_ok-tx.field-0-1.now c.self.invariant.spelled
-    (key_lent c.deref.result.now c.self.inside.spelled.items c.args.number c.in_ok-spelled.spelled.now c.deref.ensures.value
-    c.in_ok-spelled.ensures.lookup.0 c.in_ok-spelled.ensures.lookup.1) c.deref-2.ensures.value
-    (taken_is c.deref-2.result.now c.in_ok-tx.tx c.in_ok-tx.field-0-1.now c.in_ok-tx.ensures)
+    got_tx (λ key. key) c.in_ok-spelled.spelled.now c.in_ok-spelled.spelled.now c.self.inside.spelled c.args.number c.in_ok-tx.tx
+    c.in_ok-tx.field-0-1.now c.self.invariant.spelled (sym c.in_ok-spelled.ensures) refl
+    (taken_is c.in_ok-spelled.spelled.now c.in_ok-tx.tx c.in_ok-tx.field-0-1.now c.in_ok-tx.ensures)
     ∙ ap (λ ts. slice_get ts c.args.number) c.self.view_is
