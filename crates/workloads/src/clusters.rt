@@ -2,22 +2,27 @@
 //! append, and datagrams go out by a port, signed or not.
 use crate::digest::Digest;
 use crate::numbers::{Numbers, rounds};
+use crate::payments::Payments;
 use crate::posts::Post;
+use crate::starts::take_table;
 use anyhow::{Result, bail};
 use hmac::Key;
 use node_core::{Config, Input, Node, Output, Sizes};
 use port::{FakePort, MAX_TAKEN, Port, call_all};
-use protocol::{Action, Answer, Boxed, NodeId, Request, Row};
+use protocol::{Action, Answer, Boxed, Change, NodeId, Request, Row, View};
 use signed_port::{DIGEST, PlainPort, SignedPort};
 use stable_record::MemRecord;
 use std::alloc::Global;
-use xid::{Bytes, Sequence, Tx};
+use xid::Sequence;
 
 /// How many inputs are handed to a node at a time, at most.
 const GROUP: usize = 64;
 
 /// How many first rows a resource manager has, and how many branches are left open at it.
 const ROWS: u32 = 20_000;
+
+/// How many bytes a key has that datagrams are signed with.
+const KEY_BYTES: usize = 34;
 
 /// How many rounds of datagrams a transaction takes, at most.
 const ROUNDS: u32 = 32;
@@ -48,44 +53,74 @@ pub struct Processes {
     nodes: Vec<Node<MemRecord>>,
     post: Post,
     outs: Vec<Output>,
-    key: Option<Key>,
+    payments: Payments,
+    signing: Option<Signing>,
 }
 
-/// The key of a row.
-fn key_of(alloc: Global, number: u32) -> Result<Bytes> {
-    let mut key = Vec::from_slice(alloc, b"acct:")?;
-    key.extend_from_slice(&number.to_be_bytes())?;
-    Ok(Sequence::new(key))
+/// What the datagrams of a cluster are signed with.
+#[derive(Drop)]
+struct Signing {
+    key: Key,
+    digest: [u8; DIGEST],
 }
 
-/// The value of a row.
-fn value_of(alloc: Global, number: u32) -> Result<Bytes> {
-    let mut value = Vec::from_slice(alloc, b"balance=")?;
-    value.extend_from_slice(&number.to_be_bytes())?;
-    Ok(Sequence::new(value))
-}
-
-/// The transaction of a number, with a branch at both resource managers.
-fn tx_of(number: u32) -> Result<Tx> {
-    let mut gtrid = *b"payment-17....";
-    let [a, b, c, d] = number.to_be_bytes();
-    gtrid[10] = a;
-    gtrid[11] = b;
-    gtrid[12] = c;
-    gtrid[13] = d;
-    Ok(Tx::new(1, &gtrid, &[(0, b"b0".as_slice()), (1, b"b1".as_slice())])?)
+impl Signing {
+    /// A key, and a digest of the cluster.
+    fn new(numbers: &mut Numbers) -> Signing {
+        let mut key = [0; KEY_BYTES];
+        numbers.fill(&mut key);
+        let mut digest = [0; DIGEST];
+        numbers.fill(&mut digest);
+        Signing {
+            key: Key::new(&key),
+            digest,
+        }
+    }
 }
 
 /// Takes an answer.
 fn take_answer(answer: &Answer, digest: &mut Digest) {
     match answer {
         Answer::Done => digest.number(0),
-        Answer::Code(code) => digest.number(u64::from(code.number().unsigned_abs())),
-        Answer::Value(value) => digest.take(value.as_slice()),
-        Answer::NoValue => digest.number(1),
-        Answer::Xids(_) | Answer::Stands(_) => digest.number(2),
-        Answer::Refused(refusal) => digest.number(u64::from(refusal.number())),
+        Answer::Code(code) => {
+            digest.number(1);
+            digest.number(u64::from(code.number().unsigned_abs()));
+        }
+        Answer::Value(value) => {
+            digest.number(2);
+            digest.take(value.as_slice());
+        }
+        Answer::NoValue => digest.number(3),
+        // nothing is asked here that is answered so
+        Answer::Xids(_) | Answer::Stands(_) => digest.number(4),
+        Answer::Refused(refusal) => {
+            digest.number(5);
+            digest.number(u64::from(refusal.number()));
+        }
     }
+}
+
+/// Takes the view that a resource manager changed, if it changed one.
+fn take_change(now: &Option<Change>, digest: &mut Digest) {
+    let Some(change) = now else {
+        digest.number(0);
+        return;
+    };
+    digest.number(match change.view {
+        View::Working => 1,
+        View::Prepared => 2,
+        View::Committed => 3,
+        View::Aborted => 4,
+    });
+    digest.number(u64::from(change.rm));
+    digest.take(change.tx.gtrid());
+}
+
+/// Takes what came of an input: the answer, the change of a view, and how much is sent, which is taken where it is on its way.
+fn take_output(out: &Output, digest: &mut Digest) {
+    take_answer(&out.reply, digest);
+    take_change(&out.now, digest);
+    digest.number(u64::try_from(out.sends.count()).unwrap_or(0));
 }
 
 /// A carrier at which datagrams wait.
@@ -137,21 +172,27 @@ fn hand_over<P: Port>(
         bail!("the append failed");
     }
     for out in &*outs {
-        take_answer(&out.reply, digest);
+        take_output(out, digest);
     }
+    digest.number(port.faults());
     Ok(())
 }
 
 impl Processes {
-    /// A cluster whose tables have first rows, signing by a key, if there is one.
-    fn new(alloc: Global, rows: u32, key: Option<Key>) -> Result<Processes> {
+    /// A cluster whose tables have first rows, and which may sign its datagrams.
+    fn new(
+        alloc: Global,
+        rows: u32,
+        payments: Payments,
+        signing: Option<Signing>,
+    ) -> Result<Processes> {
         let mut tables: Vec<Sequence<Row>> = Vec::new(alloc);
-        for _ in 0..2 {
+        for rm in [0u8, 1] {
             let mut table = Vec::new(alloc);
             for number in 0..rows {
                 table.push(Row {
-                    key: key_of(alloc, number)?,
-                    value: value_of(alloc, number)?,
+                    key: payments.key(alloc, rm, number)?,
+                    value: payments.value(alloc, number)?,
                 })?;
             }
             tables.push(Sequence::new(table))?;
@@ -174,7 +215,8 @@ impl Processes {
             nodes,
             post: Post::new(alloc, sizes, NODES.len())?,
             outs,
-            key,
+            payments,
+            signing,
         })
     }
 
@@ -192,9 +234,10 @@ impl Processes {
         };
         let carrier = carrier_of(alloc, letters)?;
         let count = letters.len();
-        match &self.key {
-            Some(key) => {
-                let mut port = SignedPort::new(carrier, key.clone()?, [7; DIGEST], node.id());
+        match &self.signing {
+            Some(signing) => {
+                let key = signing.key.clone()?;
+                let mut port = SignedPort::new(carrier, key, signing.digest, node.id());
                 hand_over(
                     alloc,
                     node,
@@ -204,7 +247,7 @@ impl Processes {
                     &mut self.outs,
                     digest,
                 )?;
-                self.post.send(port.carrier().gone())?;
+                self.post.send(port.carrier().gone(), digest)?;
             }
             None => {
                 let mut port = PlainPort::new(carrier);
@@ -217,7 +260,7 @@ impl Processes {
                     &mut self.outs,
                     digest,
                 )?;
-                self.post.send(port.carrier().gone())?;
+                self.post.send(port.carrier().gone(), digest)?;
             }
         }
         Ok(())
@@ -258,23 +301,21 @@ impl Processes {
         ends: bool,
         requests: &mut Vec<Request>,
     ) -> Result<()> {
-        let Some(xid) = tx_of(number)?.branch(u16::from(rm)) else {
-            bail!("no such branch");
-        };
+        let xid = self.payments.branch(rm, number)?;
         requests.push(Request::Call {
             xid,
             action: Action::Start,
         })?;
         for key in keys {
             let action = Action::Put {
-                key: key_of(self.alloc, *key)?,
-                value: value_of(self.alloc, number)?,
+                key: self.payments.key(self.alloc, rm, *key)?,
+                value: self.payments.value(self.alloc, number)?,
             };
             requests.push(Request::Call { xid, action })?;
         }
         if ends {
             if let [first, ..] = keys {
-                let key = key_of(self.alloc, first.wrapping_add(1))?;
+                let key = self.payments.key(self.alloc, rm, first.wrapping_add(1))?;
                 requests.push(Request::Call {
                     xid,
                     action: Action::Get { key },
@@ -319,7 +360,7 @@ impl Processes {
         }
         let mut requests = Vec::new(self.alloc);
         for place in 0..count {
-            let tx = Boxed::new(self.alloc, tx_of(first.wrapping_add(place))?)?;
+            let tx = Boxed::new(self.alloc, self.payments.tx(first.wrapping_add(place))?)?;
             requests.push(Request::Commit { tx })?;
         }
         self.ask(LEADER, &requests, digest)?;
@@ -330,12 +371,7 @@ impl Processes {
     fn finish(self, digest: &mut Digest) -> Result<()> {
         for node in self.nodes {
             let mut node = node;
-            if let Ok(rows) = node.table() {
-                for row in rows.as_slice() {
-                    digest.take(row.key.as_slice());
-                    digest.take(row.value.as_slice());
-                }
-            }
+            take_table(&mut node, digest);
             digest.take(node.into_record().as_slice());
         }
         Ok(())
@@ -345,13 +381,15 @@ impl Processes {
 /// Transactions commit one after another, eight at a time, and sixty-four at a time.
 fn commit_all(
     alloc: Global,
-    key: Option<Key>,
+    cluster: u32,
+    signing: Option<Signing>,
     transactions: u32,
     parts: u32,
     numbers: &mut Numbers,
     digest: &mut Digest,
 ) -> Result<()> {
-    let mut processes = Processes::new(alloc, ROWS / parts.max(1), key)?;
+    let payments = Payments::new(cluster, numbers);
+    let mut processes = Processes::new(alloc, ROWS / parts.max(1), payments, signing)?;
     processes.leave_open(ROWS / parts.max(1), digest)?;
     let mut first: u32 = 0;
     for at_once in [1, 8, 64] {
@@ -366,27 +404,33 @@ fn commit_all(
 /// Transactions commit in a cluster that signs its datagrams, and in one that doesn't.
 fn commit_pair(
     alloc: Global,
+    pair: u32,
     parts: u32,
     numbers: &mut Numbers,
     digest: &mut Digest,
 ) -> Result<()> {
-    let key = Key::new(b"a key of thirty-two bytes, no less");
+    let cluster = pair.wrapping_mul(2);
+    let signing = Some(Signing::new(numbers));
+    let transactions = 2_400 / parts.max(1);
     commit_all(
         alloc,
-        Some(key),
-        2_400 / parts.max(1),
+        cluster,
+        signing,
+        transactions,
         parts,
         numbers,
         digest,
     )?;
-    commit_all(alloc, None, 7_200 / parts.max(1), parts, numbers, digest)
+    let cluster = cluster.wrapping_add(1);
+    let transactions = 7_200 / parts.max(1);
+    commit_all(alloc, cluster, None, transactions, parts, numbers, digest)
 }
 
 /// Transactions commit in clusters that sign their datagrams, and in as many that don't.
 pub fn commit(alloc: Global, seed: u32, parts: u32, digest: &mut Digest) -> Result<()> {
     let mut numbers = Numbers::new(seed, 6);
-    for _ in 0..rounds(PAIRS, parts) {
-        commit_pair(alloc, parts, &mut numbers, digest)?;
+    for pair in 0..rounds(PAIRS, parts) {
+        commit_pair(alloc, pair, parts, &mut numbers, digest)?;
     }
     Ok(())
 }

@@ -177,6 +177,14 @@ impl Frames {
 /// The transactions of a record stand in groups of so many.
 const GROUP: u32 = 8;
 
+/// The number in the name of a record's first transaction is below this one.
+const NAMES: u32 = 1 << 31;
+
+/// The number of the first transaction of a group.
+fn first_of(group: u32, base: u32) -> u32 {
+    base.wrapping_add(group.wrapping_mul(GROUP))
+}
+
 /// The record of an acceptor with so many groups of transactions.
 pub fn acceptor_record(
     alloc: Global,
@@ -185,8 +193,9 @@ pub fn acceptor_record(
     numbers: &mut Numbers,
 ) -> Result<Vec<u8>, AllocError> {
     let mut frames = Frames::new(alloc, version);
+    let base = numbers.below(NAMES);
     for group in 0..groups {
-        frames.accept_group(numbers, group.wrapping_mul(GROUP), GROUP)?;
+        frames.accept_group(numbers, first_of(group, base), GROUP)?;
     }
     Ok(frames.into_bytes())
 }
@@ -198,7 +207,9 @@ pub fn leader_record(
     numbers: &mut Numbers,
 ) -> Result<Vec<u8>, AllocError> {
     let mut frames = Frames::new(alloc, FrameVersion::Second);
-    for number in 0..groups.wrapping_mul(GROUP) {
+    let base = numbers.below(NAMES);
+    for place in 0..groups.wrapping_mul(GROUP) {
+        let number = base.wrapping_add(place);
         let ballot = numbers.below(4).wrapping_mul(2).wrapping_add(2);
         frames.ballot(number, ballot)?;
         if numbers.happens(20) {
@@ -217,8 +228,9 @@ pub fn manager_record(
     numbers: &mut Numbers,
 ) -> Result<Vec<u8>, AllocError> {
     let mut frames = Frames::new(alloc, version);
+    let base = numbers.below(NAMES);
     for group in 0..groups {
-        frames.vote_group(numbers, group.wrapping_mul(GROUP), GROUP, keys)?;
+        frames.vote_group(numbers, first_of(group, base), GROUP, keys)?;
     }
     Ok(frames.into_bytes())
 }

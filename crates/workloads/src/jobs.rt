@@ -5,7 +5,7 @@ use crate::numbers::{Numbers, rounds};
 use crate::scripts::{failing, steady};
 use crate::tables::{Contents, KeyOrder, with_contents};
 use anyhow::Result;
-use audit::audit_text;
+use audit::{Fault, Question, audit_text};
 use cluster_run::{run, run_to};
 use picture::picture;
 use std::alloc::{AllocError, Global};
@@ -101,17 +101,33 @@ fn renamed(alloc: Global, trace: &[u8], copy: u8) -> Result<Vec<u8>, AllocError>
     Ok(text)
 }
 
-/// Audits copies of a trace.
+/// Takes what an audit finds.
+fn take_audit(found: Result<Option<Fault>, Refusal>, digest: &mut Digest) {
+    match found {
+        Ok(None) => digest.number(0),
+        Ok(Some(fault)) => {
+            digest.number(match fault.question {
+                Question::Changes => 1,
+                Question::Gets => 2,
+                Question::Tables => 3,
+                Question::Order => 4,
+            });
+            digest.number(u64::try_from(fault.line).unwrap_or(0));
+        }
+        Err(refusal) => {
+            digest.number(5);
+            digest.number(refused(refusal));
+        }
+    }
+}
+
+/// Audits copies of a trace, which is taken too.
 fn audit_copies(alloc: Global, trace: &[u8], digest: &mut Digest) -> Result<()> {
     for copy in 0..COPIES {
         let text = renamed(alloc, trace, b'0'.saturating_add(copy))?;
-        match audit_text(alloc, &text) {
-            Ok(None) => digest.number(0),
-            Ok(Some(fault)) => digest.number(u64::try_from(fault.line).unwrap_or(0)),
-            Err(refusal) => digest.number(refused(refusal)),
-        }
+        take_audit(audit_text(alloc, &text), digest);
     }
-    digest.number(u64::try_from(trace.len()).unwrap_or(0));
+    digest.take(trace);
     Ok(())
 }
 
@@ -213,11 +229,7 @@ fn tables_round(
         match run(alloc, &script) {
             Ok(trace) => {
                 digest.take(&trace);
-                match audit_text(alloc, &trace) {
-                    Ok(None) => digest.number(0),
-                    Ok(Some(_)) => digest.number(1),
-                    Err(refusal) => digest.number(refused(refusal)),
-                }
+                take_audit(audit_text(alloc, &trace), digest);
             }
             Err(refusal) => digest.number(refused(refusal)),
         }
@@ -234,8 +246,9 @@ pub fn tables(alloc: Global, seed: u32, parts: u32, digest: &mut Digest) -> Resu
     Ok(())
 }
 
-/// Draws copies of a trace.
+/// Draws copies of a trace, which is taken too.
 fn draw_copies(alloc: Global, trace: &[u8], copies: u8, digest: &mut Digest) -> Result<()> {
+    digest.take(trace);
     for copy in 0..copies {
         let text = renamed(alloc, trace, b'0'.saturating_add(copy))?;
         match picture(alloc, b"a.trace", &text) {

@@ -9,6 +9,7 @@ mod jobs;
 mod kinds;
 mod names;
 mod numbers;
+mod payments;
 mod posts;
 mod scripts;
 mod starts;

@@ -1,4 +1,5 @@
 //! What is on its way between the nodes of a cluster: the datagrams, each with the place of its receiver.
+use crate::digest::Digest;
 use node_core::{Sizes, place_of};
 use port::Letter;
 use std::alloc::{AllocError, Global};
@@ -34,13 +35,15 @@ impl Post {
         fetched
     }
 
-    /// What a node sent is on its way.
-    pub fn send(&mut self, letters: &[Letter]) -> Result<(), AllocError> {
+    /// What a node sent is on its way, and is taken into a sum.
+    pub fn send(&mut self, letters: &[Letter], digest: &mut Digest) -> Result<(), AllocError> {
         for letter in letters {
+            digest.take(letter.bytes.as_slice());
             let bytes = Vec::from_slice(self.alloc, letter.bytes.as_slice())?;
             let Some(place) = place_of(self.sizes, letter.receiver) else {
                 continue;
             };
+            digest.number(u64::try_from(place).unwrap_or(0));
             if let Some(waiting) = self.waiting.get_mut(place) {
                 waiting.push(bytes)?;
             }

@@ -26,6 +26,9 @@ pub struct Shape {
     pub is_long: bool,
 }
 
+/// The number in the name of a script's first transaction is below this one, so that eight digits are enough for all.
+const NAMES: u32 = 90_000_000;
+
 /// A word and a number after it.
 fn put_word(word: &[u8], number: u32, out: &mut Vec<u8>) -> Result<(), AllocError> {
     out.extend_from_slice(word)?;
@@ -158,7 +161,7 @@ pub fn steady(
     Ok(out)
 }
 
-/// The events of it.
+/// The events of it. The names of its transactions go on from a number that is drawn.
 pub fn put_steady(
     alloc: Global,
     shape: &Shape,
@@ -167,8 +170,9 @@ pub fn put_steady(
     out: &mut Vec<u8>,
 ) -> Result<(), AllocError> {
     let at_once = shape.at_once.max(1);
+    let base = numbers.below(NAMES);
     for batch in 0..transactions.div_ceil(at_once) {
-        let first = batch.saturating_mul(at_once);
+        let first = base.saturating_add(batch.saturating_mul(at_once));
         let names = names_of(alloc, shape, first, at_once)?;
         put_batch(alloc, shape, &names, numbers, out)?;
         out.extend_from_slice(b"flow 1000000\n")?;
@@ -208,7 +212,9 @@ fn put_faults(shape: &Shape, numbers: &mut Numbers, out: &mut Vec<u8>) -> Result
         let number = u32::from(manager);
         if numbers.happens(10) {
             put_word(b"noise r", number, out)?;
-            out.extend_from_slice(b" 0201000000010174")?;
+            out.extend_from_slice(b" 02010000000101")?;
+            let letter = u8::try_from(numbers.below(26)).unwrap_or(0);
+            put_hex(&[b'a'.wrapping_add(letter)], out)?;
             out.push(b'\n')?;
         }
         if numbers.happens(20) {
@@ -243,7 +249,8 @@ fn put_timeouts(
 pub fn failing(alloc: Global, shape: &Shape, numbers: &mut Numbers) -> Result<Vec<u8>, AllocError> {
     let mut out = Vec::new(alloc);
     put_cluster(shape, &mut out)?;
-    let names = names_of(alloc, shape, 0, shape.at_once)?;
+    let first = numbers.below(NAMES);
+    let names = names_of(alloc, shape, first, shape.at_once)?;
     put_batch(alloc, shape, &names, numbers, &mut out)?;
     let asked = shape.at_once.saturating_mul(u32::from(shape.branches));
     put_line(b"flow ", asked, &mut out)?;

@@ -24,10 +24,11 @@ fn cluster(alloc: Global) -> Result<Config> {
     Ok(Config::new(3, 2, BRANCHES, Sequence::new(tables))?)
 }
 
-/// The table of a resource manager.
-fn take_table(node: &mut Node<MemRecord>, digest: &mut Digest) {
+/// Takes the table of a resource manager, or that there is none.
+pub fn take_table(node: &mut Node<MemRecord>, digest: &mut Digest) {
     match node.table() {
         Ok(rows) => {
+            digest.number(u64::try_from(rows.as_slice().len()).unwrap_or(0));
             for row in rows.as_slice() {
                 digest.take(row.key.as_slice());
                 digest.take(row.value.as_slice());

@@ -49,8 +49,11 @@ fn key_number(contents: &Contents, row: u32, shift: u32) -> u32 {
         row
     };
     match contents.order {
-        KeyOrder::Ascending => place & 0xf_ffff,
-        KeyOrder::Descending => contents.rows.wrapping_sub(place) & 0xf_ffff,
+        KeyOrder::Ascending => shift.wrapping_add(place) & 0xf_ffff,
+        KeyOrder::Descending => {
+            let left = contents.rows.wrapping_sub(place);
+            shift.wrapping_add(left) & 0xf_ffff
+        }
         KeyOrder::Shuffled => place.wrapping_mul(0x9e37_79b1).wrapping_add(shift) & 0xf_ffff,
     }
 }
@@ -63,7 +66,7 @@ fn put_row(contents: &Contents, row: u32, shift: u32, out: &mut Vec<u8>) -> Resu
     }
     put_numbered(b"acct:", key_number(contents, row, shift), out)?;
     out.push(b'=')?;
-    put_numbered(b"balance=", row, out)
+    put_numbered(b"balance=", shift.wrapping_add(row), out)
 }
 
 /// A script whose first resource manager has a large table, and whose transactions touch some of its rows.
@@ -75,7 +78,8 @@ pub fn with_contents(
     let mut out = Vec::new(alloc);
     put_cluster(&SHAPE, &mut out)?;
     out.extend_from_slice(b"table r0")?;
-    let shift = numbers.below(1 << 20);
+    // the greatest number is below 2^20, so that keys ascend and descend
+    let shift = numbers.below((1u32 << 20).saturating_sub(contents.rows));
     for row in 0..contents.rows {
         put_row(contents, row, shift, &mut out)?;
     }
