@@ -1,13 +1,24 @@
 //! A leader.
 
-use crate::calls::{Part, run_calls};
+use crate::calls::Part;
 use crate::page::Page;
+use crate::records::Found;
 use crate::stop::{Stop, wanted};
+use crate::ways::{ByValue, Way, run_both};
 use crate::{codec, records, words};
-use leader::{Leader, LeaderDecision};
-use stable_record::FactKind;
+use leader::{Leader, LeaderDecision, LeaderSends};
+use protocol::Answer;
+use stable_record::{Fact, FactKind};
 use std::alloc::Global;
-use wire::{MAX_DATAGRAM, encode, view_of};
+use std::mem;
+use wire::{MAX_DATAGRAM, view_of};
+
+/// A leader that decides on messages where it decided before, as a node has it do.
+#[derive(Drop)]
+struct InPlace {
+    leader: Leader,
+    led: LeaderDecision,
+}
 
 /// Runs the calls of a case: `NUMBER ACCEPTORS LEADERS MANAGERS`, and `bundled` in a bundled cluster.
 pub fn run(alloc: Global, rest: &[u8], calls: &[String], page: &mut Page) -> Result<(), Stop> {
@@ -21,25 +32,33 @@ pub fn run(alloc: Global, rest: &[u8], calls: &[String], page: &mut Page) -> Res
         return Err(Stop::Unread);
     }
     let bundled = kind == b"bundled".as_slice();
-    let mut leader = Leader::new(alloc, number, acceptors, leaders, managers, bundled);
-    run_calls(&mut leader, alloc, calls, page)
+    let leader = Leader::new(alloc, number, acceptors, leaders, managers, bundled);
+    let other = InPlace {
+        leader: Leader::new(alloc, number, acceptors, leaders, managers, bundled),
+        led: LeaderDecision::nothing(),
+    };
+    run_both(ByValue(leader), other, alloc, calls, page)
 }
 
 /// What was decided: its answer, the fact, and what is sent.
-fn say(decision: LeaderDecision, page: &mut Page) -> Result<(), Stop> {
-    page.answer(decision.answer)?;
-    page.end_line()?;
-    if let Some(fact) = &decision.fact {
+fn say(
+    answer: Answer,
+    fact: &Option<Fact>,
+    sends: &LeaderSends,
+    page: &mut Page,
+) -> Result<(), Stop> {
+    page.finished_answer(answer)?;
+    if let Some(fact) = fact {
         page.fact(fact)?;
     }
-    for i in 0..decision.sends.count() {
-        page.sent(&decision.sends.at(i))?;
+    for i in 0..sends.count() {
+        page.sent(&sends.at(i))?;
     }
     Ok(())
 }
 
 /// A take-over: its ballot is made ready for and played, and it begins.
-fn time_out(leader: &mut Leader, tx: &[u8], page: &mut Page) -> Result<(), Stop> {
+fn time_out(leader: &mut Leader, tx: &[u8]) -> Result<LeaderDecision, Stop> {
     let tx = words::tx(tx)?;
     let decision = leader.timeout(&tx);
     if let Some(fact) = &decision.fact {
@@ -49,39 +68,111 @@ fn time_out(leader: &mut Leader, tx: &[u8], page: &mut Page) -> Result<(), Stop>
             leader.begin(&tx, *ballot);
         }
     }
-    say(decision, page)
+    Ok(decision)
+}
+
+/// What a leader decides on a request, of which there is one way.
+fn asked(leader: &mut Leader, verb: &[u8], tx: &[u8]) -> Result<LeaderDecision, Stop> {
+    match verb {
+        b"commit" => wanted(leader.commit(&words::tx(tx)?)),
+        b"timeout" => time_out(leader, tx),
+        b"status" => Ok(leader.status(&words::tx(tx)?)),
+        _ => Err(Stop::Unread),
+    }
 }
 
 /// A message comes.
 fn hear(leader: &mut Leader, alloc: Global, words: &[u8], page: &mut Page) -> Result<(), Stop> {
     let mut bytes = [0; MAX_DATAGRAM];
-    let len = encode(&codec::message(alloc, words)?, &mut bytes);
+    let len = codec::datagram(alloc, words, &mut bytes)?;
     let Ok(message) = view_of(&bytes[..len]) else {
         return Err(Stop::Unread);
     };
-    say(wanted(leader.on_message(&message))?, page)
+    let LeaderDecision {
+        answer,
+        fact,
+        sends,
+    } = wanted(leader.on_message(&message))?;
+    say(answer, &fact, &sends, page)
 }
 
-impl Part for Leader {
+impl Part for ByValue<Leader> {
     fn call(&mut self, alloc: Global, line: &[u8], page: &mut Page) -> Result<(), Stop> {
         let (verb, rest) = words::cut(line);
         match verb {
-            b"commit" => {
-                let decision = wanted(self.commit(&words::tx(rest)?))?;
-                say(decision, page)
-            }
-            b"timeout" => time_out(self, rest, page),
-            b"status" => say(self.status(&words::tx(rest)?), page),
-            b"hear" => hear(self, alloc, rest, page),
+            b"hear" => hear(&mut self.0, alloc, rest, page),
             b"play" => {
-                let played = self.play(records::fact(alloc, rest)?);
+                let played = self.0.play(records::fact(alloc, rest)?);
                 page.played(played)
             }
-            b"shorter" => {
-                let facts = wanted(self.shorter())?;
-                page.facts(&facts)
+            b"shorter" => self.look(alloc, page),
+            _ => {
+                let LeaderDecision {
+                    answer,
+                    fact,
+                    sends,
+                } = asked(&mut self.0, verb, rest)?;
+                say(answer, &fact, &sends, page)
             }
-            _ => Err(Stop::Unread),
         }
+    }
+}
+
+impl Way for ByValue<Leader> {
+    /// The facts of its shorter record.
+    fn look(&self, _alloc: Global, page: &mut Page) -> Result<(), Stop> {
+        page.facts(&wanted(self.0.shorter())?)
+    }
+}
+
+impl InPlace {
+    /// A message comes.
+    fn hear(&mut self, alloc: Global, words: &[u8], page: &mut Page) -> Result<(), Stop> {
+        let mut bytes = [0; MAX_DATAGRAM];
+        let len = codec::datagram(alloc, words, &mut bytes)?;
+        let Ok(message) = view_of(&bytes[..len]) else {
+            return Err(Stop::Unread);
+        };
+        wanted(self.leader.decide(&message, &mut self.led))?;
+        let answer = mem::replace(&mut self.led.answer, Answer::Done);
+        say(answer, &self.led.fact, &self.led.sends, page)
+    }
+
+    /// A request comes: its messages take the place of others.
+    fn ask(&mut self, verb: &[u8], tx: &[u8], page: &mut Page) -> Result<(), Stop> {
+        let LeaderDecision {
+            answer,
+            fact,
+            sends,
+        } = asked(&mut self.leader, verb, tx)?;
+        self.led.sends = sends;
+        say(answer, &fact, &self.led.sends, page)
+    }
+}
+
+impl Part for InPlace {
+    fn call(&mut self, alloc: Global, line: &[u8], page: &mut Page) -> Result<(), Stop> {
+        let (verb, rest) = words::cut(line);
+        match verb {
+            b"hear" => self.hear(alloc, rest, page),
+            b"play" => {
+                let frame = words::bytes(alloc, rest)?;
+                let played = match records::read(alloc, &frame) {
+                    Ok(Found::Seen(fact)) => self.leader.play_view(&fact),
+                    Ok(Found::Built(fact)) => self.leader.play(fact),
+                    Err(stop) => return Err(stop),
+                };
+                page.played(played)
+            }
+            b"shorter" => self.look(alloc, page),
+            _ => self.ask(verb, rest, page),
+        }
+    }
+}
+
+impl Way for InPlace {
+    /// The frames of its shorter record.
+    fn look(&self, _alloc: Global, page: &mut Page) -> Result<(), Stop> {
+        page.frames(&wanted(self.leader.shorter_frames())?)
     }
 }

@@ -18,11 +18,14 @@ mod page;
 mod parts;
 mod ports;
 mod records;
+mod seen;
 mod signed;
 mod stop;
 mod tables;
 mod texts;
 mod values;
+mod versions;
+mod ways;
 mod words;
 
 use page::Page;

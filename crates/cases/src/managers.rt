@@ -1,13 +1,15 @@
 //! A resource manager.
 
-use crate::calls::{Part, run_calls};
+use crate::calls::Part;
 use crate::page::Page;
+use crate::records::Found;
 use crate::stop::{Stop, wanted};
+use crate::ways::{ByValue, OverBytes, Way, run_both};
 use crate::{codec, records, tables, words};
 use protocol::{Answer, View};
-use resource_manager::ResourceManager;
+use resource_manager::{ResourceManager, SentMessage};
 use std::alloc::Global;
-use wire::{MAX_DATAGRAM, encode, view_of};
+use wire::{MAX_DATAGRAM, view_of};
 use xid::Xid;
 
 /// Runs the calls of a case: `NUMBER MANAGERS`, and the first rows.
@@ -15,9 +17,11 @@ pub fn run(alloc: Global, rest: &[u8], calls: &[String], page: &mut Page) -> Res
     let (number, rest) = words::cut(rest);
     let (managers, rows) = words::cut(rest);
     let (number, managers) = (words::small(number)?, words::small(managers)?);
-    let rows = tables::rows(alloc, rows)?;
-    let mut manager = ResourceManager::new(alloc, number, managers, rows)?;
-    run_calls(&mut manager, alloc, calls, page)
+    let own = tables::rows(alloc, rows)?;
+    let one = ResourceManager::new(alloc, number, managers, own)?;
+    let own = tables::rows(alloc, rows)?;
+    let other = ResourceManager::new(alloc, number, managers, own)?;
+    run_both(ByValue(one), OverBytes(other), alloc, calls, page)
 }
 
 /// A client call on a branch.
@@ -51,7 +55,7 @@ fn hear(
     page: &mut Page,
 ) -> Result<(), Stop> {
     let mut bytes = [0; MAX_DATAGRAM];
-    let len = encode(&codec::message(alloc, words)?, &mut bytes);
+    let len = codec::datagram(alloc, words, &mut bytes)?;
     let Ok(message) = view_of(&bytes[..len]) else {
         return Err(Stop::Unread);
     };
@@ -60,8 +64,7 @@ fn hear(
         wanted(manager.ready(fact))?;
         manager.play_by(fact)?;
     }
-    page.answer(decision.answer)?;
-    page.end_line()?;
+    page.finished_answer(decision.answer)?;
     if let Some(fact) = &decision.fact {
         page.fact(fact)?;
     }
@@ -69,6 +72,43 @@ fn hear(
         page.sent(outgoing)?;
     }
     Ok(())
+}
+
+/// What is sent, as it is spelled.
+fn say_sent(sent: &Option<SentMessage<'_>>, page: &mut Page) -> Result<(), Stop> {
+    let Some(sent) = sent else {
+        return Ok(());
+    };
+    let mut bytes = [0; MAX_DATAGRAM];
+    let len = sent.message.encode(&mut bytes);
+    page.sent(&codec::outgoing(sent.to, &bytes[..len])?)
+}
+
+/// The same over bytes: no fact and no message is built.
+fn hear_over_bytes(
+    manager: &mut ResourceManager,
+    alloc: Global,
+    words: &[u8],
+    page: &mut Page,
+) -> Result<(), Stop> {
+    let mut bytes = [0; MAX_DATAGRAM];
+    let len = codec::datagram(alloc, words, &mut bytes)?;
+    let Ok(message) = view_of(&bytes[..len]) else {
+        return Err(Stop::Unread);
+    };
+    let decision = match manager.decide_view(&message) {
+        Ok(decision) => decision,
+        Err(_) => return Err(Stop::Wanted),
+    };
+    if let Some(fact) = &decision.fact {
+        wanted(manager.ready_view(fact))?;
+        manager.play_view(fact)?;
+    }
+    page.finished_answer(Answer::Done)?;
+    if let Some(fact) = &decision.fact {
+        page.seen_fact(fact)?;
+    }
+    say_sent(&decision.sent, page)
 }
 
 /// What a timeout sends again.
@@ -117,26 +157,82 @@ fn say_shorter(manager: &ResourceManager, alloc: Global, page: &mut Page) -> Res
     Ok(())
 }
 
-impl Part for ResourceManager {
+/// What else can be seen of it: its prepared branches and transactions.
+fn say_kept(manager: &ResourceManager, alloc: Global, page: &mut Page) -> Result<(), Stop> {
+    page.answer(wanted(manager.recover())?)?;
+    for tx in &wanted(manager.open_transactions(alloc))? {
+        page.tx(tx)?;
+    }
+    page.end_line()
+}
+
+/// A call of which there is one way.
+fn call_plain(
+    manager: &mut ResourceManager,
+    alloc: Global,
+    verb: &[u8],
+    rest: &[u8],
+    page: &mut Page,
+) -> Result<(), Stop> {
+    match verb {
+        b"timeout" => return time_out(manager, rest, page),
+        b"view" => return say_view(manager, rest, page),
+        b"recover" => page.answer(wanted(manager.recover())?)?,
+        b"rows" => page.rows(&wanted(manager.rows())?)?,
+        _ => {
+            let (name, rest) = words::cut(rest);
+            let answer = client_call(manager, alloc, verb, &words::xid(name)?, rest)?;
+            page.answer(answer)?;
+        }
+    }
+    page.end_line()
+}
+
+impl Part for ByValue<ResourceManager> {
     fn call(&mut self, alloc: Global, line: &[u8], page: &mut Page) -> Result<(), Stop> {
         let (verb, rest) = words::cut(line);
         match verb {
-            b"hear" => return hear(self, alloc, rest, page),
-            b"timeout" => return time_out(self, rest, page),
-            b"view" => return say_view(self, rest, page),
-            b"shorter" => return say_shorter(self, alloc, page),
+            b"hear" => hear(&mut self.0, alloc, rest, page),
+            b"shorter" => say_shorter(&self.0, alloc, page),
             b"play" => {
-                let played = self.play(records::fact(alloc, rest)?);
-                return page.played(played);
+                let played = self.0.play(records::fact(alloc, rest)?);
+                page.played(played)
             }
-            b"recover" => page.answer(wanted(self.recover())?)?,
-            b"rows" => page.rows(&wanted(self.rows())?)?,
-            _ => {
-                let (name, rest) = words::cut(rest);
-                let answer = client_call(self, alloc, verb, &words::xid(name)?, rest)?;
-                page.answer(answer)?;
-            }
+            _ => call_plain(&mut self.0, alloc, verb, rest, page),
         }
-        page.end_line()
+    }
+}
+
+impl Way for ByValue<ResourceManager> {
+    fn look(&self, alloc: Global, page: &mut Page) -> Result<(), Stop> {
+        say_shorter(&self.0, alloc, page)?;
+        say_kept(&self.0, alloc, page)
+    }
+}
+
+impl Part for OverBytes<ResourceManager> {
+    fn call(&mut self, alloc: Global, line: &[u8], page: &mut Page) -> Result<(), Stop> {
+        let (verb, rest) = words::cut(line);
+        match verb {
+            b"hear" => hear_over_bytes(&mut self.0, alloc, rest, page),
+            b"shorter" => page.frames(&wanted(self.0.shorter_frames(alloc))?),
+            b"play" => {
+                let frame = words::bytes(alloc, rest)?;
+                let played = match records::read(alloc, &frame) {
+                    Ok(Found::Seen(fact)) => self.0.play_view(&fact),
+                    Ok(Found::Built(fact)) => self.0.play(fact),
+                    Err(stop) => return Err(stop),
+                };
+                page.played(played)
+            }
+            _ => call_plain(&mut self.0, alloc, verb, rest, page),
+        }
+    }
+}
+
+impl Way for OverBytes<ResourceManager> {
+    fn look(&self, alloc: Global, page: &mut Page) -> Result<(), Stop> {
+        page.frames(&wanted(self.0.shorter_frames(alloc))?)?;
+        say_kept(&self.0, alloc, page)
     }
 }

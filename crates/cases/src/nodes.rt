@@ -3,9 +3,9 @@
 use crate::calls::{Part, run_calls};
 use crate::page::Page;
 use crate::stop::Stop;
-use crate::{codec, groups, managers, records, words};
+use crate::{codec, groups, managers, records, versions, words};
 use net_script::{Command, read_script};
-use node_core::{Config, Input, Node, Output};
+use node_core::{Config, Input, Node, NodeSends, Output};
 use protocol::{Event, NodeId, Request};
 use stable_record::{Record, Tear};
 use std::alloc::Global;
@@ -86,8 +86,10 @@ pub fn run(rt: HostRuntime, rest: &[u8], calls: &[String], page: &mut Page) -> R
 /// A node's place in its cluster.
 #[derive(Drop)]
 pub struct Place {
-    config: Config,
-    who: NodeId,
+    /// The cluster.
+    pub config: Config,
+    /// The node.
+    pub who: NodeId,
 }
 
 impl Place {
@@ -119,25 +121,32 @@ pub fn open<R: Record + Drop>(
     match Node::open(alloc, &place.config, place.who, record) {
         Ok(node) => Ok(node),
         Err((record, _refusal)) => {
-            say_record(record, alloc, page)?;
+            say_record(place, record, alloc, page)?;
             Err(Stop::Refused)
         }
     }
 }
 
-/// What a record holds at last, and how often it has failed.
+/// What a record holds at last, and how often it has failed. A node that is opened over it in either version comes to the same.
 pub fn say_record<R: Record + Drop>(
+    place: &Place,
     mut record: R,
     alloc: Global,
     page: &mut Page,
 ) -> Result<(), Stop> {
     page.bytes(b"record ->")?;
-    match record.read(alloc) {
-        Ok(bytes) => page.hex(&bytes)?,
-        Err(error) => page.refusal(error.into())?,
-    }
+    let bytes = match record.read(alloc) {
+        Ok(bytes) => bytes,
+        Err(error) => {
+            page.refusal(error.into())?;
+            page.number(record.faults())?;
+            return page.end_line();
+        }
+    };
+    page.hex(&bytes)?;
     page.number(record.faults())?;
-    page.end_line()
+    page.end_line()?;
+    versions::agree(place, alloc, &bytes, page)
 }
 
 /// A case over a record in which no tear can be armed.
@@ -154,7 +163,7 @@ fn live<R: Record + Drop>(
         Err(stop) => return Err(stop),
     };
     run_calls(&mut part, alloc, calls, page)?;
-    say_record(part.node.into_record(), alloc, page)
+    say_record(place, part.node.into_record(), alloc, page)
 }
 
 /// A case over a record in which a tear can be armed.
@@ -171,7 +180,7 @@ fn live_torn<R: Tear + Drop>(
         Err(stop) => return Err(stop),
     };
     run_calls(&mut part, alloc, calls, page)?;
-    say_record(part.node.into_record(), alloc, page)
+    say_record(place, part.node.into_record(), alloc, page)
 }
 
 /// A node over a record in which no tear can be armed.
@@ -186,18 +195,31 @@ struct Torn<R: Tear> {
     node: Node<R>,
 }
 
+/// What is sent. Where it is spelled already, that is the one message.
+fn say_sends(sends: &NodeSends, page: &mut Page) -> Result<(), Stop> {
+    for i in 0..sends.count() {
+        let outgoing = sends.at(i);
+        page.sent(&outgoing)?;
+        let Some((to, bytes)) = sends.spelled() else {
+            continue;
+        };
+        let spelled = codec::outgoing(to, bytes)?;
+        if spelled != outgoing {
+            page.bytes(b"the two ways differ:\n")?;
+            page.sent(&spelled)?;
+        }
+    }
+    Ok(())
+}
+
 /// What came of an input.
 fn say(output: Output, page: &mut Page) -> Result<(), Stop> {
     let Output { reply, now, sends } = output;
-    page.answer(reply)?;
-    page.end_line()?;
+    page.finished_answer(reply)?;
     if let Some(change) = now {
         page.change(change)?;
     }
-    for i in 0..sends.count() {
-        page.sent(&sends.at(i))?;
-    }
-    Ok(())
+    say_sends(&sends, page)
 }
 
 /// Where the node stands in a transaction.

@@ -3,10 +3,10 @@
 use crate::stop::Stop;
 use net_script::{WrittenTx, write_step};
 use protocol::{Address, Answer, Change, Event, NodeId, Outgoing, Row, Sent, Step};
-use stable_record::{Act, Entry, Fact, SpelledFact, Touched};
+use stable_record::{Act, Entry, Fact, FactView, SpelledFact, Touched};
 use std::alloc::Global;
 use std::io::{self, Write};
-use wire::Message;
+use wire::{Message, take_number};
 use xid::{Refusal, Sequence, Tx};
 
 /// How much is printed of a case without asking for memory again.
@@ -32,6 +32,16 @@ impl Page {
         Ok(())
     }
 
+    /// What is printed.
+    pub fn text(&self) -> &[u8] {
+        &self.text
+    }
+
+    /// Nothing any more.
+    pub fn clear(&mut self) {
+        self.text.clear();
+    }
+
     /// Bytes as they are.
     pub fn bytes(&mut self, bytes: &[u8]) -> Result<(), Stop> {
         self.text.extend_from_slice(bytes)?;
@@ -49,10 +59,16 @@ impl Page {
         self.bytes(word)
     }
 
+    /// A number.
+    pub fn plain_number(&mut self, number: u64) -> Result<(), Stop> {
+        let digits = format!(in self.alloc; "{number}")?;
+        self.bytes(digits.as_bytes())
+    }
+
     /// A number after a space.
     pub fn number(&mut self, number: u64) -> Result<(), Stop> {
-        let digits = format!(in self.alloc; "{number}")?;
-        self.word(digits.as_bytes())
+        self.bytes(b" ")?;
+        self.plain_number(number)
     }
 
     /// A transaction after a space.
@@ -66,8 +82,14 @@ impl Page {
         if bytes.is_empty() {
             return self.word(b"-");
         }
+        self.bytes(b" ")?;
+        self.digits(bytes)
+    }
+
+    /// Bytes as hex digits.
+    pub fn digits(&mut self, bytes: &[u8]) -> Result<(), Stop> {
         let digits = hex::encode(self.alloc, bytes)?;
-        self.word(digits.as_bytes())
+        self.bytes(digits.as_bytes())
     }
 
     /// A refusal after a space.
@@ -123,6 +145,12 @@ impl Page {
         self.word(words.strip_suffix(b"\n").unwrap_or(&[]))
     }
 
+    /// An answer, and the line is over.
+    pub fn finished_answer(&mut self, answer: Answer) -> Result<(), Stop> {
+        self.answer(answer)?;
+        self.end_line()
+    }
+
     /// A message as in a trace, after a space.
     pub fn message(&mut self, message: &Message) -> Result<(), Stop> {
         let text = self.traced(Answer::Done, None, Some(message))?;
@@ -164,17 +192,27 @@ impl Page {
     pub fn fact(&mut self, fact: &Fact) -> Result<(), Stop> {
         let mut frame = Vec::new(self.alloc);
         fact.write(self.alloc, &mut frame)?;
-        self.bytes(b"stored")?;
-        self.hex(&frame)?;
-        self.end_line()
+        self.stored(&frame)
     }
 
     /// The same, of a fact over the bytes of its transaction.
     pub fn spelled_fact(&mut self, fact: &SpelledFact<'_>) -> Result<(), Stop> {
         let mut frame = Vec::new(self.alloc);
         fact.write(&mut frame)?;
+        self.stored(&frame)
+    }
+
+    /// The same, of a fact of any kind over the bytes of its transaction.
+    pub fn seen_fact(&mut self, fact: &FactView<'_>) -> Result<(), Stop> {
+        let mut frame = Vec::new(self.alloc);
+        fact.write(&mut frame)?;
+        self.stored(&frame)
+    }
+
+    /// A line for a frame that is stored.
+    fn stored(&mut self, frame: &[u8]) -> Result<(), Stop> {
         self.bytes(b"stored")?;
-        self.hex(&frame)?;
+        self.hex(frame)?;
         self.end_line()
     }
 
@@ -227,6 +265,17 @@ impl Page {
         Ok(())
     }
 
+    /// The frames of a shorter record, a line for each.
+    pub fn frames(&mut self, bytes: &[u8]) -> Result<(), Stop> {
+        let frames = frames_in(self.alloc, bytes)?;
+        self.number(frames.len() as u64)?;
+        self.end_line()?;
+        for frame in &frames {
+            self.stored(frame)?;
+        }
+        Ok(())
+    }
+
     /// The frame of an entry, after a space.
     pub fn entry(&mut self, entry: &Entry) -> Result<(), Stop> {
         let mut frame = Vec::new(self.alloc);
@@ -248,4 +297,31 @@ impl Page {
         }
         Ok(())
     }
+}
+
+/// The frame in front of bytes, and what follows it; all of them where none stands there.
+fn first_frame(bytes: &[u8]) -> (&[u8], &[u8]) {
+    let Some((len, _)) = take_number(bytes) else {
+        return (bytes, &[]);
+    };
+    let end = 4 + len as usize;
+    if bytes.len() < end {
+        return (bytes, &[]);
+    }
+    bytes.split_at(end)
+}
+
+/// The frames of bytes, one after the other; what is no frame stands last.
+pub fn frames_in(alloc: Global, bytes: &[u8]) -> Result<Vec<&[u8]>, Stop> {
+    let mut frames = Vec::new(alloc);
+    let mut rest = bytes;
+    for _frame in 0..bytes.len() {
+        if rest.is_empty() {
+            return Ok(frames);
+        }
+        let (frame, after) = first_frame(rest);
+        frames.push(frame)?;
+        rest = after;
+    }
+    Ok(frames)
 }

@@ -30,7 +30,7 @@ pub fn run(alloc: Global, rest: &[u8], calls: &[String], page: &mut Page) -> Res
         Err(stop) => return Err(stop),
     };
     run_calls(&mut station, alloc, calls, page)?;
-    nodes::say_record(station.node.into_record(), alloc, page)
+    nodes::say_record(&place, station.node.into_record(), alloc, page)
 }
 
 /// What was answered, and the view that changed.

@@ -3,12 +3,14 @@
 use crate::calls::{Part, run_calls};
 use crate::page::Page;
 use crate::stop::Stop;
+use crate::ways::{ByValue, OverBytes, Way, run_both};
 use crate::words;
 use stable_record::{
-    Entry, EntryKind, Fact, FailRecord, FileRecord, Leaves, MemRecord, Record, RecordError, Tear,
-    entries,
+    Entry, EntryKind, EntryView, Fact, FactView, FailRecord, FileRecord, Leaves, MemRecord, Record,
+    RecordError, Tear, entries, take_frame, view_frame,
 };
 use std::alloc::Global;
+use wire::VERSION;
 use xid::Refusal;
 
 /// Reads frames, each call by itself.
@@ -17,53 +19,182 @@ struct Frames;
 
 /// Runs the calls of a case of frames.
 pub fn run_frames(alloc: Global, calls: &[String], page: &mut Page) -> Result<(), Stop> {
-    run_calls(&mut Frames, alloc, calls, page)
+    run_both(ByValue(Frames), OverBytes(Frames), alloc, calls, page)
 }
 
-impl Part for Frames {
-    /// How far the whole frames reach, and then a line for each, as it is written today; or the refusal.
-    fn call(&mut self, alloc: Global, line: &[u8], page: &mut Page) -> Result<(), Stop> {
-        let (verb, rest) = words::cut(line);
-        if verb != b"read".as_slice() {
-            return Err(Stop::Unread);
-        }
-        let bytes = words::bytes(alloc, rest)?;
-        match entries(alloc, &bytes) {
-            Ok((all, len)) => {
-                page.number(len as u64)?;
-                page.end_line()?;
-                for entry in &all {
-                    page.bytes(b"frame")?;
-                    page.entry(entry)?;
-                    page.end_line()?;
-                }
-                Ok(())
-            }
-            Err(Refusal::NoMemory) => Err(Stop::Wanted),
-            Err(refusal) => {
-                page.refusal(refusal)?;
-                page.end_line()
+/// The whole frames of bytes as they are written today, and how far they reach: their entries are built.
+fn frames_by_value(alloc: Global, bytes: &[u8]) -> Result<(Vec<Vec<u8>>, usize), Refusal> {
+    let (all, len) = entries(alloc, bytes)?;
+    let mut frames = Vec::new(alloc);
+    for entry in &all {
+        let mut frame = Vec::new(alloc);
+        entry.write(alloc, &mut frame)?;
+        frames.push(frame)?;
+    }
+    Ok((frames, len))
+}
+
+/// Whether an entry has to be seen over its frame: it is about a transaction, and of version 2.
+fn is_seen(frame: &[u8], entry: &Entry) -> bool {
+    match entry.kind() {
+        EntryKind::Snapshot | EntryKind::Row { .. } => false,
+        EntryKind::Fact(_) | EntryKind::PastCommitted(_) | EntryKind::PastAborted(_) => {
+            match frame.get(4) {
+                Some(version) => *version == VERSION,
+                None => false,
             }
         }
     }
 }
 
-/// The entry whose frame a word is.
-pub fn entry(alloc: Global, word: &[u8]) -> Result<Entry, Stop> {
-    let bytes = words::bytes(alloc, word)?;
-    let (all, _len) = entries(alloc, &bytes)?;
+/// The frame in front of bytes as it is written today, and what follows it: its entry is seen over the bytes where that can be, as in a
+/// node that reads its record. Empty where it isn't seen and has to be.
+fn first_over_bytes(alloc: Global, bytes: &[u8]) -> Result<Option<(Vec<u8>, &[u8])>, Refusal> {
+    let mut frame = Vec::new(alloc);
+    match view_frame(alloc, bytes) {
+        Ok(Some((entry, after))) => {
+            entry.write(&mut frame)?;
+            return Ok(Some((frame, after)));
+        }
+        Ok(None) => {}
+        Err(refusal) => return Err(refusal),
+    }
+    match take_frame(alloc, bytes) {
+        Ok(Some((entry, after))) => {
+            if !is_seen(bytes, &entry) {
+                entry.write(alloc, &mut frame)?;
+            }
+            Ok(Some((frame, after)))
+        }
+        Ok(None) => Ok(None),
+        Err(refusal) => Err(refusal),
+    }
+}
+
+/// What `frames_by_value` says, over bytes.
+fn frames_over_bytes(alloc: Global, bytes: &[u8]) -> Result<(Vec<Vec<u8>>, usize), Refusal> {
+    let mut frames = Vec::new(alloc);
+    let mut rest = bytes;
+    for _frame in 0..bytes.len() {
+        match first_over_bytes(alloc, rest) {
+            Ok(Some((frame, after))) => {
+                frames.push(frame)?;
+                rest = after;
+            }
+            Ok(None) => return Ok((frames, bytes.len().saturating_sub(rest.len()))),
+            Err(refusal) => return Err(refusal),
+        }
+    }
+    Ok((frames, bytes.len()))
+}
+
+/// How far the whole frames reach, and then a line for each; or the refusal.
+fn say_frames(
+    read: Result<(Vec<Vec<u8>>, usize), Refusal>,
+    page: &mut Page,
+) -> Result<(), Stop> {
+    match read {
+        Ok((frames, len)) => {
+            page.number(len as u64)?;
+            page.end_line()?;
+            for frame in &frames {
+                page.bytes(b"frame")?;
+                page.hex(frame)?;
+                page.end_line()?;
+            }
+            Ok(())
+        }
+        Err(Refusal::NoMemory) => Err(Stop::Wanted),
+        Err(refusal) => {
+            page.refusal(refusal)?;
+            page.end_line()
+        }
+    }
+}
+
+/// The bytes that a line says to read.
+fn bytes_to_read(alloc: Global, line: &[u8]) -> Result<Vec<u8>, Stop> {
+    let (verb, rest) = words::cut(line);
+    if verb != b"read".as_slice() {
+        return Err(Stop::Unread);
+    }
+    words::bytes(alloc, rest)
+}
+
+impl Part for ByValue<Frames> {
+    fn call(&mut self, alloc: Global, line: &[u8], page: &mut Page) -> Result<(), Stop> {
+        let bytes = bytes_to_read(alloc, line)?;
+        say_frames(frames_by_value(alloc, &bytes), page)
+    }
+}
+
+impl Way for ByValue<Frames> {
+    fn look(&self, _alloc: Global, _page: &mut Page) -> Result<(), Stop> {
+        Ok(())
+    }
+}
+
+impl Part for OverBytes<Frames> {
+    fn call(&mut self, alloc: Global, line: &[u8], page: &mut Page) -> Result<(), Stop> {
+        let bytes = bytes_to_read(alloc, line)?;
+        say_frames(frames_over_bytes(alloc, &bytes), page)
+    }
+}
+
+impl Way for OverBytes<Frames> {
+    fn look(&self, _alloc: Global, _page: &mut Page) -> Result<(), Stop> {
+        Ok(())
+    }
+}
+
+/// The entry of a frame.
+fn entry_of(alloc: Global, frame: &[u8]) -> Result<Entry, Stop> {
+    let (all, _len) = entries(alloc, frame)?;
     for entry in all {
         return Ok(entry);
     }
     Err(Stop::Unread)
 }
 
-/// The fact whose frame a word is.
-pub fn fact(alloc: Global, word: &[u8]) -> Result<Fact, Stop> {
-    match entry(alloc, word)?.into_kind() {
+/// The entry whose frame a word is.
+pub fn entry(alloc: Global, word: &[u8]) -> Result<Entry, Stop> {
+    entry_of(alloc, &words::bytes(alloc, word)?)
+}
+
+/// The fact of a frame, built.
+pub fn built(alloc: Global, frame: &[u8]) -> Result<Fact, Stop> {
+    match entry_of(alloc, frame)?.into_kind() {
         EntryKind::Fact(kind) => Ok(Fact::new(kind)),
         _ => Err(Stop::Unread),
     }
+}
+
+/// The fact whose frame a word is.
+pub fn fact(alloc: Global, word: &[u8]) -> Result<Fact, Stop> {
+    built(alloc, &words::bytes(alloc, word)?)
+}
+
+/// A fact of a record as a node reads it.
+#[derive(Drop)]
+pub enum Found<'a> {
+    /// It is seen over its frame.
+    Seen(FactView<'a>),
+    /// It is built, since its frame is of version 1.
+    Built(Fact),
+}
+
+/// The fact of a frame, as a node reads it.
+pub fn read(alloc: Global, frame: &[u8]) -> Result<Found<'_>, Stop> {
+    match view_frame(alloc, frame) {
+        Ok(Some((EntryView::Fact(fact), _))) => return Ok(Found::Seen(fact)),
+        Ok(Some(_)) => return Err(Stop::Unread),
+        Ok(None) => {}
+        Err(refusal) => return Err(refusal.into()),
+    }
+    if is_seen(frame, &entry_of(alloc, frame)?) {
+        return Err(Stop::Unread);
+    }
+    Ok(Found::Built(built(alloc, frame)?))
 }
 
 /// What a failing record leaves.

@@ -1,0 +1,154 @@
+//! What is seen of a message over its bytes, in the words of a trace.
+
+use crate::page::Page;
+use crate::stop::Stop;
+use protocol::NodeId;
+use wire::{MessageView, Rest, SpelledTx, accepts_of, reports_of};
+use xid::{Ballot, ManagerNumber, Vote};
+
+/// A transaction, by the names of its branches.
+fn say_tx(tx: &SpelledTx<'_>, page: &mut Page) -> Result<(), Stop> {
+    for i in 0..tx.count() {
+        let rm = tx.rm(i);
+        let Some(xid) = tx.branch(rm) else {
+            return Err(Stop::Unread);
+        };
+        if i == 0 {
+            page.number(u64::from(xid.format()))?;
+            page.bytes(b":")?;
+            page.digits(xid.gtrid())?;
+            page.bytes(b"/")?;
+        } else {
+            page.bytes(b",")?;
+        }
+        page.plain_number(u64::from(rm))?;
+        page.bytes(b"=")?;
+        page.digits(xid.bqual())?;
+    }
+    Ok(())
+}
+
+/// The word of a vote.
+fn vote_word(vote: Vote) -> &'static [u8] {
+    match vote {
+        Vote::Prepared => b"prepared",
+        Vote::Aborted => b"aborted",
+    }
+}
+
+/// An instance, after a space.
+fn say_instance(instance: ManagerNumber, page: &mut Page) -> Result<(), Stop> {
+    page.bytes(b" r")?;
+    page.plain_number(u64::from(instance))
+}
+
+/// A ballot and a vote, each after a mark.
+fn say_value(mark: &[u8], ballot: Ballot, vote: Vote, page: &mut Page) -> Result<(), Stop> {
+    page.bytes(mark)?;
+    page.plain_number(u64::from(ballot))?;
+    page.bytes(mark)?;
+    page.bytes(vote_word(vote))
+}
+
+/// What was accepted last, after a mark.
+fn say_report(mark: &[u8], report: Option<(Ballot, Vote)>, page: &mut Page) -> Result<(), Stop> {
+    match report {
+        Some((ballot, vote)) => say_value(mark, ballot, vote, page),
+        None => {
+            page.bytes(mark)?;
+            page.bytes(b"none")
+        }
+    }
+}
+
+/// A message's kind and its transaction.
+fn begin(kind: &[u8], tx: &SpelledTx<'_>, page: &mut Page) -> Result<(), Stop> {
+    page.word(kind)?;
+    say_tx(tx, page)
+}
+
+/// What a message of phase 1 or 2 of one instance says.
+fn say_single(tx: &SpelledTx<'_>, rest: Rest<'_>, page: &mut Page) -> Result<(), Stop> {
+    match rest {
+        Rest::P1a { instance, ballot } => {
+            begin(b"p1a", tx, page)?;
+            say_instance(instance, page)?;
+            page.number(u64::from(ballot))
+        }
+        Rest::P1b {
+            instance,
+            ballot,
+            report,
+            acceptor,
+        } => {
+            begin(b"p1b", tx, page)?;
+            say_instance(instance, page)?;
+            page.number(u64::from(ballot))?;
+            say_report(b" ", report, page)?;
+            page.node(NodeId::A(acceptor))
+        }
+        Rest::P2a {
+            instance,
+            ballot,
+            vote,
+        } => {
+            begin(b"p2a", tx, page)?;
+            say_instance(instance, page)?;
+            say_value(b" ", ballot, vote, page)
+        }
+        Rest::P2b {
+            instance,
+            ballot,
+            vote,
+            acceptor,
+        } => {
+            begin(b"p2b", tx, page)?;
+            say_instance(instance, page)?;
+            say_value(b" ", ballot, vote, page)?;
+            page.node(NodeId::A(acceptor))
+        }
+        _ => Err(Stop::Unread),
+    }
+}
+
+/// What a message says.
+pub fn say(message: &MessageView<'_>, page: &mut Page) -> Result<(), Stop> {
+    let tx = message.tx();
+    match message.rest() {
+        Rest::Prepare => begin(b"prepare", tx, page),
+        Rest::Commit => begin(b"commit", tx, page),
+        Rest::Abort => begin(b"abort", tx, page),
+        Rest::Ask { rm } => {
+            begin(b"ask", tx, page)?;
+            say_instance(rm, page)
+        }
+        Rest::B1a { ballot } => {
+            begin(b"b1a", tx, page)?;
+            page.number(u64::from(ballot))
+        }
+        Rest::B1b {
+            ballot,
+            acceptor,
+            reports,
+        } => {
+            begin(b"b1b", tx, page)?;
+            page.number(u64::from(ballot))?;
+            page.node(NodeId::A(acceptor))?;
+            for item in reports_of(reports).as_slice() {
+                say_instance(item.instance, page)?;
+                say_report(b":", item.report, page)?;
+            }
+            Ok(())
+        }
+        Rest::B2b { acceptor, accepts } => {
+            begin(b"b2b", tx, page)?;
+            page.node(NodeId::A(acceptor))?;
+            for item in accepts_of(accepts).as_slice() {
+                say_instance(item.instance, page)?;
+                say_value(b":", item.ballot, item.vote, page)?;
+            }
+            Ok(())
+        }
+        rest => say_single(tx, rest, page),
+    }
+}

@@ -1,0 +1,97 @@
+//! Parts that each line calls in two ways: by value, and over bytes as nodes do. Both have to come to the same.
+
+use crate::calls::{Part, run_calls};
+use crate::page::Page;
+use crate::stop::Stop;
+use std::alloc::Global;
+
+/// A way to call a part.
+pub trait Way: Part {
+    /// Prints what can be seen of the part, which stays as it is.
+    fn look(&self, alloc: Global, page: &mut Page) -> Result<(), Stop>;
+}
+
+/// A part that is called by value: facts, messages and entries are built.
+#[derive(Drop)]
+pub struct ByValue<T>(pub T);
+
+/// A part that is called over bytes: facts, messages and entries are seen over those that spell them.
+#[derive(Drop)]
+pub struct OverBytes<T>(pub T);
+
+/// A part in each way, and what is printed of each.
+#[derive(Drop)]
+struct Both<P, Q> {
+    one: P,
+    other: Q,
+    first: Page,
+    second: Page,
+}
+
+/// Makes each call in turn, in both ways.
+pub fn run_both<P: Way + Drop, Q: Way + Drop>(
+    one: P,
+    other: Q,
+    alloc: Global,
+    calls: &[String],
+    page: &mut Page,
+) -> Result<(), Stop> {
+    let first = Page::new(alloc)?;
+    let second = Page::new(alloc)?;
+    let mut both = Both {
+        one,
+        other,
+        first,
+        second,
+    };
+    run_calls(&mut both, alloc, calls, page)
+}
+
+/// What was done behind a call that can't be made again: where it wanted memory, the case ends.
+fn behind(done: Result<(), Stop>) -> Result<(), Stop> {
+    match done {
+        Err(Stop::Wanted) => Err(Stop::Ended),
+        done => done,
+    }
+}
+
+/// Makes a call behind that of the other way. Where memory is refused it makes the call again.
+fn call_behind<P: Part>(
+    part: &mut P,
+    alloc: Global,
+    line: &[u8],
+    page: &mut Page,
+) -> Result<(), Stop> {
+    match part.call(alloc, line, page) {
+        Err(Stop::Wanted) => behind(part.call(alloc, line, page)),
+        done => done,
+    }
+}
+
+/// Where two ways print different things, prints a line that is never right, and both.
+pub fn agree(first: &Page, second: &Page, page: &mut Page) -> Result<(), Stop> {
+    if first.text() == second.text() {
+        return Ok(());
+    }
+    page.bytes(b"the two ways differ:\n")?;
+    page.bytes(first.text())?;
+    page.bytes(b"and\n")?;
+    page.bytes(second.text())
+}
+
+impl<P: Way, Q: Way> Part for Both<P, Q> {
+    /// Makes the call in both ways, looks at both parts, and prints what came of the call by value.
+    fn call(&mut self, alloc: Global, line: &[u8], page: &mut Page) -> Result<(), Stop> {
+        self.first.clear();
+        self.one.call(alloc, line, &mut self.first)?;
+        self.second.clear();
+        call_behind(&mut self.other, alloc, line, &mut self.second)?;
+        page.bytes(self.first.text())?;
+        agree(&self.first, &self.second, page)?;
+        self.first.clear();
+        behind(self.one.look(alloc, &mut self.first))?;
+        self.second.clear();
+        behind(self.other.look(alloc, &mut self.second))?;
+        agree(&self.first, &self.second, page)
+    }
+}
