@@ -88,6 +88,12 @@ fn hear_over_bytes(
     say_reply(&decision.reply, page)
 }
 
+/// All that it is made of.
+fn say_parts(acceptor: &Acceptor, alloc: Global, page: &mut Page) -> Result<(), Stop> {
+    let parts = format!(in alloc; "{acceptor:?}")?;
+    page.word(parts.as_bytes())
+}
+
 impl Part for ByValue<Acceptor> {
     fn call(&mut self, alloc: Global, line: &[u8], page: &mut Page) -> Result<(), Stop> {
         let (verb, rest) = words::cut(line);
@@ -97,15 +103,15 @@ impl Part for ByValue<Acceptor> {
                 let played = self.0.replay(&records::fact(alloc, rest)?);
                 page.played(played)
             }
-            b"shorter" => self.look(alloc, page),
+            b"shorter" => page.facts(&wanted(self.0.shorter())?),
             _ => Err(Stop::Unread),
         }
     }
 }
 
 impl Way for ByValue<Acceptor> {
-    /// The facts of its shorter record.
-    fn look(&self, _alloc: Global, page: &mut Page) -> Result<(), Stop> {
+    fn look(&self, alloc: Global, page: &mut Page) -> Result<(), Stop> {
+        say_parts(&self.0, alloc, page)?;
         page.facts(&wanted(self.0.shorter())?)
     }
 }
@@ -124,15 +130,15 @@ impl Part for OverBytes<Acceptor> {
                 };
                 page.played(played)
             }
-            b"shorter" => self.look(alloc, page),
+            b"shorter" => page.frames(&wanted(self.0.shorter_frames())?),
             _ => Err(Stop::Unread),
         }
     }
 }
 
 impl Way for OverBytes<Acceptor> {
-    /// The frames of its shorter record.
-    fn look(&self, _alloc: Global, page: &mut Page) -> Result<(), Stop> {
+    fn look(&self, alloc: Global, page: &mut Page) -> Result<(), Stop> {
+        say_parts(&self.0, alloc, page)?;
         page.frames(&wanted(self.0.shorter_frames())?)
     }
 }

@@ -51,11 +51,7 @@ pub fn message(alloc: Global, words: &[u8]) -> Result<Message, Stop> {
 }
 
 /// The bytes of the message that words say, in front, and how many they are.
-pub fn datagram(
-    alloc: Global,
-    words: &[u8],
-    bytes: &mut [u8; MAX_DATAGRAM],
-) -> Result<usize, Stop>
+pub fn datagram(alloc: Global, words: &[u8], bytes: &mut [u8; MAX_DATAGRAM]) -> Result<usize, Stop>
     ensures { IfOk result (λ len. len ≤ MAX_MESSAGE_BYTES) }
 {
     Ok(encode(&message(alloc, words)?, bytes))

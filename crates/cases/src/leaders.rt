@@ -96,6 +96,12 @@ fn hear(leader: &mut Leader, alloc: Global, words: &[u8], page: &mut Page) -> Re
     say(answer, &fact, &sends, page)
 }
 
+/// All that it is made of.
+fn say_parts(leader: &Leader, alloc: Global, page: &mut Page) -> Result<(), Stop> {
+    let parts = format!(in alloc; "{leader:?}")?;
+    page.word(parts.as_bytes())
+}
+
 impl Part for ByValue<Leader> {
     fn call(&mut self, alloc: Global, line: &[u8], page: &mut Page) -> Result<(), Stop> {
         let (verb, rest) = words::cut(line);
@@ -105,7 +111,7 @@ impl Part for ByValue<Leader> {
                 let played = self.0.play(records::fact(alloc, rest)?);
                 page.played(played)
             }
-            b"shorter" => self.look(alloc, page),
+            b"shorter" => page.facts(&wanted(self.0.shorter())?),
             _ => {
                 let LeaderDecision {
                     answer,
@@ -119,8 +125,8 @@ impl Part for ByValue<Leader> {
 }
 
 impl Way for ByValue<Leader> {
-    /// The facts of its shorter record.
-    fn look(&self, _alloc: Global, page: &mut Page) -> Result<(), Stop> {
+    fn look(&self, alloc: Global, page: &mut Page) -> Result<(), Stop> {
+        say_parts(&self.0, alloc, page)?;
         page.facts(&wanted(self.0.shorter())?)
     }
 }
@@ -164,15 +170,15 @@ impl Part for InPlace {
                 };
                 page.played(played)
             }
-            b"shorter" => self.look(alloc, page),
+            b"shorter" => page.frames(&wanted(self.leader.shorter_frames())?),
             _ => self.ask(verb, rest, page),
         }
     }
 }
 
 impl Way for InPlace {
-    /// The frames of its shorter record.
-    fn look(&self, _alloc: Global, page: &mut Page) -> Result<(), Stop> {
+    fn look(&self, alloc: Global, page: &mut Page) -> Result<(), Stop> {
+        say_parts(&self.leader, alloc, page)?;
         page.frames(&wanted(self.leader.shorter_frames())?)
     }
 }

@@ -157,13 +157,10 @@ fn say_shorter(manager: &ResourceManager, alloc: Global, page: &mut Page) -> Res
     Ok(())
 }
 
-/// What else can be seen of it: its prepared branches and transactions.
-fn say_kept(manager: &ResourceManager, alloc: Global, page: &mut Page) -> Result<(), Stop> {
-    page.answer(wanted(manager.recover())?)?;
-    for tx in &wanted(manager.open_transactions(alloc))? {
-        page.tx(tx)?;
-    }
-    page.end_line()
+/// All that it is made of.
+fn say_parts(manager: &ResourceManager, alloc: Global, page: &mut Page) -> Result<(), Stop> {
+    let parts = format!(in alloc; "{manager:?}")?;
+    page.word(parts.as_bytes())
 }
 
 /// A call of which there is one way.
@@ -205,8 +202,8 @@ impl Part for ByValue<ResourceManager> {
 
 impl Way for ByValue<ResourceManager> {
     fn look(&self, alloc: Global, page: &mut Page) -> Result<(), Stop> {
-        say_shorter(&self.0, alloc, page)?;
-        say_kept(&self.0, alloc, page)
+        say_parts(&self.0, alloc, page)?;
+        say_shorter(&self.0, alloc, page)
     }
 }
 
@@ -232,7 +229,7 @@ impl Part for OverBytes<ResourceManager> {
 
 impl Way for OverBytes<ResourceManager> {
     fn look(&self, alloc: Global, page: &mut Page) -> Result<(), Stop> {
-        page.frames(&wanted(self.0.shorter_frames(alloc))?)?;
-        say_kept(&self.0, alloc, page)
+        say_parts(&self.0, alloc, page)?;
+        page.frames(&wanted(self.0.shorter_frames(alloc))?)
     }
 }

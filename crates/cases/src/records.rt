@@ -89,10 +89,7 @@ fn frames_over_bytes(alloc: Global, bytes: &[u8]) -> Result<(Vec<Vec<u8>>, usize
 }
 
 /// How far the whole frames reach, and then a line for each; or the refusal.
-fn say_frames(
-    read: Result<(Vec<Vec<u8>>, usize), Refusal>,
-    page: &mut Page,
-) -> Result<(), Stop> {
+fn say_frames(read: Result<(Vec<Vec<u8>>, usize), Refusal>, page: &mut Page) -> Result<(), Stop> {
     match read {
         Ok((frames, len)) => {
             page.number(len as u64)?;

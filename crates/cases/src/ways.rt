@@ -62,8 +62,12 @@ fn call_behind<P: Part>(
     line: &[u8],
     page: &mut Page,
 ) -> Result<(), Stop> {
-    match part.call(alloc, line, page) {
+    let done = match part.call(alloc, line, page) {
         Err(Stop::Wanted) => behind(part.call(alloc, line, page)),
+        done => done,
+    };
+    match done {
+        Err(Stop::Unread) => page.bytes(b" ?\n"),
         done => done,
     }
 }
