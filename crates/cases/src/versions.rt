@@ -131,19 +131,18 @@ fn look(node: &mut Node<MemRecord>, page: &mut Page) -> Result<(), Stop> {
     }
 }
 
-/// What a node that is opened over these bytes is, and its record, as it was opened and made shorter.
+/// What a node that is opened over these bytes is, and its record: made shorter, and as it was opened.
 fn say(place: &Place, alloc: Global, bytes: &[u8], page: &mut Page) -> Result<(), Stop> {
     let Some(mut node) = open(place, alloc, bytes, page)? else {
         return page.end_line();
     };
     look(&mut node, page)?;
-    let record = node.into_record();
-    page.hex(record.as_slice())?;
+    node.compact()?;
+    page.hex(node.into_record().as_slice())?;
     page.end_line()?;
-    let Some(mut node) = open(place, alloc, record.as_slice(), page)? else {
+    let Some(node) = open(place, alloc, bytes, page)? else {
         return page.end_line();
     };
-    node.compact()?;
     page.hex(node.into_record().as_slice())?;
     page.end_line()
 }
