@@ -6,7 +6,7 @@ use crate::stop::Stop;
 use crate::{codec, groups, managers, records, versions, words};
 use net_script::{Command, read_script};
 use node_core::{Config, Input, Node, NodeSends, Output};
-use protocol::{Event, NodeId, Request};
+use protocol::{Address, Event, NodeId, Outgoing, Request};
 use stable_record::{Record, Tear};
 use std::alloc::Global;
 use wire::{MAX_DATAGRAM, encode};
@@ -195,31 +195,51 @@ struct Torn<R: Tear> {
     node: Node<R>,
 }
 
-/// What is sent. Where it is spelled already, that is the one message.
-fn say_sends(sends: &NodeSends, page: &mut Page) -> Result<(), Stop> {
-    for i in 0..sends.count() {
-        let outgoing = sends.at(i);
-        page.sent(&outgoing)?;
-        let Some((to, bytes)) = sends.spelled() else {
-            continue;
-        };
-        let spelled = codec::outgoing(to, bytes)?;
-        if spelled != outgoing {
-            page.bytes(b"the two ways differ:\n")?;
-            page.sent(&spelled)?;
-        }
+/// A message by its bytes, where it is spelled.
+fn read(spelled: Option<(Address, &[u8])>) -> Result<Option<Outgoing>, Stop> {
+    match spelled {
+        Some((to, bytes)) => Ok(Some(codec::outgoing(to, bytes)?)),
+        None => Ok(None),
+    }
+}
+
+/// Says where messages that are spelled already aren't what they have to be: what an acceptor sends, and what a resource manager sends on a
+/// datagram, is spelled, one message at a time; what is asked for by `replied` is an acceptor's.
+fn compare(who: NodeId, received: bool, sends: &NodeSends, page: &mut Page) -> Result<(), Stop> {
+    let first = if sends.count() > 0 { Some(sends.at(0)) } else { None };
+    let (replied, spelled) = match who {
+        NodeId::A(_) => (first, first),
+        NodeId::R(_) if received => (None, first),
+        NodeId::R(_) | NodeId::L(_) => (None, None),
+    };
+    if read(sends.replied())? != replied || read(sends.spelled())? != spelled {
+        page.bytes(b"the two ways differ: what is sent, and what is spelled of it\n")?;
     }
     Ok(())
 }
 
-/// What came of an input.
-fn say(output: Output, page: &mut Page) -> Result<(), Stop> {
+/// What is sent on an input.
+fn say_sends(who: NodeId, received: bool, sends: &NodeSends, page: &mut Page) -> Result<(), Stop> {
+    for i in 0..sends.count() {
+        page.sent(&sends.at(i))?;
+    }
+    compare(who, received, sends, page)
+}
+
+/// What came of an input at a node.
+fn say(who: NodeId, input: &Input<'_>, output: Output, page: &mut Page) -> Result<(), Stop> {
     let Output { reply, now, sends } = output;
     page.finished_answer(reply)?;
     if let Some(change) = now {
         page.change(change)?;
     }
-    say_sends(&sends, page)
+    say_sends(who, matches!(input, Input::Received(_)), &sends, page)
+}
+
+/// A node is handed an input.
+fn hand<R: Record + Drop>(node: &mut Node<R>, input: Input<'_>, page: &mut Page) -> Result<(), Stop> {
+    let output = node.step(input);
+    say(node.id(), &input, output, page)
 }
 
 /// Where the node stands in a transaction.
@@ -254,9 +274,9 @@ fn group<R: Record + Drop>(
         Ok(()) => page.finished(Ok(()))?,
         Err(error) => page.finished(Err(error.into()))?,
     }
-    for output in outs {
+    for (input, output) in inputs.iter().zip(outs) {
         page.bytes(b"came ->")?;
-        say(output, page)?;
+        say(node.id(), input, output, page)?;
     }
     Ok(())
 }
@@ -285,16 +305,16 @@ fn call_node<R: Record + Drop>(
     match verb {
         b"ask" => {
             let request = request(alloc, rest)?;
-            say(node.step(Input::Asked(&request)), page)
+            hand(node, Input::Asked(&request), page)
         }
         b"hear" => {
             let mut bytes = [0; MAX_DATAGRAM];
             let len = encode(&codec::message(alloc, rest)?, &mut bytes);
-            say(node.step(Input::Received(&bytes[..len])), page)
+            hand(node, Input::Received(&bytes[..len]), page)
         }
         b"take" => {
             let bytes = words::bytes(alloc, rest)?;
-            say(node.step(Input::Received(&bytes)), page)
+            hand(node, Input::Received(&bytes), page)
         }
         b"restart" => page.finished(node.restart()),
         b"compact" => page.finished(node.compact()),
