@@ -5,6 +5,7 @@ mod Uses
 mod Found
 mod Hindered
 pub mod TableRows
+mod InLine
 mod SortedRows
 pub mod RowLimits
 mod PlaceTable

@@ -1,7 +1,7 @@
-//! Rows sorted by their keys. To compare keys takes long, so a number that holds eight bytes of each is sorted first, and the rows are
-//! brought into the order of these.
+//! Rows sorted by their keys. To compare keys takes long, so many rows are brought into order by numbers, each of which holds eight bytes
+//! of a key.
 
-ghost use Rattle.std.specs.Prelude.{◌≡◌};
+ghost use Rattle.std.specs.Prelude.{◌≡◌, true, reverse};
 ghost use Rattle.std.specs.Ordering.{nat_cmp};
 ghost use Rattle.std.specs.Cmp.Lexicographic.{slice_cmp};
 ghost use Rattle.std.specs.List.Sorted.{IsPermutation, IsSortedByKey};
@@ -10,6 +10,15 @@ use protocol::Row;
 use std::alloc::Global;
 use std::cmp::Ordering;
 use xid::Refusal;
+
+/// Fewer rows than this are sorted by whole keys alone.
+const MANY_ROWS: usize = 64;
+
+/// So many fronts that tie, or fewer, are sorted by whole keys.
+const FEW_TIES: usize = 8;
+
+/// How many times eight bytes of a key are looked at, at most.
+const MOST_ROUNDS: u32 = 8;
 
 /// Eight bytes of the key of a row as a number, and the row's place.
 #[derive(Clone, Copy)]
@@ -30,39 +39,39 @@ fn shared_by(first: &[u8], key: &[u8], most: usize) -> usize {
         .count()
 }
 
-/// Where eight bytes stand that tell keys apart: behind those with which all begin, or where the shortest has but eight left.
-fn front_of(rows: &[Row]) -> usize {
-    let Some(first) = rows.first() else {
-        return 0;
-    };
-    let first = first.key.as_slice();
-    let mut same = first.len();
-    let mut shortest = first.len();
-    for row in rows {
-        let key = row.key.as_slice();
-        same = shared_by(first, key, same);
-        shortest = shortest.min(key.len());
+/// The bytes of the key of a row from one on.
+fn rest_of(rows: &[Row], place: usize, from: usize) -> &[u8] {
+    match rows.get(place) {
+        Some(row) => {
+            let key = row.key.as_slice();
+            &key[from.min(key.len())..]
+        }
+        None => &[],
     }
-    same.min(shortest.saturating_sub(8))
 }
 
-/// The eight bytes from a place on as a number, the first the highest. Zeros stand for those that aren't there.
-fn word_at(key: &[u8], at: usize) -> u64 {
-    if key.len().saturating_sub(at) >= 8 {
+/// How many bytes are the same in all keys of fronts, from one on.
+fn shared(rows: &[Row], fronts: &[Front], from: usize) -> usize {
+    let Some(first) = fronts.first() else {
+        return 0;
+    };
+    let first = rest_of(rows, first.place, from);
+    let mut same = first.len();
+    for front in fronts {
+        same = shared_by(first, rest_of(rows, front.place, from), same);
+    }
+    same
+}
+
+/// The first eight bytes as a number, the first the highest. Zeros stand for those that aren't there.
+fn word_of(bytes: &[u8]) -> u64 {
+    if bytes.len() >= 8 {
         return u64::from_be_bytes([
-            key[at],
-            key[at + 1],
-            key[at + 2],
-            key[at + 3],
-            key[at + 4],
-            key[at + 5],
-            key[at + 6],
-            key[at + 7],
+            bytes[0], bytes[1], bytes[2], bytes[3], bytes[4], bytes[5], bytes[6], bytes[7],
         ]);
     }
     let mut word = [0; 8];
-    let rest = &key[at.min(key.len())..];
-    word[..rest.len()].copy_from_slice(rest);
+    word[..bytes.len()].copy_from_slice(bytes);
     u64::from_be_bytes(word)
 }
 
@@ -73,29 +82,40 @@ fn by_key(one: &Row, other: &Row) -> Ordering
     one.key.as_slice().cmp(other.key.as_slice())
 }
 
-/// The order of two rows by their fronts, and where these are the same, by their keys.
-fn by_front(rows: &[Row], one: &Front, other: &Front) -> Ordering {
-    match one.bytes.cmp(&other.bytes) {
-        Ordering::Less => Ordering::Less,
-        Ordering::Greater => Ordering::Greater,
-        Ordering::Equal => match (rows.get(one.place), rows.get(other.place)) {
-            (Some(one), Some(other)) => by_key(one, other),
-            _ => Ordering::Equal,
-        },
+/// The order of the rows of two fronts by their keys.
+fn by_row(rows: &[Row], one: &Front, other: &Front) -> Ordering {
+    match (rows.get(one.place), rows.get(other.place)) {
+        (Some(one), Some(other)) => by_key(one, other),
+        _ => Ordering::Equal,
     }
 }
 
-/// The fronts of rows, in their order.
+/// Sorts fronts whose keys have the same bytes before `from`: by eight bytes behind those that all share, and where these are the same, by
+/// the bytes behind. Few that tie, and those that tie in all rounds, are sorted by whole keys.
+fn order(rows: &[Row], fronts: &mut [Front], from: usize, rounds: u32) {
+    if fronts.len() <= FEW_TIES || rounds == 0 {
+        fronts.sort_unstable_by(|one, other| by_row(rows, one, other));
+        return;
+    }
+    let at = from.saturating_add(shared(rows, fronts, from));
+    for front in fronts.iter_mut() {
+        front.bytes = word_of(rest_of(rows, front.place, at));
+    }
+    fronts.sort_unstable_by(|one, other| one.bytes.cmp(&other.bytes));
+    for ties in fronts.chunk_by_mut(|one, other| one.bytes == other.bytes) {
+        if ties.len() > 1 {
+            order(rows, ties, at.saturating_add(8), rounds - 1);
+        }
+    }
+}
+
+/// The fronts of rows, in the order of their keys.
 fn fronts(alloc: Global, rows: &[Row]) -> Result<Vec<Front>, Refusal> {
-    let at = front_of(rows);
     let mut fronts = Vec::with_capacity(alloc, rows.len())?;
     for place in 0..rows.len() {
-        fronts.push(Front {
-            bytes: word_at(rows[place].key.as_slice(), at),
-            place,
-        })?;
+        fronts.push(Front { bytes: 0, place })?;
     }
-    fronts.sort_unstable_by(|one, other| by_front(rows, one, other));
+    order(rows, &mut fronts, 0, MOST_ROUNDS);
     Ok(fronts)
 }
 
@@ -128,32 +148,54 @@ fn arranged(mut rows: Vec<Row>, mut order: Vec<Front>) -> Vec<Row>
     rows
 }
 
-/// Whether the keys of rows ascend as they stand, or descend.
-fn are_in_line(rows: &[Row]) -> bool {
-    rows.is_sorted_by(|one, other| by_key(one, other).is_le())
-        || rows.is_sorted_by(|one, other| by_key(one, other).is_ge())
-}
-
-/// Rows in the order of their fronts, where this helps and there is memory to find it out.
+/// Rows in the order of their fronts, where there is memory to find it out.
 fn by_fronts(alloc: Global, rows: Vec<Row>) -> Vec<Row>
     ensures { IsPermutation rows.items result.items }
 {
-    if are_in_line(&rows) {
-        return rows;
-    }
     match fronts(alloc, &rows) {
         Ok(order) => arranged(rows, order),
         Err(_) => rows,
     }
 }
 
-/// Rows in the order of their keys.
-pub fn sorted_by_keys(alloc: Global, rows: Vec<Row>) -> Vec<Row>
+/// Whether keys ascend as the rows stand.
+fn keys_ascend(rows: &[Row]) -> bool
+    ensures { result ≡ true → IsSortedByKey (λ row. row.key) (slice_cmp nat_cmp) rows.now }
+{
+    rows.is_sorted_by(|one, other| by_key(other, one).is_ge())
+}
+
+/// Whether keys descend as the rows stand.
+fn keys_descend(rows: &[Row]) -> bool
+    ensures { result ≡ true → IsSortedByKey (λ row. row.key) (slice_cmp nat_cmp) (reverse rows.now) }
+{
+    rows.is_sorted_by(|one, other| by_key(one, other).is_ge())
+}
+
+/// Rows sorted by their whole keys.
+fn sorted_whole(mut rows: Vec<Row>) -> Vec<Row>
     ensures permutation { IsPermutation rows.items result.items }
     ensures sorted { IsSortedByKey (λ row. row.key) (slice_cmp nat_cmp) result.items }
 {
-    let mut rows = by_fronts(alloc, rows);
-    // no clause says that fronts ascend as keys do: it is found out in one pass
     rows.sort_unstable_by(|one, other| by_key(one, other));
     rows
+}
+
+/// Rows in the order of their keys.
+pub fn sorted_by_keys(alloc: Global, mut rows: Vec<Row>) -> Vec<Row>
+    ensures permutation { IsPermutation rows.items result.items }
+    ensures sorted { IsSortedByKey (λ row. row.key) (slice_cmp nat_cmp) result.items }
+{
+    if rows.len() < MANY_ROWS {
+        return sorted_whole(rows);
+    }
+    if keys_ascend(&rows) {
+        return rows;
+    }
+    if keys_descend(&rows) {
+        rows.reverse();
+        return rows;
+    }
+    // no clause says that fronts ascend as keys do: it is found out in one pass
+    sorted_whole(by_fronts(alloc, rows))
 }
