@@ -7,7 +7,7 @@ use stable_record::{Act, Entry, Fact, FactView, SpelledFact, Touched};
 use std::alloc::Global;
 use std::io::{self, Write};
 use wire::{Message, take_number};
-use xid::{Refusal, Sequence, Tx};
+use xid::{Refusal, Sequence, Tx, text};
 
 /// How much is printed of a case without asking for memory again.
 const ROOM: usize = 65536;
@@ -88,8 +88,7 @@ impl Page {
 
     /// Bytes as hex digits.
     pub fn digits(&mut self, bytes: &[u8]) -> Result<(), Stop> {
-        let digits = hex::encode(self.alloc, bytes)?;
-        self.bytes(digits.as_bytes())
+        Ok(text::put_hex(bytes, &mut self.text)?)
     }
 
     /// A refusal after a space.
@@ -288,12 +287,11 @@ impl Page {
         for row in rows {
             self.hex(row.key.as_slice())?;
             self.bytes(b"=")?;
-            let value = hex::encode(self.alloc, row.value.as_slice())?;
-            self.bytes(if row.value.as_slice().is_empty() {
-                b"-"
+            if row.value.as_slice().is_empty() {
+                self.bytes(b"-")?;
             } else {
-                value.as_bytes()
-            })?;
+                self.digits(row.value.as_slice())?;
+            }
         }
         Ok(())
     }
