@@ -27,7 +27,7 @@ try: proof-tools
 test: test-tools
 	tools/definitions.py --check
 	tools/pages.py --check
-	rt ci
+	tools/ci.py
 	@mkdir -p bin
 	@cp crates/pcommit/out/pcommit bin/pcommit
 	$(MAKE) scripts
