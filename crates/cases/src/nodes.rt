@@ -206,7 +206,11 @@ fn read(spelled: Option<(Address, &[u8])>) -> Result<Option<Outgoing>, Stop> {
 /// Says where messages that are spelled already aren't what they have to be: what an acceptor sends, and what a resource manager sends on a
 /// datagram, is spelled, one message at a time; what is asked for by `replied` is an acceptor's.
 fn compare(who: NodeId, received: bool, sends: &NodeSends, page: &mut Page) -> Result<(), Stop> {
-    let first = if sends.count() > 0 { Some(sends.at(0)) } else { None };
+    let first = if sends.count() > 0 {
+        Some(sends.at(0))
+    } else {
+        None
+    };
     let (replied, spelled) = match who {
         NodeId::A(_) => (first, first),
         NodeId::R(_) if received => (None, first),
@@ -237,7 +241,11 @@ fn say(who: NodeId, input: &Input<'_>, output: Output, page: &mut Page) -> Resul
 }
 
 /// A node is handed an input.
-fn hand<R: Record + Drop>(node: &mut Node<R>, input: Input<'_>, page: &mut Page) -> Result<(), Stop> {
+fn hand<R: Record + Drop>(
+    node: &mut Node<R>,
+    input: Input<'_>,
+    page: &mut Page,
+) -> Result<(), Stop> {
     let output = node.step(input);
     say(node.id(), &input, output, page)
 }
