@@ -157,12 +157,6 @@ fn say_shorter(manager: &ResourceManager, alloc: Global, page: &mut Page) -> Res
     Ok(())
 }
 
-/// All that it is made of.
-fn say_parts(manager: &ResourceManager, alloc: Global, page: &mut Page) -> Result<(), Stop> {
-    let parts = format!(in alloc; "{manager:?}")?;
-    page.word(parts.as_bytes())
-}
-
 /// A call of which there is one way.
 fn call_plain(
     manager: &mut ResourceManager,
@@ -200,9 +194,9 @@ impl Part for ByValue<ResourceManager> {
     }
 }
 
+// what it would print of itself counts looks, more of them where a call was refused memory and made again
 impl Way for ByValue<ResourceManager> {
     fn look(&self, alloc: Global, page: &mut Page) -> Result<(), Stop> {
-        say_parts(&self.0, alloc, page)?;
         say_shorter(&self.0, alloc, page)
     }
 }
@@ -229,7 +223,6 @@ impl Part for OverBytes<ResourceManager> {
 
 impl Way for OverBytes<ResourceManager> {
     fn look(&self, alloc: Global, page: &mut Page) -> Result<(), Stop> {
-        say_parts(&self.0, alloc, page)?;
         page.frames(&wanted(self.0.shorter_frames(alloc))?)
     }
 }
