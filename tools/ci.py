@@ -1,6 +1,6 @@
 #!/usr/bin/env python3
-"""Runs `rt ci`, says what it says, and fails where it fails, or where an edit of a must-fail folder wasn't tried or is bad: one that can't be
-applied or doesn't compile shows nothing, and `rt ci` alone passes it over. Such edits are named last."""
+"""Runs `rt ci`, says what it says, and fails where it fails, or where a must-fail edit wasn't tried or is bad: one that can't be applied or
+doesn't compile shows nothing, and `rt ci` alone passes it over. Such edits are named last."""
 import re
 import subprocess
 import sys
