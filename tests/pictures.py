@@ -1,8 +1,9 @@
 #!/usr/bin/env python3
-"""Draws traces with the built program and looks at the pictures: `tests/pictures.py [PROGRAM]`. Each golden trace, each of runs over sockets
-and each of tests/pictures is drawn, and what stands in the picture is worked out again from the trace: its lines, an arrow for each
-datagram that was taken, a stroke for each that was lost or never taken, a band for each view, and a link for each event. The pictures in
-docs/pictures and tests/pictures are compared as a whole. Then what is refused. The last line is 'N passed, M failed'."""
+"""Draws traces with the built program and looks at the pictures: `tests/pictures.py [PROGRAM]`. Each golden trace, each of runs over
+sockets and each of tests/pictures is drawn, and what stands in the picture is worked out again from the trace: its lines, an arrow for
+each delivery, thick for the first that was taken, a stroke for each datagram that was lost or never taken, a band for each view, and a
+link for each event. The pictures in docs/pictures and tests/pictures are compared as a whole. Then what is refused. The last line is 'N
+passed, M failed'."""
 import os
 import subprocess
 import sys
@@ -70,15 +71,27 @@ class Picture:
         return self.lanes[sender], self.rows[at] if same else self.head(line) + 6, self.lanes[receiver]
 
 
+# the answers that docs/FORMATS.md knows of a delivery, and whether the receiver took the datagram
+TOOK = {"ok": True, "refused 8": False, "refused 11": False}
+
+
+def was_taken(words, following):
+    """Whether a delivery was taken, by its answer. Where the record failed, the next line tells whether what was written stands there."""
+    answer = " ".join(words[words.index("->") + 1:])
+    return following[:1] == ["now"] if answer == "refused 5" else TOOK[answer]
+
+
 def strokes(lines, picture):
     """The strokes of datagrams that the trace asks for."""
     sent, taken, settled, wanted = {}, set(), set(), []
-    for line, words in lines:
+    for (line, words), (_, following) in zip(lines, lines[1:] + [(0, [])]):
         if words[0] == "sent":
             sent[words[1]] = (line, words[2], words[3])
         if words[0] not in ("deliver", "cut", "lose") or words[-2:] == ["refused", "15"]:
             continue
-        settled.add(words[1])
+        counts = words[0] == "deliver" and was_taken(words, following)
+        if counts or words[0] == "lose":
+            settled.add(words[1])
         # a trace that is written by hand may lack the line where a datagram is sent, or have it only later
         if words[1] not in sent:
             continue
@@ -86,9 +99,10 @@ def strokes(lines, picture):
         if words[0] == "lose":
             wanted.append(("lost", x, y, (x + lane) // 2, picture.rows[line]))
             continue
-        again = words[0] == "cut" or words[1] in taken
-        wanted.append(("again" if again else "arrow", x, y, lane, picture.rows[line]))
-        taken.add(words[1])
+        is_first = counts and words[1] not in taken
+        wanted.append(("arrow" if is_first else "again", x, y, lane, picture.rows[line]))
+        if counts:
+            taken.add(words[1])
     for name, (at, sender, receiver) in sent.items():
         if name not in settled:
             x, y = picture.lanes[sender], picture.rows[at]

@@ -12,7 +12,7 @@ use mathlib.Core.Path.{fun_ext}
 use Rattle.picture.specs.declared.datagrams.Role.{Role}
 use Rattle.picture.specs.declared.rows.Row.{Row}
 use Rattle.picture.specs.declared.rows.What.{What}
-use Rattle.picture.specs.declared.rows.What.TheVariants.{Takes, Sends}
+use Rattle.picture.specs.declared.rows.What.TheVariants.{Delivers, Sends}
 use Rattle.picture.specs.Drawing.{is_sent, takes, settles}
 use Rattle.picture.specs.Order.{Ascend}
 use Rattle.picture.specs.Datagrams.{earlier, has_number}
@@ -65,12 +65,13 @@ sends_is number line row what = refl
 
 takes_is : (number line : ℕ) (row : Row) (what : What)
     → (let r : Row = record row { what = what } in takes number line r ≡ (has_number Role.Taken number r && nat_lt row.line line))
-takes_is number line row (Takes other is_whole mark) = refl
+takes_is number line row (Delivers other true mark) = refl
+takes_is number line row (Delivers other false mark) = refl
 takes_is number line row what = refl
 
 settles_is : (number : ℕ) (row : Row) (what : What)
     → (let r : Row = record row { what = what } in settles number r ≡ (has_number Role.Taken number r || has_number Role.Lost number r))
-settles_is number row (Takes other is_whole mark) = with_none (other == number)
+settles_is number row (Delivers other true mark) = with_none (other == number)
   where
     with_none : (b : Bool) → b ≡ (b || false)
     with_none true = refl

@@ -21,18 +21,18 @@ use Rattle.picture.specs.declared.elements.Element.TheVariants.{End, EndLink, He
 use Rattle.picture.specs.declared.happenings.Ends.{Ends}
 use Rattle.picture.specs.declared.rows.Row.{Row}
 use Rattle.picture.specs.declared.rows.What.{What}
-use Rattle.picture.specs.declared.rows.What.TheVariants.{At, Takes, Loses, Misses, Changes, Sends}
+use Rattle.picture.specs.declared.rows.What.TheVariants.{At, Delivers, Loses, Misses, Changes, Sends}
 use Rattle.picture.specs.Places.{beside, node_x, page_of, page_top, picture_width, row_y}
 use Rattle.picture.specs.Rows.{are_several}
 use Rattle.picture.specs.Drawing.{arrow_from, arrow_pen, band_elements, carried_elements, carried_view, change_elements, half_way, is_sent}
 use Rattle.picture.specs.Drawing.{label_element, lane_on, lanes_elements, line_elements, lines_elements, linked_elements, loss_from}
 use Rattle.picture.specs.Drawing.{mark_elements}
 use Rattle.picture.specs.Drawing.{next_line, page_elements, page_note, pages_elements, point, settles, short_way, sign_elements}
-use Rattle.picture.specs.Drawing.{stroke_elements, taken_from, takes, lost_from, whole_way, work_element}
+use Rattle.picture.specs.Drawing.{stroke_elements, delivered_from, takes, lost_from, whole_way, work_element}
 use Rattle.picture.specs.Pictures.{backdrop_elements, elements_of, front_elements, line_count, served_note, tells_of_sockets, trace_rows}
 use Rattle.picture.specs.declared.pictures.TheConstants.{SERVED}
 use Rattle.picture.specs.Drawing.{alone_elements, ends, further, view_before, view_element}
-use Rattle.picture.specs.Ways.{IsSentFrom, IsTaken, IsTrueOf}
+use Rattle.picture.specs.Ways.{IsDelivered, IsSentFrom, IsTrueOf}
 
 -- ---- lists
 
@@ -137,7 +137,7 @@ change_true : (sizes : Sizes) (rows : List Row) (count line : ℕ) (label : List
     → All (IsTrueOf sizes rows) (change_elements count (record { line = line; label = label; what = what }))
 change_true sizes rows count line label (Changes rm view) = band_true sizes rows count (page_of line) rm (row_y line) view
 change_true sizes rows count line label (At node mark) = each sizes rows [] tt
-change_true sizes rows count line label (Takes number is_whole mark) = each sizes rows [] tt
+change_true sizes rows count line label (Delivers number is_taken mark) = each sizes rows [] tt
 change_true sizes rows count line label (Loses number) = each sizes rows [] tt
 change_true sizes rows count line label Misses = each sizes rows [] tt
 change_true sizes rows count line label (Sends number sender receiver) = each sizes rows [] tt
@@ -160,10 +160,10 @@ alone_true : (sizes : Sizes) (rows : List Row) (mark : Mark) (x line : ℕ) (wor
     → All (IsTrueOf sizes rows) (alone_elements mark x line words)
 alone_true sizes rows mark x line words = mark_true sizes rows mark (ends (point x (row_y line)) (point x (row_y line))) words
 
-taken_true : (sizes : Sizes) (rows : List Row) (row : Row) (mark : Mark) (o : Option Row)
-    → All (IsTrueOf sizes rows) (taken_from sizes row mark o)
-taken_true sizes rows row mark None = alone_true sizes rows mark beside row.line row.label
-taken_true sizes rows row mark (Some sent) = mark_true sizes rows mark (whole_way sizes sent row.line) sent.label
+delivered_true : (sizes : Sizes) (rows : List Row) (row : Row) (mark : Mark) (o : Option Row)
+    → All (IsTrueOf sizes rows) (delivered_from sizes row mark o)
+delivered_true sizes rows row mark None = alone_true sizes rows mark beside row.line row.label
+delivered_true sizes rows row mark (Some sent) = mark_true sizes rows mark (whole_way sizes sent row.line) sent.label
 
 lost_true : (sizes : Sizes) (rows : List Row) (row : Row) (o : Option Row) → All (IsTrueOf sizes rows) (lost_from sizes row o)
 lost_true sizes rows row None = alone_true sizes rows Mark.Refusal beside row.line row.label
@@ -172,8 +172,9 @@ lost_true sizes rows row (Some sent) = mark_true sizes rows Mark.Cross (half_way
 sign_true : (sizes : Sizes) (rows : List Row) (line : ℕ) (label : List ℕ) (what : What)
     → All (IsTrueOf sizes rows) (sign_elements sizes rows (record { line = line; label = label; what = what }))
 sign_true sizes rows line label (At node mark) = alone_true sizes rows mark (node_x sizes node) line label
-sign_true sizes rows line label (Takes number is_whole mark) =
-    taken_true sizes rows (record { line = line; label = label; what = Takes number is_whole mark }) mark (find (is_sent number line) rows)
+sign_true sizes rows line label (Delivers number is_taken mark) =
+    delivered_true sizes rows (record { line = line; label = label; what = Delivers number is_taken mark }) mark
+    (find (is_sent number line) rows)
 sign_true sizes rows line label (Loses number) =
     lost_true sizes rows (record { line = line; label = label; what = Loses number }) (find (is_sent number line) rows)
 sign_true sizes rows line label Misses = alone_true sizes rows Mark.Refusal beside line label
@@ -193,7 +194,7 @@ linked_true : (sizes : Sizes) (rows : List Row) (line : ℕ) (label : List ℕ) 
     → All (IsTrueOf sizes rows) (linked_elements sizes rows (record { line = line; label = label; what = what }))
 linked_true sizes rows line label (Sends number sender receiver) = each sizes rows [] tt
 linked_true sizes rows line label (At node mark) = link_true sizes rows line label (At node mark)
-linked_true sizes rows line label (Takes number is_whole mark) = link_true sizes rows line label (Takes number is_whole mark)
+linked_true sizes rows line label (Delivers number is_taken mark) = link_true sizes rows line label (Delivers number is_taken mark)
 linked_true sizes rows line label (Loses number) = link_true sizes rows line label (Loses number)
 linked_true sizes rows line label Misses = link_true sizes rows line label Misses
 linked_true sizes rows line label (Changes rm view) = link_true sizes rows line label (Changes rm view)
@@ -221,39 +222,57 @@ sent_from sizes rows number line sent_line label (Sends other sender receiver) t
       refl,
     )
 sent_from sizes rows number line sent_line label (At node mark) there h = absurd (cc (h))
-sent_from sizes rows number line sent_line label (Takes other is_whole mark) there h = absurd (cc (h))
+sent_from sizes rows number line sent_line label (Delivers other is_taken mark) there h = absurd (cc (h))
 sent_from sizes rows number line sent_line label (Loses other) there h = absurd (cc (h))
 sent_from sizes rows number line sent_line label Misses there h = absurd (cc (h))
 sent_from sizes rows number line sent_line label (Changes rm view) there h = absurd (cc (h))
 
 -- an arrow, thick or thin
-pen_true : (sizes : Sizes) (rows : List Row) (is_first : Bool) (from to : Point) → IsTaken sizes rows from to
-    → IsTrueOf sizes rows (Stroke (if is_first then Pen.Arrow else Pen.Again) from to)
-pen_true sizes rows true from to way = way
-pen_true sizes rows false from to way = way
+pen_true : (sizes : Sizes) (rows : List Row) (line : ℕ) (label : List ℕ) (number : ℕ) (is_taken : Bool) (mark : Mark) (from to : Point)
+    → Contains rows (record { line = line; label = label; what = Delivers number is_taken mark })
+    → IsSentFrom sizes rows number line from to.x → to.y ≡ row_y line → (before : Bool) → list_any (takes number line) rows ≡ before
+    → IsTrueOf sizes rows (Stroke (if is_taken && not before then Pen.Arrow else Pen.Again) from to)
+pen_true sizes rows line label number is_taken mark from to there sent at = by_tests is_taken there where
+  again : (b : Bool) → Contains rows (record { line = line; label = label; what = Delivers number b mark })
+      → IsDelivered sizes rows from to
+  again b there = record {
+    row = record { line = line; label = label; what = Delivers number b mark };
+    there = there;
+    number = number;
+    is_taken = b;
+    mark = mark;
+    delivers = refl;
+    sent = sent;
+    ends = at;
+  }
 
-arrow_true : (sizes : Sizes) (rows : List Row) (line : ℕ) (label : List ℕ) (number : ℕ) (is_whole : Bool) (mark : Mark)
-    → Contains rows (record { line = line; label = label; what = Takes number is_whole mark })
+  by_tests : (b : Bool) → Contains rows (record { line = line; label = label; what = Delivers number b mark })
+      → (before : Bool) → list_any (takes number line) rows ≡ before
+      → IsTrueOf sizes rows (Stroke (if b && not before then Pen.Arrow else Pen.Again) from to)
+  by_tests false there before is = again false there
+  by_tests true there true is = again true there
+  by_tests true there false is = record {
+    row = record { line = line; label = label; what = Delivers number true mark };
+    there = there;
+    number = number;
+    mark = mark;
+    taken = refl;
+    first = is;
+    sent = sent;
+    ends = at;
+  }
+
+arrow_true : (sizes : Sizes) (rows : List Row) (line : ℕ) (label : List ℕ) (number : ℕ) (is_taken : Bool) (mark : Mark)
+    → Contains rows (record { line = line; label = label; what = Delivers number is_taken mark })
     → (o : Option Row) → find (is_sent number line) rows ≡ o
-    → All (IsTrueOf sizes rows) (arrow_from sizes line (arrow_pen rows line number is_whole) o)
-arrow_true sizes rows line label number is_whole mark there None is = each sizes rows [] tt
-arrow_true sizes rows line label number is_whole mark there (Some sent) is =
+    → All (IsTrueOf sizes rows) (arrow_from sizes line (arrow_pen rows line number is_taken) o)
+arrow_true sizes rows line label number is_taken mark there None is = each sizes rows [] tt
+arrow_true sizes rows line label number is_taken mark there (Some sent) is =
     let (sent_there, passes) = found (is_sent number line) rows sent is in
     let (from, at) = sent_from sizes rows number line sent.line sent.label sent.what sent_there passes in
     let way : Ends = whole_way sizes sent line in
-    each sizes rows (arrow_from sizes line (arrow_pen rows line number is_whole) (Some sent)) (
-      pen_true sizes rows (is_whole && not (list_any (takes number line) rows)) way.from way.to (record {
-        row = record { line = line; label = label; what = Takes number is_whole mark };
-        there = there;
-        number = number;
-        is_whole = is_whole;
-        mark = mark;
-        takes = refl;
-        sent = from;
-        ends = at;
-      }),
-      tt,
-    )
+    each sizes rows (arrow_from sizes line (arrow_pen rows line number is_taken) (Some sent))
+    (pen_true sizes rows line label number is_taken mark way.from way.to there from at (list_any (takes number line) rows) refl, tt)
 
 loss_true : (sizes : Sizes) (rows : List Row) (line : ℕ) (label : List ℕ) (number : ℕ)
     → Contains rows (record { line = line; label = label; what = Loses number })
@@ -280,8 +299,8 @@ stroke_true : (sizes : Sizes) (rows : List Row) (line : ℕ) (label : List ℕ) 
     → Contains rows (record { line = line; label = label; what = what })
     → All (IsTrueOf sizes rows) (stroke_elements sizes rows (record { line = line; label = label; what = what }))
 stroke_true sizes rows line label (At node mark) there = each sizes rows [] tt
-stroke_true sizes rows line label (Takes number is_whole mark) there =
-    arrow_true sizes rows line label number is_whole mark there (find (is_sent number line) rows) refl
+stroke_true sizes rows line label (Delivers number is_taken mark) there =
+    arrow_true sizes rows line label number is_taken mark there (find (is_sent number line) rows) refl
 stroke_true sizes rows line label (Loses number) there =
     loss_true sizes rows line label number there (find (is_sent number line) rows) refl
 stroke_true sizes rows line label Misses there = each sizes rows [] tt

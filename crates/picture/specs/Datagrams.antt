@@ -1,5 +1,5 @@
 -- The first rows in which datagrams are sent, taken and lost.
-use Rattle.std.specs.Prelude.{◌≡◌, ℕ, Bool, false, ◌==◌, nat_lt, if◌then◌else◌, List, find, Option, Some, None}
+use Rattle.std.specs.Prelude.{◌≡◌, ℕ, Bool, true, false, ◌==◌, nat_lt, if◌then◌else◌, List, find, Option, Some, None}
 use Rattle.std.specs.BTreeMap.{BTreeMap, get}
 use Rattle.std.specs.Borrow.{Bor}
 use Rattle.std.specs.Option.{option_copied, option_map_or}
@@ -7,7 +7,7 @@ use Rattle.std.specs.Ordering.{nat_cmp}
 use Rattle.picture.specs.declared.datagrams.Role.{Role}
 use Rattle.picture.specs.declared.rows.Row.{Row}
 use Rattle.picture.specs.declared.rows.What.{What}
-use Rattle.picture.specs.declared.rows.What.TheVariants.{Takes, Loses, Sends}
+use Rattle.picture.specs.declared.rows.What.TheVariants.{Delivers, Loses, Sends}
 use Rattle.picture.specs.Order.{Ascend}
 
 -- the number of the datagram that a row sends, takes or loses
@@ -15,7 +15,7 @@ abbrev pub number_in : Role → Row → Option ℕ
 number_in role row = told role row.what where
   told : Role → What → Option ℕ
   told Role.Sent (Sends number sender receiver) = Some number
-  told Role.Taken (Takes number is_whole mark) = Some number
+  told Role.Taken (Delivers number true mark) = Some number
   told Role.Lost (Loses number) = Some number
   told role what = None
 

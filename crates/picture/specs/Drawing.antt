@@ -1,6 +1,6 @@
 -- What a picture is made of.
-use Rattle.std.specs.Prelude.{ℕ, ◌+◌, ◌-◌, ◌*◌, ◌/◌, ◌^◌, Bool, false, ◌==◌, ◌&&◌, not, nat_lt, nat_le, min, if◌then◌else◌, List, [], ◌∷◌}
-use Rattle.std.specs.Prelude.{◌++◌}
+use Rattle.std.specs.Prelude.{ℕ, ◌+◌, ◌-◌, ◌*◌, ◌/◌, ◌^◌, Bool, true, false, ◌==◌, ◌&&◌, not, nat_lt, nat_le, min, List, [], ◌∷◌}
+use Rattle.std.specs.Prelude.{◌++◌, if◌then◌else◌}
 use Rattle.std.specs.Prelude.{length, take, codes, decimal, fold, find, Option, Some, None}
 use Rattle.std.specs.List.{flat_map, list_any, range_with_len}
 use Rattle.net_script.specs.declared.values.Sizes.{Sizes}
@@ -16,7 +16,7 @@ use Rattle.picture.specs.declared.elements.Element.TheVariants.{Link, Words, Str
 use Rattle.picture.specs.declared.happenings.Ends.{Ends}
 use Rattle.picture.specs.declared.rows.Row.{Row}
 use Rattle.picture.specs.declared.rows.What.{What}
-use Rattle.picture.specs.declared.rows.What.TheVariants.{At, Takes, Loses, Misses, Changes, Sends}
+use Rattle.picture.specs.declared.rows.What.TheVariants.{At, Delivers, Loses, Misses, Changes, Sends}
 use Rattle.picture.specs.Places.{beside, lane_x, node_x, page_end, page_of, page_top, row_y}
 
 -- a point
@@ -130,14 +130,14 @@ is_sent number line row = sends row.what where
 abbrev pub takes : ℕ → ℕ → Row → Bool
 takes number line row = taken row.what where
   taken : What → Bool
-  taken (Takes other is_whole mark) = other == number && nat_lt row.line line
+  taken (Delivers other true mark) = other == number && nat_lt row.line line
   taken what = false
 
 -- whether a row is that of a datagram of this number, taken or lost
 abbrev pub settles : ℕ → Row → Bool
 settles number row = settled row.what where
   settled : What → Bool
-  settled (Takes other is_whole mark) = other == number
+  settled (Delivers other true mark) = other == number
   settled (Loses other) = other == number
   settled what = false
 
@@ -146,8 +146,8 @@ abbrev pub coming_from : Sizes → NodeId → ℕ → ℕ → Point
 coming_from sizes sender sent line =
     point (node_x sizes sender) (if page_of sent == page_of line then row_y sent else page_top (page_of line) + 22)
 
--- the ends of the stroke of a datagram, by the row where it is sent and the line where it is taken: from the lane of its sender to that
--- of its receiver
+-- the ends of the stroke of a datagram, by the row where it is sent and the line where it is delivered: from the lane of its sender to
+-- that of its receiver
 abbrev pub whole_way : Sizes → Row → ℕ → Ends
 whole_way sizes row line = way row.what where
   way : What → Ends
@@ -159,19 +159,19 @@ abbrev pub half_way : Sizes → Row → ℕ → Ends
 half_way sizes row line =
     let way = whole_way sizes row line in ends way.from (point ((way.from.x + way.to.x) / 2) way.to.y)
 
--- how a datagram is drawn that is taken: thin, where it was taken before, or where a part is taken
+-- how a datagram is drawn that is delivered: thick, where it is taken, and wasn't before
 abbrev pub arrow_pen : List Row → ℕ → ℕ → Bool → Pen
-arrow_pen rows line number is_whole = if is_whole && not (list_any (takes number line) rows) then Pen.Arrow else Pen.Again
+arrow_pen rows line number is_taken = if is_taken && not (list_any (takes number line) rows) then Pen.Arrow else Pen.Again
 
 -- the stroke of a datagram that was sent by this row, if it was
 abbrev pub arrow_from : Sizes → ℕ → Pen → Option Row → List Element
 arrow_from sizes line pen None = []
 arrow_from sizes line pen (Some row) = Stroke pen (whole_way sizes row line).from (whole_way sizes row line).to ∷ []
 
--- the arrow of a datagram that is taken
+-- the arrow of a datagram that is delivered
 abbrev pub arrow_elements : Sizes → List Row → ℕ → ℕ → Bool → List Element
-arrow_elements sizes rows line number is_whole =
-    arrow_from sizes line (arrow_pen rows line number is_whole) (find (is_sent number line) rows)
+arrow_elements sizes rows line number is_taken =
+    arrow_from sizes line (arrow_pen rows line number is_taken) (find (is_sent number line) rows)
 
 -- the stroke of a datagram that was sent by this row, if it was, and is lost
 abbrev pub loss_from : Sizes → ℕ → Option Row → List Element
@@ -201,7 +201,7 @@ stroke_elements sizes rows row = strokes row.what where
   strokes : What → List Element
   strokes (At node mark) = []
   strokes Misses = []
-  strokes (Takes number is_whole mark) = arrow_elements sizes rows row.line number is_whole
+  strokes (Delivers number is_taken mark) = arrow_elements sizes rows row.line number is_taken
   strokes (Loses number) = loss_elements sizes rows row.line number
   strokes (Changes rm view) = work_element (point (node_x sizes (R rm)) (row_y row.line)) ∷ []
   strokes (Sends number sender receiver) =
@@ -223,14 +223,14 @@ mark_elements mark way words = Stamp mark way.to ∷ label_element way.from way.
 abbrev pub alone_elements : Mark → ℕ → ℕ → List ℕ → List Element
 alone_elements mark x line words = mark_elements mark (ends (point x (row_y line)) (point x (row_y line))) words
 
--- the mark where a datagram is taken that was sent by this row, with what it says; beside the lanes, where none was sent
-abbrev pub taken_from : Sizes → Row → Mark → Option Row → List Element
-taken_from sizes row mark None = alone_elements mark beside row.line row.label
-taken_from sizes row mark (Some sent) = mark_elements mark (whole_way sizes sent row.line) sent.label
+-- the mark where a datagram is delivered that was sent by this row, with what it says; beside the lanes, where none was sent
+abbrev pub delivered_from : Sizes → Row → Mark → Option Row → List Element
+delivered_from sizes row mark None = alone_elements mark beside row.line row.label
+delivered_from sizes row mark (Some sent) = mark_elements mark (whole_way sizes sent row.line) sent.label
 
--- the mark where a datagram is taken, with what it says
-abbrev pub taken_elements : Sizes → List Row → Row → ℕ → Mark → List Element
-taken_elements sizes rows row number mark = taken_from sizes row mark (find (is_sent number row.line) rows)
+-- the mark where a datagram is delivered, with what it says
+abbrev pub delivered_elements : Sizes → List Row → Row → ℕ → Mark → List Element
+delivered_elements sizes rows row number mark = delivered_from sizes row mark (find (is_sent number row.line) rows)
 
 -- the mark where a datagram is lost that was sent by this row, with what it says; beside the lanes, where none was sent
 abbrev pub lost_from : Sizes → Row → Option Row → List Element
@@ -250,7 +250,7 @@ abbrev pub sign_elements : Sizes → List Row → Row → List Element
 sign_elements sizes rows row = signs row.what where
   signs : What → List Element
   signs (At node mark) = alone_elements mark (node_x sizes node) row.line row.label
-  signs (Takes number is_whole mark) = taken_elements sizes rows row number mark
+  signs (Delivers number is_taken mark) = delivered_elements sizes rows row number mark
   signs (Loses number) = lost_elements sizes rows row number
   signs Misses = alone_elements Mark.Refusal beside row.line row.label
   signs (Changes rm view) = view_element (node_x sizes (R rm)) row.line row.label ∷ []

@@ -1,8 +1,8 @@
 -- The lines of a trace that tell of events, each with its label and with what it adds to the picture.
-use Rattle.std.specs.Prelude.{ℕ, ◌+◌, ◌-◌, ◌^◌, Bool, true, false, not, min, if◌then◌else◌, List, [], ◌∷◌, ◌++◌, length, codes, fold}
+use Rattle.std.specs.Prelude.{ℕ, ◌+◌, ◌-◌, ◌^◌, Bool, true, false, not, ◌||◌, min, if◌then◌else◌, List, [], ◌∷◌, ◌++◌, length, codes, fold}
 use Rattle.std.specs.Prelude.{Option, Some, None}
 use Rattle.std.specs.List.{list_any}
-use Rattle.std.specs.Option.{option_map_or}
+use Rattle.std.specs.Option.{is_some, option_map_or}
 use Rattle.xid.specs.declared.codes.XaCode.{XaCode}
 use Rattle.xid.specs.declared.refusals.Refusal.{Refusal}
 use Rattle.xid.specs.Transactions.{TxParts, tx_eq}
@@ -13,7 +13,7 @@ use Rattle.net_script.specs.Events.{event_word}
 use Rattle.picture.specs.declared.elements.Mark.{Mark}
 use Rattle.picture.specs.declared.rows.Row.{Row}
 use Rattle.picture.specs.declared.rows.What.{What}
-use Rattle.picture.specs.declared.rows.What.TheVariants.{At, Takes, Loses, Misses, Changes, Sends}
+use Rattle.picture.specs.declared.rows.What.TheVariants.{At, Delivers, Loses, Misses, Changes, Sends}
 use Rattle.picture.specs.Labels.{change_label, sent_label}
 
 -- whether a code is that of an error
@@ -37,24 +37,30 @@ abbrev pub is_missing : Answer → Bool
 is_missing (Refused Refusal.NoSuch) = true
 is_missing answer = false
 
+-- whether an answer, or a view that changed, shows that a node took a datagram that it was handed whole. One that is down (8) stays as it
+-- was; where memory is wanted (11) nothing is stored or sent; where the record fails (5) a fact stays only if its whole frame is there, and
+-- a view that it changed shows that
+abbrev pub is_taken : Answer → Option Change → Bool
+is_taken answer now = not (is_error answer) || is_some now
+
 -- what the delivery of a datagram adds, or that of its first bytes
-abbrev pub taken : ℕ → Bool → Answer → What
-taken number is_whole answer = if is_missing answer then Misses else Takes number is_whole (mark_of Mark.Done answer)
+abbrev pub delivered : ℕ → Bool → Answer → What
+delivered number is_taken answer = if is_missing answer then Misses else Delivers number is_taken (mark_of Mark.Done answer)
 
 -- what the loss of a datagram adds
 abbrev pub lost : ℕ → Answer → What
 lost number answer = if is_error answer then Misses else Loses number
 
--- what an event adds
-abbrev pub what_of : Event → Answer → What
-what_of (Ask node request) answer = At node (mark_of Mark.Done answer)
-what_of (Deliver number) answer = taken number true answer
-what_of (Lose number) answer = lost number answer
-what_of (Cut number bytes) answer = taken number false answer
-what_of (Noise node bytes) answer = At node (mark_of Mark.Done answer)
-what_of (Tear node bytes) answer = At node (mark_of Mark.Tear answer)
-what_of (Restart node) answer = At node (mark_of Mark.Restart answer)
-what_of (Compact node) answer = At node (mark_of Mark.Compaction answer)
+-- what an event adds, by its answer and the view that it changed. The first bytes of a datagram nobody takes
+abbrev pub what_of : Event → Answer → Option Change → What
+what_of (Ask node request) answer now = At node (mark_of Mark.Done answer)
+what_of (Deliver number) answer now = delivered number (is_taken answer now) answer
+what_of (Lose number) answer now = lost number answer
+what_of (Cut number bytes) answer now = delivered number false answer
+what_of (Noise node bytes) answer now = At node (mark_of Mark.Done answer)
+what_of (Tear node bytes) answer now = At node (mark_of Mark.Tear answer)
+what_of (Restart node) answer now = At node (mark_of Mark.Restart answer)
+what_of (Compact node) answer now = At node (mark_of Mark.Compaction answer)
 
 -- ---- rows
 
@@ -82,7 +88,7 @@ with_outcome first several rows now sent = fold (with_sent first several) (with_
 -- the rows of what happened more
 abbrev pub with_entry : ℕ → Bool → List Row → Entry → List Row
 with_entry first several rows (Entry.Step step) =
-    with_outcome first several (with_row first rows (event_word step.event) (what_of step.event step.answer)) step.now
+    with_outcome first several (with_row first rows (event_word step.event) (what_of step.event step.answer step.now)) step.now
     step.sent
 with_entry first several rows (Entry.Serve node answer now sent) =
     with_outcome first several (with_row first rows (codes "serve") (At node (mark_of Mark.Done answer))) now sent

@@ -251,7 +251,7 @@ fn draw_change(out: &mut Vec<Element>, lines: u32, row: &Row) -> Result<(), Refu
             draw_band(out, lines, page, u32::from(rm), row_y(row.line), view)
         }
         What::At { .. }
-        | What::Takes { .. }
+        | What::Delivers { .. }
         | What::Loses { .. }
         | What::Misses
         | What::Sends { .. } => Ok(()),

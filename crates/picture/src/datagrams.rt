@@ -21,7 +21,7 @@ use xid::Refusal;
 pub(crate) enum Role {
     /// It sends it.
     Sent,
-    /// It takes it, or a part of it.
+    /// It takes it.
     Taken,
     /// It loses it.
     Lost,
@@ -33,7 +33,14 @@ fn number_in(role: Role, row: &Row) -> Option<u32>
 {
     match (role, row.what) {
         (Role::Sent, What::Sends { number, .. })
-        | (Role::Taken, What::Takes { number, .. })
+        | (
+            Role::Taken,
+            What::Delivers {
+                number,
+                is_taken: true,
+                ..
+            },
+        )
         | (Role::Lost, What::Loses { number }) => Some(number),
         _ => None,
     }

@@ -38,9 +38,9 @@ pub enum Pen {
     Lane,
     /// What a node does in one event, down to the last line of it.
     Work,
-    /// A datagram, from where it was sent to where it was taken.
+    /// A datagram, from where it was sent to where it was first taken.
     Arrow,
-    /// A datagram that was taken before, or of which a part is taken.
+    /// A datagram that was taken before, or that is delivered and not taken.
     Again,
     /// A datagram, from where it was sent to where it was lost.
     Lost,

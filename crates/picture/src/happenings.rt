@@ -6,7 +6,7 @@ ghost use Rattle.xid.specs.declared.refusals.Refusal.TheVariants.{NoMemory};
 ghost use Rattle.picture.specs.Drawing.{alone_elements, arrow_elements, arrow_pen, coming_from, short_way, half_way};
 ghost use Rattle.picture.specs.Drawing.{label_element, linked_elements};
 ghost use Rattle.picture.specs.Drawing.{loss_elements, lost_elements, mark_elements, sent_elements, sign_elements};
-ghost use Rattle.picture.specs.Drawing.{stroke_elements, taken_elements, view_element, whole_way, work_element};
+ghost use Rattle.picture.specs.Drawing.{delivered_elements, stroke_elements, view_element, whole_way, work_element};
 
 use crate::datagrams::IndexedRows;
 use crate::elements::{Element, Lettering, Mark, Pen, Point};
@@ -21,7 +21,7 @@ use xid::{Bytes, Refusal};
 const GAP: u64 = 11;
 /// How far the line on which words stand is below their point.
 const BASELINE: u64 = 3;
-/// How far the stroke of a datagram reaches that was never taken.
+/// How far the stroke of a datagram reaches that was neither taken nor lost.
 const REACH: u64 = 26;
 
 /// Words beside a point, on the side that is away from where the datagram comes from.
@@ -83,7 +83,7 @@ fn coming_from(sizes: Sizes, sender: NodeId, sent: u32, line: u32) -> Point
     }
 }
 
-/// The ends of the stroke of a datagram, by the row where it is sent and the line where it is taken.
+/// The ends of the stroke of a datagram, by the row where it is sent and the line where it is delivered.
 fn whole_way(sizes: Sizes, row: &Row, line: u32) -> Ends
     ensures { result ≡ whole_way sizes row.now line }
 {
@@ -101,7 +101,7 @@ fn whole_way(sizes: Sizes, row: &Row, line: u32) -> Ends
             },
         },
         What::At { .. }
-        | What::Takes { .. }
+        | What::Delivers { .. }
         | What::Loses { .. }
         | What::Misses
         | What::Changes { .. } => Ends {
@@ -125,34 +125,34 @@ fn half_way(sizes: Sizes, row: &Row, line: u32) -> Ends
     }
 }
 
-/// How a datagram is drawn that is taken: thin, where it was taken before, or where a part is taken.
-fn arrow_pen(rows: &IndexedRows<'_>, line: u32, number: u32, is_whole: bool) -> Pen
-    ensures { result ≡ arrow_pen rows.now line number is_whole }
+/// How a datagram is drawn that is delivered: thick, where it is taken, and wasn't before.
+fn arrow_pen(rows: &IndexedRows<'_>, line: u32, number: u32, is_taken: bool) -> Pen
+    ensures { result ≡ arrow_pen rows.now line number is_taken }
 {
-    if is_whole && !rows.is_taken_before(number, line) {
+    if is_taken && !rows.is_taken_before(number, line) {
         Pen::Arrow
     } else {
         Pen::Again
     }
 }
 
-/// The arrow of a datagram that is taken.
+/// The arrow of a datagram that is delivered.
 fn draw_arrow(
     out: &mut Vec<Element>,
     sizes: Sizes,
     rows: &IndexedRows<'_>,
     line: u32,
     number: u32,
-    is_whole: bool,
+    is_taken: bool,
 ) -> Result<(), Refusal>
-    ensures ok { OnOk result (out.new.items ≡ out.old.items ++ arrow_elements sizes rows.now line number is_whole) }
+    ensures ok { OnOk result (out.new.items ≡ out.old.items ++ arrow_elements sizes rows.now line number is_taken) }
     ensures err { IfErr result (λ e. e ≡ NoMemory) }
 {
     let Some(row) = rows.find_sent(number, line) else {
         return Ok(());
     };
     let Ends { from, to } = whole_way(sizes, row, line);
-    let pen = arrow_pen(rows, line, number, is_whole);
+    let pen = arrow_pen(rows, line, number, is_taken);
     out.push(Element::Stroke { pen, from, to })?;
     Ok(())
 }
@@ -250,11 +250,11 @@ fn draw_strokes(
     let line = row.line;
     match row.what {
         What::At { .. } | What::Misses => Ok(()),
-        What::Takes {
+        What::Delivers {
             number,
-            is_whole,
+            is_taken,
             ..
-        } => draw_arrow(out, sizes, rows, line, number, is_whole),
+        } => draw_arrow(out, sizes, rows, line, number, is_taken),
         What::Loses { number } => draw_loss(out, sizes, rows, line, number),
         What::Changes { rm, .. } => draw_work(
             out,
@@ -311,8 +311,8 @@ fn draw_alone(
     draw_mark(alloc, out, mark, Ends { from: at, to: at }, words)
 }
 
-/// The mark where a datagram is taken.
-fn draw_taken(
+/// The mark where a datagram is delivered.
+fn draw_delivered(
     alloc: Global,
     out: &mut Vec<Element>,
     sizes: Sizes,
@@ -321,7 +321,7 @@ fn draw_taken(
     number: u32,
     mark: Mark,
 ) -> Result<(), Refusal>
-    ensures ok { OnOk result (out.new.items ≡ out.old.items ++ taken_elements sizes rows.now row.now number mark) }
+    ensures ok { OnOk result (out.new.items ≡ out.old.items ++ delivered_elements sizes rows.now row.now number mark) }
     ensures err { IfErr result (λ e. e ≡ NoMemory) }
 {
     let Some(sent) = rows.find_sent(number, row.line) else {
@@ -390,8 +390,8 @@ fn draw_signs(
         What::At { node, mark } => {
             draw_alone(alloc, out, mark, node_x(sizes, node), row.line, label)
         }
-        What::Takes { number, mark, .. } => {
-            draw_taken(alloc, out, sizes, rows, row, number, mark)
+        What::Delivers { number, mark, .. } => {
+            draw_delivered(alloc, out, sizes, rows, row, number, mark)
         }
         What::Loses { number } => draw_lost(alloc, out, sizes, rows, row, number),
         What::Misses => draw_alone(alloc, out, Mark::Refusal, BESIDE, row.line, label),
@@ -416,7 +416,7 @@ fn draw_linked(
     match row.what {
         What::Sends { .. } => {}
         What::At { .. }
-        | What::Takes { .. }
+        | What::Delivers { .. }
         | What::Loses { .. }
         | What::Misses
         | What::Changes { .. } => {

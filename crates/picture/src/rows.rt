@@ -4,8 +4,8 @@ ghost use Rattle.std.specs.Prelude.{◌≡◌, IfOk, IfErr, OnOk};
 ghost use Rattle.std.specs.List.{list_any};
 ghost use Rattle.std.specs.Option.{option_copied};
 ghost use Rattle.xid.specs.declared.refusals.Refusal.TheVariants.{NoMemory};
-ghost use Rattle.picture.specs.Rows.{are_several, is_error, is_missing, is_of_other, line_at, lost, mark_of, rows_of, taken, told_tx};
-ghost use Rattle.picture.specs.Rows.{tx_of, what_of};
+ghost use Rattle.picture.specs.Rows.{are_several, is_error, is_missing, is_of_other, is_taken, line_at, lost, mark_of, rows_of};
+ghost use Rattle.picture.specs.Rows.{delivered, told_tx, tx_of, what_of};
 ghost use Rattle.picture.specs.Rows.{with_change, with_entry, with_outcome, with_row, with_sent};
 
 use crate::elements::Mark;
@@ -26,11 +26,11 @@ pub enum What {
         mark: Mark,
     },
     /// A datagram was handed over, or its first bytes.
-    Takes {
+    Delivers {
         /// Its number.
         number: u32,
-        /// Whether all of it was.
-        is_whole: bool,
+        /// Whether its receiver took it.
+        is_taken: bool,
         /// What came of it.
         mark: Mark,
     },
@@ -110,16 +110,24 @@ fn is_missing(answer: &Answer) -> bool
     }
 }
 
+/// Whether an answer, or a view that changed, shows that a node took a datagram that it was handed whole. Where its record failed, a view
+/// has changed only if the whole fact is there.
+fn is_taken(answer: &Answer, now: &Option<Change>) -> bool
+    ensures { result ≡ is_taken answer.now now.now }
+{
+    !is_error(answer) || now.is_some()
+}
+
 /// What the delivery of a datagram adds, or that of its first bytes.
-fn taken(number: u32, is_whole: bool, answer: &Answer) -> What
-    ensures { result ≡ taken number is_whole answer.now }
+fn delivered(number: u32, is_taken: bool, answer: &Answer) -> What
+    ensures { result ≡ delivered number is_taken answer.now }
 {
     if is_missing(answer) {
         return What::Misses;
     }
-    What::Takes {
+    What::Delivers {
         number,
-        is_whole,
+        is_taken,
         mark: mark_of(Mark::Done, answer),
     }
 }
@@ -134,17 +142,17 @@ fn lost(number: u32, answer: &Answer) -> What
     What::Loses { number }
 }
 
-/// What an event adds.
-fn what_of(event: &Event, answer: &Answer) -> What
-    ensures { result ≡ what_of event.now answer.now }
+/// What an event adds, by its answer and the view that it changed. The first bytes of a datagram nobody takes.
+fn what_of(event: &Event, answer: &Answer, now: &Option<Change>) -> What
+    ensures { result ≡ what_of event.now answer.now now.now }
 {
     match event {
         Event::Ask { node, .. } | Event::Noise { node, .. } => What::At {
             node: *node,
             mark: mark_of(Mark::Done, answer),
         },
-        Event::Deliver { number } => taken(*number, true, answer),
-        Event::Cut { number, .. } => taken(*number, false, answer),
+        Event::Deliver { number } => delivered(*number, is_taken(answer, now), answer),
+        Event::Cut { number, .. } => delivered(*number, false, answer),
         Event::Lose { number } => lost(*number, answer),
         Event::Tear { node, .. } => What::At {
             node: *node,
@@ -256,7 +264,8 @@ fn push_entry(
     match entry {
         Entry::Step(step) => {
             let label = Bytes::copy_of(alloc, event_word(&step.event))?;
-            push_row(rows, first, label, what_of(&step.event, &step.answer))?;
+            let what = what_of(&step.event, &step.answer, &step.now);
+            push_row(rows, first, label, what)?;
             push_outcome(alloc, rows, first, several, &step.now, step.sent.as_slice())
         }
         Entry::Serve {

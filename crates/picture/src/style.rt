@@ -11,7 +11,7 @@ pub(crate) const ROLE: &str =
 pub(crate) const TITLE: &str = "<title id='title'>A run of pcommit: ";
 /// What stands in each picture after its title: how to read it, how its parts look, and the legend.
 pub(crate) const FURNITURE: &str =
-    "<desc id='desc'>Time runs downwards. Each line of the trace has a row, which links to it; the trace is on the left, and each node has a lane on the right: resource managers r, leaders l, acceptors a. An arrow is a datagram, from the event that sent it to the event that took it; one that was lost ends in a cross, one that is taken again or in part is thin, and one that was never taken is a short dotted stroke. The lane of a resource manager shows where it stands: striped where it is prepared, filled where it committed, ringed where it aborted.</desc>
+    "<desc id='desc'>Time runs downwards. Each line of the trace has a row, which links to it; the trace is on the left, and each node has a lane on the right: resource managers r, leaders l, acceptors a. An arrow is a datagram, from the event that sent it to the event that took it; one that was lost ends in a cross, one that is handed over again, or is not taken, is thin, and one that was never taken is a short dotted stroke. The lane of a resource manager shows where it stands: striped where it is prepared, filled where it committed, ringed where it aborted.</desc>
 <style>
 text{font:9px Verdana,'DejaVu Sans',sans-serif;fill:#222}
 .name{font-size:13px;font-weight:bold;text-anchor:middle}
@@ -49,7 +49,7 @@ a:hover text{text-decoration:underline}
 <text class='note' x='150' y='26'>time runs downwards, a row for each line of the trace</text>
 <use href='#done' x='24' y='52'/><text x='36' y='55'>event</text>
 <line class='arrow' x1='80' y1='52' x2='122' y2='52'/><text x='126' y='55'>datagram</text>
-<line class='again' x1='190' y1='52' x2='232' y2='52'/><text x='236' y='55'>taken again or in part</text>
+<line class='again' x1='190' y1='52' x2='232' y2='52'/><text x='236' y='55'>again, or not taken</text>
 <line class='lost' x1='360' y1='52' x2='386' y2='52'/><use href='#cross' x='390' y='52'/><text x='402' y='55'>lost</text>
 <line class='waiting' x1='444' y1='52' x2='470' y2='52'/><text x='478' y='55'>never taken</text>
 <line class='work' x1='556' y1='45' x2='556' y2='59'/><text x='564' y='55'>what one event did</text>

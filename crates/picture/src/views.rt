@@ -25,7 +25,7 @@ fn change_view(views: &mut [View; NAMED], row: &Row)
     match row.what {
         What::Changes { rm, view } => views[usize::from(rm)] = view,
         What::At { .. }
-        | What::Takes { .. }
+        | What::Delivers { .. }
         | What::Loses { .. }
         | What::Misses
         | What::Sends { .. } => {}
