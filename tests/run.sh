@@ -63,10 +63,12 @@ each() { # FOLDER KIND RUN
     done <"$scratch/files"
 }
 
-# a script, whose trace is then audited
+# a script, whose trace is then audited; five times each, since each process hashes names under a key of its own
 run_golden() { # NAME EXPECTED_OUT EXPECTED_ERR EXPECTED_STATUS SCRIPT
-    check "$1" "$2" "$3" "$4" run "$5"
-    [ "$4" = 0 ] && check "$1, audited" "$scratch/consistent" /dev/null 0 audit "$2"
+    for key in 1 2 3 4 5; do
+        check "$1, key $key" "$2" "$3" "$4" run "$5"
+        [ "$4" = 0 ] && check "$1, audited, key $key" "$scratch/consistent" /dev/null 0 audit "$2"
+    done
 }
 
 # a script over a folder, which is new where it is the first of its name

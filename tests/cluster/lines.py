@@ -1,15 +1,17 @@
 #!/usr/bin/env python3
 """What clients may write that they shouldn't, and how they may go away: lines.py PROGRAM [long]. After each a node serves others as
 before."""
+import os
 import random
 import shutil
 import socket
+import subprocess
 import sys
 import tempfile
 import threading
 import time
 
-from processes import Processes
+from processes import Processes, ZEROS
 
 LONGEST = 65536
 # seconds after which a branch that nobody touched is rolled back, in this test's cluster
@@ -244,9 +246,30 @@ class Tests:
         return closed == 76 and said and late == ['refused 7']
 
 
+def refuses_the_nodes_key(program, folder, name):
+    """Whether a node doesn't start where the file with this name is to have the clients' key, and has the nodes' key."""
+    cluster = Processes(program, folder, client_key=ZEROS)
+    path = os.path.join(folder, 'a0.toml')
+    with open(path) as file:
+        said = file.read()
+    with open(path, 'w') as file:
+        file.write(said.replace('client_key = "client_key"', 'client_key = "%s"' % name))
+    try:
+        ended = subprocess.run(cluster.command('a0'), capture_output=True, text=True, timeout=30)
+    except subprocess.TimeoutExpired:
+        return False
+    return ended.returncode == 2 and "client_key: it is the nodes' key" in ended.stderr
+
+
+def refuse_the_nodes_key(program, folder):
+    """A copy of the nodes' key, and the same file by another path."""
+    for place, name in (('copied', 'client_key'), ('by_another_path', './key')):
+        yield 'refuses the nodes\' key, ' + place, refuses_the_nodes_key(program, os.path.join(folder, place), name)
+
+
 def main(program, length='short'):
     folder = tempfile.mkdtemp(prefix='pcommit-lines-')
-    told = {}
+    told = dict(refuse_the_nodes_key(program, folder))
     with Processes(program, folder, tables=({}, {}), client_key=None, clock={'ask': 200, 'idle': 1000 * IDLE}) as cluster:
         cluster.start()
         cluster.watch()

@@ -18,6 +18,7 @@ use crate::decision::AcceptorDecision;
 use crate::rules::{Seat, on_1a, on_2a, on_b1a};
 use crate::slots::plays;
 use crate::table::{Table, begin};
+use hashing::HashKey;
 use stable_record::{AnyRest, Fact, FactKind, FactRest, FactView, SpelledFact};
 use std::alloc::Global;
 use std::marker::Model;
@@ -62,13 +63,28 @@ impl Acceptor {
         requires leaders { 0 < leaders }
         ensures { (config : Config) → leaders ≡ config.leaders → bundled ≡ config.bundled → StandsFor config number result [] }
     {
+        Acceptor::with_hash_key(alloc, HashKey::fixed(), number, leaders, bundled)
+    }
+
+    /// The same under a key of hashes, which nothing that is answered depends on.
+    pub fn with_hash_key(
+        alloc: Global,
+        key: HashKey,
+        number: u8,
+        leaders: u8,
+        bundled: bool,
+    ) -> Acceptor
+        requires number { number < most_acceptors }
+        requires leaders { 0 < leaders }
+        ensures { (config : Config) → leaders ≡ config.leaders → bundled ≡ config.bundled → StandsFor config number result [] }
+    {
         Acceptor {
             seat: Seat {
                 number,
                 leaders,
                 bundled,
             },
-            table: Table::new(alloc),
+            table: Table::new(alloc, key),
             begun: Order::new(alloc),
         }
     }

@@ -15,6 +15,7 @@ ghost use Rattle.acceptor.specs.Compaction.{compacted};
 use crate::compaction::facts_of;
 use crate::shorter_frames::frames_of;
 use crate::slots::{KeptSlot, change};
+use hashing::HashKey;
 use stable_record::{Fact, SpelledFact};
 use std::alloc::{AllocError, Global};
 use std::marker::Model;
@@ -44,14 +45,14 @@ impl Model for Table {
 }
 
 impl Table {
-    /// No transaction is seen.
-    pub fn new(alloc: Global) -> Table
+    /// No transaction is seen. They are hashed under the key.
+    pub fn new(alloc: Global, key: HashKey) -> Table
         ensures transactions { result.transactions ≡ [] }
         ensures slots { result.slots ≡ [] }
     {
         Table {
             alloc,
-            transactions: Transactions::new(alloc),
+            transactions: Transactions::with_hash_key(alloc, key),
             slots: Vec::new(alloc),
             near: 0,
         }

@@ -8,6 +8,7 @@ use crate::faults::Fault;
 use crate::judge::Judge;
 use crate::ledger::Ledger;
 use crate::serial::is_serial;
+use hashing::HashKey;
 use net_script::{Trace, TraceReader};
 use std::alloc::Global;
 use xid::Refusal;
@@ -20,9 +21,17 @@ pub fn audit(alloc: Global, trace: &Trace) -> Result<bool, Refusal>
     ensures ok { IfOk result (λ yes. yes ≡ is_consistent trace.now) }
     ensures err { IfErr result (λ e. e ≡ NoMemory) }
 {
+    audit_with_hash_key(alloc, HashKey::fixed(), trace)
+}
+
+/// The same, with names hashed under a key, which the answer doesn't depend on. Refused: `NoMemory` alone.
+pub fn audit_with_hash_key(alloc: Global, key: HashKey, trace: &Trace) -> Result<bool, Refusal>
+    ensures ok { IfOk result (λ yes. yes ≡ is_consistent trace.now) }
+    ensures err { IfErr result (λ e. e ≡ NoMemory) }
+{
     let tables = trace.tables.as_slice();
     let finals = trace.finals.as_slice();
-    let mut ledger = Ledger::new(alloc, tables)?;
+    let mut ledger = Ledger::new(alloc, key, tables)?;
     for entry in trace.entries.as_slice() {
         if !ledger.take(alloc, entry)? {
             return Ok(false);
@@ -42,8 +51,20 @@ pub fn audit_text(alloc: Global, bytes: &[u8]) -> Result<Option<Fault>, Refusal>
     ensures ok { IfOk result (IsJudged bytes.now) }
     ensures err { IfErr result (RefusesTrace bytes.now) }
 {
+    audit_text_with_hash_key(alloc, HashKey::fixed(), bytes)
+}
+
+/// The same, with names hashed under a key, which the answer doesn't depend on. Refused as `audit_text` is.
+pub fn audit_text_with_hash_key(
+    alloc: Global,
+    key: HashKey,
+    bytes: &[u8],
+) -> Result<Option<Fault>, Refusal>
+    ensures ok { IfOk result (IsJudged bytes.now) }
+    ensures err { IfErr result (RefusesTrace bytes.now) }
+{
     let mut reader = TraceReader::new(bytes);
-    let mut judge = Judge::new(alloc)?;
+    let mut judge = Judge::new(alloc, key)?;
     let mut lines = 0;
     while let Some(heard) = reader.hear(alloc)? {
         lines += 1;

@@ -8,6 +8,7 @@ ghost use Rattle.audit.specs.Told.{step_of};
 ghost use Rattle.audit.specs.Hearing.{Hears, HasHeard};
 
 use crate::ledger::Ledger;
+use hashing::HashKey;
 use net_script::{Table, TraceLine};
 use protocol::{Answer, Change, Event, Row};
 use std::alloc::Global;
@@ -27,14 +28,14 @@ pub struct Auditor {
 }
 
 impl Auditor {
-    /// No line yet. Refused: `NoMemory` alone.
-    pub fn new(alloc: Global) -> Result<Auditor, Refusal>
+    /// No line yet. Names are hashed under the key. Refused: `NoMemory` alone.
+    pub fn new(alloc: Global, key: HashKey) -> Result<Auditor, Refusal>
         ensures ok { IfOk result (λ auditor. HasHeard auditor None) }
         ensures err { IfErr result (λ e. e ≡ NoMemory) }
     {
         Ok(Auditor {
             tables: Vec::new(alloc),
-            ledger: Ledger::new(alloc, &[])?,
+            ledger: Ledger::new(alloc, key, &[])?,
             finals: Vec::new(alloc),
             is_right: true,
         })

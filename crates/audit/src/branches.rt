@@ -7,6 +7,7 @@ ghost use Rattle.audit.specs.Stretches.{just_started, with_write, with_get};
 ghost use Rattle.audit.specs.Books.{stretch_of, Sets};
 
 use crate::stretch::Stretch;
+use hashing::WordKey;
 use indexmap::IndexMap;
 use stable_record::Act;
 use std::alloc::Global;
@@ -25,7 +26,7 @@ pub struct Name {
 /// What was done in each branch since it was last started.
 #[derive(Debug, Drop)]
 pub struct Branches {
-    named: IndexMap<Name, Stretch>,
+    named: IndexMap<Name, Stretch, WordKey>,
 }
 
 impl Model for Branches {
@@ -39,12 +40,12 @@ impl Model for Branches {
 }
 
 impl Branches {
-    /// No branch was started. It takes no memory.
-    pub fn new(alloc: Global) -> Branches
+    /// No branch was started. Names are hashed under the key. It takes no memory.
+    pub fn new(alloc: Global, key: WordKey) -> Branches
         ensures { result ≡ [] }
     {
         Branches {
-            named: IndexMap::new(alloc),
+            named: IndexMap::with_hasher(alloc, key),
         }
     }
 

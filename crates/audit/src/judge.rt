@@ -16,6 +16,7 @@ ghost use Rattle.audit.specs.Noting.{HasNoted};
 use crate::auditor::Auditor;
 use crate::faults::{Fault, Question, question_of};
 use crate::serial::replayed;
+use hashing::HashKey;
 use net_script::{Heard, TraceLine};
 use std::alloc::Global;
 use xid::Refusal;
@@ -28,13 +29,13 @@ pub struct Judge {
 }
 
 impl Judge {
-    /// No line yet. Refused: `NoMemory` alone.
-    pub fn new(alloc: Global) -> Result<Judge, Refusal>
+    /// No line yet. Names are hashed under the key. Refused: `NoMemory` alone.
+    pub fn new(alloc: Global, key: HashKey) -> Result<Judge, Refusal>
         ensures ok { IfOk result (λ judge. (bytes : List ℕ) → HasNoted bytes judge 0 None) }
         ensures err { IfErr result (λ e. e ≡ NoMemory) }
     {
         Ok(Judge {
-            auditor: Auditor::new(alloc)?,
+            auditor: Auditor::new(alloc, key)?,
             fault: None,
         })
     }

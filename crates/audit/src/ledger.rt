@@ -16,6 +16,7 @@ use crate::branches::Branches;
 use crate::stretch::shows;
 use crate::tables::Tables;
 use crate::views::Views;
+use hashing::HashKey;
 use net_script::{Entry, Table};
 use protocol::{Action, Answer, Change, Event, NodeId, Request, View};
 use stable_record::Act;
@@ -46,15 +47,15 @@ impl Drop for Ledger {
 }
 
 impl Ledger {
-    /// No entry yet. Refused: `NoMemory` alone.
-    pub fn new(alloc: Global, tables: &[Table]) -> Result<Ledger, Refusal>
+    /// No entry yet. Names are hashed under the key. Refused: `NoMemory` alone.
+    pub fn new(alloc: Global, key: HashKey, tables: &[Table]) -> Result<Ledger, Refusal>
         ensures ok { IfOk result (λ ledger. Follows (first_tables tables.now) [] ledger) }
         ensures err { IfErr result (λ e. e ≡ NoMemory) }
     {
         let tables = Tables::first(alloc, tables)?;
-        let branches = Branches::new(alloc);
-        let views = Views::new(alloc);
-        let firsts = Transactions::new(alloc);
+        let branches = Branches::new(alloc, key.words());
+        let views = Views::new(alloc, key);
+        let firsts = Transactions::with_hash_key(alloc, key);
         Ok(Ledger {
             tables,
             branches,

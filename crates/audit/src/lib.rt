@@ -15,5 +15,5 @@ mod stretch;
 mod tables;
 mod views;
 
-pub use auditing::{audit, audit_text};
+pub use auditing::{audit, audit_text, audit_text_with_hash_key, audit_with_hash_key};
 pub use faults::{Fault, Question};

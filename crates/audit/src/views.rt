@@ -8,6 +8,7 @@ ghost use Rattle.history.specs.Writes.{is_committed_view as is_committed_lem};
 ghost use Rattle.audit.specs.Told.{may_move as may_move_lem, is_ready_view as is_ready_lem};
 ghost use Rattle.audit.specs.Books.{all_working, views_in, view_in, views_moved, is_move_from, IsNumberOf};
 
+use hashing::HashKey;
 use protocol::{Change, View};
 use std::alloc::Global;
 use std::marker::Model;
@@ -146,12 +147,12 @@ impl Course {
 }
 
 impl Views {
-    /// All are working. It takes no memory.
-    pub fn new(alloc: Global) -> Views
+    /// All are working. Transactions are hashed under the key. It takes no memory.
+    pub fn new(alloc: Global, key: HashKey) -> Views
         ensures { (tx : TxParts) → views_in result tx ≡ all_working tx }
     {
         Views {
-            transactions: Transactions::new(alloc),
+            transactions: Transactions::with_hash_key(alloc, key),
             courses: Vec::new(alloc),
             last: 0,
         }

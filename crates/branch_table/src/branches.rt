@@ -13,6 +13,7 @@ ghost use Rattle.branch_table.specs.Outcomes.{prepared_names};
 ghost use Rattle.branch_table.specs.Parts.{branch_of, Replaces};
 
 use crate::branch::Branch;
+use hashing::WordKey;
 use indexmap::IndexMap;
 use protocol::BranchState;
 use stable_record::Act;
@@ -23,7 +24,7 @@ use xid::{Refusal, Xid};
 /// Branches by their names.
 #[derive(Debug, Drop)]
 pub struct Branches {
-    named: IndexMap<Xid, Branch>,
+    named: IndexMap<Xid, Branch, WordKey>,
 }
 
 impl Model for Branches {
@@ -37,12 +38,12 @@ impl Model for Branches {
 }
 
 impl Branches {
-    /// No branch.
-    pub fn new(alloc: Global) -> Branches
+    /// No branch. Names are hashed under the key.
+    pub fn new(alloc: Global, key: WordKey) -> Branches
         ensures { result ≡ [] }
     {
         Branches {
-            named: IndexMap::new(alloc),
+            named: IndexMap::with_hasher(alloc, key),
         }
     }
 

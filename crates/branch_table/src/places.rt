@@ -1,6 +1,6 @@
 //! What is known of each key: its row, and how branches hold it.
 
-ghost use Rattle.std.specs.Prelude.{◌≡◌, ◌+◌, ◌-◌, ◌*◌, ◌<◌, ◌^◌, Bool, ℕ, List, [], true, None, Some, IfOk, IfErr, OnOk, MatchOption};
+ghost use Rattle.std.specs.Prelude.{◌≡◌, ◌+◌, ◌-◌, ◌*◌, ◌<◌, ◌≤◌, ◌^◌, Bool, ℕ, List, [], true, None, Some, IfOk, IfErr, OnOk, MatchOption};
 ghost use Rattle.std.specs.Prelude.{length};
 ghost use Rattle.xid.specs.declared.refusals.Refusal.TheVariants.{NoMemory};
 ghost use Rattle.stable_record.specs.Facts.{AreAscending, AreKeys};
@@ -15,6 +15,7 @@ ghost use Rattle.branch_table.specs.Tables.{are_rows, first_table, is_row};
 use crate::hold::Hold;
 use crate::looks::Looks;
 use crate::sorting::sorted_by_keys;
+use hashing::WordKey;
 use indexmap::IndexMap;
 use protocol::Row;
 use stable_record::{Act, Touched};
@@ -52,10 +53,21 @@ impl Place {
     }
 }
 
+/// A list of so many rows, or fewer, is asked for at once.
+const FEW_ROWS: usize = 15;
+
+/// How much room a list of rows begins with. A list of few is one small block; one of many grows, since `malloc` joins all that it has
+/// free before it gives a large block.
+fn room_for(rows: usize) -> usize
+    ensures { result ≤ rows }
+{
+    if rows <= FEW_ROWS { rows } else { 0 }
+}
+
 /// What is known of each key that has a row or is held. The rows are within the limits.
 #[derive(Debug, Drop)]
 pub struct Places {
-    known: IndexMap<Vec<u8>, Place>,
+    known: IndexMap<Vec<u8>, Place, WordKey>,
 }
 
 impl Model for Places {
@@ -72,15 +84,16 @@ impl Model for Places {
 }
 
 impl Places {
-    /// Rows in any order, of which no branch holds a key; of two with one key the later counts. Refused: `NoMemory` alone.
-    pub fn new(alloc: Global, rows: Vec<Row>) -> Result<Places, Refusal>
+    /// Rows in any order, of which no branch holds a key; of two with one key the later counts. Their keys are hashed under a key.
+    /// Refused: `NoMemory` alone.
+    pub fn new(alloc: Global, key: WordKey, rows: Vec<Row>) -> Result<Places, Refusal>
         requires { are_rows rows.items ≡ true }
         ensures rows { IfOk result (λ places. table_of places ≡ first_table rows.items) }
         ensures free { IfOk result (λ places. (key : List ℕ) → hold_at places key ≡ free) }
         ensures err { IfErr result (λ e. e ≡ NoMemory) }
     {
         let mut places = Places {
-            known: IndexMap::new(alloc),
+            known: IndexMap::with_hasher(alloc, key),
         };
         for row in rows {
             places.put(row)?;
@@ -231,7 +244,7 @@ impl Places {
     {
         // no two places have one key
         let _ = self.known.len();
-        let mut rows = Vec::new(alloc);
+        let mut rows = Vec::with_capacity(alloc, room_for(self.known.len()))?;
         for (key, place) in &self.known {
             if let Some(value) = &place.value {
                 let key = Bytes::copy_of(alloc, key)?;

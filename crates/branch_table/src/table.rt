@@ -23,6 +23,7 @@ use crate::branches::Branches;
 use crate::hold::Hold;
 use crate::looks::Looks;
 use crate::places::Places;
+use hashing::HashKey;
 use protocol::{Answer, BranchState, Row};
 use stable_record::Act;
 use std::alloc::Global;
@@ -101,11 +102,24 @@ impl BranchTable {
         ensures ok { IfOk result (λ table. (table.rows ≡ first_table rows.items) × (table.branches ≡ []) × (table.looks ≡ 0)) }
         ensures err { IfErr result (λ e. e ≡ NoMemory) }
     {
-        let places = Places::new(alloc, rows)?;
+        BranchTable::with_hash_key(alloc, HashKey::fixed(), rows)
+    }
+
+    /// The same under a key of hashes, which nothing that is answered depends on. Refused: `NoMemory` alone.
+    pub fn with_hash_key(
+        alloc: Global,
+        key: HashKey,
+        rows: Vec<Row>,
+    ) -> Result<BranchTable, Refusal>
+        requires { are_rows rows.items ≡ true }
+        ensures ok { IfOk result (λ table. (table.rows ≡ first_table rows.items) × (table.branches ≡ []) × (table.looks ≡ 0)) }
+        ensures err { IfErr result (λ e. e ≡ NoMemory) }
+    {
+        let places = Places::new(alloc, key.words(), rows)?;
         Ok(BranchTable {
             alloc,
             places,
-            branches: Branches::new(alloc),
+            branches: Branches::new(alloc, key.words()),
             looks: Looks::new(),
         })
     }

@@ -11,6 +11,7 @@ ghost use Rattle.cluster_run.specs.Runs.{is_in_limits, RefusesSizes};
 ghost use Rattle.cluster_run.specs.Traces.{config_for, each_manager, first_rows_of as first_rows_of_lem};
 
 use cluster::Cluster;
+use hashing::HashKey;
 use net_script::{Sizes, Table};
 use node_core::Config;
 use protocol::Row;
@@ -24,11 +25,26 @@ pub fn config_of(alloc: Global, sizes: Sizes, tables: &[Table]) -> Result<Config
     ensures ok { IfOk result (λ config. (config ≡ config_for sizes tables.now) × (is_in_limits sizes ≡ true)) }
     ensures err { IfErr result (RefusesSizes sizes) }
 {
+    config_of_with_hash_key(alloc, HashKey::fixed(), sizes, tables)
+}
+
+/// The same cluster, in whose nodes names are hashed under the key. Refused as `config_of` is.
+pub fn config_of_with_hash_key(
+    alloc: Global,
+    key: HashKey,
+    sizes: Sizes,
+    tables: &[Table],
+) -> Result<Config, Refusal>
+    requires { All IsContents tables.now }
+    ensures ok { IfOk result (λ config. (config ≡ config_for sizes tables.now) × (is_in_limits sizes ≡ true)) }
+    ensures err { IfErr result (RefusesSizes sizes) }
+{
     let acceptors = count_of(sizes.acceptors)?;
     let leaders = count_of(sizes.leaders)?;
     let managers = count_of(sizes.rms)?;
     let first = first_tables(alloc, tables, managers)?;
     let config = Config::new(acceptors, leaders, managers, Sequence::new(first))?;
+    let config = config.with_hash_key(key);
     if sizes.bundled {
         return Ok(config.bundled());
     }

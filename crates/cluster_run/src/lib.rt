@@ -6,5 +6,5 @@ mod happenings;
 pub mod laws;
 mod runs;
 
-pub use clusters::config_of;
-pub use runs::{run, run_to};
+pub use clusters::{config_of, config_of_with_hash_key};
+pub use runs::{run, run_to, run_to_with_hash_key};

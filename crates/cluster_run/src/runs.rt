@@ -4,8 +4,9 @@ ghost use Rattle.std.specs.Prelude.{IfOk, IfErr, OnOk};
 ghost use Rattle.net_script.specs.Scripts.{IsScript};
 ghost use Rattle.cluster_run.specs.Runs.{IsRun, PrintsRun, PrintsRunOf, RefusesRun, StopsRun, StopsRunOf};
 
-use crate::clusters::{config_of, final_rows, opened};
+use crate::clusters::{config_of_with_hash_key, final_rows, opened};
 use crate::happenings::carry_out_all;
+use hashing::HashKey;
 use net_script::{Script, read_script, write_finals, write_head, write_text};
 use std::alloc::Global;
 use std::io::Write;
@@ -36,12 +37,30 @@ pub fn run_to<W: Write>(alloc: Global, script: &[u8], out: &mut W) -> Result<(),
     ensures ok { OnOk result (PrintsRun script.now (W.contents out.old) (W.contents out.new)) }
     ensures err { IfErr result (λ e. StopsRun script.now e (W.contents out.old) (W.contents out.new)) }
 {
+    run_to_with_hash_key(alloc, HashKey::fixed(), script, out)
+}
+
+/// The same, with names hashed under a key, which nothing that is printed depends on. Refused as `run_to` is.
+pub fn run_to_with_hash_key<W: Write>(
+    alloc: Global,
+    key: HashKey,
+    script: &[u8],
+    out: &mut W,
+) -> Result<(), Refusal>
+    ensures ok { OnOk result (PrintsRun script.now (W.contents out.old) (W.contents out.new)) }
+    ensures err { IfErr result (λ e. StopsRun script.now e (W.contents out.old) (W.contents out.new)) }
+{
     let script = read_script(alloc, script)?;
-    run_script(alloc, script, out)
+    run_script(alloc, key, script, out)
 }
 
 /// Prints the text of the trace of a script. Refused: sizes outside the limits (`BadConfig`), `NoMemory`, and as `write_text` is.
-fn run_script<W: Write>(alloc: Global, script: Script, out: &mut W) -> Result<(), Refusal>
+fn run_script<W: Write>(
+    alloc: Global,
+    key: HashKey,
+    script: Script,
+    out: &mut W,
+) -> Result<(), Refusal>
     requires { IsScript script }
     ensures ok { OnOk result (PrintsRunOf script (W.contents out.old) (W.contents out.new)) }
     ensures err { IfErr result (λ e. StopsRunOf script e (W.contents out.old) (W.contents out.new)) }
@@ -52,7 +71,7 @@ fn run_script<W: Write>(alloc: Global, script: Script, out: &mut W) -> Result<()
         commands,
     } = script;
     let first = tables.as_slice();
-    let config = config_of(alloc, sizes, first)?;
+    let config = config_of_with_hash_key(alloc, key, sizes, first)?;
     let mut cluster = opened(alloc, &config)?;
     let mut piece = Vec::new(alloc);
     write_head(&mut piece, sizes, first)?;

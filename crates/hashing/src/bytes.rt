@@ -1,6 +1,7 @@
 ghost use Rattle.std.specs.Prelude.{◌≡◌};
 ghost use Rattle.hashing.specs.Hashing.{hash_of, last_word, taken};
 
+use crate::keys::WordKey;
 use crate::mixing::mixed;
 
 /// Bytes taken into a word one by one.
@@ -24,15 +25,15 @@ fn last_word(bytes: &[u8]) -> u64
     }
 }
 
-/// The hash of bytes, which are taken by words of eight. The last eight are a word once more, so that none is left.
-pub fn hash_of(bytes: &[u8]) -> u64
-    ensures { result ≡ hash_of bytes.now }
+/// The hash of bytes under a key, which are taken by words of eight. The last eight are a word once more, so that none is left.
+pub fn hash_of(key: WordKey, bytes: &[u8]) -> u64
+    ensures { result ≡ hash_of key bytes.now }
 {
-    let mut state = bytes.len() as u64;
+    let mut state = key.first ^ bytes.len() as u64;
     let mut rest = bytes;
     while let Some((word, after)) = rest.split_first_chunk::<8>() {
-        state = mixed(state, u64::from_le_bytes(*word));
+        state = mixed(key.multiplier, state, u64::from_le_bytes(*word));
         rest = after;
     }
-    mixed(state, last_word(bytes))
+    mixed(key.multiplier, state, last_word(bytes))
 }

@@ -3,9 +3,8 @@
 ghost use Rattle.std.specs.Prelude.{◌≡◌};
 ghost use Rattle.hashing.specs.Hashing.{folded_multiply, mixed};
 
-const MULTIPLIER: u64 = 0x9e37_79b9_7f4a_7c15;
-
 /// The two halves of a product of 128 bits, one into the other.
+#[inline(always)]
 fn folded_multiply(a: u64, b: u64) -> u64
     ensures { result ≡ folded_multiply a b }
 {
@@ -14,8 +13,9 @@ fn folded_multiply(a: u64, b: u64) -> u64
 }
 
 /// Takes a word into a state. What was the state before shows in it too, so that no word makes all states the same.
-pub(crate) fn mixed(state: u64, word: u64) -> u64
-    ensures { result ≡ mixed state word }
+#[inline(always)]
+pub(crate) fn mixed(multiplier: u64, state: u64, word: u64) -> u64
+    ensures { result ≡ mixed multiplier state word }
 {
-    folded_multiply(state ^ word, MULTIPLIER) ^ state.rotate_left(23)
+    folded_multiply(state ^ word, multiplier) ^ state.rotate_left(23)
 }

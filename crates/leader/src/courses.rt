@@ -16,6 +16,7 @@ use crate::compaction::facts_of;
 use crate::course::Course;
 use crate::proposals::Proposals;
 use crate::shorter_frames::frames_of;
+use hashing::HashKey;
 use protocol::Status;
 use stable_record::Fact;
 use std::alloc::Global;
@@ -56,13 +57,13 @@ impl Model for Courses {
 }
 
 impl Courses {
-    /// No transaction. It takes no memory.
-    pub fn new(alloc: Global) -> Courses
+    /// No transaction. They are hashed under the key. It takes no memory.
+    pub fn new(alloc: Global, key: HashKey) -> Courses
         ensures { result ≡ record { transactions = []; rows = []; begun = []; room = result.room } }
     {
         Courses {
             alloc,
-            transactions: Transactions::new(alloc),
+            transactions: Transactions::with_hash_key(alloc, key),
             rows: Vec::new(alloc),
             begun: Order::new(alloc),
             near: 0,

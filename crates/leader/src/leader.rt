@@ -20,6 +20,7 @@ use crate::courses::Courses;
 use crate::decision::LeaderDecision;
 use crate::orders::LeaderSends;
 use ballot::{next_owned, owner};
+use hashing::HashKey;
 use protocol::{Address, Answer, NodeId, Standing, Status};
 use stable_record::{AnyRest, Fact, FactKind, FactView};
 use std::alloc::Global;
@@ -76,13 +77,39 @@ impl Leader {
         ensures { (config : Config) → acceptors ≡ config.acceptors → leaders ≡ config.leaders → managers ≡ config.managers
             → bundled ≡ config.bundled → StandsFor config number result [] nothing_heard }
     {
+        Leader::with_hash_key(
+            alloc,
+            HashKey::fixed(),
+            number,
+            acceptors,
+            leaders,
+            managers,
+            bundled,
+        )
+    }
+
+    /// The same under a key of hashes, which nothing that is answered depends on.
+    pub fn with_hash_key(
+        alloc: Global,
+        key: HashKey,
+        number: u8,
+        acceptors: u8,
+        leaders: u8,
+        managers: u8,
+        bundled: bool,
+    ) -> Leader
+        requires number { number < leaders }
+        requires acceptors { acceptors ≤ most_acceptors }
+        ensures { (config : Config) → acceptors ≡ config.acceptors → leaders ≡ config.leaders → managers ≡ config.managers
+            → bundled ≡ config.bundled → StandsFor config number result [] nothing_heard }
+    {
         Leader {
             number,
             acceptors,
             leaders,
             managers,
             bundled,
-            courses: Courses::new(alloc),
+            courses: Courses::new(alloc, key),
         }
     }
 

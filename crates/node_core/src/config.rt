@@ -5,6 +5,7 @@ ghost use Rattle.node_core.specs.Configs.{are_sizes as are_sizes_of, is_config, 
 ghost use Rattle.branch_table.specs.Tables.{is_row, are_rows};
 ghost use Rattle.node_core.specs.Nodes.{AreSizes, HasRows};
 
+use hashing::HashKey;
 use protocol::{NodeId, Row};
 use std::marker::Model;
 use xid::{MAX_KEY, MAX_LEADERS, MAX_MANAGERS, MAX_VALUE, Refusal, Sequence};
@@ -27,6 +28,7 @@ pub struct Sizes {
 pub struct Config {
     sizes: Sizes,
     tables: Sequence<Sequence<Row>>,
+    key: HashKey,
 }
 
 impl Model for Config {
@@ -73,6 +75,7 @@ impl Config {
                 bundled: false,
             },
             tables,
+            key: HashKey::fixed(),
         })
     }
 
@@ -86,7 +89,25 @@ impl Config {
                 ..self.sizes
             },
             tables: self.tables,
+            key: self.key,
         }
+    }
+
+    /// The same cluster, in whose nodes names are hashed under this key; else it is one that anybody knows. Nothing that a node answers,
+    /// sends or stores depends on it. It takes no memory.
+    pub fn with_hash_key(self, key: HashKey) -> Config
+        ensures { result ≡ self }
+    {
+        Config {
+            sizes: self.sizes,
+            tables: self.tables,
+            key,
+        }
+    }
+
+    /// What names are hashed under.
+    pub fn hash_key(&self) -> HashKey {
+        self.key
     }
 
     /// Its sizes.

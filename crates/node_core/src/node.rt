@@ -18,6 +18,7 @@ use crate::output::{Input, Output};
 use crate::role::Role;
 use crate::storing::Workspace;
 use crate::viewing::{list_open, table, view};
+use hashing::HashKey;
 use protocol::{NodeId, Row, View};
 use stable_record::{Record, RecordError, Tear};
 use std::alloc::Global;
@@ -28,6 +29,8 @@ use xid::{Refusal, Sequence, Tx};
 /// up, or it is down and does nothing until a restart.
 pub struct Node<R: Record> {
     alloc: Global,
+    // what names are hashed under
+    key: HashKey,
     who: NodeId,
     sizes: Sizes,
     rows: Vec<Row>,
@@ -42,6 +45,7 @@ impl<R: Record + Drop> Drop for Node<R> {
     fn drop(self) {
         let Node {
             alloc: _,
+            key: _,
             who: _,
             sizes: _,
             rows: _,
@@ -86,15 +90,17 @@ impl<R: Record> Node<R> {
         if !config.has(who) {
             return Err((device, Refusal::NoSuch));
         }
+        let key = config.hash_key();
         let sizes = config.sizes();
         let rows = match copy_rows(alloc, config.rows_of(who)) {
             Ok(rows) => rows,
             Err(refusal) => return Err((device, refusal)),
         };
         let mut device = device;
-        match load(alloc, &mut device, who, sizes, &rows) {
+        match load(alloc, key, &mut device, who, sizes, &rows) {
             Ok(role) => Ok(Node {
                 alloc,
+                key,
                 who,
                 sizes,
                 rows,
@@ -114,6 +120,7 @@ impl<R: Record> Node<R> {
     {
         reload(
             self.alloc,
+            self.key,
             &mut self.device,
             self.who,
             self.sizes,
@@ -141,6 +148,7 @@ impl<R: Record> Node<R> {
     {
         view(
             self.alloc,
+            self.key,
             &mut self.device,
             self.who,
             self.sizes,
@@ -158,6 +166,7 @@ impl<R: Record> Node<R> {
     {
         table(
             self.alloc,
+            self.key,
             &mut self.device,
             self.who,
             self.sizes,
@@ -181,6 +190,7 @@ impl<R: Record> Node<R> {
     {
         let Node {
             alloc: _,
+            key: _,
             who: _,
             sizes: _,
             rows: _,

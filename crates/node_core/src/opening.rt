@@ -18,6 +18,7 @@ use crate::records::replay;
 use crate::role::Role;
 use crate::snapshots::take_snapshot;
 use acceptor::Acceptor;
+use hashing::HashKey;
 use leader::Leader;
 use protocol::{NodeId, Row};
 use resource_manager::ResourceManager;
@@ -39,8 +40,14 @@ pub(crate) fn copy_rows(alloc: Global, rows: &[Row]) -> Result<Vec<Row>, Refusal
     Ok(copy)
 }
 
-/// The role of a node that has played nothing, over a table of these rows. Refused: `NoMemory` alone.
-fn new_role(alloc: Global, who: NodeId, sizes: Sizes, rows: Vec<Row>) -> Result<Role, Refusal>
+/// The role of a node that has played nothing, over a table of these rows; names are hashed under the key. Refused: `NoMemory` alone.
+fn new_role(
+    alloc: Global,
+    key: HashKey,
+    who: NodeId,
+    sizes: Sizes,
+    rows: Vec<Row>,
+) -> Result<Role, Refusal>
     requires sized { IsSized sizes }
     requires among { IsAmong sizes who }
     requires short { are_rows rows.items ≡ true }
@@ -49,16 +56,29 @@ fn new_role(alloc: Global, who: NodeId, sizes: Sizes, rows: Vec<Row>) -> Result<
     ensures err { IfErr result (λ e. e ≡ NoMemory) }
 {
     match who {
-        NodeId::A(a) => Ok(Role::Acceptor(Acceptor::new(alloc, a, sizes.leaders, sizes.bundled))),
-        NodeId::L(l) => Ok(Role::Leader(Leader::new(
+        NodeId::A(a) => Ok(Role::Acceptor(Acceptor::with_hash_key(
             alloc,
+            key,
+            a,
+            sizes.leaders,
+            sizes.bundled,
+        ))),
+        NodeId::L(l) => Ok(Role::Leader(Leader::with_hash_key(
+            alloc,
+            key,
             l,
             sizes.acceptors,
             sizes.leaders,
             sizes.managers,
             sizes.bundled,
         ))),
-        NodeId::R(rm) => Ok(Role::Manager(ResourceManager::new(alloc, rm, sizes.managers, rows)?)),
+        NodeId::R(rm) => Ok(Role::Manager(ResourceManager::with_hash_key(
+            alloc,
+            key,
+            rm,
+            sizes.managers,
+            rows,
+        )?)),
     }
 }
 
@@ -66,6 +86,7 @@ fn new_role(alloc: Global, who: NodeId, sizes: Sizes, rows: Vec<Row>) -> Result<
 /// frames of entries that may stand there and play, and a tail (`Damaged`); `NoMemory`.
 fn play_from(
     alloc: Global,
+    key: HashKey,
     who: NodeId,
     sizes: Sizes,
     rows: Vec<Row>,
@@ -79,7 +100,7 @@ fn play_from(
     ensures read { (config : Config) → AreSizes config sizes → HasRows config who rows.items
         → IsPlayedFrom config who compacted bytes.now result }
 {
-    let mut role = new_role(alloc, who, sizes, rows)?;
+    let mut role = new_role(alloc, key, who, sizes, rows)?;
     let len = replay(alloc, &mut role, compacted, bytes)?;
     Ok((role, len))
 }
@@ -107,6 +128,7 @@ fn take_start(
 /// that play, and a tail (`Damaged`); `NoMemory`.
 pub(crate) fn read_role(
     alloc: Global,
+    key: HashKey,
     who: NodeId,
     sizes: Sizes,
     own: &[Row],
@@ -119,12 +141,12 @@ pub(crate) fn read_role(
     ensures read { (config : Config) → AreSizes config sizes → Reads config who own.now bytes.now result }
 {
     match take_start(alloc, who, bytes) {
-        Ok(Some((rows, rest))) => match play_from(alloc, who, sizes, rows, true, rest) {
+        Ok(Some((rows, rest))) => match play_from(alloc, key, who, sizes, rows, true, rest) {
             Ok((role, len)) => Ok((role, bytes.len() - (rest.len() - len))),
             Err(refusal) => Err(refusal),
         },
         Ok(None) => match copy_rows(alloc, own) {
-            Ok(rows) => play_from(alloc, who, sizes, rows, false, bytes),
+            Ok(rows) => play_from(alloc, key, who, sizes, rows, false, bytes),
             Err(refusal) => Err(refusal),
         },
         Err(refusal) => Err(refusal),
@@ -136,6 +158,7 @@ pub(crate) fn read_role(
 /// (`RecordFault`), and then it has its tail or not, and its frames are old or new; `NoMemory`, and it has its tail or not.
 pub(crate) fn load<R: Record>(
     alloc: Global,
+    key: HashKey,
     device: &mut R,
     who: NodeId,
     sizes: Sizes,
@@ -150,7 +173,7 @@ pub(crate) fn load<R: Record>(
         Ok(bytes) => bytes,
         Err(error) => return Err(Refusal::from(error)),
     };
-    let (role, len) = match read_role(alloc, who, sizes, own, &bytes) {
+    let (role, len) = match read_role(alloc, key, who, sizes, own, &bytes) {
         Ok(read) => read,
         Err(refusal) => return Err(refusal),
     };
@@ -179,6 +202,7 @@ fn cut_tail<R: Record>(device: &mut R, len: usize, all: usize) -> Result<(), Rec
 /// Reads a record again, and puts the role that it gives in place of another; where it is refused, there is none. Refused as `load` is.
 pub(crate) fn reload<R: Record>(
     alloc: Global,
+    key: HashKey,
     device: &mut R,
     who: NodeId,
     sizes: Sizes,
@@ -191,7 +215,7 @@ pub(crate) fn reload<R: Record>(
     ensures { (config : Config) (m : NodeState) → AreSizes config sizes → Stands config who own.now (R.held device.old) role.old m
         → Restarts config who own.now m (R.held device.old) (R.held device.new) role.new result }
 {
-    match load(alloc, device, who, sizes, own) {
+    match load(alloc, key, device, who, sizes, own) {
         Ok(loaded) => {
             *role = Some(loaded);
             Ok(())

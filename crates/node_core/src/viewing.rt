@@ -16,6 +16,7 @@ ghost use Rattle.protocol.specs.declared.rows.Row.{Row as RowParts};
 use crate::config::Sizes;
 use crate::opening::read_role;
 use crate::role::Role;
+use hashing::HashKey;
 use protocol::{NodeId, Row, View};
 use stable_record::Record;
 use std::alloc::Global;
@@ -25,6 +26,7 @@ use xid::{Refusal, Sequence, Tx};
 /// (`Damaged`); it failed (`RecordFault`), and then its bytes are what they were; `NoMemory`.
 fn peek<R: Record>(
     alloc: Global,
+    key: HashKey,
     device: &mut R,
     who: NodeId,
     sizes: Sizes,
@@ -39,7 +41,7 @@ fn peek<R: Record>(
         Ok(bytes) => bytes,
         Err(error) => return Err(Refusal::from(error)),
     };
-    match read_role(alloc, who, sizes, own, &bytes) {
+    match read_role(alloc, key, who, sizes, own, &bytes) {
         Ok(read) => Ok(read.0),
         Err(refusal) => Err(refusal),
     }
@@ -73,6 +75,7 @@ fn table_of(role: &Role) -> Result<Sequence<Row>, Refusal>
 /// Where a node stands in a transaction: by its role if it is up, else by its record.
 pub(crate) fn view<R: Record>(
     alloc: Global,
+    key: HashKey,
     device: &mut R,
     who: NodeId,
     sizes: Sizes,
@@ -93,7 +96,7 @@ pub(crate) fn view<R: Record>(
         Some(up) => return view_of(up, tx),
         None => {}
     }
-    match peek(alloc, device, who, sizes, own) {
+    match peek(alloc, key, device, who, sizes, own) {
         Ok(read) => view_of(&read, tx),
         Err(refusal) => Err(refusal),
     }
@@ -102,6 +105,7 @@ pub(crate) fn view<R: Record>(
 /// The rows of a node's table: by its role if it is up, else by its record.
 pub(crate) fn table<R: Record>(
     alloc: Global,
+    key: HashKey,
     device: &mut R,
     who: NodeId,
     sizes: Sizes,
@@ -121,7 +125,7 @@ pub(crate) fn table<R: Record>(
         Some(up) => return table_of(up),
         None => {}
     }
-    match peek(alloc, device, who, sizes, own) {
+    match peek(alloc, key, device, who, sizes, own) {
         Ok(read) => table_of(&read),
         Err(refusal) => Err(refusal),
     }

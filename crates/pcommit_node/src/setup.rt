@@ -2,13 +2,15 @@
 
 use crate::command::Options;
 use crate::failure::Failure;
-use cluster_file::{Cluster, ClusterError, KEY, Owner, Place, digest, key_of, read_cluster};
+use cluster_file::{Cluster, ClusterError, Fault, KEY, Owner, Place, digest, key_of, read_cluster};
+use hashing::HashKey;
 use net_script::last_node;
 use node_core::{Config, Node, place_of};
 use protocol::NodeId;
 use stable_record::{FileRecord, RecordError};
 use std::alloc::{AllocError, Global};
 use std::fs;
+use std::hash::RandomState;
 use std::io::{self, ErrorKind};
 use std::os::unix::fs::MetadataExt;
 use std::path::Path;
@@ -29,6 +31,8 @@ pub(crate) struct Setup {
     pub(crate) key: Option<[u8; KEY]>,
     /// What its clients prove that they have, if they do.
     pub(crate) client_key: Option<[u8; KEY]>,
+    /// What names are hashed under.
+    pub(crate) hash_key: HashKey,
 }
 
 /// A text of its own.
@@ -127,15 +131,39 @@ fn place_named(alloc: Global, cluster: &Cluster, name: &str) -> Result<(NodeId, 
     })
 }
 
+/// Whether there are both keys, and they are one.
+fn are_one(key: &Option<[u8; KEY]>, client_key: &Option<[u8; KEY]>) -> bool {
+    match (key, client_key) {
+        (Some(key), Some(client_key)) => *key == *client_key,
+        _ => false,
+    }
+}
+
+/// The clients' key is the nodes' key.
+fn shared_key(alloc: Global, file: &str) -> Result<Failure, AllocError> {
+    Ok(Failure::Cluster {
+        file: owned(alloc, file)?,
+        error: ClusterError::Wrong {
+            path: owned(alloc, "client_key")?,
+            fault: Fault::SharedKey,
+        },
+    })
+}
+
 /// Reads what a node is started with.
 pub(crate) fn set_up(rt: HostRuntime, options: Options) -> Result<Setup, Failure> {
-    let cluster = match cluster_of(rt, options.file) {
+    let mut cluster = match cluster_of(rt, options.file) {
         Ok(cluster) => cluster,
         Err(failure) => return Err(failure),
     };
     let (who, place) = place_named(rt.alloc(), &cluster, options.name)?;
     let key = key_named(rt, options.file, &cluster.key)?;
     let client_key = key_named(rt, options.file, &cluster.client_key)?;
+    if are_one(&key, &client_key) {
+        return Err(shared_key(rt.alloc(), options.file)?);
+    }
+    let hash_key = HashKey::drawn(RandomState::new(&rt)?);
+    cluster.config = cluster.config.with_hash_key(hash_key);
     let digest = digest(&cluster.config);
     Ok(Setup {
         cluster,
@@ -144,6 +172,7 @@ pub(crate) fn set_up(rt: HostRuntime, options: Options) -> Result<Setup, Failure
         digest,
         key,
         client_key,
+        hash_key,
     })
 }
 

@@ -7,6 +7,7 @@ ghost use Rattle.resource_manager.specs.Courses.{IsSeen, begun_with, course_in, 
 ghost use Rattle.resource_manager.specs.declared.course.Course.TheVariants as courses;
 
 use crate::course::Course;
+use hashing::HashKey;
 use std::alloc::Global;
 use std::marker::Model;
 use transactions::Transactions;
@@ -44,14 +45,14 @@ impl Model for Courses {
 }
 
 impl Courses {
-    /// No transaction is seen. It takes no memory.
-    pub fn new(alloc: Global) -> Courses
+    /// No transaction is seen. They are hashed under the key. It takes no memory.
+    pub fn new(alloc: Global, key: HashKey) -> Courses
         ensures transactions { result.transactions ≡ [] }
         ensures courses { result.courses ≡ [] }
         ensures begun { result.begun ≡ [] }
     {
         Courses {
-            transactions: Transactions::new(alloc),
+            transactions: Transactions::with_hash_key(alloc, key),
             courses: Vec::new(alloc),
             begun: Vec::new(alloc),
             near: 0,

@@ -16,6 +16,7 @@ use crate::courses::Courses;
 use crate::messages::is_inside;
 use crate::spent::SpentNames;
 use branch_table::{BranchTable, Ending};
+use hashing::HashKey;
 use protocol::{Answer, Row, View};
 use std::alloc::Global;
 use std::marker::Model;
@@ -60,15 +61,31 @@ impl ResourceManager {
             → StandsFor config number m [] []) }
         ensures err { IfErr result (λ e. e ≡ NoMemory) }
     {
-        let table = match BranchTable::new(alloc, rows) {
+        ResourceManager::with_hash_key(alloc, HashKey::fixed(), number, managers, rows)
+    }
+
+    /// The same under a key of hashes, which nothing that is answered depends on. Refused: `NoMemory` alone.
+    pub fn with_hash_key(
+        alloc: Global,
+        key: HashKey,
+        number: u8,
+        managers: u8,
+        rows: Vec<Row>,
+    ) -> Result<ResourceManager, Refusal>
+        requires { are_rows rows.items ≡ true }
+        ensures ok { IfOk result (λ m. (config : Config) → managers ≡ config.managers → rows.items ≡ first_rows config number
+            → StandsFor config number m [] []) }
+        ensures err { IfErr result (λ e. e ≡ NoMemory) }
+    {
+        let table = match BranchTable::with_hash_key(alloc, key, rows) {
             Ok(table) => table,
             Err(refusal) => return Err(refusal),
         };
         Ok(ResourceManager {
             number,
             managers,
-            courses: Courses::new(alloc),
-            spent: SpentNames::new(alloc),
+            courses: Courses::new(alloc, key),
+            spent: SpentNames::new(alloc, key.words()),
             table,
         })
     }

@@ -4,6 +4,7 @@ ghost use Rattle.xid.specs.Names.{XidParts, xid_eq};
 ghost use Rattle.xid.specs.declared.refusals.Refusal.TheVariants.{NoMemory};
 ghost use Rattle.resource_manager.specs.SpentNames.{is_spent_in};
 
+use hashing::WordKey;
 use indexmap::IndexSet;
 use std::alloc::Global;
 use std::marker::Model;
@@ -12,7 +13,7 @@ use xid::{Refusal, Xid};
 /// The names that are spent: a vote or an outcome is stored of some transaction that has them here.
 #[derive(Debug, Drop)]
 pub struct SpentNames {
-    names: IndexSet<Xid>,
+    names: IndexSet<Xid, WordKey>,
 }
 
 impl Model for SpentNames {
@@ -25,12 +26,12 @@ impl Model for SpentNames {
 }
 
 impl SpentNames {
-    /// No name. It takes no memory.
-    pub fn new(alloc: Global) -> SpentNames
+    /// No name. They are hashed under the key. It takes no memory.
+    pub fn new(alloc: Global, key: WordKey) -> SpentNames
         ensures { result.names ≡ [] }
     {
         SpentNames {
-            names: IndexSet::new(alloc),
+            names: IndexSet::with_hasher(alloc, key),
         }
     }
 

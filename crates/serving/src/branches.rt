@@ -1,3 +1,4 @@
+use hashing::{HashKey, WordKey};
 use indexmap::IndexMap;
 use protocol::{Action, Answer};
 use std::alloc::{AllocError, Global};
@@ -19,15 +20,20 @@ struct Branch {
 #[derive(Debug, Drop)]
 pub struct Branches {
     alloc: Global,
-    named: IndexMap<Xid, Branch>,
+    named: IndexMap<Xid, Branch, WordKey>,
 }
 
 impl Branches {
     /// None.
     pub fn new(alloc: Global) -> Branches {
+        Branches::with_hash_key(alloc, HashKey::fixed())
+    }
+
+    /// None, and names are hashed under a key.
+    pub fn with_hash_key(alloc: Global, key: HashKey) -> Branches {
         Branches {
             alloc,
-            named: IndexMap::new(alloc),
+            named: IndexMap::with_hasher(alloc, key.words()),
         }
     }
 

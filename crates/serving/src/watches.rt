@@ -1,4 +1,5 @@
 use crate::schedule::Schedule;
+use hashing::{HashKey, WordKey};
 use indexmap::IndexMap;
 use slab::Slab;
 use std::alloc::{AllocError, Global};
@@ -34,7 +35,7 @@ pub struct Watches {
     alloc: Global,
     schedule: Schedule,
     watched: Slab<Watch>,
-    keys: IndexMap<Vec<u8>, usize>,
+    keys: IndexMap<Vec<u8>, usize, WordKey>,
     // one for each turn, so that in each they stand by when they are due
     queues: Vec<VecDeque<Place>>,
 }
@@ -75,6 +76,15 @@ fn take_due(queue: &mut VecDeque<Place>, now: Instant) -> Option<Place> {
 impl Watches {
     /// None yet.
     pub fn new(alloc: Global, schedule: Schedule) -> Result<Watches, AllocError> {
+        Watches::with_hash_key(alloc, HashKey::fixed(), schedule)
+    }
+
+    /// None yet, and transactions are hashed under a key. Refused where memory runs out.
+    pub fn with_hash_key(
+        alloc: Global,
+        key: HashKey,
+        schedule: Schedule,
+    ) -> Result<Watches, AllocError> {
         let mut queues = Vec::new(alloc);
         for _ in 0..QUEUES {
             queues.push(VecDeque::new(alloc))?;
@@ -83,7 +93,7 @@ impl Watches {
             alloc,
             schedule,
             watched: Slab::new(alloc),
-            keys: IndexMap::new(alloc),
+            keys: IndexMap::with_hasher(alloc, key.words()),
             queues,
         })
     }

@@ -13,6 +13,7 @@ use mathlib.Core.Logic.{inl, inr}
 use Rattle.transactions.specs.Found.{is_at, found, or_new, hint_of, other_of, IsFound, IsIndex, IsPlaced}
 use Rattle.transactions.specs.declared.hashed.HashedPlaces.{HashedPlaces}
 use Rattle.hashing.specs.Hashing.{hash_of}
+use Rattle.hashing.specs.declared.keys.WordKey.{WordKey}
 
 one_place : (a b : ℕ) → Some a ≡ Some b → a ≡ b
 one_place a b e = cc
@@ -137,9 +138,10 @@ module _ {K : Type 0} (bytes : K → List ℕ) where
           let same_place : 0 ≡ suc n = one (bytes x) 0 (suc n) (same (bytes x)) (at_key xs (bytes x) n d lt e) in
           absurd (omega (arith, same_place))
 
-  module _ (keys : List K) (hint : ℕ → Option ℕ) (other : List ℕ → Option ℕ) (index : IsIndex bytes keys hint other) where
+  module _ (words : WordKey) (keys : List K) (hint : ℕ → Option ℕ) (other : List ℕ → Option ℕ)
+      (index : IsIndex bytes words keys hint other) where
     abbrev found_of : List ℕ → Option ℕ
-    found_of k = found bytes keys k (hint (hash_of k)) (other k)
+    found_of k = found bytes keys k (hint (hash_of words k)) (other k)
 
     own_place : (k : List ℕ) (n : ℕ) → is_at bytes keys k n ≡ true → found_of k ≡ Some n
     own_place k n e =
@@ -148,10 +150,11 @@ module _ {K : Type 0} (bytes : K → List ℕ) where
 
     -- what is found is the first place
     pub found_first : (k : List ℕ) → found_of k ≡ position (test k) keys
-    found_first k = place_is keys k (found_of k) (λ n e. found_at keys k (hint (hash_of k)) (other k) n (index.others k) e) (own_place k)
+    found_first k = place_is keys k (found_of k) (λ n e. found_at keys k (hint (hash_of words k)) (other k) n (index.others k) e)
+        (own_place k)
 
     -- where bytes stand is their one place
-    pub settled : (k : List ℕ) (hash : ℕ) (r : Option ℕ) → hash ≡ hash_of k
+    pub settled : (k : List ℕ) (hash : ℕ) (r : Option ℕ) → hash ≡ hash_of words k
         → IsFound bytes keys k (found bytes keys k (hint hash) (other k)) r → r ≡ found_of k
     settled k hash r is told = by r (subst (λ (h : ℕ). IsFound bytes keys k (found bytes keys k (hint h) (other k)) r) is told)
       where
@@ -240,57 +243,63 @@ module _ {K : Type 0} (bytes : K → List ℕ) where
     kept keys q None true false place n old new e = absurd (cc)
     kept keys q None false c place n old new e = absurd (cc)
 
-    module _ (keys : List K) (hint hint_now : ℕ → Option ℕ) (other other_now : List ℕ → Option ℕ) where
-      pub index_added : IsIndex bytes keys hint other
-          → found bytes keys (bytes key) (hint (hash_of (bytes key))) (other (bytes key)) ≡ None
+    module _ (words : WordKey) (keys : List K) (hint hint_now : ℕ → Option ℕ) (other other_now : List ℕ → Option ℕ) where
+      pub index_added : IsIndex bytes words keys hint other
+          → found bytes keys (bytes key) (hint (hash_of words (bytes key))) (other (bytes key)) ≡ None
           → ((h : ℕ) → hint_now h
-          ≡ or_new (hint h) (not (is_some (hint (hash_of (bytes key)))) && nat_eq h (hash_of (bytes key))) (length keys))
+          ≡ or_new (hint h) (not (is_some (hint (hash_of words (bytes key)))) && nat_eq h (hash_of words (bytes key))) (length keys))
           → ((q : List ℕ) → other_now q
-          ≡ or_new (other q) (is_some (hint (hash_of (bytes key))) && bytes_eq q (bytes key)) (length keys))
-          → IsIndex bytes (keys ++ key ∷ []) hint_now other_now
+          ≡ or_new (other q) (is_some (hint (hash_of words (bytes key))) && bytes_eq q (bytes key)) (length keys))
+          → IsIndex bytes words (keys ++ key ∷ []) hint_now other_now
       index_added index absent hints others = record { own = own; others = said }
         where
           taken : Bool
-          taken = is_some (hint (hash_of (bytes key)))
+          taken = is_some (hint (hash_of words (bytes key)))
 
           differs : (n : ℕ) (x : K) → slice_get keys n ≡ Some x → bytes_eq (bytes x) (bytes key) ≡ false
           differs n x at = false_from_ne_true (bytes_eq (bytes x) (bytes key)) (λ e.
               let eq : bytes x ≡ bytes key = (bytes_decides (bytes x) (bytes key)).0 e in
               let there : Some n ≡ None = sym (index.own n x at)
-              ∙ ap (λ (q : List ℕ). found bytes keys q (hint (hash_of q)) (other q)) eq ∙ absent in
+              ∙ ap (λ (q : List ℕ). found bytes keys q (hint (hash_of words q)) (other q)) eq ∙ absent in
               absurd (cc (there)))
 
           own : (n : ℕ) (x : K) → slice_get (keys ++ key ∷ []) n ≡ Some x
-              → found bytes (keys ++ key ∷ []) (bytes x) (hint_now (hash_of (bytes x))) (other_now (bytes x)) ≡ Some n
+              → found bytes (keys ++ key ∷ []) (bytes x) (hint_now (hash_of words (bytes x))) (other_now (bytes x)) ≡ Some n
           own n x at = old_or_last keys n x at
-              (found bytes (keys ++ key ∷ []) (bytes x) (hint_now (hash_of (bytes x))) (other_now (bytes x)) ≡ Some n)
+              (found bytes (keys ++ key ∷ []) (bytes x) (hint_now (hash_of words (bytes x))) (other_now (bytes x)) ≡ Some n)
               (λ before.
               let e = differs n x before in
-              (λ k. found bytes (keys ++ key ∷ []) (bytes x) (hints (hash_of (bytes x)) k)
-              ((others (bytes x) ∙ same_other (other (bytes x)) (is_some (hint (hash_of (bytes key)))) (bytes_eq (bytes x) (bytes key))
+              (λ k. found bytes (keys ++ key ∷ []) (bytes x) (hints (hash_of words (bytes x)) k)
+              ((others (bytes x) ∙ same_other (other (bytes x)) (is_some (hint (hash_of words (bytes key))))
+              (bytes_eq (bytes x) (bytes key))
               (length keys) e) k))
-              ∙ still keys (bytes x) (hint (hash_of (bytes x))) (other (bytes x))
-              (not (is_some (hint (hash_of (bytes key)))) && nat_eq (hash_of (bytes x)) (hash_of (bytes key))) n e (index.own n x before))
+              ∙ still keys (bytes x) (hint (hash_of words (bytes x))) (other (bytes x))
+              (not (is_some (hint (hash_of words (bytes key)))) && nat_eq (hash_of words (bytes x)) (hash_of words (bytes key)))
+              n e (index.own n x before))
               (λ is_last is_key.
-              ap (λ (y : K). found bytes (keys ++ key ∷ []) (bytes y) (hint_now (hash_of (bytes y))) (other_now (bytes y))) (sym is_key)
-              ∙ (λ k. found bytes (keys ++ key ∷ []) (bytes key) (hints (hash_of (bytes key)) k) (others (bytes key) k))
-              ∙ newly keys (hint (hash_of (bytes key))) (other (bytes key)) (nat_eq (hash_of (bytes key)) (hash_of (bytes key)))
-              (bytes_eq (bytes key) (bytes key)) (eq-eqb (hash_of (bytes key)) (hash_of (bytes key)) refl) (same (bytes key)) absent
+              ap (λ (y : K). found bytes (keys ++ key ∷ []) (bytes y) (hint_now (hash_of words (bytes y))) (other_now (bytes y)))
+              (sym is_key)
+              ∙ (λ k. found bytes (keys ++ key ∷ []) (bytes key) (hints (hash_of words (bytes key)) k) (others (bytes key) k))
+              ∙ newly keys (hint (hash_of words (bytes key))) (other (bytes key))
+              (nat_eq (hash_of words (bytes key)) (hash_of words (bytes key)))
+              (bytes_eq (bytes key) (bytes key)) (eq-eqb (hash_of words (bytes key)) (hash_of words (bytes key)) refl)
+              (same (bytes key)) absent
               ∙ ap Some (sym is_last))
 
           said : (q : List ℕ) (n : ℕ) → other_now q ≡ Some n → is_at bytes (keys ++ key ∷ []) q n ≡ true
-          said q n e = kept (keys ++ key ∷ []) q (other q) (is_some (hint (hash_of (bytes key)))) (bytes_eq q (bytes key)) (length keys) n
+          said q n e = kept (keys ++ key ∷ []) q (other q) (is_some (hint (hash_of words (bytes key))))
+              (bytes_eq q (bytes key)) (length keys) n
               (λ before. stays keys q n (index.others q n before)) (λ eq. last keys q ∙ eq) (sym (others q) ∙ e)
 
   -- ---- one more in hashed places
 
-  pub index_placed : (old new : HashedPlaces) (keys : List K) (hash place : ℕ) (k : List ℕ) (key : K)
-      → IsIndex bytes keys (hint_of old) (other_of old) → found bytes keys k (hint_of old hash) (other_of old k) ≡ None
-      → IsPlaced old new hash k place → hash ≡ hash_of k → k ≡ bytes key → place ≡ length keys
-      → IsIndex bytes (keys ++ key ∷ []) (hint_of new) (other_of new)
-  index_placed old new keys hash place k key index absent placed hashed spelled at_end =
-      let hash_is : hash ≡ hash_of (bytes key) = hashed ∙ ap hash_of spelled in
-      index_added key keys (hint_of old) (hint_of new) (other_of old) (other_of new) index
+  pub index_placed : (words : WordKey) (old new : HashedPlaces) (keys : List K) (hash place : ℕ) (k : List ℕ) (key : K)
+      → IsIndex bytes words keys (hint_of old) (other_of old) → found bytes keys k (hint_of old hash) (other_of old k) ≡ None
+      → IsPlaced old new hash k place → hash ≡ hash_of words k → k ≡ bytes key → place ≡ length keys
+      → IsIndex bytes words (keys ++ key ∷ []) (hint_of new) (other_of new)
+  index_placed words old new keys hash place k key index absent placed hashed spelled at_end =
+      let hash_is : hash ≡ hash_of words (bytes key) = hashed ∙ ap (hash_of words) spelled in
+      index_added key words keys (hint_of old) (hint_of new) (other_of old) (other_of new) index
       ((λ i. found bytes keys (sym spelled i) (hint_of old (sym hash_is i)) (other_of old (sym spelled i))) ∙ absent)
       (λ h. placed.hints h
       ∙ (λ i. or_new (hint_of old h) (not (is_some (hint_of old (hash_is i))) && nat_eq h (hash_is i)) (at_end i)))

@@ -1,9 +1,10 @@
 -- Where bytes stand among keys: by a hint, and else by what the others say.
-use Rattle.std.specs.Prelude.{◌≡◌, ◌&&◌, ◌⊎◌, ℕ, Bool, true, false, not, if◌then◌else◌, List, Option, Some, None, is_some, slice_get, nat_eq}
-use Rattle.std.specs.Prelude.{IsSomeAnd}
+use Rattle.std.specs.Prelude.{◌≡◌, ◌&&◌, ◌⊎◌, ℕ, Bool, true, false, not, if◌then◌else◌, List, Option, Some, None, is_some, IsSomeAnd}
+use Rattle.std.specs.Prelude.{slice_get, nat_eq}
 use Rattle.std.specs.Map.{lookup}
 use Rattle.std.specs.Str.{bytes_eq}
 use Rattle.hashing.specs.Hashing.{hash_of}
+use Rattle.hashing.specs.declared.keys.WordKey.{WordKey}
 use Rattle.transactions.specs.declared.hashed.HashedPlaces.{HashedPlaces}
 
 -- what the hints say of a hash
@@ -43,8 +44,8 @@ module _ {K : Type 0} (bytes : K → List ℕ) where
   abbrev pub IsFound : List K → List ℕ → (by_hint result : Option ℕ) → Type 0
   IsFound keys k by_hint result = (result ≡ by_hint) ⊎ IsSomeAnd result (λ place. is_at keys k place ≡ true)
 
-  -- each key is found by its bytes, and bytes stand where the others say
-  pub record IsIndex (keys : List K) (hint : ℕ → Option ℕ) (other : List ℕ → Option ℕ) : Type 0 where
+  -- each key is found by its bytes under the key of hashes, and bytes stand where the others say
+  pub record IsIndex (words : WordKey) (keys : List K) (hint : ℕ → Option ℕ) (other : List ℕ → Option ℕ) : Type 0 where
     pub own : (place : ℕ) (key : K) → slice_get keys place ≡ Some key
-        → found keys (bytes key) (hint (hash_of (bytes key))) (other (bytes key)) ≡ Some place
+        → found keys (bytes key) (hint (hash_of words (bytes key))) (other (bytes key)) ≡ Some place
     pub others : (k : List ℕ) (place : ℕ) → other k ≡ Some place → is_at keys k place ≡ true

@@ -3,7 +3,7 @@ ghost use Rattle.xid.specs.declared.refusals.Refusal.TheVariants.{NoMemory};
 ghost use Rattle.transactions.specs.Found.{is_at, found, hint_of, other_of, IsFound, IsPlaced};
 
 use crate::spellings::Spellings;
-use hashing::WordHasher;
+use hashing::{SipKey, WordHasher};
 use indexmap::IndexMap;
 use std::alloc::Global;
 use std::hash::BuildHasherDefault;
@@ -12,10 +12,10 @@ use xid::Refusal;
 /// Where spelled bytes stand in a list, by their hashes.
 #[derive(Debug, Drop)]
 pub struct HashedPlaces {
-    /// For a hash, the place of the first bytes that have it.
+    /// For a hash, the place of the first bytes that have it. Hashes are keyed, so nobody chooses what is looked up here.
     hints: IndexMap<u64, usize, BuildHasherDefault<WordHasher>>,
     /// The places of other bytes, whose hash was taken.
-    others: IndexMap<Vec<u8>, usize, BuildHasherDefault<WordHasher>>,
+    others: IndexMap<Vec<u8>, usize, SipKey>,
 }
 
 /// Whether bytes stand at a place among keys.
@@ -29,14 +29,14 @@ pub fn stand_at(keys: &Spellings, bytes: &[u8], place: usize) -> bool
 }
 
 impl HashedPlaces {
-    /// No place. It takes no memory.
-    pub fn new(alloc: Global) -> HashedPlaces
+    /// No place. Bytes whose hash was taken are hashed under the key. It takes no memory.
+    pub fn new(alloc: Global, key: SipKey) -> HashedPlaces
         ensures hints { result.hints.entries ≡ [] }
         ensures others { result.others.entries ≡ [] }
     {
         HashedPlaces {
             hints: IndexMap::with_hasher(alloc, BuildHasherDefault::new()),
-            others: IndexMap::with_hasher(alloc, BuildHasherDefault::new()),
+            others: IndexMap::with_hasher(alloc, key),
         }
     }
 

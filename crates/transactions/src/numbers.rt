@@ -9,17 +9,18 @@ ghost use Rattle.transactions.specs.Seen.{place_in, seen_with};
 
 use crate::hashed::{HashedPlaces, stand_at};
 use crate::spellings::Spellings;
-use hashing::hash_of;
+use hashing::{HashKey, WordKey, hash_of};
 use std::alloc::Global;
 use std::marker::Model;
 use wire::{MAX_TX_BYTES, SpelledTx, VersionNumber, take_tx};
 use xid::{Refusal, Tx};
 
 /// Transactions in the order of first sight. The number of a transaction is its place in that order, and stays. Each is kept by its
-/// spelled bytes, and is found by a hash of them.
+/// spelled bytes, and is found by a hash of them under a key.
 #[derive(Debug, Drop)]
 pub struct Transactions {
     alloc: Global,
+    words: WordKey,
     spelled: Spellings,
     places: HashedPlaces,
 }
@@ -37,19 +38,27 @@ impl Model for Transactions {
 
     ghost invariant = { λ t. record {
       spelled : All (λ key. IsSpelled key) t.spelled;
-      found : IsIndex (λ key. key) t.spelled (hint_of t.places) (other_of t.places);
+      found : IsIndex (λ key. key) t.words t.spelled (hint_of t.places) (other_of t.places);
     } };
 }
 
 impl Transactions {
-    /// No transaction. It takes no memory.
+    /// No transaction, under the key of those that draw none. It takes no memory.
     pub fn new(alloc: Global) -> Transactions
+        ensures { result ≡ [] }
+    {
+        Transactions::with_hash_key(alloc, HashKey::fixed())
+    }
+
+    /// No transaction, under a key of hashes, which nothing that is answered depends on. It takes no memory.
+    pub fn with_hash_key(alloc: Global, key: HashKey) -> Transactions
         ensures { result ≡ [] }
     {
         Transactions {
             alloc,
+            words: key.words(),
             spelled: Spellings::new(alloc),
-            places: HashedPlaces::new(alloc),
+            places: HashedPlaces::new(alloc, key.sip()),
         }
     }
 
@@ -67,7 +76,8 @@ impl Transactions {
         ensures value { result ≡ position (λ tx. bytes_eq spelled.now (tx_spelling version_2 tx)) self.now }
         ensures valid { All IsTx self.now }
     {
-        self.places.find(&self.spelled, hash_of(spelled), spelled)
+        self.places
+            .find(&self.spelled, hash_of(self.words, spelled), spelled)
     }
 
     /// The number of a transaction, where it was seen. It takes no memory.
@@ -137,7 +147,7 @@ impl Transactions {
         ensures err { IfErr result (λ e. (e ≡ NoMemory) × (self.new ≡ self.old)) }
     {
         let spelled = tx.as_bytes();
-        let hash = hash_of(spelled);
+        let hash = hash_of(self.words, spelled);
         if let Some(number) = self.places.find(&self.spelled, hash, spelled) {
             return Ok(number);
         }

@@ -6,8 +6,9 @@ ghost use Rattle.udp_edge.specs.Printing.{verdict_text, question_text, fault_lin
 ghost use Rattle.udp_edge.specs.CommandLines.{IsMisuse, exit_status};
 
 use crate::command::{Rejected, Subcommand, action};
-use audit::{Fault, Question, audit_text};
-use cluster_run::run_to;
+use audit::{Fault, Question, audit_text_with_hash_key};
+use cluster_run::run_to_with_hash_key;
+use hashing::HashKey;
 use net_script::{file_refusal, write_number, write_text};
 use std::alloc::Global;
 use std::convert::AsStr;
@@ -149,8 +150,9 @@ pub fn answer<W: Write>(
     ensures ok { IfOk result (λ found. PrintsOf subcommand.entry bytes.now found (W.contents out.old) (W.contents out.new)) }
     ensures err { IfErr result (λ e. Refuses subcommand.entry bytes.now e (W.contents out.old) (W.contents out.new)) }
 {
+    let key = HashKey::draw(&rt);
     match subcommand {
-        Subcommand::Run { .. } => match run_to(rt.alloc(), bytes, out) {
+        Subcommand::Run { .. } => match run_to_with_hash_key(rt.alloc(), key, bytes, out) {
             Ok(()) => Ok(None),
             Err(refusal) => Err(refusal),
         },
@@ -158,7 +160,7 @@ pub fn answer<W: Write>(
             Ok(text) => print_whole(&text, None, out),
             Err(refusal) => Err(refusal),
         },
-        Subcommand::Audit { .. } => match audit_text(rt.alloc(), bytes) {
+        Subcommand::Audit { .. } => match audit_text_with_hash_key(rt.alloc(), key, bytes) {
             Ok(found) => print_whole(verdict_text(found), found, out),
             Err(refusal) => Err(refusal),
         },

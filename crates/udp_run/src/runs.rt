@@ -7,7 +7,8 @@ ghost use Rattle.udp_run.specs.Commands.{is_served as is_served_lem};
 ghost use Rattle.udp_run.specs.Runs.{IsFirstRefused, IsServed, IsUdpRun, RefusesDevices, RefusesUdp};
 
 use crate::opening::open;
-use cluster_run::config_of;
+use cluster_run::config_of_with_hash_key;
+use hashing::HashKey;
 use net_script::{Command, Script, Trace, line_of, read_script, write_trace};
 use node_core::Config;
 use protocol::Event;
@@ -27,7 +28,12 @@ pub fn udp(rt: HostRuntime, script: &[u8], folder: &str) -> Result<Vec<u8>, Refu
     let alloc = rt.alloc();
     let text = script;
     let script = read_script(alloc, text)?;
-    let config = config_of(alloc, script.sizes, script.tables.as_slice())?;
+    let config = config_of_with_hash_key(
+        alloc,
+        HashKey::draw(&rt),
+        script.sizes,
+        script.tables.as_slice(),
+    )?;
     if let Some(at) = first_refused(script.commands.as_slice()) {
         let Some(line) = line_of(text, 1 + script.tables.as_slice().len() + at) else {
             unreachable!();

@@ -177,7 +177,9 @@ pub one_more : (tx : TxParts) (rms : List ℕ) (place rm : ℕ) → place < leng
 one_more tx rms place rm within e before k less = by (ltb k place) refl
   where
     by : (t : Bool) → ltb k place ≡ t → slice_index (slice_set rms place rm) k ≡ (nth_branch tx k).rm
-    by true et = get_or-set_other rms place k rm 0 (λ same. absurd (omega (arith, same, ltb-true k place et))) ∙ before k (ltb-true k place et)
+    by true et =
+        get_or-set_other rms place k rm 0 (λ same. absurd (omega (arith, same, ltb-true k place et)))
+        ∙ before k (ltb-true k place et)
     by false et =
         let same : k ≡ place = omega (arith, less, ltb-false k place et) in
         ap (λ (n : ℕ). slice_index (slice_set rms place rm) n) same ∙ get_or-set_same rms place rm 0 within ∙ e

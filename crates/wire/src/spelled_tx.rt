@@ -218,7 +218,7 @@ impl<'a> SpelledTx<'a> {
         self.nth(i).0
     }
 
-    /// The numbers of the resource managers that take part, by the places of their branches, in one walk. Zeros stand behind them.
+    /// The numbers of the resource managers that take part, by the places of their branches, in one walk.
     pub fn managers(&self) -> [ManagerNumber; MAX_BRANCHES]
         ensures value { (i : ℕ) → i < length self.now.branches → slice_index result i ≡ slice_index (participants self.now) i }
         ensures branch { (i : ℕ) → i < length self.now.branches → slice_index result i ≡ (nth_branch self.now i).rm }

@@ -5,12 +5,14 @@ use Rattle.hashing.proofs.bytes.hash_of.Goals as goal
 
 pub loop-word-preserved : goal.loop-word-preserved
 loop-word-preserved c =
-    let step = word_taken c.loop-word.state c.loop-word.rest.now c.in-Some.word.now c.in-Some.after.now
+    let by = c.args.key.multiplier in
+    let step = word_taken by c.loop-word.state c.loop-word.rest.now c.in-Some.word.now c.in-Some.after.now
     (omega (arith, c.in-Some.ensures.cases.2)) c.in-Some.ensures.cases.0 c.in-Some.ensures.cases.1 in
-    ap (λ s. words_taken s c.in-Some.after.now) (c.mixed-state.ensures ∙ ap (mixed c.loop-word.state) c.from_le_bytes.ensures)
+    ap (λ s. words_taken by s c.in-Some.after.now) (c.mixed-state.ensures ∙ ap (mixed by c.loop-word.state) c.from_le_bytes.ensures)
     ∙ step ∙ c.loop-word.invariant
 
 pub returns : goal.returns
 returns c =
-    let all = sym (words_ended c.loop-word.state c.loop-word.rest.now c.in_default.ensures.cases) ∙ c.loop-word.invariant in
-    c.mixed.ensures ∙ (λ k. mixed (all k) (c.last_word.ensures k))
+    let by = c.args.key.multiplier in
+    let all = sym (words_ended by c.loop-word.state c.loop-word.rest.now c.in_default.ensures.cases) ∙ c.loop-word.invariant in
+    c.mixed.ensures ∙ (λ k. mixed by (all k) (c.last_word.ensures k))

@@ -6,10 +6,10 @@ use Rattle.node_core.proofs.opening.new_role.Goals as goal
 
 pub returns-in-A-clause-ok : goal.returns-in-A-clause-ok
 returns-in-A-clause-ok c = λ config sizes rows.
-    subst (λ w. RoleStands config w (Role.Acceptor c.new.result) [] empty_memory) (sym c.in-A.is)
-    (c.new.ensures config sizes.leaders_are sizes.bundled_is)
+    subst (λ w. RoleStands config w (Role.Acceptor c.with_hash_key.result) [] empty_memory) (sym c.in-A.is)
+    (c.with_hash_key.ensures config sizes.leaders_are sizes.bundled_is)
 
 pub returns-in-L-clause-ok : goal.returns-in-L-clause-ok
 returns-in-L-clause-ok c = λ config sizes rows.
-    subst (λ w. RoleStands config w (Role.Leader c.new-in-L.result) [] empty_memory) (sym c.in-L.is)
-    (c.new-in-L.ensures config sizes.acceptors_are sizes.leaders_are sizes.managers_are sizes.bundled_is)
+    subst (λ w. RoleStands config w (Role.Leader c.with_hash_key-in-L.result) [] empty_memory) (sym c.in-L.is)
+    (c.with_hash_key-in-L.ensures config sizes.acceptors_are sizes.leaders_are sizes.managers_are sizes.bundled_is)

@@ -10,7 +10,8 @@ loop-rest-preserved c =
     let first : List ℕ = c.split_at.result.0.now in
     let after : List ℕ = c.split_at.result.1.now in
     let whole : first ++ after ≡ c.loop-rest.rest.now =
-    ap (λ (l : List ℕ). l ++ after) c.split_at.ensures.front ∙ ap (λ (l : List ℕ). take 64 c.loop-rest.rest.now ++ l) c.split_at.ensures.back
+    ap (λ (l : List ℕ). l ++ after) c.split_at.ensures.front
+    ∙ ap (λ (l : List ℕ). take 64 c.loop-rest.rest.now ++ l) c.split_at.ensures.back
     ∙ take-append-drop 64 c.loop-rest.rest.now in (
       ap (λ (l : List ℕ). l ++ hex_text after) c.in_ok-put_short_hex.ensures.ok ∙ append_assoc out (hex_text first) (hex_text after)
           ∙ ap (λ (l : List ℕ). out ++ l) (sym (hex_append first after)) ∙ ap (λ (l : List ℕ). out ++ hex_text l) whole

@@ -7,5 +7,5 @@ returns-clause-ok c = record {
   tables = c.in_ok-tables.ensures.ok;
   branches = λ rm x. ap (λ bs. stretch_of bs rm x) c.new-branches.ensures;
   views = c.new-views.ensures;
-  firsts = c.new-firsts.ensures;
+  firsts = c.with_hash_key-firsts.ensures;
 }

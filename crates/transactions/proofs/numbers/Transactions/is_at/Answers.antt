@@ -18,7 +18,8 @@ returns-clause-place c is =
     subst (λ (seen : List TxParts). (c.args.number ≡ position_or_len (λ tx. bytes_eq k (tx_spelling version_2 tx)) seen)
     × (c.args.number < length seen)) c.self.view_is
     (stands_at (λ key. key) k here.0 keys c.args.number c.self.invariant.spelled
-    (found_apart (λ key. key) keys (hint_of c.self.inside.places) (other_of c.self.inside.places) c.self.invariant.found)
+    (found_apart (λ key. key) c.self.inside.words keys (hint_of c.self.inside.places) (other_of c.self.inside.places)
+    c.self.invariant.found)
     here.1 here.2)
 
 pub returns-clause-valid : goal.returns-clause-valid

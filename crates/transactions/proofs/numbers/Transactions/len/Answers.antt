@@ -10,7 +10,7 @@ pub returns-clause-distinct : goal.returns-clause-distinct
 returns-clause-distinct c =
     subst (IsDistinct tx_eq) c.self.view_is
     (seen_distinct (λ key. key) c.self.inside.spelled c.self.invariant.spelled
-    (found_apart (λ key. key) c.self.inside.spelled (hint_of c.self.inside.places) (other_of c.self.inside.places)
+    (found_apart (λ key. key) c.self.inside.words c.self.inside.spelled (hint_of c.self.inside.places) (other_of c.self.inside.places)
     c.self.invariant.found))
 
 pub returns-clause-valid : goal.returns-clause-valid

@@ -12,9 +12,9 @@ use Rattle.transactions.proofs.numbers.Transactions.number_of_spelled.Goals as g
 
 pub returns-clause-value : goal.returns-clause-value
 returns-clause-value c =
-    settled (λ key. key) c.self.inside.spelled (hint_of c.self.inside.places) (other_of c.self.inside.places)
+    settled (λ key. key) c.self.inside.words c.self.inside.spelled (hint_of c.self.inside.places) (other_of c.self.inside.places)
     c.self.invariant.found c.args.spelled.now c.hash_of.result c.find.result c.hash_of.ensures c.find.ensures
-    ∙ found_first (λ key. key) c.self.inside.spelled (hint_of c.self.inside.places) (other_of c.self.inside.places)
+    ∙ found_first (λ key. key) c.self.inside.words c.self.inside.spelled (hint_of c.self.inside.places) (other_of c.self.inside.places)
     c.self.invariant.found c.args.spelled.now
     ∙ place_by_bytes (λ key. key) c.args.spelled.now c.self.inside.spelled c.self.invariant.spelled
     ∙ ap (position (λ tx. bytes_eq c.args.spelled.now (tx_spelling version_2 tx))) c.self.view_is

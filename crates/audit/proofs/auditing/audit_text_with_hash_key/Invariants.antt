@@ -2,7 +2,7 @@ use Rattle.std.proofs.Common.{◌≡◌, length, Option}
 use Rattle.net_script.specs.TraceReaders.{HasRead}
 use Rattle.audit.specs.Words.{Trace}
 use Rattle.audit.specs.Noting.{HasNoted}
-use Rattle.audit.proofs.auditing.audit_text.Given as goal
+use Rattle.audit.proofs.auditing.audit_text_with_hash_key.Given as goal
 
 abbrev pub invariant-loop-judge : goal.invariant-loop-judge
 invariant-loop-judge l =

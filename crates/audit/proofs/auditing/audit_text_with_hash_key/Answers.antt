@@ -3,7 +3,7 @@ use Rattle.std.proofs.lemmas.Result.{err_from_is_err_and}
 use Rattle.net_script.specs.TraceReaders.{GivesHeard, IsRead}
 use Rattle.audit.proofs.HearingLemmas.{wants_memory, refused}
 use Rattle.audit.proofs.NotedLemmas.{told_next, lines_fit, found_text}
-use Rattle.audit.proofs.auditing.audit_text.Goals as goal
+use Rattle.audit.proofs.auditing.audit_text_with_hash_key.Goals as goal
 
 pub returns-in_err-heard-clause-err : goal.returns-in_err-heard-clause-err
 returns-in_err-heard-clause-err c =

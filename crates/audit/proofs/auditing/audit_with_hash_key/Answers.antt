@@ -5,7 +5,7 @@ use Rattle.audit.specs.Following.{Follows}
 use Rattle.audit.specs.Tables.{are_tables, first_tables}
 use Rattle.audit.specs.Told.{history_of, each_step}
 use Rattle.audit.proofs.AuditLemmas.{is_right, wrong_step, next_follows, next_right, wrong_tables, by_result}
-use Rattle.audit.proofs.auditing.audit.Goals as goal
+use Rattle.audit.proofs.auditing.audit_with_hash_key.Goals as goal
 
 pub returns-then-not-branch-clause-ok : goal.returns-then-not-branch-clause-ok
 returns-then-not-branch-clause-ok c =

@@ -3,7 +3,7 @@ use Rattle.audit.specs.Following.{Follows}
 use Rattle.audit.specs.Tables.{first_tables}
 use Rattle.audit.specs.Told.{history_of, each_step}
 use Rattle.audit.proofs.AuditLemmas.{is_right}
-use Rattle.audit.proofs.auditing.audit.Given as goal
+use Rattle.audit.proofs.auditing.audit_with_hash_key.Given as goal
 
 abbrev pub invariant-loop-entry : goal.invariant-loop-entry
 invariant-loop-entry l = record {

@@ -4,7 +4,7 @@ use Rattle.protocol.specs.LeaderMemory.{nothing_heard}
 use Rattle.leader.specs.Courses.{CourseStands}
 use Rattle.leader.specs.Places.{CoursesParts, course_in}
 use Rattle.leader.proofs.Leading.{fresh_stands}
-use Rattle.leader.proofs.leader.Leader.new.Goals as goal
+use Rattle.leader.proofs.leader.Leader.with_hash_key.Goals as goal
 
 pub returns : goal.returns
 returns c = λ config acceptors leaders managers bundled. record {

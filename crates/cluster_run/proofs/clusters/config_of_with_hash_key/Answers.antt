@@ -1,7 +1,7 @@
 use Rattle.std.proofs.Common.{◌∙◌, inr, rules}
 use Rattle.cluster_run.specs.Runs.{RefusesSizes}
 use Rattle.cluster_run.proofs.Configs.{handed_on, outside_limits}
-use Rattle.cluster_run.proofs.clusters.config_of.Goals as goal
+use Rattle.cluster_run.proofs.clusters.config_of_with_hash_key.Goals as goal
 
 pub returns-in_err-config-clause-err : goal.returns-in_err-config-clause-err
 returns-in_err-config-clause-err c =
