@@ -1,8 +1,11 @@
 # pcommit: see README.md. `rt` is the command of the Rattle kit.
 SCRIPT ?= examples/plain-commit.script
 PREFIX ?= /usr/local
+# the program of a node that the targets of the Java client run, and how long their soak is
+NODE ?= bin/pcommit_node
+MINUTES ?= 20
 
-.PHONY: run build try test golden scripts pictures wrong-rules cluster demo-postgresql soak docs install clean proof-tools test-tools
+.PHONY: run build try test golden scripts pictures wrong-rules cluster demo-postgresql demo-xa test-xa bench-xa soak docs install clean proof-tools test-tools
 
 # builds the program and runs it on a script
 run: build
@@ -23,7 +26,7 @@ try: proof-tools
 
 # everything: a sentence above each definition, figures and links on the pages, each proof from nothing, the must-fail edits, the tests, the programs as two
 # compilers build them, the cases of single parts among them; then, of what was built so, the golden scripts, runs and cases with each block
-# of memory refused in turn, and runs of many transactions
+# of memory refused in turn, runs of many transactions, and names that collide
 test: test-tools
 	tools/definitions.py --check
 	tools/pages.py --check
@@ -33,6 +36,7 @@ test: test-tools
 	$(MAKE) scripts
 	tests/refused.sh crates/cases/out/cases crates/cases/stdin
 	tests/many.py bin/pcommit crates/cases/out/cases
+	tests/collisions.py bin/pcommit crates/pcommit_node/out/pcommit_node
 
 golden: test-tools build scripts
 
@@ -61,6 +65,21 @@ demo-postgresql: bin/pcommit_node
 	@[ -x /usr/bin/python3 ] && /usr/bin/python3 -c 'import psycopg2' 2>/dev/null && ls /usr/lib/postgresql/*/bin/postgres >/dev/null 2>&1 || \
 	    { echo 'not installed: apt-get install postgresql python3-psycopg2' >&2; exit 1; }
 	@/usr/bin/python3 examples/postgresql/demo.py bin/pcommit_node
+
+# an order over PostgreSQL, MariaDB and ActiveMQ whose application is killed, with pcommit and with BTM: docs/XA.md
+demo-xa: xa-tools $(NODE)
+	@clients/java/run.sh Demo $(NODE)
+
+# the Java client: its tests, alone and with real servers, each cell of docs/XA.md, and a soak
+test-xa: xa-tools $(NODE)
+	@clients/java/test.sh $(NODE) $(MINUTES)
+
+# the Java client beside BTM
+bench-xa: xa-tools $(NODE)
+	@clients/java/run.sh BesideBtm $(NODE)
+
+xa-tools:
+	@clients/java/needs.sh
 
 # a cluster of processes on this host for an hour: a thousand kills, a network that fails, strangers
 soak: test-tools bin/pcommit_node

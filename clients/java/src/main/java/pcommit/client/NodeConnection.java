@@ -1,0 +1,150 @@
+package pcommit.client;
+
+import java.io.BufferedReader;
+import java.io.IOException;
+import java.io.InputStreamReader;
+import java.io.OutputStream;
+import java.net.InetSocketAddress;
+import java.net.Socket;
+import java.nio.charset.StandardCharsets;
+import java.time.Duration;
+import java.util.ArrayDeque;
+import java.util.ArrayList;
+import java.util.Deque;
+import java.util.List;
+import java.util.Optional;
+import java.util.concurrent.CompletableFuture;
+
+/**
+ * A connection to a node. Any number of threads write lines; a thread of its own reads the answers, which come in the order of the lines.
+ * Once it has failed it stays so, and all that waits for an answer fails with it.
+ */
+final class NodeConnection implements AutoCloseable {
+    private final NodeName node;
+    private final Socket socket = new Socket();
+    private final OutputStream output;
+    private final BufferedReader input;
+    private final Object lock = new Object();
+    private final Deque<CompletableFuture<String>> waiting = new ArrayDeque<>();
+    private NodeGoneException failure;
+    private volatile boolean hasAnswered;
+
+    private NodeConnection(final NodeName node, final InetSocketAddress address, final int millis) throws IOException {
+        this.node = node;
+        socket.connect(address, millis);
+        socket.setTcpNoDelay(true);
+        output = socket.getOutputStream();
+        input = new BufferedReader(new InputStreamReader(socket.getInputStream(), StandardCharsets.US_ASCII));
+    }
+
+    /** Connects, and proves that the client has the key where there is one. */
+    static NodeConnection open(final NodeName node, final InetSocketAddress address, final Optional<Proof> proof, final Duration patience)
+            throws NodeGoneException {
+        final int millis = (int) Math.max(1, patience.toMillis());
+        final NodeConnection connection;
+        try {
+            connection = new NodeConnection(node, address, millis);
+        } catch (IOException error) {
+            throw new NodeGoneException(node, "it can't be reached at " + address + ": " + error.getMessage(), error);
+        }
+        try {
+            if (proof.isPresent()) {
+                connection.prove(proof.get(), millis);
+            }
+        } catch (IOException error) {
+            connection.close();
+            throw new NodeGoneException(node, "it sent no challenge: " + error.getMessage(), error);
+        }
+        final Thread reader = new Thread(connection::readAll, "pcommit " + node);
+        reader.setDaemon(true);
+        reader.start();
+        return connection;
+    }
+
+    private void prove(final Proof proof, final int millis) throws IOException {
+        socket.setSoTimeout(millis);
+        final String line = input.readLine();
+        if (line == null || !line.matches("challenge ([0-9a-f]{2})+")) {
+            throw new IOException("is client_key in its file?");
+        }
+        output.write((proof.line(line.substring("challenge ".length())) + "\n").getBytes(StandardCharsets.US_ASCII));
+        socket.setSoTimeout(0);
+    }
+
+    /** Writes lines at once. Their answers come later, one for each. */
+    List<CompletableFuture<String>> send(final List<String> lines) throws NodeGoneException {
+        final List<CompletableFuture<String>> answers = new ArrayList<>(lines.size());
+        final byte[] bytes = (String.join("\n", lines) + "\n").getBytes(StandardCharsets.US_ASCII);
+        synchronized (lock) {
+            if (failure != null) {
+                throw failure;
+            }
+            for (int count = lines.size(); count > 0; count--) {
+                answers.add(new CompletableFuture<>());
+            }
+            waiting.addAll(answers);
+            try {
+                output.write(bytes);
+            } catch (IOException error) {
+                fail("its connection broke: " + error.getMessage(), error);
+            }
+        }
+        return answers;
+    }
+
+    private void readAll() {
+        try {
+            for (String line = input.readLine(); line != null; line = input.readLine()) {
+                hasAnswered = true;
+                take(line);
+            }
+            fail("it closed the connection" + (hasAnswered ? "" : " before any answer: is the clients' key the right one?"), null);
+        } catch (IOException error) {
+            fail("its connection broke: " + error.getMessage(), error);
+        }
+    }
+
+    private void take(final String line) throws IOException {
+        final CompletableFuture<String> answer;
+        synchronized (lock) {
+            answer = waiting.poll();
+        }
+        if (answer == null) {
+            throw new IOException("it answered what nobody asked");
+        }
+        answer.complete(line);
+    }
+
+    /** It is of no use any more: all that waits fails. */
+    void fail(final String reason, final Throwable cause) {
+        final NodeGoneException reasonNow = new NodeGoneException(node, reason, cause);
+        try {
+            // before the lock is taken: a thread that holds it may be writing to a node that doesn't read
+            socket.close();
+        } catch (IOException error) {
+            reasonNow.addSuppressed(error);
+        }
+        final List<CompletableFuture<String>> lost;
+        final NodeGoneException told;
+        synchronized (lock) {
+            if (failure == null) {
+                failure = reasonNow;
+            }
+            told = failure;
+            lost = new ArrayList<>(waiting);
+            waiting.clear();
+        }
+        lost.forEach(answer -> answer.completeExceptionally(told));
+    }
+
+    boolean isUsable() {
+        synchronized (lock) {
+            return failure == null;
+        }
+    }
+
+    @Override
+    public void close() {
+        fail("the client has closed the connection", null);
+    }
+}
