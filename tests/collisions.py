@@ -1,7 +1,8 @@
 #!/usr/bin/env python3
 """Runs the built programs over names and keys that collide under hashers whose seed is known, and over as many by chance, of the same
-shape: `tests/collisions.py PCOMMIT PCOMMIT_NODE`. With those that collide a program takes no more than 1.3 times as long: the user time
-of its process, by turns, the least of each. What collides is in colliding.py. The last line is 'N passed, M failed'."""
+shape: `tests/collisions.py PCOMMIT PCOMMIT_NODE`. With those that collide a program takes no more than 1.3 times as long: the time of
+processors, by turns, the least of each. A machine that does other things too makes a turn dear, never cheap, so turns go on, up to 25,
+while the least of those that collide is above that. What collides is in colliding.py. The last line is 'N passed, M failed'."""
 import os
 import random
 import resource
@@ -17,7 +18,7 @@ from processes import Processes
 
 PCOMMIT, NODE = (os.path.realpath(path) for path in sys.argv[1:3])
 MOST = 1.3
-TURNS = 6
+TURNS = 25
 # places of names of which it is looked whether they collide: of each string of each place in them there is one
 SOME = range(0, COUNT, 39)
 # no busy machine makes so much of it
@@ -39,8 +40,9 @@ def check(name, is_right, why=""):
 
 
 def children_time():
-    """The user time of all processes that were started, and have ended."""
-    return resource.getrusage(resource.RUSAGE_CHILDREN).ru_utime
+    """The processor seconds of all processes that were started, and have ended."""
+    usage = resource.getrusage(resource.RUSAGE_CHILDREN)
+    return usage.ru_utime + usage.ru_stime
 
 
 def compare(name, *works):
