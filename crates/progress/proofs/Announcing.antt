@@ -35,6 +35,7 @@ use Rattle.protocol.specs.StandsFor.{stands_for}
 use Rattle.protocol.specs.Worlds.{World, Datagram, node_at, outcome_result, if_found}
 use Rattle.protocol.proofs.Lists.{IsIn-join, IsIn-mapped, any_find}
 use Rattle.progress.proofs.Mail.{Letter, letter_of, mail}
+use Rattle.progress.proofs.Backed.{IsBacked}
 use Rattle.progress.proofs.Ending.{IsAnnounced}
 
 -- what is in the mail was sent
@@ -61,11 +62,12 @@ module _ (config : Config) (tx : TxParts) (world : World) where
     view_stands = state_stands config (node_at config world) (sent_in world) tx r (participates tx r named)
 
     -- a stored outcome is the view
-    pub commit_ends : IsIn (facts_at config world (R r)) (stored.Committed tx) → views_in config world tx r ≡ committed
-    commit_ends h = one_view (setting config) Has (invariant config world reach) tx r (views_in config world tx r) committed view_stands h
+    commit_ends_there : IsIn (facts_at config world (R r)) (stored.Committed tx) → views_in config world tx r ≡ committed
+    commit_ends_there h =
+        one_view (setting config) Has (invariant config world reach) tx r (views_in config world tx r) committed view_stands h
 
-    pub abort_ends : IsIn (facts_at config world (R r)) (stored.Aborted tx) → views_in config world tx r ≡ aborted
-    abort_ends h =
+    abort_ends_there : IsIn (facts_at config world (R r)) (stored.Aborted tx) → views_in config world tx r ≡ aborted
+    abort_ends_there h =
         one_view (setting config) Has (invariant config world reach) tx r (views_in config world tx r) aborted view_stands (inr h)
 
   abbrev committing : List Branch → View → Effect (List Branch)
@@ -84,14 +86,15 @@ module _ (config : Config) (tx : TxParts) (world : World) where
   commit_by r facts memory x named working e is = absurd is
   commit_by r facts memory x named aborted e is = absurd is
 
-  pub commit_stores : IsAnnounced config tx (kinds.Commit tx) world → (r : ℕ) → IsIn (participants tx) r → (memory : Memory)
+  commit_stores_there : IsReachable config world → (r : ℕ) → IsIn (participants tx) r
+      → IsIn (mail world.net) (record { receiver = R r; message = kinds.Commit tx }) → (memory : Memory)
       → (views_in config world tx r ≡ committed)
       ⊎ ((on_message config (R r) (facts_at config world (R r)) memory (kinds.Commit tx)).fact ≡ Some (stored.Committed tx))
-  commit_stores state r named memory =
+  commit_stores_there reach r named posted memory =
       let name = named_there tx r named in
-      let stands : Has (Commit tx) = mailed_sent world (R r) (kinds.Commit tx) (kinds.Commit tx) (state.posted r named) (inl refl) in
+      let stands : Has (Commit tx) = mailed_sent world (R r) (kinds.Commit tx) (kinds.Commit tx) posted (inl refl) in
       commit_by r (facts_at config world (R r)) memory name.0 name.1 (views_in config world tx r) refl
-      (ready config world state.reach tx r (participates tx r named) stands)
+      (ready config world reach tx r (participates tx r named) stands)
 
   -- an Abort finds a participant working or prepared, if it isn't aborted
   abort_by : (r : ℕ) (facts : List Fact) (memory : Memory) (x : XidParts) → xid_at tx r ≡ Some x → (now : View) → view facts tx ≡ now
@@ -106,16 +109,54 @@ module _ (config : Config) (tx : TxParts) (world : World) where
   abort_by r facts memory x named committed e apart = absurd (apart refl)
   abort_by r facts memory x named aborted e apart = inl refl
 
+  abort_stores_there : IsReachable config world → (r : ℕ) → IsIn (participants tx) r
+      → IsIn (mail world.net) (record { receiver = R r; message = kinds.Abort tx }) → (memory : Memory)
+      → (views_in config world tx r ≡ aborted)
+      ⊎ ((on_message config (R r) (facts_at config world (R r)) memory (kinds.Abort tx)).fact ≡ Some (stored.Aborted tx))
+  abort_stores_there reach r named posted memory =
+      let name = named_there tx r named in
+      let stands : Has (Abort tx) = mailed_sent world (R r) (kinds.Abort tx) (kinds.Abort tx) posted (inl refl) in
+      let inv = invariant config world reach in
+      abort_by r (facts_at config world (R r)) memory name.0 name.1 (views_in config world tx r) refl
+      (λ e. one_outcome (setting config) Has inv
+      (inv.commit_sent (subst (IsView Has tx r) e (view_stands reach r named))) stands)
+
+-- ---- the same in a backed world
+
+module _ (config : Config) (tx : TxParts) (world : World) where
+  abbrev with_nodes : List NodeState → World
+  with_nodes nodes = record { nodes = nodes; net = world.net }
+
+  -- at a participant that has stored the outcome
+  module _ (b : IsBacked config world) (r : ℕ) (named : IsIn (participants tx) r) where
+    pub commit_ends : IsIn (facts_at config world (R r)) (stored.Committed tx) → views_in config world tx r ≡ committed
+    commit_ends = subst (λ (nodes : List NodeState). IsIn (facts_at config (with_nodes nodes) (R r)) (stored.Committed tx)
+        → views_in config (with_nodes nodes) tx r ≡ committed) b.nodes_are (commit_ends_there config tx b.machine b.reach r named)
+
+    pub abort_ends : IsIn (facts_at config world (R r)) (stored.Aborted tx) → views_in config world tx r ≡ aborted
+    abort_ends = subst (λ (nodes : List NodeState). IsIn (facts_at config (with_nodes nodes) (R r)) (stored.Aborted tx)
+        → views_in config (with_nodes nodes) tx r ≡ aborted) b.nodes_are (abort_ends_there config tx b.machine b.reach r named)
+
+  -- at one that is told it
+  pub commit_stores : IsAnnounced config tx (kinds.Commit tx) world → (r : ℕ) → IsIn (participants tx) r → (memory : Memory)
+      → (views_in config world tx r ≡ committed)
+      ⊎ ((on_message config (R r) (facts_at config world (R r)) memory (kinds.Commit tx)).fact ≡ Some (stored.Committed tx))
+  commit_stores state r named memory =
+      let b = state.reach in
+      subst (λ (nodes : List NodeState). (views_in config (with_nodes nodes) tx r ≡ committed)
+      ⊎ ((on_message config (R r) (facts_at config (with_nodes nodes) (R r)) memory (kinds.Commit tx)).fact ≡ Some (stored.Committed tx)))
+      b.nodes_are (commit_stores_there config tx b.machine b.reach r named
+      (b.sent (record { receiver = R r; message = kinds.Commit tx }) (state.posted r named)) memory)
+
   pub abort_stores : IsAnnounced config tx (kinds.Abort tx) world → (r : ℕ) → IsIn (participants tx) r → (memory : Memory)
       → (views_in config world tx r ≡ aborted)
       ⊎ ((on_message config (R r) (facts_at config world (R r)) memory (kinds.Abort tx)).fact ≡ Some (stored.Aborted tx))
   abort_stores state r named memory =
-      let name = named_there tx r named in
-      let stands : Has (Abort tx) = mailed_sent world (R r) (kinds.Abort tx) (kinds.Abort tx) (state.posted r named) (inl refl) in
-      let inv = invariant config world state.reach in
-      abort_by r (facts_at config world (R r)) memory name.0 name.1 (views_in config world tx r) refl
-      (λ e. one_outcome (setting config) Has inv
-      (inv.commit_sent (subst (IsView Has tx r) e (view_stands state.reach r named))) stands)
+      let b = state.reach in
+      subst (λ (nodes : List NodeState). (views_in config (with_nodes nodes) tx r ≡ aborted)
+      ⊎ ((on_message config (R r) (facts_at config (with_nodes nodes) (R r)) memory (kinds.Abort tx)).fact ≡ Some (stored.Aborted tx)))
+      b.nodes_are (abort_stores_there config tx b.machine b.reach r named
+      (b.sent (record { receiver = R r; message = kinds.Abort tx }) (state.posted r named)) memory)
 
 -- ---- the leader
 
@@ -127,7 +168,7 @@ pub record HasStatus (config : Config) (l : ℕ) (tx : TxParts) (status : Status
   pub status_is : status_of config.acceptors (last_ballot node.facts) node.memory.leader tx ≡ status
 
 -- a standing that is answered is a status
-status_of_answer : (status : Status) → ((answers (status_standing status) ≡ answers standings.Committed) → status ≡ statuses.Committed)
+pub status_of_answer : (status : Status) → ((answers (status_standing status) ≡ answers standings.Committed) → status ≡ statuses.Committed)
     × ((answers (status_standing status) ≡ answers standings.Aborted) → status ≡ statuses.Aborted)
 status_of_answer statuses.Unknown = (λ e. absurd (cc (e)), λ e. absurd (cc (e)))
 status_of_answer statuses.Undecided = (λ e. absurd (cc (e)), λ e. absurd (cc (e)))

@@ -8,7 +8,7 @@ use Rattle.ballot.specs.Ballots.{next_of}
 use Rattle.ballot.specs.Greatest.{IsIn}
 use Rattle.ballot.specs.Majority.{is_majority}
 use Rattle.safety.specs.Words.{NodeId, L, Answer, Stands, Refused, Status}
-use Rattle.safety.specs.Runs.{IsReachable}
+use Rattle.progress.proofs.Backed.{IsBacked}
 use Rattle.safety.proofs.Facts.{participates}
 use Rattle.safety.specs.Standing.{facts_of}
 use Rattle.protocol.specs.declared.requests.Request.TheVariants as requests
@@ -112,7 +112,7 @@ module _ (config : Config) (tx : TxParts) (l : ℕ) (q : ℕ → Bool) (few : l 
 
   -- ---- with a participant, and with none
 
-  module _ (world : World) (reach : IsReachable config world) (ballots : HasBallots config world l q tx) where
+  module _ (world : World) (reach : IsBacked config world) (ballots : HasBallots config world l q tx) where
     abbrev m : ℕ
     m = ballots.most
 

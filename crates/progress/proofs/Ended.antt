@@ -13,7 +13,7 @@ use Rattle.ballot.specs.Greatest.{IsIn}
 use Rattle.ballot.specs.Majority.{is_majority}
 use Rattle.safety.specs.Words.{NodeId, A, L, R, View, Outgoing, Managers, Refused, Stands as answers, Status, Timeout}
 use Rattle.safety.specs.CommitSteps.{committed, aborted}
-use Rattle.safety.specs.Runs.{IsReachable}
+use Rattle.progress.proofs.Backed.{IsBacked}
 use Rattle.safety.proofs.Facts.{participates}
 use Rattle.protocol.specs.declared.states.Standing.TheVariants as standings
 use Rattle.protocol.specs.declared.states.Status.TheVariants as statuses
@@ -28,7 +28,7 @@ use Rattle.progress.specs.Runs.{leader_and_quorum, leader_and_participants, lead
 use Rattle.progress.specs.Outcomes.{HasBallots, HasOutcome, HaveEnded, status_answer}
 use Rattle.progress.proofs.Mail.{Letter, mail, letters, letter_among}
 use Rattle.progress.proofs.Steps.{IsMoved, HasStep, timed_out}
-use Rattle.progress.proofs.Leading.{Comes, comes_step, leads_now, leads_on, leads_wider, leads_reachable}
+use Rattle.progress.proofs.Leading.{Comes, comes_step, leads_now, leads_on, leads_wider, leads_backed}
 use Rattle.progress.proofs.Ending.{IsAnnounced, end_all}
 use Rattle.progress.proofs.Announcing.{HasStatus, has_committed, has_aborted, commit_stores, commit_ends, abort_stores, abort_ends}
 use Rattle.progress.proofs.Deciding.{decides}
@@ -71,7 +71,7 @@ module _ (config : Config) (l : ℕ) (tx : TxParts) (inside : is_inside config t
         ∙ ap (λ (x : Effect LeaderMemory). effect_outcome node (of_leader node.memory x) x.fact node.tear NoFault) rule)
         (timed_out config world (L l) node has.is tx)
 
-    announced : IsReachable config world → (after : World) → IsMoved config world after (L l) left.node left.sends
+    announced : IsBacked config world → (after : World) → IsMoved config world after (L l) left.node left.sends
         → IsAnnounced config tx message after
     announced reach after moved = record {
       reach = moved.reach reach;
@@ -86,7 +86,7 @@ module _ (config : Config) (l : ℕ) (tx : TxParts) (inside : is_inside config t
   Never world = ⊥
 
   -- each participant ends in it
-  ends_in : (world : World) → HasStatus config l tx status world → IsReachable config world → (end : View)
+  ends_in : (world : World) → HasStatus config l tx status world → IsBacked config world → (end : View)
       → ((after : World) → IsAnnounced config tx message after → Comes config part tx Never (HaveEnded config tx end) after)
       → Leads config part tx (HaveEnded config tx end) world
   ends_in world has reach end next =
@@ -100,7 +100,7 @@ module _ (config : Config) (l : ℕ) (tx : TxParts) (inside : is_inside config t
       there after (inr ended) = leads_now config part tx (HaveEnded config tx end) after ended
 
 module _ (config : Config) (l : ℕ) (tx : TxParts) (inside : is_inside config tx ≡ true) (world : World)
-    (reach : IsReachable config world) where
+    (reach : IsBacked config world) where
   abbrev told_one : NodeId → Bool
   told_one = leader_and_participants l tx
 
@@ -147,16 +147,16 @@ module _ (config : Config) (tx : TxParts) (l : ℕ) (q : ℕ → Bool) (few : l 
       let wide = leads_wider config (leader_and_participants l tx) all tx participants_too P world run in
       record { events = wide.events; at = wide.at; holds = says _ wide.holds }
 
-  ended_from : (world : World) → IsReachable config world × HasOutcome config l tx world → Leads config all tx Ended world
+  ended_from : (world : World) → IsBacked config world × HasOutcome config l tx world → Leads config all tx Ended world
   ended_from world (reach, inl h) = either (HaveEnded config tx committed) (λ after ended. inl ended) world
       (ends_committed config l tx inside world reach h)
   ended_from world (reach, inr h) = either (HaveEnded config tx aborted) (λ after ended. inr ended) world
       (ends_aborted config l tx inside world reach h)
 
-  pub ends : (world : World) → IsReachable config world → HasBallots config world l q tx → Leads config all tx Ended world
+  pub ends : (world : World) → IsBacked config world → HasBallots config world l q tx → Leads config all tx Ended world
   ends world reach ballots =
-      let run = leads_reachable config all tx (HasOutcome config l tx) world reach
+      let run = leads_backed config all tx (HasOutcome config l tx) world reach
       (leads_wider config (leader_and_quorum l q) all tx quorum_too (HasOutcome config l tx) world
       (decides config tx l q few inside majority world reach ballots)) in
-      leads_on config all tx (λ after. IsReachable config after × HasOutcome config l tx after) Ended ended_from world run.events run.at
+      leads_on config all tx (λ after. IsBacked config after × HasOutcome config l tx after) Ended ended_from world run.events run.at
       run.holds

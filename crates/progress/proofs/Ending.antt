@@ -7,7 +7,8 @@ use Rattle.wire.specs.declared.message.Kind.{Kind}
 use Rattle.stable_record.specs.Frames.{frame_length}
 use Rattle.ballot.specs.Greatest.{IsIn}
 use Rattle.safety.specs.Words.{Fact, NodeId, R, View, Outgoing}
-use Rattle.safety.specs.Runs.{IsReachable, views_in}
+use Rattle.safety.specs.Runs.{views_in}
+use Rattle.progress.proofs.Backed.{IsBacked}
 use Rattle.safety.specs.Standing.{facts_at, facts_of}
 use Rattle.safety.proofs.Facts.{among_participants}
 use Rattle.protocol.specs.Effects.{Config, is_inside}
@@ -27,7 +28,7 @@ manager_apart r s apart e = apart (cc (e))
 
 -- the outcome is in the mail to each participant
 pub record IsAnnounced (config : Config) (tx : TxParts) (message : Kind) (world : World) : Type 0 where
-  pub reach : IsReachable config world
+  pub reach : IsBacked config world
   pub posted : (r : ℕ) → IsIn (participants tx) r → IsIn (mail world.net) (record { receiver = R r; message = message })
 
 -- the outcome, the fact that it has a participant store, and the view that it comes to
@@ -36,7 +37,7 @@ module _ (config : Config) (tx : TxParts) (part : NodeId → Bool) (message : Ki
     (takes_part : (r : ℕ) → IsIn (participants tx) r → part (R r) ≡ true)
     (stores : (world : World) → IsAnnounced config tx message world → (r : ℕ) → IsIn (participants tx) r → (memory : Memory)
     → (views_in config world tx r ≡ end) ⊎ ((on_message config (R r) (facts_at config world (R r)) memory message).fact ≡ Some fact))
-    (ends : (world : World) → IsReachable config world → (r : ℕ) → IsIn (participants tx) r
+    (ends : (world : World) → IsBacked config world → (r : ℕ) → IsIn (participants tx) r
     → IsIn (facts_at config world (R r)) fact → views_in config world tx r ≡ end) where
   abbrev Never : World → Type 0
   Never world = ⊥

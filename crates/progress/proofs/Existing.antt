@@ -1,6 +1,6 @@
--- Every node of a cluster is there in every world that events come to.
+-- Every node of a cluster is there in every world that events come to, and in each that one of these backs.
 use Rattle.std.proofs.Common.{◌≡◌, ◌∙◌, ℕ, zero, suc, ◌+◌, ◌<◌, if◌then◌else◌, List, [], ◌∷◌, Option, Some, None}
-use Rattle.std.proofs.Common.{length, refl, ap, arith, nat_lt}
+use Rattle.std.proofs.Common.{length, refl, sym, ap, arith, nat_lt}
 use Rattle.std.specs.Prelude.{replicate, slice_get}
 use Rattle.std.specs.List.{slice_set}
 use Rattle.std.specs.Option.{option_and_then, option_map_or}
@@ -15,6 +15,7 @@ use Rattle.protocol.specs.Nodes.{NodeState, new_node, Input, Asked, Received, Re
 use Rattle.protocol.specs.Nodes.{NoMemoryBefore, node_step, restart_outcome, compact_outcome}
 use Rattle.protocol.specs.Worlds.{World, StepResult, place, node_at, set_node, answer_result, outcome_result, if_found, at_node}
 use Rattle.protocol.specs.Worlds.{datagram_at, with_mark, dispatch, world_step}
+use Rattle.progress.proofs.Backed.{IsBacked}
 
 set_length : {X : Type 0} (xs : List X) (p : ℕ) (x : X) → length (slice_set xs p x) ≡ length xs
 set_length [] p x = refl
@@ -95,11 +96,14 @@ got [] p lt = absurd (omega arith)
 got (x ∷ xs) zero lt = (x, refl)
 got (x ∷ xs) (suc p) lt = got xs p (omega arith)
 
-module _ (config : Config) (world : World) (reach : IsReachable config world) where
+module _ (config : Config) (world : World) (b : IsBacked config world) where
+  count : length world.nodes ≡ config.acceptors + config.leaders + config.managers
+  count = sym (ap (λ (nodes : List NodeState). length nodes) b.nodes_are) ∙ count_ever config b.machine b.reach
+
   there : (who : NodeId) (p : ℕ) → place config who ≡ Some p → p < config.acceptors + config.leaders + config.managers
       → (node : NodeState) × (node_at config world who ≡ Some node)
   there who p at lt =
-      let one = got world.nodes p (omega (arith, lt, count_ever config world reach)) in
+      let one = got world.nodes p (omega (arith, lt, count)) in
       (one.0, ap (λ (o : Option ℕ). option_and_then (λ at. slice_get world.nodes at) o) at ∙ one.1)
 
   -- an acceptor, a leader and a resource manager of the cluster

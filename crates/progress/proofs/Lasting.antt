@@ -1,6 +1,6 @@
 -- What was prepared isn't lost: where a majority has accepted that each participant is prepared, the outcome is committed. And where a
 -- participant hasn't voted prepared, it is aborted.
-use Rattle.std.proofs.Common.{◌≡◌, inl, inr, ℕ, zero, suc, ◌*◌, ◌<◌, ◌≤◌, Bool, true, IsTrue, Option, Some, None}
+use Rattle.std.proofs.Common.{◌≡◌, ◌∙◌, inl, inr, ℕ, zero, suc, ◌*◌, ◌<◌, ◌≤◌, Bool, true, IsTrue, List, Option, Some, None}
 use Rattle.std.proofs.Common.{sym, subst, le_trans, eq-or-lt_of_le, arith}
 use Rattle.std.proofs.lemmas.Bool.{cases_lt, ltb-true}
 use Rattle.xid.specs.Transactions.{TxParts, is_participant}
@@ -8,12 +8,11 @@ use Rattle.stable_record.specs.declared.fact.FactKind.TheVariants as stored
 use Rattle.ballot.specs.Greatest.{IsIn}
 use Rattle.ballot.specs.Majority.{IsMajority, is_majority, count}
 use Rattle.ballot.proofs.Majorities.{majorities_meet}
-use Rattle.safety.specs.Words.{NodeId, A, R, Stands as answers}
+use Rattle.safety.specs.Words.{Fact, NodeId, A, L, R, Stands as answers}
 use Rattle.safety.specs.Invariant.{Invariant}
 use Rattle.safety.specs.Items.{Vote, Prepared, Aborted, Item, Accepted, Voted, P1b, P2a}
 use Rattle.safety.specs.Items.{Setting, IsDecided, IsReportOfAccept, IsCovered, IsBallotAtMost}
 use Rattle.safety.specs.Items as items
-use Rattle.safety.specs.Runs.{IsReachable}
 use Rattle.safety.specs.Standing.{Stands, setting, facts_at, facts_of, sent_in, HasVote}
 use Rattle.safety.proofs.Argument.Agreement.{one_proposal, decided_was_proposed, decisions_last, prepared_was_voted}
 use Rattle.safety.proofs.Argument.Preservation.{IsDecided-kept}
@@ -27,7 +26,8 @@ use Rattle.protocol.specs.Nodes.{NodeState}
 use Rattle.protocol.specs.Worlds.{World, world_after}
 use Rattle.progress.specs.Runs.{leader_and_quorum, without_fault, Leads}
 use Rattle.progress.specs.Outcomes.{status_answer, HasOutcome, HasBallots, IsAccepted}
-use Rattle.safety.proofs.World.Events.{reachable_after}
+use Rattle.progress.proofs.Backed.{IsBacked, backing_node, backing_facts}
+use Rattle.progress.proofs.Leading.{run_backed}
 use Rattle.progress.proofs.Announcing.{has_committed, has_aborted}
 use Rattle.progress.proofs.Deciding.{decides}
 use Rattle.progress.proofs.Keeping.{Keeps, TakesPart, run_keeps}
@@ -88,7 +88,7 @@ module _ {Tx : Type 0} (c : Setting Tx) (Has : Item Tx → Type 0) (inv : Invari
 -- ---- what a leader that answers has heard
 
 -- a message's item stands where the message was sent
-stands_if_sent : (config : Config) (world : World) (y : Item TxParts) → IsSentItem (IsIn (sent_in world)) y → Stands config world y
+pub stands_if_sent : (config : Config) (world : World) (y : Item TxParts) → IsSentItem (IsIn (sent_in world)) y → Stands config world y
 stands_if_sent config world (items.P1b tx i b report a) h = h
 stands_if_sent config world (items.P2a tx i b v) h = h
 stands_if_sent config world (items.P2b tx i b v a) h = h
@@ -96,27 +96,30 @@ stands_if_sent config world (items.Commit tx) h = h
 stands_if_sent config world (items.Abort tx) h = h
 stands_if_sent config world y h = absurd h
 
-module _ (config : Config) (tx : TxParts) (l : ℕ) (inside : is_inside config tx ≡ true) (world : World)
-    (reach : IsReachable config world) where
+-- in the world that backs the leader's
+module _ (config : Config) (tx : TxParts) (l : ℕ) (inside : is_inside config tx ≡ true) (world : World) (b : IsBacked config world) where
   all_prepared : status_answer config world l tx ≡ answers standings.Committed → (r : ℕ) → IsTrue (is_participant tx r)
-      → IsDecided config.acceptors (Stands config world) tx r Prepared
+      → IsDecided config.acceptors (Stands config b.machine) tx r Prepared
   all_prepared h r named =
       let has = has_committed config l tx inside world h in
-      IsDecided-kept (stands_if_sent config world) (committed_is config.acceptors (last_ballot has.node.facts) has.node.memory.leader tx
-      (IsIn (sent_in world)) (leader_memory config world reach l has.node has.is).heard has.status_is r named)
+      let there = backing_node config world b (L l) ∙ has.is in
+      IsDecided-kept (stands_if_sent config b.machine) (committed_is config.acceptors (last_ballot has.node.facts)
+      has.node.memory.leader tx
+      (IsIn (sent_in b.machine)) (leader_memory config b.machine b.reach l has.node there).heard has.status_is r named)
 
   some_aborted : status_answer config world l tx ≡ answers standings.Aborted
-      → (r : ℕ) × IsTrue (is_participant tx r) × IsDecided config.acceptors (Stands config world) tx r Aborted
+      → (r : ℕ) × IsTrue (is_participant tx r) × IsDecided config.acceptors (Stands config b.machine) tx r Aborted
   some_aborted h =
       let has = has_aborted config l tx inside world h in
-      let found = aborted_is config.acceptors (last_ballot has.node.facts) has.node.memory.leader tx (IsIn (sent_in world))
-      (leader_memory config world reach l has.node has.is).heard has.status_is in
-      (found.0, found.1, IsDecided-kept (stands_if_sent config world) found.2)
+      let there = backing_node config world b (L l) ∙ has.is in
+      let found = aborted_is config.acceptors (last_ballot has.node.facts) has.node.memory.leader tx (IsIn (sent_in b.machine))
+      (leader_memory config b.machine b.reach l has.node there).heard has.status_is in
+      (found.0, found.1, IsDecided-kept (stands_if_sent config b.machine) found.2)
 
 -- ---- the outcome
 
 module _ (config : Config) (tx : TxParts) (l : ℕ) (q : ℕ → Bool) (few : l < config.leaders) (inside : is_inside config tx ≡ true)
-    (majority : is_majority config.acceptors q ≡ true) (world : World) (reach : IsReachable config world)
+    (majority : is_majority config.acceptors q ≡ true) (world : World) (reach : IsBacked config world)
     (ballots : HasBallots config world l q tx) where
   abbrev part : NodeId → Bool
   part = leader_and_quorum l q
@@ -127,8 +130,14 @@ module _ (config : Config) (tx : TxParts) (l : ℕ) (q : ℕ → Bool) (few : l 
   abbrev after : World
   after = world_after config world (without_fault run.events)
 
-  reached : IsReachable config after
-  reached = reachable_after config world reach (without_fault run.events)
+  reached : IsBacked config after
+  reached = run_backed config part tx run.events world reach run.at
+
+  abbrev Has : Item TxParts → Type 0
+  Has = Stands config reached.machine
+
+  inv : Invariant (setting config) Has
+  inv = invariant config reached.machine reached.reach
 
   keeps : Keeps config (TakesPart config part tx) world after
   keeps = run_keeps config part tx world run.events run.at
@@ -145,9 +154,11 @@ module _ (config : Config) (tx : TxParts) (l : ℕ) (q : ℕ → Bool) (few : l 
           let found = some_aborted config tx l inside after reached aborted in
           let one = accepted found.0 found.1 in
           let same : Aborted ≡ Prepared =
-          decides_it (setting config) (Stands config after) (invariant config after reached) tx found.0 one.ballot Prepared one.members
+          decides_it (setting config) Has inv tx found.0 one.ballot Prepared one.members
           (ltb-true config.acceptors (2 * count config.acceptors one.members) one.majority)
-          (λ a lt is. keeps.kept (A a) (stored.Accept tx found.0 one.ballot Prepared) (one.accepted a lt is)) Aborted found.2 in
+          (λ a lt is. subst (λ (facts : List Fact). IsIn facts (stored.Accept tx found.0 one.ballot Prepared))
+          (sym (backing_facts config after reached (A a)))
+          (keeps.kept (A a) (stored.Accept tx found.0 one.ballot Prepared) (one.accepted a lt is))) Aborted found.2 in
           absurd (cc (same))
     ];
   }
@@ -161,12 +172,11 @@ module _ (config : Config) (tx : TxParts) (l : ℕ) (q : ℕ → Bool) (few : l 
     holds = elim run.holds [
       | inl committed ↦
           let decided = all_prepared config tx l inside after reached committed r named in
-          let inv = invariant config after reached in
-          let voted : HasVote (facts_at config after (R r)) tx Prepared =
-          prepared_was_voted (setting config) (Stands config after) inv {tx = tx} {i = r} {b = decided.0}
-          (decided_was_proposed (setting config) (Stands config after) inv {tx = tx} {i = r} {b = decided.0} {v = Prepared} decided.1) in
+          let voted : HasVote (facts_at config reached.machine (R r)) tx Prepared =
+          prepared_was_voted (setting config) Has inv {tx = tx} {i = r} {b = decided.0}
+          (decided_was_proposed (setting config) Has inv {tx = tx} {i = r} {b = decided.0} {v = Prepared} decided.1) in
           absurd (unvoted (subst (λ (o : Option NodeState). HasVote (facts_of o) tx Prepared)
-          (keeps.others (R r) (λ e. absurd (cc (e)))) voted))
+          (backing_node config after reached (R r) ∙ keeps.others (R r) (λ e. absurd (cc (e)))) voted))
       | inr aborted ↦ aborted
     ];
   }

@@ -1,17 +1,18 @@
 -- Runs put one after the other, until a goal is reached or for each thing of a list.
-use Rattle.std.proofs.Common.{◌≡◌, ◌⊎◌, inl, inr, ◌∙◌, Bool, true, false, List, [], ◌∷◌, Option, Some, None, refl, ap, subst}
+use Rattle.std.proofs.Common.{◌≡◌, ◌⊎◌, inl, inr, ◌∙◌, ℕ, Bool, true, false, List, [], ◌∷◌, Option, Some, None, refl, ap, subst}
 use Rattle.std.specs.Option.{option_map_or}
 use Rattle.std.proofs.lemmas.Bool.{and_from, and_parts}
 use Rattle.xid.specs.Transactions.{TxParts}
 use Rattle.ballot.specs.Greatest.{IsIn}
-use Rattle.safety.specs.Words.{NodeId, Event, Outgoing}
+use Rattle.safety.specs.Words.{NodeId, Event, Ask, Deliver, Restart, Outgoing}
 use Rattle.protocol.specs.Effects.{Config}
-use Rattle.protocol.specs.Nodes.{NodeState, NoFault}
-use Rattle.protocol.specs.Worlds.{World, world_step, world_after}
+use Rattle.protocol.specs.Nodes.{NodeState, Input, Asked, Received, NoFault, node_step, restart_outcome}
+use Rattle.protocol.specs.Worlds.{World, Datagram, node_at, at_node, if_found, outcome_result, datagram_at, mark_at, with_mark}
+use Rattle.protocol.specs.Worlds.{world_step, world_after}
 use Rattle.progress.specs.Runs.{happens_at, are_at, without_fault, Leads}
-use Rattle.progress.proofs.Steps.{IsMoved, HasStep}
-use Rattle.safety.specs.Runs.{IsReachable}
-use Rattle.safety.proofs.World.Events.{reachable_after}
+use Rattle.progress.proofs.Mail.{mail, marked_mail, datagram_in}
+use Rattle.progress.proofs.Backed.{IsBacked, backing_node, backed_after, backed_marked}
+use Rattle.progress.proofs.Steps.{IsMoved, HasStep, ComesThere, asked_there, received_there}
 
 module _ (config : Config) (part : NodeId → Bool) (tx : TxParts) where
   pub leads_now : (P : World → Type 0) (world : World) → P world → Leads config part tx P world
@@ -126,12 +127,67 @@ module _ (config : Config) (part wider : NodeId → Bool) (tx : TxParts) (more :
   pub leads_wider : (P : World → Type 0) (world : World) → Leads config part tx P world → Leads config wider tx P world
   leads_wider P world run = record { events = run.events; at = all_at world run.events run.at; holds = run.holds }
 
--- a run leads to a world that events come to
-pub leads_reachable : (config : Config) (part : NodeId → Bool) (tx : TxParts) (P : World → Type 0) (world : World)
-    → IsReachable config world
-    → Leads config part tx P world → Leads config part tx (λ after. IsReachable config after × P after) world
-leads_reachable config part tx P world reach run = record {
-  events = run.events;
-  at = run.at;
-  holds = (reachable_after config world reach (without_fault run.events), run.holds);
-}
+-- ---- backed worlds
+
+module _ (config : Config) (part : NodeId → Bool) (tx : TxParts) where
+  module _ (world : World) (b : IsBacked config world) where
+    -- an input at a node, where marks were set before
+    input_backed : (net : List Datagram) → mail net ≡ mail world.net → (who : NodeId) (input : Input)
+        → ((node : NodeState) (is : node_at config world who ≡ Some node)
+        → ComesThere config world who node is (node_step config who node input NoFault))
+        → (o : Option NodeState) → node_at config world who ≡ o
+        → IsBacked config (if_found (record world { net = net })
+        (λ node. outcome_result config (record world { net = net }) who node.facts (node_step config who node input NoFault)) o).world
+    input_backed net same who input there None is = backed_marked config world b net same
+    input_backed net same who input there (Some node) is =
+        let left = node_step config who node input NoFault in
+        backed_after config world b who node.facts left (there node is b.machine (backing_node config world b who ∙ is) b.sent) net same
+        (outcome_result config (record world { net = net }) who node.facts left).world refl
+
+    restart_backed : (who : NodeId) (o : Option NodeState) → node_at config world who ≡ o
+        → IsBacked config (if_found world
+        (λ node. outcome_result config world who node.facts (restart_outcome config who node NoFault)) o).world
+    restart_backed who None is = b
+    restart_backed who (Some node) is =
+        let left = restart_outcome config who node NoFault in
+        backed_after config world b who node.facts left
+        (record {
+          event = Restart who;
+          net = b.machine.net;
+          same = refl;
+          comes = ap (λ (o : Option NodeState). (if_found b.machine
+              (λ found. outcome_result config b.machine who found.facts (restart_outcome config who found NoFault)) o).world)
+              (backing_node config world b who ∙ is);
+        })
+        world.net refl (outcome_result config world who node.facts left).world refl
+
+    delivery_backed : (n : ℕ) (o : Option Datagram) → datagram_at world.net n ≡ o
+        → IsBacked config (if_found world (λ d. at_node config (with_mark world n) d.receiver (Received d.message) NoFault) o).world
+    delivery_backed n None is = b
+    delivery_backed n (Some d) is =
+        input_backed (mark_at world.net n) (marked_mail world.net n) d.receiver (Received d.message)
+        (λ node here. received_there config world d.receiver node here d.message (datagram_in world.net n d is))
+        (node_at config world d.receiver) refl
+
+    next_backed : (event : Event) → option_map_or part (happens_at world tx event) false ≡ true
+        → IsBacked config (world_step config world event NoFault).world
+    next_backed (Restart who) at = restart_backed who (node_at config world who) refl
+    next_backed (Ask who request) at =
+        input_backed world.net refl who (Asked request) (λ node here. asked_there config world who node here request)
+        (node_at config world who) refl
+    next_backed (Deliver n) at = delivery_backed n (datagram_at world.net n) refl
+    next_backed event at = absurd (cc (at))
+
+  -- a run from a backed world leads to one
+  pub run_backed : (events : List Event) (world : World) → IsBacked config world → are_at config part tx world events ≡ true
+      → IsBacked config (world_after config world (without_fault events))
+  run_backed [] world b at = b
+  run_backed (event ∷ events) world b at =
+      let after : World = (world_step config world event NoFault).world in
+      let parts = and_parts (option_map_or part (happens_at world tx event) false) (are_at config part tx after events) at in
+      run_backed events after (next_backed world b event parts.0) parts.1
+
+  pub leads_backed : (P : World → Type 0) (world : World) → IsBacked config world → Leads config part tx P world
+      → Leads config part tx (λ after. IsBacked config after × P after) world
+  leads_backed P world b run =
+      record { events = run.events; at = run.at; holds = (run_backed run.events world b run.at, run.holds) }

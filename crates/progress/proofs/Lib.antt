@@ -1,5 +1,6 @@
 -- One event after another; what each role makes of its messages; the phases of a round; then nodes made quiet, and all together.
 pub mod Mail
+pub mod Backed
 pub mod Steps
 pub mod Leading
 pub mod Slots

@@ -47,6 +47,16 @@ pub deliverable : (net : List Datagram) (letter : Letter) → IsIn (mail net) le
 deliverable net letter h =
     let at = placed net letter h in record { number = suc at.0; datagram = at.1; there = at.2; is = at.3 }
 
+got_in : (net : List Datagram) (n : ℕ) (d : Datagram) → slice_get net n ≡ Some d → IsIn (mail net) (letter_of d)
+got_in [] n d e = absurd (cc (e))
+got_in (first ∷ net) zero d e = let same : first ≡ d = cc (e) in inl (ap letter_of same)
+got_in (first ∷ net) (suc n) d e = inr (got_in net n d e)
+
+-- a datagram that can be delivered is in the mail
+pub datagram_in : (net : List Datagram) (n : ℕ) (d : Datagram) → datagram_at net n ≡ Some d → IsIn (mail net) (letter_of d)
+datagram_in net zero d e = absurd (cc (e))
+datagram_in net (suc n) d e = got_in net n d e
+
 -- the letters of one send, and of several
 abbrev pub letters_of : Config → Outgoing → List Letter
 letters_of config send =

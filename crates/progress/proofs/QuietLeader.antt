@@ -7,7 +7,7 @@ use Rattle.stable_record.specs.declared.fact.FactKind.TheVariants as stored
 use Rattle.stable_record.specs.Frames.{frame_length}
 use Rattle.ballot.specs.Ballots.{next_of}
 use Rattle.safety.specs.Words.{Fact, NodeId, A, L}
-use Rattle.safety.specs.Runs.{IsReachable}
+use Rattle.progress.proofs.Backed.{IsBacked}
 use Rattle.safety.specs.Standing.{facts_at, facts_of}
 use Rattle.protocol.specs.Effects.{Config, Effect, is_inside}
 use Rattle.protocol.specs.Facts.{last_ballot}
@@ -29,7 +29,7 @@ pub record IsQuietLeader (config : Config) (tx : TxParts) (l m : ℕ) (before af
   pub near : s ≤ m + config.leaders
   pub leading : IsLeading config tx l s after
   pub others : (a : ℕ) → node_at config after (A a) ≡ node_at config before (A a)
-  pub reach : IsReachable config after
+  pub reach : IsBacked config after
 
 module _ (config : Config) (tx : TxParts) (l : ℕ) (q : ℕ → Bool) (few : l < config.leaders) (inside : is_inside config tx ≡ true)
     (m : ℕ) (left : m + config.leaders < 2 ^ 32) (world : World) where
@@ -44,7 +44,7 @@ module _ (config : Config) (tx : TxParts) (l : ℕ) (q : ℕ → Bool) (few : l 
 
   quiet_now : (after : World) (facts : List Fact) → last_ballot facts tx ≤ m + config.leaders
       → IsQuiet config after (L l) facts empty_memory
-      → ((a : ℕ) → node_at config after (A a) ≡ node_at config world (A a)) → IsReachable config after
+      → ((a : ℕ) → node_at config after (A a) ≡ node_at config world (A a)) → IsBacked config after
       → Comes config part tx Goal Next after
   quiet_now after facts near is others reach = comes_now config part tx Goal Next after (record {
     s = last_ballot facts tx;
@@ -63,7 +63,7 @@ module _ (config : Config) (tx : TxParts) (l : ℕ) (q : ℕ → Bool) (few : l 
   torn_last facts low false = omega arith
 
   module _ (facts : List Fact) (low : last_ballot facts tx ≤ m) (after : World)
-      (others : (a : ℕ) → node_at config after (A a) ≡ node_at config world (A a)) (reach : IsReachable config after) where
+      (others : (a : ℕ) → node_at config after (A a) ≡ node_at config world (A a)) (reach : IsBacked config after) where
     abbrev fact : Fact
     fact = stored.Ballot tx (next_of config.leaders l (last_ballot facts tx))
 
@@ -95,7 +95,7 @@ module _ (config : Config) (tx : TxParts) (l : ℕ) (q : ℕ → Bool) (few : l 
     ]
 
   -- the leader is restarted, and a tear is used up
-  pub quiet_leader : IsReachable config world → last_ballot (facts_at config world (L l)) tx ≤ m → Comes config part tx Goal Next world
+  pub quiet_leader : IsBacked config world → last_ballot (facts_at config world (L l)) tx ≤ m → Comes config part tx Goal Next world
   quiet_leader reach low =
       let there = leader_there config world reach l few in
       let node = there.0 in

@@ -6,7 +6,7 @@ use Rattle.xid.specs.Transactions.{TxParts, participants}
 use Rattle.stable_record.specs.Frames.{frame_length}
 use Rattle.ballot.specs.Greatest.{IsIn}
 use Rattle.safety.specs.Words.{Fact, NodeId, A, L}
-use Rattle.safety.specs.Runs.{IsReachable}
+use Rattle.progress.proofs.Backed.{IsBacked}
 use Rattle.safety.specs.Standing.{facts_at, facts_of}
 use Rattle.protocol.specs.Effects.{Config, is_inside}
 use Rattle.protocol.specs.Facts.{slot}
@@ -30,7 +30,7 @@ IsUntouched config tx m world a = (i : ℕ) → IsIn (participants tx) i → (sl
 -- the leader has begun ballot b, above m; each acceptor has promised nothing above m, or is quiet
 pub record IsCalling (config : Config) (tx : TxParts) (l : ℕ) (q : ℕ → Bool) (m b : ℕ) (world : World) : Type 0 where
   pub leading : IsLeading config tx l b world
-  pub reach : IsReachable config world
+  pub reach : IsBacked config world
   pub asked : (a i : ℕ) → a < config.acceptors → IsIn (participants tx) i
       → IsIn (mail world.net) (record { receiver = A a; message = ask_of config tx b i })
   pub each : (a : ℕ) → a < config.acceptors → q a ≡ true → IsUntouched config tx m world a ⊎ IsBelow config tx b world a
@@ -57,7 +57,7 @@ module _ (config : Config) (tx : TxParts) (l : ℕ) (q : ℕ → Bool) (inside :
     record IsSince (after : World) : Type 0 where
       others : (n : NodeId) → n ≢ A a → node_at config after n ≡ node_at config before n
       kept : (letter : Letter) → IsIn (mail before.net) letter → IsIn (mail after.net) letter
-      reach : IsReachable config after
+      reach : IsBacked config after
 
     next_by : (after : World) → IsSince after → Quiet a after → Next after
     next_by after since quiet = (

@@ -7,7 +7,7 @@ use Rattle.stable_record.specs.declared.fact.FactKind.TheVariants as stored
 use Rattle.ballot.specs.Ballots.{next_of}
 use Rattle.ballot.specs.Greatest.{IsIn}
 use Rattle.safety.specs.Words.{Fact, NodeId, A, L}
-use Rattle.safety.specs.Runs.{IsReachable}
+use Rattle.progress.proofs.Backed.{IsBacked}
 use Rattle.protocol.specs.Effects.{Config, Effect, is_inside, stores}
 use Rattle.protocol.specs.Facts.{last_ballot, with_fact}
 use Rattle.protocol.specs.LeaderMemory.{LeaderMemory, is_proposed, with_begun, with_met, status_of}
@@ -35,7 +35,7 @@ pub record IsBegun (config : Config) (tx : TxParts) (l : ℕ) (before : World) (
       → IsIn (mail after.net) (record { receiver = A a; message = ask_of config tx b i })
   pub others : (a : ℕ) → node_at config after (A a) ≡ node_at config before (A a)
   pub kept : (letter : Letter) → IsIn (mail before.net) letter → IsIn (mail after.net) letter
-  pub reach : IsReachable config before → IsReachable config after
+  pub reach : IsBacked config before → IsBacked config after
 
 -- a quiet leader, whose last ballot is known
 pub record IsLeading (config : Config) (tx : TxParts) (l : ℕ) (s : ℕ) (world : World) : Type 0 where

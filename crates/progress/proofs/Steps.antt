@@ -8,7 +8,7 @@ use Rattle.xid.specs.Transactions.{TxParts, tx_eq}
 use Rattle.xid.proofs.Deciding.{tx_self}
 use Rattle.wire.specs.declared.message.Kind.{Kind}
 use Rattle.ballot.specs.Greatest.{IsIn}
-use Rattle.safety.specs.Words.{Fact, NodeId, Outgoing, Event, Ask, Deliver, Restart, Timeout, Done, Refused}
+use Rattle.safety.specs.Words.{Fact, NodeId, Outgoing, Event, Ask, Deliver, Restart, Request, Timeout, Done, Refused}
 use Rattle.xid.specs.declared.refusals.Refusal.TheVariants.{NoSuch, Damaged}
 use Rattle.protocol.specs.Effects.{Config, Effect, no_effect}
 use Rattle.protocol.specs.Facts.{with_fact}
@@ -18,12 +18,11 @@ use Rattle.protocol.specs.Nodes.{answer_outcome, down_node, effect_outcome, stop
 use Rattle.protocol.specs.Nodes.{is_message_inside, on_message}
 use Rattle.protocol.proofs.Lists.{IsIn-before}
 use Rattle.protocol.specs.Worlds.{World, Datagram, node_at, outcome_result, at_node, with_mark, mark_at, if_found, world_step}
-use Rattle.safety.specs.Runs.{IsReachable, After}
 use Rattle.safety.specs.Standing.{facts_of}
 use Rattle.safety.proofs.World.NodePlaces.{node_there, node_elsewhere}
-use Rattle.safety.proofs.World.Reachable.{play}
 use Rattle.progress.specs.Runs.{happens_at}
 use Rattle.progress.proofs.Mail.{Letter, mail, letters, marked_mail, posted_mail, deliverable}
+use Rattle.progress.proofs.Backed.{IsAmong, IsBacked, HasOutcomeThere, backing_node, backed_after, play}
 
 -- a node that is up, with no tear armed
 abbrev pub quiet_node : List Fact → Memory → NodeState
@@ -37,7 +36,7 @@ pub record IsMoved (config : Config) (before after : World) (who : NodeId) (node
   pub here : node_at config after who ≡ Some node
   pub others : (n : NodeId) → n ≢ who → node_at config after n ≡ node_at config before n
   pub posted : mail after.net ≡ mail before.net ++ letters config sends
-  pub reach : IsReachable config before → IsReachable config after
+  pub reach : IsBacked config before → IsBacked config after
 
 -- an event without a fault at a node, and what it comes to
 pub record HasStep (config : Config) (world : World) (tx : TxParts) (who : NodeId) (node : NodeState) (sends : List Outgoing)
@@ -65,31 +64,77 @@ quiet_step config who facts memory input takes =
     ∙ settled node e e.fact
 
 module _ (config : Config) (world : World) (who : NodeId) (node : NodeState) (is : node_at config world who ≡ Some node) where
+  -- any world with the node, and with what was sent here, comes to the same outcome
+  abbrev pub ComesThere : Outcome → Type 0
+  ComesThere left = (machine : World) → node_at config machine who ≡ Some node → IsAmong (mail world.net) (mail machine.net)
+      → HasOutcomeThere config machine who node.facts left
+
   -- the world after an outcome, where marks were set before
-  moved_by : (net : List Datagram) → mail net ≡ mail world.net → (left : Outcome) (after : World)
+  moved_by : (net : List Datagram) → mail net ≡ mail world.net → (left : Outcome) → ComesThere left → (after : World)
       → after ≡ (outcome_result config (record world { net = net }) who node.facts left).world
-      → (IsReachable config world → IsReachable config after) → IsMoved config world after who left.node left.sends
-  moved_by net same left after e reach =
+      → IsMoved config world after who left.node left.sends
+  moved_by net same left there after e =
       let marked : World = record world { net = net } in record {
         here = subst (λ (w : World). node_at config w who ≡ Some left.node) (sym e) (node_there config marked who node left.node is);
         others = λ n apart. subst (λ (w : World). node_at config w n ≡ node_at config world n) (sym e)
             (node_elsewhere config marked who n left.node apart);
         posted = ap (λ (w : World). mail w.net) e ∙ posted_mail config who net left.sends
             ∙ ap (λ (first : List Letter). first ++ letters config left.sends) same;
-        reach = reach;
+        reach = λ b. backed_after config world b who node.facts left
+            (there b.machine (backing_node config world b who ∙ is) b.sent) net same after e;
       }
 
   -- an input at it, where marks were set before
-  handed : (net : List Datagram) → mail net ≡ mail world.net → (input : Input) (after : World)
+  pub handed : (net : List Datagram) → mail net ≡ mail world.net → (input : Input)
+      → ComesThere (node_step config who node input NoFault) → (after : World)
       → after ≡ (at_node config (record world { net = net }) who input NoFault).world
-      → (IsReachable config world → IsReachable config after)
       → IsMoved config world after who (node_step config who node input NoFault).node (node_step config who node input NoFault).sends
-  handed net same input after e reach =
+  handed net same input there after e =
       let marked : World = record world { net = net } in
-      moved_by net same (node_step config who node input NoFault) after
+      moved_by net same (node_step config who node input NoFault) there after
       (e ∙ ap (λ (o : Option NodeState).
       (if_found marked (λ found. outcome_result config marked who found.facts (node_step config who found input NoFault)) o).world) is)
-      reach
+
+  -- a request of it, wherever it is
+  pub asked_there : (request : Request) → ComesThere (node_step config who node (Asked request) NoFault)
+  asked_there request machine here some = record {
+    event = Ask who request;
+    net = machine.net;
+    same = refl;
+    comes = ap (λ (o : Option NodeState). (if_found machine
+        (λ found. outcome_result config machine who found.facts (node_step config who found (Asked request) NoFault)) o).world) here;
+  }
+
+  -- and a delivery, wherever the message was sent to it
+  pub received_there : (message : Kind) → IsIn (mail world.net) (record { receiver = who; message = message })
+      → ComesThere (node_step config who node (Received message) NoFault)
+  received_there message h machine here some =
+      let at = deliverable machine.net (record { receiver = who; message = message })
+      (some (record { receiver = who; message = message }) h) in
+      let marked : World = with_mark machine at.number in
+      record {
+        event = Deliver at.number;
+        net = mark_at machine.net at.number;
+        same = marked_mail machine.net at.number;
+        comes = ap (λ (o : Option Datagram). (if_found machine
+            (λ d. at_node config marked d.receiver (Received d.message) NoFault) o).world) at.there
+            ∙ ap (λ (letter : Letter). (at_node config marked letter.receiver (Received letter.message) NoFault).world) at.is
+            ∙ ap (λ (o : Option NodeState). (if_found marked
+            (λ found. outcome_result config marked who found.facts (node_step config who found (Received message) NoFault)) o).world) here;
+      }
+
+  -- it is restarted, where its facts play
+  abbrev fresh : NodeState
+  fresh = record { facts = node.facts; up = true; tear = node.tear; memory = empty_memory }
+
+  restart_is : all_play config who [] node.facts ≡ true → (machine : World) → node_at config machine who ≡ Some node
+      → (world_step config machine (Restart who) NoFault).world
+      ≡ (outcome_result config machine who node.facts (answer_outcome fresh Done)).world
+  restart_is plays machine here =
+      ap (λ (o : Option NodeState). (if_found machine
+      (λ found. outcome_result config machine who found.facts (restart_outcome config who found NoFault)) o).world) here
+      ∙ ap (λ (t : Bool). (outcome_result config machine who node.facts
+      (if t then answer_outcome fresh Done else answer_outcome (down_node node) (Refused Damaged))).world) plays
 
   module _ (tx : TxParts) where
     -- a timeout of the transaction
@@ -98,8 +143,8 @@ module _ (config : Config) (world : World) (who : NodeId) (node : NodeState) (is
     timed_out = record {
       event = Ask who (Timeout tx);
       happens = cond-true (tx_eq tx tx) (Some who) None (tx_self tx);
-      moved = handed world.net refl (Asked (Timeout tx)) (world_step config world (Ask who (Timeout tx)) NoFault).world refl
-          (λ reach. After world (Ask who (Timeout tx)) NoFault reach);
+      moved = handed world.net refl (Asked (Timeout tx)) (asked_there (Timeout tx))
+          (world_step config world (Ask who (Timeout tx)) NoFault).world refl;
     }
 
     -- a delivery of what was sent to it
@@ -113,32 +158,26 @@ module _ (config : Config) (world : World) (who : NodeId) (node : NodeState) (is
         record {
           event = event;
           happens = ap (λ (o : Option Datagram). option_map (λ (d : Datagram). d.receiver) o) at.there ∙ ap Some receiver;
-          moved = handed (mark_at world.net at.number) (marked_mail world.net at.number) (Received message)
+          moved = handed (mark_at world.net at.number) (marked_mail world.net at.number) (Received message) (received_there message h)
               (world_step config world event NoFault).world
               (ap (λ (o : Option Datagram). (if_found world
               (λ d. at_node config (with_mark world at.number) d.receiver (Received d.message) NoFault) o).world) at.there
               ∙ ap (λ (letter : Letter).
-              (at_node config (with_mark world at.number) letter.receiver (Received letter.message) NoFault).world) at.is)
-              (λ reach. After world event NoFault reach);
+              (at_node config (with_mark world at.number) letter.receiver (Received letter.message) NoFault).world) at.is);
         }
 
     -- a restart
-    pub restarted : IsReachable config world
+    pub restarted : IsBacked config world
         → HasStep config world tx who (record { facts = node.facts; up = true; tear = node.tear; memory = empty_memory }) []
-    restarted reach =
-        let event : Event = Restart who in
-        let fresh : NodeState = record { facts = node.facts; up = true; tear = node.tear; memory = empty_memory } in
+    restarted b =
         let plays : all_play config who [] node.facts ≡ true =
-        subst (λ (o : Option NodeState). all_play config who [] (facts_of o) ≡ true) is (play config world reach who) in
+        subst (λ (o : Option NodeState). all_play config who [] (facts_of o) ≡ true) is (play config world b who) in
         record {
-          event = event;
+          event = Restart who;
           happens = refl;
-          moved = moved_by world.net refl (answer_outcome fresh Done) (world_step config world event NoFault).world
-              (ap (λ (o : Option NodeState). (if_found world
-              (λ found. outcome_result config world who found.facts (restart_outcome config who found NoFault)) o).world) is
-              ∙ ap (λ (t : Bool). (outcome_result config world who node.facts
-              (if t then answer_outcome fresh Done else answer_outcome (down_node node) (Refused Damaged))).world) plays)
-              (λ before. After world event NoFault before);
+          moved = moved_by world.net refl (answer_outcome fresh Done)
+              (λ machine here some. record { event = Restart who; net = machine.net; same = refl; comes = restart_is plays machine here })
+              (world_step config world (Restart who) NoFault).world (restart_is plays world is);
         }
 
 -- ---- quiet nodes

@@ -90,7 +90,7 @@ same_accept tx b a i v =
     (and_from ((a == a) && (b == b)) (vote_eq v v) (and_from (a == a) (b == b) (eq-eqb a a refl) (eq-eqb b b refl)) (is_vote v))
     (instance_eq-same tx i)
 
-met_heard : (tx : TxParts) (memory : LeaderMemory) → (with_met tx memory).heard ≡ memory.heard
+pub met_heard : (tx : TxParts) (memory : LeaderMemory) → (with_met tx memory).heard ≡ memory.heard
 met_heard tx memory = cond_both (list_any (tx_eq tx) memory.met) memory (record memory { met = tx ∷ memory.met })
     (λ (x : LeaderMemory). x.heard ≡ memory.heard) (λ e. refl) (λ e. refl)
 
