@@ -1,0 +1,4 @@
+pub mod Sent
+pub mod Told
+pub mod Decided
+pub mod Runs
