@@ -13,13 +13,10 @@ use Rattle.protocol.specs.Worlds.{World, Datagram, opening, node_at, datagrams_o
 use Rattle.protocol.specs.Worlds.{Occurrence, world_step, world_after}
 use Rattle.protocol.proofs.Lists.{IsIn-append, IsIn-before, IsIn-after, IsIn-map}
 use Rattle.progress.proofs.Mail.{Letter, letter_of, mail, letters, letters_of, posted_mail}
+use Rattle.progress.proofs.Backed.{IsAmong}
 use Rattle.safety.proofs.World.NodePlaces.{node_there}
 use Rattle.groups.specs.Runs.{Handed, node_after, sends_after, handled_in, CanBeHanded, group_result, Happening, AreSame}
 use Rattle.groups.proofs.Steps.{among, put, put_twice, put_same, step_comes, IsMailed}
-
--- all letters of the one are among the other's
-abbrev IsAmong : (some all : List Letter) → Type 0
-IsAmong some all = (letter : Letter) → IsIn some letter → IsIn all letter
 
 -- where events lead from the opening world
 abbrev pub led : Config → List Occurrence → World

@@ -3,3 +3,5 @@ pub mod Following
 pub mod Upkeep
 pub mod Reached
 pub mod Nodes
+pub mod Taking
+pub mod Leading

@@ -16,8 +16,8 @@ use Rattle.node_core.specs.Nodes.{AreSizes, IsSameNode, NodeParts, NodeStands, S
 use Rattle.node_core.specs.Sends.{sent}
 use Rattle.node_core.specs.Storing.{output_of}
 use Rattle.node_core.proofs.Grouped.{kept_stands, runs_stand}
-use Rattle.groups.specs.Runs.{Handed, node_after, sends_after}
-use Rattle.groups.specs.Nodes.{IsGroup}
+use Rattle.groups.specs.Runs.{Handed, node_after, sends_after, handled_in, Handled}
+use Rattle.groups.specs.Nodes.{IsGroup, AreShown, replied}
 
 module _ (config : Config) (who : NodeId) (own : List Row) where
   -- inputs that were handled, with the faults that met them
@@ -25,6 +25,7 @@ module _ (config : Config) (who : NodeId) (own : List Row) where
     pub group : List Handed
     pub inputs_are : inputs ≡ map (λ (h : Handed). h.input) group
     pub state_is : to.state ≡ node_after config who from.state group
+    pub shown : AreShown config who from.state group outs
     pub sends_are : flat_map (λ (out : Output). sent out.sends) outs ≡ sends_after config who from.state group
 
   are_handled : (from to : Place) (inputs : List Input) (outs : List Output) → Runs config who own from inputs outs to
@@ -33,6 +34,7 @@ module _ (config : Config) (who : NodeId) (own : List Row) where
     group = [];
     inputs_are = refl;
     state_is = ap (λ (p : Place). p.state) r;
+    shown = tt;
     sends_are = refl;
   }
   are_handled from to (input ∷ inputs) (out ∷ outs) (next, does, r) =
@@ -42,12 +44,30 @@ module _ (config : Config) (who : NodeId) (own : List Row) where
         group = first ∷ h.group;
         inputs_are = ap (λ (is : List Input). input ∷ is) h.inputs_are;
         state_is = h.state_is ∙ ap (λ (m : NodeState). node_after config who m h.group) does.state_is;
+        shown = (
+          record {
+            reply_is = does.steps.shows.reply_is;
+            now_is = does.steps.shows.now_is;
+            sends_are = does.steps.shows.sends_are;
+          },
+          subst (λ (m : NodeState). AreShown config who m h.group outs) does.state_is h.shown,
+        );
         sends_are = λ i.
             does.steps.shows.sends_are i
             ++ (h.sends_are ∙ ap (λ (m : NodeState). sends_after config who m h.group) does.state_is) i;
       }
   are_handled from to [] (o ∷ outs) r = absurd r
   are_handled from to (i ∷ inputs) [] r = absurd r
+
+  -- what happened there
+  replies_are : (node : NodeState) (group : List Handed) (outs : List Output) → AreShown config who node group outs
+      → handled_in config who node group ≡ replied who group outs
+  replies_are node [] [] shown = refl
+  replies_are node (first ∷ rest) (out ∷ outs) shown =
+      let others = replies_are (node_step config who node first.input first.fault).node rest outs shown.1 in
+      λ i. Handled who first.input (sym shown.0.reply_is i) ∷ others i
+  replies_are node [] (out ∷ outs) shown = absurd shown
+  replies_are node (first ∷ rest) [] shown = absurd shown
 
   nothing_sent : (refusal : Refusal) (inputs : List Input)
       → flat_map (λ (out : Output). sent out.sends) (map (λ (input : Input). output_of (Refused refusal) None) inputs) ≡ []
@@ -93,6 +113,7 @@ are_groups config m inputs old new outs (Ok done) s g =
       all = refl;
       stands = node_stands config old new m (node_after config old.who m h.group) s g.same
           (subst (Stands config old.who old.rows new.held new.role) h.state_is stands);
+      told = record { shown = h.shown; happened = replies_are config old.who old.rows m h.group outs h.shown };
       sends_are = h.sends_are;
     }
 are_groups config m inputs old new outs (Err error) s g =
@@ -116,6 +137,7 @@ are_groups config m inputs old new outs (Err error) s g =
       all = tt;
       stands = node_stands config old new m (node_after config old.who m (h.group ++ last ∷ [])) s g.same
           (subst (Stands config old.who old.rows new.held new.role) same stands);
+      told = g.comes.outs_are;
       sends_are =
           ap (flat_map (λ (out : Output). sent out.sends)) g.comes.outs_are
           ∙ nothing_sent config old.who old.rows (refusal_of error) inputs;

@@ -11,6 +11,7 @@ use Rattle.protocol.specs.TCommit.{IsCommitStep}
 use Rattle.protocol.specs.Worlds.{World, Datagram, Occurrence, opening, node_at, world_step}
 use Rattle.protocol.proofs.Lists.{IsIn-map, IsIn-mapped}
 use Rattle.progress.proofs.Mail.{Letter, letter_of, mail}
+use Rattle.progress.proofs.Backed.{IsBacked}
 use Rattle.safety.specs.CommitSteps.{IsConsistent}
 use Rattle.safety.specs.Runs.{IsReachable, views_in}
 use Rattle.safety.specs.Runs as reachable
@@ -80,9 +81,19 @@ are_machines config world reach =
       sent = all_sent world (led config f.events) f.follows.mail_is;
     }
 
+-- such a world is backed by one of the machine
+pub backed : (config : Config) (world : World) → IsReached config world → IsBacked config world
+backed config world reach =
+    let f = followed config world reach in record {
+      machine = led config f.events;
+      reach = reached config f.events;
+      nodes_are = f.follows.nodes_are;
+      sent = f.follows.mail_is;
+    }
+
 -- ---- views are of nodes
 
-abbrev with_nodes : World → List NodeState → World
+abbrev pub with_nodes : World → List NodeState → World
 with_nodes world nodes = record { nodes = nodes; net = world.net }
 
 pub consistent : (config : Config) (world : World) → IsReached config world → (tx : TxParts)

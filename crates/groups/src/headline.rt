@@ -44,8 +44,9 @@ pub fn each_step()
         → IsCommitStep (is_participant tx) (views_in config world tx) (views_in config (world_step config world event fault).world tx) }
 {}
 
-/// A group at a node over whatever record is such a group: what the node is and sends after it is what the machine's node is and sends
-/// after its inputs, all, or, where the append was stopped, the first ones.
+/// A group at a node over whatever record is such a group: what the node is after it is what the machine's node is after its inputs, all,
+/// or, where the append was stopped, the first ones. Where it was stored, each input is answered as the machine's node answers it, with the
+/// view that it changed and what it sends, one by one; where it was stopped, each is refused, and nothing is sent.
 pub fn nodes_work_in_groups()
     ensures { (config : Config) (m : NodeState) (inputs : List Input) (old new : NodeParts) (outs : List Output)
         (result : Result (Unit {0}) RecordError) → NodeStands config old m → GroupsAs config m inputs old new outs result
