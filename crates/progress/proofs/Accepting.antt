@@ -73,7 +73,7 @@ held_by (Some last) b v h =
     let ev = vote_eq-is last.1 v parts.1 in
     λ k. Some (eb k, ev k)
 
-accepted_holds : (s : Slot) (b : ℕ) (v : Vote) → is_accepted s b v ≡ true → s.report ≡ Some (b, v)
+pub accepted_holds : (s : Slot) (b : ℕ) (v : Vote) → is_accepted s b v ≡ true → s.report ≡ Some (b, v)
 accepted_holds s b v h = held_by s.report b v (and_parts (s.mbal == b) (holds_last s.report b v) h).1
 
 module _ (config : Config) (tx : TxParts) (b a : ℕ) (facts : List Fact) (i : ℕ) (v : Vote) where

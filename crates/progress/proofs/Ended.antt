@@ -123,6 +123,18 @@ module _ (config : Config) (l : ℕ) (tx : TxParts) (inside : is_inside config t
 
 -- ---- from every world
 
+-- who takes part beside others does
+module _ (l : ℕ) (q : ℕ → Bool) (tx : TxParts) where
+  pub quorum_too : (who : NodeId) → leader_and_quorum l q who ≡ true → leader_quorum_and_participants l q tx who ≡ true
+  quorum_too (A a) h = h
+  quorum_too (L other) h = h
+  quorum_too (R rm) h = absurd (cc (h))
+
+  pub participants_too : (who : NodeId) → leader_and_participants l tx who ≡ true → leader_quorum_and_participants l q tx who ≡ true
+  participants_too (A a) h = absurd (cc (h))
+  participants_too (L other) h = h
+  participants_too (R rm) h = h
+
 module _ (config : Config) (tx : TxParts) (l : ℕ) (q : ℕ → Bool) (few : l < config.leaders) (inside : is_inside config tx ≡ true)
     (majority : is_majority config.acceptors q ≡ true) where
   abbrev all : NodeId → Bool
@@ -131,20 +143,10 @@ module _ (config : Config) (tx : TxParts) (l : ℕ) (q : ℕ → Bool) (few : l 
   abbrev Ended : World → Type 0
   Ended world = HaveEnded config tx committed world ⊎ HaveEnded config tx aborted world
 
-  quorum_too : (who : NodeId) → leader_and_quorum l q who ≡ true → all who ≡ true
-  quorum_too (A a) h = h
-  quorum_too (L other) h = h
-  quorum_too (R rm) h = absurd (cc (h))
-
-  participants_too : (who : NodeId) → leader_and_participants l tx who ≡ true → all who ≡ true
-  participants_too (A a) h = absurd (cc (h))
-  participants_too (L other) h = h
-  participants_too (R rm) h = h
-
   either : (P : World → Type 0) → ((world : World) → P world → Ended world) → (world : World)
       → Leads config (leader_and_participants l tx) tx P world → Leads config all tx Ended world
   either P says world run =
-      let wide = leads_wider config (leader_and_participants l tx) all tx participants_too P world run in
+      let wide = leads_wider config (leader_and_participants l tx) all tx (participants_too l q tx) P world run in
       record { events = wide.events; at = wide.at; holds = says _ wide.holds }
 
   ended_from : (world : World) → IsBacked config world × HasOutcome config l tx world → Leads config all tx Ended world
@@ -156,7 +158,7 @@ module _ (config : Config) (tx : TxParts) (l : ℕ) (q : ℕ → Bool) (few : l 
   pub ends : (world : World) → IsBacked config world → HasBallots config world l q tx → Leads config all tx Ended world
   ends world reach ballots =
       let run = leads_backed config all tx (HasOutcome config l tx) world reach
-      (leads_wider config (leader_and_quorum l q) all tx quorum_too (HasOutcome config l tx) world
+      (leads_wider config (leader_and_quorum l q) all tx (quorum_too l q tx) (HasOutcome config l tx) world
       (decides config tx l q few inside majority world reach ballots)) in
       leads_on config all tx (λ after. IsBacked config after × HasOutcome config l tx after) Ended ended_from world run.events run.at
       run.holds

@@ -23,7 +23,7 @@ use Rattle.progress.proofs.Steps.{armed_node, torn_facts, torn_node, torn_delive
 use Rattle.progress.proofs.Leading.{Comes, IsDoneFor, comes_step, comes_now, comes_on, comes_each}
 use Rattle.progress.proofs.Existing.{manager_there}
 
-manager_apart : (r s : ℕ) → r ≢ s → R r ≢ R s
+pub manager_apart : (r s : ℕ) → r ≢ s → R r ≢ R s
 manager_apart r s apart e = apart (cc (e))
 
 -- the outcome is in the mail to each participant
