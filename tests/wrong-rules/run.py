@@ -13,9 +13,10 @@ A rule with a line 'crate: history' is an edit of crates/history, which looks ba
 crate, and of these a lemma must be refused that is no worked run.
 
 A rule with a line 'judge: progress' is safe, but a transaction may wait for ever: crates/safety must be proved under it, and
-crates/progress must be refused. Where the words of a proof of safety don't fit the rule, 'proof:' is a file below crates, and the pairs
-after it are words that do. Its NAME.law stands beside the proofs of crates/progress, and proves that a clause of
-crates/progress/src/headline.rt is false.
+crates/progress must be refused. One with 'judge: answers' is safe and waits for nothing, but a client is told wrongly: crates/safety and
+crates/progress must be proved under it, and crates/answers must be refused. Where the words of a proof of the former don't fit the rule,
+'proof:' is a file below crates, and the pairs after it are words that do. Its NAME.law stands beside the proofs of the judge, and proves
+that a clause of the judge's src/headline.rt is false.
 """
 import os
 import re
@@ -119,7 +120,9 @@ def crate_of(name):
 def judge_of(name):
     """The crate whose laws are to refuse a rule: safety for those of the protocol that name none."""
     lines = read(f"{HERE}/{name}.rule").splitlines()
-    return "history" if "crate: history" in lines else "progress" if "judge: progress" in lines else "safety"
+    if "crate: history" in lines:
+        return "history"
+    return next((judge for judge in ("progress", "answers") if f"judge: {judge}" in lines), "safety")
 
 
 def parse_rule(name):
@@ -221,6 +224,8 @@ class Scratch(Copy):
     """A copy of the crates for rules of the protocol."""
 
     top = "safety"
+    # crates below the top that must be proved
+    below = ()
 
     def __init__(self, folder, source):
         super().__init__(folder, source, self.top)
@@ -233,7 +238,8 @@ class Scratch(Copy):
 
     def cited_lemmas(self):
         """The modules of protocol's proofs that the crates above it build on: the others are worked runs."""
-        text = "".join(read(f"{at}/{name}") for crate in {"safety", self.top} for at, _, names in os.walk(f"{self.folder}/crates/{crate}")
+        text = "".join(read(f"{at}/{name}") for crate in {"safety", *self.below, self.top}
+                       for at, _, names in os.walk(f"{self.folder}/crates/{crate}")
                        if "/out" not in at for name in names if name.endswith((".antt", ".rt")))
         cited = set()
         while True:
@@ -301,61 +307,76 @@ class Scratch(Copy):
 class StuckScratch(Scratch):
     """A copy of the crates for rules of the protocol that are safe."""
     top = "progress"
+    below = ("safety",)
 
     def __init__(self, folder, source):
         super().__init__(folder, source)
-        self.progress = f"{folder}/crates/progress"
-        self.proofs = read(f"{self.progress}/proofs/Lib.antt")
+        self.judge = f"{folder}/crates/{self.top}"
+        self.proofs = read(f"{self.judge}/proofs/Lib.antt")
+        self.laws = f"{module_of(self.top)}Laws"
 
     def words_of(self, text):
-        """The words that a text of progress uses, texts by module, and the laws of progress where it uses any."""
-        named = [name for name in WORDS if f"progress.proofs.{name}." in text]
+        """The words that a text of the judge uses, texts by module, and its laws where it uses any."""
+        named = [name for name in WORDS if f"{self.top}.proofs.{name}." in text]
         below = {module: words for name in named for module, words in self.words_of(run_of(name)).items()}
-        laws = {"ProgressLaws": stated_laws("progress/src/headline.rt")} if "progress.proofs.ProgressLaws." in text else {}
+        laws = {self.laws: stated_laws(f"{self.top}/src/headline.rt")} if f"{self.top}.proofs.{self.laws}." in text else {}
         return below | laws | {name: run_of(name) for name in named}
 
-    def check_progress(self, laws):
-        """Checks progress with these laws, texts by module, beside its proofs."""
+    def check_below(self):
+        """The checks of the crates that must be proved."""
+        self.set_proofs(self.lemmas)
+        return [Check(f"{self.folder}/crates/{crate}") for crate in self.below]
+
+    def check_judge(self, laws):
+        """Checks the judge with these laws, texts by module, beside its proofs."""
         self.set_proofs({**self.lemmas, "RowWords": self.modules["RowWords"]} if laws else self.lemmas)
-        written, proofs = {**self.words_of("".join(laws.values())), **laws}, f"{self.progress}/proofs"
+        written, proofs = {**self.words_of("".join(laws.values())), **laws}, f"{self.judge}/proofs"
         for name, text in written.items():
             write(f"{proofs}/{name}.antt", text)
         write(f"{proofs}/Lib.antt", self.proofs + "".join(f"pub mod {name}\n" for name in written))
-        checked = Check(self.progress)
+        checked = Check(self.judge)
         for name in written:
             os.remove(f"{proofs}/{name}.antt")
         return checked
 
     def try_rule(self, name):
-        """Which proof of progress refuses a rule, and what refuses it beside."""
+        """Which proof of the judge refuses a rule, and what refuses it beside."""
         laws = runs_of(name, ("law",))
         with self.edited(name):
             alone = self.check_runs(runs_of(name, ("run",)))
             if not alone.proved:
                 raise BadRule(f"with the run alone: {alone.errors[:1] or alone.lines[-3:]}")
-            worked, safety = self.check_worked_runs(), self.check_safety()
-            if not safety.proved:
-                raise BadRule(f"safety isn't proved: {safety.errors[:2] or safety.lines[-3:]}")
-            progress = self.check_progress(laws)
-        if progress.proved or not progress.is_refusal or not (worked.proved or worked.is_refusal):
-            raise BadRule(progress.refused_by if not progress.proved else "nothing refuses it")
-        added = {f"proofs/{module}.antt" for module in ("ProgressLaws", *WORDS, *laws)}
-        if wrong := [error for error in progress.errors if error[0] in added]:
+            worked = self.check_worked_runs()
+            for crate, check in zip(self.below, self.check_below()):
+                if not check.proved:
+                    raise BadRule(f"{crate} isn't proved: {check.errors[:2] or check.lines[-3:]}")
+            judged = self.check_judge(laws)
+        if judged.proved or not judged.is_refusal or not (worked.proved or worked.is_refusal):
+            raise BadRule(judged.refused_by if not judged.proved else "nothing refuses it")
+        added = {f"proofs/{module}.antt" for module in (self.laws, *WORDS, *laws)}
+        if wrong := [error for error in judged.errors if error[0] in added]:
             raise BadRule(f"its law: {wrong[0]}")
         runs = [] if worked.proved else [f"protocol {worked.refused_by}"]
-        return ", ".join([*runs, f"progress {progress.refused_by}", *([law_of(name)] if laws else [])]) + "; safety is proved"
+        proved = " and ".join(self.below) + (" is proved" if len(self.below) == 1 else " are proved")
+        return ", ".join([*runs, f"{self.top} {judged.refused_by}", *([law_of(name)] if laws else [])]) + f"; {proved}"
 
     def try_right_rules(self, names):
         """Proves the right definitions, and says of which rules the run or the law is not refused under them."""
-        for check in (self.check_worked_runs(), self.check_safety(), self.check_progress({})):
+        for check in (self.check_worked_runs(), *self.check_below(), self.check_judge({})):
             if not check.proved:
                 sys.exit(f"the right definitions aren't proved: {check.crate}: {(check.errors or check.lines)[:3]}")
         laws = {name: runs_of(name, ("law",)) for name in names}
-        refused = {file for file, _, _ in self.check_progress({k: v for of_one in laws.values() for k, v in of_one.items()}).errors}
+        refused = {file for file, _, _ in self.check_judge({k: v for of_one in laws.values() for k, v in of_one.items()}).errors}
         runs = {module: text for name in names for module, text in runs_of(name, ("run",)).items()}
         standing = {name: "with the right rule its law is proved" for name in names
                     if not {f"proofs/{module}.antt" for module in laws[name]} <= refused}
         return standing | unrefused(self.check_runs(runs), names, ("run",))
+
+
+class ToldScratch(StuckScratch):
+    """A copy of the crates for rules of the protocol that are safe and wait for nothing."""
+    top = "answers"
+    below = ("safety", "progress")
 
 
 def module_of(name):
@@ -405,7 +426,7 @@ def main():
         sys.exit(f"runs without a rule: {', '.join(sorted(strays))}")
     names = sys.argv[1:] or sorted(rules)
     passed = []
-    for kind, judge in ((Scratch, "safety"), (StuckScratch, "progress"), (BackScratch, "history")):
+    for kind, judge in ((Scratch, "safety"), (StuckScratch, "progress"), (ToldScratch, "answers"), (BackScratch, "history")):
         if judged := [name for name in names if judge_of(name) == judge]:
             with tempfile.TemporaryDirectory() as folder:
                 first = kind(f"{folder}/0", ROOT)
