@@ -4,7 +4,9 @@ import java.nio.file.Path;
 import java.sql.SQLException;
 import java.util.ArrayList;
 import java.util.Arrays;
+import java.util.LinkedHashMap;
 import java.util.List;
+import java.util.Map;
 import java.util.concurrent.CountDownLatch;
 import java.util.concurrent.TimeUnit;
 import java.util.concurrent.atomic.AtomicReference;
@@ -16,13 +18,15 @@ import place.Database;
 import place.Place;
 
 /**
- * Orders over PostgreSQL, MariaDB and ActiveMQ by pcommit and by Bitronix, by turns at the same servers, with 1, 8 and 32 clients:
- * {@code BesideBtm PROGRAM [SECONDS [TURNS]]}. Each client has an account of its own. Printed are transactions a second, and the time
- * from the begin of a transaction to the return of its commit. BTM's log is synced, as it is by default.
+ * Orders over PostgreSQL, MariaDB and ActiveMQ by pcommit, by Bitronix, and with nobody who decides, by turns at the same servers, with 1,
+ * 8 and 32 clients: {@code BesideBtm PROGRAM [SECONDS [TURNS]]}. Each client has an account of its own. Printed are transactions a second,
+ * the time from the begin of a transaction to the return of its commit, and the processor time of each party. BTM's log is synced, as it is
+ * by default.
  */
 public final class BesideBtm {
     private static final int[] CLIENTS = {1, 8, 32};
-    private static final int WARM = 2;
+    private static final int MOST = 32;
+    private static final int WARM = 4;
 
     private BesideBtm() { }
 
@@ -35,42 +39,54 @@ public final class BesideBtm {
     public static void main(final String[] words) throws Exception {
         final int seconds = words.length > 1 ? Integer.parseInt(words[1]) : 5;
         final int turns = words.length > 2 ? Integer.parseInt(words[2]) : 3;
-        final int most = CLIENTS[CLIENTS.length - 1];
-        try (Place place = new Place(Path.of(words[0]).toAbsolutePath(), most); Cluster cluster = new Cluster(place.nodes().file());
+        try (Place place = new Place(Path.of(words[0]).toAbsolutePath(), MOST); Cluster cluster = new Cluster(place.nodes().file());
                 PaxosTransactionManager manager = new PaxosTransactionManager(cluster)) {
             Order.register(manager);
+            final String bank = place.postgresql().url();
+            final String shop = place.mariadb().url();
+            final String broker = place.broker().url();
             final File log = Files.createDirectory(place.folder().resolve("btm")).toFile();
             final List<Order> orders = new ArrayList<>();
-            for (int client = 0; client < most; client++) {
-                orders.add(new Order(manager, place.postgresql().url(), place.mariadb().url(), place.broker().url()));
+            final List<Undecided> undecided = new ArrayList<>();
+            for (int client = 0; client < MOST; client++) {
+                orders.add(new Order(manager, bank, shop, broker));
+                undecided.add(new Undecided(bank, shop, broker));
             }
-            try (BtmOrder btm = new BtmOrder(log, most + 2, place.postgresql().url(), place.mariadb().url(), place.broker().url())) {
-                final Work ours = client -> orders.get(client).place(client, 1, "pcommit");
-                final Work theirs = client -> btm.place(client, 1, "btm", null);
-                run(ours, 8, WARM);
-                run(theirs, 8, WARM);
+            try (BtmOrder btm = new BtmOrder(log, MOST + 2, bank, shop, broker)) {
+                final Map<String, Work> works = new LinkedHashMap<>();
+                works.put("pcommit", client -> orders.get(client).place(client, 1, "pcommit"));
+                works.put("BTM", client -> btm.place(client, 1, "btm", null));
+                works.put("nobody", client -> undecided.get(client).place(client, 1, "nobody"));
+                for (final Work work : works.values()) {
+                    run(work, 8, WARM);
+                }
                 for (final int clients : CLIENTS) {
-                    measure(ours, theirs, clients, seconds, turns);
+                    measure(place, works, clients, seconds, turns);
                 }
                 check(place);
             }
-            for (final Order order : orders) {
-                order.close();
+            for (int client = 0; client < MOST; client++) {
+                orders.get(client).close();
+                undecided.get(client).close();
             }
         }
     }
 
-    private static void measure(final Work ours, final Work theirs, final int clients, final int seconds, final int turns)
+    private static void measure(final Place place, final Map<String, Work> works, final int clients, final int seconds, final int turns)
             throws Exception {
-        final List<long[]> first = new ArrayList<>();
-        final List<long[]> second = new ArrayList<>();
+        final Map<String, List<long[]>> times = new LinkedHashMap<>();
+        final Map<String, Costs> costs = new LinkedHashMap<>();
         for (int turn = 0; turn < turns; turn++) {
-            first.add(run(ours, clients, seconds));
-            second.add(run(theirs, clients, seconds));
+            for (final Map.Entry<String, Work> work : works.entrySet()) {
+                final Costs begun = Costs.now(place);
+                times.computeIfAbsent(work.getKey(), any -> new ArrayList<>()).add(run(work.getValue(), clients, seconds));
+                costs.merge(work.getKey(), Costs.now(place).since(begun), Costs::and);
+            }
         }
-        final double rate = say("pcommit", clients, seconds, first);
-        final double other = say("BTM", clients, seconds, second);
-        System.out.printf("%2d clients: pcommit's rate is %.2f of BTM's%n", clients, rate / other);
+        final Map<String, Double> rates = new LinkedHashMap<>();
+        times.forEach((who, all) -> rates.put(who, say(who, clients, seconds, all, costs.get(who))));
+        System.out.printf("%2d clients: of BTM's rate pcommit's is %.2f, nobody's %.2f%n", clients, rates.get("pcommit") / rates.get("BTM"),
+                rates.get("nobody") / rates.get("BTM"));
     }
 
     /** The times of all transactions that clients end in a while. */
@@ -107,18 +123,19 @@ public final class BesideBtm {
         return times.stream().flatMap(List::stream).mapToLong(Long::longValue).toArray();
     }
 
-    private static double say(final String name, final int clients, final int seconds, final List<long[]> turns) {
+    private static double say(final String name, final int clients, final int seconds, final List<long[]> turns, final Costs costs) {
         final long[] times = turns.stream().flatMapToLong(Arrays::stream).sorted().toArray();
         final double[] rates = turns.stream().mapToDouble(turn -> turn.length / (double) seconds).sorted().toArray();
         final double rate = rates[rates.length / 2];
-        System.out.printf("%2d clients: %-8s %6.0f a second (%.0f to %.0f); to the outcome %.2f ms, 99th percentile %.2f%n", clients,
-                name, rate, rates[0], rates[rates.length - 1], times[times.length / 2] / 1e6, times[(int) (times.length * 0.99)] / 1e6);
+        System.out.printf("%2d clients: %-8s %6.0f a second (%.0f to %.0f); to the outcome %.2f ms, 99th percentile %.2f; %s%n", clients,
+                name, rate, rates[0], rates[rates.length - 1], times[times.length / 2] / 1e6, times[(int) (times.length * 0.99)] / 1e6,
+                costs.of(times.length));
         return rate;
     }
 
     /** The sum over both databases is what it was, and each order has a message. */
     private static void check(final Place place) throws SQLException, JMSException {
-        final int accounts = CLIENTS[CLIENTS.length - 1] * Database.FIRST;
+        final int accounts = MOST * Database.FIRST;
         final int moved = place.mariadb().sum() - accounts;
         final int messages = place.broker().take(text -> true);
         final boolean isRight = place.postgresql().sum() + moved == accounts && messages == moved;

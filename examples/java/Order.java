@@ -71,7 +71,8 @@ public final class Order implements AutoCloseable {
             change(debit, account, amount);
             change(credit, account, amount);
             orders.send(session.createTextMessage(text));
-        } catch (SQLException | JMSException | SystemException | RollbackException error) {
+        } catch (SQLException | JMSException | SystemException | RollbackException | RuntimeException error) {
+            // whatever it is: else the rows stay locked
             manager.rollback();
             throw error;
         }

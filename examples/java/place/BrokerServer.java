@@ -3,6 +3,7 @@ package place;
 import java.io.IOException;
 import java.nio.file.Files;
 import java.nio.file.Path;
+import java.time.Duration;
 import java.util.ArrayList;
 import java.util.Enumeration;
 import java.util.List;
@@ -37,6 +38,11 @@ public final class BrokerServer implements Server {
     @Override
     public String name() {
         return "ActiveMQ";
+    }
+
+    @Override
+    public Duration processorTime() {
+        return child.processorTime();
     }
 
     @Override

@@ -3,11 +3,13 @@ package place;
 import java.io.IOException;
 import java.nio.file.Files;
 import java.nio.file.Path;
+import java.time.Duration;
 import java.util.List;
 import java.util.Set;
 import java.util.concurrent.ConcurrentHashMap;
 import java.util.concurrent.CopyOnWriteArrayList;
 import java.util.concurrent.TimeUnit;
+import java.util.stream.Stream;
 
 /** A process that this one started. When this one ends, or is interrupted, all that still run are killed by their ids. */
 public final class Child {
@@ -15,9 +17,14 @@ public final class Child {
     private static final long PATIENCE = 60;
 
     private static final List<Runnable> AT_END = new CopyOnWriteArrayList<>();
+    // guarded by RUNNING, as is each start
+    private static boolean isEnding;
 
     static {
         Runtime.getRuntime().addShutdownHook(new Thread(() -> {
+            synchronized (RUNNING) {
+                isEnding = true;
+            }
             killAll();
             AT_END.forEach(Runnable::run);
         }));
@@ -52,10 +59,15 @@ public final class Child {
         final ProcessBuilder builder = new ProcessBuilder(words).directory(log.getParent().toFile()).redirectErrorStream(true)
                 .redirectOutput(ProcessBuilder.Redirect.appendTo(log.toFile()))
                         .redirectInput(ProcessBuilder.Redirect.from(Path.of("/dev/null").toFile()));
-        final Process process = builder.start();
-        RUNNING.add(process);
-        process.onExit().thenAccept(RUNNING::remove);
-        return new Child(process, log);
+        synchronized (RUNNING) {
+            if (isEnding) {
+                throw new IOException("this process is being ended, and starts no other");
+            }
+            final Process process = builder.start();
+            RUNNING.add(process);
+            process.onExit().thenAccept(RUNNING::remove);
+            return new Child(process, log);
+        }
     }
 
     /** Runs a program to its end, which is to be a good one. */
@@ -70,8 +82,10 @@ public final class Child {
         return process.isAlive();
     }
 
-    public long id() {
-        return process.pid();
+    /** The processor time that it has taken, and what it has started and still runs. */
+    Duration processorTime() {
+        return Stream.concat(Stream.of(process.toHandle()), process.descendants())
+                .map(one -> one.info().totalCpuDuration().orElse(Duration.ZERO)).reduce(Duration.ZERO, Duration::plus);
     }
 
     /** Waits for its end. Its status. */
@@ -85,14 +99,9 @@ public final class Child {
         process.waitFor();
     }
 
-    /** Sends it a signal by its name. */
-    public void signal(final String name) throws IOException, InterruptedException {
-        new ProcessBuilder("kill", "-" + name, Long.toString(process.pid())).start().waitFor();
-    }
-
     /** Sends it a signal that ends it, and waits until it is gone. */
     void stop(final String name) throws IOException, InterruptedException {
-        signal(name);
+        new ProcessBuilder("kill", "-" + name, Long.toString(process.pid())).start().waitFor();
         if (!process.waitFor(PATIENCE, TimeUnit.SECONDS)) {
             throw new IOException("process " + process.pid() + " doesn't end");
         }

@@ -4,6 +4,7 @@ import java.io.IOException;
 import java.nio.file.Files;
 import java.nio.file.Path;
 import java.sql.SQLException;
+import java.time.Duration;
 import java.util.List;
 import javax.sql.XADataSource;
 import org.mariadb.jdbc.MariaDbDataSource;
@@ -32,6 +33,11 @@ public final class MariaDbServer implements Server, Database {
     @Override
     public String name() {
         return "MariaDB";
+    }
+
+    @Override
+    public Duration processorTime() {
+        return child.processorTime();
     }
 
     @Override

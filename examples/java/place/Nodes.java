@@ -5,6 +5,7 @@ import java.nio.file.Files;
 import java.nio.file.Path;
 import java.nio.file.attribute.PosixFilePermissions;
 import java.security.SecureRandom;
+import java.time.Duration;
 import java.util.HashSet;
 import java.util.HexFormat;
 import java.util.LinkedHashMap;
@@ -99,13 +100,13 @@ public final class Nodes {
         child.until(() -> child.hasSaid("pcommit_node " + name));
     }
 
+    /** The processor time that all of them have taken. */
+    public Duration processorTime() {
+        return running.values().stream().map(Child::processorTime).reduce(Duration.ZERO, Duration::plus);
+    }
+
     /** Kills a node. */
     public void kill(final NodeName name) throws InterruptedException {
         running.get(name).kill();
-    }
-
-    /** Has a node stand still, or go on. */
-    public void pause(final NodeName name, final boolean isPaused) throws IOException, InterruptedException {
-        running.get(name).signal(isPaused ? "STOP" : "CONT");
     }
 }

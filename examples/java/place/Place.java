@@ -81,7 +81,7 @@ public final class Place implements AutoCloseable {
                 folder.resolve("resolver" + manager + ".log"));
     }
 
-    private void delete() {
+    private synchronized void delete() {
         if (!Files.exists(folder)) {
             return;
         }

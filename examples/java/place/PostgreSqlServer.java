@@ -4,6 +4,7 @@ import java.io.IOException;
 import java.nio.file.Files;
 import java.nio.file.Path;
 import java.sql.SQLException;
+import java.time.Duration;
 import java.util.ArrayList;
 import java.util.Comparator;
 import java.util.List;
@@ -44,6 +45,11 @@ public final class PostgreSqlServer implements Server, Database {
     @Override
     public String name() {
         return "PostgreSQL";
+    }
+
+    @Override
+    public Duration processorTime() {
+        return child.processorTime();
     }
 
     @Override

@@ -32,8 +32,7 @@ public final class Cluster implements AutoCloseable {
     private final ClusterFile file;
     private final Duration patience;
     private final Duration most;
-    private final Map<NodeName, NodeConnection> connections = new ConcurrentHashMap<>();
-    private final Map<NodeName, Deque<NodeConnection>> idle = new ConcurrentHashMap<>();
+    private final Map<NodeName, Door> doors = new ConcurrentHashMap<>();
     private final List<NodeName> leaders;
     private volatile int preferred;
     private volatile boolean isClosed;
@@ -75,9 +74,10 @@ public final class Cluster implements AutoCloseable {
      * The answers of a node to lines.
      *
      * @param node  the node
-     * @param lines what it is asked
+     * @param lines what it is asked, at least one
      * @return as many answers, in the same order
-     * @throws NodeGoneException where one didn't come in time: what was asked may have happened
+     * @throws NodeGoneException        where one didn't come in time: what was asked may have happened
+     * @throws IllegalArgumentException where one isn't one line
      */
     public List<String> ask(final NodeName node, final List<String> lines) throws NodeGoneException {
         return begin(node, lines).await();
@@ -87,9 +87,10 @@ public final class Cluster implements AutoCloseable {
      * Writes lines to a node, and doesn't wait.
      *
      * @param node  the node
-     * @param lines what it is asked
+     * @param lines what it is asked, at least one
      * @return what will be answered
-     * @throws NodeGoneException where the node can't be reached
+     * @throws NodeGoneException        where the node can't be reached
+     * @throws IllegalArgumentException where one isn't one line
      */
     public Answers begin(final NodeName node, final List<String> lines) throws NodeGoneException {
         final NodeConnection connection = connection(node);
@@ -100,14 +101,13 @@ public final class Cluster implements AutoCloseable {
     public static final class Answers {
         private final NodeName node;
         private final NodeConnection connection;
-        private final List<CompletableFuture<String>> futures;
+        private final CompletableFuture<List<String>> all;
         private final long until;
 
-        Answers(final NodeName node, final NodeConnection connection, final List<CompletableFuture<String>> futures,
-                final Duration patience) {
+        Answers(final NodeName node, final NodeConnection connection, final CompletableFuture<List<String>> all, final Duration patience) {
             this.node = node;
             this.connection = connection;
-            this.futures = futures;
+            this.all = all;
             until = System.nanoTime() + patience.toNanos();
         }
 
@@ -118,12 +118,8 @@ public final class Cluster implements AutoCloseable {
          * @throws NodeGoneException where one doesn't come in time; the connection is given up then
          */
         public List<String> await() throws NodeGoneException {
-            final List<String> answers = new ArrayList<>(futures.size());
             try {
-                for (final CompletableFuture<String> future : futures) {
-                    answers.add(future.get(Math.max(0, until - System.nanoTime()), TimeUnit.NANOSECONDS));
-                }
-                return answers;
+                return all.get(Math.max(0, until - System.nanoTime()), TimeUnit.NANOSECONDS);
             } catch (TimeoutException error) {
                 connection.fail("it didn't answer in time", error);
                 throw new NodeGoneException(node, "it didn't answer in time", error);
@@ -136,25 +132,50 @@ public final class Cluster implements AutoCloseable {
         }
     }
 
+    /** The connections to one node. Who connects to a node that hangs holds up nobody who asks another. */
+    private static final class Door {
+        private final Deque<NodeConnection> kept = new ConcurrentLinkedDeque<>();
+        private volatile NodeConnection shared;
+        private NodeGoneException failure;
+        private long failedAt;
+    }
+
+    private Door door(final NodeName node) {
+        return doors.computeIfAbsent(node, any -> new Door());
+    }
+
     private NodeConnection connection(final NodeName node) throws NodeGoneException {
-        final NodeConnection known = connections.get(node);
+        final Door door = door(node);
+        final NodeConnection known = door.shared;
         if (known != null && known.isUsable()) {
             return known;
         }
-        synchronized (lockOf(node)) {
-            final NodeConnection other = connections.get(node);
-            if (other != null && other.isUsable()) {
-                return other;
+        final long came = System.nanoTime();
+        synchronized (door) {
+            if (door.shared != null && door.shared.isUsable()) {
+                return door.shared;
             }
-            final NodeConnection made = open(node);
-            connections.put(node, made);
-            return made;
+            if (door.failure != null && door.failedAt - came > 0) {
+                // another tried meanwhile: who has waited for that doesn't wait for a try of its own
+                throw door.failure;
+            }
+            return connect(node, door);
         }
     }
 
-    /** One lock for each node: who connects to a node that hangs holds up nobody who asks another. */
-    private Object lockOf(final NodeName node) {
-        return idle.computeIfAbsent(node, any -> new ConcurrentLinkedDeque<>());
+    private NodeConnection connect(final NodeName node, final Door door) throws NodeGoneException {
+        try {
+            door.shared = open(node);
+        } catch (NodeGoneException error) {
+            door.failure = error;
+            door.failedAt = System.nanoTime();
+            throw error;
+        }
+        if (isClosed) {
+            // it was closed meanwhile, and this connection wasn't among those that it has closed
+            door.shared.close();
+        }
+        return door.shared;
     }
 
     private NodeConnection open(final NodeName node) throws NodeGoneException {
@@ -223,15 +244,15 @@ public final class Cluster implements AutoCloseable {
     }
 
     /**
-     * Rolls an ended branch back that no leader was asked about. Where the manager can't be reached, it does so by itself after a while.
+     * Has a branch rolled back that no leader was asked about, and doesn't wait. Where that gets lost, its manager does so after a while.
      *
      * @param manager the resource manager's number
      * @param branch  the branch's name
-     * @throws NodeGoneException where no answer comes
+     * @throws NodeGoneException where the manager can't be reached
      */
     public void rollBack(final int manager, final BranchName branch) throws NodeGoneException {
         final NodeName node = NodeName.resourceManager(manager);
-        ask(node, List.of("end " + node + " " + branch + " fail", "rollback " + node + " " + branch));
+        begin(node, List.of("end " + node + " " + branch + " fail", "rollback " + node + " " + branch));
     }
 
     /**
@@ -343,7 +364,8 @@ public final class Cluster implements AutoCloseable {
     public void hurry(final TransactionName transaction) throws NodeGoneException {
         NodeGoneException reason = null;
         for (int turn = 0; turn < leaders.size(); turn++) {
-            final NodeName leader = leaders.get((preferred + turn) % leaders.size());
+            final int first = preferred;
+            final NodeName leader = leaders.get(first % leaders.size());
             try {
                 if (ask(leader, List.of("timeout " + leader + " " + transaction)).get(0).equals("ok")) {
                     return;
@@ -351,6 +373,7 @@ public final class Cluster implements AutoCloseable {
             } catch (NodeGoneException error) {
                 reason = error;
             }
+            preferAfter(first);
         }
         throw reason != null ? reason : new NodeGoneException(NodeName.leader(0), "no leader would decide", null);
     }
@@ -392,14 +415,18 @@ public final class Cluster implements AutoCloseable {
                 } catch (NodeGoneException error) {
                     reason = error;
                 }
-                // another is asked first from now on, for everybody
-                preferred = (first + 1) % leaders.size();
+                preferAfter(first);
             }
         } while (pause(until));
         if (wasAsked) {
             throw new UnknownOutcomeException(transaction, reason);
         }
         throw reason;
+    }
+
+    /** Another leader is asked first from now on, for everybody. */
+    private void preferAfter(final int first) {
+        preferred = (first + 1) % leaders.size();
     }
 
     private static boolean pause(final long until) {
@@ -413,7 +440,7 @@ public final class Cluster implements AutoCloseable {
     }
 
     private Lane lane(final NodeName leader) throws NodeGoneException {
-        final Deque<NodeConnection> kept = idle.computeIfAbsent(leader, any -> new ConcurrentLinkedDeque<>());
+        final Deque<NodeConnection> kept = door(leader).kept;
         for (NodeConnection connection = kept.poll(); connection != null; connection = kept.poll()) {
             if (connection.isUsable()) {
                 return new Lane(leader, connection, kept);
@@ -427,6 +454,7 @@ public final class Cluster implements AutoCloseable {
         private final NodeName leader;
         private final NodeConnection connection;
         private final Deque<NodeConnection> kept;
+        private boolean isQuiet = true;
 
         Lane(final NodeName leader, final NodeConnection connection, final Deque<NodeConnection> kept) {
             this.leader = leader;
@@ -436,17 +464,21 @@ public final class Cluster implements AutoCloseable {
 
         Optional<Outcome> settle(final TransactionName transaction) throws NodeGoneException {
             final String words = " " + leader + " " + transaction;
-            final var futures = connection.send(List.of("commit" + words, "await" + words));
-            return switch (new Answers(leader, connection, futures, patience).await().get(1)) {
+            isQuiet = false;
+            final var all = connection.send(List.of("commit" + words, "await" + words));
+            final String answer = new Answers(leader, connection, all, patience).await().get(1);
+            isQuiet = true;
+            return switch (answer) {
                 case "committed" -> Optional.of(Outcome.COMMITTED);
                 case "aborted" -> Optional.of(Outcome.ABORTED);
                 default -> Optional.empty();
             };
         }
 
+        /** It is kept for the next transaction, unless that would wait behind an answer for which nobody waits any more. */
         @Override
         public void close() {
-            if (!isClosed && connection.isUsable()) {
+            if (isQuiet && !isClosed && connection.isUsable()) {
                 kept.push(connection);
             } else {
                 connection.close();
@@ -467,7 +499,11 @@ public final class Cluster implements AutoCloseable {
     @Override
     public void close() {
         isClosed = true;
-        connections.values().forEach(NodeConnection::close);
-        idle.values().forEach(lanes -> lanes.forEach(NodeConnection::close));
+        for (final Door door : doors.values()) {
+            if (door.shared != null) {
+                door.shared.close();
+            }
+            door.kept.forEach(NodeConnection::close);
+        }
     }
 }

@@ -25,7 +25,7 @@ final class NodeConnection implements AutoCloseable {
     private final OutputStream output;
     private final BufferedReader input;
     private final Object lock = new Object();
-    private final Deque<CompletableFuture<String>> waiting = new ArrayDeque<>();
+    private final Deque<Asked> waiting = new ArrayDeque<>();
     private NodeGoneException failure;
     private volatile boolean hasAnswered;
 
@@ -71,25 +71,44 @@ final class NodeConnection implements AutoCloseable {
         socket.setSoTimeout(0);
     }
 
+    /** Lines that were asked together, and the answers that have come. Who waits for them is woken once, by the last. */
+    private static final class Asked {
+        private final int lines;
+        private final List<String> answers;
+        private final CompletableFuture<List<String>> all = new CompletableFuture<>();
+
+        Asked(final int lines) {
+            this.lines = lines;
+            answers = new ArrayList<>(lines);
+        }
+
+        /** Whether this answer is the last. */
+        boolean take(final String answer) {
+            answers.add(answer);
+            return answers.size() == lines;
+        }
+    }
+
     /** Writes lines at once. Their answers come later, one for each. */
-    List<CompletableFuture<String>> send(final List<String> lines) throws NodeGoneException {
-        final List<CompletableFuture<String>> answers = new ArrayList<>(lines.size());
+    CompletableFuture<List<String>> send(final List<String> lines) throws NodeGoneException {
+        if (lines.isEmpty() || lines.stream().anyMatch(line -> line.isEmpty() || line.indexOf('\n') >= 0)) {
+            // each is answered by one line, and whose that is follows from their order
+            throw new IllegalArgumentException("no lines, or one that isn't one line: " + lines);
+        }
+        final Asked asked = new Asked(lines.size());
         final byte[] bytes = (String.join("\n", lines) + "\n").getBytes(StandardCharsets.US_ASCII);
         synchronized (lock) {
             if (failure != null) {
                 throw failure;
             }
-            for (int count = lines.size(); count > 0; count--) {
-                answers.add(new CompletableFuture<>());
-            }
-            waiting.addAll(answers);
+            waiting.add(asked);
             try {
                 output.write(bytes);
             } catch (IOException error) {
                 fail("its connection broke: " + error.getMessage(), error);
             }
         }
-        return answers;
+        return asked.all;
     }
 
     private void readAll() {
@@ -105,14 +124,21 @@ final class NodeConnection implements AutoCloseable {
     }
 
     private void take(final String line) throws IOException {
-        final CompletableFuture<String> answer;
+        final Asked asked;
+        final boolean isLast;
         synchronized (lock) {
-            answer = waiting.poll();
+            asked = waiting.peek();
+            if (asked == null) {
+                throw new IOException("it answered what nobody asked");
+            }
+            isLast = asked.take(line);
+            if (isLast) {
+                waiting.remove();
+            }
         }
-        if (answer == null) {
-            throw new IOException("it answered what nobody asked");
+        if (isLast) {
+            asked.all.complete(asked.answers);
         }
-        answer.complete(line);
     }
 
     /** It is of no use any more: all that waits fails. */
@@ -124,7 +150,7 @@ final class NodeConnection implements AutoCloseable {
         } catch (IOException error) {
             reasonNow.addSuppressed(error);
         }
-        final List<CompletableFuture<String>> lost;
+        final List<Asked> lost;
         final NodeGoneException told;
         synchronized (lock) {
             if (failure == null) {
@@ -134,7 +160,7 @@ final class NodeConnection implements AutoCloseable {
             lost = new ArrayList<>(waiting);
             waiting.clear();
         }
-        lost.forEach(answer -> answer.completeExceptionally(told));
+        lost.forEach(asked -> asked.all.completeExceptionally(told));
     }
 
     boolean isUsable() {

@@ -24,6 +24,7 @@ final class Branch {
     private final XAResource resource;
     private final PaxosXid xid;
     private volatile State state = State.ENDED;
+    private boolean isAnswered;
     private boolean isAbandoned;
 
     Branch(final ResourceManager manager, final XAResource resource, final PaxosXid xid) {
@@ -56,18 +57,30 @@ final class Branch {
 
     void end(final int flag) throws XAException {
         if (state == State.ACTIVE) {
-            state = State.ENDED;
             resource.end(xid, flag);
+            state = State.ENDED;
         }
     }
 
-    /** Ends the work and prepares it. Whatever it throws, the branch isn't prepared for certain, and is to be rolled back. */
+    /**
+     * Ends the work and prepares it. Whatever it throws, the branch isn't prepared for certain, and is to be rolled back: by itself, where
+     * nobody waits for it any more.
+     */
     void prepare() throws XAException, NotPreparedException {
+        try {
+            state = askToPrepare();
+        } finally {
+            if (isLate()) {
+                rollBack();
+            }
+        }
+    }
+
+    private State askToPrepare() throws XAException, NotPreparedException {
         end(XAResource.TMSUCCESS);
         final int answer = resource.prepare(xid);
         if (answer == XAResource.XA_RDONLY) {
-            state = State.READ_ONLY;
-            return;
+            return State.READ_ONLY;
         }
         if (answer != XAResource.XA_OK) {
             throw new NotPreparedException("it answered " + answer + " to prepare");
@@ -75,29 +88,27 @@ final class Branch {
         if (manager.answer() == PrepareAnswer.VERIFIED && !XaErrors.isListed(resource, xid)) {
             throw new NotPreparedException("it says that it has prepared, and doesn't list the branch: a statement has failed");
         }
-        if (!becomePrepared()) {
-            rollBack();
-            throw new NotPreparedException("it prepared too late, and is rolled back");
-        }
+        return State.PREPARED;
     }
 
-    private synchronized boolean becomePrepared() {
-        state = State.PREPARED;
-        return !isAbandoned;
+    /** Its prepare has come to an end. Whether nobody waits for that any more. */
+    private synchronized boolean isLate() {
+        isAnswered = true;
+        return isAbandoned;
     }
 
+    /** Whether its prepare isn't waited for any more: then nobody else calls its resource. */
     synchronized boolean isAbandoned() {
-        return isAbandoned && state != State.PREPARED;
+        return isAbandoned;
     }
 
-    /**
-     * Nobody waits for its prepare any more, which rolls it back where it still comes to an end. Whether that is so: else it is prepared.
-     */
+    /** Nobody waits for its prepare any more, which rolls back once it comes to an end. Whether that is so: else it has ended just now. */
     synchronized boolean abandon() {
-        isAbandoned = true;
-        return state != State.PREPARED;
+        isAbandoned = !isAnswered;
+        return isAbandoned;
     }
 
+    /** Commits the only branch. Where it throws and the branch isn't over, its commit wasn't asked for. */
     void commitOnePhase() throws XAException {
         end(XAResource.TMSUCCESS);
         state = State.OVER;
@@ -117,7 +128,7 @@ final class Branch {
         if (state == State.ACTIVE) {
             try {
                 end(XAResource.TMFAIL);
-            } catch (XAException error) {
+            } catch (XAException | RuntimeException error) {
                 // its rollback says what came of it
                 Log.debug("%s: end as failed of %s: %s", manager, xid, XaErrors.text(error));
             }

@@ -4,10 +4,10 @@ import java.time.Duration;
 import java.util.ArrayList;
 import java.util.List;
 import java.util.Optional;
-import java.util.concurrent.ExecutionException;
+import java.util.concurrent.CountDownLatch;
 import java.util.concurrent.ExecutorService;
 import java.util.concurrent.Executors;
-import java.util.concurrent.Future;
+import java.util.concurrent.RejectedExecutionException;
 import java.util.concurrent.TimeUnit;
 import java.util.concurrent.TimeoutException;
 
@@ -30,43 +30,81 @@ final class ParallelCalls implements AutoCloseable {
     }
 
     /** What came of one call: a value, or why there is none. After a call that wasn't answered its resource isn't called again. */
-    record Result<T>(Branch branch, T value, Optional<Exception> failure) { }
+    record Result<T>(Branch branch, T value, Optional<Exception> failure) {
+        private static <T> Result<T> failed(final Branch branch, final Exception reason) {
+            return new Result<>(branch, null, Optional.of(reason));
+        }
+    }
+
+    /** One call, and what came of it. Who waits for all of them is woken once, by the last. */
+    private static final class Made<T> implements Runnable {
+        private final Branch branch;
+        private final Call<T> call;
+        private final CountDownLatch left;
+        private volatile Result<T> result;
+
+        Made(final Branch branch, final Call<T> call, final CountDownLatch left) {
+            this.branch = branch;
+            this.call = call;
+            this.left = left;
+        }
+
+        @Override
+        public void run() {
+            try {
+                result = new Result<>(branch, call.of(branch), Optional.empty());
+            } catch (Exception error) {
+                result = Result.failed(branch, error);
+            } catch (Error error) {
+                result = Result.failed(branch, new IllegalStateException(error));
+            }
+            left.countDown();
+        }
+
+        /** What has come of it until now. */
+        Result<T> result() {
+            final Result<T> now = result;
+            return now != null ? now : Result.failed(branch, new TimeoutException("it didn't answer in time"));
+        }
+    }
 
     /** Makes a call of each branch. The results stand in the order of the branches. */
     <T> List<Result<T>> run(final List<Branch> branches, final Call<T> call) {
-        final List<Future<T>> futures = new ArrayList<>();
+        final CountDownLatch left = new CountDownLatch(branches.size());
+        final List<Made<T>> calls = new ArrayList<>();
         for (final Branch branch : branches) {
-            futures.add(threads.submit(() -> call.of(branch)));
+            final Made<T> made = new Made<>(branch, call, left);
+            calls.add(made);
+            begin(made);
         }
-        final long until = System.nanoTime() + patience.toNanos();
-        final List<Result<T>> results = new ArrayList<>();
-        for (int place = 0; place < branches.size(); place++) {
-            results.add(result(branches.get(place), futures.get(place), until));
-        }
-        return results;
+        await(left);
+        return calls.stream().map(Made::result).toList();
     }
 
-    /** Waits for one call. Who is interrupted meanwhile stays so, and waits all the same: the time is bounded. */
-    private static <T> Result<T> result(final Branch branch, final Future<T> future, final long until) {
-        boolean isInterrupted = false;
+    /** Begins a call in a thread of its own. Where none can be had, as after a close, it is made here: a commit comes to its end. */
+    private void begin(final Runnable call) {
         try {
-            while (true) {
-                try {
-                    final T value = future.get(Math.max(0, until - System.nanoTime()), TimeUnit.NANOSECONDS);
-                    return new Result<>(branch, value, Optional.empty());
-                } catch (InterruptedException error) {
-                    isInterrupted = true;
-                }
+            threads.execute(call);
+        } catch (RejectedExecutionException | OutOfMemoryError error) {
+            call.run();
+        }
+    }
+
+    /** Waits for calls. Who is interrupted meanwhile stays so, and waits all the same: the time is bounded. */
+    private void await(final CountDownLatch left) {
+        final long until = System.nanoTime() + patience.toNanos();
+        boolean isInterrupted = false;
+        boolean isOver = false;
+        while (!isOver) {
+            try {
+                left.await(until - System.nanoTime(), TimeUnit.NANOSECONDS);
+                isOver = true;
+            } catch (InterruptedException error) {
+                isInterrupted = true;
             }
-        } catch (ExecutionException error) {
-            final Throwable cause = error.getCause();
-            return new Result<>(branch, null, Optional.of(cause instanceof Exception known ? known : new IllegalStateException(cause)));
-        } catch (TimeoutException error) {
-            return new Result<>(branch, null, Optional.of(new TimeoutException("it didn't answer in time")));
-        } finally {
-            if (isInterrupted) {
-                Thread.currentThread().interrupt();
-            }
+        }
+        if (isInterrupted) {
+            Thread.currentThread().interrupt();
         }
     }
 

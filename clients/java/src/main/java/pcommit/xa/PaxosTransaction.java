@@ -3,6 +3,7 @@ package pcommit.xa;
 import java.util.ArrayList;
 import java.util.HexFormat;
 import java.util.List;
+import java.util.concurrent.CopyOnWriteArrayList;
 import javax.transaction.HeuristicMixedException;
 import javax.transaction.HeuristicRollbackException;
 import javax.transaction.RollbackException;
@@ -15,18 +16,21 @@ import javax.transaction.xa.XAResource;
 import pcommit.client.TransactionName;
 
 /**
- * A transaction of a {@link PaxosTransactionManager}. It is for one thread at a time; {@code setRollbackOnly} and {@code getStatus} for
- * any.
+ * A transaction of a {@link PaxosTransactionManager}. Its work is of one thread at a time. Its methods may be called by any: it is ended
+ * once, by whoever asks first, and takes no resource from then on.
  */
 public final class PaxosTransaction implements Transaction {
     private final Coordination with;
     private final ResourceManagers managers;
     private final byte[] gtrid;
     private final long deadline;
+    // whoever enlists a resource holds its lock, and then that of this object
     private final List<Branch> branches = new ArrayList<>();
-    private final List<Synchronization> synchronizations = new ArrayList<>();
+    private final List<Synchronization> synchronizations = new CopyOnWriteArrayList<>();
+    private boolean isEnding;
     private volatile int status = Status.STATUS_ACTIVE;
     private volatile String rollbackReason = "the application has set it to roll back only";
+    private volatile Throwable rollbackCause;
 
     PaxosTransaction(final Coordination with, final ResourceManagers managers, final long timeoutNanos) {
         this.with = with;
@@ -47,7 +51,13 @@ public final class PaxosTransaction implements Transaction {
      */
     @Override
     public boolean enlistResource(final XAResource resource) throws RollbackException, SystemException {
-        mustBeActive();
+        synchronized (branches) {
+            mustBeActive();
+            return enlist(resource);
+        }
+    }
+
+    private boolean enlist(final XAResource resource) throws SystemException {
         if (!(resource instanceof NamedResource named)) {
             throw refuse("a resource that belongs to no registered resource manager: take it from PaxosTransactionManager.resource", null);
         }
@@ -92,7 +102,7 @@ public final class PaxosTransaction implements Transaction {
     }
 
     private SystemException refuse(final String reason, final Throwable cause) {
-        rollbackOnly(reason);
+        rollbackOnly(reason, cause);
         final SystemException error = new SystemException(reason);
         error.initCause(cause);
         return error;
@@ -110,14 +120,20 @@ public final class PaxosTransaction implements Transaction {
      */
     @Override
     public boolean delistResource(final XAResource resource, final int flag) throws SystemException {
-        mustHaveBegun();
+        synchronized (branches) {
+            mustHaveBegun();
+            return delist(resource, flag);
+        }
+    }
+
+    private boolean delist(final XAResource resource, final int flag) throws SystemException {
         if (flag != XAResource.TMSUCCESS && flag != XAResource.TMFAIL) {
             throw new SystemException("a resource can't be suspended: that isn't covered");
         }
         for (final Branch branch : branches) {
             if (resource instanceof NamedResource named && branch.resource() == named.resource()) {
                 if (flag == XAResource.TMFAIL) {
-                    rollbackOnly("the resource of " + branch.manager() + " was delisted as failed");
+                    rollbackOnly("the resource of " + branch.manager() + " was delisted as failed", null);
                 }
                 end(branch, flag);
                 return true;
@@ -155,21 +171,44 @@ public final class PaxosTransaction implements Transaction {
      * @throws HeuristicMixedException    where it is committed, and a resource did otherwise by itself
      * @throws HeuristicRollbackException where it is committed, and all resources rolled back by themselves
      * @throws SystemException            of no other kind than the above
-     * @throws IllegalStateException      where it has ended
+     * @throws IllegalStateException      where it has ended, or is being ended
      */
     @Override
     public void commit() throws RollbackException, HeuristicMixedException, HeuristicRollbackException, SystemException {
-        mustHaveBegun();
+        beforeCommit();
+        complete();
+    }
+
+    /** Begins its end, and has called what is to be called before: that may still work in it, and set it to roll back only. */
+    void beforeCommit() {
+        beginEnding();
         if (!isRollbackOnly()) {
             callBefore();
         }
+    }
+
+    /** Commits, if it can, after {@link #beforeCommit}. */
+    void complete() throws RollbackException, HeuristicMixedException, HeuristicRollbackException, SystemException {
         final TwoPhaseCommit ending = new TwoPhaseCommit(with, gtrid, branches);
-        if (isRollbackOnly()) {
-            status = Status.STATUS_ROLLING_BACK;
-            settle(ending.rollBack(branches, rollbackReason, null));
-        } else {
-            status = Status.STATUS_COMMITTING;
-            settle(ending.commit());
+        settle(mayCommit() ? ending.commit() : ending.rollBack(branches, rollbackReason, rollbackCause));
+    }
+
+    private synchronized void beginEnding() {
+        mustHaveBegun();
+        if (isEnding) {
+            throw new IllegalStateException("the transaction is being ended already");
+        }
+        isEnding = true;
+    }
+
+    /** From here on nothing is enlisted, and nobody can set it to roll back only. Whether it may commit. */
+    private boolean mayCommit() {
+        synchronized (branches) {
+            synchronized (this) {
+                final boolean mayCommit = !isRollbackOnly();
+                status = mayCommit ? Status.STATUS_COMMITTING : Status.STATUS_ROLLING_BACK;
+                return mayCommit;
+            }
         }
     }
 
@@ -178,8 +217,8 @@ public final class PaxosTransaction implements Transaction {
         for (int place = 0; place < synchronizations.size(); place++) {
             try {
                 synchronizations.get(place).beforeCompletion();
-            } catch (RuntimeException error) {
-                rollbackOnly("before its completion: " + XaErrors.text(error));
+            } catch (RuntimeException | Error error) {
+                rollbackOnly("before its completion: " + XaErrors.text(error), error);
                 Log.warn("%s is rolled back: %s", this, rollbackReason);
                 return;
             }
@@ -205,15 +244,11 @@ public final class PaxosTransaction implements Transaction {
     }
 
     private void conclude(final Ending ending) {
-        status = switch (ending.kind()) {
-            case COMMITTED, HEURISTICALLY_MIXED, HEURISTICALLY_ROLLED_BACK -> Status.STATUS_COMMITTED;
-            case ROLLED_BACK -> Status.STATUS_ROLLEDBACK;
-            case UNKNOWN -> Status.STATUS_UNKNOWN;
-        };
+        status = ending.status();
         for (final Synchronization synchronization : synchronizations) {
             try {
                 synchronization.afterCompletion(status);
-            } catch (RuntimeException error) {
+            } catch (RuntimeException | Error error) {
                 Log.warn("after the completion of %s: %s", this, XaErrors.text(error));
             }
         }
@@ -222,15 +257,17 @@ public final class PaxosTransaction implements Transaction {
     /**
      * Rolls back.
      *
-     * @throws IllegalStateException where it has ended
+     * @throws IllegalStateException where it has ended, or is being ended
      * @throws SystemException       where a resource committed by itself what is rolled back
      */
     @Override
     public void rollback() throws SystemException {
-        mustHaveBegun();
-        status = Status.STATUS_ROLLING_BACK;
+        beginEnding();
+        synchronized (branches) {
+            status = Status.STATUS_ROLLING_BACK;
+        }
         final Ending ending = new TwoPhaseCommit(with, gtrid, branches).rollBack(branches, "", null);
-        conclude(Ending.rolledBack("", null));
+        conclude(ending);
         if (ending.kind() != Ending.Kind.ROLLED_BACK) {
             throw new SystemException(ending.reason());
         }
@@ -242,22 +279,23 @@ public final class PaxosTransaction implements Transaction {
      * @throws IllegalStateException where it has ended
      */
     @Override
-    public void setRollbackOnly() {
+    public synchronized void setRollbackOnly() {
         mustHaveBegun();
-        rollbackOnly("the application has set it to roll back only");
+        rollbackOnly("the application has set it to roll back only", null);
     }
 
     /** From now on it can only be rolled back, for a reason. Nothing where it ends already. */
-    synchronized void rollbackOnly(final String reason) {
+    synchronized void rollbackOnly(final String reason, final Throwable cause) {
         if (status == Status.STATUS_ACTIVE) {
             rollbackReason = reason;
+            rollbackCause = cause;
             status = Status.STATUS_MARKED_ROLLBACK;
         }
     }
 
     private boolean isRollbackOnly() {
         if (status == Status.STATUS_ACTIVE && System.nanoTime() - deadline > 0) {
-            rollbackOnly("its time is over");
+            rollbackOnly("its time is over", null);
         }
         return status == Status.STATUS_MARKED_ROLLBACK;
     }
@@ -270,9 +308,15 @@ public final class PaxosTransaction implements Transaction {
     }
 
     private void mustHaveBegun() {
-        if (status != Status.STATUS_ACTIVE && status != Status.STATUS_MARKED_ROLLBACK) {
+        if (!hasBegun()) {
             throw new IllegalStateException("the transaction has ended");
         }
+    }
+
+    /** Whether it can be worked in, or set to roll back only. */
+    boolean hasBegun() {
+        final int now = status;
+        return now == Status.STATUS_ACTIVE || now == Status.STATUS_MARKED_ROLLBACK;
     }
 
     /**

@@ -117,7 +117,7 @@ public final class PaxosTransactionManager implements TransactionManager, UserTr
         return WatchedSql.watch(connection, Connection.class, error -> {
             final PaxosTransaction transaction = current.get();
             if (transaction != null) {
-                transaction.rollbackOnly("a statement failed: " + XaErrors.text(error));
+                transaction.rollbackOnly("a statement failed: " + XaErrors.text(error), error);
             }
         });
     }
@@ -125,7 +125,7 @@ public final class PaxosTransactionManager implements TransactionManager, UserTr
     /**
      * Has an object called at each step of the commit of each transaction that begins from now on, by the thread that commits.
      *
-     * @param called it is to return soon
+     * @param called it is to return soon. Where it throws before a leader is asked, the transaction is rolled back; later that is only said
      */
     public void onStep(final Consumer<CommitStep> called) {
         listener = called;
@@ -138,7 +138,9 @@ public final class PaxosTransactionManager implements TransactionManager, UserTr
      */
     @Override
     public void begin() throws NotSupportedException {
-        if (current.get() != null) {
+        final PaxosTransaction before = current.get();
+        // one that was ended by its own methods is no more this thread's
+        if (before != null && before.hasBegun()) {
             throw new NotSupportedException("this thread has a transaction already");
         }
         final Coordination with = new Coordination(cluster, names, calls, finished, listener);
@@ -146,27 +148,32 @@ public final class PaxosTransactionManager implements TransactionManager, UserTr
     }
 
     /**
-     * Commits this thread's transaction; the thread has none afterwards, whatever is thrown.
+     * Commits this thread's transaction; the thread has none afterwards, whatever is thrown. What is to be called before its completion
+     * still has it.
      *
      * @throws RollbackException          where nothing of it will ever be seen: it can be tried again
      * @throws OutcomeUnknownException    where nobody knows: it may be committed now or later, or rolled back
      * @throws HeuristicMixedException    where a resource did otherwise than the outcome by itself
      * @throws HeuristicRollbackException where it is committed, and all resources rolled back by themselves
      * @throws SystemException            of no other kind than the above
-     * @throws IllegalStateException      where the thread has no transaction
+     * @throws IllegalStateException      where the thread has no transaction, or it has ended, or is being ended
      */
     @Override
     public void commit() throws RollbackException, HeuristicMixedException, HeuristicRollbackException, SystemException {
         final PaxosTransaction transaction = mine();
-        current.remove();
-        transaction.commit();
+        try {
+            transaction.beforeCommit();
+        } finally {
+            current.remove();
+        }
+        transaction.complete();
     }
 
     /**
      * Rolls this thread's transaction back; the thread has none afterwards.
      *
      * @throws SystemException       where a resource committed by itself what is rolled back
-     * @throws IllegalStateException where the thread has no transaction
+     * @throws IllegalStateException where the thread has no transaction, or it has ended, or is being ended
      */
     @Override
     public void rollback() throws SystemException {
@@ -249,7 +256,7 @@ public final class PaxosTransactionManager implements TransactionManager, UserTr
         return transaction;
     }
 
-    /** Ends its threads. Transactions that are under way come to their end. */
+    /** Ends its threads. Transactions that are under way come to their end; from now on their resources are called one after another. */
     @Override
     public void close() {
         calls.close();

@@ -1,8 +1,10 @@
 package pcommit.xa;
 
 import java.time.Duration;
+import java.util.ArrayList;
 import java.util.HashMap;
 import java.util.HashSet;
+import java.util.List;
 import java.util.Map;
 import java.util.Optional;
 import java.util.Set;
@@ -13,7 +15,9 @@ import pcommit.client.Cluster;
 import pcommit.client.NodeGoneException;
 import pcommit.client.Outcome;
 import pcommit.client.RefusedException;
+import pcommit.client.TransactionName;
 import pcommit.xa.ResourceOpener.OpenResource;
+import pcommit.xa.Verdicts.Verdict;
 
 /**
  * Ends what applications have prepared at a resource and left, as the resource manager beside it says. Any number may run beside one
@@ -27,6 +31,7 @@ public final class Resolver implements Runnable, AutoCloseable {
     private static final Duration SOON = Duration.ofMillis(100);
     private static final Duration STUCK = Duration.ofSeconds(5);
 
+    private final Cluster cluster;
     private final int manager;
     private final ResourceOpener opener;
     private final Duration every;
@@ -61,6 +66,7 @@ public final class Resolver implements Runnable, AutoCloseable {
      *                prepare and its commit is rolled back
      */
     public Resolver(final Cluster cluster, final int manager, final ResourceOpener opener, final Duration every, final Duration grace) {
+        this.cluster = cluster;
         this.manager = manager;
         this.opener = opener;
         this.every = every;
@@ -128,7 +134,10 @@ public final class Resolver implements Runnable, AutoCloseable {
         }
     }
 
-    /** Looks once. Whether something is under way, so that it is to look again soon. */
+    /**
+     * Looks once. Whether something is under way, so that it is to look again soon. Only after all is ended whose outcome is known, leaders
+     * are asked about the rest: where none can be reached, that holds up nothing else.
+     */
     boolean round(final XAResource resource) throws XAException, NodeGoneException {
         final long now = System.nanoTime();
         final Set<PaxosXid> listed = new HashSet<>();
@@ -137,6 +146,7 @@ public final class Resolver implements Runnable, AutoCloseable {
         }
         firstSeen.keySet().retainAll(listed);
         reported.retainAll(listed);
+        final List<TransactionName> undecided = new ArrayList<>();
         boolean isUnderWay = false;
         for (final PaxosXid xid : listed) {
             final long since = firstSeen.computeIfAbsent(xid, any -> now);
@@ -147,42 +157,43 @@ public final class Resolver implements Runnable, AutoCloseable {
                 isUnderWay = true;
                 continue;
             }
-            isUnderWay |= !resolve(resource, xid, now - since);
+            final Verdict verdict = verdict(xid);
+            verdict.undecided().ifPresent(undecided::add);
+            isUnderWay |= verdict.outcome().isEmpty() || !end(resource, xid, verdict.outcome().get(), now - since);
+        }
+        for (final TransactionName transaction : undecided) {
+            cluster.hurry(transaction);
         }
         return isUnderWay;
     }
 
-    /** The outcome of a branch, where it can be known. One about which the cluster's answer can't be understood holds up no other. */
-    private Optional<Outcome> outcome(final PaxosXid xid) throws NodeGoneException {
+    /** What is known of a branch. One about which the cluster's answer can't be understood holds up no other. */
+    private Verdict verdict(final PaxosXid xid) throws NodeGoneException {
         try {
             return verdicts.of(xid);
         } catch (RefusedException | IllegalArgumentException error) {
             say("how " + xid + " ends can't be understood: " + error.getMessage());
-            return Optional.empty();
+            return Verdict.askAgain();
         }
     }
 
-    /** Ends a branch, if it can be known how. Whether nothing more is to be done. */
-    private boolean resolve(final XAResource resource, final PaxosXid xid, final long age) throws NodeGoneException {
-        final Optional<Outcome> outcome = outcome(xid);
-        if (outcome.isEmpty()) {
-            return false;
-        }
+    /** Ends a branch. Whether nothing more is to be done; whatever its resource throws holds up no other. */
+    private boolean end(final XAResource resource, final PaxosXid xid, final Outcome outcome, final long age) {
         try {
-            if (outcome.get() == Outcome.COMMITTED) {
+            if (outcome == Outcome.COMMITTED) {
                 resource.commit(xid, false);
             } else {
                 resource.rollback(xid);
             }
-            Log.info("resolver r%d: %s is ended: %s", manager, xid, outcome.get());
+            Log.info("resolver r%d: %s is ended: %s", manager, xid, outcome);
             return true;
-        } catch (XAException error) {
-            return isEnded(resource, xid, outcome.get(), error, age);
+        } catch (XAException | RuntimeException error) {
+            return isEnded(resource, xid, outcome, error, age);
         }
     }
 
     /** What it means that a branch wasn't ended without an exception. Whether nothing more is to be done. */
-    private boolean isEnded(final XAResource resource, final PaxosXid xid, final Outcome outcome, final XAException error, final long age) {
+    private boolean isEnded(final XAResource resource, final PaxosXid xid, final Outcome outcome, final Exception error, final long age) {
         final Optional<Heuristic> heuristic = Heuristic.of(error);
         if (heuristic.isPresent()) {
             Log.loud("HEURISTIC: resolver r%d: %s is %s, and its resource did by itself: %s. It isn't forgotten: look at its data, then"
@@ -195,7 +206,7 @@ public final class Resolver implements Runnable, AutoCloseable {
                 Log.debug("resolver r%d: %s was ended by another", manager, xid);
                 return true;
             }
-        } catch (XAException other) {
+        } catch (XAException | RuntimeException other) {
             error.addSuppressed(other);
         }
         if (age > STUCK.toNanos()) {

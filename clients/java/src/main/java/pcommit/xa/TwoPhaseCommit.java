@@ -3,17 +3,18 @@ package pcommit.xa;
 import java.util.ArrayList;
 import java.util.Collections;
 import java.util.HashMap;
+import java.util.HexFormat;
 import java.util.List;
 import java.util.Map;
 import java.util.Optional;
 import java.util.TreeMap;
 import java.util.concurrent.TimeoutException;
 import java.util.function.Consumer;
+import javax.transaction.Status;
 import pcommit.client.Cluster;
 import pcommit.client.Cluster.BranchAnswers;
 import pcommit.client.ClusterException;
 import pcommit.client.NodeGoneException;
-import pcommit.client.NodeName;
 import pcommit.client.Outcome;
 import pcommit.client.TransactionName;
 import pcommit.client.UnknownOutcomeException;
@@ -34,6 +35,7 @@ final class TwoPhaseCommit {
     private final byte[] gtrid;
     private final List<Branch> branches;
     private final Map<Integer, List<String>> deleted = new HashMap<>();
+    private boolean isAsked;
 
     TwoPhaseCommit(final Coordination with, final byte[] gtrid, final List<Branch> branches) {
         cluster = with.cluster();
@@ -45,13 +47,37 @@ final class TwoPhaseCommit {
         this.branches = branches;
     }
 
-    /** Commits, if all resources can. */
+    /** Commits, if all resources can. It ends whatever is thrown on the way: else what is prepared would be nobody's. */
     Ending commit() {
-        final Ending ending = end();
-        if (ending.kind() == Ending.Kind.ROLLED_BACK || ending.kind() == Ending.Kind.UNKNOWN) {
+        Ending ending;
+        try {
+            ending = end();
+        } catch (RuntimeException | Error error) {
+            ending = broken(error);
+        }
+        if (ending.status() != Status.STATUS_COMMITTED) {
             deleted.forEach(finished::putBack);
         }
         return ending;
+    }
+
+    /** Where something was thrown that should not be. Before anybody could be asked to commit it is rolled back. */
+    private Ending broken(final Throwable error) {
+        Log.loud("a commit of %s is broken off: %s", HexFormat.of().formatHex(gtrid), XaErrors.text(error));
+        if (isAsked) {
+            return Ending.unknown("its commit was broken off: " + XaErrors.text(error), error);
+        }
+        branches.forEach(this::takeBack);
+        return giveUp("its commit was broken off: " + XaErrors.text(error), error);
+    }
+
+    /** Tells the listener of a step after which the outcome is known: what it throws changes nothing. */
+    private void reached(final CommitStep step) {
+        try {
+            listener.accept(step);
+        } catch (RuntimeException | Error error) {
+            Log.warn("a listener failed at %s: %s", step, XaErrors.text(error));
+        }
     }
 
     private Ending end() {
@@ -82,6 +108,7 @@ final class TwoPhaseCommit {
 
     /** The only resource decides by itself. */
     private Ending commitOnePhase(final Branch branch) {
+        isAsked = true;
         final Result<Void> result = calls.<Void>run(List.of(branch), one -> {
             one.commitOnePhase();
             return null;
@@ -90,10 +117,13 @@ final class TwoPhaseCommit {
             return Ending.committed();
         }
         final Exception error = result.failure().get();
+        if (!(error instanceof TimeoutException) && branch.state() != State.OVER) {
+            return giveUp(branch + " doesn't end: " + XaErrors.text(error), error);
+        }
         if (XaErrors.isRolledBack(error)) {
             return Ending.rolledBack(branch + ": " + XaErrors.text(error), error);
         }
-        return new Ending(Ending.Kind.UNKNOWN, branch + " failed in its only phase: " + XaErrors.text(error), error);
+        return Ending.unknown(branch + " failed in its only phase: " + XaErrors.text(error), error);
     }
 
     /** All resources prepare at once. How it ends where one doesn't. */
@@ -140,10 +170,8 @@ final class TwoPhaseCommit {
 
     /** Rolls back at a manager what no leader was asked about. Where it can't be reached, it does so by itself. */
     private void takeBack(final Branch branch) {
-        final NodeName node = NodeName.resourceManager(branch.manager().number());
-        final String words = " " + node + " " + branch.xid();
         try {
-            cluster.begin(node, List.of("end" + words + " fail", "rollback" + words));
+            cluster.rollBack(branch.manager().number(), branch.xid().name());
         } catch (NodeGoneException error) {
             Log.debug("%s is left to its manager: %s", branch, error.getMessage());
         }
@@ -152,6 +180,7 @@ final class TwoPhaseCommit {
     private Ending decide(final List<Branch> voters, final List<Integer> managers) {
         final TransactionName transaction = names.transaction(gtrid, managers);
         final Outcome outcome;
+        isAsked = true;
         try {
             outcome = cluster.settle(transaction);
         } catch (NodeGoneException error) {
@@ -159,14 +188,14 @@ final class TwoPhaseCommit {
             return giveUp("no leader could be asked: " + error.getMessage(), error);
         } catch (UnknownOutcomeException error) {
             Log.warn("the outcome of %s isn't known; its resources are left to their resolvers", transaction);
-            return new Ending(Ending.Kind.UNKNOWN, error.getMessage(), error);
+            return Ending.unknown(error.getMessage(), error);
         }
-        listener.accept(CommitStep.DECIDED);
+        reached(CommitStep.DECIDED);
         if (outcome == Outcome.ABORTED) {
             return rollBack(voters, "the cluster has aborted " + transaction, null);
         }
         final Ending ending = tell(voters, managers);
-        listener.accept(CommitStep.TOLD);
+        reached(CommitStep.TOLD);
         return ending;
     }
 
@@ -194,9 +223,7 @@ final class TwoPhaseCommit {
         if (mixed.isEmpty()) {
             return Ending.committed();
         }
-        final boolean isAll = rolledBack == voters.size();
-        return new Ending(isAll ? Ending.Kind.HEURISTICALLY_ROLLED_BACK : Ending.Kind.HEURISTICALLY_MIXED, "it is committed, but:"
-                + mixed, null);
+        return Ending.committedBut(mixed, rolledBack == voters.size());
     }
 
     /** Rolls back what no leader was asked about. */
@@ -216,8 +243,7 @@ final class TwoPhaseCommit {
                 mixed += result.value().get() == Heuristic.ROLLED_BACK ? "" : " " + result.branch() + ": " + result.value().get();
             }
         }
-        return mixed.isEmpty() ? Ending.rolledBack(reason, cause)
-                : new Ending(Ending.Kind.HEURISTICALLY_MIXED, "it is rolled back, but:" + mixed, cause);
+        return mixed.isEmpty() ? Ending.rolledBack(reason, cause) : Ending.rolledBackBut(mixed, cause);
     }
 
     private static void leave(final Result<?> result, final Outcome outcome) {

@@ -37,28 +37,44 @@ final class Verdicts {
         this.manager = manager;
     }
 
-    /** The outcome of a prepared branch, empty where it is to be asked for again. It fails where a node doesn't answer. */
-    Optional<Outcome> of(final PaxosXid xid) throws NodeGoneException, RefusedException {
+    /**
+     * What is known of a prepared branch.
+     *
+     * @param outcome   how it ends, empty where it is to be asked for again
+     * @param undecided the transaction that a leader is to decide meanwhile, if one is to
+     */
+    record Verdict(Optional<Outcome> outcome, Optional<TransactionName> undecided) {
+        static Verdict askAgain() {
+            return new Verdict(Optional.empty(), Optional.empty());
+        }
+
+        private static Verdict decide(final TransactionName transaction) {
+            return new Verdict(Optional.empty(), Optional.of(transaction));
+        }
+
+        private static Verdict ends(final Outcome outcome) {
+            return new Verdict(Optional.of(outcome), Optional.empty());
+        }
+    }
+
+    /** How a prepared branch ends, as far as the manager knows. It fails where the manager doesn't answer. */
+    Verdict of(final PaxosXid xid) throws NodeGoneException, RefusedException {
         final byte[] gtrid = xid.getGlobalTransactionId();
         final TransactionName alone = names.transaction(gtrid, List.of(manager));
         final Look look = look(xid, alone);
         for (final TransactionName open : look.open()) {
             if (open.format() == PaxosXid.FORMAT && Arrays.equals(open.gtrid(), gtrid)) {
-                cluster.hurry(open);
-                return Optional.empty();
+                return Verdict.decide(open);
             }
-        }
-        if (look.isBusy()) {
-            return busy(alone, look);
         }
         if (look.value().isPresent()) {
             return committed(xid, look.value().get());
         }
-        if (look.view() == View.ABORTED) {
-            return Optional.of(Outcome.ABORTED);
+        if (look.view() != View.ABORTED) {
+            return Verdict.decide(alone);
         }
-        cluster.hurry(alone);
-        return Optional.empty();
+        // a branch that writes the row hasn't voted, and its name is spent: it goes, and then the row is free
+        return look.isBusy() ? Verdict.askAgain() : Verdict.ends(Outcome.ABORTED);
     }
 
     private Look look(final PaxosXid xid, final TransactionName alone) throws NodeGoneException, RefusedException {
@@ -74,20 +90,12 @@ final class Verdicts {
         cluster.greetLeaders();
     }
 
-    /** A branch that hasn't voted writes the row: its application may still ask for a commit, or be gone. Its name is to be spent. */
-    private Optional<Outcome> busy(final TransactionName alone, final Look look) throws NodeGoneException {
-        if (look.view() != View.ABORTED) {
-            cluster.hurry(alone);
-        }
-        return Optional.empty();
-    }
-
-    private Optional<Outcome> committed(final PaxosXid xid, final byte[] row) throws NodeGoneException, RefusedException {
+    private Verdict committed(final PaxosXid xid, final byte[] row) throws NodeGoneException, RefusedException {
         final TransactionName transaction = names.transaction(xid.getGlobalTransactionId(), Participants.read(row));
         return switch (cluster.view(manager, transaction)) {
-            case COMMITTED -> Optional.of(Outcome.COMMITTED);
-            case ABORTED -> Optional.of(Outcome.ABORTED);
-            case WORKING, PREPARED -> Optional.empty();
+            case COMMITTED -> Verdict.ends(Outcome.COMMITTED);
+            case ABORTED -> Verdict.ends(Outcome.ABORTED);
+            case WORKING, PREPARED -> Verdict.askAgain();
         };
     }
 }

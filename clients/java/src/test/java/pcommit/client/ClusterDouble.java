@@ -31,6 +31,7 @@ public final class ClusterDouble implements AutoCloseable {
     private final Map<NodeName, Node> nodes = new LinkedHashMap<>();
     private final DecisionsDouble decisions = new DecisionsDouble();
     private final Set<NodeName> silent = ConcurrentHashMap.newKeySet();
+    private final Set<NodeName> hanging = ConcurrentHashMap.newKeySet();
 
     /** The nodes of a cluster, with its file in a folder. */
     public ClusterDouble(final Path folder, final int leaders, final int managers) throws IOException, ClusterFileException {
@@ -74,6 +75,11 @@ public final class ClusterDouble implements AutoCloseable {
         }
     }
 
+    /** Has a node take connections and say nothing to them, not even its challenge, as one whose host is gone. */
+    void hang(final NodeName node) {
+        hanging.add(node);
+    }
+
     /** Has a node go: its connections break, and no new one is taken. */
     public void kill(final NodeName node) throws IOException {
         nodes.get(node).close();
@@ -103,6 +109,7 @@ public final class ClusterDouble implements AutoCloseable {
         private final NodeName name;
         private final ServerSocket server;
         private final List<Socket> clients = new ArrayList<>();
+        private Thread acceptor;
         private volatile int taken;
 
         Node(final NodeName name, final int port) throws IOException {
@@ -111,7 +118,7 @@ public final class ClusterDouble implements AutoCloseable {
         }
 
         void serve() {
-            daemon(() -> {
+            acceptor = daemon(() -> {
                 while (!server.isClosed()) {
                     final Socket client = server.accept();
                     client.setTcpNoDelay(true);
@@ -129,7 +136,9 @@ public final class ClusterDouble implements AutoCloseable {
                     StandardCharsets.US_ASCII))) {
                 final OutputStream output = client.getOutputStream();
                 final String challenge = "000102030405060708090a0b0c0d0e0f";
-                say(output, "challenge " + challenge);
+                if (!hanging.contains(name)) {
+                    say(output, "challenge " + challenge);
+                }
                 final byte[] words = ("client" + name + new String(digest,
                         StandardCharsets.ISO_8859_1)).getBytes(StandardCharsets.ISO_8859_1);
                 final String right = new Proof(HexFormat.of().parseHex(KEY), words).line(challenge);
@@ -149,8 +158,14 @@ public final class ClusterDouble implements AutoCloseable {
             output.write((line + "\n").getBytes(StandardCharsets.US_ASCII));
         }
 
+        /** While a thread is in accept, its place is taken still: so it is waited for. */
         void close() throws IOException {
             server.close();
+            try {
+                acceptor.join();
+            } catch (InterruptedException error) {
+                Thread.currentThread().interrupt();
+            }
             synchronized (clients) {
                 for (final Socket client : clients) {
                     client.close();
@@ -164,7 +179,7 @@ public final class ClusterDouble implements AutoCloseable {
         void run() throws IOException;
     }
 
-    private static void daemon(final Work work) {
+    private static Thread daemon(final Work work) {
         final Thread thread = new Thread(() -> {
             try {
                 work.run();
@@ -175,5 +190,6 @@ public final class ClusterDouble implements AutoCloseable {
         });
         thread.setDaemon(true);
         thread.start();
+        return thread;
     }
 }

@@ -8,8 +8,6 @@ import static org.junit.jupiter.api.Assertions.assertTrue;
 
 import java.io.IOException;
 import java.nio.file.Files;
-import java.nio.file.Path;
-import java.time.Duration;
 import java.util.ArrayList;
 import java.util.List;
 import java.util.SortedMap;
@@ -18,35 +16,13 @@ import java.util.concurrent.ExecutionException;
 import java.util.concurrent.ExecutorService;
 import java.util.concurrent.Executors;
 import java.util.concurrent.Future;
-import org.junit.jupiter.api.AfterEach;
-import org.junit.jupiter.api.BeforeEach;
 import org.junit.jupiter.api.Test;
-import org.junit.jupiter.api.io.TempDir;
 
 /** The client alone, against a double of the nodes that answers, stays silent or goes as each test has it. */
-final class ClusterTest {
-    private static final Duration PATIENCE = Duration.ofMillis(300);
-    private static final Duration MOST = Duration.ofMillis(900);
+final class ClusterTest extends DoubledCluster {
     private static final NodeName L0 = NodeName.leader(0);
     private static final NodeName L1 = NodeName.leader(1);
     private static final NodeName R0 = NodeName.resourceManager(0);
-
-    @TempDir
-    private Path folder;
-    private ClusterDouble nodes;
-    private Cluster cluster;
-
-    @BeforeEach
-    void start() throws IOException, ClusterFileException {
-        nodes = new ClusterDouble(folder, 2, 2);
-        cluster = new Cluster(ClusterFile.read(nodes.file()), PATIENCE, MOST);
-    }
-
-    @AfterEach
-    void stop() throws IOException {
-        cluster.close();
-        nodes.close();
-    }
 
     private static TransactionName transaction(final int number) {
         final SortedMap<Integer, byte[]> bquals = new TreeMap<>();
@@ -149,6 +125,15 @@ final class ClusterTest {
     }
 
     @Test
+    void anotherLeaderIsToDecideWhereOneIsSilent() throws ClusterException {
+        nodes.silence(L0, true);
+        cluster.hurry(transaction(30));
+        final long begun = System.nanoTime();
+        cluster.hurry(transaction(31));
+        assertTrue(System.nanoTime() - begun < PATIENCE.toNanos(), "the silent leader is asked last from then on");
+    }
+
+    @Test
     void noAnswerOfAnyLeaderIsUnknown() {
         nodes.silence(L0, true);
         nodes.silence(L1, true);
@@ -180,6 +165,22 @@ final class ClusterTest {
     }
 
     @Test
+    void manyThatConnectToANodeThatHangsWaitNoLongerThanOne() throws InterruptedException, ExecutionException {
+        nodes.hang(R0);
+        final ExecutorService threads = Executors.newFixedThreadPool(16);
+        final List<Future<NodeGoneException>> answers = new ArrayList<>();
+        final long begun = System.nanoTime();
+        for (int number = 0; number < 16; number++) {
+            answers.add(threads.submit(() -> assertThrows(NodeGoneException.class, () -> cluster.view(0, transaction(32)))));
+        }
+        for (final Future<NodeGoneException> answer : answers) {
+            answer.get();
+        }
+        threads.shutdown();
+        assertTrue(System.nanoTime() - begun < 4 * PATIENCE.toNanos());
+    }
+
+    @Test
     void aNodeThatIsBackIsAskedAgain() throws ClusterException, IOException {
         commit(26);
         nodes.kill(R0);
@@ -198,8 +199,17 @@ final class ClusterTest {
     }
 
     @Test
+    void whatIsNoLineIsNotAsked() throws ClusterException {
+        for (final List<String> lines : List.of(List.<String>of(), List.of("info", ""), List.of("info\ninfo"))) {
+            assertThrows(IllegalArgumentException.class, () -> cluster.ask(R0, lines));
+        }
+        assertEquals(2, cluster.ask(R0, List.of("info", "info")).size());
+        assertEquals(2, asked("info"));
+    }
+
+    @Test
     void aNodeThatIsNotThere() {
-        assertThrows(NodeGoneException.class, () -> cluster.view(9, transaction(28)));
+        assertThrows(NodeGoneException.class, () -> cluster.view(18, transaction(28)));
     }
 
     @Test

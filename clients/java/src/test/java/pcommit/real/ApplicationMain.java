@@ -1,9 +1,6 @@
 package pcommit.real;
 
 import java.nio.file.Path;
-import org.apache.activemq.ActiveMQXAConnectionFactory;
-import org.mariadb.jdbc.MariaDbDataSource;
-import org.postgresql.xa.PGXADataSource;
 import pcommit.client.Cluster;
 import pcommit.xa.PaxosTransactionManager;
 
@@ -15,14 +12,10 @@ final class ApplicationMain {
     private ApplicationMain() { }
 
     public static void main(final String[] words) throws Exception {
-        final PGXADataSource first = new PGXADataSource();
-        first.setUrl(words[1]);
-        final ActiveMQXAConnectionFactory third = new ActiveMQXAConnectionFactory(words[3]);
-        third.setWatchTopicAdvisories(false);
         final Step wanted = Step.valueOf(words[5]);
         try (Cluster cluster = new Cluster(Path.of(words[0])); PaxosTransactionManager manager = new PaxosTransactionManager(cluster)) {
             RealPlace.register(manager);
-            try (SteppedOrder order = new SteppedOrder(manager, first, new MariaDbDataSource(words[2]), third, step -> {
+            try (SteppedOrder order = new SteppedOrder(manager, words[1], words[2], words[3], step -> {
                 if (step == wanted) {
                     Runtime.getRuntime().halt(DIED);
                 }

@@ -6,6 +6,7 @@ import static org.junit.jupiter.api.Assertions.assertTrue;
 import java.time.Duration;
 import java.util.Arrays;
 import java.util.List;
+import java.util.concurrent.atomic.AtomicBoolean;
 import java.util.stream.Stream;
 import javax.transaction.RollbackException;
 import org.junit.jupiter.api.AfterAll;
@@ -111,33 +112,31 @@ final class CellsTest {
 
     private static End runs(final int account, final Party party, final Step step) throws Exception {
         final var place = real.place();
+        final AtomicBoolean hasFallen = new AtomicBoolean();
         try (PaxosTransactionManager manager = new PaxosTransactionManager(real.cluster(), PATIENCE)) {
             RealPlace.register(manager);
-            final SteppedOrder order = new SteppedOrder(manager, place.postgresql().source(), place.mariadb().source(),
-                    place.broker().source(), at -> {
-                if (at == step) {
-                    fall(party);
-                }
-            });
-            try {
-                order.place(account, AMOUNT, Integer.toString(account));
-                return End.COMMITTED;
-            } catch (RollbackException error) {
-                return End.ROLLED_BACK;
-            } catch (OutcomeUnknownException error) {
-                return End.UNKNOWN;
-            } finally {
-                closeAnyhow(order);
+            try (SteppedOrder order = new SteppedOrder(manager, place.postgresql().url(), place.mariadb().url(), place.broker().url(),
+                    at -> {
+                        if (at == step) {
+                            fall(party);
+                            hasFallen.set(true);
+                        }
+                    })) {
+                return told(order, account);
             }
+        } finally {
+            assertTrue(hasFallen.get(), "nobody died");
         }
     }
 
-    /** What an application does after a failure: its connections go, whether they can be closed well or not. */
-    private static void closeAnyhow(final SteppedOrder order) {
+    private static End told(final SteppedOrder order, final int account) throws Exception {
         try {
-            order.close();
-        } catch (Exception error) {
-            System.out.println("closed with: " + error.getMessage());
+            order.place(account, AMOUNT, Integer.toString(account));
+            return End.COMMITTED;
+        } catch (RollbackException error) {
+            return End.ROLLED_BACK;
+        } catch (OutcomeUnknownException error) {
+            return End.UNKNOWN;
         }
     }
 

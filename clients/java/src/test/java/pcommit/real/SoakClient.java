@@ -30,9 +30,9 @@ final class SoakClient {
 
     private static void work(final PaxosTransactionManager manager, final int account, final String[] words) {
         while (true) {
-            try (PlainOrder order = new PlainOrder(manager, words[1], words[2], words[3])) {
+            try (RealOrder order = new RealOrder(manager, words[1], words[2], words[3])) {
                 while (true) {
-                    order.place(account);
+                    order.place(account, 1, "order");
                     System.out.println("committed");
                 }
             } catch (OutcomeUnknownException error) {

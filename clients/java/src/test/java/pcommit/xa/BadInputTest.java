@@ -5,75 +5,15 @@ import static org.junit.jupiter.api.Assertions.assertFalse;
 import static org.junit.jupiter.api.Assertions.assertThrows;
 import static org.junit.jupiter.api.Assertions.assertTrue;
 
-import java.io.IOException;
-import java.nio.file.Path;
-import java.time.Duration;
-import java.util.ArrayList;
-import java.util.Collections;
-import java.util.List;
 import javax.transaction.NotSupportedException;
 import javax.transaction.RollbackException;
 import javax.transaction.Status;
 import javax.transaction.SystemException;
 import javax.transaction.xa.XAResource;
-import org.junit.jupiter.api.AfterEach;
-import org.junit.jupiter.api.BeforeEach;
 import org.junit.jupiter.api.Test;
-import org.junit.jupiter.api.io.TempDir;
-import pcommit.client.Cluster;
-import pcommit.client.ClusterDouble;
-import pcommit.client.ClusterFile;
-import pcommit.client.ClusterFileException;
 
 /** What applications do wrong, and that nothing is committed then. */
-final class BadInputTest {
-    private static final Duration PATIENCE = Duration.ofMillis(400);
-    private static final Duration MOST = Duration.ofMillis(900);
-
-    @TempDir
-    private Path folder;
-    private final List<String> log = Collections.synchronizedList(new ArrayList<>());
-    private final ScriptedResource first = new ScriptedResource("first", log);
-    private final ScriptedResource second = new ScriptedResource("second", log);
-    private ClusterDouble nodes;
-    private Cluster cluster;
-    private PaxosTransactionManager manager;
-
-    @BeforeEach
-    void start() throws IOException, ClusterFileException {
-        nodes = new ClusterDouble(folder, 2, 18);
-        cluster = new Cluster(ClusterFile.read(nodes.file()), PATIENCE, MOST);
-        manager = new PaxosTransactionManager(cluster, PATIENCE);
-        manager.register("one", 0);
-        manager.register("two", 1, PrepareAnswer.TRUSTED);
-    }
-
-    @AfterEach
-    void stop() throws IOException {
-        manager.close();
-        cluster.close();
-        nodes.close();
-    }
-
-    private void beginBoth() throws NotSupportedException, RollbackException, SystemException {
-        manager.begin();
-        manager.enlist("one", first);
-        manager.enlist("two", second);
-    }
-
-    private long count(final String words) {
-        synchronized (log) {
-            return log.stream().filter(words::equals).count();
-        }
-    }
-
-    private void assertNothingIsCommitted() {
-        assertEquals(0, count("COMMIT first") + count("COMMIT second"), log.toString());
-        assertEquals(List.of(), first.prepared());
-        assertEquals(List.of(), second.prepared());
-        assertEquals(Status.STATUS_NO_TRANSACTION, manager.getStatus());
-    }
-
+final class BadInputTest extends TwoResources {
     @Test
     void unknownResources() throws Exception {
         assertThrows(IllegalArgumentException.class, () -> manager.resource("none", first));
@@ -179,5 +119,9 @@ final class BadInputTest {
         assertThrows(IllegalStateException.class, () -> transaction.enlistResource(manager.resource("one", first)));
         assertThrows(SystemException.class, manager::suspend);
         assertThrows(SystemException.class, () -> manager.resume(transaction));
+        manager.begin();
+        manager.getTransaction().commit();
+        manager.begin();
+        manager.rollback();
     }
 }

@@ -6,97 +6,33 @@ import static org.junit.jupiter.api.Assertions.assertFalse;
 import static org.junit.jupiter.api.Assertions.assertThrows;
 import static org.junit.jupiter.api.Assertions.assertTrue;
 
-import java.io.IOException;
 import java.nio.charset.StandardCharsets;
-import java.nio.file.Path;
 import java.sql.Connection;
 import java.sql.DriverManager;
 import java.sql.SQLException;
-import java.time.Duration;
 import java.util.ArrayList;
 import java.util.Arrays;
-import java.util.Collections;
 import java.util.List;
 import java.util.concurrent.CountDownLatch;
-import java.util.concurrent.TimeUnit;
 import java.util.stream.Stream;
 import javax.transaction.HeuristicMixedException;
 import javax.transaction.HeuristicRollbackException;
-import javax.transaction.NotSupportedException;
 import javax.transaction.RollbackException;
 import javax.transaction.Status;
 import javax.transaction.Synchronization;
 import javax.transaction.SystemException;
 import javax.transaction.xa.XAException;
 import javax.transaction.xa.XAResource;
-import org.junit.jupiter.api.AfterEach;
-import org.junit.jupiter.api.BeforeEach;
 import org.junit.jupiter.api.Test;
-import org.junit.jupiter.api.io.TempDir;
 import org.junit.jupiter.params.ParameterizedTest;
 import org.junit.jupiter.params.provider.Arguments;
 import org.junit.jupiter.params.provider.MethodSource;
 import org.junit.jupiter.params.provider.ValueSource;
-import pcommit.client.Cluster;
-import pcommit.client.ClusterDouble;
-import pcommit.client.ClusterFile;
-import pcommit.client.ClusterFileException;
 import pcommit.client.NodeName;
 import pcommit.xa.ScriptedResource.Call;
 
 /** The coordinator's order and its answers, with resources that fail as each test has them, against a double of the nodes. */
-final class CoordinatorTest {
-    private static final Duration PATIENCE = Duration.ofMillis(400);
-    private static final Duration MOST = Duration.ofMillis(900);
-
-    @TempDir
-    private Path folder;
-    private final List<String> log = Collections.synchronizedList(new ArrayList<>());
-    private final ScriptedResource first = new ScriptedResource("first", log);
-    private final ScriptedResource second = new ScriptedResource("second", log);
-    private ClusterDouble nodes;
-    private Cluster cluster;
-    private PaxosTransactionManager manager;
-
-    @BeforeEach
-    void start() throws IOException, ClusterFileException {
-        nodes = new ClusterDouble(folder, 2, 18);
-        cluster = new Cluster(ClusterFile.read(nodes.file()), PATIENCE, MOST);
-        manager = new PaxosTransactionManager(cluster, PATIENCE);
-        manager.register("one", 0);
-        manager.register("two", 1, PrepareAnswer.TRUSTED);
-    }
-
-    @AfterEach
-    void stop() throws IOException {
-        manager.close();
-        cluster.close();
-        nodes.close();
-    }
-
-    private void beginBoth() throws NotSupportedException, RollbackException, SystemException {
-        manager.begin();
-        manager.enlist("one", first);
-        manager.enlist("two", second);
-    }
-
-    private long count(final String words) {
-        synchronized (log) {
-            return log.stream().filter(words::equals).count();
-        }
-    }
-
-    private long asked(final String words) {
-        return nodes.lines().stream().filter(line -> line.startsWith(words)).count();
-    }
-
-    private void assertNothingIsCommitted() {
-        assertEquals(0, count("COMMIT first") + count("COMMIT second"), log.toString());
-        assertEquals(List.of(), first.prepared());
-        assertEquals(List.of(), second.prepared());
-        assertEquals(Status.STATUS_NO_TRANSACTION, manager.getStatus());
-    }
-
+final class CoordinatorTest extends TwoResources {
     @Test
     void theOrderIsTheSafety() throws Exception {
         final List<String> steps = new ArrayList<>();
@@ -241,19 +177,8 @@ final class CoordinatorTest {
         assertEquals(0, count("ROLLBACK first"), "a resource that hangs isn't called");
         assertEquals(1, count("ROLLBACK second"));
         late.countDown();
-        for (int turn = 0; turn < 100 && count("ROLLBACK first") == 0; turn++) {
-            Thread.sleep(10);
-        }
-        assertEquals(1, count("ROLLBACK first"), "it rolls back as soon as it answers");
+        await("ROLLBACK first");
         assertNothingIsCommitted();
-    }
-
-    private static void await(final CountDownLatch latch) {
-        try {
-            assertTrue(latch.await(20, TimeUnit.SECONDS));
-        } catch (InterruptedException error) {
-            Thread.currentThread().interrupt();
-        }
     }
 
     @ParameterizedTest
@@ -320,7 +245,9 @@ final class CoordinatorTest {
             throw ScriptedResource.error(XAException.XAER_RMERR);
         });
         beginBoth();
+        final var transaction = manager.getTransaction();
         assertThrows(HeuristicMixedException.class, manager::commit);
+        assertEquals(Status.STATUS_ROLLEDBACK, transaction.getStatus());
     }
 
     @Test

@@ -5,8 +5,6 @@ import static org.junit.jupiter.api.Assertions.assertFalse;
 import static org.junit.jupiter.api.Assertions.assertThrows;
 import static org.junit.jupiter.api.Assertions.assertTrue;
 
-import java.io.IOException;
-import java.nio.file.Path;
 import java.time.Duration;
 import java.util.ArrayList;
 import java.util.Collections;
@@ -16,16 +14,12 @@ import java.util.TreeMap;
 import java.util.concurrent.atomic.AtomicInteger;
 import javax.transaction.xa.XAException;
 import javax.transaction.xa.XAResource;
-import org.junit.jupiter.api.AfterEach;
+import javax.transaction.xa.Xid;
 import org.junit.jupiter.api.BeforeEach;
 import org.junit.jupiter.api.Test;
-import org.junit.jupiter.api.io.TempDir;
 import pcommit.client.BranchName;
-import pcommit.client.Cluster;
-import pcommit.client.ClusterDouble;
 import pcommit.client.ClusterException;
-import pcommit.client.ClusterFile;
-import pcommit.client.ClusterFileException;
+import pcommit.client.DoubledCluster;
 import pcommit.client.NodeGoneException;
 import pcommit.client.NodeName;
 import pcommit.client.Outcome;
@@ -34,29 +28,17 @@ import pcommit.client.TransactionName;
 import pcommit.xa.ScriptedResource.Call;
 
 /** What a resolver does with branches that it finds, against a double of the nodes. */
-final class ResolverTest {
-    @TempDir
-    private Path folder;
+final class ResolverTest extends DoubledCluster {
     private final List<String> log = Collections.synchronizedList(new ArrayList<>());
     private final ScriptedResource resource = new ScriptedResource("it", log);
-    private ClusterDouble nodes;
-    private Cluster cluster;
     private Names names;
     private PaxosXid xid;
 
     @BeforeEach
-    void start() throws IOException, ClusterFileException {
-        nodes = new ClusterDouble(folder, 2, 2);
-        cluster = new Cluster(ClusterFile.read(nodes.file()), Duration.ofMillis(400), Duration.ofMillis(900));
+    void prepare() {
         names = new Names(cluster.file().digest());
         xid = names.xid(names.newGtrid(), 0);
         resource.with(xid);
-    }
-
-    @AfterEach
-    void stop() throws IOException {
-        cluster.close();
-        nodes.close();
     }
 
     private Resolver resolver(final Duration grace) {
@@ -81,15 +63,23 @@ final class ResolverTest {
     }
 
     private TransactionName transaction() {
-        return names.transaction(xid.getGlobalTransactionId(), List.of(0, 1));
+        return transaction(xid);
+    }
+
+    private TransactionName transaction(final PaxosXid branch) {
+        return names.transaction(branch.getGlobalTransactionId(), List.of(0, 1));
     }
 
     /** What the application does between the prepares and its question to a leader. */
     private void say() throws ClusterException {
+        say(xid);
+    }
+
+    private void say(final PaxosXid branch) throws ClusterException {
         final SortedMap<String, byte[]> row = new TreeMap<>();
-        row.put(xid.rowKey(), Participants.write(List.of(0, 1)));
+        row.put(branch.rowKey(), Participants.write(List.of(0, 1)));
         for (final int manager : List.of(0, 1)) {
-            cluster.beginBranch(manager, transaction().branch(manager), row, List.of()).await();
+            cluster.beginBranch(manager, transaction(branch).branch(manager), row, List.of()).await();
         }
     }
 
@@ -217,6 +207,39 @@ final class ResolverTest {
         final Resolver resolver = resolver(Duration.ZERO);
         assertThrows(NodeGoneException.class, () -> resolver.round(resource));
         assertEquals(0, count("ROLLBACK it"));
+    }
+
+    @Test
+    void whatIsKnownIsEndedThoughNoLeaderCanBeAsked() throws Exception {
+        final List<Xid> unsaid = new ArrayList<>(List.of(xid));
+        for (int turn = 0; turn < 4; turn++) {
+            final PaxosXid committed = names.xid(names.newGtrid(), 0);
+            say(committed);
+            assertEquals(Outcome.COMMITTED, cluster.settle(transaction(committed)));
+            final PaxosXid other = names.xid(names.newGtrid(), 0);
+            resource.with(committed).with(other);
+            unsaid.add(other);
+        }
+        nodes.kill(NodeName.leader(0));
+        nodes.kill(NodeName.leader(1));
+        final Resolver resolver = resolver(Duration.ZERO);
+        assertThrows(NodeGoneException.class, () -> resolver.round(resource));
+        assertEquals(4, count("COMMIT it"));
+        assertEquals(unsaid, resource.prepared());
+    }
+
+    @Test
+    void aBranchWhoseEndThrowsHoldsUpNoOther() throws Exception {
+        resource.with(names.xid(names.newGtrid(), 0));
+        final AtomicInteger turns = new AtomicInteger(1);
+        resource.on(Call.ROLLBACK, () -> {
+            if (turns.getAndDecrement() > 0) {
+                throw new IllegalStateException("a driver's fault");
+            }
+        });
+        settle(resolver(Duration.ZERO));
+        assertEquals(3, count("ROLLBACK it"));
+        assertEquals(List.of(), resource.prepared());
     }
 
     @Test
