@@ -1,6 +1,6 @@
 //! The edge of the program: its command line, its file, and what it prints.
 
-ghost use Rattle.std.specs.Prelude.{◌≡◌, ◌≤◌, map, IfErr, MatchOption, OnOk};
+ghost use Rattle.std.specs.Prelude.{◌≡◌, ◌≢◌, ◌≤◌, map, IfErr, MatchOption, OnOk};
 ghost use Rattle.std.specs.Io.KnownBytes.{Keeps};
 ghost use Rattle.net_script.specs.Writing.{TriesToAppend, WritesText};
 ghost use Rattle.pcommit_picture.specs.Printing.{Draws, DrawsFile, IsMisuse, IsRefused, Names, RefusesFile, refusal_line, usage_line};
@@ -33,7 +33,8 @@ pub fn program<S: AsStr, W: Write, E: Write>(
     err: &mut E,
 ) -> u8
     ensures status { result ≤ 3 }
-    ensures done { result ≤ 1 → Draws (map S.text words.now) (W.contents out.old) (W.contents out.new)
+    ensures known { result ≢ 1 }
+    ensures done { result ≡ 0 → Draws (map S.text words.now) (W.contents out.old) (W.contents out.new)
         × Keeps (E.contents err.old) (E.contents err.new) }
     ensures misused { result ≡ 2 → IsMisuse (map S.text words.now)
         × Keeps (W.contents out.old) (W.contents out.new) × TriesToAppend (E.contents err.old) (E.contents err.new) usage_line }
