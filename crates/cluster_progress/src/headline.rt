@@ -1,9 +1,10 @@
 //! The events that decide and end a transaction in the machine do so in a cluster that is handed them.
 ghost use Rattle.std.specs.Prelude.{◌≡◌, ◌⊎◌, ℕ, ◌<◌, Bool, IsTrue, true, List, map};
-ghost use Rattle.xid.specs.Transactions.{TxParts};
+ghost use Rattle.xid.specs.Transactions.{TxParts, is_participant};
 ghost use Rattle.ballot.specs.Majority.{is_majority};
 ghost use Rattle.protocol.specs.declared.events.Step.{Step as Made};
 ghost use Rattle.protocol.specs.declared.nodes.NodeId.{NodeId};
+ghost use Rattle.protocol.specs.declared.nodes.NodeId.TheVariants.{L};
 ghost use Rattle.protocol.specs.declared.states.View.TheVariants as views;
 ghost use Rattle.protocol.specs.Effects.{Config, is_inside};
 ghost use Rattle.protocol.specs.Worlds.{World};
@@ -12,6 +13,8 @@ ghost use Rattle.cluster.specs.Clusters.{ClusterParts, ClusterStands};
 ghost use Rattle.cluster.specs.Runs.{HaveOccurred, IsFirm};
 ghost use Rattle.progress.specs.Runs.{leader_and_quorum, leader_quorum_and_participants, are_at};
 ghost use Rattle.progress.specs.Outcomes.{HasOutcome, HasBallots, HaveEnded};
+ghost use Rattle.commits.specs.Idle.{IsUp, HasIdleBranch, after_request};
+ghost use Rattle.commits.specs.Votes.{HaveVoted, IsAtFirst};
 ghost use Rattle.cluster_progress.specs.Handing.{NoneWantsMemory, GoWell, LeadsOn};
 
 /// Let a cluster stand for whatever world the events before have come to; tears may be armed on its records. There are restarts, timeouts
@@ -33,6 +36,25 @@ pub fn can_end()
         → HasBallots config world l quorum tx → (cluster : ClusterParts) → ClusterStands config cluster world
         → LeadsOn config (leader_quorum_and_participants l quorum tx) tx
         (λ after. HaveEnded config tx views.Committed after ⊎ HaveEnded config tx views.Aborted after) world cluster }
+{}
+
+/// And a transaction can commit there. Where each participant has stored a vote prepared, and a majority of the acceptors has taken part in
+/// no ballot of it above 0, there are such events after which every participant is committed. And so there are from the world after a
+/// client has asked a leader that is up to commit it, where each participant is up with no tear armed, and has an idle branch of the name
+/// that the transaction has there.
+pub fn can_commit()
+    ensures voted { (config : Config) (world : World) → IsReachable config world → (tx : TxParts) → IsTrue (is_inside config tx)
+        → (l : ℕ) → l < config.leaders → (quorum : ℕ → Bool) → IsTrue (is_majority config.acceptors quorum)
+        → HasBallots config world l quorum tx → IsAtFirst config quorum tx world → HaveVoted config tx world
+        → (cluster : ClusterParts) → ClusterStands config cluster world
+        → LeadsOn config (leader_quorum_and_participants l quorum tx) tx (HaveEnded config tx views.Committed) world cluster }
+    ensures asked { (config : Config) (world : World) → IsReachable config world → (tx : TxParts) → IsTrue (is_inside config tx)
+        → (l : ℕ) → l < config.leaders → (quorum : ℕ → Bool) → IsTrue (is_majority config.acceptors quorum)
+        → HasBallots config world l quorum tx → IsAtFirst config quorum tx world
+        → ((r : ℕ) → IsTrue (is_participant tx r) → HasIdleBranch config world tx r) → IsUp config world (L l)
+        → (cluster : ClusterParts) → ClusterStands config cluster (after_request config world l tx)
+        → LeadsOn config (leader_quorum_and_participants l quorum tx) tx (HaveEnded config tx views.Committed)
+        (after_request config world l tx) cluster }
 {}
 
 /// Over records that never fail of themselves, as records in memory, such events go well wherever no memory is refused.
