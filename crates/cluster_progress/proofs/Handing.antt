@@ -125,13 +125,11 @@ module _ (config : Config) (part : NodeId → Bool) (tx : TxParts) where
   leads_on P world run first stands = record {
     events = run.events;
     at = run.at;
-    leads = λ last steps same well. record {
-      world = world_after config world (without_fault run.events);
-      stands = subst (λ (events : List Event). ClusterStands config last (world_after config world (without_fault events))) same
-          (follows steps world first last stands
-          (subst (λ (events : List Event). are_at config part tx world events ≡ true) (sym same) run.at) well);
-      holds = run.holds;
-    };
+    holds = run.holds;
+    leads = λ last steps same well.
+        subst (λ (events : List Event). ClusterStands config last (world_after config world (without_fault events))) same
+        (follows steps world first last stands
+        (subst (λ (events : List Event). are_at config part tx world events ≡ true) (sym same) run.at) well);
   }
 
   -- records that don't fail of themselves

@@ -9,9 +9,9 @@ use Rattle.protocol.specs.declared.events.Step.{Step}
 use Rattle.protocol.specs.declared.nodes.NodeId.{NodeId}
 use Rattle.protocol.specs.Effects.{Config}
 use Rattle.protocol.specs.Nodes.{NoFault, RecordFails}
-use Rattle.protocol.specs.Worlds.{World, world_step}
+use Rattle.protocol.specs.Worlds.{World, world_step, world_after}
 use Rattle.cluster.specs.Clusters.{ClusterParts, ClusterStands, Occurs, BefallsIn}
-use Rattle.progress.specs.Runs.{are_at}
+use Rattle.progress.specs.Runs.{are_at, without_fault}
 
 -- no step was refused memory
 abbrev pub NoneWantsMemory : List Step → Type 0
@@ -26,17 +26,16 @@ GoWell config world first (step ∷ steps) last =
     × ((whole : Bool) → ¬ BefallsIn config world step.event first.nodes next.nodes (RecordFails whole))
     × GoWell config (world_step config world step.event NoFault).world next steps last
 
--- a cluster stands for a world with a property
-pub record StandsForOne (config : Config) (P : World → Type 0) (cluster : ClusterParts) : Type 0 where
-  pub world : World
-  pub stands : ClusterStands config cluster world
-  pub holds : P world
+-- the world after these events, none of which met a fault
+abbrev pub led_to : Config → World → List Event → World
+led_to config world events = world_after config world (without_fault events)
 
--- events, each at a node that takes part, after which a cluster that was handed them one after another, and for which they went well,
--- stands for a world with a property
+-- events, each at a node that takes part, after which a world has a property; and a cluster that was handed them one after another, and
+-- for which they went well, stands for that world
 pub record LeadsOn (config : Config) (takes_part : NodeId → Bool) (tx : TxParts) (P : World → Type 0) (world : World)
     (first : ClusterParts) : Type 0 where
   pub events : List Event
   pub at : are_at config takes_part tx world events ≡ true
+  pub holds : P (led_to config world events)
   pub leads : (last : ClusterParts) (steps : List Step) → map (λ step. step.event) steps ≡ events → GoWell config world first steps last
-      → StandsForOne config P last
+      → ClusterStands config last (led_to config world events)
