@@ -13,6 +13,7 @@ import tempfile
 
 TESTS = os.path.dirname(os.path.realpath(__file__))
 sys.path.insert(0, os.path.join(TESTS, "cluster"))
+from checks import check, end
 from colliding import COUNT, Families, Found, twins
 from processes import Processes
 
@@ -27,16 +28,6 @@ BEYOND = 3
 TOUCHED = 64
 # the end of a trace whose tables are empty
 FINAL = ["final r0", "final r1"]
-passed = failed = 0
-
-
-def check(name, is_right, why=""):
-    global passed, failed
-    if is_right:
-        passed += 1
-    else:
-        failed += 1
-        print(f"FAILED {name}: {why}")
 
 
 def children_time():
@@ -209,8 +200,7 @@ def main():
             compare_files(folder, "audit", f"branches ({hasher})", stretches, *of["names"])
             compare_nodes(folder, "r0", f"branches ({hasher})", active, {"0", "none"}, "recover r0", *of["xids"])
             compare_nodes(folder, "l0", f"watches ({hasher})", watched, {"undecided"}, "open l0", *of["transactions"])
-    print(f"{passed} passed, {failed} failed")
-    sys.exit(1 if failed else 0)
+    end()
 
 
 main()

@@ -12,6 +12,8 @@ import subprocess
 import sys
 import tempfile
 
+from checks import check, end
+
 TESTS = os.path.dirname(os.path.realpath(__file__))
 program = os.path.realpath(sys.argv[1] if len(sys.argv) > 1 else "bin/pcommit")
 scratch = tempfile.TemporaryDirectory()
@@ -22,16 +24,6 @@ ROWS = ["first_branch", "plain_commit", "takeover_before_vote_late", "takeover_b
 OTHER, STRANGER = "9:77/{}=77", "9:78:78"
 # what may come of a refusal: 11 as a whole, or an answer 11 by a node that goes on or is down, or in what follows the row; or nothing
 KINDS = ["whole", "nothing", "down", "late", "again"]
-passed = failed = 0
-
-
-def check(name, is_right, why=""):
-    global passed, failed
-    if is_right:
-        passed += 1
-    else:
-        failed += 1
-        print(f"FAILED {name}: {why}")
 
 
 def golden(name):
@@ -277,5 +269,4 @@ print(f"refused as a whole {totals['whole']}, an event that then didn't happen {
 check("each kind is seen", min(totals[verdict] for verdict in ("whole", "nothing", "down")) > 0)
 audits("takeover_finds_prepared")
 later_pieces()
-print(f"{passed} passed, {failed} failed")
-sys.exit(1 if failed else 0)
+end()

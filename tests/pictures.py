@@ -12,21 +12,13 @@ import urllib.parse
 import xml.etree.ElementTree as ElementTree
 from pathlib import Path
 
+from checks import check, end
+
 TESTS = Path(__file__).resolve().parent
 PAGES = TESTS.parent / "docs" / "pictures"
 program = os.path.realpath(sys.argv[1] if len(sys.argv) > 1 else "bin/pcommit_picture")
 scratch = tempfile.TemporaryDirectory()
 SVG = "{http://www.w3.org/2000/svg}"
-passed = failed = 0
-
-
-def check(name, is_right, why=""):
-    global passed, failed
-    if is_right:
-        passed += 1
-    else:
-        failed += 1
-        print(f"FAILED {name}: {why}")
 
 
 def draw(*words, folder=TESTS, **more):
@@ -210,5 +202,4 @@ for at in range(1, blocks + 1):
     # where less room served, it is drawn as ever
     check(f"block {at}", wants or (done.returncode, done.stdout) == (0, whole), done)
 
-print(f"{passed} passed, {failed} failed")
-sys.exit(failed > 0)
+end()

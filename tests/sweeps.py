@@ -11,10 +11,11 @@ import subprocess
 import sys
 import tempfile
 
+from checks import check, end
+
 GOLDEN = os.path.join(os.path.dirname(os.path.realpath(__file__)), "golden")
 program = os.path.realpath(sys.argv[1] if len(sys.argv) > 1 else "bin/pcommit")
 scratch = tempfile.TemporaryDirectory()
-passed = failed = 0
 
 # a frame's length, version and kind
 HEAD = 6
@@ -33,15 +34,6 @@ TORN_ROWS = {
 SHORTER_ROWS = ["plain_commit", "takeover_finds_prepared", "takeover_before_vote_late", "takeover_before_vote_early", "bundled_takeover",
                 "torn_vote_before_first_byte", "torn_vote_in_length", "torn_vote_after_length", "torn_vote_in_body",
                 "torn_vote_one_short", "torn_vote_whole", "torn_vote_far"]
-
-
-def check(name, is_right, why=""):
-    global passed, failed
-    if is_right:
-        passed += 1
-    else:
-        failed += 1
-        print(f"FAILED {name}: {why}")
 
 
 def golden(name):
@@ -470,5 +462,4 @@ for row in SHORTER_ROWS:
 refuses()
 records()
 cut_traces()
-print(f"{passed} passed, {failed} failed")
-sys.exit(1 if failed else 0)
+end()
