@@ -6,8 +6,9 @@ kit's maps hash where nothing else is said. They are made of what collisions.txt
 All names of a family are of one shape: bytes that are the same in each, and places where one of two strings stands, either of which takes
 the hasher from the state that it has there to one and the same. So n such places make 2^n names of one hash. Where bytes are too few for
 that, as those of keys, or such strings take long to find, the last eight are of many strings, ends, which the hasher takes to hashes of
-which a map sees the same 32 bits, or looks at the same."""
+which a map sees the same 32 bits, or looks at the same. The components of XIDs are written at once, other bytes one by one."""
 import copy
+import io
 import os
 import random
 import subprocess
@@ -18,7 +19,7 @@ FILE = os.path.join(os.path.dirname(os.path.realpath(__file__)), "collisions.txt
 COUNT = 20480
 MASK = (1 << 64) - 1
 # the bits of a hash, of the 32 that a map sees, that ends have the same
-BITS = {"word-ends": 0xFFFFFFFF, "string-ends": 0xFFFFFFFF, "few-ends": 0xFF000FFF}
+BITS = {"slice-ends": 0xFFFFFFFF, "word-ends": 0xFFFFFFFF, "string-ends": 0xFFFFFFFF, "few-ends": 0xFF000FFF}
 MULTIPLIER = 0x9E3779B97F4A7C15
 FIRST = 0x243F6A8885A308D3
 
@@ -32,12 +33,16 @@ def mixed(state, word):
     return folded_multiply(state ^ word, MULTIPLIER) ^ (state << 23 & MASK | state >> 41)
 
 
-def hash_of(data, first=FIRST):
-    """The hash by which a transaction is first found, of its spelled bytes. Once its key's first word was 0."""
-    state = first ^ len(data)
+def all_taken(state, data):
+    """A state into which bytes are taken by words of eight, and the last eight once more."""
     for at in range(0, len(data) - 7, 8):
         state = mixed(state, int.from_bytes(data[at:at + 8], "little"))
     return mixed(state, int.from_bytes(data[-8:], "little" if len(data) >= 8 else "big"))
+
+
+def hash_of(data, first=FIRST):
+    """The hash by which a transaction is first found, of its spelled bytes. Once its key's first word was 0."""
+    return all_taken(first ^ len(data), data)
 
 
 def seen(hash):
@@ -46,7 +51,7 @@ def seen(hash):
 
 
 class Hasher:
-    """What takes writes one after the other. STEP is how many bytes a pair's strings have."""
+    """What takes writes one after the other. STEP is how many bytes a pair's strings have, of those that are written one by one."""
 
     def write_each(self, data):
         """Writes bytes one by one, as the elements of a slice are."""
@@ -65,6 +70,9 @@ class WordHasher(Hasher):
         if len(data) == 8:
             self.state = mixed(self.state, int.from_bytes(data, "little"))
             return
+        if len(data) > 8:
+            self.state = all_taken(self.state, data)
+            return
         for byte in data:
             self.word = self.word << 8 | byte
             if self.word >> 56:
@@ -72,6 +80,26 @@ class WordHasher(Hasher):
 
     def finish(self):
         return mixed(self.state, self.word)
+
+    def slice_parts(self, length, found):
+        """What may stand in each place of bytes that are written at once: a pair for each word but the last, which is taken twice. There
+        it is two ends."""
+        assert length % 8 == 0
+        state, parts = self.state, []
+        for _ in range(length // 8 - 1):
+            parts.append([number(state ^ word) for word in found.get("words", 0)])
+            state = mixed(state, int.from_bytes(parts[-1][0], "little"))
+        return parts + [self.two_ends(state)]
+
+    def two_ends(self, state):
+        """Two last words of which a map sees the same 32 bits, if nothing is written behind them."""
+        ends = {}
+        for word in range(1 << 20):
+            hash = seen(mixed(mixed(mixed(state, word), word), self.word))
+            if hash in ends:
+                return [number(ends[hash]), number(word)]
+            ends[hash] = word
+        raise SystemExit("no two ends")
 
     def is_between(self):
         """Whether all bytes are taken into the state."""
@@ -117,7 +145,13 @@ class FoldHasher(Hasher):
 
     def write(self, data):
         length = len(data)
-        assert 0 < length <= 8
+        if length > 8:
+            assert length % 16 == 0
+            self.state = self.state + length & MASK
+            for at in range(0, length, 16):
+                first, second = (int.from_bytes(data[at + more:at + more + 8], "little") for more in (0, 8))
+                self.state = folded_multiply(first ^ self.state, second ^ MULTIPLIER)
+            return
         if length >= 4:
             word = int.from_bytes(data[:4], "little") | int.from_bytes(data[-4:], "little") << 32
         else:
@@ -132,6 +166,10 @@ class FoldHasher(Hasher):
 
     def pair(self, found):
         return [number(word) for word in found.get("strings", self.state, self.state)]
+
+    def slice_parts(self, length, found):
+        """What may stand in each place of bytes that are written at once: the first eight are any, since the next make a factor zero."""
+        return [[number(first) + number(MULTIPLIER) for first in range(COUNT)], [bytes(length - 16)]]
 
 
 class Found:
@@ -173,7 +211,7 @@ class Found:
                 self.write(file, search)
 
 
-# ---- what is written to a hasher: for each write its bytes, and None for a byte that is free
+# ---- what is written to a hasher: for each write its bytes, None for a byte that is free, and a number for so many of these at once
 
 def each(data):
     return [bytes([byte]) for byte in data]
@@ -189,7 +227,7 @@ def of_bytes(items):
 
 
 FREE = [None] * 64
-XID = [number(1, 4)] + of_bytes(FREE) + of_bytes(FREE)
+XID = [number(1, 4), number(64), 64, number(64), 64]
 # of the auditor: the resource manager's number, and an XID
 NAME = [number(0, 1)] + XID
 KEY = of_bytes(FREE)
@@ -209,20 +247,27 @@ class Family:
     """Names of one shape that collide, or keys. `parts` has for each place of their free bytes all that may stand there; `before` stands
     in each before these."""
 
-    def __init__(self, what, hasher, shape, found, ends=(None, 1), begin=b"", before=b""):
+    def __init__(self, what, hasher, shape, found, ends=(None, 1), before=b""):
         self.what, self.hasher, self.shape, self.before, self.parts = what, hasher, shape, before, []
         kind, count = ends
         self.bits = BITS.get(kind)
         pairs = (COUNT // count - 1).bit_length()
         state, at = hasher(), 0
         while at < len(shape):
+            if isinstance(shape[at], int):
+                parts = state.slice_parts(shape[at], found)
+                if at + 1 < len(shape):
+                    # only behind the last nothing is written
+                    parts[-1] = parts[-1][:1]
+                self.parts += parts
+                state.write(b"".join(strings[0] for strings in parts))
+                at += 1
+                continue
             if shape[at] is not None:
                 state.write(shape[at])
                 at += 1
                 continue
-            if begin:
-                strings, begin = [begin], b""
-            elif pairs and state.is_between() and shape[at:at + state.STEP] == [None] * state.STEP:
+            if pairs and state.is_between() and shape[at:at + state.STEP] == [None] * state.STEP:
                 strings, pairs = state.pair(found), pairs - 1
             elif kind and len(shape) - at == 8:
                 strings = [end.to_bytes(8, "big") for end in found.get(kind, state.state, count)]
@@ -252,8 +297,12 @@ class Family:
 
     def written(self, free):
         """All that is written of one with these free bytes."""
-        rest = iter(free)
-        return [bytes([next(rest)]) if write is None else write for write in self.shape]
+        rest, written = io.BytesIO(free), []
+        for write in self.shape:
+            if write is None or isinstance(write, int):
+                write = rest.read(write or 1)
+            written.append(write)
+        return written
 
     def hash(self, free):
         state = self.hasher()
@@ -282,17 +331,15 @@ class Families:
         gtrid[3:11] = each(self.words[0])
         self.of_words = {
             "transactions": Family("transactions", WordHasher, spelled(gtrid, [FREE]), found, before=bytes(3) + self.words[0]),
-            "xids": Family("xids", WordHasher, XID, found),
-            "names": Family("names", WordHasher, NAME, found),
+            "xids": Family("xids", WordHasher, XID, found, ends=("slice-ends", 2)),
+            "names": Family("names", WordHasher, NAME, found, ends=("slice-ends", 2)),
             "keys": Family("keys", WordHasher, KEY, found, ends=("word-ends", 80)),
         }
         # the last eight bytes are a word once more, and so are the same in all
         self.of_bytes = {"transactions": Family("transactions", BytesHasher, spelled(FREE, [FREE, [None] * 20]), found)}
-        # eight bytes of which each of two shapes begins with its own, and the rest is the same
-        begins = [number(begin) for begin in found.get("strings", fold_state_of(XID), fold_state_of(NAME))]
         self.of_folds = {
-            "xids": Family("xids", FoldHasher, XID, found, ends=("few-ends", 40), begin=begins[0]),
-            "names": Family("names", FoldHasher, NAME, found, ends=("few-ends", 40), begin=begins[1]),
+            "xids": Family("xids", FoldHasher, XID, found),
+            "names": Family("names", FoldHasher, NAME, found),
             "keys": Family("keys", FoldHasher, KEY, found, ends=("few-ends", 5120)),
             "transactions": Family("transactions", FoldHasher, spelled(FREE, [FREE]), found, ends=("few-ends", 5120)),
         }
@@ -311,14 +358,6 @@ def twins(family, word):
     """The transactions of a family, each behind one that has another word in its gtrid, which `hash_of`, before it was keyed, took to the
     same state: where both are known, the second isn't found by that hash."""
     return [twin for name in family.names() for twin in (name[:3] + word + name[11:], name)]
-
-
-def fold_state_of(shape):
-    """The state of FoldHasher before the first free byte."""
-    state = FoldHasher()
-    for write in shape[:shape.index(None)]:
-        state.write(write)
-    return state.state
 
 
 def main(tool=None):

@@ -49,13 +49,6 @@ abbrev pub with_bytes : WordHasher → List ℕ → WordHasher
 with_bytes h [] = h
 with_bytes h (byte ∷ bytes) = with_bytes (with_byte h byte) bytes
 
--- after bytes that are written at once: eight are a word
-abbrev pub written : WordHasher → List ℕ → WordHasher
-written h bytes =
-    if length bytes == 8 then
-    record { state = mixed h.multiplier h.state (from_le_bytes w64 bytes); multiplier = h.multiplier; word = h.word }
-    else with_bytes h bytes
-
 -- ---- by words of eight bytes
 
 -- eight bytes as a number, the first the lowest
@@ -77,6 +70,23 @@ words_taken multiplier state (a ∷ b ∷ c ∷ d ∷ e ∷ f ∷ g ∷ h ∷ re
     words_taken multiplier (mixed multiplier state (word_of (a ∷ b ∷ c ∷ d ∷ e ∷ f ∷ g ∷ h ∷ []))) rest
 words_taken multiplier state rest = state
 
+-- all bytes taken into a state
+abbrev pub all_taken : (multiplier state : ℕ) → List ℕ → ℕ
+all_taken multiplier state bytes = mixed multiplier (words_taken multiplier state bytes) (last_word bytes)
+
 -- the hash of bytes under a key
 abbrev pub hash_of : WordKey → List ℕ → ℕ
-hash_of key bytes = mixed key.multiplier (words_taken key.multiplier (bit_xor key.first (length bytes)) bytes) (last_word bytes)
+hash_of key bytes = all_taken key.multiplier (bit_xor key.first (length bytes)) bytes
+
+-- a hasher in another state
+abbrev pub in_state : WordHasher → ℕ → WordHasher
+in_state h state = record { state = state; multiplier = h.multiplier; word = h.word }
+
+-- after bytes that aren't eight: few are taken one by one, more by words
+abbrev pub with_slice : WordHasher → List ℕ → WordHasher
+with_slice h bytes = if nat_lt (length bytes) 8 then with_bytes h bytes else in_state h (all_taken h.multiplier h.state bytes)
+
+-- after bytes that are written at once: eight are a word
+abbrev pub written : WordHasher → List ℕ → WordHasher
+written h bytes =
+    if length bytes == 8 then in_state h (mixed h.multiplier h.state (from_le_bytes w64 bytes)) else with_slice h bytes

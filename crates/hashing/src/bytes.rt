@@ -1,5 +1,5 @@
 ghost use Rattle.std.specs.Prelude.{◌≡◌};
-ghost use Rattle.hashing.specs.Hashing.{hash_of, last_word, taken};
+ghost use Rattle.hashing.specs.Hashing.{all_taken, hash_of, last_word, taken};
 
 use crate::keys::WordKey;
 use crate::mixing::mixed;
@@ -25,15 +25,22 @@ fn last_word(bytes: &[u8]) -> u64
     }
 }
 
-/// The hash of bytes under a key, which are taken by words of eight. The last eight are a word once more, so that none is left.
+/// A state into which bytes are taken by words of eight. The last eight are a word once more, so that none is left.
+pub(crate) fn all_taken(multiplier: u64, first: u64, bytes: &[u8]) -> u64
+    ensures { result ≡ all_taken multiplier first bytes.now }
+{
+    let mut state = first;
+    let mut rest = bytes;
+    while let Some((word, after)) = rest.split_first_chunk::<8>() {
+        state = mixed(multiplier, state, u64::from_le_bytes(*word));
+        rest = after;
+    }
+    mixed(multiplier, state, last_word(bytes))
+}
+
+/// The hash of bytes under a key.
 pub fn hash_of(key: WordKey, bytes: &[u8]) -> u64
     ensures { result ≡ hash_of key bytes.now }
 {
-    let mut state = key.first ^ bytes.len() as u64;
-    let mut rest = bytes;
-    while let Some((word, after)) = rest.split_first_chunk::<8>() {
-        state = mixed(key.multiplier, state, u64::from_le_bytes(*word));
-        rest = after;
-    }
-    mixed(key.multiplier, state, last_word(bytes))
+    all_taken(key.multiplier, key.first ^ bytes.len() as u64, bytes)
 }

@@ -1,6 +1,7 @@
 ghost use Rattle.std.specs.Prelude.{◌≡◌};
-ghost use Rattle.hashing.specs.Hashing.{nothing_taken, with_byte, with_bytes};
+ghost use Rattle.hashing.specs.Hashing.{nothing_taken, with_byte, with_bytes, with_slice};
 
+use crate::bytes::all_taken;
 use crate::keys::WordKey;
 use crate::mixing::mixed;
 use std::hash::Hasher;
@@ -8,8 +9,8 @@ use std::hash::Hasher;
 /// A word with seven bytes in it, or more.
 const FULL: u64 = 0x0100_0000_0000_0000;
 
-/// Hashes single bytes by words of seven, and eight bytes that come at once, as those of a number or a length, as a word of their own:
-/// vectors hand their bytes on one by one, and to mix each in by itself takes longer. The default's key is fixed, so whoever picks the
+/// Hashes single bytes by words of seven, and eight bytes or more that come at once, as those of a number, a length or a name, by words of
+/// eight: vectors hand their bytes on one by one, and to mix each in by itself takes longer. The default's key is fixed, so whoever picks the
 /// keys of a map can make them collide; a `WordKey` that was drawn builds one whose key they don't know.
 #[derive(Clone, Copy)]
 pub struct WordHasher {
@@ -53,6 +54,19 @@ impl WordHasher {
     }
 }
 
+impl WordHasher {
+    /// Bytes more, that aren't eight: few one by one, more by words of eight.
+    fn take_slice(&mut self, bytes: &[u8])
+        ensures { self.new ≡ with_slice self.old bytes.now }
+    {
+        if bytes.len() < 8 {
+            self.take_all(bytes);
+        } else {
+            self.state = all_taken(self.multiplier, self.state, bytes);
+        }
+    }
+}
+
 impl Default for WordHasher {
     ghost use Rattle.hashing.specs.Hashing.{fixed_words, nothing_taken};
 
@@ -77,7 +91,7 @@ impl Hasher for WordHasher {
     fn write(&mut self, bytes: &[u8]) {
         match <[u8; 8]>::try_from(bytes) {
             Ok(word) => self.state = mixed(self.multiplier, self.state, u64::from_le_bytes(word)),
-            Err(_) => self.take_all(bytes),
+            Err(_) => self.take_slice(bytes),
         }
     }
 

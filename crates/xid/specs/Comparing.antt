@@ -5,7 +5,8 @@ use Rattle.std.specs.Cmp.Lexicographic.{slice_cmp, pointwise, on_texts, texts_ti
 use Rattle.std.specs.Hash as fed
 use Rattle.std.specs.Ordering.{nat_cmp, eq_by_cmp, then_cmp, on}
 use Rattle.std.specs.Str.{bytes_eq}
-use Rattle.xid.specs.Names.{XidParts, xid_eq, xid_cmp}
+use Rattle.std.proofs.lemmas.Slice.Eq.{bytes_eq-Decides}
+use Rattle.xid.specs.Names.{XidParts, component_fed, xid_eq, xid_cmp}
 use Rattle.xid.specs.Transactions.{BranchParts, TxParts, branch_eq, branch_cmp, branch_fed, tx_eq, tx_cmp}
 
 branch_ties : (a b : BranchParts) → branch_eq a b ≡ eq_by_cmp branch_cmp a b
@@ -20,10 +21,14 @@ branch_total = then_total (on_total (λ (b : BranchParts). b.rm) nat_cmp_total) 
 pub branches_tie : (xs ys : List BranchParts) → pointwise branch_eq xs ys ≡ eq_by_cmp (slice_cmp branch_cmp) xs ys
 branches_tie = lists_ties branch_cmp branch_ties
 
+-- the same bytes feed the same to hashing
+pub component_alike : fed.Alike (pointwise ◌==◌) component_fed
+component_alike = fed.same_Alike component_fed bytes_eq-Decides
+
 branch_alike : fed.Alike branch_eq branch_fed
 branch_alike =
     fed.and-Alike (fed.on_Alike (λ (b : BranchParts). b.rm) (fed.same_Alike fed.u16 unsigned_Decides))
-    (fed.on_Alike (λ (b : BranchParts). b.bqual) (fed.items_Alike (fed.same_Alike fed.u8 unsigned_Decides)))
+    (fed.on_Alike (λ (b : BranchParts). b.bqual) component_alike)
 
 -- the order of transactions is total
 pub tx_total : IsTotalOrder tx_cmp

@@ -1,6 +1,7 @@
 -- What an XID is, after X/Open XA (C193), chapter "The xa.h Header": a format and two components.
-use Rattle.std.specs.Prelude.{ℕ, ◌<◌, ◌≤◌, Bool, ◌&&◌, ◌==◌, List, length, slice_index}
+use Rattle.std.specs.Prelude.{ℕ, ◌<◌, ◌≤◌, Bool, ◌&&◌, ◌==◌, ◌++◌, ◌∷◌, List, [], length, slice_index}
 use Rattle.std.specs.Cmp.Lexicographic.{slice_cmp}
+use Rattle.std.specs.Hash as fed
 use Rattle.std.specs.Ordering.{nat_cmp, on, then_cmp}
 use Rattle.std.specs.Str.{bytes_eq}
 use Rattle.std.specs.declared.cmp.Ordering.{Ordering}
@@ -15,6 +16,10 @@ pub record IsComponent (xs : List ℕ) : Type 0 where
   pub some : 0 < length xs
   pub few : length xs ≤ most_component
   pub bytes : IsBytes xs
+
+-- what hashing a component feeds: how many bytes it has, then all of them at once
+abbrev pub component_fed : List ℕ → fed.HashWrites
+component_fed bytes = fed.usize (length bytes) ++ (bytes ∷ [])
 
 -- an XID as its parts; the code sees an `Xid` so
 pub record XidParts : Type 0 where

@@ -9,7 +9,7 @@ use Rattle.std.specs.List.Sorted.{IsStrictlyIncreasing}
 use Rattle.std.specs.Option.{option_map}
 use Rattle.std.specs.Ordering.{nat_cmp, on, then_cmp, eq_of_both}
 use Rattle.std.specs.declared.cmp.Ordering.{Ordering}
-use Rattle.xid.specs.Names.{IsComponent, XidParts}
+use Rattle.xid.specs.Names.{IsComponent, XidParts, component_fed}
 use Rattle.xid.specs.Text.{hex_text}
 use Rattle.xid.specs.Limits.{most_managers, most_branches, formats}
 
@@ -64,7 +64,7 @@ branch_cmp = then_cmp (on (λ b. b.rm) nat_cmp) (on (λ b. b.bqual) (slice_cmp n
 
 -- what hashing a branch feeds
 abbrev pub branch_fed : BranchParts → fed.HashWrites
-branch_fed b = fed.u16 b.rm ++ fed.slice fed.u8 b.bqual
+branch_fed b = fed.u16 b.rm ++ component_fed b.bqual
 
 -- whether two transactions are the same
 abbrev pub tx_eq : TxParts → TxParts → Bool

@@ -108,11 +108,15 @@ impl PartialOrd for Component {
 }
 
 impl Hash for Component {
-    ghost hash_input = { fed.slice fed.u8 };
+    ghost use Rattle.xid.specs.Names.{component_fed};
+    ghost use Rattle.xid.specs.Comparing.{component_alike};
 
-    ghost respects_eq = { Prim.search (hashing, rules) };
+    ghost hash_input = { component_fed };
+
+    ghost respects_eq = { component_alike.fed };
 
     fn hash<H: Hasher>(&self, state: &mut H) {
-        self.as_bytes().hash(state);
+        state.write_usize(self.len as usize);
+        state.write(self.as_bytes());
     }
 }
