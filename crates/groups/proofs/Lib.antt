@@ -5,3 +5,4 @@ pub mod Reached
 pub mod Nodes
 pub mod Taking
 pub mod Leading
+pub mod Opened

@@ -22,7 +22,7 @@ use Rattle.groups.specs.Runs.{IsMachines}
 use Rattle.groups.specs.Runs.{Happening, Upkept, all_happened}
 use Rattle.groups.proofs.Steps.{put, put_twice, step_comes}
 use Rattle.groups.proofs.Following.{Follows, led, after_append, same_append, group_followed, mailed, there_next}
-use Rattle.groups.proofs.Upkeep.{upkeep_nodes, upkeep_net}
+use Rattle.groups.proofs.Upkeep.{upkeep_nodes, upkeep_net, upkeep_answer}
 
 -- events of the machine that follow a world
 record IsFollowed (config : Config) (world : World) (happened : List Happening) : Type 0 where
@@ -49,8 +49,9 @@ followed config world (Kept before event fault reach is) =
       events = f.events ++ last;
       follows = record {
         same =
-            same_append config (opening config) f.events last (all_happened config before reach) (Upkept event ∷ []) f.follows.same
-            (refl, tt);
+            same_append config (opening config) f.events last (all_happened config before reach)
+            (Upkept event (world_step config before event fault).answer ∷ []) f.follows.same
+            ((refl, upkeep_answer config machine before f.follows.nodes_are event fault is), tt);
         nodes_are =
             ap (λ (w : World). w.nodes) there ∙ upkeep_nodes config machine before f.follows.nodes_are event fault is;
         mail_is =

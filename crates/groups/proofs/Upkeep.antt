@@ -67,6 +67,52 @@ module _ (config : Config) (machine world : World) (same : machine.nodes ≡ wor
   upkeep_nodes event NoMemoryAt is = upkeep_at event NoMemoryAt is (λ w. refl)
   upkeep_nodes event (RecordFails whole) is = upkeep_at event (RecordFails whole) is (λ w. refl)
 
+-- ---- the same answers
+
+module _ (config : Config) (machine world : World) (same : machine.nodes ≡ world.nodes) where
+  found_answer : (f : World → NodeState → StepResult) → ((node : NodeState) → (f machine node).answer ≡ (f world node).answer)
+      → (o : Option NodeState) → (if_found machine (f machine) o).answer ≡ (if_found world (f world) o).answer
+  found_answer f each None = refl
+  found_answer f each (Some node) = each node
+
+  answer_at : (f : World → NodeState → StepResult) → ((node : NodeState) → (f machine node).answer ≡ (f world node).answer)
+      → (who : NodeId) → (if_found machine (f machine) (node_at config machine who)).answer
+      ≡ (if_found world (f world) (node_at config world who)).answer
+  answer_at f each who =
+      found_answer f each (node_at config machine who)
+      ∙ ap (λ ns. (if_found world (f world) (among config ns who)).answer) same
+
+  compact_answer : (who : NodeId) (fault : Fault) (node : NodeState) (up : Bool)
+      → (if up then outcome_result config machine who node.facts (compact_outcome node fault)
+      else answer_result machine (Refused Down)).answer
+      ≡ (if up then outcome_result config world who node.facts (compact_outcome node fault)
+      else answer_result world (Refused Down)).answer
+  compact_answer who fault node true = refl
+  compact_answer who fault node false = refl
+
+  answered_at : (event : Event) (fault : Fault) → is_upkeep event ≡ true
+      → ((w : World) → world_step config w event fault ≡ dispatch config w event fault)
+      → (world_step config machine event fault).answer ≡ (world_step config world event fault).answer
+  answered_at event fault is at =
+      ap (λ (r : StepResult). r.answer) (at machine) ∙ by event is ∙ ap (λ (r : StepResult). r.answer) (sym (at world))
+    where
+      by : (e : Event) → is_upkeep e ≡ true → (dispatch config machine e fault).answer ≡ (dispatch config world e fault).answer
+      by (Restart who) is =
+          answer_at (λ w node. outcome_result config w who node.facts (restart_outcome config who node fault)) (λ node. refl) who
+      by (Compact who) is =
+          answer_at (λ w node. if node.up then outcome_result config w who node.facts (compact_outcome node fault)
+          else answer_result w (Refused Down)) (λ node. compact_answer who fault node node.up) who
+      by (Tear who n) is =
+          answer_at (λ w node. answer_result (set_node config w who (record node { tear = Some n })) Done) (λ node. refl) who
+      by e is = absurd (cc is)
+
+  pub upkeep_answer : (event : Event) (fault : Fault) → is_upkeep event ≡ true
+      → (world_step config machine event fault).answer ≡ (world_step config world event fault).answer
+  upkeep_answer event NoMemoryBefore is = refl
+  upkeep_answer event NoFault is = answered_at event NoFault is (λ w. refl)
+  upkeep_answer event NoMemoryAt is = answered_at event NoMemoryAt is (λ w. refl)
+  upkeep_answer event (RecordFails whole) is = answered_at event (RecordFails whole) is (λ w. refl)
+
 -- ---- nothing is sent
 
 module _ (config : Config) (who : NodeId) (node : NodeState) where

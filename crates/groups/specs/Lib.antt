@@ -1,3 +1,4 @@
 pub mod Runs
 pub mod Nodes
 pub mod Turns
+pub mod Processes

@@ -64,10 +64,10 @@ pub record IsSent (world : World) (d : Datagram) : Type 0 where
   pub receiver_is : sent.receiver ≡ d.receiver
   pub message_is : sent.message ≡ d.message
 
--- what happened in a cluster whose nodes work in groups: an input was handled, with its answer, or another event
+-- what happened in a cluster whose nodes work in groups: an input was handled, or another event was, each with its answer
 pub data Happening : Type 0 where
   Handled : (who : NodeId) (input : Input) (answer : Answer) → Happening
-  Upkept : (event : Event) → Happening
+  Upkept : (event : Event) (answer : Answer) → Happening
 
 -- the inputs of a group, with their answers, in order; where its append was stopped nobody is told them
 abbrev pub handled_in : Config → NodeId → NodeState → List Handed → List Happening
@@ -81,7 +81,8 @@ abbrev pub all_happened : (config : Config) (world : World) → IsReached config
 all_happened config _ Opening = []
 all_happened config _ (Grouped world who node group is_stored reach is all) =
     all_happened config world reach ++ handled_in config who node group
-all_happened config _ (Kept world event fault reach is) = all_happened config world reach ++ Upkept event ∷ []
+all_happened config _ (Kept world event fault reach is) =
+    all_happened config world reach ++ Upkept event (world_step config world event fault).answer ∷ []
 
 -- an event hands a node an input: a request, a datagram with that message, bytes that spell none
 abbrev pub Hands : World → Event → NodeId → Input → Type 0
@@ -93,7 +94,7 @@ Hands world event who ReceivedNoise = (bytes : List ℕ) × (event ≡ Noise who
 -- an event in a world of the machine, with its answer, is what happened
 abbrev pub IsSame : World → Event → Answer → Happening → Type 0
 IsSame world event answer (Handled who input told) = Hands world event who input × (answer ≡ told)
-IsSame world event answer (Upkept kept) = event ≡ kept
+IsSame world event answer (Upkept kept told) = (event ≡ kept) × (answer ≡ told)
 
 -- events of the machine, one after another from a world, with their answers, are what happened
 abbrev pub AreSame : Config → World → List Occurrence → List Happening → Type 0

@@ -2,6 +2,8 @@
 ghost use Rattle.std.specs.Prelude.{◌≡◌, Bool, true, List, [], ◌∷◌, ◌++◌, Some, Result};
 ghost use Rattle.std.specs.List.{AllByRecursion};
 ghost use Rattle.xid.specs.Transactions.{TxParts, is_participant};
+ghost use Rattle.xid.specs.declared.refusals.Refusal.{Refusal};
+ghost use Rattle.stable_record.specs.Held.{Held};
 ghost use Rattle.stable_record.specs.declared.record.RecordError.{RecordError};
 ghost use Rattle.safety.specs.Words.{NodeId, Event};
 ghost use Rattle.protocol.specs.Effects.{Config};
@@ -13,7 +15,9 @@ ghost use Rattle.safety.specs.Runs.{views_in};
 ghost use Rattle.node_core.specs.declared.output.Output.{Output};
 ghost use Rattle.node_core.specs.Nodes.{NodeParts, NodeStands};
 ghost use Rattle.node_core.specs.Groups.{GroupsAs};
+ghost use Rattle.node_core.specs.Opening.{IsOpened, IsUnopened};
 ghost use Rattle.groups.specs.Nodes.{IsGroup};
+ghost use Rattle.groups.specs.Processes.{GoesOn, StaysDown, StoodFor};
 ghost use Rattle.groups.specs.Runs.{CanBeHanded, Handed, IsMachines, IsReached, all_happened, group_result, is_upkeep};
 
 /// Whatever groups the nodes of a cluster are handed, stored or stopped, there are events of the machine, one after another, that lead to
@@ -51,4 +55,15 @@ pub fn nodes_work_in_groups()
     ensures { (config : Config) (m : NodeState) (inputs : List Input) (old new : NodeParts) (outs : List Output)
         (result : Result (Unit {0}) RecordError) → NodeStands config old m → GroupsAs config m inputs old new outs result
         → IsGroup config m inputs old new outs result }
+{}
+
+/// A process that ended, at whatever moment, goes on from what its record holds: where an earlier node over the same bytes stood for a node
+/// of the machine, the one that is opened over them stands for it after a restart. Where none is opened, the record isn't damaged, and
+/// still keeps what it kept, so that a later opening may find it.
+pub fn processes_go_on()
+    ensures opened { (config : Config) (who : NodeId) (before : NodeParts) (m : NodeState) (held : Held) (node : NodeParts)
+        → StoodFor config who held.bytes before m → IsOpened config who held node → GoesOn config who held m node }
+    ensures refused { (config : Config) (who : NodeId) (before : NodeParts) (m : NodeState) (held left : Held) (refusal : Refusal)
+        → StoodFor config who held.bytes before m → IsUnopened config who held left refusal
+        → StaysDown config held left before m refusal }
 {}

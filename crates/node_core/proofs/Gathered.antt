@@ -22,10 +22,11 @@ use Rattle.node_core.specs.declared.output.Output.{Output}
 use Rattle.node_core.specs.declared.role.Role.{Role}
 use Rattle.node_core.specs.Sends.{sent}
 use Rattle.node_core.specs.Storing.{fact_frame, output_of, change_made, IsKept, Carries, carried, WasStopped}
-use Rattle.node_core.specs.Nodes.{Stands, Steps, AreSizes}
+use Rattle.node_core.specs.Nodes.{Stands, Steps, StepsFreely, AreSizes, fact_to_store}
+use Rattle.node_core.specs.Sparing.{is_free}
 use Rattle.node_core.specs.Groups.{Place, Does, Runs, IsSameButKept, StopsIn, Tears, Leaves, Acts, Gathers, ActsOn, GathersOn}
-use Rattle.node_core.specs.Groups.{IsStoredAll, Comes}
-use Rattle.node_core.proofs.Steps.{steps_up, steps_settled, steps_refused, steps_down}
+use Rattle.node_core.specs.Groups.{IsStoredAll, Comes, AppendsOnce}
+use Rattle.node_core.proofs.Steps.{steps_up, steps_settled, steps_refused, steps_down, freely_refused, freely_down, freely_settled}
 use Rattle.node_core.specs.Handling.{IsCarriedOut, Handles}
 use Rattle.node_core.specs.declared.config.Sizes.{Sizes}
 
@@ -299,11 +300,13 @@ module _ (config : Config) (who : NodeId) (own : List Row) (m : NodeState) (inpu
 
   -- an input that leaves the record as it is
   acts_nothing : (was role : Option Role) (out : Output) (old new : Held) → old.armed ≡ None → new ≡ old
-      → Steps config who own m input held held role out → ActsOn config who own (place was) input out role old new
-  acts_nothing was role out old new untorn same s = record {
+      → Steps config who own m input held held role out
+      → (is_free who input ≡ true → fact_to_store config who m input ≡ None → StepsFreely config who own m input held held role out)
+      → ActsOn config who own (place was) input out role old new
+  acts_nothing was role out old new untorn same s free = record {
     text = [];
     to = record { state = (node_step config who m input s.fault).node; held = held; role = role };
-    acts = record { does = record { steps = s; state_is = refl }; leaves = inl (refl, refl) };
+    acts = record { does = record { steps = s; state_is = refl; free = free }; leaves = inl (refl, refl) };
     role_is = refl;
     bytes_are = ap (λ (h : Held). h.bytes) same ∙ sym (append-nil old.bytes);
     armed_is = ap (λ (h : Held). h.armed) same ∙ untorn;
@@ -411,10 +414,14 @@ module _ (config : Config) (who : NodeId) (own : List Row) (m : NodeState) (inpu
       (h.carries config m.facts m.memory are stands.role_is.2) in
       let steps = steps_settled config who own m input held again.after was role h.before h.after h.up out h.was_is h.accepted h.role_is
       (λ r. again.carries) s in
+      let free : is_free who input ≡ true → fact_to_store config who m input ≡ None
+      → StepsFreely config who own m input held again.after role out =
+      λ is none. freely_settled config who own m input held again.after was role h.before h.after h.up out h.was_is h.accepted h.role_is
+      (λ r. again.carries) (λ r without. h.free is config m.facts m.memory are r without) none s in
       record {
         text = again.text;
         to = record { state = (node_step config who m input steps.fault).node; held = again.after; role = role };
-        acts = record { does = record { steps = steps; state_is = refl }; leaves = again.leaves };
+        acts = record { does = record { steps = steps; state_is = refl; free = free }; leaves = again.leaves };
         role_is = refl;
         bytes_are = again.bytes_are;
         armed_is = again.armed_is;
@@ -425,11 +432,13 @@ module _ (config : Config) (who : NodeId) (own : List Row) (m : NodeState) (inpu
       → ActsOn config who own (place was) input out role old new
   acts_of sizes old new was role out untorn never are (inl h) s =
       subst (λ r. ActsOn config who own (place was) input out r old new) (sym h.role_is)
-      (acts_nothing was was out old new untorn h.held_is (steps_refused config who own m input held was out s h.refused h.out_is))
+      (acts_nothing was was out old new untorn h.held_is (steps_refused config who own m input held was out s h.refused h.out_is)
+      (λ is none. freely_refused config who own m input held was out s h.refused h.out_is))
   acts_of sizes old new was role out untorn never are (inr (inl h)) s =
       subst (λ r. ActsOn config who own (place was) input out r old new) (sym h.role_is)
       (acts_nothing was None out old new untorn h.held_is
-      (steps_down config who own m input held out (subst (λ r. Stands config who own held r m) h.was_is s) h.accepted h.out_is))
+      (steps_down config who own m input held out (subst (λ r. Stands config who own held r m) h.was_is s) h.accepted h.out_is)
+      (λ is none. freely_down config who own m input held out (subst (λ r. Stands config who own held r m) h.was_is s) h.accepted h.out_is))
   acts_of sizes old new was role out untorn never are (inr (inr h)) s =
       acts_carried sizes old new was role out untorn never are h s
 
@@ -473,14 +482,14 @@ module _ (config : Config) (who : NodeId) (own : List Row) where
   -- ---- the append of all
 
   stored_held : (base to new : Held) (text : List ℕ) → base.armed ≡ None → Behind base to text
-      → ((text ≡ []) × (new ≡ base)) ⊎ IsAdded text base new → IsSameButKept to new
+      → ((text ≡ []) × (new ≡ base)) ⊎ ((0 < length text) × IsAdded text base new) → IsSameButKept to new
   stored_held base to new text unarmed b (inl is) = record {
     bytes = ap (λ (h : Held). h.bytes) is.1 ∙ sym (append-nil base.bytes) ∙ ap (λ (xs : List ℕ). base.bytes ++ xs) (sym is.0) ∙ sym b.bytes;
     faults = ap (λ (h : Held). h.faults) is.1 ∙ sym b.faults;
     armed = ap (λ (h : Held). h.armed) is.1 ∙ unarmed ∙ sym b.armed;
     may_fail = ap (λ (h : Held). h.may_fail) is.1 ∙ sym b.may_fail;
   }
-  stored_held base to new text unarmed b (inr is) = record {
+  stored_held base to new text unarmed b (inr (some, is)) = record {
     bytes = is.bytes ∙ sym b.bytes;
     faults = is.faults ∙ sym b.faults;
     armed = is.armed ∙ sym b.armed;
@@ -509,3 +518,10 @@ module _ (config : Config) (who : NodeId) (own : List Row) where
       }
       by (Err errors.Fault) is = stops_in config who own from g.to inputs outs g.text new unarmed g.gathers is.0 is.1
       by (Err errors.Memory) is = runs_out_in config who own from g.to inputs outs g.text new g.gathers is.0 is.1
+
+-- one append, or none
+pub stored_once : (text : List ℕ) (old new : Held) (result : Result (Unit {0}) RecordError) → IsStoredAll text old new result
+    → AppendsOnce old new result
+stored_once text old new (Ok done) (inl is) = inl is.1
+stored_once text old new (Ok done) (inr is) = inr (text, is.0, is.1)
+stored_once text old new (Err error) is = (text, is.0, is.1)

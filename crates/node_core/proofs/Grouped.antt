@@ -13,7 +13,7 @@ use Rattle.node_core.specs.declared.output.Output.{Output}
 use Rattle.node_core.specs.declared.role.Role.{Role}
 use Rattle.node_core.specs.Storing.{output_of}
 use Rattle.node_core.specs.Nodes.{AreSizes, IsSound, Keeps, NodeParts, NodeStands, Stands, Steps, fact_to_store}
-use Rattle.node_core.specs.Groups.{Place, Runs, IsSameButKept, Comes, Groups, GroupsAs}
+use Rattle.node_core.specs.Groups.{Place, Runs, IsSameButKept, Comes, Groups, GroupsAs, AppendsOnce}
 use Rattle.node_core.proofs.Sound.{step_may_fail}
 
 module _ (config : Config) (who : NodeId) (own : List Row) where
@@ -118,8 +118,8 @@ module _ (node : NodeParts) (held : Held) (role : Option Role) (inputs : List In
 
   pub groups_as : (config : Config) (m : NodeState)
       → Groups config node.who node.rows (record { state = m; held = node.held; role = node.role }) inputs outs role held result
-      → GroupsAs config m inputs node node_after outs result
-  groups_as config m g = record {
+      → AppendsOnce node.held held result → GroupsAs config m inputs node node_after outs result
+  groups_as config m g once = record {
     same = record {
       who_is = refl;
       sizes_are = refl;
@@ -127,6 +127,7 @@ module _ (node : NodeParts) (held : Held) (role : Option Role) (inputs : List In
       may_fail_is = group_may_fail config node.who node.rows (record { state = m; held = node.held; role = node.role }) inputs outs role
           held result g;
     };
+    once = once;
     comes = g;
   }
 

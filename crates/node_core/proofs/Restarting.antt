@@ -47,7 +47,7 @@ module _ (config : Config) (who : NodeId) (own : List Row) (m : NodeState) (old 
       (s.keeps.same.stands [] role empty_memory
       (subst (λ fs. RoleStands (begun config who own k.rows) who role fs empty_memory) (sym (append-nil k.facts)) h))
 
-  down_stands : (new : Held) (tail : List ℕ) → Holds config who new.bytes s.keeps.kept tail → new.armed ≡ old.armed
+  pub down_stands : (new : Held) (tail : List ℕ) → Holds config who new.bytes s.keeps.kept tail → new.armed ≡ old.armed
       → Stands config who own new None (down_node m)
   down_stands new tail h armed = record {
     tail = tail;
@@ -174,7 +174,7 @@ loads_over config who own rows old new result is h = subst (λ r. Loads config w
 -- ---- opened
 
 -- contents that are the same are the same to a resource manager
-same_contents : (config other : Config) (number : ℕ) (p : ManagerParts) (facts : List Fact) (branches : List Branch)
+pub same_contents : (config other : Config) (number : ℕ) (p : ManagerParts) (facts : List Fact) (branches : List Branch)
     → other.managers ≡ config.managers → first_rows config number ≡ first_rows other number
     → manager_specs.StandsFor config number p facts branches → manager_specs.StandsFor other number p facts branches
 same_contents config other number p facts branches managers rows s = record {

@@ -1,9 +1,13 @@
 -- Inputs that are handled one after another, each with its own append, to the one at which a tear stops it.
-use Rattle.std.proofs.Common.{◌≡◌, ◌∙◌, Bool, true, false, List, [], ◌∷◌, ◌++◌, Option, Some, None, inl, inr, refl, sym, ap, subst}
-use Rattle.std.specs.Prelude.{is_some}
+use Rattle.std.proofs.Common.{◌≡◌, ◌∙◌, ℕ, ◌<◌, Bool, true, false, List, [], ◌∷◌, ◌++◌, length, Option, Some, None, inl, inr, refl, sym, ap}
+use Rattle.std.proofs.Common.{subst, arith}
+use Rattle.std.specs.Prelude.{is_some, Ok, Err}
+use Rattle.wire.specs.Versions.{version_2}
+use Rattle.stable_record.proofs.Lengths.{fact_frame_has}
+use Rattle.stable_record.specs.declared.record.RecordError.TheVariants.{Fault}
 use Rattle.xid.specs.declared.refusals.Refusal.TheVariants.{RecordFault}
 use Rattle.stable_record.specs.declared.fact.FactKind.{FactKind as Fact}
-use Rattle.stable_record.specs.Held.{Held}
+use Rattle.stable_record.specs.Held.{Held, IsStopped}
 use Rattle.protocol.specs.declared.answers.Answer.TheVariants.{Refused}
 use Rattle.protocol.specs.declared.nodes.NodeId.{NodeId}
 use Rattle.protocol.specs.declared.rows.Row.{Row}
@@ -12,20 +16,22 @@ use Rattle.protocol.specs.Nodes.{NodeState, Memory, Input, effect_of, node_step}
 use Rattle.node_core.specs.declared.config.Sizes.{Sizes}
 use Rattle.node_core.specs.declared.output.Output.{Output}
 use Rattle.node_core.specs.declared.role.Role.{Role}
-use Rattle.node_core.specs.Storing.{IsKept, Carries, carried}
-use Rattle.node_core.specs.Nodes.{AreSizes, Stands, Steps, role_settled}
+use Rattle.node_core.specs.Storing.{fact_frame, IsKept, Carries, carried}
+use Rattle.node_core.specs.Nodes.{AreSizes, Stands, Steps, StepsFreely, fact_to_store, role_settled}
+use Rattle.node_core.specs.Sparing.{is_free}
 use Rattle.node_core.specs.Handling.{Handles}
-use Rattle.node_core.specs.Groups.{Place, Does, Runs, StopsIn, IsStoredGroup}
-use Rattle.node_core.proofs.Handled.{steps_of}
+use Rattle.node_core.specs.Groups.{Place, Does, Runs, StopsIn, IsStoredGroup, AppendsOnce}
+use Rattle.node_core.proofs.Handled.{freely_of, steps_of}
 use Rattle.node_core.proofs.Grouped.{runs_stand}
 
--- inputs were handled, and have led to a record and a role
+-- inputs were handled, and have led to a record, which is as it was, and a role
 pub record Reaches (config : Config) (who : NodeId) (own : List Row) (from : Place) (inputs : List Input) (outs : List Output)
     (role : Option Role) (held : Held) : Type 0 where
   pub to : Place
   pub runs : Runs config who own from inputs outs to
   pub role_is : to.role ≡ role
   pub held_is : to.held ≡ held
+  pub same : held ≡ from.held
 
 still_armed : (old new : Held) → is_some old.armed ≡ true → is_some new.armed ≡ false → new ≡ old → ⊥
 still_armed old new armed untorn same =
@@ -33,6 +39,10 @@ still_armed old new armed untorn same =
 
 not_armed : (held : Held) → is_some held.armed ≡ true → held.armed ≡ None → ⊥
 not_armed held armed none = let wrong : false ≡ true = sym (ap (λ a. is_some a) none) ∙ armed in absurd (cc wrong)
+
+-- a frame has bytes
+some_frame : (fact : Fact) → 0 < length (fact_frame fact)
+some_frame fact = let has = fact_frame_has version_2 fact in omega (arith, has)
 
 module _ (config : Config) (who : NodeId) (facts : List Fact) (memory : Memory) (e : Effect Memory) (old new : Held) (after : Role)
     (out : Output) (armed : is_some old.armed ≡ true) (untorn : is_some new.armed ≡ false) where
@@ -47,6 +57,25 @@ module _ (config : Config) (who : NodeId) (facts : List Fact) (memory : Memory) 
   torn false (inl ran_out) = absurd (still_armed old new armed untorn ran_out.same)
   torn false (inr was) = (refl, ap (λ (o : Output). o.reply) was.out_is)
 
+  -- it was the one of a fact's frame
+  torn_once : (up : Bool) → Carries config who facts memory e old new after (carried up out)
+      → (text : List ℕ) × (0 < length text) × IsStopped text old new
+  torn_once true done = absurd (not_kept e.fact done.kept)
+  torn_once false (inl ran_out) = absurd (still_armed old new armed untorn ran_out.same)
+  torn_once false (inr was) = (fact_frame was.fact, some_frame was.fact, was.torn.stopped)
+
+module _ (config : Config) (who : NodeId) (facts : List Fact) (memory : Memory) (e : Effect Memory) (old new : Held) (after : Role)
+    (out : Output) (armed : is_some old.armed ≡ true) (still : is_some new.armed ≡ true) where
+  kept_same : (f : Option Fact) → IsKept config who facts e old new after out.now f → new ≡ old
+  kept_same None k = k.same
+  kept_same (Some fact) k = absurd (not_armed old armed k.added.unarmed)
+
+  -- where a tear is armed still, nothing was appended
+  unstored : (up : Bool) → Carries config who facts memory e old new after (carried up out) → new ≡ old
+  unstored true done = kept_same e.fact done.kept
+  unstored false (inl ran_out) = ran_out.same
+  unstored false (inr was) = absurd (not_armed new still was.torn.stopped.armed)
+
 module _ (config : Config) (who : NodeId) (sizes : Sizes) (own : List Row) (are : AreSizes config sizes) where
   stops_role : (m : NodeState) (input : Input) (old new : Held) (was role : Option Role) (out : Output)
       → is_some old.armed ≡ true → is_some new.armed ≡ false → Handles who sizes input old new was role out
@@ -58,6 +87,26 @@ module _ (config : Config) (who : NodeId) (sizes : Sizes) (own : List Row) (are 
       let t = torn config who m.facts m.memory (effect_of config who m.facts m.memory input) old new h.after out armed untorn h.up
       (h.carries config m.facts m.memory are stands.role_is.2) in
       (h.role_is ∙ t.0, t.1)
+
+  stops_once : (m : NodeState) (input : Input) (old new : Held) (was role : Option Role) (out : Output)
+      → is_some old.armed ≡ true → is_some new.armed ≡ false → Handles who sizes input old new was role out
+      → Stands config who own old was m → (text : List ℕ) × (0 < length text) × IsStopped text old new
+  stops_once m input old new was role out armed untorn (inl h) s = absurd (still_armed old new armed untorn h.held_is)
+  stops_once m input old new was role out armed untorn (inr (inl h)) s = absurd (still_armed old new armed untorn h.held_is)
+  stops_once m input old new was role out armed untorn (inr (inr h)) s =
+      let stands : Stands config who own old (Some h.before) m = subst (λ r. Stands config who own old r m) h.was_is s in
+      torn_once config who m.facts m.memory (effect_of config who m.facts m.memory input) old new h.after out armed untorn h.up
+      (h.carries config m.facts m.memory are stands.role_is.2)
+
+  stores_nothing : (m : NodeState) (input : Input) (old new : Held) (was role : Option Role) (out : Output)
+      → is_some old.armed ≡ true → is_some new.armed ≡ true → Handles who sizes input old new was role out
+      → Stands config who own old was m → new ≡ old
+  stores_nothing m input old new was role out armed still (inl h) s = h.held_is
+  stores_nothing m input old new was role out armed still (inr (inl h)) s = h.held_is
+  stores_nothing m input old new was role out armed still (inr (inr h)) s =
+      let stands : Stands config who own old (Some h.before) m = subst (λ r. Stands config who own old r m) h.was_is s in
+      unstored config who m.facts m.memory (effect_of config who m.facts m.memory input) old new h.after out armed still h.up
+      (h.carries config m.facts m.memory are stands.role_is.2)
 
   runs_then : (from to next : Place) (inputs : List Input) (outs : List Output) (input : Input) (out : Output)
       → Runs config who own from inputs outs to → Does config who own to input out next
@@ -83,9 +132,18 @@ module _ (config : Config) (who : NodeId) (sizes : Sizes) (own : List Row) (are 
         subst (λ old. Steps config who own reaches.to.state input old new after out) (sym reaches.held_is)
         (steps_of config who sizes own reaches.to.state input held new role after out are h stands_there)
 
-    pub reaches_more : (input : Input) (new : Held) (after : Option Role) (out : Output) → Handles who sizes input held new role after out
+    freely_there : (input : Input) (new : Held) (after : Option Role) (out : Output)
+        → Handles who sizes input held new role after out → is_free who input ≡ true
+        → fact_to_store config who reaches.to.state input ≡ None
+        → StepsFreely config who own reaches.to.state input reaches.to.held new after out
+    freely_there input new after out h is none =
+        subst (λ old. StepsFreely config who own reaches.to.state input old new after out) (sym reaches.held_is)
+        (freely_of config who sizes own reaches.to.state input held new role after out are h stands_there is none)
+
+    pub reaches_more : (input : Input) (new : Held) (after : Option Role) (out : Output) → is_some held.armed ≡ true
+        → is_some new.armed ≡ true → Handles who sizes input held new role after out
         → Reaches config who own from (inputs ++ input ∷ []) (outs ++ out ∷ []) after new
-    reaches_more input new after out h =
+    reaches_more input new after out armed still h =
         let steps = handled_there input new after out h in
         let next : Place = record {
           state = (node_step config who reaches.to.state input steps.fault).node;
@@ -94,10 +152,18 @@ module _ (config : Config) (who : NodeId) (sizes : Sizes) (own : List Row) (are 
         } in
         record {
           to = next;
-          runs = runs_then from reaches.to next inputs outs input out reaches.runs (record { steps = steps; state_is = refl });
+          runs = runs_then from reaches.to next inputs outs input out reaches.runs
+              (record { steps = steps; state_is = refl; free = freely_there input new after out h });
           role_is = refl;
           held_is = refl;
+          same = stores_nothing reaches.to.state input held new role after out armed still h stands_there ∙ reaches.same;
         }
+
+    pub stopped_once : (input : Input) (new : Held) (after : Option Role) (out : Output) → is_some held.armed ≡ true
+        → is_some new.armed ≡ false → Handles who sizes input held new role after out → AppendsOnce from.held new (Err Fault)
+    stopped_once input new after out armed untorn h =
+        subst (λ old. (text : List ℕ) × (0 < length text) × IsStopped text old new) reaches.same
+        (stops_once reaches.to.state input held new role after out armed untorn h stands_there)
 
     pub stops_there : (input : Input) (behind : List Input) (new : Held) (after : Option Role) (out : Output)
         → is_some held.armed ≡ true → is_some new.armed ≡ false → Handles who sizes input held new role after out
@@ -122,7 +188,7 @@ module _ (config : Config) (who : NodeId) (sizes : Sizes) (own : List Row) (are 
 
 -- at first
 pub reaches_none : (config : Config) (who : NodeId) (own : List Row) (from : Place) → Reaches config who own from [] [] from.role from.held
-reaches_none config who own from = record { to = from; runs = refl; role_is = refl; held_is = refl }
+reaches_none config who own from = record { to = from; runs = refl; role_is = refl; held_is = refl; same = refl }
 
 -- all were handled
 pub stored_each : (config : Config) (who : NodeId) (own : List Row) (from : Place) (inputs : List Input) (outs : List Output)

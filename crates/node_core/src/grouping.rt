@@ -8,7 +8,7 @@ ghost use Rattle.protocol.specs.declared.answers.Answer.TheVariants.{Refused};
 ghost use Rattle.protocol.specs.Effects.{Config};
 ghost use Rattle.protocol.specs.Nodes.{NodeState};
 ghost use Rattle.node_core.specs.Nodes.{AreSizes, Stands, input_of};
-ghost use Rattle.node_core.specs.Groups.{Comes, GathersOn, Groups, IsStoredAll};
+ghost use Rattle.node_core.specs.Groups.{AppendsOnce, Comes, GathersOn, Groups, IsStoredAll};
 ghost use Rattle.node_core.specs.Storing.{output_of};
 
 use crate::acting::{handle, settle};
@@ -76,10 +76,12 @@ fn store_at_once<R: Record>(
 ) -> Result<(), RecordError>
     requires places { length outs.old ≡ length inputs.now }
     requires unarmed { is_some (R.held device.old).armed ≡ false }
-    ensures { (config : Config) (own : List Row) (m : NodeState) → AreSizes config sizes
+    ensures comes { (config : Config) (own : List Row) (m : NodeState) → AreSizes config sizes
         → Stands config who own (R.held device.old) role.old m
         → Comes config who own (record { state = m; held = R.held device.old; role = role.old }) (map input_of inputs.now) outs.new
         role.new (R.held device.new) result }
+    ensures once { (config : Config) (own : List Row) (m : NodeState) → AreSizes config sizes
+        → Stands config who own (R.held device.old) role.old m → AppendsOnce (R.held device.old) (R.held device.new) result }
 {
     let alloc = work.alloc;
     let mut frames = mem::replace(&mut work.group, MemRecord::new(alloc, Vec::new(alloc)));
@@ -102,10 +104,12 @@ fn store_one_by_one<R: Record>(
 ) -> Result<(), RecordError>
     requires places { length outs.old ≡ length inputs.now }
     requires armed { is_some (R.held device.old).armed ≡ true }
-    ensures { (config : Config) (own : List Row) (m : NodeState) → AreSizes config sizes
+    ensures comes { (config : Config) (own : List Row) (m : NodeState) → AreSizes config sizes
         → Stands config who own (R.held device.old) role.old m
         → Comes config who own (record { state = m; held = R.held device.old; role = role.old }) (map input_of inputs.now) outs.new
         role.new (R.held device.new) result }
+    ensures once { (config : Config) (own : List Row) (m : NodeState) → AreSizes config sizes
+        → Stands config who own (R.held device.old) role.old m → AppendsOnce (R.held device.old) (R.held device.new) result }
 {
     for i in 0..inputs.len() {
         handle(work, device, who, sizes, role, &inputs[i], &mut outs[i]);
@@ -128,10 +132,12 @@ fn store_group<R: Record>(
     outs: &mut [Output],
 ) -> Result<(), RecordError>
     requires { length outs.old ≡ length inputs.now }
-    ensures { (config : Config) (own : List Row) (m : NodeState) → AreSizes config sizes
+    ensures comes { (config : Config) (own : List Row) (m : NodeState) → AreSizes config sizes
         → Stands config who own (R.held device.old) role.old m
         → Comes config who own (record { state = m; held = R.held device.old; role = role.old }) (map input_of inputs.now) outs.new
         role.new (R.held device.new) result }
+    ensures once { (config : Config) (own : List Row) (m : NodeState) → AreSizes config sizes
+        → Stands config who own (R.held device.old) role.old m → AppendsOnce (R.held device.old) (R.held device.new) result }
 {
     if device.is_armed() {
         return store_one_by_one(work, device, who, sizes, role, inputs, outs);
@@ -159,10 +165,12 @@ pub(crate) fn handle_group<R: Record>(
     outs: &mut [Output],
 ) -> Result<(), RecordError>
     requires { length outs.old ≡ length inputs.now }
-    ensures { (config : Config) (own : List Row) (m : NodeState) → AreSizes config sizes
+    ensures groups { (config : Config) (own : List Row) (m : NodeState) → AreSizes config sizes
         → Stands config who own (R.held device.old) role.old m
         → Groups config who own (record { state = m; held = R.held device.old; role = role.old }) (map input_of inputs.now) outs.new
         role.new (R.held device.new) result }
+    ensures once { (config : Config) (own : List Row) (m : NodeState) → AreSizes config sizes
+        → Stands config who own (R.held device.old) role.old m → AppendsOnce (R.held device.old) (R.held device.new) result }
 {
     match store_group(work, device, who, sizes, role, inputs, outs) {
         Ok(()) => Ok(()),
