@@ -1,6 +1,6 @@
 -- The text of a picture's parts.
-use Rattle.std.specs.Prelude.{ℕ, Bool, not, ◌==◌, ◌&&◌, nat_le, if◌then◌else◌, List, [], ◌∷◌, ◌++◌, codes, decimal}
-use Rattle.std.specs.List.{flat_map}
+use Rattle.std.specs.Prelude.{ℕ, Bool, true, false, not, ◌==◌, ◌&&◌, ◌||◌, nat_le, if◌then◌else◌, List, [], ◌∷◌, ◌++◌, codes, decimal}
+use Rattle.std.specs.List.{flat_map, list_any}
 use Rattle.protocol.specs.declared.states.View.{View}
 use Rattle.picture.specs.declared.elements.Point.{Point}
 use Rattle.picture.specs.declared.elements.Lettering.{Lettering}
@@ -65,6 +65,21 @@ escaped words = flat_map escaped_byte words
 -- whether a byte is printed ASCII, and neither begins nor ends a tag, nor ends the value of an attribute
 abbrev pub is_harmless : ℕ → Bool
 is_harmless byte = nat_le 32 byte && nat_le byte 126 && not (byte == 60) && not (byte == 62) && not (byte == 39)
+
+-- what follows an ampersand in a reference to a character
+abbrev pub references : List (List ℕ)
+references = codes "amp;" ∷ codes "lt;" ∷ codes "gt;" ∷ codes "#39;" ∷ []
+
+-- whether a text begins with another
+abbrev pub begins_with : (front text : List ℕ) → Bool
+begins_with [] text = true
+begins_with (byte ∷ front) [] = false
+begins_with (byte ∷ front) (first ∷ rest) = (byte == first) && begins_with front rest
+
+-- whether each ampersand of a text begins such a reference
+abbrev pub refers : List ℕ → Bool
+refers [] = true
+refers (byte ∷ rest) = (not (byte == 38) || list_any (λ front. begins_with front rest) references) && refers rest
 
 -- ---- parts of tags
 

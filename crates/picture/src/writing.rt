@@ -3,7 +3,7 @@
 ghost use Rattle.std.specs.Prelude.{◌≡◌, ◌++◌, ℕ, List, true, decimal, IfOk, IfErr, OnOk};
 ghost use Rattle.std.specs.List.{flat_map, list_all};
 ghost use Rattle.xid.specs.declared.refusals.Refusal.TheVariants.{NoMemory};
-ghost use Rattle.picture.specs.Elements.{attribute, element_text, escaped, escaped_byte, head_text, is_harmless, lettering_name};
+ghost use Rattle.picture.specs.Elements.{attribute, element_text, escaped, escaped_byte, head_text, is_harmless, lettering_name, refers};
 ghost use Rattle.picture.specs.Elements.{link_text, mark_name, opened, pen_name, view_name, band_text, stamp_text, stroke_text, words_text};
 ghost use Rattle.picture.specs.Elements.{place, size_text, title_text, two_numbers, view_box};
 
@@ -312,7 +312,9 @@ pub(crate) fn text_of(
     Ok(out)
 }
 
-/// Words in a picture are printed ASCII, and none of them begins or ends a tag or a value of an attribute.
+/// Words in a picture are printed ASCII, none of them begins or ends a tag or a value of an attribute, and an ampersand stands there only
+/// where it begins a reference to a character.
 pub fn no_markup()
-    ensures { (words : List ℕ) → list_all is_harmless (escaped words) ≡ true }
+    ensures harmless { (words : List ℕ) → list_all is_harmless (escaped words) ≡ true }
+    ensures references { (words : List ℕ) → refers (escaped words) ≡ true }
 {}

@@ -1,5 +1,8 @@
-use Rattle.picture.proofs.Plain.{harmless}
+use Rattle.picture.proofs.Plain.{harmless, referring}
 use Rattle.picture.proofs.writing.no_markup.Goals as goal
 
-pub returns : goal.returns
-returns c = harmless
+pub returns-clause-harmless : goal.returns-clause-harmless
+returns-clause-harmless c = harmless
+
+pub returns-clause-references : goal.returns-clause-references
+returns-clause-references c = referring
