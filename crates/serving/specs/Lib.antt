@@ -1,1 +1,6 @@
 pub mod Fronts
+pub mod Named
+pub mod Noted
+pub mod Queues
+pub mod Shortenings
+pub mod Watching

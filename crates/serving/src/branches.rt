@@ -1,3 +1,9 @@
+ghost use Rattle.std.specs.Prelude.{◌≡◌, true, None, Some, IfOk, OnOk};
+ghost use Rattle.std.specs.Option.{option_map};
+ghost use Rattle.xid.specs.Names.{XidParts};
+ghost use Rattle.serving.specs.Noted.{after_touch, is_active_of, is_nota, is_ok, is_rolled_back, is_untouched, known, names_of, noted, NotesOnly};
+
+use crate::queue::is_by;
 use hashing::{HashKey, WordKey};
 use indexmap::IndexMap;
 use protocol::{Action, Answer};
@@ -23,21 +29,59 @@ pub struct Branches {
     named: IndexMap<Xid, Branch, WordKey>,
 }
 
+impl Branch {
+    /// A client has touched it, and ended it if so it has.
+    fn touch(&mut self, has_ended: bool, now: Instant)
+        ensures { self.new ≡ after_touch has_ended now self.old }
+    {
+        self.touched = now;
+        if has_ended {
+            self.is_active = false;
+        }
+    }
+}
+
+/// Whether a call was answered with XA_OK.
+fn is_ok(answer: &Answer) -> bool
+    ensures { result ≡ is_ok answer.now }
+{
+    matches!(answer, Answer::Code(XaCode::Ok))
+}
+
+/// Whether there is no such branch.
+fn is_nota(answer: &Answer) -> bool
+    ensures { result ≡ is_nota answer.now }
+{
+    matches!(answer, Answer::Code(XaCode::Nota))
+}
+
+/// Whether the branch may only be rolled back.
+fn is_rolled_back(answer: &Answer) -> bool
+    ensures { result ≡ is_rolled_back answer.now }
+{
+    matches!(answer, Answer::Code(XaCode::RbRollback))
+}
+
 impl Branches {
     /// None.
-    pub fn new(alloc: Global) -> Branches {
+    pub fn new(alloc: Global) -> Branches
+        ensures { (x : XidParts) → known result x ≡ None }
+    {
         Branches::with_hash_key(alloc, HashKey::fixed())
     }
 
     /// None, and names are hashed under a key.
-    pub fn with_hash_key(alloc: Global, key: HashKey) -> Branches {
+    pub fn with_hash_key(alloc: Global, key: HashKey) -> Branches
+        ensures { (x : XidParts) → known result x ≡ None }
+    {
         Branches {
             alloc,
             named: IndexMap::with_hasher(alloc, key.words()),
         }
     }
 
-    /// A client has made a call on a branch, and was answered.
+    /// A client has made a call on a branch, and was answered: what is known of that branch changes, and nothing else. Where memory runs
+    /// out nothing changes.
     pub fn note(
         &mut self,
         client: u64,
@@ -45,50 +89,66 @@ impl Branches {
         action: &Action,
         answer: &Answer,
         now: Instant,
-    ) -> Result<(), AllocError> {
-        let is_ok = matches!(answer, Answer::Code(XaCode::Ok));
-        if matches!(answer, Answer::Code(XaCode::Nota)) {
+    ) -> Result<(), AllocError>
+        ensures { OnOk result (NotesOnly self.old self.new xid.now (noted action.now answer.now client now (known self.old xid.now))) }
+    {
+        if is_nota(answer) {
             self.forget(xid);
             return Ok(());
         }
+        let is_ok = is_ok(answer);
         match action {
-            Action::Start if is_ok => {
-                let _ = self.named.insert(
-                    *xid,
-                    Branch {
-                        client,
-                        is_active: true,
-                        touched: now,
-                    },
-                )?;
+            Action::Start if is_ok => self.begin(client, xid, now),
+            Action::Rollback if is_ok => {
+                self.forget(xid);
+                Ok(())
             }
-            Action::Rollback if is_ok => self.forget(xid),
             Action::End | Action::EndFail => {
-                let has_ended = is_ok || matches!(answer, Answer::Code(XaCode::RbRollback));
-                self.touch(xid, has_ended, now);
+                self.touch(xid, is_ok || is_rolled_back(answer), now);
+                Ok(())
             }
-            _ => self.touch(xid, false, now),
+            _ => {
+                self.touch(xid, false, now);
+                Ok(())
+            }
         }
+    }
+
+    /// A client has started a branch.
+    fn begin(&mut self, client: u64, xid: &Xid, now: Instant) -> Result<(), AllocError>
+        ensures { OnOk result (NotesOnly self.old self.new xid.now (Some (record { client = client; is_active = true; touched = now }))) }
+    {
+        let _ = self.named.insert(
+            *xid,
+            Branch {
+                client,
+                is_active: true,
+                touched: now,
+            },
+        )?;
         Ok(())
     }
 
     /// A branch was touched, and ended if so it is.
-    fn touch(&mut self, xid: &Xid, has_ended: bool, now: Instant) {
+    fn touch(&mut self, xid: &Xid, has_ended: bool, now: Instant)
+        ensures { NotesOnly self.old self.new xid.now (option_map (after_touch has_ended now) (known self.old xid.now)) }
+    {
         if let Some(branch) = self.named.get_mut(xid) {
-            branch.touched = now;
-            if has_ended {
-                branch.is_active = false;
-            }
+            branch.touch(has_ended, now);
         }
     }
 
     /// A branch is prepared, or is no more.
-    pub fn forget(&mut self, xid: &Xid) {
+    pub fn forget(&mut self, xid: &Xid)
+        ensures { NotesOnly self.old self.new xid.now None }
+    {
         let _ = self.named.swap_remove(xid);
     }
 
-    /// The active branches that a client has started.
-    pub fn active_of(&self, client: u64) -> Result<Vec<Xid>, AllocError> {
+    /// The active branches that a client has started: these, and no others.
+    pub fn active_of(&self, client: u64) -> Result<Vec<Xid>, AllocError>
+        ensures { IfOk result (λ found. found.items ≡ names_of (is_active_of client) self.now.named.entries) }
+    {
         let mut found = Vec::new(self.alloc);
         for (xid, branch) in self.named.iter() {
             if branch.client == client && branch.is_active {
@@ -98,11 +158,13 @@ impl Branches {
         Ok(found)
     }
 
-    /// The branches that nobody has touched since then.
-    pub fn untouched_since(&self, then: Instant) -> Result<Vec<Xid>, AllocError> {
+    /// The branches that nobody has touched since then: these, and no others.
+    pub fn untouched_since(&self, since: Instant) -> Result<Vec<Xid>, AllocError>
+        ensures { IfOk result (λ found. found.items ≡ names_of (is_untouched since) self.now.named.entries) }
+    {
         let mut found = Vec::new(self.alloc);
         for (xid, branch) in self.named.iter() {
-            if branch.touched <= then {
+            if is_by(branch.touched, since) {
                 found.push(*xid)?;
             }
         }

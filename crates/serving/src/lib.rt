@@ -5,9 +5,12 @@
 
 mod branches;
 mod lines;
+mod queue;
 mod replies;
 mod schedule;
 mod shortening;
+mod waiting;
+mod watched;
 mod watches;
 mod words;
 

@@ -1,4 +1,5 @@
-ghost use Rattle.std.specs.Prelude.{◌≡◌, ◌↔◌, ◌≤◌, ◌<◌, ◌*◌, IsTrue};
+ghost use Rattle.std.specs.Prelude.{◌≡◌, ◌↔◌, IsTrue};
+ghost use Rattle.serving.specs.Shortenings.{IsDue, IsMarked};
 
 /// A record of fewer bytes is left as it is.
 pub const LEAST_RECORD: u64 = 1 << 20;
@@ -20,7 +21,7 @@ impl Shortening {
 
     /// Whether a record of so many bytes is to be made shorter.
     pub fn is_due(&self, len: u64) -> bool
-        ensures { IsTrue result ↔ ((LEAST_RECORD ≤ len) × (2 * self.now.mark ≤ len)) }
+        ensures { IsTrue result ↔ IsDue self.now.mark len }
     {
         len >= LEAST_RECORD && len / 2 >= self.mark
     }
@@ -28,8 +29,7 @@ impl Shortening {
     /// It was made shorter, from so many bytes to so many. Where that gained less than a fifth, it is left until it has doubled from what
     /// it was before.
     pub fn note(&mut self, before: u64, after: u64)
-        ensures little { 4 * before < 5 * after → self.new.mark ≡ before }
-        ensures much { 5 * after ≤ 4 * before → self.new.mark ≡ after }
+        ensures { IsMarked before after self.new.mark }
     {
         let is_little = u128::from(before) * 4 < u128::from(after) * 5;
         self.mark = if is_little { before } else { after };

@@ -1,0 +1,4 @@
+pub mod NameLemmas
+pub mod QueueLemmas
+pub mod WaitLemmas
+pub mod WatchLemmas
