@@ -5,7 +5,7 @@ use crate::page::Page;
 use crate::stop::Stop;
 use crate::texts::unescaped;
 use crate::words;
-use cluster_file::{Cluster, ClusterError, Owner, digest, key_of, read_cluster};
+use cluster_file::{Cluster, ClusterError, Owner, Place, digest, key_of, read_cluster};
 use std::alloc::Global;
 
 /// Files of clusters, each a line behind others.
@@ -50,8 +50,17 @@ fn say_name(name: &Option<String>, page: &mut Page) -> Result<(), Stop> {
     }
 }
 
-/// A cluster: its sizes, whether it is bundled, its keys, its times and its digest.
-fn say(cluster: &Cluster, page: &mut Page) -> Result<(), Stop> {
+/// Where a node is found, and behind a comma where its clients come, if they may.
+fn say_place(alloc: Global, place: &Place, page: &mut Page) -> Result<(), Stop> {
+    let node = place.node;
+    match place.client {
+        Some(client) => page.word(format!(in alloc; "{node},{client}")?.as_bytes()),
+        None => page.word(format!(in alloc; "{node}")?.as_bytes()),
+    }
+}
+
+/// A cluster: its sizes, whether it is bundled, its keys, its times, its digest, and where its nodes are found.
+fn say(alloc: Global, cluster: &Cluster, page: &mut Page) -> Result<(), Stop> {
     let sizes = cluster.config.sizes();
     page.number(u64::from(sizes.acceptors))?;
     page.number(u64::from(sizes.leaders))?;
@@ -61,7 +70,11 @@ fn say(cluster: &Cluster, page: &mut Page) -> Result<(), Stop> {
     say_name(&cluster.client_key, page)?;
     page.number(u64::from(cluster.timing.ask))?;
     page.number(u64::from(cluster.timing.idle))?;
-    page.hex(&digest(&cluster.config))
+    page.hex(&digest(&cluster.config))?;
+    for place in &cluster.places {
+        say_place(alloc, place, page)?;
+    }
+    Ok(())
 }
 
 impl Part for Clusters<'_> {
@@ -74,7 +87,7 @@ impl Part for Clusters<'_> {
             return Err(Stop::Unread);
         };
         match read_cluster(alloc, text.as_str()) {
-            Ok(cluster) => say(&cluster, page)?,
+            Ok(cluster) => say(alloc, &cluster, page)?,
             Err(ClusterError::Memory) => return Err(Stop::Wanted),
             Err(error) => page.word(format!(in alloc; "{error}")?.as_bytes())?,
         }

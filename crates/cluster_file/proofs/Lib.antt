@@ -1,3 +1,10 @@
+pub mod AddressLemmas
+pub mod ApartLemmas
+pub mod ClusterLemmas
 pub mod Found
 pub mod KeyLemmas
+pub mod NodeLemmas
+pub mod Refusals
+pub mod RowLemmas
+pub mod SocketLemmas
 pub mod TextLemmas

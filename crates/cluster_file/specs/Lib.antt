@@ -1,4 +1,11 @@
+pub mod Addresses
+pub mod ClusterAt
 pub mod Clusters
 pub mod Keys
+pub mod Kinds
+pub mod Mistakes
+pub mod Nodes
 pub mod Reads
+pub mod Repeated
+pub mod Rows
 pub mod Texts

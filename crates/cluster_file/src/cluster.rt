@@ -1,9 +1,12 @@
-ghost use Rattle.std.specs.Prelude.{◌≡◌, ◌≤◌, Ok, Some, IfOk, false};
+ghost use Rattle.std.specs.Prelude.{◌≡◌, ◌≤◌, Ok, Some, IfOk, IfErr, OnOk, codes, false, is_some, option_map, IsTrue};
 ghost use Rattle.toml.specs.Data.{get_member, Members};
 ghost use Rattle.toml.specs.View.{table_view};
 ghost use Rattle.toml.specs.Parse.{parse_document};
 ghost use Rattle.cluster_file.specs.Clusters.{IsCluster, AreNodes};
-ghost use Rattle.cluster_file.specs.Reads.{text_of, name_bytes, IsRefused, SaysCluster};
+ghost use Rattle.cluster_file.specs.ClusterAt.{are_shared, cluster_at, cluster_behind, name_at, parts_at, timing_at, timing_in};
+ghost use Rattle.cluster_file.specs.ClusterAt.{said_of, IsNoCluster, IsNoTable};
+ghost use Rattle.cluster_file.specs.Mistakes.{IsRefused};
+ghost use Rattle.cluster_file.specs.Reads.{name_bytes};
 
 use crate::addresses::check_apart;
 use crate::error::{ClusterError, Fault, Kind};
@@ -62,7 +65,9 @@ const KEYS: [&str; 7] = [
 
 /// The name of a file at a key, if there is one.
 fn name_at(root: &Section<'_>, key: &str) -> Result<Option<String>, ClusterError>
-    ensures { IfOk result (λ name. text_of (get_member key.now (table_view root.now.table.now)) ≡ Ok (name_bytes name)) }
+    ensures ok { IfOk result (λ name.
+        name_at root.now.path.now key.now (table_view root.now.table.now) ≡ Ok (name_bytes name)) }
+    ensures err { IfErr result (IsRefused (name_at root.now.path.now key.now (table_view root.now.table.now))) }
 {
     match root.text(key)? {
         Some(name) => Ok(Some(String::from_str(root.alloc, name)?)),
@@ -71,25 +76,23 @@ fn name_at(root: &Section<'_>, key: &str) -> Result<Option<String>, ClusterError
 }
 
 /// Whether both keys have one name.
-fn are_shared(key: &Option<String>, client_key: &Option<String>) -> bool {
+fn are_shared(key: &Option<String>, client_key: &Option<String>) -> bool
+    ensures { result ≡ are_shared (name_bytes key.now) (name_bytes client_key.now) }
+{
     match (key, client_key) {
         (Some(key), Some(client_key)) => key.as_str() == client_key.as_str(),
         _ => false,
     }
 }
 
-/// How long nodes wait, as a table says it, or as they do where there is none.
-fn timing_of(root: &Section<'_>) -> Result<Timing, ClusterError>
-    ensures { IfOk result (λ timing. (1 ≤ timing.ask) × (timing.ask ≤ 60000)) }
+/// How long nodes wait, as a table says it.
+fn timing_in(alloc: Global, table: &Table) -> Result<Timing, ClusterError>
+    ensures asks { IfOk result (λ timing. (1 ≤ timing.ask) × (timing.ask ≤ 60000)) }
+    ensures ok { IfOk result (λ timing. timing_in (Some (table_view table.now)) ≡ Ok timing) }
+    ensures err { IfErr result (IsRefused (timing_in (Some (table_view table.now)))) }
 {
-    let Some(table) = root.inner("time")? else {
-        return Ok(Timing {
-            ask: 200,
-            idle: 60_000,
-        });
-    };
     let time = Section {
-        alloc: root.alloc,
+        alloc,
         path: "time.",
         table,
     };
@@ -99,10 +102,32 @@ fn timing_of(root: &Section<'_>) -> Result<Timing, ClusterError>
     Ok(Timing { ask, idle })
 }
 
+/// How long nodes wait, as a table says it, or as they do where there is none.
+fn timing_of(root: &Section<'_>) -> Result<Timing, ClusterError>
+    ensures asks { IfOk result (λ timing. (1 ≤ timing.ask) × (timing.ask ≤ 60000)) }
+    ensures ok { IfOk result (λ timing. timing_at root.now.path.now (table_view root.now.table.now) ≡ Ok timing) }
+    ensures err { IfErr result (IsRefused (timing_at root.now.path.now (table_view root.now.table.now))) }
+{
+    let Some(table) = root.inner("time")? else {
+        return Ok(Timing {
+            ask: 200,
+            idle: 60_000,
+        });
+    };
+    match timing_in(root.alloc, table) {
+        Ok(timing) => Ok(timing),
+        Err(error) => Err(error),
+    }
+}
+
 /// The nodes of a cluster: where they are found, and their sizes and tables.
 fn nodes_of(root: &Section<'_>, keyed: Keyed) -> Result<(Config, Vec<Place>), ClusterError>
     ensures nodes { IfOk result (λ found. AreNodes keyed.nodes keyed.clients found.0 found.1.items) }
     ensures plain { IfOk result (λ found. found.0.bundled ≡ false) }
+    ensures ok { IfOk result (λ found.
+        parts_at root.now.path.now keyed.nodes keyed.clients (table_view root.now.table.now) ≡ Ok (found.0, found.1.items)) }
+    ensures err { IfErr result
+        (IsRefused (parts_at root.now.path.now keyed.nodes keyed.clients (table_view root.now.table.now))) }
 {
     let mut places = Vec::new(root.alloc);
     let mut none = Vec::new(root.alloc);
@@ -120,7 +145,9 @@ fn nodes_of(root: &Section<'_>, keyed: Keyed) -> Result<(Config, Vec<Place>), Cl
 /// The cluster that a table says.
 fn cluster_of(root: &Section<'_>) -> Result<Cluster, ClusterError>
     ensures cluster { IfOk result IsCluster }
-    ensures says { IfOk result (SaysCluster (table_view root.now.table.now)) }
+    ensures ok { IfOk result (λ cluster.
+        cluster_behind root.now.path.now (table_view root.now.table.now) ≡ Ok (said_of cluster)) }
+    ensures err { IfErr result (IsRefused (cluster_behind root.now.path.now (table_view root.now.table.now))) }
 {
     root.check_keys(&KEYS)?;
     let bundled = root.flag("bundled")?;
@@ -158,7 +185,8 @@ fn line_of(text: &[u8], place: usize) -> usize {
 
 /// The table that a text says.
 fn table_of(alloc: Global, text: &str) -> Result<Table, ClusterError>
-    ensures { IfOk result (λ table. parse_document text.now ≡ Some (table_view table)) }
+    ensures ok { IfOk result (λ table. parse_document text.now ≡ Some (table_view table)) }
+    ensures err { IfErr result (IsNoTable text.now) }
 {
     match toml::table_from_str(alloc, text) {
         Ok(table) => Ok(table),
@@ -176,12 +204,21 @@ fn table_of(alloc: Global, text: &str) -> Result<Table, ClusterError>
 /// memory ran out (`Memory`).
 pub fn read_cluster(alloc: Global, text: &str) -> Result<Cluster, ClusterError>
     ensures cluster { IfOk result IsCluster }
-    ensures says { IfOk result (λ c. (members : Members) × (parse_document text.now ≡ Some members) × SaysCluster members c) }
+    ensures says { IfOk result (λ c. (members : Members) × (parse_document text.now ≡ Some members)
+        × (cluster_at members ≡ Ok (said_of c))) }
+    ensures err { IfErr result (IsNoCluster text.now) }
 {
-    let table = table_of(alloc, text)?;
-    cluster_of(&Section {
+    let table = match table_of(alloc, text) {
+        Ok(table) => table,
+        Err(error) => return Err(error),
+    };
+    let root = Section {
         alloc,
         path: "",
         table: &table,
-    })
+    };
+    match cluster_of(&root) {
+        Ok(cluster) => Ok(cluster),
+        Err(error) => Err(error),
+    }
 }

@@ -1,3 +1,7 @@
+ghost use Rattle.std.specs.Prelude.{◌≡◌, Some};
+ghost use Rattle.cluster_file.specs.declared.error.ClusterError.TheVariants.{Memory};
+ghost use Rattle.cluster_file.specs.Kinds.{kind_name, spot_key, spot_text};
+
 use std::alloc::{AllocError, AllocFailed};
 use std::fmt;
 use thiserror::Error;
@@ -15,7 +19,9 @@ pub enum Kind {
 
 impl Kind {
     /// The key of its nodes in the file.
-    pub fn name(self) -> &'static str {
+    pub fn name(self) -> &'static str
+        ensures { result.now ≡ kind_name self }
+    {
         match self {
             Kind::Acceptor => "acceptor",
             Kind::Leader => "leader",
@@ -37,14 +43,21 @@ pub struct Spot {
 
 impl Spot {
     /// Its key at its node.
-    pub fn key(&self) -> &'static str {
+    pub fn key(&self) -> &'static str
+        ensures { result.now ≡ spot_key self.now.client }
+    {
         if self.client { "client" } else { "node" }
     }
 }
 
 impl fmt::Display for Spot {
+    ghost output = { λ spot. Some (spot_text spot) };
+
     fn fmt<W: fmt::Write>(&self, f: &mut fmt::Formatter<W>) -> fmt::Result {
-        write!(f, "{}[{}].{}", self.kind.name(), self.index, self.key())
+        let kind = self.kind.name();
+        let index = self.index;
+        let key = self.key();
+        write!(f, "{kind}[{index}].{key}")
     }
 }
 
@@ -143,12 +156,16 @@ pub enum ClusterError {
 }
 
 impl From<AllocError> for ClusterError {
+    ghost from_gives = { λ _ e. e ≡ Memory };
+
     fn from(_error: AllocError) -> ClusterError {
         ClusterError::Memory
     }
 }
 
 impl<T: Drop> From<AllocFailed<T>> for ClusterError {
+    ghost from_gives = { λ _ e. e ≡ Memory };
+
     fn from(_error: AllocFailed<T>) -> ClusterError {
         ClusterError::Memory
     }
