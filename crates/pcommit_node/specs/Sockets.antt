@@ -1,9 +1,24 @@
--- What a socket makes of receives and sends.
-use Rattle.std.specs.Prelude.{◌≡◌, ℕ, List, Option, Result}
+-- Where a socket sends, and what it makes of receives and sends.
+use Rattle.std.specs.Prelude.{◌≡◌, ℕ, List, [], Option, None, Result, Err, slice_get}
+use Rattle.std.specs.Option.{option_and_then}
+use Rattle.std.specs.declared.net.socket_addr.SocketAddr.{SocketAddr}
 use Rattle.xid.specs.declared.refusals.Refusal.{Refusal}
+use Rattle.xid.specs.declared.refusals.Refusal.TheVariants.{PortFault}
 use Rattle.protocol.specs.declared.nodes.NodeId.{NodeId}
+use Rattle.protocol.specs.Worlds.{place}
+use Rattle.node_core.specs.Configs.{config_by}
+use Rattle.node_core.specs.declared.config.Sizes.{Sizes}
 use Rattle.port.specs.Ports.{faults_after}
 use Rattle.pcommit_node.specs.declared.socket.NodeSocket.{NodeSocket}
+
+-- the place to which a datagram to a node goes: the node's own, where acceptors come first, then leaders, then resource managers
+abbrev pub place_for : Sizes → List SocketAddr → NodeId → Option SocketAddr
+place_for sizes places receiver = option_and_then (slice_get places) (place (config_by sizes []) receiver)
+
+-- a socket finds the nodes of a cluster of these sizes at these places
+pub record BoundTo (sizes : Sizes) (places : List SocketAddr) (socket : NodeSocket) : Type 0 where
+  pub cluster : socket.sizes ≡ sizes
+  pub found : socket.places.items ≡ places
 
 -- its count
 abbrev pub socket_count : NodeSocket → ℕ
@@ -11,10 +26,13 @@ socket_count socket = socket.faults
 
 -- a receive leaves the places
 pub record SocketReceived (old new : NodeSocket) (taken : Result (Option (List ℕ)) Refusal) : Type 0 where
+  pub sizes : new.sizes ≡ old.sizes
   pub places : new.places ≡ old.places
   pub faults : new.faults ≡ faults_after old.faults taken
 
--- a send leaves them too
+-- a send leaves them too, and fails where the node has no place
 pub record SocketSent (old new : NodeSocket) (receiver : NodeId) (bytes : List ℕ) (result : Result (Unit {0}) Refusal) : Type 0 where
+  pub sizes : new.sizes ≡ old.sizes
   pub places : new.places ≡ old.places
   pub faults : new.faults ≡ faults_after old.faults result
+  pub lost : place_for old.sizes old.places.items receiver ≡ None → result ≡ Err PortFault

@@ -1,5 +1,8 @@
 //! The loop of a node: what its socket has, what its clients ask, and what time asks, group after group.
 
+ghost use Rattle.std.specs.Prelude.{◌≡◌, OnOk};
+ghost use Rattle.serving.specs.Shortenings.{IsDue, IsMarked};
+
 use crate::answering::{answer_all, answer_awaited};
 use crate::desk::Desk;
 use crate::failure::Failure;
@@ -149,13 +152,18 @@ pub(crate) fn record_len(rt: &HostRuntime, path: &str) -> Result<u64, Failure> {
     }
 }
 
-/// The record is made shorter, if it is time.
+/// The record is made shorter, if it is time: of so many bytes as it is known to have, and as many as its file has then.
 fn shorten(
     rt: &HostRuntime,
     node: &mut Node<FileRecord>,
     desk: &mut Desk,
     path: &str,
-) -> Result<(), Failure> {
+) -> Result<(), Failure>
+    ensures due { OnOk result (IsDue desk.old.shortening.mark desk.old.counts.record
+        → IsMarked desk.old.counts.record desk.new.counts.record desk.new.shortening.mark) }
+    ensures early { OnOk result ((IsDue desk.old.shortening.mark desk.old.counts.record → ⊥)
+        → (desk.new ≡ desk.old) × (node.new ≡ node.old)) }
+{
     let before = desk.counts.record;
     if !desk.shortening.is_due(before) {
         return Ok(());

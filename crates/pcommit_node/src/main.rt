@@ -2,6 +2,9 @@
 //! lines over TCP.
 #![tactic(auto)]
 
+ghost use Rattle.std.specs.Prelude.{◌≡◌, map, IfOk};
+ghost use Rattle.node_core.specs.Nodes.{AreSizes};
+
 mod answering;
 mod client;
 mod command;
@@ -44,7 +47,9 @@ use std::{env, io};
 use xid::Refusal;
 
 /// Where all nodes are found by each other.
-fn node_places(alloc: Global, setup: &Setup) -> Result<Vec<SocketAddr>, AllocError> {
+fn node_places(alloc: Global, setup: &Setup) -> Result<Vec<SocketAddr>, AllocError>
+    ensures { IfOk result (λ found. found.items ≡ map (λ place. place.node) setup.now.cluster.places.items) }
+{
     let mut found = Vec::new(alloc);
     for place in &setup.cluster.places {
         found.push(place.node)?;
@@ -65,7 +70,10 @@ fn address_fault(alloc: Global, at: SocketAddr, error: io::Error) -> Failure {
 }
 
 /// The node's socket for datagrams.
-fn bind(rt: &HostRuntime, poll: &Poll, setup: &Setup) -> Result<NodeSocket, Failure> {
+fn bind(rt: &HostRuntime, poll: &Poll, setup: &Setup) -> Result<NodeSocket, Failure>
+    ensures places { IfOk result (λ socket. socket.places.items ≡ map (λ place. place.node) setup.now.cluster.places.items) }
+    ensures sizes { IfOk result (λ socket. AreSizes setup.now.cluster.config socket.sizes) }
+{
     let places = node_places(rt.alloc(), setup)?;
     let (at, sizes) = (setup.place.node, setup.cluster.config.sizes());
     match NodeSocket::bind(rt, poll.registry(), DATAGRAMS, at, sizes, places) {

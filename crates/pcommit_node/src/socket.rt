@@ -1,7 +1,7 @@
-ghost use Rattle.std.specs.Prelude.{◌≡◌, ◌≤◌, ◌+◌, min, length, IfOk, IfSome};
+ghost use Rattle.std.specs.Prelude.{◌≡◌, ◌≤◌, ◌+◌, Some, min, length, IfOk, IfSome};
 ghost use Rattle.xid.specs.declared.refusals.Refusal.TheVariants.{PortFault};
 ghost use Rattle.stable_record.specs.Held.{IsCounted, most_faults};
-ghost use Rattle.pcommit_node.specs.Sockets.{socket_count};
+ghost use Rattle.pcommit_node.specs.Sockets.{place_for, socket_count, BoundTo};
 
 use mio::net::UdpSocket;
 use mio::{Interest, Registry, Token};
@@ -50,7 +50,9 @@ impl NodeSocket {
         at: SocketAddr,
         sizes: Sizes,
         places: Vec<SocketAddr>,
-    ) -> io::Result<NodeSocket> {
+    ) -> io::Result<NodeSocket>
+        ensures { IfOk result (BoundTo sizes places.items) }
+    {
         let mut socket = UdpSocket::bind(rt, at)?;
         registry.register(&mut socket, token, Interest::READABLE)?;
         Ok(NodeSocket {
@@ -72,6 +74,31 @@ impl NodeSocket {
         self.faults = self.faults.saturating_add(1);
         Refusal::PortFault
     }
+
+    /// Whether all bytes were sent, as one datagram, to the place of a node: to no other.
+    fn put(&self, _receiver: NodeId, place: SocketAddr, bytes: &[u8]) -> bool
+        requires { place_for self.now.sizes self.now.places.items _receiver ≡ Some place }
+    {
+        for _ in 0..u64::MAX {
+            match self.socket.send_to(bytes, place) {
+                Ok(len) => return len == bytes.len(),
+                Err(e) if e.kind() == ErrorKind::Interrupted => {}
+                Err(_) => return false,
+            }
+        }
+        false
+    }
+}
+
+/// The place to which a datagram to a node goes: the node's own among those of acceptors, then leaders, then resource managers. None where
+/// there is no such node.
+fn place_for(sizes: Sizes, places: &[SocketAddr], receiver: NodeId) -> Option<SocketAddr>
+    ensures { result ≡ place_for sizes places.now receiver }
+{
+    match place_of(sizes, receiver) {
+        Some(at) => places.get(at).copied(),
+        None => None,
+    }
 }
 
 /// Takes a datagram, if one is there, and answers how many bytes of it stand in the buffer.
@@ -87,18 +114,6 @@ fn take(socket: &UdpSocket, buffer: &mut [u8]) -> io::Result<Option<usize>>
         }
     }
     Ok(None)
-}
-
-/// Whether all bytes were sent, as one datagram.
-fn put(socket: &UdpSocket, bytes: &[u8], place: SocketAddr) -> bool {
-    for _ in 0..u64::MAX {
-        match socket.send_to(bytes, place) {
-            Ok(len) => return len == bytes.len(),
-            Err(e) if e.kind() == ErrorKind::Interrupted => {}
-            Err(_) => return false,
-        }
-    }
-    false
 }
 
 impl Carrier for NodeSocket {
@@ -122,13 +137,10 @@ impl Carrier for NodeSocket {
     }
 
     fn send(&mut self, receiver: NodeId, bytes: &[u8]) -> Result<(), Refusal> {
-        let Some(at) = place_of(self.sizes, receiver) else {
+        let Some(place) = place_for(self.sizes, &self.places, receiver) else {
             return Err(self.count());
         };
-        let Some(place) = self.places.get(at) else {
-            return Err(self.count());
-        };
-        if !put(&self.socket, bytes, *place) {
+        if !self.put(receiver, place, bytes) {
             return Err(self.count());
         }
         self.sent = self.sent.saturating_add(1);

@@ -1,7 +1,7 @@
-ghost use Rattle.std.specs.Prelude.{◌≡◌, ◌≤◌, ◌+◌, min, length, IfOk, IfErr, IfSome};
+ghost use Rattle.std.specs.Prelude.{◌≡◌, ◌≤◌, ◌+◌, Some, min, length, IfOk, IfErr, IfSome};
 ghost use Rattle.xid.specs.declared.refusals.Refusal.TheVariants.{PortFault};
 ghost use Rattle.stable_record.specs.Held.{IsCounted, most_faults};
-ghost use Rattle.port.specs.Addresses.{no_addresses};
+ghost use Rattle.port.specs.Addresses.{address_of, no_addresses};
 ghost use Rattle.port.specs.Ports.{udp_count};
 
 use crate::addresses::Addresses;
@@ -61,6 +61,20 @@ impl UdpPort {
         self.faults = self.faults.saturating_add(1);
         Refusal::PortFault
     }
+
+    /// Whether all bytes were sent, as one datagram, to the number on 127.0.0.1 at which a node is found: to no other.
+    fn put(&self, _receiver: NodeId, number: u16, bytes: &[u8]) -> bool
+        requires { address_of self.now.addresses _receiver ≡ Some number }
+    {
+        for _ in 0..u64::MAX {
+            match self.socket.send_to(bytes, (Ipv4Addr::LOCALHOST, number)) {
+                Ok(len) => return len == bytes.len(),
+                Err(e) if e.kind() == ErrorKind::Interrupted => {}
+                Err(_) => return false,
+            }
+        }
+        false
+    }
 }
 
 /// A socket that doesn't wait, and its number.
@@ -86,18 +100,6 @@ fn take(socket: &UdpSocket, buffer: &mut [u8]) -> io::Result<Option<usize>>
     Ok(None)
 }
 
-/// Whether all bytes were sent, as one datagram, to a number on 127.0.0.1.
-fn put(socket: &UdpSocket, bytes: &[u8], number: u16) -> bool {
-    for _ in 0..u64::MAX {
-        match socket.send_to(bytes, (Ipv4Addr::LOCALHOST, number)) {
-            Ok(len) => return len == bytes.len(),
-            Err(e) if e.kind() == ErrorKind::Interrupted => {}
-            Err(_) => return false,
-        }
-    }
-    false
-}
-
 impl Port for UdpPort {
     ghost use Rattle.port.specs.Ports.{udp_count, UdpReceived, UdpSent};
 
@@ -118,7 +120,7 @@ impl Port for UdpPort {
         let Some(number) = self.addresses.get(receiver) else {
             return Err(self.count());
         };
-        if !put(&self.socket, bytes, number) {
+        if !self.put(receiver, number, bytes) {
             return Err(self.count());
         }
         Ok(())
