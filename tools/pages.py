@@ -90,10 +90,11 @@ def missing_files(page):
 named, edits = named_edits()
 others = [crate for crate, _ in edits if (crate, _) not in named]
 rules, looking_back = count("tests/wrong-rules/*.rule"), count("tests/wrong-rules/*.rule", "crate: history")
+floored = count("tests/wrong-rules/*.rule", "crate: floors")
 # rules that are safe, and leave a transaction waiting
-safe = count("tests/wrong-rules/*.law", "progress")
-# rules that are safe, and tell a client wrongly
-told = count("tests/wrong-rules/*.law", "AnswersLaws")
+safe = count("tests/wrong-rules/*.law", "ProgressLaws")
+# rules that are safe, and tell a client wrongly, or commit nothing
+otherwise = count("tests/wrong-rules/*.law", "AnswersLaws") + count("tests/wrong-rules/*.law", "CommitsLaws")
 # a number, which stands as # in what follows
 NUMBER = rf"\b(\d[\d,]*|(?:{'|'.join(TENS)})(?:-[a-z]+)?|{'|'.join(ONES)})\b"
 FIGURES = [
@@ -103,8 +104,9 @@ FIGURES = [
     ("# that bear one of these names", len(named)), ("at most # a crate", max(map(others.count, others))),
     ("and # tests that are proved", sum(path.read_text(encoding="utf-8").count("#[test]") for path in ROOT.glob("crates/*/src/**/*.rt"))),
     ("some # calls of the codec", calls()),
-    ("tries # wrong rules", rules), ("# of the protocol, six of which", rules - looking_back),
-    ("and # ways to look back", looking_back), ("For # rules it is also proved", count("tests/wrong-rules/*.law") - safe - told),
+    ("tries # wrong rules", rules), ("# of the protocol, six of which", rules - looking_back - floored),
+    ("# ways to look back", looking_back), ("and # of floors", floored),
+    ("For # rules it is also proved", count("tests/wrong-rules/*.law") - safe - otherwise),
     ("The other # rules of the protocol are safe", safe),
     ("tells # of them", told_rules()),
     ("each append of # golden runs", len(constant("sweeps.py", "TORN_ROWS"))),

@@ -9,14 +9,15 @@ First the right definitions must be proved, and each run must be refused under t
 rule, its runs alone, with no lemma beside them, must be proved under the wrong definitions, which so elaborate; and a proof of
 crates/protocol or of crates/safety must be refused. The last line is 'N passed, M failed'.
 
-A rule with a line 'crate: history' is an edit of crates/history, which looks back wrongly: its run must be proved beside the proofs of that
-crate, and of these a lemma must be refused that is no worked run.
+A rule with a line 'crate: history' is an edit of crates/history, which looks back wrongly, and one with 'crate: floors' of crates/floors:
+its run must be proved beside the proofs of that crate, and of these a lemma must be refused that is no worked run.
 
 A rule with a line 'judge: progress' is safe, but a transaction may wait for ever: crates/safety must be proved under it, and
 crates/progress must be refused. One with 'judge: answers' is safe and waits for nothing, but a client is told wrongly: crates/safety and
-crates/progress must be proved under it, and crates/answers must be refused. Where the words of a proof of the former don't fit the rule,
-'proof:' is a file below crates, and the pairs after it are words that do. Its NAME.law stands beside the proofs of the judge, and proves
-that a clause of the judge's src/headline.rt is false.
+crates/progress must be proved under it, and crates/answers must be refused. Under one with 'judge: commits' nothing may ever commit, and
+crates/commits must be refused so. Where the words of a proof of the former don't fit the rule, 'proof:' is a file below crates, and the
+pairs after it are words that do. Its NAME.law stands beside the proofs of the judge, and proves that a clause of the judge's
+src/headline.rt is false.
 """
 import os
 import re
@@ -31,7 +32,7 @@ from queue import Queue
 
 HERE = os.path.dirname(os.path.realpath(__file__))
 ROOT = os.path.dirname(os.path.dirname(HERE))
-WORDS = ("RunWords", "BackWords", "LawWords", "StuckWords", "VainWords", "SilentWords")
+WORDS = ("RunWords", "BackWords", "FloorWords", "LawWords", "StuckWords", "VainWords", "SilentWords")
 DEFINITIONS = re.compile(r"Rattle\.(history|branch_table)\.specs\.(\w+)")
 RT = os.environ.get("RT", "rt").split()
 JOBS = int(os.environ.get("JOBS", "2"))
@@ -114,15 +115,16 @@ def law_modules():
 
 def crate_of(name):
     """The crate that a rule edits."""
-    return "history" if "crate: history" in read(f"{HERE}/{name}.rule").splitlines() else "protocol"
+    lines = read(f"{HERE}/{name}.rule").splitlines()
+    return next((crate for crate in ("history", "floors") if f"crate: {crate}" in lines), "protocol")
 
 
 def judge_of(name):
     """The crate whose laws are to refuse a rule: safety for those of the protocol that name none."""
     lines = read(f"{HERE}/{name}.rule").splitlines()
-    if "crate: history" in lines:
-        return "history"
-    return next((judge for judge in ("progress", "answers") if f"judge: {judge}" in lines), "safety")
+    if crate_of(name) != "protocol":
+        return crate_of(name)
+    return next((judge for judge in ("progress", "answers", "commits") if f"judge: {judge}" in lines), "safety")
 
 
 def parse_rule(name):
@@ -185,19 +187,22 @@ class Copy:
 class BackScratch(Copy):
     """A copy of the crates for rules of looking back."""
 
+    crate = "history"
+    words = "BackWords"
+
     def __init__(self, folder, source):
-        super().__init__(folder, source, "history")
-        self.history = f"{folder}/crates/history"
-        self.modules = read(f"{self.history}/proofs/Lib.antt")
+        super().__init__(folder, source, self.crate)
+        self.judge = f"{folder}/crates/{self.crate}"
+        self.modules = read(f"{self.judge}/proofs/Lib.antt")
 
     def check(self, runs):
-        """Checks history with these runs, texts by module, beside its proofs."""
-        written = {"BackWords": run_of("BackWords"), **runs}
-        proofs = f"{self.history}/proofs"
+        """Checks the crate with these runs, texts by module, beside its proofs."""
+        written = {self.words: run_of(self.words), **runs}
+        proofs = f"{self.judge}/proofs"
         for name, text in written.items():
             write(f"{proofs}/{name}.antt", text)
         write(f"{proofs}/Lib.antt", self.modules + "".join(f"pub mod {name}\n" for name in written))
-        checked = Check(self.history)
+        checked = Check(self.judge)
         for name in written:
             os.remove(f"{proofs}/{name}.antt")
         return checked
@@ -213,11 +218,18 @@ class BackScratch(Copy):
         laws = [error for error in check.errors if not error[0].endswith("WorkedRuns.antt")]
         if not laws:
             raise BadRule("no law refuses it")
-        return f"history {check.lemma_at(*laws[0])}"
+        return f"{self.crate} {check.lemma_at(*laws[0])}"
 
     def try_right_rules(self, names):
         """Proves the right definitions, and says of which rules the run is not refused under them."""
         return unrefused(self.check({module: text for name in names for module, text in runs_of(name).items()}), names)
+
+
+class FloorScratch(BackScratch):
+    """A copy of the crates for rules of floors."""
+
+    crate = "floors"
+    words = "FloorWords"
 
 
 class Scratch(Copy):
@@ -374,8 +386,14 @@ class StuckScratch(Scratch):
 
 
 class ToldScratch(StuckScratch):
-    """A copy of the crates for rules of the protocol that are safe and wait for nothing."""
+    """A copy of the crates for rules of the protocol that are safe and wait for nothing, but tell clients what isn't so."""
     top = "answers"
+    below = ("safety", "progress")
+
+
+class VainScratch(StuckScratch):
+    """A copy of the crates for rules of the protocol that are safe and wait for nothing, but commit nothing."""
+    top = "commits"
     below = ("safety", "progress")
 
 
@@ -426,7 +444,8 @@ def main():
         sys.exit(f"runs without a rule: {', '.join(sorted(strays))}")
     names = sys.argv[1:] or sorted(rules)
     passed = []
-    for kind, judge in ((Scratch, "safety"), (StuckScratch, "progress"), (ToldScratch, "answers"), (BackScratch, "history")):
+    for kind, judge in ((Scratch, "safety"), (StuckScratch, "progress"), (ToldScratch, "answers"), (VainScratch, "commits"),
+                        (BackScratch, "history"), (FloorScratch, "floors")):
         if judged := [name for name in names if judge_of(name) == judge]:
             with tempfile.TemporaryDirectory() as folder:
                 first = kind(f"{folder}/0", ROOT)
