@@ -106,10 +106,11 @@ happens_on world tx (Deliver n) =
     option_and_then (λ d. if tx_eq tx (message_tx d.message) then Some d.receiver else None) (datagram_at world.net n)
 happens_on world tx event = None
 
--- the world after an event of the machine that no fault meets, and after several
+-- the world after an event of the machine that no fault meets
 abbrev pub floored_next : Config → FlooredWorld → Event → FlooredWorld
 floored_next config world event = (floored_step config world (Machine event) NoFault).world
 
+-- the world after several such events
 abbrev pub floored_after : Config → FlooredWorld → List Event → FlooredWorld
 floored_after config world [] = world
 floored_after config world (event ∷ rest) = floored_after config (floored_next config world event) rest
