@@ -63,7 +63,7 @@ class Check:
         named = re.match(r"`([^`]+)`: ", text)
         above = read(f"{self.crate}/{file}").splitlines()[:int(line)]
         heads = re.findall(r"^ *(?:pub )?([\w-]+) .*[:=] ", "\n".join(line for line in above if "--" not in line), re.MULTILINE)
-        return f"{file[len('proofs/'):-len('.antt')]}: {named[1] if named else heads[-1]}"
+        return f"{file[len('proofs/'):-len('.antt')]}: {named[1] if named else heads[-1] if heads else 'its head'}"
 
 
 def read(file):
