@@ -2,8 +2,8 @@
 """Runs the built program on scripts made of those in tests/golden: a vote torn after each number of bytes; each append of whole runs torn
 after each number of bytes; records made shorter after each event; and, before and after each event, lines that are refused: its call with
 wrong lengths, of a branch that isn't there or once more, and every event at a node that isn't there. Then over record files: frames of both
-versions in every mixture, with a tail, cut at each byte, and what is no record; and a trace that is cut at each byte. `tests/sweeps.py [PROGRAM]`. The last line is 'N passed, M
-failed'."""
+versions in every mixture, with a tail, cut at each byte, and what is no record; and a trace that is cut at each byte.
+`tests/sweeps.py [PROGRAM]`. The last line is 'N passed, M failed'."""
 import itertools
 import os
 import re

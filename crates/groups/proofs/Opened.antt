@@ -160,8 +160,10 @@ module _ (config : Config) (who : NodeId) (before : NodeParts) (m : NodeState) (
       role_says role h =
           subst (λ facts. RoleStands config who role facts empty_memory) (append-nil m.facts)
           (says.stands [] role empty_memory
-          (subst (λ facts. RoleStands (begun config who before.rows o.kept.rows) who role facts empty_memory) (sym (append-nil o.kept.facts))
-          (stands_begun config who before.rows o.kept.rows o.held.all o.kept.facts o.held.means s.rows_are role o.kept.facts empty_memory h)))
+          (subst (λ facts. RoleStands (begun config who before.rows o.kept.rows) who role facts empty_memory)
+          (sym (append-nil o.kept.facts))
+          (stands_begun config who before.rows o.kept.rows o.held.all o.kept.facts o.held.means s.rows_are role o.kept.facts
+          empty_memory h)))
 
       abbrev up : NodeState
       up = record { facts = m.facts; up = true; tear = held.armed; memory = empty_memory }
