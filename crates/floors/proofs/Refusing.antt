@@ -3,7 +3,7 @@ use Rattle.std.proofs.Common.{◌≡◌, ◌≢◌, ◌∙◌, ℕ, Bool, true, 
 use Rattle.std.proofs.lemmas.Bool.{cond-true, and_from}
 use Rattle.xid.specs.Names.{XidParts}
 use Rattle.xid.specs.declared.codes.XaCode.TheVariants.{DupId, Nota}
-use Rattle.xid.specs.declared.refusals.Refusal.TheVariants.{NoSuch}
+use Rattle.xid.specs.declared.refusals.Refusal.TheVariants.{NoSuch, Forgotten}
 use Rattle.protocol.specs.declared.requests.Request.{Request}
 use Rattle.protocol.specs.declared.requests.Request.TheVariants as requests
 use Rattle.safety.specs.Words.{NodeId, R, Action, Start, Put, Del, Get, End, EndFail, Rollback, Code, Refused}
@@ -11,7 +11,6 @@ use Rattle.protocol.specs.Effects.{Config}
 use Rattle.protocol.specs.Nodes.{NodeState, Input, Asked, Fault, Outcome, accepts_input, accepts_request, node_step, answer_outcome}
 use Rattle.protocol.specs.Nodes.{down_answer}
 use Rattle.floors.specs.Places.{Place, is_xid_below}
-use Rattle.floors.specs.Refusals.{forgotten}
 use Rattle.floors.specs.Nodes.{floored_node_step, forgotten_answer, is_passed_over, is_input_below, is_request_below}
 use Rattle.floors.proofs.Nodes.{floored_is, ended}
 
@@ -63,7 +62,7 @@ module _ (config : Config) (rm : ℕ) (floor : Option Place) (node : NodeState) 
       ∙ other_call action other
 
 other_request : (request : Request) → ((x : XidParts) (action : Action) → request ≢ requests.Call x action)
-    → forgotten_answer (Asked request) ≡ Refused forgotten
+    → forgotten_answer (Asked request) ≡ Refused Forgotten
 other_request (requests.Call x action) other = absurd (other x action refl)
 other_request requests.Recover other = refl
 other_request (requests.View tx) other = refl
@@ -74,6 +73,6 @@ other_request (requests.Timeout tx) other = refl
 pub request_refused : (config : Config) (who : NodeId) (floor : Option Place) (node : NodeState) (request : Request) (fault : Fault)
     → node.up ≡ true → accepts_request who request ≡ true → is_request_below floor request ≡ true
     → ((x : XidParts) (action : Action) → request ≢ requests.Call x action)
-    → (floored_node_step config who floor node (Asked request) fault).answer ≡ Refused forgotten
+    → (floored_node_step config who floor node (Asked request) fault).answer ≡ Refused Forgotten
 request_refused config who floor node request fault up takes below other =
     ap (λ (o : Outcome). o.answer) (passed_is config who floor node (Asked request) fault takes up below) ∙ other_request request other

@@ -6,7 +6,7 @@ use Rattle.std.specs.Prelude.{slice_get}
 use Rattle.std.specs.Option.{option_map_or}
 use Rattle.std.specs.List.{flat_map}
 use Rattle.std.proofs.lemmas.Bool.{cond-true, cond-false}
-use Rattle.xid.specs.declared.refusals.Refusal.TheVariants.{NoSuch, Down, Busy}
+use Rattle.xid.specs.declared.refusals.Refusal.TheVariants.{NoSuch, Down, Busy, InUse}
 use Rattle.safety.specs.Words.{NodeId, A, L, R, Outgoing, Done, Refused, Event, Ask, Deliver, Lose, Restart}
 use Rattle.safety.specs.Words.{Compact}
 use Rattle.protocol.specs.declared.requests.Request.{Request}
@@ -18,7 +18,6 @@ use Rattle.protocol.specs.Worlds.{World, Datagram, StepResult, answer_result, if
 use Rattle.protocol.specs.Worlds.{datagrams_of}
 use Rattle.protocol.specs.Worlds.{outcome_result, at_node, dispatch, world_step, world_after}
 use Rattle.floors.specs.Places.{Place, is_lower}
-use Rattle.floors.specs.Refusals.{in_use}
 use Rattle.floors.specs.Nodes.{floored_node_step, is_passed_over, forgotten_answer, is_free_below, risen, on_raise, on_least, kept_rise}
 use Rattle.protocol.specs.Nodes.{ReceivedNoise, accepts_input}
 use Rattle.floors.specs.Nodes.{is_input_below, may_replace}
@@ -224,7 +223,7 @@ module _ (config : Config) (world : FlooredWorld) (fault : Fault) where
               told = with_entry world.told who nothing_told;
               is_replaced = with_entry world.is_replaced who true;
             }) left.answer
-            else floored_answer world (Refused in_use)).world.machine
+            else floored_answer world (Refused InUse)).world.machine
             ≡ (if t then restarted who (Some node) else world.machine)
         by_test true = sym (silent_result config world.machine who node left (restart_silent config who node fault))
         by_test false = refl

@@ -1,5 +1,4 @@
 pub mod Places
-pub mod Refusals
 pub mod Nodes
 pub mod Worlds
 pub mod Runs

@@ -2,7 +2,7 @@
 use Rattle.std.specs.Prelude.{Bool, false, not, ◌&&◌, if◌then◌else◌, List, filter, Option, Some, None}
 use Rattle.std.specs.List.{list_all}
 use Rattle.xid.specs.declared.codes.XaCode.TheVariants.{DupId, Nota}
-use Rattle.xid.specs.declared.refusals.Refusal.TheVariants.{NoSuch, Down, Busy}
+use Rattle.xid.specs.declared.refusals.Refusal.TheVariants.{NoSuch, Down, Busy, Forgotten}
 use Rattle.wire.specs.Messages.{message_tx}
 use Rattle.stable_record.specs.Facts.{fact_tx}
 use Rattle.protocol.specs.declared.requests.Request.{Request}
@@ -13,7 +13,6 @@ use Rattle.protocol.specs.Facts.{bound_branches}
 use Rattle.protocol.specs.Nodes.{NodeState, Input, Asked, Received, ReceivedNoise, Fault, NoMemoryAt, RecordFails, Outcome}
 use Rattle.protocol.specs.Nodes.{accepts_input, effect_of, answer_outcome, effect_outcome, down_answer, compact_outcome}
 use Rattle.floors.specs.Places.{Place, is_lower, is_below, is_xid_below}
-use Rattle.floors.specs.Refusals.{forgotten}
 
 -- ---- inputs
 
@@ -37,7 +36,7 @@ is_input_below floor ReceivedNoise = false
 abbrev pub forgotten_answer : Input → Answer
 forgotten_answer (Asked (requests.Call x Start)) = Code DupId
 forgotten_answer (Asked (requests.Call x action)) = Code Nota
-forgotten_answer (Asked request) = Refused forgotten
+forgotten_answer (Asked request) = Refused Forgotten
 forgotten_answer input = Done
 
 -- one input at a node: what its kind doesn't take, then a node that is down, then what is below its floor, then the rules

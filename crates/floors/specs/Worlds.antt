@@ -1,14 +1,13 @@
 -- Worlds with floors, and one event in them.
 use Rattle.std.specs.Prelude.{ℕ, Bool, true, false, ◌==◌, if◌then◌else◌, List, [], ◌∷◌, ◌++◌, map, slice_get, Option, Some, None}
 use Rattle.std.specs.List.{range_with_len}
-use Rattle.xid.specs.declared.refusals.Refusal.TheVariants.{NoMemory, NoSuch, Down}
+use Rattle.xid.specs.declared.refusals.Refusal.TheVariants.{NoMemory, NoSuch, Down, InUse}
 use Rattle.safety.specs.Words.{NodeId, A, L, R, Answer, Done, Refused, Event, Ask, Deliver, Restart, Change}
 use Rattle.protocol.specs.Effects.{Config}
 use Rattle.protocol.specs.Nodes.{NodeState, Input, Asked, Received, Fault, NoMemoryBefore, restart_outcome}
 use Rattle.protocol.specs.Worlds.{World, Datagram, StepResult, if_found, datagram_at, with_mark, node_at, set_node}
 use Rattle.protocol.specs.Worlds.{outcome_result, dispatch}
 use Rattle.floors.specs.Places.{Place, is_lower}
-use Rattle.floors.specs.Refusals.{in_use}
 use Rattle.floors.specs.Nodes.{Rise, floored_node_step, on_raise, on_least, may_replace}
 
 -- ---- worlds
@@ -206,7 +205,7 @@ replace_result config world who place fault node =
       told = with_entry world.told who nothing_told;
       is_replaced = with_entry world.is_replaced who true;
     }) left.answer
-    else floored_answer world (Refused in_use)
+    else floored_answer world (Refused InUse)
 
 -- an acceptor or a leader is replaced; a resource manager can't be, as its table is its own
 abbrev pub replace_at : Config → FlooredWorld → NodeId → Place → Fault → FlooredResult

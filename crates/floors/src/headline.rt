@@ -14,7 +14,7 @@ ghost use Rattle.protocol.specs.Managers.{Branch};
 ghost use Rattle.protocol.specs.Nodes.{NodeState, Input, Asked, Fault, NoFault, accepts_request, node_step, answer_outcome};
 ghost use Rattle.protocol.specs.Worlds.{node_at};
 ghost use Rattle.floors.specs.Places.{Place, is_below, is_lower, is_xid_below};
-ghost use Rattle.floors.specs.Refusals.{forgotten};
+ghost use Rattle.xid.specs.declared.refusals.Refusal.TheVariants.{Forgotten};
 ghost use Rattle.floors.specs.Nodes.{floored_node_step, forgotten_answer, is_free_below, is_input_below, is_passed_over, is_request_below};
 ghost use Rattle.floors.specs.Worlds.{FlooredWorld, FlooredEvent, Notice, Raise, Hear, floored_step, is_manager, least_told, told_nodes};
 ghost use Rattle.floors.specs.Worlds.{told_with};
@@ -41,7 +41,7 @@ pub fn below_is_refused()
     ensures request { (config : Config) (who : NodeId) (floor : Option Place) (node : NodeState) (request : Request) (fault : Fault)
         → node.up ≡ true → accepts_request who request ≡ true → is_request_below floor request ≡ true
         → ((x : XidParts) (action : Action) → request ≢ Call x action)
-        → (floored_node_step config who floor node (Asked request) fault).answer ≡ Refused forgotten }
+        → (floored_node_step config who floor node (Asked request) fault).answer ≡ Refused Forgotten }
     ensures silent { (config : Config) (who : NodeId) (floor : Option Place) (node : NodeState) (input : Input) (fault : Fault)
         → is_input_below floor input ≡ true → (floored_node_step config who floor node input fault).sends ≡ [] }
 {}

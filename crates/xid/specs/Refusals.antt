@@ -3,6 +3,7 @@ use Rattle.std.specs.Prelude.{ℕ}
 use Rattle.xid.specs.declared.refusals.Refusal.{Refusal}
 use Rattle.xid.specs.declared.refusals.Refusal.TheVariants.{BadXid, BadTx, BadMessage, Damaged, RecordFault, NoBallot, BadScript, Down}
 use Rattle.xid.specs.declared.refusals.Refusal.TheVariants.{Busy, Full, NoMemory, PortFault, BadConfig, Forged, NoSuch, FileFault}
+use Rattle.xid.specs.declared.refusals.Refusal.TheVariants.{Forgotten, InUse}
 
 -- a refusal's number, which is printed
 abbrev pub number_of : Refusal → ℕ
@@ -22,3 +23,5 @@ number_of BadConfig = 13
 number_of Forged = 14
 number_of NoSuch = 15
 number_of FileFault = 16
+number_of Forgotten = 17
+number_of InUse = 18

@@ -59,10 +59,16 @@ pub enum Refusal {
     /// 16: a file can't be opened, read or written.
     #[error("refused 16")]
     FileFault,
+    /// 17: the transaction is below the node's floor, which knows nothing of it any more. Nothing changed.
+    #[error("refused 17")]
+    Forgotten,
+    /// 18: the node has stored something about a name at or above the floor that was asked for. Nothing changed.
+    #[error("refused 18")]
+    InUse,
 }
 
 impl Refusal {
-    /// The number that is printed, 1 to 16.
+    /// The number that is printed, 1 to 18.
     pub fn number(self) -> u8
         ensures { result ≡ number_of self }
     {
@@ -83,6 +89,8 @@ impl Refusal {
             Refusal::Forged => 14,
             Refusal::NoSuch => 15,
             Refusal::FileFault => 16,
+            Refusal::Forgotten => 17,
+            Refusal::InUse => 18,
         }
     }
 }
