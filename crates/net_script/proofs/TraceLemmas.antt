@@ -1,8 +1,9 @@
 -- The line of a datagram by its bytes, and texts put one after another: for the writers of traces.
 use Rattle.std.proofs.Common.{◌≡◌, ◌≢◌, ℕ, List, [], ◌++◌, refl, sym, ap, ◌∙◌}
-use Rattle.std.proofs.Common.{Option, Some, None, Result, Ok, Err, OnOk, IfErr}
+use Rattle.std.proofs.Common.{Option, Some, None, Result, Ok, Err, OnOk, OnErr, IfErr}
 use Rattle.std.specs.Option.{option_map_or}
 use Rattle.std.proofs.lemmas.List.{append-nil, append_assoc}
+use Rattle.xid.specs.Text.{Extends}
 use Rattle.xid.specs.declared.refusals.Refusal.{Refusal}
 use Rattle.wire.specs.declared.message.Kind.{Kind}
 use Rattle.wire.specs.Decoding.{message_at}
@@ -56,6 +57,28 @@ pub puts_after : {X : Type 0} (r : Result X Refusal) (old mid new front text : L
     → Puts old new r (front ++ text)
 puts_after (Ok x) old mid new front text before put = put ∙ ap (λ (l : List ℕ). l ++ text) before ∙ append_assoc old front text
 puts_after (Err e) old mid new front text before put = put
+
+-- what stands behind a text, and more
+pub onward : (old mid new front more : List ℕ) → mid ≡ old ++ front → new ≡ mid ++ more → new ≡ old ++ (front ++ more)
+onward old mid new front more before then = then ∙ ap (λ (l : List ℕ). l ++ more) before ∙ append_assoc old front more
+
+-- what stands behind a text keeps it
+pub kept_so : {X : Type 0} (r : Result X Refusal) (old new front : List ℕ) → new ≡ old ++ front → OnErr r (Extends old new)
+kept_so (Ok x) old new front is = tt
+kept_so (Err e) old new front is = record { more = front; is = is }
+
+-- and so does what begins with it
+pub kept_behind : {X : Type 0} (r : Result X Refusal) (old mid new front : List ℕ) → mid ≡ old ++ front → Extends mid new
+    → OnErr r (Extends old new)
+kept_behind r old mid new front before kept = kept_so r old new (front ++ kept.more) (onward old mid new front kept.more before kept.is)
+
+pub kept_on : {X : Type 0} (r : Result X Refusal) (old mid new front : List ℕ) → mid ≡ old ++ front → OnErr r (Extends mid new)
+    → OnErr r (Extends old new)
+kept_on (Ok x) old mid new front before kept = tt
+kept_on (Err e) old mid new front before kept = record {
+  more = front ++ kept.more;
+  is = onward old mid new front kept.more before kept.is;
+}
 
 -- the text that is kept with a transaction's spelling
 pub text_again : (spelled text : List ℕ) (tx : TxParts) → IsTx tx → (IsSpelled spelled → text ≡ tx_text (tx_spelled spelled))

@@ -1,6 +1,7 @@
 //! What came of events: answers, written and read, and changed views and datagrams, written.
 
-ghost use Rattle.std.specs.Prelude.{◌≡◌, ◌++◌, IfErr, OnOk, ◌≢◌, ◌∷◌, true, MatchOption};
+ghost use Rattle.std.specs.Prelude.{◌≡◌, ◌++◌, IfErr, OnOk, ◌≢◌, ◌∷◌, true, MatchOption, OnErr};
+ghost use Rattle.xid.specs.Text.{Extends};
 ghost use Rattle.net_script.specs.Basics.{NoMemory, Refusal, XaCode, Standing, View, number_of};
 ghost use Rattle.net_script.specs.Answers.{standing_text, view_text, answer_words, IsTold, IsAnswer, code_text};
 ghost use Rattle.net_script.specs.Traces.{spaced_words, change_text, datagram_line, sent_line};
@@ -46,10 +47,11 @@ fn view_word(view: View) -> &'static [u8]
     }
 }
 
-/// The words of an answer.
+/// The words of an answer. The only refusal is `NoMemory`, and then what stood in `out` still begins it.
 pub fn put_answer(out: &mut Vec<u8>, answer: &Answer) -> Result<(), Refusal>
     ensures ok { OnOk result (out.new.items ≡ out.old.items ++ spaced_words (answer_words answer.now)) }
     ensures err { IfErr result (λ e. e ≡ NoMemory) }
+    ensures kept { OnErr result (Extends out.old.items out.new.items) }
 {
     match answer {
         Answer::Done => put_word(out, b"ok"),
@@ -83,7 +85,8 @@ pub(crate) fn put_change(
     written: &mut WrittenTx,
     now: &Option<Change>,
 ) -> Result<(), Refusal>
-    ensures { Puts out.old.items out.new.items result (change_text now.now) }
+    ensures puts { Puts out.old.items out.new.items result (change_text now.now) }
+    ensures kept { OnErr result (Extends out.old.items out.new.items) }
 {
     let Some(change) = now else {
         return Ok(());
@@ -106,8 +109,9 @@ fn put_seen(
     receiver: NodeId,
     message: &MessageView<'_>,
 ) -> Result<(), Refusal>
-    ensures { Puts out.old.items out.new.items result
+    ensures puts { Puts out.old.items out.new.items result
         (sent_line (record { number = number; sender = sender; receiver = receiver; message = message.now })) }
+    ensures kept { OnErr result (Extends out.old.items out.new.items) }
 {
     out.extend_from_slice(b"sent")?;
     put_number(out, number)?;
@@ -120,7 +124,7 @@ fn put_seen(
 
 /// Writes the line of a datagram that was sent, by its number, its sender, its receiver and the bytes that spell its message, after what
 /// stands in `out`; nothing, where they spell none. The text of the transaction that was written last isn't made again. The only refusal
-/// is `NoMemory`, and then what is new in `out` is no whole line.
+/// is `NoMemory`, and then what stood in `out` still begins it, and what is new there is no whole line.
 pub fn write_datagram(
     out: &mut Vec<u8>,
     written: &mut WrittenTx,
@@ -131,6 +135,7 @@ pub fn write_datagram(
 ) -> Result<(), Refusal>
     ensures ok { OnOk result (out.new.items ≡ out.old.items ++ datagram_line number sender receiver bytes.now) }
     ensures err { IfErr result (λ e. e ≡ NoMemory) }
+    ensures kept { OnErr result (Extends out.old.items out.new.items) }
 {
     match &view_of(bytes) {
         Ok(message) => put_seen(out, written, number, sender, receiver, message),
@@ -144,7 +149,8 @@ pub(crate) fn put_sent(
     written: &mut WrittenTx,
     sent: &Sent,
 ) -> Result<(), Refusal>
-    ensures { Puts out.old.items out.new.items result (sent_line sent.now) }
+    ensures puts { Puts out.old.items out.new.items result (sent_line sent.now) }
+    ensures kept { OnErr result (Extends out.old.items out.new.items) }
 {
     let mut buffer = [0; MAX_DATAGRAM];
     let _ = sent.message.kind();

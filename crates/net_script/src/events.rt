@@ -1,6 +1,7 @@
 //! Events, read and written, and what else a script asks for.
 
-ghost use Rattle.std.specs.Prelude.{◌≡◌, ◌∷◌, false, true};
+ghost use Rattle.std.specs.Prelude.{◌≡◌, ◌∷◌, false, true, OnErr};
+ghost use Rattle.xid.specs.Text.{Extends};
 ghost use Rattle.net_script.specs.Basics.{R, Ask, Call};
 ghost use Rattle.net_script.specs.Lines.{Reads, words};
 ghost use Rattle.net_script.specs.Spelling.{Finds};
@@ -173,7 +174,8 @@ fn action_word(action: &Action) -> &'static [u8]
 
 /// The words of a call after its XID.
 fn put_action(out: &mut Vec<u8>, action: &Action) -> Result<(), Refusal>
-    ensures { Puts out.old.items out.new.items result (spaced_words (action_words action.now)) }
+    ensures puts { Puts out.old.items out.new.items result (spaced_words (action_words action.now)) }
+    ensures kept { OnErr result (Extends out.old.items out.new.items) }
 {
     match action {
         Action::Start | Action::End | Action::Rollback => Ok(()),
@@ -202,7 +204,8 @@ fn request_word(request: &Request) -> &'static [u8]
 
 /// The words of a request after its node.
 fn put_request(out: &mut Vec<u8>, request: &Request) -> Result<(), Refusal>
-    ensures { Puts out.old.items out.new.items result (spaced_words (request_args request.now)) }
+    ensures puts { Puts out.old.items out.new.items result (spaced_words (request_args request.now)) }
+    ensures kept { OnErr result (Extends out.old.items out.new.items) }
 {
     match request {
         Request::Call { xid, action } => {
@@ -235,7 +238,8 @@ pub(crate) fn event_word(event: &Event) -> &'static [u8]
 
 /// The words of an event after its first.
 pub(crate) fn put_event_args(out: &mut Vec<u8>, event: &Event) -> Result<(), Refusal>
-    ensures { Puts out.old.items out.new.items result (spaced_words (event_args event.now)) }
+    ensures puts { Puts out.old.items out.new.items result (spaced_words (event_args event.now)) }
+    ensures kept { OnErr result (Extends out.old.items out.new.items) }
 {
     match event {
         Event::Ask { node, request } => {

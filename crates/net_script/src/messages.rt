@@ -1,6 +1,7 @@
 //! Messages, as a trace prints them.
 
-ghost use Rattle.std.specs.Prelude.{◌≡◌, ◌∷◌, map};
+ghost use Rattle.std.specs.Prelude.{◌≡◌, ◌∷◌, map, OnErr};
+ghost use Rattle.xid.specs.Text.{Extends};
 ghost use Rattle.xid.specs.Transactions.{TxParts};
 ghost use Rattle.wire.specs.Messages.{IsMessage};
 ghost use Rattle.wire.specs.Said.{said};
@@ -27,7 +28,8 @@ fn vote_word(vote: Vote) -> &'static [u8]
 
 /// A report of phase 1b.
 fn put_report(out: &mut Vec<u8>, report: Option<(Ballot, Vote)>) -> Result<(), Refusal>
-    ensures { Puts out.old.items out.new.items result (spaced_words (report_words report)) }
+    ensures puts { Puts out.old.items out.new.items result (spaced_words (report_words report)) }
+    ensures kept { OnErr result (Extends out.old.items out.new.items) }
 {
     let Some((ballot, vote)) = report else {
         return put_word(out, b"none");
@@ -38,7 +40,8 @@ fn put_report(out: &mut Vec<u8>, report: Option<(Ballot, Vote)>) -> Result<(), R
 
 /// An instance and a ballot.
 fn put_ballot(out: &mut Vec<u8>, rm: ManagerNumber, ballot: Ballot) -> Result<(), Refusal>
-    ensures { Puts out.old.items out.new.items result (spaced_words (ballot_words rm ballot)) }
+    ensures puts { Puts out.old.items out.new.items result (spaced_words (ballot_words rm ballot)) }
+    ensures kept { OnErr result (Extends out.old.items out.new.items) }
 {
     put_manager(out, u32::from(rm))?;
     put_number(out, ballot)
@@ -46,7 +49,8 @@ fn put_ballot(out: &mut Vec<u8>, rm: ManagerNumber, ballot: Ballot) -> Result<()
 
 /// A colon, and the ballot and the vote of an item.
 fn put_accepted(out: &mut Vec<u8>, ballot: Ballot, vote: Vote) -> Result<(), Refusal>
-    ensures { Puts out.old.items out.new.items result (58 ∷ accepted_text ballot vote) }
+    ensures puts { Puts out.old.items out.new.items result (58 ∷ accepted_text ballot vote) }
+    ensures kept { OnErr result (Extends out.old.items out.new.items) }
 {
     out.push(b':')?;
     text::put_number(ballot, out)?;
@@ -57,7 +61,8 @@ fn put_accepted(out: &mut Vec<u8>, ballot: Ballot, vote: Vote) -> Result<(), Ref
 
 /// The items of phase 1b.
 fn put_reports(out: &mut Vec<u8>, reports: &[InstanceReport]) -> Result<(), Refusal>
-    ensures { Puts out.old.items out.new.items result (spaced_words (map report_item_text reports.now)) }
+    ensures puts { Puts out.old.items out.new.items result (spaced_words (map report_item_text reports.now)) }
+    ensures kept { OnErr result (Extends out.old.items out.new.items) }
 {
     for item in reports {
         put_manager(out, u32::from(item.instance))?;
@@ -71,7 +76,8 @@ fn put_reports(out: &mut Vec<u8>, reports: &[InstanceReport]) -> Result<(), Refu
 
 /// The items of phase 2b.
 fn put_accepts(out: &mut Vec<u8>, accepts: &[InstanceAccept]) -> Result<(), Refusal>
-    ensures { Puts out.old.items out.new.items result (spaced_words (map accept_item_text accepts.now)) }
+    ensures puts { Puts out.old.items out.new.items result (spaced_words (map accept_item_text accepts.now)) }
+    ensures kept { OnErr result (Extends out.old.items out.new.items) }
 {
     for item in accepts {
         put_manager(out, u32::from(item.instance))?;
@@ -102,7 +108,8 @@ fn kind_word(rest: Rest<'_>) -> &'static [u8]
 /// The words of a message after its transaction.
 fn put_args(out: &mut Vec<u8>, rest: Rest<'_>) -> Result<(), Refusal>
     requires { (tx : TxParts) × IsMessage (said tx rest) }
-    ensures { (tx : TxParts) → Puts out.old.items out.new.items result (spaced_words (message_args (said tx rest.entry))) }
+    ensures puts { (tx : TxParts) → Puts out.old.items out.new.items result (spaced_words (message_args (said tx rest.entry))) }
+    ensures kept { OnErr result (Extends out.old.items out.new.items) }
 {
     match rest {
         Rest::Prepare | Rest::Commit | Rest::Abort => Ok(()),
@@ -159,7 +166,8 @@ pub(crate) fn put_message(
     written: &mut WrittenTx,
     message: &MessageView<'_>,
 ) -> Result<(), Refusal>
-    ensures { Puts out.old.items out.new.items result (spaced_words (message_words message.now)) }
+    ensures puts { Puts out.old.items out.new.items result (spaced_words (message_words message.now)) }
+    ensures kept { OnErr result (Extends out.old.items out.new.items) }
 {
     let rest = message.rest();
     put_word(out, kind_word(rest))?;

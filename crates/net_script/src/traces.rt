@@ -1,12 +1,13 @@
 //! Traces as text.
 
-ghost use Rattle.std.specs.Prelude.{◌≡◌, ◌++◌, [], ◌∷◌, codes, decimal, IfErr, IfOk, OnOk};
+ghost use Rattle.std.specs.Prelude.{◌≡◌, ◌++◌, [], ◌∷◌, codes, decimal, IfErr, IfOk, OnOk, OnErr};
 ghost use Rattle.std.specs.List.{flat_map};
+ghost use Rattle.xid.specs.Text.{Extends};
 ghost use Rattle.net_script.specs.Basics.{NoMemory};
 ghost use Rattle.net_script.specs.Items.{bundled_words, sizes_words};
 ghost use Rattle.net_script.specs.Answers.{answer_words};
 ghost use Rattle.net_script.specs.Events.{event_words};
-ghost use Rattle.net_script.specs.Traces.{spaced_words, line_text, change_text, sent_line, step_text, final_line};
+ghost use Rattle.net_script.specs.Traces.{spaced_words, line_text, change_text, sent_line, step_text, final_line, table_line};
 ghost use Rattle.net_script.specs.Traces.{entry_text, final_lines, head_text, outcome_text, trace_text};
 ghost use Rattle.net_script.specs.Writing.{Puts};
 
@@ -22,7 +23,8 @@ use xid::{Refusal, Sequence};
 
 /// A number under a name.
 fn put_field(out: &mut Vec<u8>, name: &[u8], number: u32) -> Result<(), Refusal>
-    ensures { Puts out.old.items out.new.items result (spaced_words (name.now ∷ decimal number ∷ [])) }
+    ensures puts { Puts out.old.items out.new.items result (spaced_words (name.now ∷ decimal number ∷ [])) }
+    ensures kept { OnErr result (Extends out.old.items out.new.items) }
 {
     put_word(out, name)?;
     put_number(out, number)
@@ -30,7 +32,8 @@ fn put_field(out: &mut Vec<u8>, name: &[u8], number: u32) -> Result<(), Refusal>
 
 /// The last word of a bundled cluster.
 fn put_bundled(out: &mut Vec<u8>, bundled: bool) -> Result<(), Refusal>
-    ensures { Puts out.old.items out.new.items result (spaced_words (bundled_words bundled)) }
+    ensures puts { Puts out.old.items out.new.items result (spaced_words (bundled_words bundled)) }
+    ensures kept { OnErr result (Extends out.old.items out.new.items) }
 {
     if bundled {
         return put_word(out, b"bundled");
@@ -40,7 +43,8 @@ fn put_bundled(out: &mut Vec<u8>, bundled: bool) -> Result<(), Refusal>
 
 /// The line of the cluster.
 fn put_sizes(out: &mut Vec<u8>, sizes: Sizes) -> Result<(), Refusal>
-    ensures { Puts out.old.items out.new.items result (line_text (codes "cluster" ∷ sizes_words sizes)) }
+    ensures puts { Puts out.old.items out.new.items result (line_text (codes "cluster" ∷ sizes_words sizes)) }
+    ensures kept { OnErr result (Extends out.old.items out.new.items) }
 {
     out.extend_from_slice(b"cluster")?;
     put_field(out, b"acceptors", sizes.acceptors)?;
@@ -58,7 +62,9 @@ fn put_outcome(
     answer: &Answer,
     now: &Option<Change>,
 ) -> Result<(), Refusal>
-    ensures { Puts out.old.items out.new.items result (spaced_words (codes "->" ∷ answer_words answer.now) ++ 10 ∷ change_text now.now) }
+    ensures puts { Puts out.old.items out.new.items result
+        (spaced_words (codes "->" ∷ answer_words answer.now) ++ 10 ∷ change_text now.now) }
+    ensures kept { OnErr result (Extends out.old.items out.new.items) }
 {
     put_word(out, b"->")?;
     put_answer(out, answer)?;
@@ -68,7 +74,8 @@ fn put_outcome(
 
 /// The datagrams that an event sent.
 fn put_all_sent(out: &mut Vec<u8>, written: &mut WrittenTx, sent: &[Sent]) -> Result<(), Refusal>
-    ensures { Puts out.old.items out.new.items result (flat_map sent_line sent.now) }
+    ensures puts { Puts out.old.items out.new.items result (flat_map sent_line sent.now) }
+    ensures kept { OnErr result (Extends out.old.items out.new.items) }
 {
     for datagram in sent {
         put_sent(out, written, datagram)?;
@@ -77,8 +84,8 @@ fn put_all_sent(out: &mut Vec<u8>, written: &mut WrittenTx, sent: &[Sent]) -> Re
 }
 
 /// Writes the first lines of an event after what stands in `out`: its answer, and the view that it changed; what it sent is to follow
-/// them. The text of the transaction that was written last isn't made again. The only refusal is `NoMemory`, and then what is new in
-/// `out` is no whole text.
+/// them. The text of the transaction that was written last isn't made again. The only refusal is `NoMemory`, and then what stood in
+/// `out` still begins it, and what is new there is no whole text.
 pub fn write_answered(
     out: &mut Vec<u8>,
     written: &mut WrittenTx,
@@ -88,6 +95,7 @@ pub fn write_answered(
 ) -> Result<(), Refusal>
     ensures ok { OnOk result (out.new.items ≡ out.old.items ++ outcome_text (event_words event.now) answer.now now.now []) }
     ensures err { IfErr result (λ e. e ≡ NoMemory) }
+    ensures kept { OnErr result (Extends out.old.items out.new.items) }
 {
     out.extend_from_slice(event_word(event))?;
     put_event_args(out, event)?;
@@ -95,10 +103,11 @@ pub fn write_answered(
 }
 
 /// Writes the lines of an event after what stands in `out`: its answer, the view that it changed, and what it sent. The only refusal is
-/// `NoMemory`, and then what is new in `out` is no whole text.
+/// `NoMemory`, and then what stood in `out` still begins it, and what is new there is no whole text.
 pub fn write_step(out: &mut Vec<u8>, written: &mut WrittenTx, step: &Step) -> Result<(), Refusal>
     ensures ok { OnOk result (out.new.items ≡ out.old.items ++ step_text step.entry.now) }
     ensures err { IfErr result (λ e. e ≡ NoMemory) }
+    ensures kept { OnErr result (Extends out.old.items out.new.items) }
 {
     write_answered(out, written, &step.event, &step.answer, &step.now)?;
     put_all_sent(out, written, step.sent.as_slice())
@@ -106,7 +115,8 @@ pub fn write_step(out: &mut Vec<u8>, written: &mut WrittenTx, step: &Step) -> Re
 
 /// The lines of what happened and of what came of it.
 fn put_entry(out: &mut Vec<u8>, written: &mut WrittenTx, entry: &Entry) -> Result<(), Refusal>
-    ensures { Puts out.old.items out.new.items result (entry_text entry.now) }
+    ensures puts { Puts out.old.items out.new.items result (entry_text entry.now) }
+    ensures kept { OnErr result (Extends out.old.items out.new.items) }
 {
     match entry {
         Entry::Step(step) => write_step(out, written, step),
@@ -126,7 +136,8 @@ fn put_entry(out: &mut Vec<u8>, written: &mut WrittenTx, entry: &Entry) -> Resul
 
 /// The line of the last rows of a resource manager.
 fn put_final(out: &mut Vec<u8>, rm: usize, rows: &[Row]) -> Result<(), Refusal>
-    ensures { Puts out.old.items out.new.items result (final_line rm rows.now) }
+    ensures puts { Puts out.old.items out.new.items result (final_line rm rows.now) }
+    ensures kept { OnErr result (Extends out.old.items out.new.items) }
 {
     let mut digits = Buffer::new();
     out.extend_from_slice(b"final r")?;
@@ -137,10 +148,11 @@ fn put_final(out: &mut Vec<u8>, rm: usize, rows: &[Row]) -> Result<(), Refusal>
 }
 
 /// Writes the end of a trace after what stands in `out`: the lines of the last rows, from resource manager 0 on. The only refusal is
-/// `NoMemory`, and then what is new in `out` is no whole text.
+/// `NoMemory`, and then what stood in `out` still begins it, and what is new there is no whole text.
 pub fn write_finals(out: &mut Vec<u8>, finals: &[Sequence<Row>]) -> Result<(), Refusal>
     ensures ok { OnOk result (out.new.items ≡ out.old.items ++ final_lines 0 finals.now) }
     ensures err { IfErr result (λ e. e ≡ NoMemory) }
+    ensures kept { OnErr result (Extends out.old.items out.new.items) }
 {
     for (rm, rows) in finals.iter().enumerate() {
         put_final(out, rm, rows.as_slice())?;
@@ -148,18 +160,28 @@ pub fn write_finals(out: &mut Vec<u8>, finals: &[Sequence<Row>]) -> Result<(), R
     Ok(())
 }
 
+/// The line of a first table.
+fn put_table(out: &mut Vec<u8>, table: &Table) -> Result<(), Refusal>
+    ensures puts { Puts out.old.items out.new.items result (table_line table.now) }
+    ensures kept { OnErr result (Extends out.old.items out.new.items) }
+{
+    out.extend_from_slice(b"table")?;
+    put_manager(out, u32::from(table.rm))?;
+    put_rows(out, table.rows.as_slice())?;
+    out.push(b'\n')?;
+    Ok(())
+}
+
 /// Writes the beginning of a trace after what stands in `out`: the lines of the cluster and of the first tables. The only refusal is
-/// `NoMemory`, and then what is new in `out` is no whole text.
+/// `NoMemory`, and then what stood in `out` still begins it, and what is new there is no whole text.
 pub fn write_head(out: &mut Vec<u8>, sizes: Sizes, tables: &[Table]) -> Result<(), Refusal>
     ensures ok { OnOk result (out.new.items ≡ out.old.items ++ head_text sizes tables.now) }
     ensures err { IfErr result (λ e. e ≡ NoMemory) }
+    ensures kept { OnErr result (Extends out.old.items out.new.items) }
 {
     put_sizes(out, sizes)?;
     for table in tables {
-        out.extend_from_slice(b"table")?;
-        put_manager(out, u32::from(table.rm))?;
-        put_rows(out, table.rows.as_slice())?;
-        out.push(b'\n')?;
+        put_table(out, table)?;
     }
     Ok(())
 }

@@ -1,6 +1,7 @@
 //! The transaction that was written last: the lines of a trace name the same one many times in a row.
 
-ghost use Rattle.std.specs.Prelude.{◌≡◌, ◌∷◌, IfErr, OnOk};
+ghost use Rattle.std.specs.Prelude.{◌≡◌, ◌∷◌, IfErr, OnOk, OnErr};
+ghost use Rattle.xid.specs.Text.{Extends};
 ghost use Rattle.wire.specs.Grammar.{tx_spelling};
 ghost use Rattle.wire.specs.Versions.{version_2};
 ghost use Rattle.net_script.specs.Basics.{NoMemory, tx_text};
@@ -42,7 +43,8 @@ impl WrittenTx {
 
     /// Writes a transaction as a word. Refused: `NoMemory` alone.
     pub(crate) fn put(&mut self, out: &mut Vec<u8>, tx: &SpelledTx<'_>) -> Result<(), Refusal>
-        ensures { Puts out.old.items out.new.items result (32 ∷ tx_text tx.now) }
+        ensures puts { Puts out.old.items out.new.items result (32 ∷ tx_text tx.now) }
+        ensures kept { OnErr result (Extends out.old.items out.new.items) }
     {
         if self.spelled.as_slice() == tx.as_bytes() {
             return put_word(out, self.text.as_slice());

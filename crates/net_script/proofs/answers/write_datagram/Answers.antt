@@ -11,7 +11,7 @@ pub returns-in-Ok-clause-ok : goal.returns-in-Ok-clause-ok
 returns-in-Ok-clause-ok c =
     puts_as c.put_seen.result c.args.out.now.items c.put_seen.new.out.items
     (datagram_seen c.args.number c.args.sender c.args.receiver c.args.bytes.now c.in-Ok.message
-    (subst (λ r. IfOk r (λ m. Spells m c.args.bytes.now)) c.in-Ok.is c.view_of.ensures.ok)) c.put_seen.ensures
+    (subst (λ r. IfOk r (λ m. Spells m c.args.bytes.now)) c.in-Ok.is c.view_of.ensures.ok)) c.put_seen.ensures.puts
 
 pub returns-in-Err-clause-ok : goal.returns-in-Err-clause-ok
 returns-in-Err-clause-ok c =
