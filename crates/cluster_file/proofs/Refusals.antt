@@ -12,12 +12,6 @@ refused_memory said error is =
     let P : ClusterError → Type 0 = λ e. IsRefused said e in
     let none : SaysOf said Memory = tt in subst P (sym is) (record { says = none })
 
--- an error is another's
-pub refused_same : {T : Type 0} {said : Result T Mistake} {error : ClusterError} (other : ClusterError) → IsRefused said error
-    → other ≡ error
-    → IsRefused said other
-refused_same {said = said} other h is = let P : ClusterError → Type 0 = λ e. IsRefused said e in subst P (sym is) h
-
 says_of : {T : Type 0} (said : Result T Mistake) (mistake : Mistake) (error : ClusterError) → said ≡ Err mistake → Says mistake error
     → SaysOf said error
 says_of said mistake (Wrong path fault) is says = (mistake, is, says)
@@ -85,8 +79,3 @@ pub handed_on : {T X : Type 0} (said : Result T Mistake) (result : Result X Clus
     → IsRefused said error → IfErr result (IsRefused said)
 handed_on {X = X} said result error is h =
     let P : Result X ClusterError → Type 0 = λ r. IfErr r (IsRefused said) in subst P (sym is) h
-
--- want of memory
-pub memory_on : {T X : Type 0} (said : Result T Mistake) (result : Result X ClusterError) → result ≡ Err Memory
-    → IfErr result (IsRefused said)
-memory_on said result is = handed_on said result Memory is (refused_memory said Memory refl)

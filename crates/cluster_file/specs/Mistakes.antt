@@ -12,7 +12,7 @@ pub record Mistake : Type 0 where
   pub at : Option (List ℕ)
   pub fault : Fault
 
--- the ? of the logic: the second step, if the first gave a value
+-- the second step, if the first gave a value
 infixl 10 ◌>>=◌
 abbrev pub ◌>>=◌ : {A B E : Type 0} → Result A E → (A → Result B E) → Result B E
 Ok x >>= f = f x

@@ -1,5 +1,6 @@
 -- What is watched is found by its spelling: so all others stay as they were where one watch is written, comes or goes.
-use Rattle.std.proofs.Common.{◌≡◌, ◌≢◌, ◌∙◌, ◌⊎◌, inl, inr, ℕ, true, false, List, Option, Some, None, refl, sym, ap, subst, ◌≤◌, ◌+◌, ◌*◌, ◌-◌, ◌^◌, min, [], get_or, arith}
+use Rattle.std.proofs.Common.{◌≡◌, ◌≢◌, ◌∙◌, ◌⊎◌, inl, inr, ℕ, true, false, List, Option, Some, None, refl, sym, ap, subst, ◌≤◌, ◌+◌, ◌*◌}
+use Rattle.std.proofs.Common.{◌-◌, ◌^◌, min, [], get_or, arith}
 use Rattle.std.specs.Prelude.{Vec, IfNone, IfSome, IsSomeAnd, MatchOption, OnErr, OnOk, Result, Ok, Err, is_some, slice_get}
 use Rattle.std.specs.Map.{KeepsOthers}
 use Rattle.std.specs.Str.{bytes_eq}
@@ -21,7 +22,8 @@ use Rattle.serving.specs.declared.watches.Due.{Due}
 use Rattle.serving.specs.declared.schedule.Schedule.{Schedule}
 use Rattle.serving.specs.declared.schedule.TheConstants.{MOST_DELAY}
 use Rattle.serving.specs.Queues.{are_by}
-use Rattle.serving.specs.Watching.{key_of, at_key, has_spelling, turn_end, watch_of, AreAllLater, AreNamed, AreSpelled, HandsOut, Keys, PutsOff, PutsOffOne}
+use Rattle.serving.specs.Watching.{key_of, at_key, has_spelling, turn_end, watch_of, AreAllLater, AreNamed, AreSpelled, HandsOut, Keys}
+use Rattle.serving.specs.Watching.{PutsOff, PutsOffOne}
 use Rattle.serving.specs.Named.{AreAsBefore, IsAdded, IsHandedOut, IsNothingDue, IsPutOff, SetsOnly}
 
 -- ---- the keys of spellings
@@ -243,11 +245,6 @@ seen_gone old new keys fewer spelled bytes key one named is only gone same =
 
 -- ---- what is due
 
--- where nothing that stands there is due, nothing that is seen is
-pub nothing_due : (watched : Slab Watch) (keys : Keys) (now : Instant) → AreAllLater watched now → IsNothingDue (watch_of watched keys) now
-nothing_due watched keys now later = λ (spelled : List ℕ) (watch : Watch) is waits.
-    let stands = stands_at watched keys spelled watch is in later stands.0 watch stands.2 waits
-
 -- what was handed out is seen to be
 pub seen_handed : (old new : Slab Watch) (keys : Keys) (now : Instant) (tx : TxParts) (turn : ℕ) → AreNamed old keys → AreSpelled old
     → HandsOut old new now tx turn → IsHandedOut (watch_of old keys) (watch_of new keys) now (tx_spelling version_2 tx) turn
@@ -327,6 +324,7 @@ pub named_next : (old new : Slab Watch) (keys : Keys) (now : Instant) (r : Optio
 named_next old new keys now None named none some = subst (λ (w : Slab Watch). AreNamed w keys) (sym none.1) named
 named_next old new keys now (Some due) named none some = named_handed old new keys now due.tx due.turn named some
 
+-- what the next of a queue is, is seen to be handed out
 pub seen_next : (old new : Slab Watch) (keys : Keys) (now : Instant) (r : Option Due) → AreNamed old keys → AreSpelled old
     → IfSome r (λ due. HandsOut old new now due.tx due.turn)
     → IfSome r (λ due. IsHandedOut (watch_of old keys) (watch_of new keys) now (tx_spelling version_2 due.tx) due.turn)
@@ -348,6 +346,7 @@ module _ {T E : Type 0} where
           named_written old new keys key watch (record watch { due = ok.later; turn = turn; waits = true }) named e refl
           (λ waits. keyed) ok.only
 
+  -- what is put off, if that is done, is seen to be
   pub seen_put_off_if : (old new : Slab Watch) (keys : Keys) (key turn at : ℕ) (due now : Instant) (schedule : Schedule)
       (queues : List (List Place)) (r : Result T E) → AreNamed old keys
       → IsSomeAnd (get old key) (λ watch. key_of keys watch.spelled.items ≡ Some key) → at ≡ min turn 23
@@ -471,6 +470,7 @@ listed watched keys place name key r named spelled there is reads =
     by (Some watch) e its =
         (reads (subst IsSpelled its (spelled key watch e)), ap is_some (seen_at watched keys name.items key is ∙ e))
 
+-- where there is no place, nothing is listed
 pub not_listed : (keys : Keys) (place : ℕ) (r : Option TxParts) (Q : Vec ℕ Global × ℕ → Type 0) → None ≡ slice_get keys place → r ≡ None
     → MatchOption (slice_get keys place) (r ≡ None) Q
 not_listed keys place r Q there is = subst (λ (o : Option (Vec ℕ Global × ℕ)). MatchOption o (r ≡ None) Q) there is

@@ -1,5 +1,6 @@
 -- Places in order.
-use Rattle.std.proofs.Common.{◌≡◌, ◌+◌, ℕ, zero, suc, length, get_or, ◌<◌, ◌≤◌, List, [], ◌∷◌, ◌++◌, Bool, true, refl, sym, subst, ◌-◌, slice_index_or, Option, Some, None, arith}
+use Rattle.std.proofs.Common.{◌≡◌, ◌+◌, ℕ, zero, suc, length, get_or, ◌<◌, ◌≤◌, List, [], ◌∷◌, ◌++◌, Bool, true, refl, sym, subst, ◌-◌}
+use Rattle.std.proofs.Common.{slice_index_or, Option, Some, None, arith}
 use Rattle.std.specs.Prelude.{nat_le, IfSome}
 use Rattle.std.specs.Duration.{as_nanos}
 use Rattle.std.specs.declared.time.Duration.{Duration}
@@ -51,6 +52,7 @@ later_sorted now place places first sorted = (
       (and_parts (list_all (λ other. nat_le (due_at place) (due_at other)) places) (are_sorted places) sorted).0,
 )
 
+-- what is before a place is before a later one
 pub before_later : (place last : Place) (places : List Place) → are_before place places ≡ true → due_at place ≤ due_at last
     → are_before last places ≡ true
 before_later place last [] all later = refl

@@ -1,5 +1,6 @@
 -- What waits has a place in a queue: so it stays, whatever places come and go, and so nothing that waits is due where no place is.
-use Rattle.std.proofs.Common.{◌≡◌, ◌≢◌, ◌∙◌, ◌⊎◌, inl, inr, ◌==◌, ◌+◌, ℕ, zero, suc, ◌<◌, ◌≤◌, ◌&&◌, ◌||◌, not, List, [], ◌∷◌, ◌++◌, length, get_or, set, Bool, true, false, Option, Some, None, refl, sym, ap, subst, arith}
+use Rattle.std.proofs.Common.{◌≡◌, ◌≢◌, ◌∙◌, ◌⊎◌, inl, inr, ◌==◌, ◌+◌, ℕ, zero, suc, ◌<◌, ◌≤◌, ◌&&◌, ◌||◌, not, List, [], ◌∷◌, ◌++◌}
+use Rattle.std.proofs.Common.{length, get_or, set, Bool, true, false, Option, Some, None, refl, sym, ap, subst, arith}
 use Rattle.std.specs.List.{list_any, AllByRecursion}
 use Rattle.std.specs.Time.{instant_nanos}
 use Rattle.std.specs.declared.time.Instant.{Instant}
@@ -23,7 +24,8 @@ use Rattle.wire.proofs.TakenTx.{in_again}
 use Rattle.serving.specs.declared.queue.Place.{Place}
 use Rattle.serving.specs.declared.watched.Watch.{Watch}
 use Rattle.serving.specs.Queues.{are_by, due_at, AreLater}
-use Rattle.serving.specs.Watching.{is_place_of, is_in_queue, is_in_queues, is_kept, waits_for, AreKept, AreSpelled, AreAllLater, AreWithin, HandsOut, HandsOutAt, IsNoWatchOf, PutsOff, PutsOffOne}
+use Rattle.serving.specs.Watching.{is_place_of, is_in_queue, is_in_queues, is_kept, waits_for, AreKept, AreSpelled, AreAllLater}
+use Rattle.serving.specs.Watching.{AreWithin, HandsOut, HandsOutAt, IsNoWatchOf, PutsOff, PutsOffOne}
 
 -- ---- tests of some element
 
@@ -88,18 +90,7 @@ not_its watched place none key watch there waits = by (place.key == key) refl
         subst P same (none watch (ap (get watched) same ∙ there) waits)
     by false e = rw e refl
 
--- where what is watched at a place doesn't wait for it, nothing does
-pub no_watch : (watched : Slab Watch) (place : Place) → waits_for place (get watched place.key) ≡ false → IsNoWatchOf place watched
-no_watch watched place none = λ (watch : Watch) there waits.
-    let is : waits_for place (Some watch) ≡ false =
-    let P : Option Watch → Type 0 = λ o. waits_for place o ≡ false in subst P there none in
-    let apart : (due_at place == instant_nanos watch.due) ≡ false = rw waits at is in
-    and_false (place.key == place.key) (due_at place == instant_nanos watch.due) apart
-  where
-    and_false : (b c : Bool) → c ≡ false → (b && c) ≡ false
-    and_false true c is = is
-    and_false false c is = refl
-
+-- all that waits is still in a queue where a place that no watch waits for is taken out
 pub kept_popped : (watched : Slab Watch) (queues : List (List Place)) (at : ℕ) (place : Place) (rest : List Place) → at < length queues
     → get_or queues at [] ≡ place ∷ rest → IsNoWatchOf place watched → AreKept watched queues → AreKept watched (set queues at rest)
 kept_popped watched queues at place rest below was none kept =
@@ -151,6 +142,7 @@ in_longer key watch queue place inside =
     list_any-append (is_place_of key watch) queue (place ∷ [])
     ∙ or_left (is_in_queue key watch queue) (is_in_queue key watch (place ∷ [])) inside
 
+-- and where a place comes behind the others
 pub kept_pushed : (watched : Slab Watch) (queues : List (List Place)) (at : ℕ) (place : Place) → at < length queues → AreKept watched queues
     → AreKept watched (set queues at (get_or queues at [] ++ place ∷ []))
 kept_pushed watched queues at place below kept =
@@ -172,8 +164,8 @@ kept_put_off old new queues at key turn due watch below only kept = λ (k : ℕ)
     own : (n : ℕ) → (n == n) ≡ true
     own n = (Decides-eqb n n).1 refl
 
-    its : is_in_queue key (record watch { due = due; turn = turn; waits = true }) (get_or queues at [] ++ record { key = key; due = due } ∷ [])
-        ≡ true
+    its : is_in_queue key (record watch { due = due; turn = turn; waits = true })
+        (get_or queues at [] ++ record { key = key; due = due } ∷ []) ≡ true
     its =
         list_any-append (is_place_of key (record watch { due = due; turn = turn; waits = true })) (get_or queues at [])
         (record { key = key; due = due } ∷ [])
@@ -343,6 +335,7 @@ pub spelled_taken : (bytes : List ℕ) (tx : TxParts) (after : List ℕ) → Som
     → Some tx ≡ Some (tx_spelled bytes)
 spelled_taken bytes tx after got is = ap (λ (o : Option (TxParts × List ℕ)). option_map (λ p. p.0) o) (got ∙ spelled_read bytes is)
 
+-- from a whole spelling something is taken
 pub spelled_not_taken : (bytes : List ℕ) → None ≡ tx_in version_2 bytes → IsSpelled bytes → ⊥
 spelled_not_taken bytes got is =
     let same : None ≡ Some (tx_spelled bytes, []) = got ∙ spelled_read bytes is in absurd (cc (same))

@@ -1,5 +1,6 @@
 -- The transactions that are watched, by their spellings, and what becomes of one while all others stay as they were.
-use Rattle.std.specs.Prelude.{◌≡◌, ◌≢◌, ℕ, ◌-◌, ◌/◌, ◌^◌, ◌<◌, ◌≤◌, min, true, false, List, Option, Some, None, is_some, slice_get, MatchOption}
+use Rattle.std.specs.Prelude.{◌≡◌, ◌≢◌, ℕ, ◌-◌, ◌/◌, ◌^◌, ◌<◌, ◌≤◌, min, true, false, List, Option, Some, None, is_some, slice_get}
+use Rattle.std.specs.Prelude.{MatchOption}
 use Rattle.std.specs.Time.{instant_nanos, FitsClock}
 use Rattle.std.specs.declared.time.Instant.{Instant}
 use Rattle.wire.specs.Spelled.{tx_spelled}

@@ -1,5 +1,6 @@
 -- The transactions that are watched, and the queues in which they wait.
-use Rattle.std.specs.Prelude.{◌≡◌, ℕ, ◌+◌, ◌<◌, ◌≤◌, ◌==◌, ◌&&◌, ◌||◌, ◌*◌, ◌^◌, ◌-◌, not, min, MatchOption, Bool, true, false, List, [], Option, Some, None, Vec, get_or}
+use Rattle.std.specs.Prelude.{◌≡◌, ℕ, ◌+◌, ◌<◌, ◌≤◌, ◌==◌, ◌&&◌, ◌||◌, ◌*◌, ◌^◌, ◌-◌, not, min, MatchOption, Bool, true, false, List, []}
+use Rattle.std.specs.Prelude.{Option, Some, None, Vec, get_or}
 use Rattle.std.specs.List.{list_any}
 use Rattle.std.specs.Map.{lookup}
 use Rattle.std.specs.Str.{bytes_eq}

@@ -1,4 +1,6 @@
-ghost use Rattle.std.specs.Prelude.{◌≡◌, ◌≢◌, ◌↔◌, ◌==◌, ℕ, ◌+◌, ◌/◌, ◌-◌, ◌^◌, ◌<◌, ◌≤◌, ◌++◌, ◌∷◌, [], length, get_or, set, true, false, Some, None, min, IfOk, IfSome, IfNone, OnOk, OnErr, MatchOption, IsSomeAnd, IsTrue, List, vec_len};
+ghost use Rattle.std.specs.Prelude.{◌≡◌, ◌≢◌, ◌↔◌, ◌==◌, ℕ, ◌+◌, ◌/◌, ◌-◌, ◌^◌, ◌<◌, ◌≤◌, ◌++◌, ◌∷◌, [], length, get_or, set, true};
+ghost use Rattle.std.specs.Prelude.{false, Some, None, min, IfOk, IfSome, IfNone, OnOk, OnErr, MatchOption, IsSomeAnd, IsTrue, List};
+ghost use Rattle.std.specs.Prelude.{vec_len};
 ghost use Rattle.std.specs.Duration.{as_nanos};
 ghost use Rattle.std.specs.Time.{instant_nanos, FitsClock};
 ghost use Rattle.slab.specs.Slab.{get};
@@ -6,7 +8,8 @@ ghost use Rattle.wire.specs.Grammar.{tx_spelling};
 ghost use Rattle.wire.specs.Spelled.{tx_spelled, IsSpelled};
 ghost use Rattle.wire.specs.Versions.{version_2};
 ghost use Rattle.serving.specs.Queues.{are_before, are_by, due_at, AreLater};
-ghost use Rattle.serving.specs.Watching.{key_of, turn_end, waits_for, AreKept, AreOnTime, AreSpelled, AreAllLater, AreWithin, HandsOut, HandsOutAt, IsNoWatchOf, PutsOff};
+ghost use Rattle.serving.specs.Watching.{key_of, turn_end, waits_for, AreKept, AreOnTime, AreSpelled, AreAllLater, AreWithin, HandsOut};
+ghost use Rattle.serving.specs.Watching.{HandsOutAt, IsNoWatchOf, PutsOff};
 ghost use Rattle.serving.specs.Named.{age_of, seen, AreAsBefore, IsAdded, IsHandedOut, IsListed, IsNothingDue, IsPutOff, SetsOnly};
 
 use crate::queue::{Place, Queue, is_by};
@@ -214,7 +217,7 @@ fn sooner(least: Option<Duration>, wait: Duration) -> Duration
 }
 
 impl Watches {
-    /// None yet.
+    /// None yet. Refused where memory runs out.
     pub fn new(alloc: Global, schedule: Schedule) -> Result<Watches, AllocError>
         ensures none { IfOk result (λ watches. (spelled : List ℕ) → seen watches spelled ≡ None) }
         ensures on_time { IfOk result (λ watches. (now : Instant) → AreOnTime watches.schedule watches.queues.items now) }
@@ -253,7 +256,7 @@ impl Watches {
     }
 
     /// From now on a transaction is watched, first at this turn, unless it is already: then all is as it was. Where memory runs out the
-    /// others are as they were.
+    /// others are as they were, and it is watched without waiting for a turn, or not at all.
     pub fn add(&mut self, tx: &Tx, turn: usize, now: Instant) -> Result<(), AllocError>
         ensures ok { OnOk result (MatchOption (seen self.old (tx_spelling version_2 tx.now))
             (IsAdded (seen self.old) (seen self.new) (tx_spelling version_2 tx.now) self.old.schedule self.old.queues.items turn now)

@@ -23,6 +23,7 @@ returns-clause-ok c =
     let none = key_none (key_of old.keys.entries spelled) (sym c.contains_key.ensures ∙ c.if-contains_key.false) in
     let begun = c.in_ok-key.ensures in
     added_if (get mid.watched c.in_ok-key.key) (seen old) (seen mid) (seen c.wait_for.new.self) spelled
-    (tx_spelling version_2 c.args.tx.now) mid.schedule old.schedule mid.queues.items old.queues.items c.args.turn c.args.now c.wait_for.result c.spell-spelled.ensures.spelled
+    (tx_spelling version_2 c.args.tx.now) mid.schedule old.schedule mid.queues.items old.queues.items c.args.turn c.args.now
+    c.wait_for.result c.spell-spelled.ensures.spelled
     (ap (at_key old.watched) none) begun.watch begun.others begun.schedule
     (λ i. (begun.queues i).items) c.wait_for.ensures.ok

@@ -7,7 +7,8 @@ pub returns-in-Some : goal.returns-in-Some
 returns-in-Some c =
     let old = c.args.self.now in
     let same = c.deref.ensures.value in
-    listed old.watched old.keys.entries c.args.place c.in-Some.spelled.now _ c.unspelled.result old.named old.spelled c.in-Some.ensures.entry
+    listed old.watched old.keys.entries c.args.place c.in-Some.spelled.now _ c.unspelled.result old.named old.spelled
+    c.in-Some.ensures.entry
     c.in-Some.ensures.value
     (λ whole. c.unspelled.ensures (subst IsSpelled (sym same) whole) ∙ ap (λ (bytes : List ℕ). Some (tx_spelled bytes)) same)
 
