@@ -1,10 +1,10 @@
 -- The transactions that facts of an acceptor are about are those of which some slot is taken.
-use Rattle.std.proofs.Common.{◌≡◌, ◌∙◌, ◌==◌, ℕ, ◌<◌, max, Bool, true, false, not, ◌&&◌, ◌||◌, ltb, leb, List, [], ◌∷◌, ◌++◌}
+use Rattle.std.proofs.Common.{◌≡◌, ◌∙◌, ◌==◌, ℕ, ◌<◌, ◌≤◌, max, Bool, true, false, not, ◌&&◌, ◌||◌, ltb, leb, List, [], ◌∷◌, ◌++◌}
 use Rattle.std.proofs.Common.{Option, Some, None, refl, sym, ap, subst, append_assoc, append-nil, arith}
 use Rattle.std.specs.Prelude.{if◌then◌else◌, is_some, nat_lt, fold}
 use Rattle.std.specs.List.{AllByRecursion, IsDistinct, list_any, flat_map}
 use Rattle.std.specs.Cmp.{first_so, second_so}
-use Rattle.std.proofs.lemmas.Bool.{ltb-true, lt-ltb, eq-eqb, eqb-true, and_from, true≢false}
+use Rattle.std.proofs.lemmas.Bool.{ltb-true, ltb-false, lt-ltb, le-ltb, eq-eqb, eqb-true, and_from, true≢false}
 use Rattle.xid.specs.Transactions.{TxParts, BranchParts, is_at, participants, rm_numbers, is_participant, tx_eq}
 use Rattle.xid.specs.declared.transaction.Vote.{Vote}
 use Rattle.xid.proofs.Deciding.{tx_self, tx_decides}
@@ -22,7 +22,8 @@ use Rattle.protocol.specs.Facts.{ballot_joined, accept_of, instance_eq, slot}
 use Rattle.protocol.specs.Nodes.{plays, all_play}
 use Rattle.acceptor.specs.Slots.{after_fact, raised, latest}
 use Rattle.acceptor.specs.Acceptors.{begun_in}
-use Rattle.acceptor.specs.Compaction.{accepted_ballot, accept_facts, promise_facts, slot_facts, transaction_facts, compacted}
+use Rattle.acceptor.specs.Compaction.{accepted_ballot, accept_facts, common_ballot, common_facts, promise_facts, accepts_of, promises_of}
+use Rattle.acceptor.specs.Compaction.{transaction_facts, compacted}
 use Rattle.acceptor.proofs.Instances.{each_named}
 use Rattle.acceptor.proofs.Played.{slot_more, stays}
 
@@ -75,7 +76,7 @@ member p i (b ∷ bs) named e = by (b.rm == i) refl (λ rest. member p i bs rest
         ap (λ t. p b.rm || t) (later (sym (ap (λ t. t || list_any (is_at i) bs) here) ∙ named)) ∙ or_yes (p b.rm)
 
 -- a test that those named pass
-named_any : (p q : ℕ → Bool) (tx : TxParts) → ((i : ℕ) → is_participant tx i ≡ true → p i ≡ true → q i ≡ true)
+pub named_any : (p q : ℕ → Bool) (tx : TxParts) → ((i : ℕ) → is_participant tx i ≡ true → p i ≡ true → q i ≡ true)
     → list_any p (participants tx) ≡ true → list_any q (participants tx) ≡ true
 named_any p q tx each e = from (participants tx) (each_named tx.branches tx.branches (λ b h. h)) e
   where
@@ -210,41 +211,64 @@ module _ (slots : Slots) (tx : TxParts) where
   promise_of_it i m true = (refl, tt)
   promise_of_it i m false = tt
 
-  slot_of_it : (i : ℕ) (s : Slot) → AllByRecursion IsOf (slot_facts tx i s)
-  slot_of_it i s =
-      all_both IsOf (accept_facts tx i s.report) (promise_facts tx i s) (accept_of_it i s.report)
-      (promise_of_it i s.mbal (nat_lt (accepted_ballot s.report) s.mbal))
+  each_of_it : (h : ℕ → List Fact) → ((i : ℕ) → AllByRecursion IsOf (h i)) → (is : List ℕ) → AllByRecursion IsOf (flat_map h is)
+  each_of_it h each [] = tt
+  each_of_it h each (i ∷ is) = all_both IsOf (h i) (flat_map h is) (each i) (each_of_it h each is)
 
-  each_of_it : (is : List ℕ) → AllByRecursion IsOf (flat_map (λ i. slot_facts tx i (slots tx i)) is)
-  each_of_it [] = tt
-  each_of_it (i ∷ is) =
-      all_both IsOf (slot_facts tx i (slots tx i)) (flat_map (λ n. slot_facts tx n (slots tx n)) is) (slot_of_it i (slots tx i))
-      (each_of_it is)
+  common_of_it : (b : ℕ) (t : Bool) → AllByRecursion IsOf (if t then Fact.PromiseAll tx b ∷ [] else [])
+  common_of_it b true = (refl, tt)
+  common_of_it b false = tt
+
+  all_of_it : AllByRecursion IsOf (transaction_facts slots tx)
+  all_of_it =
+      all_both IsOf (accepts_of slots tx) (common_facts tx (common_ballot slots tx) ++ promises_of slots tx)
+      (each_of_it (λ i. accept_facts tx i (slots tx i).report) (λ i. accept_of_it i (slots tx i).report) (participants tx))
+      (all_both IsOf (common_facts tx (common_ballot slots tx)) (promises_of slots tx)
+      (common_of_it (common_ballot slots tx) (nat_lt 0 (common_ballot slots tx)))
+      (each_of_it (λ i. promise_facts tx (common_ballot slots tx) i (slots tx i))
+      (λ i. promise_of_it i (slots tx i).mbal (nat_lt (max (accepted_ballot (slots tx i).report) (common_ballot slots tx)) (slots tx i).mbal))
+      (participants tx)))
 
   none_first : (xs ys : List Fact) → xs ++ ys ≡ [] → (xs ≡ []) × (ys ≡ [])
   none_first [] ys e = (refl, e)
   none_first (x ∷ xs) ys e = absurd (cc (e))
 
-  slot_some : (i m : ℕ) (o : Report) → (nat_lt 0 m || is_some o) ≡ true
-      → accept_facts tx i o ++ (if nat_lt (accepted_ballot o) m then Fact.Promise tx i m ∷ [] else []) ≡ [] → ⊥
-  slot_some i m (Some last) e empty = absurd (cc (empty))
-  slot_some i m None e empty = by (nat_lt 0 m) e empty
+  each_none : (h : ℕ → List Fact) (is : List ℕ) → flat_map h is ≡ [] → AllByRecursion (λ i. h i ≡ []) is
+  each_none h [] empty = tt
+  each_none h (i ∷ is) empty =
+      let parts = none_first (h i) (flat_map h is) empty in
+      (parts.0, each_none h is parts.1)
+
+  common_none : (b : ℕ) (t : Bool) → nat_lt 0 b ≡ t → (if t then Fact.PromiseAll tx b ∷ [] else []) ≡ [] → b ≤ 0
+  common_none b true e empty = absurd (cc (empty))
+  common_none b false e empty = ltb-false 0 b e
+
+  slot_none : (common i m : ℕ) (o : Report) → common ≤ 0 → accept_facts tx i o ≡ []
+      → promise_facts tx common i (record { mbal = m; report = o }) ≡ [] → (nat_lt 0 m || is_some o) ≡ false
+  slot_none common i m (Some last) le accept empty = absurd (cc (accept))
+  slot_none common i m None le accept empty = by (nat_lt (max 0 common) m) refl empty
     where
-      by : (t : Bool) → (t || false) ≡ true → (if t then Fact.Promise tx i m ∷ [] else []) ≡ [] → ⊥
+      by : (t : Bool) → nat_lt (max 0 common) m ≡ t → (if t then Fact.Promise tx i m ∷ [] else []) ≡ [] → (nat_lt 0 m || false) ≡ false
       by true e empty = absurd (cc (empty))
-      by false e empty = absurd (true≢false (sym e))
+      by false e empty =
+          ap (λ (t : Bool). t || false) (le-ltb 0 m (omega (arith, le, ltb-false (max 0 common) m e)))
 
-  some_facts : (is : List ℕ) → list_any (λ i. taken (slots tx i)) is ≡ true → flat_map (λ i. slot_facts tx i (slots tx i)) is ≡ [] → ⊥
-  some_facts [] e empty = absurd (true≢false (sym e))
-  some_facts (i ∷ is) e empty = by (taken (slots tx i)) refl (λ rest none. some_facts is rest none)
-    where
-      parts : (slot_facts tx i (slots tx i) ≡ []) × (flat_map (λ n. slot_facts tx n (slots tx n)) is ≡ [])
-      parts = none_first (slot_facts tx i (slots tx i)) (flat_map (λ n. slot_facts tx n (slots tx n)) is) empty
+  none_taken : (common : ℕ) (is : List ℕ) → common ≤ 0 → AllByRecursion (λ i. accept_facts tx i (slots tx i).report ≡ []) is
+      → AllByRecursion (λ i. promise_facts tx common i (slots tx i) ≡ []) is → list_any (λ i. taken (slots tx i)) is ≡ false
+  none_taken common [] le accepts promises = refl
+  none_taken common (i ∷ is) le accepts promises =
+      ap (λ (t : Bool). t || list_any (λ n. taken (slots tx n)) is)
+      (slot_none common i (slots tx i).mbal (slots tx i).report le accepts.0 promises.0)
+      ∙ none_taken common is le accepts.1 promises.1
 
-      by : (t : Bool) → taken (slots tx i) ≡ t
-          → (list_any (λ n. taken (slots tx n)) is ≡ true → flat_map (λ n. slot_facts tx n (slots tx n)) is ≡ [] → ⊥) → ⊥
-      by true here later = slot_some i (slots tx i).mbal (slots tx i).report here parts.0
-      by false here later = later (sym (ap (λ t. t || list_any (λ n. taken (slots tx n)) is) here) ∙ e) parts.1
+  some_facts : some_taken slots tx ≡ true → transaction_facts slots tx ≡ [] → ⊥
+  some_facts e empty =
+      let common = common_ballot slots tx in
+      let both = none_first (accepts_of slots tx) (common_facts tx common ++ promises_of slots tx) empty in
+      let rest = none_first (common_facts tx common) (promises_of slots tx) both.1 in
+      true≢false (sym e ∙ none_taken common (participants tx) (common_none common (nat_lt 0 common) refl rest.0)
+      (each_none (λ i. accept_facts tx i (slots tx i).report) (participants tx) both.0)
+      (each_none (λ i. promise_facts tx common i (slots tx i)) (participants tx) rest.1))
 
   part_seen : (seen : List TxParts) (facts : List Fact) → AllByRecursion IsOf facts → (facts ≡ [] → ⊥)
       → fold (seen_after fact_tx) seen facts ≡ seen_with seen tx
@@ -253,7 +277,7 @@ module _ (slots : Slots) (tx : TxParts) where
 
   pub transaction_seen : (seen : List TxParts) → some_taken slots tx ≡ true
       → fold (seen_after fact_tx) seen (transaction_facts slots tx) ≡ seen_with seen tx
-  transaction_seen seen e = part_seen seen (transaction_facts slots tx) (each_of_it (participants tx)) (some_facts (participants tx) e)
+  transaction_seen seen e = part_seen seen (transaction_facts slots tx) all_of_it (some_facts e)
 
 compacted_seen : (slots : Slots) (txs seen : List TxParts) → AllByRecursion (λ tx. some_taken slots tx ≡ true) txs
     → fold (seen_after fact_tx) seen (compacted txs slots) ≡ fold seen_with seen txs

@@ -1,6 +1,6 @@
 -- The facts of a compacted record play, and lead each slot to where it stands.
 use Rattle.std.proofs.Common.{◌≡◌, ◌∙◌, ◌==◌, ℕ, ◌<◌, ◌≤◌, max, Bool, true, false, not, ◌&&◌, ◌||◌, ltb, leb, List, [], ◌∷◌, ◌++◌, length}
-use Rattle.std.proofs.Common.{Some, None, refl, sym, ap, subst, append_assoc, arith}
+use Rattle.std.proofs.Common.{Some, None, refl, sym, ap, subst, append_assoc, arith, map, sum}
 use Rattle.std.specs.Prelude.{if◌then◌else◌}
 use Rattle.std.specs.List.{AllByRecursion, IsDistinct, list_any, flat_map}
 use Rattle.std.specs.Cmp.{unsigned_Decides, first_so, second_so}
@@ -18,11 +18,12 @@ use Rattle.ballot.specs.Choice.{Report}
 use Rattle.ballot.specs.Slots.{empty_slot}
 use Rattle.stable_record.specs.declared.fact.FactKind.{FactKind as Fact}
 use Rattle.stable_record.specs.Facts.{fact_tx}
+use Rattle.stable_record.specs.Frames.{frame_length}
 use Rattle.transactions.specs.Seen.{place_in}
 use Rattle.transactions.proofs.First.{first_both, first_once}
 use Rattle.transactions.proofs.Keys.{present_from_place}
 use Rattle.protocol.specs.declared.nodes.NodeId.TheVariants.{A}
-use Rattle.protocol.specs.Acceptors.{Slots, plays_at_acceptor, is_accepted}
+use Rattle.protocol.specs.Acceptors.{Slots, plays_at_acceptor, is_accepted, is_some_below}
 use Rattle.protocol.specs.Effects.{Config}
 use Rattle.protocol.specs.Facts.{instance_eq, slot}
 use Rattle.protocol.specs.Nodes.{plays, all_play}
@@ -30,10 +31,12 @@ use Rattle.protocol.proofs.Manager.Played.{all_play_then}
 use Rattle.acceptor.specs.Slots.{place_of, slot_of, after_fact, raised, latest}
 use Rattle.acceptor.specs.Tables.{TableParts, IsSeen, IsTable, slots_in, slot_in}
 use Rattle.acceptor.specs.Acceptors.{AcceptorParts, StandsFor, begun_in}
-use Rattle.acceptor.specs.Compaction.{accepted_ballot, accept_facts, slot_facts, transaction_facts, compacted}
-use Rattle.acceptor.specs.Compaction.{IsCompacted, shorter_facts}
-use Rattle.acceptor.proofs.Begun.{begun_taken, unbegun_empty, compacted_begun}
+use Rattle.acceptor.specs.Compaction.{accepted_ballot, accept_facts, least_ballot, is_promised, common_ballot, common_facts}
+use Rattle.acceptor.specs.Compaction.{promise_facts, accepts_of, promises_of, transaction_facts, compacted, IsCompacted, shorter_facts}
+use Rattle.acceptor.proofs.Begun.{begun_taken, unbegun_empty, compacted_begun, named_any}
 use Rattle.acceptor.proofs.Instances.{each_named}
+use Rattle.acceptor.proofs.Least.{common_low}
+use Rattle.acceptor.proofs.Lengths.{no_longer, each_valid}
 use Rattle.acceptor.proofs.Played.{slot_more}
 
 -- ---- slots of facts, with more after them
@@ -170,100 +173,89 @@ module _ (config : Config) (number : ℕ) where
               (λ k. record { mbal = max (same k).mbal b; report = Some (b, v) }) ∙ (λ k. record { mbal = m k; report = Some (b, v) })
           by false e = refl
 
+  -- a promise for all: each instance of the transaction that stands below it is raised
+  abbrev leveled : Slots → TxParts → ℕ → Slots
+  leveled g tx b other j =
+      if is_participant other j && tx_eq other tx then record { mbal = max (g other j).mbal b; report = (g other j).report } else g other j
+
+  with_promise_all : {facts : List Fact} {g : Slots} (tx : TxParts) (b : ℕ) → Leads facts g → is_some_below g tx b ≡ true
+      → Leads (facts ++ Fact.PromiseAll tx b ∷ []) (leveled g tx b)
+  with_promise_all {facts} {g} tx b leads some =
+      leads_to_same _ (with_one (Fact.PromiseAll tx b) leads some) (λ other j. by other j (is_participant other j && tx_eq other tx))
+    where
+      by : (other : TxParts) (j : ℕ) (t : Bool)
+          → record { mbal = raised (g other j).mbal (if t then Some b else None); report = latest (g other j).report None }
+          ≡ (if t then record { mbal = max (g other j).mbal b; report = (g other j).report } else g other j)
+      by other j true = refl
+      by other j false = refl
+
   -- ---- the facts of one slot
 
-  -- where nothing was accepted, and no ballot was taken part in
-  at_first : (s : Slot) (m : ℕ) (e : s ≡ empty_slot) → m ≤ 0 → record { mbal = m; report = None } ≡ s
-  at_first s m e le =
-      let zero : m ≡ 0 = omega (arith, le) in
-      (λ k. record { mbal = zero k; report = None }) ∙ sym e
+  -- a slot that took part in no ballot but that of what it accepted last
+  abbrev at_accept : Report → Slot
+  at_accept o = record { mbal = accepted_ballot o; report = o }
 
-  module _ {facts : List Fact} {g : Slots} (tx : TxParts) (i : ℕ) (leads : Leads facts g) (named : is_participant tx i ≡ true)
-      (empty : g tx i ≡ empty_slot) where
-    by_parts : (o : Report) (m : ℕ) (t : Bool) → ltb (accepted_ballot o) m ≡ t → accepted_ballot o ≤ m
-        → Leads (facts ++ (accept_facts tx i o ++ (if t then Fact.Promise tx i m ∷ [] else [])))
-        (changed g tx i (record { mbal = m; report = o }))
-    by_parts None m true e low =
-        let lt : (g tx i).mbal < m = subst (λ (s : Slot). s.mbal < m) (sym empty) (ltb-true 0 m e) in
-        leads_to_same _ (with_promise tx i m leads named lt) (λ other j. λ k.
-        if instance_eq other j tx i then record { mbal = m; report = (empty k).report } else g other j)
-    by_parts None m false e low =
-        subst (λ (fs : List Fact). Leads fs (changed g tx i (record { mbal = m; report = None }))) (sym (append-nil facts))
-        (leads_to_same _ leads (λ other j. stays other j (instance_eq other j tx i) refl))
-      where
-        stays : (other : TxParts) (j : ℕ) (t : Bool) → instance_eq other j tx i ≡ t
-            → g other j ≡ (if t then record { mbal = m; report = None } else g other j)
-        stays other j true same = at_instance g other j tx i same ∙ sym (at_first (g tx i) m empty (ltb-false 0 m e))
-        stays other j false same = refl
-    by_parts (Some last) m true e low =
-        subst (λ (fs : List Fact). Leads fs (changed g tx i (record { mbal = m; report = Some last })))
-        (append_assoc facts (Fact.Accept tx i last.0 last.1 ∷ []) (Fact.Promise tx i m ∷ []))
-        (leads_to_same _ (with_promise tx i m accepted named lt) (λ other j. twice other j (instance_eq other j tx i)))
-      where
-        after : Slot
-        after = record { mbal = last.0; report = Some (last.0, last.1) }
+  -- the same once it is raised to a ballot
+  abbrev at_level : ℕ → Slot → Slot
+  at_level b s = record { mbal = max (accepted_ballot s.report) b; report = s.report }
 
-        accepted : Leads (facts ++ Fact.Accept tx i last.0 last.1 ∷ []) (changed g tx i after)
-        accepted = with_accept tx i last.0 last.1 leads named empty
+  unchanged : (g : Slots) (tx : TxParts) (i : ℕ) (s : Slot) → g tx i ≡ s → (other : TxParts) (j : ℕ) → g other j ≡ changed g tx i s other j
+  unchanged g tx i s e other j = by (instance_eq other j tx i) refl
+    where
+      by : (t : Bool) → instance_eq other j tx i ≡ t → g other j ≡ (if t then s else g other j)
+      by true same = at_instance g other j tx i same ∙ e
+      by false same = refl
 
-        lt : (changed g tx i after tx i).mbal < m
-        lt = subst (λ (s : Slot). s.mbal < m) (sym (changed_self g tx i after)) (ltb-true last.0 m e)
+  with_accepted : {facts : List Fact} {g : Slots} (tx : TxParts) (i : ℕ) (o : Report) → Leads facts g → is_participant tx i ≡ true
+      → g tx i ≡ empty_slot → Leads (facts ++ accept_facts tx i o) (changed g tx i (at_accept o))
+  with_accepted {facts} {g} tx i None leads named empty =
+      subst (λ (fs : List Fact). Leads fs (changed g tx i empty_slot)) (sym (append-nil facts))
+      (leads_to_same _ leads (unchanged g tx i empty_slot empty))
+  with_accepted tx i (Some last) leads named empty = with_accept tx i last.0 last.1 leads named empty
 
-        twice : (other : TxParts) (j : ℕ) (t : Bool)
-            → (if t then record { mbal = m; report = (changed g tx i after tx i).report } else (if t then after else g other j))
-            ≡ (if t then record { mbal = m; report = Some last } else g other j)
-        twice other j true = λ k. record { mbal = m; report = (changed_self g tx i after k).report }
-        twice other j false = refl
-    by_parts (Some last) m false e low =
-        let same : last.0 ≡ m = omega (arith, low, ltb-false last.0 m e) in
-        leads_to_same _ (with_accept tx i last.0 last.1 leads named empty) (λ other j. λ k.
-        if instance_eq other j tx i then record { mbal = same k; report = Some last } else g other j)
+  with_promised : {facts : List Fact} {g : Slots} (tx : TxParts) (common i : ℕ) (s : Slot) → IsLow s → common ≤ s.mbal → Leads facts g
+      → is_participant tx i ≡ true → g tx i ≡ at_level common s → Leads (facts ++ promise_facts tx common i s) (changed g tx i s)
+  with_promised {facts} {g} tx common i s low fits leads named at = by (ltb (max (accepted_ballot s.report) common) s.mbal) refl
+    where
+      by : (t : Bool) → ltb (max (accepted_ballot s.report) common) s.mbal ≡ t
+          → Leads (facts ++ (if t then Fact.Promise tx i s.mbal ∷ [] else [])) (changed g tx i s)
+      by true e =
+          let lt : (g tx i).mbal < s.mbal = subst (λ (x : Slot). x.mbal < s.mbal) (sym at) (ltb-true _ _ e) in
+          leads_to_same _ (with_promise tx i s.mbal leads named lt) (λ other j. λ k.
+          if instance_eq other j tx i then record { mbal = s.mbal; report = (at k).report } else g other j)
+      by false e =
+          let m : max (accepted_ballot s.report) common ≡ s.mbal = omega (arith, low, fits, ltb-false _ _ e) in
+          let same : g tx i ≡ s = at ∙ (λ k. record { mbal = m k; report = s.report }) in
+          subst (λ (fs : List Fact). Leads fs (changed g tx i s)) (sym (append-nil facts)) (leads_to_same _ leads (unchanged g tx i s same))
 
-    with_slot : (s : Slot) → IsLow s → Leads (facts ++ slot_facts tx i s) (changed g tx i s)
-    with_slot s low = by_parts s.report s.mbal (ltb (accepted_ballot s.report) s.mbal) refl low
+  -- ---- those of each instance of a transaction
 
-  -- ---- those of many
+  -- slots of which those of a transaction are others
+  abbrev of_tx : Slots → TxParts → (ℕ → Slot) → Slots
+  of_tx g tx b other j = if is_participant other j && tx_eq other tx then b j else g other j
 
-  module _ (slots : Slots) (low : (tx : TxParts) (i : ℕ) → IsLow (slots tx i)) where
-    -- the slots of those that are done, and those at first of all others
-    abbrev so_far : (TxParts → ℕ → Bool) → Slots
-    so_far done tx i = if done tx i then slots tx i else empty_slot
+  module _ (tx : TxParts) (valid : IsTx tx) (a b : ℕ → Slot) (h : ℕ → List Fact)
+      (step : (facts : List Fact) (g : Slots) (i : ℕ) → Leads facts g → is_participant tx i ≡ true → g tx i ≡ a i
+      → Leads (facts ++ h i) (changed g tx i (b i))) where
+    abbrev among_them : Slots → List ℕ → Slots
+    among_them g is other j = if list_any (λ i. instance_eq other j tx i) is then b j else g other j
 
-    one_more : {facts : List Fact} (done : TxParts → ℕ → Bool) (tx : TxParts) (i : ℕ) → Leads facts (so_far done)
-        → is_participant tx i ≡ true
-        → done tx i ≡ false
-        → Leads (facts ++ slot_facts tx i (slots tx i)) (so_far (λ other j. instance_eq other j tx i || done other j))
-    one_more done tx i leads named new =
-        leads_to_same _ (with_slot tx i leads named (ap (λ t. if t then slots tx i else empty_slot) new) (slots tx i) (low tx i))
-        (λ other j. by other j (instance_eq other j tx i) refl)
-      where
-        by : (other : TxParts) (j : ℕ) (t : Bool) → instance_eq other j tx i ≡ t
-            → (if t then slots tx i else so_far done other j) ≡ (if t || done other j then slots other j else empty_slot)
-        by other j true e = sym (at_instance slots other j tx i e)
-        by other j false e = refl
-
-    swap : (a b c : Bool) → (b || (a || c)) ≡ ((a || b) || c)
-    swap true true c = refl
-    swap true false c = refl
-    swap false b c = refl
-
-    -- those of one transaction
-    each_more : (is : List ℕ) (facts : List Fact) (done : TxParts → ℕ → Bool) (tx : TxParts) → Leads facts (so_far done)
-        → AllByRecursion (λ i. is_participant tx i ≡ true) is → AllByRecursion (λ i. done tx i ≡ false) is → IsDistinct ◌==◌ is
-        → Leads (facts ++ flat_map (λ i. slot_facts tx i (slots tx i)) is)
-        (so_far (λ other j. list_any (λ i. instance_eq other j tx i) is || done other j))
-    each_more [] facts done tx leads named new once =
-        subst (λ (fs : List Fact). Leads fs (so_far done)) (sym (append-nil facts)) leads
-    each_more (i ∷ is) facts done tx leads named new once =
-        subst (λ (fs : List Fact). Leads fs (so_far (λ other j. list_any (λ n. instance_eq other j tx n) (i ∷ is) || done other j)))
-        (append_assoc facts (slot_facts tx i (slots tx i)) (flat_map (λ n. slot_facts tx n (slots tx n)) is))
+    each_more : (is : List ℕ) (facts : List Fact) (g : Slots) → Leads facts g → AllByRecursion (λ i. is_participant tx i ≡ true) is
+        → AllByRecursion (λ i. g tx i ≡ a i) is → IsDistinct ◌==◌ is → Leads (facts ++ flat_map h is) (among_them g is)
+    each_more [] facts g leads named before once = subst (λ (fs : List Fact). Leads fs g) (sym (append-nil facts)) leads
+    each_more (i ∷ is) facts g leads named before once =
+        subst (λ (fs : List Fact). Leads fs (among_them g (i ∷ is))) (append_assoc facts (h i) (flat_map h is))
         (leads_to_same _
-        (each_more is (facts ++ slot_facts tx i (slots tx i)) (λ other j. instance_eq other j tx i || done other j) tx
-        (one_more done tx i leads named.0 new.0) named.1
-        (still_new is new.1 (IsDistinct-head ◌==◌ i is once)) (IsDistinct-tail ◌==◌ i is once))
-        (λ other j. ap (λ t. if t then slots other j else empty_slot)
-        (swap (instance_eq other j tx i) (list_any (λ n. instance_eq other j tx n) is) (done other j))))
+        (each_more is (facts ++ h i) (changed g tx i (b i)) (step facts g i leads named.0 before.0) named.1
+        (still is before.1 (IsDistinct-head ◌==◌ i is once)) (IsDistinct-tail ◌==◌ i is once))
+        (λ other j. alike other j (instance_eq other j tx i) (list_any (λ n. instance_eq other j tx n) is) refl))
       where
+        alike : (other : TxParts) (j : ℕ) (t u : Bool) → instance_eq other j tx i ≡ t
+            → (if u then b j else (if t then b i else g other j)) ≡ (if t || u then b j else g other j)
+        alike other j true true e = refl
+        alike other j true false e = ap b (sym (eqb-true j i (first_so (j == i) (tx_eq other tx) e)))
+        alike other j false u e = refl
+
         apart : (n : ℕ) → (i == n) ≡ false → (n == i) ≡ false
         apart n e = by (n == i) refl
           where
@@ -271,42 +263,163 @@ module _ (config : Config) (number : ℕ) where
             by true same = absurd (true≢false (sym (eq-eqb i n (sym (eqb-true n i same))) ∙ e))
             by false same = refl
 
-        still_new : (ns : List ℕ) → AllByRecursion (λ n. done tx n ≡ false) ns → AllByRecursion (λ n. (i == n) ≡ false) ns
-            → AllByRecursion (λ n. (instance_eq tx n tx i || done tx n) ≡ false) ns
-        still_new [] each other = tt
-        still_new (n ∷ ns) each other = (
-          ap (λ t. (t && tx_eq tx tx) || done tx n) (apart n other.0) ∙ each.0,
-          still_new ns each.1 other.1,
+        still : (ns : List ℕ) → AllByRecursion (λ n. g tx n ≡ a n) ns → AllByRecursion (λ n. (i == n) ≡ false) ns
+            → AllByRecursion (λ n. changed g tx i (b i) tx n ≡ a n) ns
+        still [] each other = tt
+        still (n ∷ ns) each other = (
+          ap (λ t. if t && tx_eq tx tx then b i else g tx n) (apart n other.0) ∙ each.0,
+          still ns each.1 other.1,
         )
 
-    -- those of some transactions
-    abbrev is_among : List TxParts → TxParts → ℕ → Bool
-    is_among txs other j = list_any (λ tx. list_any (λ i. instance_eq other j tx i) (participants tx)) txs
-
-    all_more : (txs : List TxParts) (facts : List Fact) (done : TxParts → ℕ → Bool) → Leads facts (so_far done)
-        → AllByRecursion (λ tx. (i : ℕ) → done tx i ≡ false) txs → AllByRecursion IsTx txs → IsDistinct tx_eq txs
-        → Leads (facts ++ compacted txs slots) (so_far (λ other j. is_among txs other j || done other j))
-    all_more [] facts done leads new valid once =
-        subst (λ (fs : List Fact). Leads fs (so_far done)) (sym (append-nil facts)) leads
-    all_more (tx ∷ txs) facts done leads new valid once =
-        subst (λ (fs : List Fact). Leads fs (so_far (λ other j. is_among (tx ∷ txs) other j || done other j)))
-        (append_assoc facts (transaction_facts slots tx) (compacted txs slots))
-        (leads_to_same _
-        (all_more txs (facts ++ transaction_facts slots tx)
-        (λ other j. list_any (λ i. instance_eq other j tx i) (participants tx) || done other j)
-        (each_more (participants tx) facts done tx leads (each_named tx.branches tx.branches (λ b e. e)) (never (participants tx))
-        ascending)
-        (still_new txs new.1 (IsDistinct-head tx_eq tx txs once)) valid.1 (IsDistinct-tail tx_eq tx txs once))
-        (λ other j. ap (λ t. if t then slots other j else empty_slot)
-        (swap (list_any (λ i. instance_eq other j tx i) (participants tx)) (is_among txs other j) (done other j))))
+    -- all of them
+    each_leads : (facts : List Fact) (g : Slots) → Leads facts g → ((i : ℕ) → is_participant tx i ≡ true → g tx i ≡ a i)
+        → Leads (facts ++ flat_map h (participants tx)) (of_tx g tx b)
+    each_leads facts g leads before =
+        leads_to_same _
+        (each_more (participants tx) facts g leads named (before_all (participants tx) named) ascending)
+        (λ other j. ap (λ t. if t then b j else g other j) (among_those other j))
       where
-        never : (is : List ℕ) → AllByRecursion (λ i. done tx i ≡ false) is
-        never [] = tt
-        never (i ∷ is) = (new.0 i, never is)
+        named : AllByRecursion (λ i. is_participant tx i ≡ true) (participants tx)
+        named = each_named tx.branches tx.branches (λ b e. e)
+
+        before_all : (is : List ℕ) → AllByRecursion (λ i. is_participant tx i ≡ true) is → AllByRecursion (λ i. g tx i ≡ a i) is
+        before_all [] each = tt
+        before_all (i ∷ is) each = (before i each.0, before_all is each.1)
 
         ascending : IsDistinct ◌==◌ (participants tx)
         ascending = IsDistinct-from_AllPairs unsigned_Decides (participants tx) (λ i j d lt within e.
-            absurd (omega (arith, e, AllPairs-from_increasing (participants tx) valid.0.branches.ascending i j d lt within)))
+            absurd (omega (arith, e, AllPairs-from_increasing (participants tx) valid.branches.ascending i j d lt within)))
+
+        -- an instance is one of the transaction's
+        among_named : (j : ℕ) (t : Bool) (bs : List BranchParts)
+            → list_any (λ i. (j == i) && t) (rm_numbers bs) ≡ (list_any (is_at j) bs && t)
+        among_named j t [] = refl
+        among_named j t (c ∷ bs) = by t (j == c.rm) (c.rm == j) refl refl (among_named j t bs)
+          where
+            rest : Bool → Bool
+            rest u = list_any (λ i. (j == i) && u) (rm_numbers bs)
+
+            by : (u p q : Bool) → (j == c.rm) ≡ p → (c.rm == j) ≡ q → rest u ≡ (list_any (is_at j) bs && u)
+                → ((p && u) || rest u) ≡ ((q || list_any (is_at j) bs) && u)
+            by u true true e f r = turned u (rest u) (list_any (is_at j) bs) r
+              where
+                turned : (u r s : Bool) → r ≡ (s && u) → (u || r) ≡ u
+                turned true r s e = refl
+                turned false r true e = e
+                turned false r false e = e
+            by u false false e f r = r
+            by u true false e f r = absurd (true≢false (sym (eq-eqb c.rm j (sym (eqb-true j c.rm e))) ∙ f))
+            by u false true e f r = absurd (true≢false (sym (eq-eqb j c.rm (sym (eqb-true c.rm j f))) ∙ e))
+
+        swapped : (other : TxParts) (j : ℕ) (t : Bool) → tx_eq other tx ≡ t → (is_participant tx j && t) ≡ (is_participant other j && t)
+        swapped other j true e = ap (λ (x : TxParts). is_participant x j && true) (sym ((tx_decides other tx).0 e))
+        swapped other j false e = and-false (is_participant tx j) ∙ sym (and-false (is_participant other j))
+
+        among_those : (other : TxParts) (j : ℕ)
+            → list_any (λ i. instance_eq other j tx i) (participants tx) ≡ (is_participant other j && tx_eq other tx)
+        among_those other j = among_named j (tx_eq other tx) tx.branches ∙ swapped other j (tx_eq other tx) refl
+
+  -- ---- those of one transaction
+
+  module _ (slots : Slots) (low : (tx : TxParts) (i : ℕ) → IsLow (slots tx i)) where
+    module _ (tx : TxParts) (valid : IsTx tx) (facts : List Fact) (g : Slots) (leads : Leads facts g)
+        (empty : (i : ℕ) → g tx i ≡ empty_slot) where
+      abbrev common : ℕ
+      common = common_ballot slots tx
+
+      abbrev accepted : ℕ → Slot
+      accepted i = at_accept (slots tx i).report
+
+      with_accepts : Leads (facts ++ accepts_of slots tx) (of_tx g tx accepted)
+      with_accepts =
+          each_leads tx valid (λ i. empty_slot) accepted (λ i. accept_facts tx i (slots tx i).report)
+          (λ fs h i l named e. with_accepted tx i (slots tx i).report l named e) facts g leads (λ i named. empty i)
+
+      -- its own instances
+      own : (h : Slots) (b : ℕ → Slot) (i : ℕ) → is_participant tx i ≡ true → of_tx h tx b tx i ≡ b i
+      own h b i named = ap (λ t. if t then b i else h tx i) (and_from (is_participant tx i) (tx_eq tx tx) named (tx_self tx))
+
+      some_stands_below : (t : Bool) → list_any (λ i. is_promised (least_ballot slots tx) (slots tx i)) (participants tx) ≡ t
+          → ltb 0 (if t then least_ballot slots tx else 0) ≡ true
+          → is_some_below (of_tx g tx accepted) tx (if t then least_ballot slots tx else 0) ≡ true
+      some_stands_below true e some =
+          named_any (λ i. is_promised (least_ballot slots tx) (slots tx i))
+          (λ i. ltb (of_tx g tx accepted tx i).mbal (least_ballot slots tx)) tx
+          (λ i named promised.
+          ap (λ (s : Slot). ltb s.mbal (least_ballot slots tx)) (own g accepted i named)
+          ∙ second_so ((slots tx i).mbal == least_ballot slots tx) (ltb (accepted_ballot (slots tx i).report) (least_ballot slots tx)) promised) e
+      some_stands_below false e some = absurd (true≢false (sym some))
+
+      with_common : Leads ((facts ++ accepts_of slots tx) ++ common_facts tx common) (leveled (of_tx g tx accepted) tx common)
+      with_common = by (ltb 0 common) refl
+        where
+          by : (t : Bool) → ltb 0 common ≡ t
+              → Leads ((facts ++ accepts_of slots tx) ++ (if t then Fact.PromiseAll tx common ∷ [] else []))
+              (leveled (of_tx g tx accepted) tx common)
+          by true e = with_promise_all tx common with_accepts (some_stands_below _ refl e)
+          by false e =
+              subst (λ (fs : List Fact). Leads fs (leveled (of_tx g tx accepted) tx common)) (sym (append-nil (facts ++ accepts_of slots tx)))
+              (leads_to_same _ with_accepts (λ other j. same (of_tx g tx accepted other j) (is_participant other j && tx_eq other tx)))
+            where
+              same : (s : Slot) (t : Bool) → s ≡ (if t then record { mbal = max s.mbal common; report = s.report } else s)
+              same s true =
+                  let m : s.mbal ≡ max s.mbal common = omega (arith, ltb-false 0 common e) in
+                  λ k. record { mbal = m k; report = s.report }
+              same s false = refl
+
+      with_promises : Leads (((facts ++ accepts_of slots tx) ++ common_facts tx common) ++ promises_of slots tx)
+          (of_tx (leveled (of_tx g tx accepted) tx common) tx (slots tx))
+      with_promises =
+          each_leads tx valid (λ i. at_level common (slots tx i)) (slots tx) (λ i. promise_facts tx common i (slots tx i))
+          (λ fs h i l named e. with_promised tx common i (slots tx i) (low tx i) (common_low slots tx i named) l named e)
+          _ _ with_common
+          (λ i named.
+          own (of_tx g tx accepted) (λ j. at_level_of common (of_tx g tx accepted tx j)) i named
+          ∙ ap (at_level_of common) (own g accepted i named))
+        where
+          at_level_of : ℕ → Slot → Slot
+          at_level_of b s = record { mbal = max s.mbal b; report = s.report }
+
+      with_transaction : Leads (facts ++ transaction_facts slots tx) (of_tx g tx (slots tx))
+      with_transaction =
+          subst (λ (fs : List Fact). Leads fs (of_tx g tx (slots tx)))
+          (append_assoc (facts ++ accepts_of slots tx) (common_facts tx common) (promises_of slots tx)
+          ∙ append_assoc facts (accepts_of slots tx) (common_facts tx common ++ promises_of slots tx))
+          (leads_to_same _ with_promises (λ other j. over other j (is_participant other j && tx_eq other tx)))
+        where
+          over : (other : TxParts) (j : ℕ) (t : Bool)
+              → (if t then slots tx j else (if t then record {
+                mbal = max (if t then accepted j else g other j).mbal common;
+                report = (if t then accepted j else g other j).report;
+              } else (if t then accepted j else g other j)))
+              ≡ (if t then slots tx j else g other j)
+          over other j true = refl
+          over other j false = refl
+
+    -- ---- those of some transactions
+
+    -- an instance is one of theirs
+    abbrev is_among : List TxParts → TxParts → ℕ → Bool
+    is_among txs other j = list_any (λ tx. is_participant other j && tx_eq other tx) txs
+
+    all_more : (txs : List TxParts) (facts : List Fact) (g : Slots) → Leads facts g
+        → AllByRecursion (λ tx. (i : ℕ) → g tx i ≡ empty_slot) txs → AllByRecursion IsTx txs → IsDistinct tx_eq txs
+        → Leads (facts ++ compacted txs slots) (λ other j. if is_among txs other j then slots other j else g other j)
+    all_more [] facts g leads new valid once = subst (λ (fs : List Fact). Leads fs g) (sym (append-nil facts)) leads
+    all_more (tx ∷ txs) facts g leads new valid once =
+        subst (λ (fs : List Fact). Leads fs (λ other j. if is_among (tx ∷ txs) other j then slots other j else g other j))
+        (append_assoc facts (transaction_facts slots tx) (compacted txs slots))
+        (leads_to_same _
+        (all_more txs (facts ++ transaction_facts slots tx) (of_tx g tx (slots tx)) (with_transaction tx valid.0 facts g leads new.0)
+        (still_new txs new.1 (IsDistinct-head tx_eq tx txs once)) valid.1 (IsDistinct-tail tx_eq tx txs once))
+        (λ other j. one_of other j (is_participant other j && tx_eq other tx) (is_among txs other j) refl))
+      where
+        one_of : (other : TxParts) (j : ℕ) (t u : Bool) → (is_participant other j && tx_eq other tx) ≡ t
+            → (if u then slots other j else (if t then slots tx j else g other j)) ≡ (if t || u then slots other j else g other j)
+        one_of other j true true e = refl
+        one_of other j true false e =
+            ap (λ (x : TxParts). slots x j) (sym ((tx_decides other tx).0 (second_so (is_participant other j) (tx_eq other tx) e)))
+        one_of other j false u e = refl
 
         other_tx : (y : TxParts) → tx_eq tx y ≡ false → tx_eq y tx ≡ false
         other_tx y e = by (tx_eq y tx) refl
@@ -315,67 +428,34 @@ module _ (config : Config) (number : ℕ) where
             by true same = absurd (true≢false (sym ((tx_decides tx y).1 (sym ((tx_decides y tx).0 same))) ∙ e))
             by false same = refl
 
-        none_of : (y : TxParts) (j : ℕ) (is : List ℕ) → tx_eq y tx ≡ false → list_any (λ i. instance_eq y j tx i) is ≡ false
-        none_of y j [] e = refl
-        none_of y j (i ∷ is) e = ap (λ t. ((j == i) && t) || list_any (λ n. instance_eq y j tx n) is) e
-            ∙ ap (λ t. t || list_any (λ n. instance_eq y j tx n) is) (and-false (j == i)) ∙ none_of y j is e
-
-        still_new : (ys : List TxParts) → AllByRecursion (λ y. (i : ℕ) → done y i ≡ false) ys → AllByRecursion (λ y. tx_eq tx y ≡ false) ys
-            → AllByRecursion (λ y. (j : ℕ) → (list_any (λ i. instance_eq y j tx i) (participants tx) || done y j) ≡ false) ys
+        still_new : (ys : List TxParts) → AllByRecursion (λ y. (i : ℕ) → g y i ≡ empty_slot) ys → AllByRecursion (λ y. tx_eq tx y ≡ false) ys
+            → AllByRecursion (λ y. (j : ℕ) → of_tx g tx (slots tx) y j ≡ empty_slot) ys
         still_new [] each other = tt
         still_new (y ∷ ys) each other = (
-          λ j. ap (λ t. t || done y j) (none_of y j (participants tx) (other_tx y other.0)) ∙ each.0 j,
+          λ j. ap (λ t. if is_participant y j && t then slots tx j else g y j) (other_tx y other.0)
+              ∙ ap (λ t. if t then slots tx j else g y j) (and-false (is_participant y j)) ∙ each.0 j,
           still_new ys each.1 other.1,
         )
 
     compacted_leads : (txs : List TxParts) → AllByRecursion IsTx txs → IsDistinct tx_eq txs
         → ((tx : TxParts) (i : ℕ) → is_among txs tx i ≡ false → slots tx i ≡ empty_slot) → Leads (compacted txs slots) slots
     compacted_leads txs valid once outside =
-        leads_to_same slots (all_more txs [] (λ other j. false) (record { play = refl; slots_are = λ tx i. refl }) (at_start txs) valid
+        leads_to_same slots (all_more txs [] (λ other j. empty_slot) (record { play = refl; slots_are = λ tx i. refl }) (at_start txs) valid
         once)
         (λ tx i. by tx i (is_among txs tx i) refl)
       where
-        at_start : (ys : List TxParts) → AllByRecursion (λ y. (i : ℕ) → ◌≡◌ {A = Bool} false false) ys
+        at_start : (ys : List TxParts) → AllByRecursion (λ y. (i : ℕ) → ◌≡◌ {A = Slot} empty_slot empty_slot) ys
         at_start [] = tt
         at_start (y ∷ ys) = (λ i. refl, at_start ys)
 
-        by : (tx : TxParts) (i : ℕ) (t : Bool) → is_among txs tx i ≡ t → (if t || false then slots tx i else empty_slot) ≡ slots tx i
+        by : (tx : TxParts) (i : ℕ) (t : Bool) → is_among txs tx i ≡ t → (if t then slots tx i else empty_slot) ≡ slots tx i
         by tx i true e = refl
         by tx i false e = sym (outside tx i e)
 
     -- an instance of one of some transactions is among theirs
-    there : (i : ℕ) (t : Bool) (bs : List BranchParts) → t ≡ true → list_any (is_at i) bs ≡ true
-        → list_any (λ j. (i == j) && t) (rm_numbers bs) ≡ true
-    there i t [] of named = named
-    there i t (b ∷ bs) of named = by (b.rm == i) refl (there i t bs of)
-      where
-        by : (s : Bool) → (b.rm == i) ≡ s
-            → (list_any (is_at i) bs ≡ true → list_any (λ j. (i == j) && t) (rm_numbers bs) ≡ true)
-            → list_any (λ j. (i == j) && t) (rm_numbers (b ∷ bs)) ≡ true
-        by true e rest =
-            (λ k. (eq-eqb i b.rm (sym (eqb-true b.rm i e)) k && of k) || list_any (λ j. (i == j) && t) (rm_numbers bs))
-        by false e rest =
-            later ((i == b.rm) && t) _ (rest (sym (ap (λ s. s || list_any (is_at i) bs) e) ∙ named))
-          where
-            later : (p q : Bool) → q ≡ true → (p || q) ≡ true
-            later true q h = refl
-            later false q h = h
-
     among : (txs : List TxParts) (tx : TxParts) (i : ℕ) → list_any (tx_eq tx) txs ≡ true → is_participant tx i ≡ true
         → is_among txs tx i ≡ true
-    among [] tx i seen named = seen
-    among (y ∷ ys) tx i seen named = by (tx_eq tx y) refl (λ rest. among ys tx i rest named)
-      where
-        later : (p q : Bool) → q ≡ true → (p || q) ≡ true
-        later true q h = refl
-        later false q h = h
-
-        by : (t : Bool) → tx_eq tx y ≡ t → (list_any (tx_eq tx) ys ≡ true → is_among ys tx i ≡ true) → is_among (y ∷ ys) tx i ≡ true
-        by true e rest =
-            let here =
-            there i (tx_eq tx y) y.branches e (subst (λ (x : TxParts). is_participant x i ≡ true) ((tx_decides tx y).0 e) named) in
-            ap (λ t. t || is_among ys tx i) here
-        by false e rest = later _ (is_among ys tx i) (rest (sym (ap (λ t. t || list_any (tx_eq tx) ys) e) ∙ seen))
+    among txs tx i seen named = ap (λ (t : Bool). list_any (λ y. t && tx_eq tx y) txs) named ∙ seen
 
 -- ---- those of an acceptor
 
@@ -437,6 +517,9 @@ pub is_compacted : (a : AcceptorParts) (kept : List Fact) → IsTable a.table �
     → (config : Config) (number : ℕ) (facts : List Fact) → StandsFor config number a facts → IsCompacted kept config number facts
 is_compacted a kept is valid e config number facts stands = record {
   list = list;
+  no_longer = subst (λ (fs : List Fact). sum (map frame_length fs) ≤ sum (map frame_length facts)) (sym list)
+      (no_longer config number facts stands.played
+      (each_valid facts (subst (AllByRecursion IsTx) stands.begun_are valid)));
   same = record {
     play = ap (λ (fs : List Fact). all_play config (A number) [] fs) e ∙ leads.play;
     stands = λ more other h. record {
@@ -448,6 +531,7 @@ is_compacted a kept is valid e config number facts stands = record {
       begun_are = h.begun_are ∙ first_both fact_tx kept facts more order;
     };
     fits = λ more fact. λ k. plays_at_acceptor (λ tx i. same_after kept facts more alike tx i k) fact;
+    shorter = λ more. λ k. compacted (first_both fact_tx kept facts more order k) (λ tx i. same_after kept facts more alike tx i k);
   };
 }
   where

@@ -62,6 +62,21 @@ module _ (tx : TxParts) (q : ℕ → Bool) (place : ℕ) where
       → true ≡ list_all q (participants tx)
   all_ends le e = sym (ap (list_all q) (drop_end tx place le)) ∙ e
 
+  pub any_goes_on : place < length tx.branches → q (nth_branch tx place).rm ≡ false
+      → list_any q (drop place (participants tx)) ≡ list_any q (participants tx)
+      → list_any q (drop (place + 1) (participants tx)) ≡ list_any q (participants tx)
+  any_goes_on lt failed e =
+      ap (λ b. b || list_any q (drop (place + 1) (participants tx))) (sym failed) ∙ sym (ap (list_any q) (drop_step tx place lt)) ∙ e
+
+  pub any_stops : place < length tx.branches → q (nth_branch tx place).rm ≡ true
+      → list_any q (drop place (participants tx)) ≡ list_any q (participants tx) → true ≡ list_any q (participants tx)
+  any_stops lt passed e =
+      ap (λ b. b || list_any q (drop (place + 1) (participants tx))) (sym passed) ∙ sym (ap (list_any q) (drop_step tx place lt)) ∙ e
+
+  pub any_ends : length tx.branches ≤ place → list_any q (drop place (participants tx)) ≡ list_any q (participants tx)
+      → false ≡ list_any q (participants tx)
+  any_ends le e = sym (ap (list_any q) (drop_end tx place le)) ∙ e
+
 -- one more item
 each_next : {X : Type 0} (P : X → Type 0) (front : List X) (x : X) → AllByRecursion P front → P x → AllByRecursion P (front ++ x ∷ [])
 each_next P [] x each one = (one, tt)

@@ -5,6 +5,8 @@ pub mod Played
 pub mod Rows
 pub mod Standing
 pub mod Begun
+pub mod Least
+pub mod Lengths
 pub mod Compacting
 pub mod Writing
 pub mod Frames

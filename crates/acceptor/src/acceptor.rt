@@ -286,8 +286,9 @@ impl Acceptor {
         }
     }
 
-    /// The facts of a shorter record that says the same: for each transaction in the order of its first fact, and each instance ascending,
-    /// what was accepted last, and then a promise, where the instance took part in a greater ballot. `NoMemory` is the only refusal.
+    /// The facts of a shorter record that says the same, and whose frames are together no longer: for each transaction in the order of
+    /// its first fact what each instance accepted last, ascending, then one promise for all, where an instance that took part in the
+    /// least ballot accepted only below it, and then a promise of each that took part in a greater one. `NoMemory` is the only refusal.
     pub fn shorter(&self) -> Result<Vec<Fact>, Refusal>
         ensures ok { IfOk result (λ kept. Compacts self.now kept.items) }
         ensures err { IfErr result (λ e. e ≡ NoMemory) }

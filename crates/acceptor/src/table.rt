@@ -171,8 +171,8 @@ impl Table {
         }
     }
 
-    /// The facts that lead to its slots: for each transaction that has begun, in this order, and each instance ascending, what was
-    /// accepted last, and then a promise above it. `NoMemory` is the only refusal.
+    /// The facts that lead to its slots: for each transaction that has begun, in this order, what each instance accepted last, then one
+    /// promise for all, and then single ones above it. `NoMemory` is the only refusal.
     pub fn compacted(&self, begun: &Order) -> Result<Vec<Fact>, Refusal>
         requires { AreInside (length self.now.transactions) begun.now.numbers }
         ensures ok { IfOk result (λ facts. facts.items

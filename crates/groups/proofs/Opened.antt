@@ -12,15 +12,16 @@ use Rattle.protocol.specs.declared.nodes.NodeId.{NodeId}
 use Rattle.protocol.specs.declared.nodes.NodeId.TheVariants.{A, L, R}
 use Rattle.protocol.specs.declared.rows.Row.{Row}
 use Rattle.protocol.specs.Effects.{Config}
-use Rattle.protocol.specs.Nodes.{NodeState, Memory, Outcome, answer_outcome, down_node, empty_memory}
+use Rattle.protocol.specs.Nodes.{NodeState, Memory, Outcome, all_play, answer_outcome, down_node, empty_memory}
 use Rattle.node_core.specs.declared.config.Sizes.{Sizes}
 use Rattle.node_core.specs.declared.role.Role.{Role}
 use Rattle.node_core.specs.Roles.{RoleStands}
 use Rattle.node_core.specs.Nodes.{AreSizes, HasRows, Holds, Keeps, Kept, MeansFrom, NodeParts, NodeStands, RoleIs, SameState, Stands, begun}
 use Rattle.node_core.specs.Opening.{IsOpened, IsUnopened, cluster_of, frames_of}
+use Rattle.node_core.specs.Shorter.{shorter_record}
 use Rattle.node_core.proofs.Loading.{frames_stored, holds_again, same_holds}
-use Rattle.node_core.proofs.Restarting.{down_stands, same_contents}
-use Rattle.node_core.proofs.Starting.{begun_rows}
+use Rattle.node_core.proofs.Restarting.{down_stands, same_contents, shorter_begun}
+use Rattle.node_core.proofs.Starting.{begun_plays, begun_rows}
 use Rattle.groups.specs.Processes.{GoesOn, StaysDown, StoodFor, down_over, restarted, torn_by}
 
 -- ---- rows that are its own in the cluster
@@ -55,6 +56,18 @@ begun_again config who own other None all facts means has same role more memory 
 begun_again config (R rm) own other (Some rows) all facts means has same role more memory s = s
 begun_again config (A a) own other (Some rows) all facts means has same role more memory s = absurd means
 begun_again config (L l) own other (Some rows) all facts means has same role more memory s = absurd means
+
+-- the shorter record is the same
+shorter_again : (config : Config) (who : NodeId) (own other : List Row) (rows : Option (List Row)) (all : List Entry) (facts : List Fact)
+    → MeansFrom who all rows facts → HasRows config who own
+    → SameState (begun (cluster_of config who rows) who other rows) (cluster_of config who rows) who facts facts
+    → (more : List Fact) → all_play (begun config who other rows) who [] (facts ++ more) ≡ true
+    → shorter_record (begun config who other rows) who (facts ++ more) ≡ shorter_record (begun config who own rows) who (facts ++ more)
+shorter_again config who own other None all facts means has same more play =
+    same.shorter more play ∙ sym (shorter_begun config who own has (facts ++ more))
+shorter_again config (R rm) own other (Some rows) all facts means has same more play = refl
+shorter_again config (A a) own other (Some rows) all facts means has same more play = absurd means
+shorter_again config (L l) own other (Some rows) all facts means has same more play = absurd means
 
 sizes_of : (config : Config) (who : NodeId) (rows : Option (List Row)) (sizes : Sizes) → AreSizes (cluster_of config who rows) sizes
     → AreSizes config sizes
@@ -154,6 +167,11 @@ module _ (config : Config) (who : NodeId) (before : NodeParts) (m : NodeState) (
             (begun_again config who before.rows node.rows o.kept.rows o.held.all o.kept.facts o.held.means s.rows_are found_says role more
             memory h);
         fits = says.fits;
+        shorter = λ more play.
+            shorter_again config who before.rows node.rows o.kept.rows o.held.all o.kept.facts o.held.means s.rows_are found_says more play
+            ∙ says.shorter more
+            (begun_plays config who before.rows o.kept.rows [] (o.kept.facts ++ more)
+            ∙ sym (begun_plays config who node.rows o.kept.rows [] (o.kept.facts ++ more)) ∙ play);
       }
 
       role_says : (role : Role) → RoleStands cluster who role o.kept.facts empty_memory → RoleStands config who role m.facts empty_memory

@@ -1,19 +1,21 @@
 -- The ballots of a compacted record play, and each transaction's is its greatest.
-use Rattle.std.proofs.Common.{◌≡◌, ◌∙◌, ◌==◌, ℕ, ◌<◌, ◌≤◌, max, Bool, true, false, ◌||◌, ltb, List, [], ◌∷◌, ◌++◌}
-use Rattle.std.proofs.Common.{refl, sym, ap, subst, append_assoc, arith}
+use Rattle.std.proofs.Common.{◌≡◌, ◌∙◌, ◌==◌, ℕ, ◌+◌, ◌<◌, ◌≤◌, max, Bool, true, false, ◌||◌, ltb, List, [], ◌∷◌, ◌++◌}
+use Rattle.std.proofs.Common.{map, sum, refl, sym, ap, subst, append_assoc, arith}
 use Rattle.std.specs.Prelude.{if◌then◌else◌, Option, Some, None, fold}
 use Rattle.std.specs.List.{AllByRecursion, IsDistinct, list_any, cons_option}
 use Rattle.std.specs.Cmp.{first_so, second_so}
 use Rattle.std.proofs.lemmas.Bool.{ltb-true, ltb-false, lt-ltb, and_from, true≢false}
 use Rattle.std.proofs.lemmas.List.{append-nil}
+use Rattle.std.proofs.lemmas.List.Sums.{sum_by-cons}
 use Rattle.std.proofs.lemmas.Map.Keys.{IsDistinct-head, IsDistinct-tail}
 use Rattle.xid.specs.Transactions.{TxParts, tx_eq}
 use Rattle.ballot.specs.Ballots.{owner_of}
 use Rattle.ballot.specs.Greatest.{greatest}
 use Rattle.stable_record.specs.declared.fact.FactKind.{FactKind as Fact}
 use Rattle.stable_record.specs.Facts.{fact_tx}
+use Rattle.stable_record.specs.Frames.{frame_length}
 use Rattle.transactions.specs.Seen.{seen_with}
-use Rattle.transactions.proofs.First.{seen_after, seen_all, first_any, first_both, first_once}
+use Rattle.transactions.proofs.First.{seen_after, seen_all, first_any, first_both, first_more, first_once}
 use Rattle.protocol.specs.declared.nodes.NodeId.TheVariants.{L}
 use Rattle.protocol.specs.Effects.{Config}
 use Rattle.protocol.specs.Facts.{last_ballot, ballot_begun}
@@ -275,6 +277,128 @@ compacted_begun stored txs once some = ballots_seen stored txs [] (each txs some
       each ys (λ tx e. there tx (ap (λ t. tx_eq tx y || t) e ∙ or_yes (tx_eq tx y))),
     )
 
+-- ---- their lengths
+
+-- the length of the frames of facts
+abbrev length_of : List Fact → ℕ
+length_of [] = 0
+length_of (fact ∷ facts) = frame_length fact + length_of facts
+
+length_both : (xs ys : List Fact) → length_of (xs ++ ys) ≡ length_of xs + length_of ys
+length_both [] ys = omega arith
+length_both (x ∷ xs) ys = omega (arith, length_both xs ys)
+
+length_sum : (facts : List Fact) → sum (map frame_length facts) ≡ length_of facts
+length_sum [] = refl
+length_sum (fact ∷ facts) =
+    let all : sum (map frame_length (fact ∷ facts)) ≡ frame_length fact + sum (map frame_length facts) =
+    sum_by-cons (λ (n : ℕ). n) (frame_length fact) (map frame_length facts) in
+    all ∙ ap (λ n. frame_length fact + n) (length_sum facts)
+
+ballot_length : (tx : TxParts) (b c : ℕ) → length_of (ballot_facts tx b) ≤ frame_length (Fact.Ballot tx c)
+ballot_length tx b c = by (ltb 0 b)
+  where
+    by : (t : Bool) → length_of (if t then Fact.Ballot tx b ∷ [] else []) ≤ frame_length (Fact.Ballot tx c)
+    by true = omega arith
+    by false = omega arith
+
+-- where the ballots of all but one transaction stay
+module _ (before after : StoredBallots) (tx : TxParts) (b : ℕ)
+    (others : (other : TxParts) → tx_eq other tx ≡ false → after other ≡ before other) where
+  others_same : (txs : List TxParts) → AllByRecursion (λ y. tx_eq tx y ≡ false) txs → compacted txs after ≡ compacted txs before
+  others_same [] each = refl
+  others_same (y ∷ ys) each = λ k. ballot_facts y (others y (other_turned tx y each.0) k) ++ others_same ys each.1 k
+
+  grows : (txs : List TxParts) → IsDistinct tx_eq txs
+      → length_of (compacted txs after) ≤ length_of (compacted txs before) + frame_length (Fact.Ballot tx b)
+  grows [] once = omega arith
+  grows (y ∷ ys) once = by (tx_eq y tx) refl (grows ys (IsDistinct-tail tx_eq y ys once))
+    where
+      by : (t : Bool) → tx_eq y tx ≡ t
+          → length_of (compacted ys after) ≤ length_of (compacted ys before) + frame_length (Fact.Ballot tx b)
+          → length_of (compacted (y ∷ ys) after) ≤ length_of (compacted (y ∷ ys) before) + frame_length (Fact.Ballot tx b)
+      by true e left =
+          let now = length_both (ballot_facts y (before y)) (compacted ys before) in
+          let later = length_both (ballot_facts y (after y)) (compacted ys after) in
+          let same = same_tx y tx e in
+          let rest = ap length_of
+          (others_same ys (subst (λ (x : TxParts). AllByRecursion (λ z. tx_eq x z ≡ false) ys) same (IsDistinct-head tx_eq y ys once))) in
+          let one = subst (λ (x : TxParts). length_of (ballot_facts y (after y)) ≤ frame_length (Fact.Ballot x b)) same
+          (ballot_length y (after y) b) in
+          omega (arith, now, later, rest, one)
+      by false e left =
+          let now = length_both (ballot_facts y (before y)) (compacted ys before) in
+          let later = length_both (ballot_facts y (after y)) (compacted ys after) in
+          let one = ap (λ n. length_of (ballot_facts y n)) (others y e) in
+          omega (arith, now, later, one, left)
+
+-- a transaction that hasn't begun adds nothing
+seen_same : (before : List Fact) (tx : TxParts)
+    → length_of (compacted (seen_with (begun_in before) tx) (last_ballot before)) ≤ length_of (shorter_facts before)
+seen_same before tx = by (list_any (tx_eq tx) (begun_in before)) refl
+  where
+    one_more : (txs : List TxParts) → length_of (ballot_facts tx (last_ballot before tx)) ≤ 0
+        → length_of (compacted (txs ++ tx ∷ []) (last_ballot before)) ≤ length_of (compacted txs (last_ballot before))
+    one_more [] none = omega (arith, length_both (ballot_facts tx (last_ballot before tx)) [], none)
+    one_more (y ∷ ys) none =
+        omega (
+          arith,
+          length_both (ballot_facts y (last_ballot before y)) (compacted (ys ++ tx ∷ []) (last_ballot before)),
+          length_both (ballot_facts y (last_ballot before y)) (compacted ys (last_ballot before)),
+          one_more ys none,
+        )
+
+    by : (t : Bool) → list_any (tx_eq tx) (begun_in before) ≡ t
+        → length_of (compacted (if t then begun_in before else begun_in before ++ tx ∷ []) (last_ballot before))
+        ≤ length_of (shorter_facts before)
+    by true e = omega arith
+    by false e =
+        let none : last_ballot before tx ≡ 0 = no_ballot [] before tx (sym (first_any fact_tx tx before) ∙ e) in
+        one_more (begun_in before) (subst (λ n. length_of (ballot_facts tx n) ≤ 0) (sym none) (omega arith))
+
+one_fact : (config : Config) (number : ℕ) (before : List Fact) (fact : Fact) → plays config (L number) before fact ≡ true
+    → length_of (shorter_facts (before ++ fact ∷ [])) ≤ length_of (shorter_facts before) + frame_length fact
+one_fact config number before (Fact.Ballot tx b) fits =
+    let above : last_ballot before tx < b =
+    ltb-true _ _ (first_so (ltb (last_ballot before tx) b) (owner_of config.leaders b == number) fits) in
+    let seen = ap (λ ys. length_of (compacted ys (last_ballot before))) (first_more fact_tx before (Fact.Ballot tx b)) in
+    omega (
+      arith,
+      seen,
+      grows (last_ballot before) (last_ballot (before ++ Fact.Ballot tx b ∷ [])) tx b
+      (λ other e. stored_ballot before tx other b above ∙ ap (λ t. if t then b else last_ballot before other) e)
+      (begun_in (before ++ Fact.Ballot tx b ∷ [])) (first_once fact_tx (before ++ Fact.Ballot tx b ∷ [])),
+      seen_same before tx,
+    )
+one_fact config number before (Fact.Promise tx i b) fits = absurd (true≢false (sym fits))
+one_fact config number before (Fact.Accept tx i b v) fits = absurd (true≢false (sym fits))
+one_fact config number before (Fact.PromiseAll tx b) fits = absurd (true≢false (sym fits))
+one_fact config number before (Fact.VotePrepared tx keys) fits = absurd (true≢false (sym fits))
+one_fact config number before (Fact.VoteAborted tx) fits = absurd (true≢false (sym fits))
+one_fact config number before (Fact.Committed tx) fits = absurd (true≢false (sym fits))
+one_fact config number before (Fact.Aborted tx) fits = absurd (true≢false (sym fits))
+
+module _ (config : Config) (number : ℕ) where
+  lengths_from : (before more : List Fact) → all_play config (L number) before more ≡ true
+      → length_of (shorter_facts before) ≤ length_of before → length_of (shorter_facts (before ++ more)) ≤ length_of (before ++ more)
+  lengths_from before [] play le =
+      subst (λ (fs : List Fact). length_of (shorter_facts fs) ≤ length_of fs) (sym (append-nil before)) le
+  lengths_from before (fact ∷ more) play le =
+      let rest = all_play config (L number) (before ++ fact ∷ []) more in
+      subst (λ (fs : List Fact). length_of (shorter_facts fs) ≤ length_of fs) (append_assoc before (fact ∷ []) more)
+      (lengths_from (before ++ fact ∷ []) more (second_so (plays config (L number) before fact) rest play)
+      (omega (
+        arith,
+        le,
+        length_both before (fact ∷ []),
+        one_fact config number before fact (first_so (plays config (L number) before fact) rest play),
+      )))
+
+  -- the frames of a shorter record are together no longer than those of the facts
+  pub no_longer : (facts : List Fact) → all_play config (L number) [] facts ≡ true
+      → sum (map frame_length (shorter_facts facts)) ≤ sum (map frame_length facts)
+  no_longer facts play = omega (arith, lengths_from [] facts play (omega arith), length_sum facts, length_sum (shorter_facts facts))
+
 -- ---- those of a leader
 
 -- what is compacted says the same as whatever plays and a leader stands for
@@ -283,6 +407,8 @@ pub is_compacted : (l : LeaderParts) (kept : List Fact) → kept ≡ compacted l
     → all_play config (L number) [] facts ≡ true → IsCompacted kept config number facts
 is_compacted l kept e config number facts memory stands play = record {
   list = is;
+  no_longer = subst (λ (fs : List Fact). sum (map frame_length fs) ≤ sum (map frame_length facts)) (sym is)
+      (no_longer config number facts play);
   same = record {
     play = ap (λ (fs : List Fact). all_play config (L number) [] fs) is ∙ leads.play;
     stands = λ more other heard h. record {
@@ -291,6 +417,7 @@ is_compacted l kept e config number facts memory stands play = record {
       begun_are = h.begun_are ∙ first_both fact_tx kept facts more order;
     };
     fits = λ more fact. λ k. plays_at_leader config.leaders number (λ tx. same_after kept facts more alike tx k) fact;
+    shorter = λ more. λ k. compacted (first_both fact_tx kept facts more order k) (λ tx. same_after kept facts more alike tx k);
   };
 }
   where

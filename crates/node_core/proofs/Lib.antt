@@ -21,5 +21,6 @@ pub mod Loading
 pub mod Restarting
 pub mod Sizing
 pub mod Looking
+pub mod Lengths
 pub mod Shortening
 pub mod Replying

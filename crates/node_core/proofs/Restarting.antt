@@ -16,13 +16,14 @@ use Rattle.protocol.specs.Managers.{Branch}
 use Rattle.protocol.specs.Nodes.{NodeState, Memory, Fault, NoFault, NoMemoryBefore, NoMemoryAt, RecordFails, empty_memory, restart_outcome}
 use Rattle.protocol.specs.Nodes.{Outcome, answer_outcome, down_node, first_rows, all_play}
 use Rattle.protocol.specs.Tables.{table}
-use Rattle.resource_manager.specs.Compacted.{beginning_with}
+use Rattle.resource_manager.specs.Compacted.{beginning_with, shorter_entries}
 use Rattle.resource_manager.specs.Managers as manager_specs
 use Rattle.resource_manager.specs.Managers.{ManagerParts}
 use Rattle.node_core.specs.declared.config.Sizes.{Sizes}
 use Rattle.node_core.specs.declared.role.Role.{Role}
 use Rattle.branch_table.specs.Tables.{are_rows}
 use Rattle.node_core.specs.Roles.{RoleStands}
+use Rattle.node_core.specs.Shorter.{shorter_record}
 use Rattle.node_core.specs.Nodes.{Kept, MeansFrom, Holds, begun, AreSizes, HasRows, Keeps, SameState, Stands, NodeParts, NodeStands}
 use Rattle.node_core.specs.Nodes.{IsSound}
 use Rattle.node_core.specs.Nodes.{IsSized, IsAmong}
@@ -200,14 +201,25 @@ role_begun config (R rm) own has (Role.Manager p) facts memory s =
 role_begun config (R rm) own has (Role.Acceptor p) facts memory s = absurd s
 role_begun config (R rm) own has (Role.Leader p) facts memory s = absurd s
 
+-- the shorter record over a node's own first contents
+pub shorter_begun : (config : Config) (who : NodeId) (own : List Row) → HasRows config who own → (facts : List Fact)
+    → shorter_record (begun config who own None) who facts ≡ shorter_record config who facts
+shorter_begun config (A a) own has facts = refl
+shorter_begun config (L l) own has facts = refl
+shorter_begun config (R rm) own has facts =
+    ap (λ rows. shorter_entries (table rows facts) facts) (sym (begun_rows config (R rm) own None) ∙ has)
+
 -- what a record holds says the same as itself, in the cluster that it is of
 same_own : (config : Config) (who : NodeId) (own : List Row) (rows : Option (List Row)) (all : List Entry) (facts : List Fact)
     → MeansFrom who all rows facts → HasRows config who own
     → SameState (begun (cluster_of config who rows) who own rows) (cluster_of config who rows) who facts facts
-same_own config who own None all facts means has =
-    record { stands = λ more role memory s. role_begun config who own has role (facts ++ more) memory s; fits = λ more fact. refl }
+same_own config who own None all facts means has = record {
+  stands = λ more role memory s. role_begun config who own has role (facts ++ more) memory s;
+  fits = λ more fact. refl;
+  shorter = λ more play. shorter_begun config who own has (facts ++ more);
+}
 same_own config (R rm) own (Some rows) all facts means has =
-    record { stands = λ more role memory s. s; fits = λ more fact. refl }
+    record { stands = λ more role memory s. s; fits = λ more fact. refl; shorter = λ more play. refl }
 same_own config (A a) own (Some rows) all facts means has = absurd means
 same_own config (L l) own (Some rows) all facts means has = absurd means
 

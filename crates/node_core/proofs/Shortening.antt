@@ -24,8 +24,9 @@ use Rattle.node_core.specs.declared.role.Role.{Role}
 use Rattle.node_core.specs.Roles.{RoleStands}
 use Rattle.node_core.specs.Nodes.{begun, SameState, Keeps, Stands, NodeParts, NodeStands, IsSound}
 use Rattle.node_core.specs.Opening.{AreFrames}
-use Rattle.node_core.specs.Compacting.{IsShorter, Shortens, IsRecompacted, Recompacts, BefallsCompact, IsCompactedUp, role_kept}
+use Rattle.node_core.specs.Compacting.{IsNoLonger, IsShorter, Shortens, IsRecompacted, Recompacts, BefallsCompact, IsCompactedUp, role_kept}
 use Rattle.node_core.specs.Compacting.{Compacts, CompactsAs}
+use Rattle.node_core.proofs.Lengths.{no_longer}
 use Rattle.node_core.proofs.Starting.{of_facts}
 
 -- frames as they are written
@@ -37,7 +38,8 @@ frames_so bytes all is = record { bytes_are = is.bytes_are; stored = is.stored }
 module _ (bytes : List ℕ) (kept : List Fact) (frames : AreFrames bytes (of_facts kept)) where
   acceptor_says : (config : Config) (a : ℕ) (facts : List Fact) → of_acceptor.SaysTheSame config a kept facts
       → SameState config config (A a) kept facts
-  acceptor_says config a facts same = record { stands = stands; fits = same.fits }
+  acceptor_says config a facts same =
+      record { stands = stands; fits = same.fits; shorter = λ more play. ap of_facts (same.shorter more) }
     where
       stands : (more : List Fact) (role : Role) (memory : Memory) → RoleStands config (A a) role (kept ++ more) memory
           → RoleStands config (A a) role (facts ++ more) memory
@@ -63,7 +65,8 @@ module _ (bytes : List ℕ) (kept : List Fact) (frames : AreFrames bytes (of_fac
 
   leader_says : (config : Config) (l : ℕ) (facts : List Fact) → of_leader.SaysTheSame config l kept facts
       → SameState config config (L l) kept facts
-  leader_says config l facts same = record { stands = stands; fits = same.fits }
+  leader_says config l facts same =
+      record { stands = stands; fits = same.fits; shorter = λ more play. ap of_facts (same.shorter more) }
     where
       stands : (more : List Fact) (role : Role) (memory : Memory) → RoleStands config (L l) role (kept ++ more) memory
           → RoleStands config (L l) role (facts ++ more) memory
@@ -90,7 +93,7 @@ module _ (bytes : List ℕ) (kept : List Fact) (frames : AreFrames bytes (of_fac
 module _ (bytes : List ℕ) (all : List Entry) (frames : AreFrames bytes all) where
   manager_says : (config : Config) (rm : ℕ) (facts : List Fact) (own : List Row) (c : IsShortened config rm facts all)
       → SameState (begun config (R rm) own (Some c.rows)) config (R rm) c.kept facts
-  manager_says config rm facts own c = record { stands = stands; fits = c.same.fits }
+  manager_says config rm facts own c = record { stands = stands; fits = c.same.fits; shorter = c.same.shorter }
     where
       stands : (more : List Fact) (role : Role) (memory : Memory)
           → RoleStands (begun config (R rm) own (Some c.rows)) (R rm) role (c.kept ++ more) memory
@@ -185,6 +188,7 @@ module _ (config : Config) (who : NodeId) (own : List Row) (m : NodeState) (old 
     };
     answer_is = refl;
     content = (next, h, is);
+    no_longer = subst (λ (r : Held). IsNoLonger old.bytes r.bytes) (sym is) (no_longer config who own old.bytes next m.facts s.tail s.keeps h);
     stands = record {
       tail = [];
       keeps = subst (λ (r : Held). Keeps config who own r.bytes m.facts []) (sym is) (shorter_keeps next h);
@@ -201,6 +205,7 @@ module _ (config : Config) (who : NodeId) (own : List Row) (m : NodeState) (old 
     befalls = record { may = put.may; counted = put.counted; armed = put.armed; may_fail = put.may_fail };
     answer_is = refl;
     content = (next, h, put);
+    no_longer = tt;
     stands = down_either next h put.bytes put.armed;
   }
   uncompacted Refusal.NoMemory is = record {
@@ -209,6 +214,7 @@ module _ (config : Config) (who : NodeId) (own : List Row) (m : NodeState) (old 
     befalls = is;
     answer_is = refl;
     content = is;
+    no_longer = tt;
     stands = down_with old.bytes kept_before (ap (λ (r : Held). r.bytes) is) (ap (λ (r : Held). r.armed) is);
   }
   uncompacted other is = absurd is

@@ -63,7 +63,7 @@ begun_plays config (R rm) own rows before facts = manager_plays (begun config (R
 abbrev pub of_facts : List Fact → List Entry
 of_facts facts = map entries.Fact facts
 
-meant_facts : (facts : List Fact) → flat_map facts_of (of_facts facts) ≡ facts
+pub meant_facts : (facts : List Fact) → flat_map facts_of (of_facts facts) ≡ facts
 meant_facts [] = refl
 meant_facts (fact ∷ facts) = ap (λ fs. fact ∷ fs) (meant_facts facts)
 

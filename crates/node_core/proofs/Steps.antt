@@ -30,12 +30,13 @@ use Rattle.protocol.specs.declared.rows.Row.{Row}
 use Rattle.resource_manager.specs.Compacted.{row_entry, is_about_tx, facts_of}
 use Rattle.protocol.specs.Effects.{Config, Effect}
 use Rattle.protocol.specs.Nodes.{NodeState, Memory, Input, Fault, NoFault, NoMemoryAt, RecordFails, plays, accepts_input, effect_of}
-use Rattle.protocol.specs.Nodes.{node_step, effect_outcome, answer_outcome, down_answer, stopped_append}
+use Rattle.protocol.specs.Nodes.{all_play, node_step, effect_outcome, answer_outcome, down_answer, stopped_append}
 use Rattle.protocol.proofs.Manager.Played.{all_play_then}
 use Rattle.node_core.specs.declared.output.Output.{Output}
 use Rattle.node_core.specs.declared.role.Role.{Role}
 use Rattle.node_core.specs.Sends.{sent}
 use Rattle.node_core.specs.Roles.{RoleStands}
+use Rattle.node_core.specs.Shorter.{shorter_record}
 use Rattle.node_core.specs.Storing.{fact_frame, output_of, change_made, IsTorn, IsKept, IsDone, RanOut, WasStopped, Carries, carried}
 use Rattle.node_core.specs.Nodes.{role_left, role_settled, out_of}
 use Rattle.node_core.specs.Nodes.{MeansFrom, begun, SameState, Keeps, Stands, Befalls, HasMet, Shows, Steps, StepsFreely, fact_to_store}
@@ -73,6 +74,10 @@ module _ (config : Config) (who : NodeId) (own : List Row) (facts : List Fact) (
         (subst (λ (fs : List Fact). RoleStands from who role fs memory) (append_assoc kept (fact ∷ []) more) s));
     fits = λ more f. ap (λ (fs : List Fact). plays config who fs f) (append_assoc kept (fact ∷ []) more)
         ∙ same.fits (fact ∷ more) f ∙ ap (λ (fs : List Fact). plays config who fs f) (sym (append_assoc facts (fact ∷ []) more));
+    shorter = λ more play.
+        ap (shorter_record from who) (append_assoc kept (fact ∷ []) more)
+        ∙ same.shorter (fact ∷ more) (subst (λ (fs : List Fact). all_play from who [] fs ≡ true) (append_assoc kept (fact ∷ []) more) play)
+        ∙ ap (shorter_record config who) (sym (append_assoc facts (fact ∷ []) more));
   }
 
   fits_kept : (from : Config) (kept : List Fact) → SameState from config who kept facts → plays config who facts fact ≡ true

@@ -1,39 +1,34 @@
 -- How a node's record is made shorter.
-use Rattle.std.specs.Prelude.{◌≡◌, ◌⊎◌, ℕ, IsTrue, true, false, List, [], map, Option, None, Result, Ok, Err}
+use Rattle.std.specs.Prelude.{◌≡◌, ◌⊎◌, ℕ, ◌≤◌, IsTrue, true, false, List, [], Option, None, Result, Ok, Err, OnOk}
 use Rattle.xid.specs.declared.refusals.Refusal.{Refusal}
 use Rattle.stable_record.specs.declared.entry.EntryKind.{EntryKind as Entry}
-use Rattle.stable_record.specs.declared.entry.EntryKind.TheVariants as entries
 use Rattle.stable_record.specs.declared.fact.FactKind.{FactKind as Fact}
 use Rattle.stable_record.specs.Grammar.{IsStored}
 use Rattle.stable_record.specs.Held.{Held, IsCounted, HasFailed, with_bytes}
 use Rattle.protocol.specs.declared.nodes.NodeId.{NodeId}
-use Rattle.protocol.specs.declared.nodes.NodeId.TheVariants.{A, L, R}
 use Rattle.protocol.specs.declared.rows.Row.{Row}
 use Rattle.protocol.specs.Effects.{Config}
 use Rattle.protocol.specs.Nodes.{NodeState, Memory, Fault, NoFault, NoMemoryBefore, NoMemoryAt, RecordFails, all_play, compact_outcome}
-use Rattle.protocol.specs.Nodes.{first_rows}
-use Rattle.protocol.specs.Tables.{table}
-use Rattle.acceptor.specs.Compaction as of_acceptor
-use Rattle.leader.specs.Compaction as of_leader
-use Rattle.resource_manager.specs.Compacted.{shorter_entries}
+use Rattle.resource_manager.specs.Compacted.{about_length}
 use Rattle.node_core.specs.declared.role.Role.{Role}
 use Rattle.node_core.specs.Roles.{RoleStands}
 use Rattle.node_core.specs.Nodes.{Kept, MeansFrom, begun, SameState, NodeParts, Stands, IsSameNode}
 use Rattle.node_core.specs.Opening.{frames_of, restart_answer}
+use Rattle.node_core.specs.Shorter.{shorter_record}
 
--- entries are the shorter record of a node's facts: an acceptor's slots or a leader's greatest ballots, by transaction in the order of the
--- first facts, or the table and outcomes of a resource manager
-abbrev pub AreShortened : Config → NodeId → List Fact → List Entry → Type 0
-AreShortened config (A a) facts all = all ≡ map entries.Fact (of_acceptor.shorter_facts facts)
-AreShortened config (L l) facts all = all ≡ map entries.Fact (of_leader.shorter_facts facts)
-AreShortened config (R rm) facts all = all ≡ shorter_entries (table (first_rows config rm) facts) facts
+-- what bytes say of transactions is no longer than what others did, in frames as they are written today, be it facts, or outcomes of the past
+-- in a record that was made shorter before: a snapshot of a resource manager's table, and its rows, aren't counted
+abbrev pub IsNoLonger : (old new : List ℕ) → Type 0
+IsNoLonger old new =
+    (before after : List Entry) (tail end : List ℕ) → IsStored old before tail → IsStored new after end
+    → about_length after ≤ about_length before
 
 -- bytes are frames of entries of today, which are the shorter record of facts, play, and say the same
 pub record IsShorter (config : Config) (who : NodeId) (facts : List Fact) (bytes : List ℕ) : Type 0 where
   pub all : List Entry
   pub bytes_are : bytes ≡ frames_of all
   pub stored : IsStored bytes all []
-  pub shortened : AreShortened config who facts all
+  pub shortened : all ≡ shorter_record config who facts
   pub kept : Kept
   pub means : MeansFrom who all kept.rows kept.facts
   pub fits : all_play config who [] kept.facts ≡ true
@@ -85,8 +80,8 @@ BefallsCompact old new NoMemoryBefore = ⊥
 BefallsCompact old new NoMemoryAt = new ≡ old
 BefallsCompact old new (RecordFails whole) = HasCounted old new
 
--- a node that was up was compacted as the machine's is, under a fault that is true; its record became the shorter one of its facts, or
--- stayed
+-- a node that was up was compacted as the machine's is, under a fault that is true; its record became the shorter one of its facts, which is
+-- no longer, or stayed
 pub record IsCompactedUp (config : Config) (who : NodeId) (own : List Row) (m : NodeState) (old new : Held) (role : Option Role)
     (result : Result (Unit {0}) Refusal) : Type 0 where
   pub up : m.up ≡ true
@@ -94,6 +89,7 @@ pub record IsCompactedUp (config : Config) (who : NodeId) (own : List Row) (m : 
   pub befalls : BefallsCompact old new fault
   pub answer_is : restart_answer result ≡ (compact_outcome m fault).answer
   pub content : IsRecompacted config who m.facts old new result
+  pub no_longer : OnOk result (IsNoLonger old.bytes new.bytes)
   pub stands : Stands config who own new role (compact_outcome m fault).node
 
 -- a node that was down isn't compacted, and stays as it was

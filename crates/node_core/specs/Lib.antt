@@ -2,6 +2,7 @@ pub mod Sends
 pub mod Roles
 pub mod Storing
 pub mod Sparing
+pub mod Shorter
 pub mod Nodes
 pub mod Handling
 pub mod Configs

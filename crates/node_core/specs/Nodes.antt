@@ -27,6 +27,7 @@ use Rattle.resource_manager.specs.Compacted.{IsCompacted, beginning_with}
 use Rattle.branch_table.specs.Tables.{are_rows}
 use Rattle.node_core.specs.Sends.{sent}
 use Rattle.node_core.specs.Roles.{RoleStands}
+use Rattle.node_core.specs.Shorter.{shorter_record}
 use Rattle.node_core.specs.Storing.{fact_frame, IsTorn}
 use Rattle.node_core.specs.Sparing.{is_free}
 
@@ -56,11 +57,13 @@ begun config (R rm) own rows = beginning_with config rm (unwrap_or rows own)
 begun config who own rows = config
 
 -- facts in a record say the same as others, in a cluster that may have other first contents: whatever is played after them, a role that
--- stands for the one stands for the other, and the same facts play
+-- stands for the one stands for the other, the same facts play, and the shorter record is the same
 pub record SameState (from config : Config) (who : NodeId) (kept facts : List Fact) : Type 0 where
   pub stands : (more : List Fact) (role : Role) (memory : Memory) → RoleStands from who role (kept ++ more) memory
       → RoleStands config who role (facts ++ more) memory
   pub fits : (more : List Fact) (fact : Fact) → plays config who (kept ++ more) fact ≡ plays config who (facts ++ more) fact
+  pub shorter : (more : List Fact) → all_play from who [] (kept ++ more) ≡ true
+      → shorter_record from who (kept ++ more) ≡ shorter_record config who (facts ++ more)
 
 -- bytes keep facts: what they hold says the same, beside a tail
 pub record Keeps (config : Config) (who : NodeId) (own : List Row) (bytes : List ℕ) (facts : List Fact) (tail : List ℕ) : Type 0 where

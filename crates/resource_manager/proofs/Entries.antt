@@ -27,6 +27,11 @@ row_valid row is key value =
       record { few = leb-true (length row.value) most_value most.1; bytes = value },
     )
 
+-- what gives the same one by one does together
+pub given_same : {X Y : Type 0} (f g : X → Option Y) → ((x : X) → f x ≡ g x) → (xs : List X) → filter_map f xs ≡ filter_map g xs
+given_same f g each [] = refl
+given_same f g each (x ∷ xs) = λ i. cons_option (each x i) (given_same f g each xs i)
+
 -- what the first of some give, with one more
 pub given_more : {X Y : Type 0} (h : X → Option Y) (xs : List X) (i : ℕ) (x : X) → i < length xs → x ≡ get_or xs i x
     → filter_map h (take (suc i) xs) ≡ filter_map h (take i xs) ++ cons_option (h x) []

@@ -15,6 +15,8 @@ pub mod Kept
 pub mod Entries
 pub mod Ascending
 pub mod Same
+pub mod Lengths
+pub mod Alike
 pub mod Shortened
 pub mod Opened
 pub mod Frames

@@ -36,13 +36,13 @@ tested : (p : Fact → Bool) (facts : List Fact) (fact : Fact) (a b : Bool) → 
 tested p facts fact a b e f = list_any-append p facts (fact ∷ []) ∙ (λ i. e i || (f i || false))
 
 -- the tests that a fact of another transaction fails
-record FailsTests (tx : TxParts) (fact : Fact) : Type 0 where
-  voted_prepared : is_vote_of tx Vote.Prepared fact ≡ false
-  voted_aborted : is_vote_of tx Vote.Aborted fact ≡ false
-  committed : is_commit_of tx fact ≡ false
-  aborted : is_abort_of tx fact ≡ false
+pub record FailsTests (tx : TxParts) (fact : Fact) : Type 0 where
+  pub voted_prepared : is_vote_of tx Vote.Prepared fact ≡ false
+  pub voted_aborted : is_vote_of tx Vote.Aborted fact ≡ false
+  pub committed : is_commit_of tx fact ≡ false
+  pub aborted : is_abort_of tx fact ≡ false
 
-fails : (tx : TxParts) (fact : Fact) → tx_eq tx (fact_tx fact) ≡ false → FailsTests tx fact
+pub fails : (tx : TxParts) (fact : Fact) → tx_eq tx (fact_tx fact) ≡ false → FailsTests tx fact
 fails tx (Fact.VotePrepared other keys) e = record { voted_prepared = e; voted_aborted = refl; committed = refl; aborted = refl }
 fails tx (Fact.VoteAborted other) e = record { voted_prepared = refl; voted_aborted = e; committed = refl; aborted = refl }
 fails tx (Fact.Committed other) e = record { voted_prepared = refl; voted_aborted = refl; committed = e; aborted = refl }
@@ -67,7 +67,7 @@ stored_other facts fact tx e =
     }
 
 -- what is stored of a fact's own transaction
-own : (facts : List Fact) (fact : Fact) (tx : TxParts) (s : Stored) (p a c d : Bool) → stored_in facts tx ≡ s
+pub own : (facts : List Fact) (fact : Fact) (tx : TxParts) (s : Stored) (p a c d : Bool) → stored_in facts tx ≡ s
     → is_vote_of tx Vote.Prepared fact ≡ p → is_vote_of tx Vote.Aborted fact ≡ a → is_commit_of tx fact ≡ c → is_abort_of tx fact ≡ d
     → stored_in (facts ++ fact ∷ []) tx
     ≡ record {

@@ -16,7 +16,7 @@ use Rattle.protocol.specs.declared.rows.Row.{Row}
 use Rattle.protocol.specs.Effects.{Config}
 use Rattle.protocol.specs.Facts.{Bound, bound_branches, branch_bound_by, is_open_view, is_prepared_view, is_spent, view}
 use Rattle.protocol.specs.Holds.{AreApart}
-use Rattle.protocol.specs.Managers.{Branch, all_branches, stored_votes, plays_at_manager, is_some_held}
+use Rattle.protocol.specs.Managers.{Branch, stored_votes, plays_at_manager, is_some_held}
 use Rattle.protocol.specs.Nodes.{all_play, first_rows, plays}
 use Rattle.protocol.specs.Tables.{commit_of, keys_voted, table, with_writes}
 use Rattle.protocol.proofs.Lists.{filter_map_given}
@@ -24,9 +24,7 @@ use Rattle.protocol.proofs.Manager.Apart.{bound_is, bound_stored, stored_bound}
 use Rattle.protocol.proofs.Manager.Keys.{names_name}
 use Rattle.protocol.proofs.Manager.Played.{all_play_then, voted_named}
 use Rattle.protocol.proofs.Manager.Views.{prepared_shows}
-use Rattle.branch_table.specs.Tables.{branch_named}
 use Rattle.resource_manager.specs.Courses.{Stored, stored_in, view_among, vote_among, is_ended_among, begun_in}
-use Rattle.resource_manager.specs.Compacted.{SaysSame, beginning_with}
 use Rattle.resource_manager.proofs.Begun.{begun_append, seen_after}
 use Rattle.resource_manager.proofs.Kept.{commits_voted, name_spent_same, prepared_earlier, same_filter, spent_begun}
 use Rattle.resource_manager.proofs.More.{keys_stay, table_more}
@@ -130,7 +128,7 @@ module _ (number : ℕ) (kept facts : List Fact) (same : LeadsSame number kept f
 
 -- ---- playing on
 
-all_play_append : (config : Config) (rm : ℕ) (before facts more : List Fact) → all_play config (R rm) before (facts ++ more) ≡ true
+pub all_play_append : (config : Config) (rm : ℕ) (before facts more : List Fact) → all_play config (R rm) before (facts ++ more) ≡ true
     → all_play config (R rm) (before ++ facts) more ≡ true
 all_play_append config rm before [] more play =
     subst (λ (fs : List Fact). all_play config (R rm) fs more ≡ true) (sym (append-nil before)) play
@@ -188,7 +186,7 @@ module _ (over config : Config) (number : ℕ) where
       writes (Fact.Accept tx i b v) e rows = refl
       writes (Fact.Ballot tx b) e rows = refl
 
-  same_on : (kept facts more : List Fact) → PlayedSame over config number kept facts → all_play over (R number) kept more ≡ true
+  pub same_on : (kept facts more : List Fact) → PlayedSame over config number kept facts → all_play over (R number) kept more ≡ true
       → PlayedSame over config number (kept ++ more) (facts ++ more)
   same_on kept facts [] same play =
       subst (λ (fs : List Fact). PlayedSame over config number fs (facts ++ [])) (sym (append-nil kept))
@@ -198,27 +196,3 @@ module _ (over config : Config) (number : ℕ) where
       let then = same_on (kept ++ fact ∷ []) (facts ++ fact ∷ []) more (same_step kept facts same fact parts.0) parts.1 in
       subst (λ (fs : List Fact). PlayedSame over config number fs (facts ++ fact ∷ more)) (append_assoc kept (fact ∷ []) more)
       (subst (PlayedSame over config number ((kept ++ fact ∷ []) ++ more)) (append_assoc facts (fact ∷ []) more) then)
-
--- facts over rows that played say the same as those that have led to the rows
-pub says_same : (config : Config) (number : ℕ) (rows : List Row) (kept facts : List Fact)
-    → PlayedSame (beginning_with config number rows) config number kept facts → SaysSame config number rows kept facts
-says_same config number rows kept facts same = record {
-  stands = λ more m branches stands.
-      let over = beginning_with config number rows in
-      let then = same_on over config number kept facts more same (all_play_append over number [] kept more stands.played) in
-      record {
-        number_is = stands.number_is;
-        managers_are = stands.managers_are;
-        played = then.play;
-        apart = apart_same number (kept ++ more) (facts ++ more) then.leads branches stands.apart;
-        unprepared = stands.unprepared;
-        stored_are = λ tx. sym (then.leads.stored_are tx) ∙ stands.stored_are tx;
-        begun_are = stands.begun_are ∙ then.leads.begun_are;
-        spent_are = λ x. sym (spent_same number (kept ++ more) (facts ++ more) then.leads x) ∙ stands.spent_are x;
-        rows_are = stands.rows_are ∙ then.rows_are;
-        branches_are = λ x.
-            stands.branches_are x
-            ∙ ap (λ bound. branch_named (all_branches number bound branches) x) then.leads.bound_are;
-      };
-  fits = λ more fact. plays_same number (kept ++ more) (facts ++ more) (leads_more number kept facts same.leads more) fact;
-}

@@ -1,5 +1,5 @@
 -- What a resource manager writes in place of its record says what the record says.
-use Rattle.std.proofs.Common.{◌≡◌, ◌∙◌, ℕ, suc, zero, true, ◌&&◌, List, [], ◌∷◌, ◌++◌, Option, Some, None, refl, sym, ap, subst, map}
+use Rattle.std.proofs.Common.{◌≡◌, ◌∙◌, ℕ, ◌≤◌, suc, zero, true, ◌&&◌, List, [], ◌∷◌, ◌++◌, Option, Some, None, refl, sym, ap, subst, map}
 use Rattle.std.specs.Prelude.{filter_map, replicate, slice_get, unwrap_or, Result, Ok, Err, IfOk}
 use Rattle.std.specs.List.{cons_option, list_all}
 use Rattle.std.specs.Option.{option_map_or}
@@ -27,12 +27,15 @@ use Rattle.resource_manager.specs.declared.course.Course.{Course}
 use Rattle.resource_manager.specs.Courses.{stored_in, stored_by, course_in, begun_in}
 use Rattle.resource_manager.specs.Managers.{ManagerParts, StandsFor, branches_in}
 use Rattle.resource_manager.specs.Compacted.{IsShortened, beginning_with, entries_at, entry_at, entry_of, is_about_tx}
-use Rattle.resource_manager.specs.Compacted.{keys_here, row_entry}
+use Rattle.resource_manager.specs.Compacted.{about_length, keys_here, row_entry, shorter_entries}
+use Rattle.resource_manager.proofs.Alike.{keys_at_first, says_same}
 use Rattle.resource_manager.proofs.Ascending.{ascending, put_again, table_ascends}
+use Rattle.resource_manager.proofs.Entries.{given_same}
 use Rattle.resource_manager.proofs.Kept.{all_kept, kept, kept_branches, kept_order, kept_stored}
+use Rattle.resource_manager.proofs.Lengths.{no_longer}
 use Rattle.resource_manager.proofs.Named.{named_at}
 use Rattle.resource_manager.proofs.Pieces.{parts_are}
-use Rattle.resource_manager.proofs.Same.{says_same}
+use Rattle.resource_manager.proofs.Same.{PlayedSame}
 use Rattle.resource_manager.proofs.Standing.{bound_in, keys_of_vote}
 use Rattle.resource_manager.proofs.Votes.{prepared_vote, view_is}
 
@@ -60,10 +63,6 @@ same_entry tx Course.VotedAborted keys others same = refl
 same_entry tx Course.Committed keys others same = refl
 same_entry tx Course.RolledBack keys others same = refl
 same_entry tx Course.AbortedUnvoted keys others same = refl
-
-same_given : {X Y : Type 0} (f g : X → Option Y) → ((x : X) → f x ≡ g x) → (xs : List X) → filter_map f xs ≡ filter_map g xs
-same_given f g each [] = refl
-same_given f g each (x ∷ xs) = λ i. cons_option (each x i) (same_given f g each xs i)
 
 -- the first rows of a manager in a cluster that begins with them
 begins_with : (config : Config) (number : ℕ) (rows : List Row) → first_rows (beginning_with config number rows) number ≡ rows
@@ -119,13 +118,13 @@ module _ (config : Config) (number : ℕ) (m : ManagerParts) (facts : List Fact)
       ≡ filter_map (λ tx. entry_of tx (stored_by (course tx)) (keys_voted facts tx)) (begun_in facts)
   written =
       ap (filter_map (entry_at m)) stands.begun_are
-      ∙ same_given (entry_at m) (λ tx. entry_of tx (stored_by (course tx)) (keys_voted facts tx))
+      ∙ given_same (entry_at m) (λ tx. entry_of tx (stored_by (course tx)) (keys_voted facts tx))
       (λ tx. same_entry tx (course tx) (keys_here m tx) (keys_voted facts tx) (prepared_keys tx)) (begun_in facts)
 
   stored_so : filter_map (λ tx. entry_of tx (stored_by (course tx)) (keys_voted facts tx)) (begun_in facts)
       ≡ filter_map (λ tx. entry_of tx (stored_in facts tx) (keys_voted facts tx)) (begun_in facts)
   stored_so =
-      same_given (λ tx. entry_of tx (stored_by (course tx)) (keys_voted facts tx))
+      given_same (λ tx. entry_of tx (stored_by (course tx)) (keys_voted facts tx))
       (λ tx. entry_of tx (stored_in facts tx) (keys_voted facts tx))
       (λ tx. ap (λ s. entry_of tx s (keys_voted facts tx)) (sym (stands.stored_are tx))) (begun_in facts)
 
@@ -135,10 +134,22 @@ module _ (config : Config) (number : ℕ) (m : ManagerParts) (facts : List Fact)
       let over = beginning_with config number rows in
       let begins = begins_with config number rows in
       let all = all_kept config number facts stands.played course stands.stored_are rows again in
+      let told = kept config number facts stands.played course stands.stored_are facts in
+      let played : PlayedSame over config number told facts =
+      record {
+        kept_play = plays_over over config number [] told ∙ all.still.plays;
+        play = stands.played;
+        leads = record {
+          stored_are = kept_stored config number facts stands.played course stands.stored_are rows again;
+          begun_are = kept_order config number facts stands.played course stands.stored_are rows again;
+          bound_are = kept_branches config number facts stands.played course stands.stored_are rows again;
+        };
+        rows_are = ap (λ first. table first told) begins ∙ all.still.rows_are;
+      } in
       record {
         all_is = λ i. entries.Snapshot ∷ (map row_entry (stands.rows_are i) ++ (written ∙ stored_so) i);
         rows = rows;
-        kept = kept config number facts stands.played course stands.stored_are facts;
+        kept = told;
         compacted = record {
           later = filter_map (λ tx. entry_of tx (stored_by (course tx)) (keys_voted facts tx)) (begun_in facts);
           all_is = λ i. entries.Snapshot ∷ (map row_entry (stands.rows_are i) ++ written i);
@@ -147,21 +158,10 @@ module _ (config : Config) (number : ℕ) (m : ManagerParts) (facts : List Fact)
           facts_are = sym (parts_are course (keys_voted facts) (begun_in facts));
         };
         fits = all.still.plays;
-        same = says_same config number rows (kept config number facts stands.played course stands.stored_are facts) facts
-            (record {
-              kept_play =
-                  plays_over over config number [] (kept config number facts stands.played course stands.stored_are facts)
-                  ∙ all.still.plays;
-              play = stands.played;
-              leads = record {
-                stored_are = kept_stored config number facts stands.played course stands.stored_are rows again;
-                begun_are = kept_order config number facts stands.played course stands.stored_are rows again;
-                bound_are = kept_branches config number facts stands.played course stands.stored_are rows again;
-              };
-              rows_are =
-                  ap (λ first. table first (kept config number facts stands.played course stands.stored_are facts)) begins
-                  ∙ all.still.rows_are;
-            });
+        no_longer = λ before e. subst (λ (es : List Entry). about_length es ≤ about_length before)
+            (sym ((λ i. entries.Snapshot ∷ (map row_entry (stands.rows_are i) ++ (written ∙ stored_so) i))
+            ∙ ap (shorter_entries rows) (sym e))) (no_longer rows before);
+        same = says_same config number rows told facts played (keys_at_first over config number told facts played course stands.stored_are);
       }
 
 -- where there are entries, they are so

@@ -1,15 +1,17 @@
 -- What a resource manager's record means that was made shorter: the rows that its table begins with, and facts.
-use Rattle.std.specs.Prelude.{◌≡◌, ℕ, suc, Bool, true, false, ◌&&◌, if◌then◌else◌, List, [], ◌∷◌, ◌++◌, filter_map, map, replicate}
-use Rattle.std.specs.Prelude.{Option, Some, None}
+use Rattle.std.specs.Prelude.{◌≡◌, ◌≤◌, ℕ, suc, Bool, true, false, ◌&&◌, if◌then◌else◌, List, [], ◌∷◌, ◌++◌, filter_map, map, replicate}
+use Rattle.std.specs.Prelude.{Option, Some, None, filter, length, sum}
 use Rattle.std.specs.List.{list_all, flat_map}
 use Rattle.std.specs.Option.{option_map_or}
 use Rattle.std.specs.Cmp.Lexicographic.{slice_cmp}
 use Rattle.std.specs.Ordering.{nat_cmp, is_lt}
 use Rattle.xid.specs.Transactions.{TxParts, xid_at}
+use Rattle.wire.specs.Versions.{version_2}
 use Rattle.stable_record.specs.declared.fact.FactKind.{FactKind as Fact}
 use Rattle.stable_record.specs.declared.fact.Touched.{Touched}
 use Rattle.stable_record.specs.declared.entry.EntryKind.{EntryKind as Entry}
 use Rattle.stable_record.specs.declared.entry.EntryKind.TheVariants as entries
+use Rattle.stable_record.specs.Grammar.{frame}
 use Rattle.stable_record.specs.Written.{AreWritten}
 use Rattle.protocol.specs.declared.nodes.NodeId.TheVariants.{R}
 use Rattle.protocol.specs.declared.rows.Row.{Row}
@@ -60,14 +62,6 @@ pub record IsCompacted (all : List Entry) (rows : List Row) (facts : List Fact) 
 abbrev pub beginning_with : Config → ℕ → List Row → Config
 beginning_with config number rows = record config { tables = replicate (suc number) rows }
 
--- facts over rows say the same at a resource manager as others over its first contents: whatever is played after them, a resource
--- manager that stands for the one stands for the other, and the same facts play
-pub record SaysSame (config : Config) (number : ℕ) (rows : List Row) (kept facts : List Fact) : Type 0 where
-  pub stands : (more : List Fact) (m : ManagerParts) (branches : List Branch)
-      → StandsFor (beginning_with config number rows) number m (kept ++ more) branches → StandsFor config number m (facts ++ more) branches
-  pub fits : (more : List Fact) (fact : Fact) → plays_at_manager number (stored_votes number (kept ++ more)) fact
-      ≡ plays_at_manager number (stored_votes number (facts ++ more)) fact
-
 -- ---- the shorter record of facts
 
 -- what is written of a transaction of which these facts are stored, if there are some: its outcome, or its vote. Of one that is
@@ -88,7 +82,23 @@ shorter_entries rows facts =
     entries.Snapshot
     ∷ (map row_entry rows ++ filter_map (λ tx. entry_of tx (stored_in facts tx) (keys_voted facts tx)) (begun_in facts))
 
--- entries are the shorter record of facts, which means facts that play, and say the same
+-- facts over rows say the same at a resource manager as others over its first contents: whatever is played after them, a resource
+-- manager that stands for the one stands for the other, the same facts play, and the shorter record is the same
+pub record SaysSame (config : Config) (number : ℕ) (rows : List Row) (kept facts : List Fact) : Type 0 where
+  pub stands : (more : List Fact) (m : ManagerParts) (branches : List Branch)
+      → StandsFor (beginning_with config number rows) number m (kept ++ more) branches → StandsFor config number m (facts ++ more) branches
+  pub fits : (more : List Fact) (fact : Fact) → plays_at_manager number (stored_votes number (kept ++ more)) fact
+      ≡ plays_at_manager number (stored_votes number (facts ++ more)) fact
+  pub shorter : (more : List Fact) → all_play (beginning_with config number rows) (R number) [] (kept ++ more) ≡ true
+      → shorter_entries (table (first_rows (beginning_with config number rows) number) (kept ++ more)) (kept ++ more)
+      ≡ shorter_entries (table (first_rows config number) (facts ++ more)) (facts ++ more)
+
+-- how long what entries say of transactions is, in frames as they are written today: a snapshot and its rows aren't counted
+abbrev pub about_length : List Entry → ℕ
+about_length all = sum (map (λ entry. length (frame version_2 entry)) (filter is_about_tx all))
+
+-- entries are the shorter record of facts, which means facts that play, and say the same. What they say of transactions is no longer than
+-- in any entries that stand for the facts, be they facts, or outcomes of the past in a record that was made shorter before
 pub record IsShortened (config : Config) (number : ℕ) (facts : List Fact) (all : List Entry) : Type 0 where
   pub all_is : all ≡ shorter_entries (table (first_rows config number) facts) facts
   pub rows : List Row
@@ -96,6 +106,7 @@ pub record IsShortened (config : Config) (number : ℕ) (facts : List Fact) (all
   pub compacted : IsCompacted all rows kept
   pub fits : all_play config (R number) [] kept ≡ true
   pub same : SaysSame config number rows kept facts
+  pub no_longer : (before : List Entry) → flat_map facts_of before ≡ facts → about_length all ≤ about_length before
 
 -- the touched keys of the branch that a transaction has here
 abbrev pub keys_here : ManagerParts → TxParts → List Touched

@@ -15,5 +15,5 @@ loop-i-preserved c =
     (get_or_from_slice_get txs c.loop-i.i c.in-Some.tx c.in-Some.tx (sym c.in-Some.ensures))
     (c.in_ok-put_transaction.ensures.ok
     ∙ ap (λ row. c.loop-i.facts.items ++ transaction_facts (slots_of c.in-Some.tx row) c.in-Some.tx)
-    (c.slots_of-slots.ensures ∙ ap (slots_in c.args.table.now) c.of.ensures))
+    (c.slots_of-slots.ensures ∙ ap (slots_in c.args.table.now) c.of-spelled.ensures))
     c.loop-i.invariant
