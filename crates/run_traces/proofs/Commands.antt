@@ -1,0 +1,104 @@
+-- What the commands of a script make happen: events that a text may name, where fewer datagrams were sent than numbers have 32 bits.
+use Rattle.std.proofs.Common.{◌≡◌, ◌∙◌, ℕ, suc, ◌<◌, ◌≤◌, ◌^◌, List, [], ◌∷◌, ◌++◌, length, Option, Some, None, refl, sym, ap, subst, arith}
+use Rattle.std.specs.List.{AllByRecursion}
+use Rattle.std.specs.Option.{option_map}
+use Rattle.std.proofs.lemmas.Bool.{cond_both}
+use Rattle.run_traces.specs.Words.{Deliver}
+use Rattle.protocol.specs.Effects.{Config}
+use Rattle.protocol.specs.Nodes.{first_rows}
+use Rattle.protocol.specs.Worlds.{World, Datagram, Occurrence, world_after, world_step}
+use Rattle.protocol.proofs.Lists.{all_joined}
+use Rattle.safety.specs.Forms as forms
+use Rattle.safety.specs.Forms.{IsSized, IsWellReached}
+use Rattle.safety.proofs.WellFormed.Runs.{well_reached_after}
+use Rattle.network.specs.Networks.{least_unmarked}
+use Rattle.net_script.specs.declared.values.Command.{Command}
+use Rattle.net_script.specs.declared.values.Command.TheVariants.{Do, Flow}
+use Rattle.net_script.specs.Events.{IsEvent}
+use Rattle.net_script.specs.Items.{IsCommand}
+use Rattle.cluster_run.specs.Happenings.{AreNext, IsDoneBy, AreDoneBy}
+use Rattle.run_traces.specs.Machine.{AreNamed, IsLimited}
+use Rattle.run_traces.proofs.Events.{AreFormed, event_formed, net_grows}
+use Rattle.run_traces.proofs.Rows.{KeepLimits}
+
+-- ---- events are well formed
+
+next_formed : (config : Config) (world : World) (happened : List Occurrence) → AreNext config world happened → AreFormed happened
+next_formed config world [] are = tt
+next_formed config world (next ∷ rest) are = (
+  subst forms.IsEvent (sym are.0.2) tt,
+  next_formed config (world_step config world next.event next.fault).world rest are.1,
+)
+
+done_formed : (config : Config) (world : World) (command : Command) (happened : List Occurrence) → IsCommand command
+    → IsDoneBy config world command happened → AreFormed happened
+done_formed config world (Do event) happened is done = subst AreFormed (sym done.1) (event_formed event is, tt)
+done_formed config world (Flow count) happened is done = next_formed config world happened done.next
+
+all_formed : (config : Config) (world : World) (commands : List Command) (happened : List Occurrence)
+    → AllByRecursion IsCommand commands → AreDoneBy config world commands happened → AreFormed happened
+all_formed config world [] happened are done = subst AreFormed (sym done) tt
+all_formed config world (command ∷ commands) happened are done =
+    subst AreFormed (sym done.2)
+    (all_joined (λ (occurrence : Occurrence). forms.IsEvent occurrence.event) done.0 done.1
+    (done_formed config world command done.0 are.0 done.3)
+    (all_formed config (world_after config world done.0) commands done.1 are.1 done.4))
+
+-- ---- numbers
+
+-- the least number that isn't marked is one of the datagrams'
+number_by : (o : Option ℕ) (count n : ℕ) → ((k : ℕ) → o ≡ Some k → k ≤ count) → option_map suc o ≡ Some n → n ≤ suc count
+number_by None count n within e = absurd (cc (e))
+number_by (Some k) count n within e =
+    let same : suc k ≡ n = cc (e) in
+    let below = within k refl in
+    omega (arith, same, below)
+
+least_within : (net : List Datagram) (n : ℕ) → least_unmarked net ≡ Some n → n ≤ length net
+least_within [] n = λ e. absurd (cc (e))
+least_within (d ∷ net) n =
+    cond_both d.marked (option_map suc (least_unmarked net)) (Some 1) (λ (o : Option ℕ). o ≡ Some n → n ≤ suc (length net))
+    (λ marked e. number_by (least_unmarked net) (length net) n (least_within net) e)
+    (λ first e. let same : 1 ≡ n = cc (e) in omega (arith, same))
+
+module _ (config : Config) (sized : IsSized config) (limits : IsLimited config) (first : (rm : ℕ) → KeepLimits (first_rows config rm)) where
+  next_named : (world : World) → IsWellReached config world → (happened : List Occurrence) → AreNext config world happened
+      → length (world_after config world happened).net < 2 ^ 32 → AreNamed happened
+  next_named world reached [] are few = tt
+  next_named world reached (next ∷ rest) are few =
+      let formed = next_formed config world (next ∷ rest) are in
+      let within = least_within world.net are.0.0 are.0.1 in
+      let grows = net_grows config sized limits first world reached (next ∷ rest) formed in
+      let number : IsEvent (Deliver are.0.0) = omega (arith, within, grows, few) in (
+        subst IsEvent (sym are.0.2) number,
+        next_named (world_step config world next.event next.fault).world
+            (forms.After world next.event next.fault formed.0 reached) rest are.1 few,
+      )
+
+  done_named : (world : World) → IsWellReached config world → (command : Command) (happened : List Occurrence) → IsCommand command
+      → IsDoneBy config world command happened → length (world_after config world happened).net < 2 ^ 32 → AreNamed happened
+  done_named world reached (Do event) happened is done few = subst AreNamed (sym done.1) (is, tt)
+  done_named world reached (Flow count) happened is done few = next_named world reached happened done.next few
+
+  after_both : (world : World) (before more : List Occurrence)
+      → world_after config world (before ++ more) ≡ world_after config (world_after config world before) more
+  after_both world [] more = refl
+  after_both world (o ∷ before) more = after_both (world_step config world o.event o.fault).world before more
+
+  pub all_named : (world : World) → IsWellReached config world → (commands : List Command) (happened : List Occurrence)
+      → AllByRecursion IsCommand commands → AreDoneBy config world commands happened
+      → length (world_after config world happened).net < 2 ^ 32 → AreNamed happened
+  all_named world reached [] happened are done few = subst AreNamed (sym done) tt
+  all_named world reached (command ∷ commands) happened are done few =
+      let middle = world_after config world done.0 in
+      let formed = done_formed config world command done.0 are.0 done.3 in
+      let there = well_reached_after config world reached done.0 formed in
+      let rest = all_formed config middle commands done.1 are.1 done.4 in
+      let same : length (world_after config world happened).net ≡ length (world_after config middle done.1).net =
+      ap (λ (os : List Occurrence). length (world_after config world os).net) done.2
+      ∙ ap (λ (w : World). length w.net) (after_both world done.0 done.1) in
+      let grows = net_grows config sized limits first middle there done.1 rest in
+      subst AreNamed (sym done.2)
+      (all_joined (λ (occurrence : Occurrence). IsEvent occurrence.event) done.0 done.1
+      (done_named world reached command done.0 are.0 done.3 (omega (arith, same, grows, few)))
+      (all_named middle there commands done.1 are.1 done.4 (omega (arith, same, few))))

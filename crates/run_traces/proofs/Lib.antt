@@ -1,0 +1,10 @@
+pub mod Nodes
+pub mod Rows
+pub mod Managers
+pub mod Steps
+pub mod Events
+pub mod Commands
+pub mod Limits
+pub mod Reading
+pub mod Audits
+pub mod Pictures
