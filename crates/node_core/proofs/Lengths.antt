@@ -2,7 +2,7 @@
 use Rattle.std.proofs.Common.{◌≡◌, ◌∙◌, ℕ, ◌+◌, ◌≤◌, true, List, [], ◌∷◌, ◌++◌, length, map, sum, Option, Some, None, refl, sym, ap, subst}
 use Rattle.std.proofs.Common.{append-nil, arith}
 use Rattle.std.specs.Prelude.{filter}
-use Rattle.std.specs.List.{AllByRecursion, flat_map, list_all}
+use Rattle.std.specs.List.{AllByRecursion, flat_map}
 use Rattle.std.proofs.lemmas.List.Sums.{sum_by-cons}
 use Rattle.xid.specs.Transactions.{IsTx}
 use Rattle.wire.specs.Versions.{version_2}
@@ -28,7 +28,6 @@ use Rattle.resource_manager.specs.Compacted.{IsCompacted, about_length, facts_of
 use Rattle.resource_manager.proofs.Lengths as manager_lengths
 use Rattle.node_core.specs.Nodes.{MeansFrom, Keeps, begun}
 use Rattle.node_core.specs.Compacting.{IsNoLonger, IsShorter}
-use Rattle.node_core.specs.Opening.{frames_of}
 use Rattle.node_core.specs.Shorter.{shorter_record}
 use Rattle.node_core.proofs.Starting.{begun_plays, meant_facts, of_facts}
 

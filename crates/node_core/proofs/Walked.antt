@@ -1,7 +1,7 @@
 -- Inputs that are handled one after another, each with its own append, to the one at which a tear stops it.
 use Rattle.std.proofs.Common.{◌≡◌, ◌∙◌, ℕ, ◌<◌, Bool, true, false, List, [], ◌∷◌, ◌++◌, length, Option, Some, None, inl, inr, refl, sym, ap}
 use Rattle.std.proofs.Common.{subst, arith}
-use Rattle.std.specs.Prelude.{is_some, Ok, Err}
+use Rattle.std.specs.Prelude.{is_some, Err}
 use Rattle.wire.specs.Versions.{version_2}
 use Rattle.stable_record.proofs.Lengths.{fact_frame_has}
 use Rattle.stable_record.specs.declared.record.RecordError.TheVariants.{Fault}
