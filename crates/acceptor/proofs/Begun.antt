@@ -226,7 +226,8 @@ module _ (slots : Slots) (tx : TxParts) where
       (all_both IsOf (common_facts tx (common_ballot slots tx)) (promises_of slots tx)
       (common_of_it (common_ballot slots tx) (nat_lt 0 (common_ballot slots tx)))
       (each_of_it (λ i. promise_facts tx (common_ballot slots tx) i (slots tx i))
-      (λ i. promise_of_it i (slots tx i).mbal (nat_lt (max (accepted_ballot (slots tx i).report) (common_ballot slots tx)) (slots tx i).mbal))
+      (λ i. promise_of_it i (slots tx i).mbal
+      (nat_lt (max (accepted_ballot (slots tx i).report) (common_ballot slots tx)) (slots tx i).mbal))
       (participants tx)))
 
   none_first : (xs ys : List Fact) → xs ++ ys ≡ [] → (xs ≡ []) × (ys ≡ [])

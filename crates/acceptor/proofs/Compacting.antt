@@ -347,7 +347,8 @@ module _ (config : Config) (number : ℕ) where
           (λ i. ltb (of_tx g tx accepted tx i).mbal (least_ballot slots tx)) tx
           (λ i named promised.
           ap (λ (s : Slot). ltb s.mbal (least_ballot slots tx)) (own g accepted i named)
-          ∙ second_so ((slots tx i).mbal == least_ballot slots tx) (ltb (accepted_ballot (slots tx i).report) (least_ballot slots tx)) promised) e
+          ∙ second_so ((slots tx i).mbal == least_ballot slots tx)
+          (ltb (accepted_ballot (slots tx i).report) (least_ballot slots tx)) promised) e
       some_stands_below false e some = absurd (true≢false (sym some))
 
       with_common : Leads ((facts ++ accepts_of slots tx) ++ common_facts tx common) (leveled (of_tx g tx accepted) tx common)
@@ -358,7 +359,8 @@ module _ (config : Config) (number : ℕ) where
               (leveled (of_tx g tx accepted) tx common)
           by true e = with_promise_all tx common with_accepts (some_stands_below _ refl e)
           by false e =
-              subst (λ (fs : List Fact). Leads fs (leveled (of_tx g tx accepted) tx common)) (sym (append-nil (facts ++ accepts_of slots tx)))
+              subst (λ (fs : List Fact). Leads fs (leveled (of_tx g tx accepted) tx common))
+              (sym (append-nil (facts ++ accepts_of slots tx)))
               (leads_to_same _ with_accepts (λ other j. same (of_tx g tx accepted other j) (is_participant other j && tx_eq other tx)))
             where
               same : (s : Slot) (t : Bool) → s ≡ (if t then record { mbal = max s.mbal common; report = s.report } else s)
@@ -428,7 +430,8 @@ module _ (config : Config) (number : ℕ) where
             by true same = absurd (true≢false (sym ((tx_decides tx y).1 (sym ((tx_decides y tx).0 same))) ∙ e))
             by false same = refl
 
-        still_new : (ys : List TxParts) → AllByRecursion (λ y. (i : ℕ) → g y i ≡ empty_slot) ys → AllByRecursion (λ y. tx_eq tx y ≡ false) ys
+        still_new : (ys : List TxParts) → AllByRecursion (λ y. (i : ℕ) → g y i ≡ empty_slot) ys
+            → AllByRecursion (λ y. tx_eq tx y ≡ false) ys
             → AllByRecursion (λ y. (j : ℕ) → of_tx g tx (slots tx) y j ≡ empty_slot) ys
         still_new [] each other = tt
         still_new (y ∷ ys) each other = (

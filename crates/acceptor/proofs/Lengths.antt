@@ -461,7 +461,8 @@ module _ (slots : Slots) (fact : Fact) where
           let now = length_both (transaction_facts slots tx) (compacted txs slots) in
           let later = length_both (transaction_facts (after slots fact) tx) (compacted txs (after slots fact)) in
           let rest = ap length_of (others_same tx txs e (IsDistinct-head tx_eq tx txs once)) in
-          let one = subst (λ x. length_of (transaction_facts (after slots fact) x) ≤ length_of (transaction_facts slots x) + frame_length fact)
+          let one =
+          subst (λ x. length_of (transaction_facts (after slots fact) x) ≤ length_of (transaction_facts slots x) + frame_length fact)
           (sym ((tx_decides tx (fact_tx fact)).0 e)) (step slots fact valid fits) in
           omega (arith, now, later, rest, one)
       by false e left =
@@ -480,7 +481,8 @@ none_kept slots tx empty =
     (λ i. ap (λ (s : Slot). length_of (accept_facts tx i s.report)) (empty i))
     ∙ total_none (participants tx) in
     let promises : total (λ i. above (all_length tx) 0 (slots tx i)) (participants tx) ≡ 0 =
-    total_same (λ i. above (all_length tx) 0 (slots tx i)) (λ i. 0) (participants tx) (λ i. ap (above (all_length tx) 0) (empty i)) ∙ total_none (participants tx) in
+    total_same (λ i. above (all_length tx) 0 (slots tx i)) (λ i. 0) (participants tx) (λ i. ap (above (all_length tx) 0) (empty i))
+    ∙ total_none (participants tx) in
     omega (arith, length_most slots tx 0 (omega arith), accepts, promises)
 
 -- a transaction that hasn't begun adds nothing

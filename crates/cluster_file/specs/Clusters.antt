@@ -32,7 +32,7 @@ abbrev pub addresses_of : List Place → List SocketAddr
 addresses_of places = flat_map addresses_at places
 
 -- a cluster within the limits, with a place for each node, no address twice, and all that needs no key at loopback addresses
-pub record AreNodes (nodes_keyed clients_keyed : Bool) (config : Config) (places : List Place) : Type 0 where
+pub record AreNodePlaces (nodes_keyed clients_keyed : Bool) (config : Config) (places : List Place) : Type 0 where
   pub valid : is_config config ≡ true
   pub count : length places ≡ config.acceptors + config.leaders + config.managers
   pub apart : AllPairs (λ a b. a ≢ b) (addresses_of places)
@@ -40,6 +40,6 @@ pub record AreNodes (nodes_keyed clients_keyed : Bool) (config : Config) (places
 
 -- what is read of a file: such nodes, with the keys that it names, which ask again after 1 to 60,000 milliseconds
 pub record IsCluster (cluster : Cluster) : Type 0 where
-  pub nodes : AreNodes (is_some cluster.key) (is_some cluster.client_key) cluster.config cluster.places.items
+  pub nodes : AreNodePlaces (is_some cluster.key) (is_some cluster.client_key) cluster.config cluster.places.items
   pub least : 1 ≤ cluster.timing.ask
   pub most : cluster.timing.ask ≤ 60000

@@ -2,7 +2,7 @@ ghost use Rattle.std.specs.Prelude.{◌≡◌, ◌≤◌, Ok, Some, IfOk, IfErr,
 ghost use Rattle.toml.specs.Data.{get_member, Members};
 ghost use Rattle.toml.specs.View.{table_view};
 ghost use Rattle.toml.specs.Parse.{parse_document};
-ghost use Rattle.cluster_file.specs.Clusters.{IsCluster, AreNodes};
+ghost use Rattle.cluster_file.specs.Clusters.{IsCluster, AreNodePlaces};
 ghost use Rattle.cluster_file.specs.ClusterAt.{are_shared, cluster_at, cluster_behind, name_at, parts_at, timing_at, timing_in};
 ghost use Rattle.cluster_file.specs.ClusterAt.{said_of, IsNoCluster, IsNoTable};
 ghost use Rattle.cluster_file.specs.Mistakes.{IsRefused};
@@ -122,7 +122,7 @@ fn timing_of(root: &Section<'_>) -> Result<Timing, ClusterError>
 
 /// The nodes of a cluster: where they are found, and their sizes and tables.
 fn nodes_of(root: &Section<'_>, keyed: Keyed) -> Result<(Config, Vec<Place>), ClusterError>
-    ensures nodes { IfOk result (λ found. AreNodes keyed.nodes keyed.clients found.0 found.1.items) }
+    ensures nodes { IfOk result (λ found. AreNodePlaces keyed.nodes keyed.clients found.0 found.1.items) }
     ensures plain { IfOk result (λ found. found.0.bundled ≡ false) }
     ensures ok { IfOk result (λ found.
         parts_at root.now.path.now keyed.nodes keyed.clients (table_view root.now.table.now) ≡ Ok (found.0, found.1.items)) }

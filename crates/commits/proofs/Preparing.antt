@@ -120,7 +120,7 @@ unspent_name config world b tx r has =
 -- ---- all of them
 
 -- Prepare is in the mail to each participant, and each has voted prepared or can; acceptors and the leader are as they were
-pub record IsAsked (config : Config) (tx : TxParts) (l : ℕ) (first world : World) : Type 0 where
+pub record AreAskedToPrepare (config : Config) (tx : TxParts) (l : ℕ) (first world : World) : Type 0 where
   pub reach : IsBacked config world
   pub posted : (r : ℕ) → IsIn (participants tx) r → IsIn (mail world.net) (record { receiver = R r; message = Prepare tx })
   pub each : (r : ℕ) → IsIn (participants tx) r → HasVote (facts_at config world (R r)) tx Prepared ⊎ HasIdleBranch config world tx r
@@ -133,7 +133,7 @@ module _ (config : Config) (tx : TxParts) (l : ℕ) (inside : is_inside config t
   Never world = ⊥
 
   abbrev State : World → Type 0
-  State = IsAsked config tx l first
+  State = AreAskedToPrepare config tx l first
 
   abbrev Voted : ℕ → World → Type 0
   Voted r world = HasVote (facts_at config world (R r)) tx Prepared

@@ -45,7 +45,7 @@ use Rattle.commits.specs.Idle.{IsUp, HasIdleBranch, after_request}
 use Rattle.commits.specs.Votes.{IsAtFirst}
 use Rattle.commits.proofs.Sending.{IsVoted}
 use Rattle.commits.proofs.Committing.{all, Answers, Ended, answered_from, ended_from}
-use Rattle.commits.proofs.Preparing.{IsAsked, AllPrepared, prepare_all, no_fact, unspent_name}
+use Rattle.commits.proofs.Preparing.{AreAskedToPrepare, AllPrepared, prepare_all, no_fact, unspent_name}
 
 -- ---- the request
 
@@ -205,7 +205,7 @@ module _ (config : Config) (tx : TxParts) (l : ℕ) (q : ℕ → Bool) (few : l 
 
   by_branches : is_final status ≡ false → Leads config part tx Answered asked
   by_branches undecided =
-      let state : IsAsked config tx l asked asked = record {
+      let state : AreAskedToPrepare config tx l asked asked = record {
         reach = asked_reach;
         posted = prepare_posted undecided;
         each = λ r named. let has = idle r (participates tx r named) in inr (record {

@@ -43,6 +43,7 @@ pub same : (config : Config) (world : FlooredWorld) (reach : IsFlooredReachable 
     ≡ step_of world.machine event (machine_part (floored_step config world (Machine event) fault)) ∷ floored_history config world reach
 same config world reach event fault alone =
     grown config world reach (Machine event) fault
-    ∙ ap (λ (events : List Event). reverse (trace config world.machine (with_fault fault events)) ++ floored_history config world reach) alone
+    ∙ ap (λ (events : List Event). reverse (trace config world.machine (with_fault fault events)) ++ floored_history config world reach)
+    alone
     ∙ ap (λ (result : StepResult). step_of world.machine event result ∷ floored_history config world reach)
     (sym (same_event config world event fault alone))

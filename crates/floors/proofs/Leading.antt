@@ -21,7 +21,7 @@ use Rattle.protocol.proofs.Lists.{IsIn-append, IsIn-before, IsIn-after, IsIn-joi
 use Rattle.progress.specs.Runs.{happens_at, are_at, without_fault, Leads}
 use Rattle.progress.proofs.Mail.{Letter, letter_of, mail, marked_mail, datagram_in, IsDeliverable, deliverable, letters_of, letters}
 use Rattle.progress.proofs.Mail.{posted_mail}
-use Rattle.progress.proofs.Backed.{IsAmong, IsBacked}
+use Rattle.progress.proofs.Backed.{AllAmong, IsBacked}
 use Rattle.floors.specs.Places.{Place, is_below}
 use Rattle.floors.specs.Nodes.{floored_node_step, is_input_below}
 use Rattle.floors.specs.Worlds.{FlooredWorld, at_floored_node}
@@ -45,7 +45,7 @@ module _ (config : Config) (tx : TxParts) where
   -- the nodes are the same, and what was sent there, all of it on the transaction, was sent here too
   record IsBeside (a b : World) : Type 0 where
     nodes_are : a.nodes ≡ b.nodes
-    sent : IsAmong (mail a.net) (mail b.net)
+    sent : AllAmong (mail a.net) (mail b.net)
     on : (letter : Letter) → IsIn (mail a.net) letter → message_tx letter.message ≡ tx
 
   abbrev AreOn : List Outgoing → Type 0

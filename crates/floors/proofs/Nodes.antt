@@ -158,15 +158,15 @@ input_moves config who node input fault tx =
 -- ---- branches
 
 -- the names of branches pass
-abbrev pub AreNamed : (XidParts → Type 0) → List Branch → Type 0
-AreNamed P branches = (b : Branch) → IsIn branches b → P b.xid
+abbrev pub NamesPass : (XidParts → Type 0) → List Branch → Type 0
+NamesPass P branches = (b : Branch) → IsIn branches b → P b.xid
 
 module _ (P : XidParts → Type 0) where
-  without_named : (branches : List Branch) (x : XidParts) → AreNamed P branches → AreNamed P (branches_without branches x)
+  without_named : (branches : List Branch) (x : XidParts) → NamesPass P branches → NamesPass P (branches_without branches x)
   without_named branches x named b h = named b (filter_kept (λ (c : Branch). not (xid_eq c.xid x)) branches b h).0
 
-  changed_named : (branches : List Branch) (x : XidParts) (action : Action) → AreNamed P branches
-      → AreNamed P (map (λ branch. if xid_eq branch.xid x then branch_after action branch else branch) branches)
+  changed_named : (branches : List Branch) (x : XidParts) (action : Action) → NamesPass P branches
+      → NamesPass P (map (λ branch. if xid_eq branch.xid x then branch_after action branch else branch) branches)
   changed_named branches x action named b h =
       let change = λ (branch : Branch). if xid_eq branch.xid x then branch_after action branch else branch in
       let from = IsIn-mapped change branches b h in
@@ -175,8 +175,8 @@ module _ (P : XidParts → Type 0) where
       (λ same. changed_name action from.source) (λ other. refl) in
       subst P (sym name ∙ ap (λ (c : Branch). c.xid) from.maps) (named from.source from.among)
 
-  called_named : (branches : List Branch) (x : XidParts) (action : Action) → P x → AreNamed P branches
-      → AreNamed P (after_call branches x action)
+  called_named : (branches : List Branch) (x : XidParts) (action : Action) → P x → NamesPass P branches
+      → NamesPass P (after_call branches x action)
   called_named branches x Start p named b h =
       elim (IsIn-push branches (record { xid = x; state = BranchState.Active; keys = [] }) b h) [
         | inl old ↦ named b old
@@ -190,9 +190,9 @@ module _ (P : XidParts → Type 0) where
   called_named branches x EndFail p named b h = changed_named branches x EndFail named b h
 
   abbrev LeavesNamed : Effect (List Branch) → Type 0
-  LeavesNamed e = AreNamed P e.memory
+  LeavesNamed e = NamesPass P e.memory
 
-  module _ (rm : ℕ) (votes : StoredVotes) (branches : List Branch) (named : AreNamed P branches) where
+  module _ (rm : ℕ) (votes : StoredVotes) (branches : List Branch) (named : NamesPass P branches) where
     first_named : (tx : TxParts) (x : XidParts) (spent : Bool) (idle : Option (List Touched))
         → LeavesNamed (first_vote rm branches tx x spent idle)
     first_named tx x false (Some keys) = without_named branches x named
@@ -216,17 +216,17 @@ IsCalled P (Asked (requests.Call x action)) = P x
 IsCalled P input = Unit {0}
 
 effect_named : (P : XidParts → Type 0) (config : Config) (rm : ℕ) (facts : List Fact) (memory : Memory) (input : Input)
-    → IsCalled P input → AreNamed P memory.branches → AreNamed P (effect_of config (R rm) facts memory input).memory.branches
+    → IsCalled P input → NamesPass P memory.branches → NamesPass P (effect_of config (R rm) facts memory input).memory.branches
 effect_named P config rm facts memory (Received m) called named =
-    cond_both (is_message_inside config m) _ _ (λ (e : Effect Memory). AreNamed P e.memory.branches)
+    cond_both (is_message_inside config m) _ _ (λ (e : Effect Memory). NamesPass P e.memory.branches)
     (λ inside. message_named P rm (stored_votes rm facts) memory.branches named (xid_at (message_tx m) rm) m) (λ outside. named)
 effect_named P config rm facts memory ReceivedNoise called named = named
 effect_named P config rm facts memory (Asked (requests.Call x action)) called named =
     cond_both (is_done action (on_call rm (stored_votes rm facts) (table (first_rows config rm) facts) memory.branches x action).answer)
-    (after_call memory.branches x action) memory.branches (AreNamed P)
+    (after_call memory.branches x action) memory.branches (NamesPass P)
     (λ done. called_named P memory.branches x action called named) (λ other. named)
 effect_named P config rm facts memory (Asked (requests.Timeout tx)) called named =
-    cond_both (is_inside config tx) _ _ (λ (e : Effect (List Branch)). AreNamed P e.memory) (λ inside. named) (λ outside. named)
+    cond_both (is_inside config tx) _ _ (λ (e : Effect (List Branch)). NamesPass P e.memory) (λ inside. named) (λ outside. named)
 effect_named P config rm facts memory (Asked requests.Recover) called named = named
 effect_named P config rm facts memory (Asked (requests.View tx)) called named = named
 effect_named P config rm facts memory (Asked (requests.Commit tx)) called named = named
@@ -237,7 +237,7 @@ effect_named P config rm facts memory (Asked (requests.Status tx)) called named 
 -- what it has prepared, and the branches that it keeps in memory, are not below a floor
 pub record IsAboveFloor (floor : Option Place) (node : NodeState) : Type 0 where
   pub prepared : (tx : TxParts) → view node.facts tx ≡ views.Prepared → is_below floor tx ≡ false
-  pub branches : AreNamed (λ x. is_xid_below floor x ≡ false) node.memory.branches
+  pub branches : NamesPass (λ x. is_xid_below floor x ≡ false) node.memory.branches
 
 -- the facts stay, and the memory stays or is lost
 pub kept_above : (floor : Option Place) (node left : NodeState) → left.facts ≡ node.facts
@@ -245,9 +245,9 @@ pub kept_above : (floor : Option Place) (node left : NodeState) → left.facts �
 kept_above floor node left facts memory above = record {
   prepared = λ tx is. above.prepared tx (ap (λ (fs : List Fact). view fs tx) (sym facts) ∙ is);
   branches = elim memory [
-    | inl same ↦ subst (λ (m : Memory). AreNamed (λ x. is_xid_below floor x ≡ false) m.branches) (sym same) above.branches
+    | inl same ↦ subst (λ (m : Memory). NamesPass (λ x. is_xid_below floor x ≡ false) m.branches) (sym same) above.branches
     | inr lost ↦
-        subst (λ (m : Memory). AreNamed (λ x. is_xid_below floor x ≡ false) m.branches) (sym lost) (λ b h. absurd h)
+        subst (λ (m : Memory). NamesPass (λ x. is_xid_below floor x ≡ false) m.branches) (sym lost) (λ b h. absurd h)
   ];
 }
 
@@ -272,9 +272,9 @@ module _ (config : Config) (rm : ℕ) (floor : Option Place) (node : NodeState) 
     branches =
         let named = effect_named (λ x. is_xid_below floor x ≡ false) config rm node.facts node.memory input (called_above input e)
         above.branches in
-        let by = λ (m : Memory) (b : AreNamed (λ x. is_xid_below floor x ≡ false) m.branches)
+        let by = λ (m : Memory) (b : NamesPass (λ x. is_xid_below floor x ≡ false) m.branches)
         (now : (node_step config (R rm) node input fault).node.memory ≡ m).
-        subst (λ (k : Memory). AreNamed (λ x. is_xid_below floor x ≡ false) k.branches) (sym now) b in
+        subst (λ (k : Memory). NamesPass (λ x. is_xid_below floor x ≡ false) k.branches) (sym now) b in
         elim (step_is config (R rm) node input fault) [
           | inl keeps ↦ elim keeps.memory [
             | inl same ↦ by node.memory above.branches same

@@ -13,7 +13,7 @@ use Rattle.protocol.specs.Worlds.{World, Datagram, opening, node_at, datagrams_o
 use Rattle.protocol.specs.Worlds.{Occurrence, world_step, world_after}
 use Rattle.protocol.proofs.Lists.{IsIn-append, IsIn-before, IsIn-after, IsIn-map}
 use Rattle.progress.proofs.Mail.{Letter, letter_of, mail, letters, letters_of, posted_mail}
-use Rattle.progress.proofs.Backed.{IsAmong}
+use Rattle.progress.proofs.Backed.{AllAmong}
 use Rattle.safety.proofs.World.NodePlaces.{node_there}
 use Rattle.groups.specs.Runs.{Handed, node_after, sends_after, handled_in, CanBeHanded, group_result, Happening, AreSame}
 use Rattle.groups.proofs.Steps.{among, put, put_twice, put_same, step_comes, IsMailed}
@@ -26,15 +26,15 @@ led config events = world_after config (opening config) events
 pub record Follows (config : Config) (world : World) (happened : List Happening) (events : List Occurrence) : Type 0 where
   pub same : AreSame config (opening config) events happened
   pub nodes_are : (led config events).nodes ≡ world.nodes
-  pub mail_is : IsAmong (mail world.net) (mail (led config events).net)
+  pub mail_is : AllAmong (mail world.net) (mail (led config events).net)
 
 -- events lead from a world of the machine to one in which a node has handled a group, and all of it was sent
 record HasHandled (config : Config) (machine : World) (who : NodeId) (node : NodeState) (group : List Handed) : Type 0 where
   pub more : List Occurrence
   pub same : AreSame config machine more (handled_in config who node group)
   pub nodes_are : (world_after config machine more).nodes ≡ put config who (node_after config who node group) machine.nodes
-  pub kept : IsAmong (mail machine.net) (mail (world_after config machine more).net)
-  pub sent : IsAmong (letters config (sends_after config who node group)) (mail (world_after config machine more).net)
+  pub kept : AllAmong (mail machine.net) (mail (world_after config machine more).net)
+  pub sent : AllAmong (letters config (sends_after config who node group)) (mail (world_after config machine more).net)
 
 -- ---- events after others
 
@@ -54,7 +54,7 @@ same_append config world (first ∷ events) more [] later same rest = absurd sam
 
 module _ (config : Config) (who : NodeId) where
   pub mailed : (world machine : World) (node : NodeState) (is : node_at config machine who ≡ Some node) (input : Input)
-      → IsAmong (mail world.net) (mail machine.net) → CanBeHanded world who input → IsMailed config machine who node is input
+      → AllAmong (mail world.net) (mail machine.net) → CanBeHanded world who input → IsMailed config machine who node is input
   mailed world machine node is (Asked request) some can = tt
   mailed world machine node is (Received message) some (d, there, to, said) =
       some (record { receiver = who; message = message })
@@ -67,7 +67,7 @@ module _ (config : Config) (who : NodeId) where
   there_next world node next is nodes nodes_are = ap (λ ns. among config ns who) nodes_are ∙ node_there config world who node next is
 
   handled : (group : List Handed) (world machine : World) (node : NodeState)
-      → node_at config machine who ≡ Some node → IsAmong (mail world.net) (mail machine.net)
+      → node_at config machine who ≡ Some node → AllAmong (mail world.net) (mail machine.net)
       → AllByRecursion (λ (h : Handed). CanBeHanded world who h.input) group → HasHandled config machine who node group
   handled [] world machine node is some all = record {
     more = [];
@@ -80,10 +80,10 @@ module _ (config : Config) (who : NodeId) where
       let outcome : Outcome = node_step config who node first.input first.fault in
       let c = step_comes config machine who node is first.input (mailed world machine node is first.input some all.0) first.fault in
       let next : World = (world_step config machine c.event c.fault).world in
-      let kept : IsAmong (mail machine.net) (mail next.net) = λ letter h.
+      let kept : AllAmong (mail machine.net) (mail next.net) = λ letter h.
       subst (λ (ls : List Letter). IsIn ls letter) (sym c.mail_is)
       (IsIn-before (mail machine.net) (letters config outcome.sends) letter h) in
-      let posted : IsAmong (letters config outcome.sends) (mail next.net) = λ letter h.
+      let posted : AllAmong (letters config outcome.sends) (mail next.net) = λ letter h.
       subst (λ (ls : List Letter). IsIn ls letter) (sym c.mail_is)
       (IsIn-after (mail machine.net) (letters config outcome.sends) letter h) in
       let r = handled rest world next outcome.node
@@ -104,9 +104,9 @@ module _ (config : Config) (who : NodeId) where
       }
 
   -- a group, stored or stopped, is followed
-  sent_by : (world after : World) (sends : List Outgoing) → IsAmong (mail world.net) (mail after.net)
-      → IsAmong (letters config sends) (mail after.net) → (is_stored : Bool)
-      → IsAmong (mail (if is_stored then world.net ++ flat_map (datagrams_of config who) sends else world.net)) (mail after.net)
+  sent_by : (world after : World) (sends : List Outgoing) → AllAmong (mail world.net) (mail after.net)
+      → AllAmong (letters config sends) (mail after.net) → (is_stored : Bool)
+      → AllAmong (mail (if is_stored then world.net ++ flat_map (datagrams_of config who) sends else world.net)) (mail after.net)
   sent_by world after sends old new true = λ letter h.
       elim (IsIn-append (mail world.net) (letters config sends) letter
       (subst (λ (ls : List Letter). IsIn ls letter) (posted_mail config who world.net sends) h)) [
@@ -132,7 +132,7 @@ module _ (config : Config) (who : NodeId) where
           nodes_are =
               ap (λ (w : World). w.nodes) there ∙ h.nodes_are ∙ ap (put config who (node_after config who node group)) f.nodes_are;
           mail_is =
-              subst (λ (w : World). IsAmong (mail net) (mail w.net)) (sym there)
+              subst (λ (w : World). AllAmong (mail net) (mail w.net)) (sym there)
               (sent_by world after (sends_after config who node group) (λ letter here. h.kept letter (f.mail_is letter here)) h.sent
               is_stored);
         },

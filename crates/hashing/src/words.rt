@@ -10,8 +10,8 @@ use std::hash::Hasher;
 const FULL: u64 = 0x0100_0000_0000_0000;
 
 /// Hashes single bytes by words of seven, and eight bytes or more that come at once, as those of a number, a length or a name, by words of
-/// eight: vectors hand their bytes on one by one, and to mix each in by itself takes longer. The default's key is fixed, so whoever picks the
-/// keys of a map can make them collide; a `WordKey` that was drawn builds one whose key they don't know.
+/// eight: vectors hand their bytes on one by one, and to mix each in by itself takes longer. The default's key is fixed, so whoever picks
+/// the keys of a map can make them collide; a `WordKey` that was drawn builds one whose key they don't know.
 #[derive(Clone, Copy)]
 pub struct WordHasher {
     state: u64,

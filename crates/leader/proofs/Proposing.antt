@@ -65,8 +65,8 @@ pub named_in : (i : ℕ) (branches : List BranchParts) → in_list i (map (λ b.
 named_in i [] = refl
 named_in i (b ∷ branches) = ap (λ t. (b.rm == i) || t) (named_in i branches)
 
-abbrev AreNamed : TxParts → List ℕ → Type 0
-AreNamed tx numbers = AllByRecursion (λ rm. IsTrue (is_participant tx rm)) numbers
+abbrev AreParticipants : TxParts → List ℕ → Type 0
+AreParticipants tx numbers = AllByRecursion (λ rm. IsTrue (is_participant tx rm)) numbers
 
 cons_kinds : (tx : TxParts) (b : ℕ) (o : Option Proposal) (ps : List Proposal)
     → cons_option (option_map (kind_of tx b) o) (proposal_kinds tx b ps) ≡ proposal_kinds tx b (cons_option o ps)
@@ -77,7 +77,7 @@ cons_kinds tx b (Some p) ps = refl
 pub proposals_are : (config : Config) (memory : LeaderMemory) (tx : TxParts) (b : ℕ) (rows : List InstanceCourse)
     (items : List InstanceReport)
     → current memory tx ≡ Some b → AllByRecursion (InstanceStands config.acceptors memory tx) rows
-    → map (λ row. row.instance) rows ≡ participants tx → AreNamed tx (map (λ item. item.instance) items)
+    → map (λ row. row.instance) rows ≡ participants tx → AreParticipants tx (map (λ item. item.instance) items)
     → filter_map (proposal_of config memory tx b) (map (λ item. item.instance) items)
     ≡ proposal_kinds tx b (proposals_of config.acceptors rows items)
 proposals_are config memory tx b rows [] now stand all named = refl
@@ -119,7 +119,7 @@ named_cons tx i None ps same named rest = rest
 named_cons tx i (Some p) ps same named rest = (let P : ℕ → Type 0 = λ k. IsTrue (is_participant tx k) in subst P (sym same) named, rest)
 
 pub proposals_named : (tx : TxParts) (n : ℕ) (rows : List InstanceCourse) (items : List InstanceReport)
-    → AreNamed tx (map (λ item. item.instance) items) → AreOf tx (proposals_of n rows items)
+    → AreParticipants tx (map (λ item. item.instance) items) → AreOf tx (proposals_of n rows items)
 proposals_named tx n rows [] named = tt
 proposals_named tx n rows (item ∷ items) named =
     named_cons tx item.instance (proposal_at n rows item.instance) (proposals_of n rows items) (named_at n item.instance rows) named.0

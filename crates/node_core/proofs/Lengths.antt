@@ -42,7 +42,8 @@ frames_sum : (facts : List Fact) → sum (map (λ entry. length (frame version_2
 frames_sum [] = refl
 frames_sum (fact ∷ facts) =
     let entry_length = λ (entry : Entry). length (frame version_2 entry) in
-    let here : sum (map entry_length (of_facts (fact ∷ facts))) ≡ entry_length (entries.Fact fact) + sum (map entry_length (of_facts facts)) =
+    let here : sum (map entry_length (of_facts (fact ∷ facts)))
+    ≡ entry_length (entries.Fact fact) + sum (map entry_length (of_facts facts)) =
     sum_by-cons (λ (n : ℕ). n) (entry_length (entries.Fact fact)) (map entry_length (of_facts facts)) in
     let there : sum (map frame_length (fact ∷ facts)) ≡ frame_length fact + sum (map frame_length facts) =
     sum_by-cons (λ (n : ℕ). n) (frame_length fact) (map frame_length facts) in
@@ -100,7 +101,8 @@ says_no_more from (L l) None all facts bytes tail means stored play =
       ap about_length means,
     )
 says_no_more from (R rm) None all facts bytes tail means stored play =
-    subst (λ (fs : List Fact). about_length (shorter_record from (R rm) fs) ≤ about_length all) (ap (flat_map facts_of) means ∙ meant_facts facts)
+    subst (λ (fs : List Fact). about_length (shorter_record from (R rm) fs) ≤ about_length all)
+    (ap (flat_map facts_of) means ∙ meant_facts facts)
     (manager_lengths.no_longer (table (first_rows from rm) (flat_map facts_of all)) all)
 says_no_more from (R rm) (Some rows) all facts bytes tail means stored play =
     subst (λ (fs : List Fact). about_length (shorter_record from (R rm) fs) ≤ about_length all) (meant all rows facts means)

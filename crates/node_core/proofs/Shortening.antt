@@ -188,7 +188,8 @@ module _ (config : Config) (who : NodeId) (own : List Row) (m : NodeState) (old 
     };
     answer_is = refl;
     content = (next, h, is);
-    no_longer = subst (λ (r : Held). IsNoLonger old.bytes r.bytes) (sym is) (no_longer config who own old.bytes next m.facts s.tail s.keeps h);
+    no_longer =
+        subst (λ (r : Held). IsNoLonger old.bytes r.bytes) (sym is) (no_longer config who own old.bytes next m.facts s.tail s.keeps h);
     stands = record {
       tail = [];
       keeps = subst (λ (r : Held). Keeps config who own r.bytes m.facts []) (sym is) (shorter_keeps next h);

@@ -16,8 +16,8 @@ use Rattle.node_core.specs.Nodes.{Kept, MeansFrom, begun, SameState, NodeParts, 
 use Rattle.node_core.specs.Opening.{frames_of, restart_answer}
 use Rattle.node_core.specs.Shorter.{shorter_record}
 
--- what bytes say of transactions is no longer than what others did, in frames as they are written today, be it facts, or outcomes of the past
--- in a record that was made shorter before: a snapshot of a resource manager's table, and its rows, aren't counted
+-- what bytes say of transactions is no longer than what others did, in frames as they are written today, be it facts, or outcomes of the
+-- past in a record that was made shorter before: a snapshot of a resource manager's table, and its rows, aren't counted
 abbrev pub IsNoLonger : (old new : List ℕ) → Type 0
 IsNoLonger old new =
     (before after : List Entry) (tail end : List ℕ) → IsStored old before tail → IsStored new after end
@@ -80,8 +80,8 @@ BefallsCompact old new NoMemoryBefore = ⊥
 BefallsCompact old new NoMemoryAt = new ≡ old
 BefallsCompact old new (RecordFails whole) = HasCounted old new
 
--- a node that was up was compacted as the machine's is, under a fault that is true; its record became the shorter one of its facts, which is
--- no longer, or stayed
+-- a node that was up was compacted as the machine's is, under a fault that is true; its record became the shorter one of its facts, which
+-- is no longer, or stayed
 pub record IsCompactedUp (config : Config) (who : NodeId) (own : List Row) (m : NodeState) (old new : Held) (role : Option Role)
     (result : Result (Unit {0}) Refusal) : Type 0 where
   pub up : m.up ≡ true

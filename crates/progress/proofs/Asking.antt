@@ -22,7 +22,7 @@ use Rattle.progress.proofs.Promising.{ask_of, HasReport, report_stays, MayReport
 use Rattle.progress.proofs.Members.{pairs, IsPair, pair_of, IsFinal, acceptor_apart, not_acceptor}
 
 -- an acceptor that was asked, or is to be
-pub record IsAsked (config : Config) (tx : TxParts) (l b : ℕ) (world : World) (a : ℕ) : Type 0 where
+pub record IsQuestioned (config : Config) (tx : TxParts) (l b : ℕ) (world : World) (a : ℕ) : Type 0 where
   pub facts : List Fact
   pub memory : Memory
   pub at : IsQuiet config world (A a) facts memory
@@ -37,7 +37,7 @@ pub record IsAsking (config : Config) (tx : TxParts) (l : ℕ) (q : ℕ → Bool
   pub none : (i : ℕ) → is_proposed memory.leader.proposed tx i b ≡ false
   pub asked : (a i : ℕ) → a < config.acceptors → IsIn (participants tx) i
       → IsIn (mail world.net) (record { receiver = A a; message = ask_of config tx b i })
-  pub each : (a : ℕ) → a < config.acceptors → q a ≡ true → IsAsked config tx l b world a
+  pub each : (a : ℕ) → a < config.acceptors → q a ≡ true → IsQuestioned config tx l b world a
 
 pub ask_inside : (config : Config) (tx : TxParts) (b i : ℕ) → is_inside config tx ≡ true
     → is_message_inside config (ask_of config tx b i) ≡ true
@@ -56,7 +56,7 @@ module _ (config : Config) (tx : TxParts) (l : ℕ) (q : ℕ → Bool) (b : ℕ)
 
   -- one acceptor is handed phase 1a of an instance
   module _ (x : ℕ × ℕ) (pair : IsPair config q tx x) (before : World) (state : IsAsking config tx l q b before) where
-    abbrev here : IsAsked config tx l b before x.0
+    abbrev here : IsQuestioned config tx l b before x.0
     here = state.each x.0 pair.below pair.passes
 
     abbrev e : Effect (Unit {0})
@@ -71,9 +71,9 @@ module _ (config : Config) (tx : TxParts) (l : ℕ) (q : ℕ → Bool) (b : ℕ)
       grown : (P : List Letter → Type 0) → P (mail before.net ++ letters config e.sends) → P (mail after.net)
       grown P h = subst P (sym moved.posted) h
 
-      each_after : (a : ℕ) → a < config.acceptors → q a ≡ true → IsAsked config tx l b after a
+      each_after : (a : ℕ) → a < config.acceptors → q a ≡ true → IsQuestioned config tx l b after a
       each_after a lt is = elim (cases_eq a x.0) [
-        | inl same ↦ subst (IsAsked config tx l b after) (sym same) (record {
+        | inl same ↦ subst (IsQuestioned config tx l b after) (sym same) (record {
           facts = with_fact here.facts e.fact;
           memory = here.memory;
           at = moved.here;

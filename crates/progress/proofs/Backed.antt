@@ -16,15 +16,15 @@ use Rattle.protocol.proofs.Lists.{IsIn-append, IsIn-before, IsIn-after}
 use Rattle.progress.proofs.Mail.{Letter, mail, letters, posted_mail}
 
 -- all letters of the one are among the other's
-abbrev pub IsAmong : (some all : List Letter) → Type 0
-IsAmong some all = (letter : Letter) → IsIn some letter → IsIn all letter
+abbrev pub AllAmong : (some all : List Letter) → Type 0
+AllAmong some all = (letter : Letter) → IsIn some letter → IsIn all letter
 
 -- the world of the machine that backs a world
 pub record IsBacked (config : Config) (world : World) : Type 0 where
   pub machine : World
   pub reach : IsReachable config machine
   pub nodes_are : machine.nodes ≡ world.nodes
-  pub sent : IsAmong (mail world.net) (mail machine.net)
+  pub sent : AllAmong (mail world.net) (mail machine.net)
 
 -- a world of the machine backs itself
 pub backed : (config : Config) (world : World) → IsReachable config world → IsBacked config world

@@ -22,7 +22,7 @@ use Rattle.safety.specs.Standing.{facts_of}
 use Rattle.safety.proofs.World.NodePlaces.{node_there, node_elsewhere}
 use Rattle.progress.specs.Runs.{happens_at}
 use Rattle.progress.proofs.Mail.{Letter, mail, letters, marked_mail, posted_mail, deliverable}
-use Rattle.progress.proofs.Backed.{IsAmong, IsBacked, HasOutcomeThere, backing_node, backed_after, play}
+use Rattle.progress.proofs.Backed.{AllAmong, IsBacked, HasOutcomeThere, backing_node, backed_after, play}
 
 -- a node that is up, with no tear armed
 abbrev pub quiet_node : List Fact → Memory → NodeState
@@ -66,7 +66,7 @@ quiet_step config who facts memory input takes =
 module _ (config : Config) (world : World) (who : NodeId) (node : NodeState) (is : node_at config world who ≡ Some node) where
   -- any world with the node, and with what was sent here, comes to the same outcome
   abbrev pub ComesThere : Outcome → Type 0
-  ComesThere left = (machine : World) → node_at config machine who ≡ Some node → IsAmong (mail world.net) (mail machine.net)
+  ComesThere left = (machine : World) → node_at config machine who ≡ Some node → AllAmong (mail world.net) (mail machine.net)
       → HasOutcomeThere config machine who node.facts left
 
   -- the world after an outcome, where marks were set before

@@ -60,7 +60,8 @@ module _ (over config : Config) (number : ℕ) (kept facts : List Fact) (same : 
   pub keys_at_first : (course : TxParts → Course) → ((tx : TxParts) → stored_in facts tx ≡ stored_by (course tx)) → AreKeysSame kept facts
   keys_at_first course are tx uncommitted unaborted = by (course tx) (are tx)
     where
-      neither : (c : Course) → (stored_by c).voted_prepared ≡ false → stored_in facts tx ≡ stored_by c → keys_voted kept tx ≡ keys_voted facts tx
+      neither : (c : Course) → (stored_by c).voted_prepared ≡ false → stored_in facts tx ≡ stored_by c
+          → keys_voted kept tx ≡ keys_voted facts tx
       neither c none is =
           let unvoted = ap (λ (s : Stored). s.voted_prepared) is ∙ none in
           unvoted_keys kept tx (ap (λ (s : Stored). s.voted_prepared) (same.leads.stored_are tx) ∙ unvoted)

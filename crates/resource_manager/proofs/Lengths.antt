@@ -270,7 +270,8 @@ module _ (facts : List Fact) (tx : TxParts) where
       omega (
         arith,
         later,
-        committed_by tx (keys_voted facts tx) (keys_voted facts tx) stored.voted_prepared stored.voted_aborted stored.committed stored.aborted,
+        committed_by tx (keys_voted facts tx) (keys_voted facts tx) stored.voted_prepared stored.voted_aborted stored.committed
+        stored.aborted,
       )
 
   aborted_step : kept_length (kept_of (facts ++ Fact.Aborted tx ∷ []) tx)
@@ -376,7 +377,8 @@ none_kept facts tx none = ap (λ s. entry_of tx s (keys_voted facts tx)) (nothin
 abbrev outcomes : List Fact → List Entry
 outcomes facts = filter_map (kept_of facts) (begun_in facts)
 
-seen_same : (facts : List Fact) (tx : TxParts) → lengths (filter_map (kept_of facts) (seen_with (begun_in facts) tx)) ≤ lengths (outcomes facts)
+seen_same : (facts : List Fact) (tx : TxParts)
+    → lengths (filter_map (kept_of facts) (seen_with (begun_in facts) tx)) ≤ lengths (outcomes facts)
 seen_same facts tx = by (list_any (tx_eq tx) (begun_in facts)) refl
   where
     by : (t : Bool) → list_any (tx_eq tx) (begun_in facts) ≡ t
@@ -477,7 +479,8 @@ past_aborted tx before voted =
 entry_step : (facts : List Fact) (entry : Entry)
     → lengths (outcomes (facts ++ facts_of entry)) ≤ lengths (outcomes facts) + lengths (filter is_about_tx (entry ∷ []))
 entry_step facts (entries.Fact fact) =
-    let one = more_kept facts fact [] (fact_tx fact) (entry_length (entries.Fact fact)) refl tt (other_same facts fact) (own_step facts fact) in
+    let one =
+    more_kept facts fact [] (fact_tx fact) (entry_length (entries.Fact fact)) refl tt (other_same facts fact) (own_step facts fact) in
     omega (arith, one)
 entry_step facts entries.Snapshot = let same = ap (λ (fs : List Fact). lengths (outcomes fs)) (append-nil facts) in omega (arith, same)
 entry_step facts (entries.Row key value) =
@@ -507,7 +510,8 @@ all_steps facts (entry ∷ more) =
 about_kept : (tx : TxParts) (p v c a : Bool) (keys : List Touched) (rest : List Entry)
     → filter is_about_tx
     (cons_option (entry_of tx (record { voted_prepared = p; voted_aborted = v; committed = c; aborted = a }) keys) rest)
-    ≡ cons_option (entry_of tx (record { voted_prepared = p; voted_aborted = v; committed = c; aborted = a }) keys) (filter is_about_tx rest)
+    ≡ cons_option (entry_of tx (record { voted_prepared = p; voted_aborted = v; committed = c; aborted = a }) keys)
+    (filter is_about_tx rest)
 about_kept tx p v true a keys rest = refl
 about_kept tx true v false true keys rest = refl
 about_kept tx true v false false keys rest = refl

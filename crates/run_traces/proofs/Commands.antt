@@ -17,7 +17,7 @@ use Rattle.net_script.specs.declared.values.Command.TheVariants.{Do, Flow}
 use Rattle.net_script.specs.Events.{IsEvent}
 use Rattle.net_script.specs.Items.{IsCommand}
 use Rattle.cluster_run.specs.Happenings.{AreNext, IsDoneBy, AreDoneBy}
-use Rattle.run_traces.specs.Machine.{AreNamed, IsLimited}
+use Rattle.run_traces.specs.Machine.{AreNameable, IsLimited}
 use Rattle.run_traces.proofs.Events.{AreFormed, event_formed, net_grows}
 use Rattle.run_traces.proofs.Rows.{KeepLimits}
 
@@ -63,7 +63,7 @@ least_within (d ∷ net) n =
 
 module _ (config : Config) (sized : IsSized config) (limits : IsLimited config) (first : (rm : ℕ) → KeepLimits (first_rows config rm)) where
   next_named : (world : World) → IsWellReached config world → (happened : List Occurrence) → AreNext config world happened
-      → length (world_after config world happened).net < 2 ^ 32 → AreNamed happened
+      → length (world_after config world happened).net < 2 ^ 32 → AreNameable happened
   next_named world reached [] are few = tt
   next_named world reached (next ∷ rest) are few =
       let formed = next_formed config world (next ∷ rest) are in
@@ -76,8 +76,8 @@ module _ (config : Config) (sized : IsSized config) (limits : IsLimited config) 
       )
 
   done_named : (world : World) → IsWellReached config world → (command : Command) (happened : List Occurrence) → IsCommand command
-      → IsDoneBy config world command happened → length (world_after config world happened).net < 2 ^ 32 → AreNamed happened
-  done_named world reached (Do event) happened is done few = subst AreNamed (sym done.1) (is, tt)
+      → IsDoneBy config world command happened → length (world_after config world happened).net < 2 ^ 32 → AreNameable happened
+  done_named world reached (Do event) happened is done few = subst AreNameable (sym done.1) (is, tt)
   done_named world reached (Flow count) happened is done few = next_named world reached happened done.next few
 
   after_both : (world : World) (before more : List Occurrence)
@@ -87,8 +87,8 @@ module _ (config : Config) (sized : IsSized config) (limits : IsLimited config) 
 
   pub all_named : (world : World) → IsWellReached config world → (commands : List Command) (happened : List Occurrence)
       → AllByRecursion IsCommand commands → AreDoneBy config world commands happened
-      → length (world_after config world happened).net < 2 ^ 32 → AreNamed happened
-  all_named world reached [] happened are done few = subst AreNamed (sym done) tt
+      → length (world_after config world happened).net < 2 ^ 32 → AreNameable happened
+  all_named world reached [] happened are done few = subst AreNameable (sym done) tt
   all_named world reached (command ∷ commands) happened are done few =
       let middle = world_after config world done.0 in
       let formed = done_formed config world command done.0 are.0 done.3 in
@@ -98,7 +98,7 @@ module _ (config : Config) (sized : IsSized config) (limits : IsLimited config) 
       ap (λ (os : List Occurrence). length (world_after config world os).net) done.2
       ∙ ap (λ (w : World). length w.net) (after_both world done.0 done.1) in
       let grows = net_grows config sized limits first middle there done.1 rest in
-      subst AreNamed (sym done.2)
+      subst AreNameable (sym done.2)
       (all_joined (λ (occurrence : Occurrence). IsEvent occurrence.event) done.0 done.1
       (done_named world reached command done.0 are.0 done.3 (omega (arith, same, grows, few)))
       (all_named middle there commands done.1 are.1 done.4 (omega (arith, same, few))))

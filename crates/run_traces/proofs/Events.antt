@@ -19,7 +19,7 @@ use Rattle.net_script.specs.Events.{IsEvent, IsAsked, IsAction}
 use Rattle.net_script.specs.Items.{IsRow}
 use Rattle.net_script.specs.TraceLines.{AreFinalRows}
 use Rattle.net_script.specs.TraceReading.{IsEntry}
-use Rattle.run_traces.specs.Machine.{AreNamed, CanBeTold, IsLimited}
+use Rattle.run_traces.specs.Machine.{AreNameable, CanBeTold, IsLimited}
 use Rattle.run_traces.proofs.Rows.{KeepLimits, table_is_final}
 use Rattle.run_traces.proofs.Steps.{IsTold, happens_told, step_is}
 
@@ -59,7 +59,7 @@ abbrev pub AreFormed : List Occurrence → Type 0
 AreFormed happened = AllByRecursion (λ (occurrence : Occurrence). forms.IsEvent occurrence.event) happened
 
 -- events that a text may name are well formed
-named_formed : (happened : List Occurrence) → AreNamed happened → AreFormed happened
+named_formed : (happened : List Occurrence) → AreNameable happened → AreFormed happened
 named_formed [] are = tt
 named_formed (o ∷ rest) are = (event_formed o.event are.0, named_formed rest are.1)
 
@@ -82,7 +82,7 @@ module _ (config : Config) (sized : IsSized config) (limits : IsLimited config) 
       let more = net_grows after (forms.After world o.event o.fault are.0 reached) rest are.1 in
       omega (arith, one, more)
 
-  entries_are : (world : World) → IsWellReached config world → (happened : List Occurrence) → AreFormed happened → AreNamed happened
+  entries_are : (world : World) → IsWellReached config world → (happened : List Occurrence) → AreFormed happened → AreNameable happened
       → length (world_after config world happened).net < 2 ^ 32
       → AllByRecursion IsEntry (map Entry.Step (trace config world happened))
   entries_are world reached [] formed named few = tt

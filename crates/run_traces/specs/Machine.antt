@@ -16,13 +16,13 @@ pub record IsLimited (config : Config) : Type 0 where
   pub managers : config.managers ≤ most_managers
 
 -- each event of some that happened is one that a text may name
-abbrev pub AreNamed : List Occurrence → Type 0
-AreNamed happened = AllByRecursion (λ occurrence. IsEvent occurrence.event) happened
+abbrev pub AreNameable : List Occurrence → Type 0
+AreNameable happened = AllByRecursion (λ occurrence. IsEvent occurrence.event) happened
 
 -- a trace may tell of what happened in a cluster: that is within the limits, its first rows too, texts may name the events, and fewer than
 -- 2^32 datagrams were sent, since words of a trace have numbers of 32 bits
 pub record CanBeTold (config : Config) (happened : List Occurrence) : Type 0 where
   pub limits : IsLimited config
   pub rows : (rm : ℕ) → All IsRow (first_rows config rm)
-  pub events : AreNamed happened
+  pub events : AreNameable happened
   pub few : length (world_after config (opening config) happened).net < 2 ^ 32

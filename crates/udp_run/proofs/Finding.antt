@@ -216,7 +216,7 @@ module _ (sizes : Sizes) (few : AreFew sizes) (at : ℕ) (ports : List UdpPort) 
 -- ---- each is told
 
 -- the ports so far were told, and those from there on are as they were
-pub record AreTold (addresses : Addresses) (at : ℕ) (start now : List UdpPort) : Type 0 where
+pub record KnowAddresses (addresses : Addresses) (at : ℕ) (start now : List UdpPort) : Type 0 where
   pub told : take at now ≡ map (finding addresses) (take at start)
   pub rest : drop at now ≡ drop at start
   pub long : length now ≡ length start
@@ -225,7 +225,7 @@ at_front : (n : ℕ) (xs : List UdpPort) (d : UdpPort) → get_or (drop n xs) 0 
 at_front n xs d = let e : n + 0 ≡ n = omega arith in get_or-drop n xs 0 d ∙ ap (λ (k : ℕ). get_or xs k d) e
 
 module _ (addresses : Addresses) (at : ℕ) (start now : List UdpPort) (was : UdpPort) (lt : at < length now)
-    (read : was ≡ get_or now at was) (so : AreTold addresses at start now) where
+    (read : was ≡ get_or now at was) (so : KnowAddresses addresses at start now) where
   within : at < length start
   within = let long : length now ≡ length start = so.long in omega (arith, lt, long)
 
@@ -235,7 +235,7 @@ module _ (addresses : Addresses) (at : ℕ) (start now : List UdpPort) (was : Ud
   behind : drop (at + 1) now ≡ drop (at + 1) start
   behind = ap (drop 1) (sym (drop_more now at was lt) ∙ so.rest ∙ drop_more start at was within)
 
-  pub told_next : (new : UdpPort) → new ≡ finding addresses was → AreTold addresses (at + 1) start (set now at new)
+  pub told_next : (new : UdpPort) → new ≡ finding addresses was → KnowAddresses addresses (at + 1) start (set now at new)
   told_next new is = record {
     told =
         take_more_set now at new lt ∙ ap (λ (ps : List UdpPort). ps ++ new ∷ []) so.told
@@ -245,7 +245,7 @@ module _ (addresses : Addresses) (at : ℕ) (start now : List UdpPort) (was : Ud
     long = length-set now at new ∙ so.long;
   }
 
-pub all_told : (addresses : Addresses) (at : ℕ) (start now : List UdpPort) → length now ≤ at → AreTold addresses at start now
+pub all_told : (addresses : Addresses) (at : ℕ) (start now : List UdpPort) → length now ≤ at → KnowAddresses addresses at start now
     → now ≡ map (finding addresses) start
 all_told addresses at start now end so =
     let long : length now ≡ length start = so.long in

@@ -74,12 +74,12 @@ filter_one : {X : Type 0} (p : X → Bool) (x : X) (t : Bool) → p x ≡ t → 
 filter_one p x t e = ap (λ (b : Bool). cond b (x ∷ []) []) e
 
 -- tables of the nodes so far, and nodes that are as they were from there on
-pub record AreShown (at : ℕ) (start now : List NodeParts) (tables : List (List Row)) : Type 0 where
+pub record HaveShownTables (at : ℕ) (start now : List NodeParts) (tables : List (List Row)) : Type 0 where
   pub shown : AreTablesOf (take at start) tables
   pub rest : drop at now ≡ drop at start
   pub long : length now ≡ length start
 
-pub none_shown : (nodes : List NodeParts) → AreShown 0 nodes nodes []
+pub none_shown : (nodes : List NodeParts) → HaveShownTables 0 nodes nodes []
 none_shown nodes = record { shown = tt; rest = refl; long = refl }
 
 abbrev managing : NodeParts → Bool
@@ -89,7 +89,7 @@ at_front : (n : ℕ) (xs : List NodeParts) (d : NodeParts) → get_or (drop n xs
 at_front n xs d = let e : n + 0 ≡ n = omega arith in get_or-drop n xs 0 d ∙ ap (λ (k : ℕ). get_or xs k d) e
 
 module _ (at : ℕ) (start now : List NodeParts) (tables : List (List Row)) (was new : NodeParts) (lt : at < length now)
-    (read : was ≡ get_or now at was) (so : AreShown at start now tables) where
+    (read : was ≡ get_or now at was) (so : HaveShownTables at start now tables) where
   within : at < length start
   within = let long : length now ≡ length start = so.long in omega (arith, lt, long)
 
@@ -112,7 +112,7 @@ module _ (at : ℕ) (start now : List NodeParts) (tables : List (List Row)) (was
   left = drop-set-lt (at + 1) now at new (omega arith) ∙ behind
 
   -- the node is no resource manager
-  shown_without : is_manager was.who ≡ false → AreShown (at + 1) start (set now at new) tables
+  shown_without : is_manager was.who ≡ false → HaveShownTables (at + 1) start (set now at new) tables
   shown_without e = record {
     shown =
         subst (λ (ns : List NodeParts). AllZip IsTableOf ns tables)
@@ -123,7 +123,7 @@ module _ (at : ℕ) (start now : List NodeParts) (tables : List (List Row)) (was
 
   -- it is one, with a table
   shown_with : (rows : List Row) → is_manager was.who ≡ true → IsTableOf was rows
-      → AreShown (at + 1) start (set now at new) (tables ++ rows ∷ [])
+      → HaveShownTables (at + 1) start (set now at new) (tables ++ rows ∷ [])
   shown_with rows e is = record {
     shown =
         subst (λ (ns : List NodeParts). AllZip IsTableOf ns (tables ++ rows ∷ [])) (sym (picked true e))
@@ -133,11 +133,11 @@ module _ (at : ℕ) (start now : List NodeParts) (tables : List (List Row)) (was
   }
 
   -- one or the other
-  pub shown_next : (more : List (List Row)) → ShowsTable was tables more → AreShown (at + 1) start (set now at new) more
+  pub shown_next : (more : List (List Row)) → ShowsTable was tables more → HaveShownTables (at + 1) start (set now at new) more
   shown_next more (inl (e, same)) =
-      subst (λ (ts : List (List Row)). AreShown (at + 1) start (set now at new) ts) (sym same) (shown_without e)
+      subst (λ (ts : List (List Row)). HaveShownTables (at + 1) start (set now at new) ts) (sym same) (shown_without e)
   shown_next more (inr puts) =
-      subst (λ (ts : List (List Row)). AreShown (at + 1) start (set now at new) ts) (sym puts.put)
+      subst (λ (ts : List (List Row)). HaveShownTables (at + 1) start (set now at new) ts) (sym puts.put)
       (shown_with puts.rows puts.manages puts.is)
 
   -- neither
@@ -157,7 +157,7 @@ module _ (at : ℕ) (start now : List NodeParts) (tables : List (List Row)) (was
   )
 
 -- all were shown
-pub all_shown : (at : ℕ) (start now : List NodeParts) (tables : List (List Row)) → length now ≤ at → AreShown at start now tables
+pub all_shown : (at : ℕ) (start now : List NodeParts) (tables : List (List Row)) → length now ≤ at → HaveShownTables at start now tables
     → AreTablesOf start tables
 all_shown at start now tables end so =
     let long : length now ≡ length start = so.long in

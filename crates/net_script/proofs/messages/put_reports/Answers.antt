@@ -16,8 +16,8 @@ returns-in_err-extend_from_slice-in-None-clause-kept c =
 
 pub returns-in_err-put_accepted-in-Some-clause-kept : goal.returns-in_err-put_accepted-in-Some-clause-kept
 returns-in_err-put_accepted-in-Some-clause-kept c =
-    kept_behind c.from_residual-in_err-put_accepted-in-Some.result c.args.out.now.items c.put_manager.new.out.items c.put_accepted.new.out.items
-    _
+    kept_behind c.from_residual-in_err-put_accepted-in-Some.result c.args.out.now.items c.put_manager.new.out.items
+    c.put_accepted.new.out.items _
     (onward c.args.out.now.items c.loop-item.out.items c.put_manager.new.out.items _ _ c.loop-item.invariant
     c.in_ok-put_manager.ensures.puts)
     c.in_err-put_accepted-in-Some.ensures.kept

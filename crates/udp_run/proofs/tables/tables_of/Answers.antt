@@ -3,13 +3,13 @@ use Rattle.xid.specs.declared.refusals.Refusal.TheVariants.{NoMemory, RecordFaul
 use Rattle.protocol.specs.declared.rows.Row.{Row}
 use Rattle.cluster_run.proofs.Configs.{handed_on}
 use Rattle.udp_run.specs.Tables.{StopsAtTable}
-use Rattle.udp_run.proofs.Shown.{AreShown, none_shown, all_shown, shown_next, shown_no_more}
+use Rattle.udp_run.proofs.Shown.{HaveShownTables, none_shown, all_shown, shown_next, shown_no_more}
 use Rattle.udp_run.proofs.tables.tables_of.Goals as goal
 
 pub loop-at-init : goal.loop-at-init
 loop-at-init g c =
-    subst (λ (tables : List (List Row)). AreShown 0 c.args.nodes.now.items c.args.nodes.now.items tables) (sym c.new-tables.ensures.items)
-    (none_shown c.args.nodes.now.items)
+    subst (λ (tables : List (List Row)). HaveShownTables 0 c.args.nodes.now.items c.args.nodes.now.items tables)
+    (sym c.new-tables.ensures.items) (none_shown c.args.nodes.now.items)
 
 pub returns-in_err-show-clause-err : goal.returns-in_err-show-clause-err
 returns-in_err-show-clause-err g c =

@@ -1,5 +1,5 @@
-use Rattle.udp_run.proofs.Shown.{AreShown}
+use Rattle.udp_run.proofs.Shown.{HaveShownTables}
 use Rattle.udp_run.proofs.tables.tables_of.Given as goal
 
 abbrev pub invariant-loop-at : goal.invariant-loop-at
-invariant-loop-at g l = AreShown l.at l.fn.nodes.items l.nodes.items l.tables.items
+invariant-loop-at g l = HaveShownTables l.at l.fn.nodes.items l.nodes.items l.tables.items
