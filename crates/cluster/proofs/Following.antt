@@ -1,12 +1,12 @@
 -- Events one after another are events of the machine one after another; and what befalls records that don't fail of themselves.
 use Rattle.std.proofs.Common.{◌≡◌, ◌∙◌, ℕ, ◌<◌, Bool, true, false, List, [], ◌∷◌, length, get_or, Option, Some, None}
-use Rattle.std.proofs.Common.{refl, sym, subst, arith}
+use Rattle.std.proofs.Common.{refl, sym, ap, subst, arith}
 use Rattle.std.specs.Prelude.{slice_get}
 use Rattle.std.specs.List.{All, AllZip}
 use Rattle.std.specs.Option.{option_and_then}
 use Rattle.std.proofs.lemmas.List.Elements.{All-cons, All-head, All-tail, AllZip-get_or, length_all_zip}
 use Rattle.stable_record.specs.declared.fact.FactKind.{FactKind as Fact}
-use Rattle.stable_record.specs.Held.{Held, IsStoppedAt}
+use Rattle.stable_record.specs.Held.{Held, Nature, IsStoppedAt}
 use Rattle.protocol.specs.declared.events.Event.{Event}
 use Rattle.protocol.specs.declared.events.Event.TheVariants.{Tear, Restart, Compact}
 use Rattle.protocol.specs.declared.events.Step.{Step}
@@ -45,14 +45,14 @@ follow config world first last (step ∷ steps) happened stands =
 -- ---- records that don't fail
 
 over_firm : (records : List Held) (nodes : List NodeParts) → AllZip IsOver records nodes → NoneFails records
-    → All (λ node. node.held.may_fail ≡ false) nodes
+    → All (λ node. node.held.nature.may_fail ≡ false) nodes
 over_firm [] [] over none = λ k d lt. absurd (omega (arith, lt))
 over_firm [] (node ∷ nodes) over none = absurd over
 over_firm (held ∷ records) [] over none = absurd over
 over_firm (held ∷ records) (node ∷ nodes) over none =
-    All-cons (λ (n : NodeParts). n.held.may_fail ≡ false) node nodes
-    (over.0 ∙ All-head (λ (h : Held). h.may_fail ≡ false) held records none)
-    (over_firm records nodes over.1 (All-tail (λ (h : Held). h.may_fail ≡ false) held records none))
+    All-cons (λ (n : NodeParts). n.held.nature.may_fail ≡ false) node nodes
+    (ap (λ (n : Nature). n.may_fail) over.0 ∙ All-head (λ (h : Held). h.nature.may_fail ≡ false) held records none)
+    (over_firm records nodes over.1 (All-tail (λ (h : Held). h.nature.may_fail ≡ false) held records none))
 
 pub made_firm : (config : Config) (records : List Held) (cluster : ClusterParts) → IsMade config records cluster → NoneFails records
     → IsFirm cluster
@@ -61,7 +61,7 @@ made_firm config records cluster made none = over_firm records cluster.nodes mad
 pub still_firm : (old new : ClusterParts) → IsSameCluster old new → IsFirm old → IsFirm new
 still_firm old new same firm = λ k d lt.
     let here : k < length old.nodes = omega (arith, lt, length_all_zip IsSameNode old.nodes new.nodes same.nodes_are) in
-    (AllZip-get_or IsSameNode old.nodes new.nodes k d d same.nodes_are here).may_fail_is ∙ firm k d here
+    ap (λ (n : Nature). n.may_fail) (AllZip-get_or IsSameNode old.nodes new.nodes k d d same.nodes_are here).nature_is ∙ firm k d here
 
 -- where a node is, it has a place
 found_place : (nodes : List NodeState) (o : Option ℕ) (m : NodeState) → option_and_then (λ at. slice_get nodes at) o ≡ Some m
@@ -69,11 +69,11 @@ found_place : (nodes : List NodeState) (o : Option ℕ) (m : NodeState) → opti
 found_place nodes None m e = absurd (cc (e))
 found_place nodes (Some at) m e = (at, refl)
 
-firm_befalls : (fact : Option Fact) (old new : Held) (whole : Bool) → old.may_fail ≡ false → Befalls fact old new (RecordFails whole) → ⊥
+firm_befalls : (fact : Option Fact) (old new : Held) (whole : Bool) → old.nature.may_fail ≡ false → Befalls fact old new (RecordFails whole) → ⊥
 firm_befalls None old new whole firm b = b
 firm_befalls (Some fact) old new whole firm b =
-    let at = subst (λ (armed : Option ℕ). IsStoppedAt armed old.may_fail (length (fact_frame fact)) new.kept) b.0 b.1.stopped.at in
-    may_not old.may_fail at.0 firm
+    let at = subst (λ (armed : Option ℕ). IsStoppedAt armed old.nature.may_fail (length (fact_frame fact)) new.kept) b.0 b.1.stopped.at in
+    may_not old.nature.may_fail at.0 firm
 
 module _ (config : Config) (world : World) (old new : ClusterParts) (stands : ClusterStands config old world) (firm : IsFirm old)
     (whole : Bool) where
@@ -101,7 +101,7 @@ module _ (config : Config) (world : World) (old new : ClusterParts) (stands : Cl
       let p = found_place world.nodes (place config who) m e in
       let lt : p.0 < length old.nodes = within who p.0 p.1 in
       let d : NodeParts = some_node p.0 old.nodes lt in
-      may_not (get_or old.nodes p.0 d).held.may_fail (b p.0 d p.1).may (firm p.0 d lt)
+      may_not (get_or old.nodes p.0 d).held.nature.may_fail (b p.0 d p.1).may (firm p.0 d lt)
 
   compacted_firm : (who : NodeId) (o : Option NodeState) → node_at config world who ≡ o
       → BefallsCompacted config old.nodes new.nodes who o (RecordFails whole) → ⊥
@@ -118,7 +118,7 @@ module _ (config : Config) (world : World) (old new : ClusterParts) (stands : Cl
           let p = found_place world.nodes (place config who) m e in
           let lt : p.0 < length old.nodes = within who p.0 p.1 in
           let d : NodeParts = some_node p.0 old.nodes lt in
-          may_not (get_or old.nodes p.0 d).held.may_fail (b p.0 d p.1).0.may (firm p.0 d lt)
+          may_not (get_or old.nodes p.0 d).held.nature.may_fail (b p.0 d p.1).0.may (firm p.0 d lt)
 
   handed_firm : (h : Option (NodeId × Input)) → BefallsReached config world old.nodes new.nodes h (RecordFails whole) → ⊥
   handed_firm None b = absurd (cc (b))

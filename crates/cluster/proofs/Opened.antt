@@ -187,7 +187,7 @@ pub begun : (config : Config) (who : NodeId) (held now : Held) (node : NodeParts
     → IsOpened config who now node → IsBegun config who held node
 begun config who held now node same empty opened =
     let o : IsOpened config who held node = subst (λ (h : Held). IsOpened config who h node) same opened in
-    record { who_is = o.who_is; empty = empty; over = o.may_fail; stands = opened_empty config who held node empty o }
+    record { who_is = o.who_is; empty = empty; over = o.nature; stands = opened_empty config who held node empty o }
 
 -- why it isn't opened
 pub unbegun : (config : Config) (who : NodeId) (held now after : Held) (refusal : Refusal) → now ≡ held → held.bytes ≡ []

@@ -52,7 +52,7 @@ set_found (y ∷ xs) (suc i) x e = ap (λ (ys : List _). y ∷ ys) (set_found xs
 -- ---- what stays
 
 same_self : (node : NodeParts) → IsSameNode node node
-same_self node = record { who_is = refl; sizes_are = refl; rows_are = refl; may_fail_is = refl }
+same_self node = record { who_is = refl; sizes_are = refl; rows_are = refl; nature_is = refl }
 
 same_all : (nodes : List NodeParts) → AllZip IsSameNode nodes nodes
 same_all [] = tt

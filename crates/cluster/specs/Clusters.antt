@@ -164,7 +164,7 @@ abbrev pub BefallsIn : Config → World → Event → (old new : List NodeParts)
 BefallsIn config world event old new NoMemoryBefore = new ≡ old
 BefallsIn config world event old new fault = BefallsEvent config world event old new fault
 
--- what a cluster is stays: its sizes, and of each node its name, its first rows, and whether its record may fail of itself
+-- what a cluster is stays: its sizes, and of each node its name, its first rows, and what its record is by nature
 pub record IsSameCluster (old new : ClusterParts) : Type 0 where
   pub sizes_are : new.sizes ≡ old.sizes
   pub nodes_are : AllZip IsSameNode old.nodes new.nodes

@@ -36,11 +36,11 @@ NoneArmed records = All (λ held. held.armed ≡ None) records
 
 -- none of them may fail of itself
 abbrev pub NoneFails : List Held → Type 0
-NoneFails records = All (λ held. held.may_fail ≡ false) records
+NoneFails records = All (λ held. held.nature.may_fail ≡ false) records
 
--- a node's record may fail of itself where the one may that it was opened over
+-- a node's record is by nature what the one is that it was opened over
 abbrev pub IsOver : Held → NodeParts → Type 0
-IsOver held node = node.held.may_fail ≡ held.may_fail
+IsOver held node = node.held.nature ≡ held.nature
 
 -- a cluster was made over empty records: it stands for the opening world, in which the tears are armed that were; events lead to it
 pub record IsMade (config : Config) (records : List Held) (cluster : ClusterParts) : Type 0 where

@@ -19,4 +19,4 @@ pub record FollowMachine (config : Config) (world : World) (steps : List Step) (
 
 -- none of a cluster's records may fail of itself
 abbrev pub IsFirm : ClusterParts → Type 0
-IsFirm cluster = All (λ node. node.held.may_fail ≡ false) cluster.nodes
+IsFirm cluster = All (λ node. node.held.nature.may_fail ≡ false) cluster.nodes

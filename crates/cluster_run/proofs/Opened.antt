@@ -41,7 +41,7 @@ module _ (config : Config) (records : List Held) (count : ℕ) (are : records �
   pub opened_over : (cluster : ClusterParts) → IsMade config records cluster → IsRunning config (opening config) cluster
   opened_over cluster made = record {
     stands = made.unarmed (each_fresh (λ held. held.armed ≡ None) refl);
-    firm = made_firm config records cluster made (each_fresh (λ held. held.may_fail ≡ false) refl);
+    firm = made_firm config records cluster made (each_fresh (λ held. held.nature.may_fail ≡ false) refl);
   }
 
   -- only memory keeps it from being made
@@ -49,8 +49,8 @@ module _ (config : Config) (records : List Held) (count : ℕ) (are : records �
   unopened_for Refusal.NoMemory unmade = refl
   unopened_for Refusal.BadConfig unmade = absurd (unmade are_new)
   unopened_for Refusal.RecordFault unmade =
-      absurd (both_ways (get_or records unmade.at (fresh [])).may_fail
-      (each_fresh (λ held. held.may_fail ≡ false) refl unmade.at (fresh []) unmade.within) (unmade.faulted (fresh [])).may)
+      absurd (both_ways (get_or records unmade.at (fresh [])).nature.may_fail
+      (each_fresh (λ held. held.nature.may_fail ≡ false) refl unmade.at (fresh []) unmade.within) (unmade.faulted (fresh [])).may)
   unopened_for e unmade = absurd unmade
 
 -- ---- at the end
@@ -134,6 +134,6 @@ module _ (config : Config) (world : World) (old new : ClusterParts) (rm : ℕ) (
             | inl failed ↦
                 let within : there.0 < length old.nodes =
                 omega (arith, place_within config (R rm) there.0 there.1, running.stands.nodes_are.count) in
-                absurd (both_ways (get_or old.nodes there.0 no_node).held.may_fail (running.firm there.0 no_node within) failed.1.may)
+                absurd (both_ways (get_or old.nodes there.0 no_node).held.nature.may_fail (running.firm there.0 no_node within) failed.1.may)
             | inr wanted ↦ let same = sym err ∙ wanted.0 in cc (same)
           ]

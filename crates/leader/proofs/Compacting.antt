@@ -366,8 +366,8 @@ one_fact config number before (Fact.Ballot tx b) fits =
       arith,
       seen,
       grows (last_ballot before) (last_ballot (before ++ Fact.Ballot tx b ∷ [])) tx b
-      (λ other e. stored_ballot before tx other b above ∙ ap (λ t. if t then b else last_ballot before other) e)
-      (begun_in (before ++ Fact.Ballot tx b ∷ [])) (first_once fact_tx (before ++ Fact.Ballot tx b ∷ [])),
+          (λ other e. stored_ballot before tx other b above ∙ ap (λ t. if t then b else last_ballot before other) e)
+          (begun_in (before ++ Fact.Ballot tx b ∷ [])) (first_once fact_tx (before ++ Fact.Ballot tx b ∷ [])),
       seen_same before tx,
     )
 one_fact config number before (Fact.Promise tx i b) fits = absurd (true≢false (sym fits))

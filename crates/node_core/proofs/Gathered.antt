@@ -10,7 +10,7 @@ use Rattle.xid.specs.declared.refusals.Refusal.{Refusal}
 use Rattle.xid.specs.declared.refusals.Refusal.TheVariants.{RecordFault, NoMemory}
 use Rattle.stable_record.specs.declared.fact.FactKind.{FactKind as Fact}
 use Rattle.stable_record.specs.Facts.{IsFact}
-use Rattle.stable_record.specs.Held.{Held, IsAdded, IsStopped, IsStoppedAt, IsCounted}
+use Rattle.stable_record.specs.Held.{Held, Nature, IsAdded, IsStopped, IsStoppedAt, IsCounted}
 use Rattle.stable_record.specs.declared.record.RecordError.{RecordError}
 use Rattle.stable_record.specs.declared.record.RecordError.TheVariants as errors
 use Rattle.protocol.specs.declared.answers.Answer.TheVariants.{Refused}
@@ -78,7 +78,7 @@ pub record Behind (old new : Held) (text : List ℕ) : Type 0 where
   pub bytes : new.bytes ≡ old.bytes ++ text
   pub faults : new.faults ≡ old.faults
   pub armed : new.armed ≡ None
-  pub may_fail : new.may_fail ≡ old.may_fail
+  pub nature : new.nature ≡ old.nature
 
 module _ (config : Config) (who : NodeId) (own : List Row) where
   one_behind : (m : NodeState) (input : Input) (old new : Held) (text : List ℕ) → old.armed ≡ None
@@ -87,13 +87,13 @@ module _ (config : Config) (who : NodeId) (own : List Row) where
     bytes = ap (λ (h : Held). h.bytes) is.0 ∙ sym (append-nil old.bytes) ∙ ap (λ (xs : List ℕ). old.bytes ++ xs) (sym is.1);
     faults = ap (λ (h : Held). h.faults) is.0;
     armed = ap (λ (h : Held). h.armed) is.0 ∙ unarmed;
-    may_fail = ap (λ (h : Held). h.may_fail) is.0;
+    nature = ap (λ (h : Held). h.nature) is.0;
   }
   one_behind m input old new text unarmed (inr is) = record {
     bytes = is.0.bytes;
     faults = is.0.faults;
     armed = is.0.armed;
-    may_fail = is.0.may_fail;
+    nature = is.0.nature;
   }
 
   pub all_behind : (from to : Place) (inputs : List Input) (outs : List Output) (text : List ℕ) → from.held.armed ≡ None
@@ -102,7 +102,7 @@ module _ (config : Config) (who : NodeId) (own : List Row) where
     bytes = ap (λ (p : Place). p.held.bytes) g.0 ∙ sym (append-nil from.held.bytes) ∙ ap (λ (xs : List ℕ). from.held.bytes ++ xs) (sym g.1);
     faults = ap (λ (p : Place). p.held.faults) g.0;
     armed = ap (λ (p : Place). p.held.armed) g.0 ∙ unarmed;
-    may_fail = ap (λ (p : Place). p.held.may_fail) g.0;
+    nature = ap (λ (p : Place). p.held.nature) g.0;
   }
   all_behind from to (i ∷ inputs) (o ∷ outs) text unarmed g =
       let one = one_behind from.state i from.held g.0.held g.1 unarmed g.3.leaves in
@@ -112,7 +112,7 @@ module _ (config : Config) (who : NodeId) (own : List Row) where
             ∙ ap (λ (xs : List ℕ). from.held.bytes ++ xs) (sym g.4);
         faults = rest.faults ∙ one.faults;
         armed = rest.armed;
-        may_fail = rest.may_fail ∙ one.may_fail;
+        nature = rest.nature ∙ one.nature;
       }
   all_behind from to [] (o ∷ outs) text unarmed g = absurd g
   all_behind from to (i ∷ inputs) [] text unarmed g = absurd g
@@ -137,7 +137,7 @@ module _ (config : Config) (who : NodeId) (own : List Row) where
   }
 
   same_but_kept : (held : Held) → IsSameButKept held held
-  same_but_kept held = record { bytes = refl; faults = refl; armed = refl; may_fail = refl }
+  same_but_kept held = record { bytes = refl; faults = refl; armed = refl; nature = refl }
 
   stops_here : (from : Place) (input : Input) (inputs : List Input) (left new : Held) (why : Refusal) → IsSameButKept left new
       → (out : Output) × Steps config who own from.state input from.held left None out × (out.reply ≡ Refused why)
@@ -172,13 +172,13 @@ module _ (config : Config) (who : NodeId) (own : List Row) where
   stopped_within : (first rest : List ℕ) (old new : Held) → old.armed ≡ None → IsStopped (first ++ rest) old new
       → new.kept ≤ length first → IsStopped first old new
   stopped_within first rest old new unarmed is le =
-      let at = subst (λ armed. IsStoppedAt armed old.may_fail (length (first ++ rest)) new.kept) unarmed is.at in
+      let at = subst (λ armed. IsStoppedAt armed old.nature.may_fail (length (first ++ rest)) new.kept) unarmed is.at in
       record {
-        at = subst (λ armed. IsStoppedAt armed old.may_fail (length first) new.kept) (sym unarmed) (at.0, le);
+        at = subst (λ armed. IsStoppedAt armed old.nature.may_fail (length first) new.kept) (sym unarmed) (at.0, le);
         bytes = is.bytes ∙ ap (λ (xs : List ℕ). old.bytes ++ xs) (take_within new.kept first rest le);
         counted = is.counted;
         armed = is.armed;
-        may_fail = is.may_fail;
+        nature = is.nature;
       }
 
   -- the record, with what is kept counted from the end of a text on
@@ -188,24 +188,24 @@ module _ (config : Config) (who : NodeId) (own : List Row) where
     kept = new.kept - length first;
     faults = new.faults;
     armed = new.armed;
-    may_fail = new.may_fail;
+    nature = new.nature;
   }
 
   stopped_beyond : (first rest : List ℕ) (old next new : Held) → old.armed ≡ None → Behind old next first
       → IsStopped (first ++ rest) old new
       → length first ≤ new.kept → IsStopped rest next (counted_from first new)
   stopped_beyond first rest old next new unarmed b is le =
-      let at = subst (λ armed. IsStoppedAt armed old.may_fail (length (first ++ rest)) new.kept) unarmed is.at in
+      let at = subst (λ armed. IsStoppedAt armed old.nature.may_fail (length (first ++ rest)) new.kept) unarmed is.at in
       let few : new.kept - length first ≤ length rest = omega (arith, at.1, le, length-append first rest) in
       record {
-        at = subst (λ armed. IsStoppedAt armed next.may_fail (length rest) (new.kept - length first)) (sym b.armed)
-            (subst (λ b. IsTrue b) (sym b.may_fail) at.0, few);
+        at = subst (λ armed. IsStoppedAt armed next.nature.may_fail (length rest) (new.kept - length first)) (sym b.armed)
+            (subst (λ b. IsTrue b) (sym (ap (λ (n : Nature). n.may_fail) b.nature)) at.0, few);
         bytes = is.bytes ∙ ap (λ (xs : List ℕ). old.bytes ++ xs) (take_beyond new.kept first rest le)
             ∙ sym (append_assoc old.bytes first (take (new.kept - length first) rest))
             ∙ ap (λ (xs : List ℕ). xs ++ take (new.kept - length first) rest) (sym b.bytes);
         counted = subst (λ n. IsCounted n new.faults) (sym b.faults) is.counted;
         armed = is.armed;
-        may_fail = is.may_fail ∙ sym b.may_fail;
+        nature = is.nature ∙ sym b.nature;
       }
 
   again_counted : (first : List ℕ) (from : Place) (inputs : List Input) (new : Held) (why : Refusal)
@@ -219,7 +219,7 @@ module _ (config : Config) (who : NodeId) (own : List Row) where
     place = s.place;
     runs = s.runs;
     left = s.left;
-    left_is = record { bytes = s.left_is.bytes; faults = s.left_is.faults; armed = s.left_is.armed; may_fail = s.left_is.may_fail };
+    left_is = record { bytes = s.left_is.bytes; faults = s.left_is.faults; armed = s.left_is.armed; nature = s.left_is.nature };
     out = s.out;
     stopped = s.stopped;
     reply_is = s.reply_is;
@@ -243,7 +243,7 @@ module _ (config : Config) (who : NodeId) (own : List Row) where
       let lt : length first < new.kept = grind (arith, nat_tests, e) in
       let b = one_behind from.state input from.held next.held first unarmed (inr added) in
       let there = stopped_beyond first rest from.held next.held new unarmed b all (omega (arith, lt)) in
-      let at = subst (λ armed. IsStoppedAt armed from.held.may_fail (length (first ++ rest)) new.kept) unarmed all.at in
+      let at = subst (λ armed. IsStoppedAt armed from.held.nature.may_fail (length (first ++ rest)) new.kept) unarmed all.at in
       in_front from next input out inputs new RecordFault does
       (again_counted first next inputs new RecordFault
       (later (counted_from first new) b.armed (omega (arith, at.1, lt, length-append first rest)) there))
@@ -365,9 +365,9 @@ module _ (config : Config) (who : NodeId) (own : List Row) (m : NodeState) (inpu
     done_again old new now out untorn reply sends (Some fact) is k =
         let text : List ℕ = fact_frame fact in
         let after : Held =
-        record { bytes = held.bytes ++ text; kept = length text; faults = held.faults; armed = None; may_fail = held.may_fail } in
+        record { bytes = held.bytes ++ text; kept = length text; faults = held.faults; armed = None; nature = held.nature } in
         let added : IsAdded text held after =
-        record { bytes = refl; kept = refl; faults = refl; unarmed = unarmed; armed = refl; may_fail = refl } in
+        record { bytes = refl; kept = refl; faults = refl; unarmed = unarmed; armed = refl; nature = refl } in
         record {
           text = text;
           after = after;
@@ -382,14 +382,14 @@ module _ (config : Config) (who : NodeId) (own : List Row) (m : NodeState) (inpu
           leaves = inr (added, tears fact is k.valid k.fits);
         }
 
-    never_stopped : (old new : Held) (len : ℕ) → old.armed ≡ None → old.may_fail ≡ false
-        → IsStoppedAt old.armed old.may_fail len new.kept → ⊥
+    never_stopped : (old new : Held) (len : ℕ) → old.armed ≡ None → old.nature.may_fail ≡ false
+        → IsStoppedAt old.armed old.nature.may_fail len new.kept → ⊥
     never_stopped old new len untorn never at =
         let wrong : false ≡ true =
-        subst (λ b. IsTrue b) never (subst (λ armed. IsStoppedAt armed old.may_fail len new.kept) untorn at).0 in
+        subst (λ b. IsTrue b) never (subst (λ armed. IsStoppedAt armed old.nature.may_fail len new.kept) untorn at).0 in
         absurd (cc wrong)
 
-    carried_again : (old new : Held) (now : Role) (result : Result Output Output) → old.armed ≡ None → old.may_fail ≡ false
+    carried_again : (old new : Held) (now : Role) (result : Result Output Output) → old.armed ≡ None → old.nature.may_fail ≡ false
         → Carries config who m.facts m.memory the_effect old new now result → Again old new now result
     carried_again old new now (Ok out) untorn never is =
         done_again old new now out untorn is.reply_is is.sends_are the_effect.fact refl is.kept
@@ -405,7 +405,7 @@ module _ (config : Config) (who : NodeId) (own : List Row) (m : NodeState) (inpu
         absurd (never_stopped old new _ untorn never is.torn.stopped.at)
 
   -- of a node that was up
-  acts_carried : (sizes : Sizes) (old new : Held) (was role : Option Role) (out : Output) → old.armed ≡ None → old.may_fail ≡ false
+  acts_carried : (sizes : Sizes) (old new : Held) (was role : Option Role) (out : Output) → old.armed ≡ None → old.nature.may_fail ≡ false
       → AreSizes config sizes → IsCarriedOut who sizes input old new was role out → Stands config who own held was m
       → ActsOn config who own (place was) input out role old new
   acts_carried sizes old new was role out untorn never are h s =
@@ -427,7 +427,7 @@ module _ (config : Config) (who : NodeId) (own : List Row) (m : NodeState) (inpu
         armed_is = again.armed_is;
       }
 
-  pub acts_of : (sizes : Sizes) (old new : Held) (was role : Option Role) (out : Output) → old.armed ≡ None → old.may_fail ≡ false
+  pub acts_of : (sizes : Sizes) (old new : Held) (was role : Option Role) (out : Output) → old.armed ≡ None → old.nature.may_fail ≡ false
       → AreSizes config sizes → Handles who sizes input old new was role out → Stands config who own held was m
       → ActsOn config who own (place was) input out role old new
   acts_of sizes old new was role out untorn never are (inl h) s =
@@ -487,13 +487,13 @@ module _ (config : Config) (who : NodeId) (own : List Row) where
     bytes = ap (λ (h : Held). h.bytes) is.1 ∙ sym (append-nil base.bytes) ∙ ap (λ (xs : List ℕ). base.bytes ++ xs) (sym is.0) ∙ sym b.bytes;
     faults = ap (λ (h : Held). h.faults) is.1 ∙ sym b.faults;
     armed = ap (λ (h : Held). h.armed) is.1 ∙ unarmed ∙ sym b.armed;
-    may_fail = ap (λ (h : Held). h.may_fail) is.1 ∙ sym b.may_fail;
+    nature = ap (λ (h : Held). h.nature) is.1 ∙ sym b.nature;
   }
   stored_held base to new text unarmed b (inr (some, is)) = record {
     bytes = is.bytes ∙ sym b.bytes;
     faults = is.faults ∙ sym b.faults;
     armed = is.armed ∙ sym b.armed;
-    may_fail = is.may_fail ∙ sym b.may_fail;
+    nature = is.nature ∙ sym b.nature;
   }
 
   pub comes : (from : Place) (inputs : List Input) (outs : List Output) (role : Option Role) (frames all : Held) (text : List ℕ)

@@ -14,7 +14,7 @@ use Rattle.node_core.specs.declared.role.Role.{Role}
 use Rattle.node_core.specs.Storing.{output_of}
 use Rattle.node_core.specs.Nodes.{AreSizes, IsSound, Keeps, NodeParts, NodeStands, Stands, Steps, fact_to_store}
 use Rattle.node_core.specs.Groups.{Place, Runs, IsSameButKept, Comes, Groups, GroupsAs, AppendsOnce}
-use Rattle.node_core.proofs.Sound.{step_may_fail}
+use Rattle.node_core.proofs.Sound.{step_nature}
 
 module _ (config : Config) (who : NodeId) (own : List Row) where
   map_same : (x : Output) (outs : List Output) (inputs : List Input) → length outs ≡ length inputs
@@ -57,17 +57,17 @@ module _ (config : Config) (who : NodeId) (own : List Row) where
   runs_stand from to [] (o ∷ outs) s r = absurd r
   runs_stand from to (i ∷ inputs) [] s r = absurd r
 
-  steps_may_fail : (m : NodeState) (input : Input) (old new : Held) (role : Option Role) (out : Output)
-      → Steps config who own m input old new role out → new.may_fail ≡ old.may_fail
-  steps_may_fail m input old new role out s = step_may_fail (fact_to_store config who m input) old new s.fault s.befalls
+  steps_nature : (m : NodeState) (input : Input) (old new : Held) (role : Option Role) (out : Output)
+      → Steps config who own m input old new role out → new.nature ≡ old.nature
+  steps_nature m input old new role out s = step_nature (fact_to_store config who m input) old new s.fault s.befalls
 
-  runs_may_fail : (from to : Place) (inputs : List Input) (outs : List Output) → Runs config who own from inputs outs to
-      → to.held.may_fail ≡ from.held.may_fail
-  runs_may_fail from to [] [] r = ap (λ (p : Place). p.held.may_fail) r
-  runs_may_fail from to (i ∷ inputs) (o ∷ outs) r =
-      runs_may_fail r.0 to inputs outs r.2 ∙ steps_may_fail from.state i from.held r.0.held r.0.role o r.1.steps
-  runs_may_fail from to [] (o ∷ outs) r = absurd r
-  runs_may_fail from to (i ∷ inputs) [] r = absurd r
+  runs_nature : (from to : Place) (inputs : List Input) (outs : List Output) → Runs config who own from inputs outs to
+      → to.held.nature ≡ from.held.nature
+  runs_nature from to [] [] r = ap (λ (p : Place). p.held.nature) r
+  runs_nature from to (i ∷ inputs) (o ∷ outs) r =
+      runs_nature r.0 to inputs outs r.2 ∙ steps_nature from.state i from.held r.0.held r.0.role o r.1.steps
+  runs_nature from to [] (o ∷ outs) r = absurd r
+  runs_nature from to (i ∷ inputs) [] r = absurd r
 
   pub group_stands : (from : Place) (inputs : List Input) (outs : List Output) (role : Option Role) (new : Held)
       → (result : Result (Unit {0}) RecordError) → Stands config who own from.held from.role from.state
@@ -83,14 +83,14 @@ module _ (config : Config) (who : NodeId) (own : List Row) where
       let m : NodeState = (node_step config who p.place.state p.at p.stopped.fault).node in
       (m, kept_stands p.left new role m p.left_is (subst (λ r. Stands config who own p.left r m) (sym g.down) p.stopped.shows.stands))
 
-  pub group_may_fail : (from : Place) (inputs : List Input) (outs : List Output) (role : Option Role) (new : Held)
+  pub group_nature : (from : Place) (inputs : List Input) (outs : List Output) (role : Option Role) (new : Held)
       → (result : Result (Unit {0}) RecordError) → Groups config who own from inputs outs role new result
-      → new.may_fail ≡ from.held.may_fail
-  group_may_fail from inputs outs role new (Ok done) g = g.held_is.may_fail ∙ runs_may_fail from g.to inputs outs g.runs
-  group_may_fail from inputs outs role new (Err error) g =
+      → new.nature ≡ from.held.nature
+  group_nature from inputs outs role new (Ok done) g = g.held_is.nature ∙ runs_nature from g.to inputs outs g.runs
+  group_nature from inputs outs role new (Err error) g =
       let p = g.stops in
-      p.left_is.may_fail ∙ steps_may_fail p.place.state p.at p.place.held p.left None p.out p.stopped
-      ∙ runs_may_fail from p.place p.before p.outs p.runs
+      p.left_is.nature ∙ steps_nature p.place.state p.at p.place.held p.left None p.out p.stopped
+      ∙ runs_nature from p.place p.before p.outs p.runs
 
 -- ---- the whole node
 
@@ -124,7 +124,7 @@ module _ (node : NodeParts) (held : Held) (role : Option Role) (inputs : List In
       who_is = refl;
       sizes_are = refl;
       rows_are = refl;
-      may_fail_is = group_may_fail config node.who node.rows (record { state = m; held = node.held; role = node.role }) inputs outs role
+      nature_is = group_nature config node.who node.rows (record { state = m; held = node.held; role = node.role }) inputs outs role
           held result g;
     };
     once = once;

@@ -116,7 +116,7 @@ pub stayed_same : (old new : Held) → new ≡ old → HasStayed old new
 stayed_same old new is = record {
   armed = ap (λ (r : Held). r.armed) is;
   faults = ap (λ (r : Held). r.faults) is;
-  may_fail = ap (λ (r : Held). r.may_fail) is;
+  nature = ap (λ (r : Held). r.nature) is;
   holds = λ c w kept tail h. (tail, subst (λ (r : Held). Holds c w r.bytes kept tail) (sym is) h);
 }
 
@@ -126,7 +126,7 @@ read_faulted T old new h = record {
   may = h.may;
   counted = h.counted;
   armed = h.armed;
-  may_fail = h.may_fail;
+  nature = h.nature;
   holds = λ c w kept tail k. (tail, subst (λ bytes. Holds c w bytes kept tail) (sym (either_same new.bytes old.bytes h.bytes)) k);
 }
 
@@ -192,7 +192,7 @@ module _ (config : Config) (who : NodeId) (own : List Row) (old : Held) where
         may = put.may;
         counted = put.counted;
         armed = put.armed;
-        may_fail = put.may_fail;
+        nature = put.nature;
         holds = λ c w kept tail k. cut_either new c w kept tail put.bytes k;
       },
       inl (cut_left new.bytes put.bytes),
@@ -224,10 +224,10 @@ module _ (config : Config) (who : NodeId) (own : List Row) (old : Held) where
           by : (e : Refusal) → IsReplaced frames mid new (Err e) → Loads config who own old new (Err e)
           by Refusal.RecordFault put = (
             record {
-              may = subst (λ (r : Held). IsTrue r.may_fail) cut_is put.may;
+              may = subst (λ (r : Held). IsTrue r.nature.may_fail) cut_is put.may;
               counted = subst (λ (r : Held). IsCounted r.faults new.faults) cut_is put.counted;
               armed = put.armed ∙ ap (λ (r : Held). r.armed) cut_is;
-              may_fail = put.may_fail ∙ ap (λ (r : Held). r.may_fail) cut_is;
+              nature = put.nature ∙ ap (λ (r : Held). r.nature) cut_is;
               holds = λ c w kept tail k. frames_either c w kept tail put.bytes k;
             },
             frames_left new.bytes put.bytes,
@@ -236,7 +236,7 @@ module _ (config : Config) (who : NodeId) (own : List Row) (old : Held) where
             record {
               armed = ap (λ (r : Held). r.armed) put ∙ ap (λ (r : Held). r.armed) cut_is;
               faults = ap (λ (r : Held). r.faults) put ∙ ap (λ (r : Held). r.faults) cut_is;
-              may_fail = ap (λ (r : Held). r.may_fail) put ∙ ap (λ (r : Held). r.may_fail) cut_is;
+              nature = ap (λ (r : Held). r.nature) put ∙ ap (λ (r : Held). r.nature) cut_is;
               holds = λ c w kept tail k. frames_either c w kept tail (inl (ap (λ (r : Held). r.bytes) put)) k;
             },
             inr (untailed new.bytes (ap (λ (r : Held). r.bytes) put ∙ mid_bytes)),
@@ -255,7 +255,7 @@ module _ (config : Config) (who : NodeId) (own : List Row) (old : Held) where
             stayed = record {
               armed = ap (λ (r : Held). r.armed) put ∙ ap (λ (r : Held). r.armed) cut_is;
               faults = ap (λ (r : Held). r.faults) put ∙ ap (λ (r : Held). r.faults) cut_is;
-              may_fail = ap (λ (r : Held). r.may_fail) put ∙ ap (λ (r : Held). r.may_fail) cut_is;
+              nature = ap (λ (r : Held). r.nature) put ∙ ap (λ (r : Held). r.nature) cut_is;
               holds = λ c w kept tail k. frames_either c w kept tail (inr bytes) k;
             };
             stands = h.stands;

@@ -122,23 +122,23 @@ module _ (node : NodeParts) (held : Held) where
     };
   }
 
-  same_with : held.may_fail ≡ node.held.may_fail → IsSameNode node with_held
-  same_with is = record { who_is = refl; sizes_are = refl; rows_are = refl; may_fail_is = is }
+  same_with : held.nature ≡ node.held.nature → IsSameNode node with_held
+  same_with is = record { who_is = refl; sizes_are = refl; rows_are = refl; nature_is = is }
 
   -- whether the record may fail of itself stays
-  said_may_fail : (X P : Type 0) (result : Result X Refusal) → ((held ≡ node.held) × P) ⊎ IsUnread node.held held node.role result
-      → held.may_fail ≡ node.held.may_fail
-  said_may_fail X P result (inl is) = ap (λ (r : Held). r.may_fail) is.0
-  said_may_fail X P result (inr (none, inl is)) = is.1.may_fail
-  said_may_fail X P result (inr (none, inr is)) = ap (λ (r : Held). r.may_fail) is.1
+  said_nature : (X P : Type 0) (result : Result X Refusal) → ((held ≡ node.held) × P) ⊎ IsUnread node.held held node.role result
+      → held.nature ≡ node.held.nature
+  said_nature X P result (inl is) = ap (λ (r : Held). r.nature) is.0
+  said_nature X P result (inr (none, inl is)) = is.1.nature
+  said_nature X P result (inr (none, inr is)) = ap (λ (r : Held). r.nature) is.1
 
   pub views_as : (config : Config) (m : NodeState) (tx : TxParts) (result : Result View Refusal)
       → Views config node.who node.rows m node.held held node.role tx result → ViewsAs config m node with_held tx result
-  views_as config m tx result v = record { same = same_with (said_may_fail View _ result v.says); role_is = refl; views = v }
+  views_as config m tx result v = record { same = same_with (said_nature View _ result v.says); role_is = refl; views = v }
 
   pub tables_as : (config : Config) (m : NodeState) (result : Result (List Row) Refusal)
       → Tables config node.who node.rows m node.held held node.role result → TablesAs config m node with_held result
-  tables_as config m result v = record { same = same_with (said_may_fail (List Row) _ result v.says); role_is = refl; tables = v }
+  tables_as config m result v = record { same = same_with (said_nature (List Row) _ result v.says); role_is = refl; tables = v }
 
 -- a tear that is armed
 pub armed_stands : (config : Config) (who : NodeId) (own : List Row) (m : NodeState) (old new : Held) (role : Option Role) (n : ℕ)

@@ -113,11 +113,11 @@ module _ (config : Config) (who : NodeId) (own : List Row) (m : NodeState) (old 
   unrestarted new other l = absurd l
 
 -- whether the record may fail of itself stays
-restart_may_fail : (old new : Held) (fault : Fault) → BefallsRestart old new fault → new.may_fail ≡ old.may_fail
-restart_may_fail old new NoFault b = b.may_fail
-restart_may_fail old new NoMemoryBefore b = absurd b
-restart_may_fail old new NoMemoryAt b = b.may_fail
-restart_may_fail old new (RecordFails whole) b = b.may_fail
+restart_nature : (old new : Held) (fault : Fault) → BefallsRestart old new fault → new.nature ≡ old.nature
+restart_nature old new NoFault b = b.nature
+restart_nature old new NoMemoryBefore b = absurd b
+restart_nature old new NoMemoryAt b = b.nature
+restart_nature old new (RecordFails whole) b = b.nature
 
 -- a node that stood for a node of the machine does so after a restart
 module _ (node : NodeParts) (held : Held) (role : Option Role) where
@@ -145,7 +145,7 @@ module _ (node : NodeParts) (held : Held) (role : Option Role) where
       who_is = refl;
       sizes_are = refl;
       rows_are = refl;
-      may_fail_is = restart_may_fail node.held held r.fault r.befalls;
+      nature_is = restart_nature node.held held r.fault r.befalls;
     };
     restarts = r;
   }
@@ -299,7 +299,7 @@ module _ (config : Config) (who : NodeId) (own : List Row) (old new : Held) (rol
       written = l.written;
       who_is = refl;
       up = refl;
-      may_fail = l.stayed.may_fail;
+      nature = l.stayed.nature;
       stands = node_stands;
     }
 

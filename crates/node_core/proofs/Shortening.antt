@@ -184,7 +184,7 @@ module _ (config : Config) (who : NodeId) (own : List Row) (m : NodeState) (old 
     befalls = record {
       armed = ap (λ (r : Held). r.armed) is;
       faults = ap (λ (r : Held). r.faults) is;
-      may_fail = ap (λ (r : Held). r.may_fail) is;
+      nature = ap (λ (r : Held). r.nature) is;
     };
     answer_is = refl;
     content = (next, h, is);
@@ -203,7 +203,7 @@ module _ (config : Config) (who : NodeId) (own : List Row) (m : NodeState) (old 
   uncompacted Refusal.RecordFault (next, h, put) = record {
     up = s.role_is.0;
     fault = RecordFails false;
-    befalls = record { may = put.may; counted = put.counted; armed = put.armed; may_fail = put.may_fail };
+    befalls = record { may = put.may; counted = put.counted; armed = put.armed; nature = put.nature };
     answer_is = refl;
     content = (next, h, put);
     no_longer = tt;
@@ -241,11 +241,11 @@ compacts_up config who own m old new was role up r given is role_is given_is h s
 -- ---- the whole node
 
 -- whether the record may fail of itself stays
-compact_may_fail : (old new : Held) (fault : Fault) → BefallsCompact old new fault → new.may_fail ≡ old.may_fail
-compact_may_fail old new NoFault b = b.may_fail
-compact_may_fail old new NoMemoryBefore b = absurd b
-compact_may_fail old new NoMemoryAt b = ap (λ (r : Held). r.may_fail) b
-compact_may_fail old new (RecordFails whole) b = b.may_fail
+compact_nature : (old new : Held) (fault : Fault) → BefallsCompact old new fault → new.nature ≡ old.nature
+compact_nature old new NoFault b = b.nature
+compact_nature old new NoMemoryBefore b = absurd b
+compact_nature old new NoMemoryAt b = ap (λ (r : Held). r.nature) b
+compact_nature old new (RecordFails whole) b = b.nature
 
 module _ (node : NodeParts) (held : Held) (role : Option Role) where
   abbrev compacted_node : NodeParts
@@ -270,10 +270,10 @@ module _ (node : NodeParts) (held : Held) (role : Option Role) where
       by (inl is) = with_stands (compact_outcome sound.state is.fault).node is.stands
       by (inr is) = with_stands sound.state is.stands
 
-  compacts_may_fail : (config : Config) (who : NodeId) (own : List Row) (m : NodeState) (result : Result (Unit {0}) Refusal)
-      → Compacts config who own m node.held held role result → held.may_fail ≡ node.held.may_fail
-  compacts_may_fail config who own m result (inl is) = compact_may_fail node.held held is.fault is.befalls
-  compacts_may_fail config who own m result (inr is) = ap (λ (r : Held). r.may_fail) is.same
+  compacts_nature : (config : Config) (who : NodeId) (own : List Row) (m : NodeState) (result : Result (Unit {0}) Refusal)
+      → Compacts config who own m node.held held role result → held.nature ≡ node.held.nature
+  compacts_nature config who own m result (inl is) = compact_nature node.held held is.fault is.befalls
+  compacts_nature config who own m result (inr is) = ap (λ (r : Held). r.nature) is.same
 
   pub compacts_as : (config : Config) (m : NodeState) (result : Result (Unit {0}) Refusal)
       → Compacts config node.who node.rows m node.held held role result → CompactsAs config m node compacted_node result
@@ -282,7 +282,7 @@ module _ (node : NodeParts) (held : Held) (role : Option Role) where
       who_is = refl;
       sizes_are = refl;
       rows_are = refl;
-      may_fail_is = compacts_may_fail config node.who node.rows m result c;
+      nature_is = compacts_nature config node.who node.rows m result c;
     };
     compacts = c;
   }

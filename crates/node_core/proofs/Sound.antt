@@ -12,17 +12,17 @@ use Rattle.node_core.specs.Sparing.{is_free}
 
 -- ---- whether the record may fail of itself stays
 
-met_may_fail : (armed : Option ℕ) (fact : Fact) (old new : Held) → HasMet armed fact old new → new.may_fail ≡ old.may_fail
-met_may_fail None fact old new met = met.may_fail
-met_may_fail (Some n) fact old new met = met.may_fail
+met_nature : (armed : Option ℕ) (fact : Fact) (old new : Held) → HasMet armed fact old new → new.nature ≡ old.nature
+met_nature None fact old new met = met.nature
+met_nature (Some n) fact old new met = met.nature
 
-pub step_may_fail : (fact : Option Fact) (old new : Held) (fault : Fault) → Befalls fact old new fault → new.may_fail ≡ old.may_fail
-step_may_fail fact old new NoMemoryBefore b = absurd b
-step_may_fail fact old new NoMemoryAt b = ap (λ (r : Held). r.may_fail) b
-step_may_fail None old new NoFault b = ap (λ (r : Held). r.may_fail) b
-step_may_fail None old new (RecordFails whole) b = absurd b
-step_may_fail (Some fact) old new NoFault b = met_may_fail old.armed fact old new b
-step_may_fail (Some fact) old new (RecordFails whole) b = b.1.stopped.may_fail
+pub step_nature : (fact : Option Fact) (old new : Held) (fault : Fault) → Befalls fact old new fault → new.nature ≡ old.nature
+step_nature fact old new NoMemoryBefore b = absurd b
+step_nature fact old new NoMemoryAt b = ap (λ (r : Held). r.nature) b
+step_nature None old new NoFault b = ap (λ (r : Held). r.nature) b
+step_nature None old new (RecordFails whole) b = absurd b
+step_nature (Some fact) old new NoFault b = met_nature old.armed fact old new b
+step_nature (Some fact) old new (RecordFails whole) b = b.1.stopped.nature
 
 -- ---- the whole node
 
@@ -54,7 +54,7 @@ module _ (node : NodeParts) (held : Held) (role : Option Role) where
       who_is = refl;
       sizes_are = refl;
       rows_are = refl;
-      may_fail_is = step_may_fail (fact_to_store config node.who m input) node.held held s.fault s.befalls;
+      nature_is = step_nature (fact_to_store config node.who m input) node.held held s.fault s.befalls;
     };
     steps = s;
     free = free;

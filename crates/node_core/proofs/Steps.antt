@@ -127,7 +127,7 @@ module _ (config : Config) (who : NodeId) (own : List Row) (facts : List Fact) (
       )
   torn_kept old new false keeps valid fits torn =
       let entry = entry_in_version_2 (entries.Fact fact) valid in
-      let few = kept_few old.armed old.may_fail (length (fact_frame fact)) new.kept torn.stopped.at in
+      let few = kept_few old.armed old.nature.may_fail (length (fact_frame fact)) new.kept torn.stopped.at in
       let lt : new.kept < length (fact_frame fact) = grind (arith, nat_tests, torn.whole_is, few) in
       let tail = take new.kept (fact_frame fact) in
       let now = torn_stored Second old.bytes keeps.holds.all (entries.Fact fact) new.kept keeps.holds.stored entry lt in (
@@ -258,7 +258,7 @@ module _ (config : Config) (who : NodeId) (own : List Row) (m : NodeState) (e : 
         (sym (s.tear_is ∙ is)) (stopped_shows out w.fact w.whole w.valid w.fits w.torn w.out_is);
   }
   stopped_by out w (Some n) is =
-      let at = subst (λ armed. IsStoppedAt armed old.may_fail (length (fact_frame w.fact)) new.kept) is w.torn.stopped.at in
+      let at = subst (λ armed. IsStoppedAt armed old.nature.may_fail (length (fact_frame w.fact)) new.kept) is w.torn.stopped.at in
       let len = fact_frame_has version_2 w.fact in
       let whole : w.whole ≡ nat_le (frame_length w.fact) n =
       w.torn.whole_is ∙ ap (λ k. k == length (fact_frame w.fact)) at ∙ min_whole n (length (fact_frame w.fact))

@@ -179,7 +179,7 @@ module _ (config : Config) (who : NodeId) (sizes : Sizes) (own : List Row) (are 
           place = reaches.to;
           runs = reaches.runs;
           left = new;
-          left_is = record { bytes = refl; faults = refl; armed = refl; may_fail = refl };
+          left_is = record { bytes = refl; faults = refl; armed = refl; nature = refl };
           out = out;
           stopped = subst (λ r. Steps config who own reaches.to.state input reaches.to.held new r out) stops.0
               (handled_there input new after out h);
@@ -202,6 +202,6 @@ stored_each config who own from inputs outs role held r = record {
     bytes = ap (λ (h : Held). h.bytes) (sym r.held_is);
     faults = ap (λ (h : Held). h.faults) (sym r.held_is);
     armed = ap (λ (h : Held). h.armed) (sym r.held_is);
-    may_fail = ap (λ (h : Held). h.may_fail) (sym r.held_is);
+    nature = ap (λ (h : Held). h.nature) (sym r.held_is);
   };
 }

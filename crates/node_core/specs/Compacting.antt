@@ -64,14 +64,14 @@ role_kept role (Err refusal) = None
 pub record IsUnfaulted (old new : Held) : Type 0 where
   pub armed : new.armed ≡ old.armed
   pub faults : new.faults ≡ old.faults
-  pub may_fail : new.may_fail ≡ old.may_fail
+  pub nature : new.nature ≡ old.nature
 
 -- a record failed, which it may, and counted it
 pub record HasCounted (old new : Held) : Type 0 where
-  pub may : IsTrue old.may_fail
+  pub may : IsTrue old.nature.may_fail
   pub counted : IsCounted old.faults new.faults
   pub armed : new.armed ≡ old.armed
-  pub may_fail : new.may_fail ≡ old.may_fail
+  pub nature : new.nature ≡ old.nature
 
 -- a fault of a compaction is true to what befell the record
 abbrev pub BefallsCompact : (old new : Held) → Fault → Type 0

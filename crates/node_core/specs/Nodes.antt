@@ -201,12 +201,12 @@ pub record IsSound (node : NodeParts) : Type 0 where
   pub state : NodeState
   pub is : NodeStands config node state
 
--- what a node is stays, and whether its record may fail of itself
+-- what a node is stays, and what its record is by nature
 pub record IsSameNode (old new : NodeParts) : Type 0 where
   pub who_is : new.who ≡ old.who
   pub sizes_are : new.sizes ≡ old.sizes
   pub rows_are : new.rows ≡ old.rows
-  pub may_fail_is : new.held.may_fail ≡ old.held.may_fail
+  pub nature_is : new.held.nature ≡ old.held.nature
 
 -- an input was handled as the machine handles it; one that wants no memory to be decided, and stores nothing, without a fault
 pub record StepsAs (config : Config) (m : NodeState) (input : Input) (old new : NodeParts) (out : Output) : Type 0 where

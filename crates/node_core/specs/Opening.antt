@@ -269,7 +269,7 @@ IsLeftOver config who old new = IsTrimmed config who old new ⊎ IsRenewed confi
 pub record HasStayed (old new : Held) : Type 0 where
   pub armed : new.armed ≡ old.armed
   pub faults : new.faults ≡ old.faults
-  pub may_fail : new.may_fail ≡ old.may_fail
+  pub nature : new.nature ≡ old.nature
   pub holds : (config : Config) (who : NodeId) (kept : Kept) (tail : List ℕ) → Holds config who old.bytes kept tail
       → (end : List ℕ) × Holds config who new.bytes kept end
 
@@ -284,10 +284,10 @@ pub record IsLoaded (config : Config) (who : NodeId) (own : List Row) (old new :
 
 -- a record failed, which it may, and counted it: it holds what it held, and its tail or none
 pub record HasFaulted (old new : Held) : Type 0 where
-  pub may : IsTrue old.may_fail
+  pub may : IsTrue old.nature.may_fail
   pub counted : IsCounted old.faults new.faults
   pub armed : new.armed ≡ old.armed
-  pub may_fail : new.may_fail ≡ old.may_fail
+  pub nature : new.nature ≡ old.nature
   pub holds : (config : Config) (who : NodeId) (kept : Kept) (tail : List ℕ) → Holds config who old.bytes kept tail
       → (end : List ℕ) × Holds config who new.bytes kept end
 
@@ -315,7 +315,7 @@ pub record IsOpened (config : Config) (who : NodeId) (old : Held) (node : NodePa
   pub written : node.held.bytes ≡ frames_of held.all
   pub who_is : node.who ≡ who
   pub up : is_some node.role ≡ true
-  pub may_fail : node.held.may_fail ≡ old.may_fail
+  pub nature : node.held.nature ≡ old.nature
   pub stands : NodeStands (cluster_of config who kept.rows) node
       (record { facts = kept.facts; up = true; tear = old.armed; memory = empty_memory })
 

@@ -27,5 +27,6 @@ pub use config::{Config, Sizes};
 pub use node::Node;
 pub use output::{Input, Output};
 pub use receivers::{place_of, receiver_at, receiver_count};
+pub use requests::accepts_request;
 pub use role::Role;
 pub use sends::NodeSends;

@@ -46,8 +46,8 @@ impl Output {
         }
     }
 
-    /// An answer alone.
-    pub(crate) fn answer(&mut self, reply: Answer)
+    /// An answer alone, in place of what came of another input.
+    pub fn answer(&mut self, reply: Answer)
         ensures { self.new ≡ output_of reply None }
     {
         self.reply = reply;

@@ -20,7 +20,7 @@ use stable_record::Fact;
 use xid::{Refusal, Tx, Xid};
 
 /// Whether a kind of node takes a request: an acceptor none, a leader those on transactions, a resource manager the client calls too.
-pub(crate) fn accepts_request(who: NodeId, request: &Request) -> bool
+pub fn accepts_request(who: NodeId, request: &Request) -> bool
     ensures { result ≡ is_accepted who request.now }
 {
     match who {

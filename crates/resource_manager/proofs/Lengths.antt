@@ -271,7 +271,7 @@ module _ (facts : List Fact) (tx : TxParts) where
         arith,
         later,
         committed_by tx (keys_voted facts tx) (keys_voted facts tx) stored.voted_prepared stored.voted_aborted stored.committed
-        stored.aborted,
+            stored.aborted,
       )
 
   aborted_step : kept_length (kept_of (facts ++ Fact.Aborted tx ∷ []) tx)

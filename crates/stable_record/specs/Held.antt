@@ -6,14 +6,20 @@ use Rattle.xid.specs.declared.refusals.Refusal.TheVariants.{RecordFault, NoMemor
 use Rattle.stable_record.specs.declared.record.RecordError.{RecordError}
 use Rattle.stable_record.specs.declared.record.RecordError.TheVariants.{Fault, Memory}
 
+-- what no call changes of a record: whether it may also fail of itself, and, where it is over another record and holds what follows a
+-- front there, that front; then those of the other, if it has some
+pub record Nature : Type 0 where
+  pub may_fail : Bool
+  pub fronts : List (List ℕ)
+
 -- a record: its bytes, how many of the last append were kept, how often it has failed, where the next append is stopped, if it is,
--- and whether it may also fail of itself
+-- and what it is by nature
 pub record Held : Type 0 where
   pub bytes : List ℕ
   pub kept : ℕ
   pub faults : ℕ
   pub armed : Option ℕ
-  pub may_fail : Bool
+  pub nature : Nature
 
 -- the refusal of a record's error
 abbrev pub refusal_of : RecordError → Refusal
@@ -31,20 +37,20 @@ IsCounted old new = (old < new) ⊎ (new ≡ most_faults)
 -- the same with other bytes
 abbrev pub with_bytes : List ℕ → Held → Held
 with_bytes bytes held =
-    record { bytes = bytes; kept = held.kept; faults = held.faults; armed = held.armed; may_fail = held.may_fail }
+    record { bytes = bytes; kept = held.kept; faults = held.faults; armed = held.armed; nature = held.nature }
 
 -- the same with another tear
 abbrev pub armed_with : Option ℕ → Held → Held
 armed_with armed held =
-    record { bytes = held.bytes; kept = held.kept; faults = held.faults; armed = armed; may_fail = held.may_fail }
+    record { bytes = held.bytes; kept = held.kept; faults = held.faults; armed = armed; nature = held.nature }
 
 -- the record failed of itself, which it may: its content is one of two, and a tear stays armed
 pub record HasFailed (next : List ℕ) (old new : Held) : Type 0 where
-  pub may : IsTrue old.may_fail
+  pub may : IsTrue old.nature.may_fail
   pub bytes : (new.bytes ≡ old.bytes) ⊎ (new.bytes ≡ next)
   pub armed : new.armed ≡ old.armed
   pub counted : IsCounted old.faults new.faults
-  pub may_fail : new.may_fail ≡ old.may_fail
+  pub nature : new.nature ≡ old.nature
 
 -- what a read leaves
 abbrev pub HasRead : {T : Type 0} → Held → Held → Result T RecordError → Type 0
@@ -65,7 +71,7 @@ pub record IsAdded (text : List ℕ) (old new : Held) : Type 0 where
   pub faults : new.faults ≡ old.faults
   pub unarmed : old.armed ≡ None
   pub armed : new.armed ≡ None
-  pub may_fail : new.may_fail ≡ old.may_fail
+  pub nature : new.nature ≡ old.nature
 
 -- where an append was stopped: where the tear said, or, with no tear, where the record failed of itself
 abbrev pub IsStoppedAt : Option ℕ → Bool → ℕ → ℕ → Type 0
@@ -74,11 +80,11 @@ IsStoppedAt None may_fail len kept = IsTrue may_fail × (kept ≤ len)
 
 -- an append was stopped: it added the first bytes of a text
 pub record IsStopped (text : List ℕ) (old new : Held) : Type 0 where
-  pub at : IsStoppedAt old.armed old.may_fail (length text) new.kept
+  pub at : IsStoppedAt old.armed old.nature.may_fail (length text) new.kept
   pub bytes : new.bytes ≡ old.bytes ++ take new.kept text
   pub counted : IsCounted old.faults new.faults
   pub armed : new.armed ≡ None
-  pub may_fail : new.may_fail ≡ old.may_fail
+  pub nature : new.nature ≡ old.nature
 
 -- what an append leaves
 abbrev pub HasAdded : List ℕ → Held → Held → Result (Unit {0}) RecordError → Type 0

@@ -1,5 +1,5 @@
 -- What the records of this crate hold.
-use Rattle.std.specs.Prelude.{◌≡◌, ◌==◌, ◌||◌, ℕ, ◌+◌, ◌-◌, min, Bool, true, false, not, List, None, Result, Ok, Err}
+use Rattle.std.specs.Prelude.{◌≡◌, ◌==◌, ◌||◌, ℕ, ◌+◌, ◌-◌, min, Bool, true, false, not, List, [], None, Result, Ok, Err}
 use Rattle.stable_record.specs.declared.memory.MemRecord.{MemRecord}
 use Rattle.stable_record.specs.declared.file.FileRecord.{FileRecord}
 use Rattle.stable_record.specs.declared.failing.FailRecord.{FailRecord}
@@ -7,15 +7,19 @@ use Rattle.stable_record.specs.declared.failing.Leaves.{Leaves}
 use Rattle.stable_record.specs.declared.failing.Leaves.TheVariants.{Old, New}
 use Rattle.stable_record.specs.declared.record.RecordError.{RecordError}
 use Rattle.stable_record.specs.declared.record.RecordError.TheVariants.{Fault, Memory}
-use Rattle.stable_record.specs.Held.{Held, most_faults}
+use Rattle.stable_record.specs.Held.{Held, Nature, most_faults}
+
+-- a record that isn't over another: whether it may fail of itself
+abbrev pub alone : Bool → Nature
+alone may_fail = record { may_fail = may_fail; fronts = [] }
 
 -- a record in memory never fails of itself
 abbrev pub mem_held : MemRecord → Held
-mem_held m = record { bytes = m.bytes.items; kept = m.kept; faults = m.faults; armed = m.armed; may_fail = false }
+mem_held m = record { bytes = m.bytes.items; kept = m.kept; faults = m.faults; armed = m.armed; nature = alone false }
 
 -- a new record of these bytes
 abbrev pub fresh : List ℕ → Held
-fresh bytes = record { bytes = bytes; kept = 0; faults = 0; armed = None; may_fail = false }
+fresh bytes = record { bytes = bytes; kept = 0; faults = 0; armed = None; nature = alone false }
 
 -- a record over another may fail of itself, and counts faults and what was kept on its own
 abbrev pub fail_held : {R : Type 0} → (R → Held) → FailRecord R → Held
@@ -24,7 +28,7 @@ fail_held held r = record {
   kept = r.kept;
   faults = r.faults;
   armed = (held r.inner).armed;
-  may_fail = true;
+  nature = record { may_fail = true; fronts = (held r.inner).nature.fronts };
 }
 
 -- a count of faults after a call of a record: one more if it failed, up to the greatest
@@ -61,8 +65,8 @@ is_made New = true
 
 -- a record in a file may fail of itself, and holds what was read and written; no tear can be armed
 abbrev pub file_held : FileRecord → Held
-file_held r = record { bytes = r.bytes.items; kept = r.kept; faults = r.faults; armed = None; may_fail = true }
+file_held r = record { bytes = r.bytes.items; kept = r.kept; faults = r.faults; armed = None; nature = alone true }
 
 -- a record that was just opened with these bytes in its file
 abbrev pub just_opened : List ℕ → Held
-just_opened bytes = record { bytes = bytes; kept = 0; faults = 0; armed = None; may_fail = true }
+just_opened bytes = record { bytes = bytes; kept = 0; faults = 0; armed = None; nature = alone true }

@@ -17,6 +17,7 @@ mod transaction_text;
 pub use branch_id::Xid;
 pub use branches::Branches;
 pub use codes::XaCode;
+pub use component::Component;
 pub use limits::{
     Ballot, FORMATS, MAX_ACCEPTORS, MAX_BRANCHES, MAX_COMPONENT, MAX_KEY, MAX_LEADERS,
     MAX_MANAGERS, MAX_TOUCHED, MAX_VALUE, ManagerNumber,

@@ -1,0 +1,5 @@
+pub mod Framing
+pub mod Standing
+pub mod Passing
+pub mod Stepping
+pub mod Taking

@@ -1,0 +1,200 @@
+//! A node with a floor.
+
+ghost use Rattle.std.specs.Prelude.{◌≡◌, ◌++◌, true, length, map, is_none, IfOk, IfErr, Some};
+ghost use Rattle.protocol.specs.Effects.{Config as ConfigParts};
+ghost use Rattle.protocol.specs.Nodes.{NodeState, accepts_input};
+ghost use Rattle.stable_record.specs.Held.{armed_with};
+ghost use Rattle.node_core.specs.Nodes.{NodeStands, input_of};
+ghost use Rattle.floors.specs.Nodes.{is_input_below};
+ghost use Rattle.floored.specs.Frames.{front_of};
+ghost use Rattle.floored.specs.Behind.{behind};
+ghost use Rattle.floored.specs.Nodes.{FlooredCompacts, FlooredGroupsAs, FlooredRestarts, FlooredStepsAs, IsFlooredOpened};
+ghost use Rattle.floored.specs.Nodes.{IsFlooredUnopened, are_above, is_over};
+
+use crate::behind::Behind;
+use crate::below::{forgotten_answer, is_below};
+use crate::floor::Floor;
+use node_core::{Config, Input, Node, Output, accepts_request};
+use protocol::NodeId;
+use stable_record::{Record, RecordError, Tear};
+use std::alloc::Global;
+use std::marker::Model;
+use xid::Refusal;
+
+/// A node over a record that may begin with a floor. It takes no part in what stands below that: a datagram is passed over, as if it had
+/// been lost, a request is refused (`Forgotten`), of a branch a start answers `DupId` and every other call `Nota`.
+pub struct Floored<R: Record> {
+    floor: Option<Floor>,
+    node: Node<Behind<R>>,
+}
+
+// written once: a derived one would stand in each function that lets a node go
+impl<R: Record + Drop> Drop for Floored<R> {
+    fn drop(self) {
+        let Floored { floor: _, node: _ } = self;
+    }
+}
+
+impl<R: Record> Model for Floored<R> {
+    ghost use Rattle.floored.specs.Nodes.{FlooredParts, IsFlooredSound};
+
+    ghost Value = { FlooredParts };
+
+    ghost view = { λ n. record { floor = n.floor; node = n.node } };
+
+    ghost invariant = { λ n. IsFlooredSound (record { floor = n.floor; node = n.node }) };
+}
+
+impl<R: Record> Floored<R> {
+    /// The node over a record, with what stands there: the floor that it begins with, if it begins with one, and behind that what
+    /// `Node::open` finds. Refused as that is, with the record, which still begins with its floor.
+    pub fn open(
+        alloc: Global,
+        config: &Config,
+        who: NodeId,
+        device: R,
+    ) -> Result<Floored<R>, (R, Refusal)>
+        ensures ok { IfOk result (λ floored. IsFlooredOpened config.now who (R.held device) floored) }
+        ensures err { IfErr result (λ x. IsFlooredUnopened config.now who (R.held device) (R.held x.0) x.1) }
+    {
+        if !config.has(who) {
+            return Err((device, Refusal::NoSuch));
+        }
+        let behind = match Behind::open(alloc, device) {
+            Ok(behind) => behind,
+            Err((device, error)) => return Err((device, Refusal::from(error))),
+        };
+        let floor = behind.floor();
+        match Node::open(alloc, config, who, behind) {
+            Ok(node) => Ok(Floored { floor, node }),
+            Err((behind, refusal)) => Err((behind.into_inner(), refusal)),
+        }
+    }
+
+    /// Its floor, if it has one.
+    pub fn floor(&self) -> Option<Floor>
+        ensures { result ≡ self.now.floor }
+    {
+        self.floor
+    }
+
+    /// Which node it is.
+    pub fn id(&self) -> NodeId
+        ensures { result ≡ self.now.node.who }
+    {
+        self.node.id()
+    }
+
+    /// Whether it is down.
+    pub fn is_down(&self) -> bool
+        ensures { result ≡ is_none self.now.node.role }
+    {
+        self.node.is_down()
+    }
+
+    /// The record, and the node is no more. It begins with the floor.
+    pub fn into_record(self) -> R
+        ensures held { behind (front_of self.floor) (R.held result) ≡ self.node.held }
+        ensures bytes { (R.held result).bytes ≡ front_of self.floor ++ self.node.held.bytes }
+    {
+        let Floored { floor: _, node } = self;
+        node.into_record().into_inner()
+    }
+
+    /// Reads what stands behind its floor again, whether it is up or down, and goes on from there, as by `Node::restart`. The floor stays.
+    /// Refused as that is.
+    pub fn restart(&mut self) -> Result<(), Refusal>
+        ensures { (config : ConfigParts) (m : NodeState) → NodeStands config self.old.node m
+            → FlooredRestarts config m self.old self.new result }
+    {
+        self.node.restart()
+    }
+
+    /// Makes what stands behind its floor shorter, by one replacement of its record, as by `Node::compact`. The floor stays. Refused as
+    /// that is.
+    pub fn compact(&mut self) -> Result<(), Refusal>
+        ensures { (config : ConfigParts) (m : NodeState) → NodeStands config self.old.node m
+            → FlooredCompacts config m self.old self.new result }
+    {
+        self.node.compact()
+    }
+
+    /// Whether an input is below its floor. Such a one belongs in no group: `step` answers it, and stores nothing.
+    pub fn is_below(&self, input: &Input) -> bool
+        ensures { result ≡ is_input_below self.now.floor (input_of input.now) }
+    {
+        match &self.floor {
+            Some(floor) => is_below(floor, input),
+            None => false,
+        }
+    }
+
+    /// Whether it does nothing on an input since that is below its floor: it is up, and its kind takes such an input.
+    fn passes_over(&self, input: &Input) -> bool
+        ensures { result ≡ is_over self.now.node.who self.now.floor self.now.node.role (input_of input.now) }
+    {
+        if !self.is_below(input) {
+            return false;
+        }
+        if self.node.is_down() {
+            return false;
+        }
+        is_taken(self.node.id(), input)
+    }
+
+    /// What it does on an input. First, as by `Node::step`, whether its kind takes it, then whether the node is up; an input that is below
+    /// its floor changes nothing, and takes no memory; every other one is as by `Node::step`.
+    pub fn step(&mut self, input: Input) -> Output
+        ensures { (config : ConfigParts) (m : NodeState) → NodeStands config self.old.node m
+            → FlooredStepsAs config m (input_of input.entry) self.old self.new result }
+    {
+        let mut out = Output::nothing();
+        self.step_into(input, &mut out);
+        out
+    }
+
+    /// What it does on an input, as `step` says, in place of what came of another.
+    pub fn step_into(&mut self, input: Input, out: &mut Output)
+        ensures { (config : ConfigParts) (m : NodeState) → NodeStands config self.old.node m
+            → FlooredStepsAs config m (input_of input.entry) self.old self.new out.new }
+    {
+        if self.passes_over(&input) {
+            out.answer(forgotten_answer(&input));
+            return;
+        }
+        self.node.step_into(input, out);
+    }
+
+    /// What it does on inputs of which none is below its floor, one after another as `step` says, with one append for all that they store,
+    /// as by `Node::step_all`. Refused as that is.
+    pub fn step_all(&mut self, inputs: &[Input], outs: &mut [Output]) -> Result<(), RecordError>
+        requires places { length outs.old ≡ length inputs.now }
+        requires above { are_above self.old.floor (map input_of inputs.now) ≡ true }
+        ensures { (config : ConfigParts) (m : NodeState) → NodeStands config self.old.node m
+            → FlooredGroupsAs config m (map input_of inputs.now) self.old self.new outs.new result }
+    {
+        self.node.step_all(inputs, outs)
+    }
+}
+
+/// Whether a kind of node takes an input.
+fn is_taken(who: NodeId, input: &Input) -> bool
+    ensures { result ≡ accepts_input who (input_of input.now) }
+{
+    match input {
+        Input::Asked(request) => accepts_request(who, request),
+        Input::Received(_) => true,
+    }
+}
+
+impl<R: Tear> Floored<R> {
+    /// The next append of its record that doesn't answer for want of memory keeps the first so many of its bytes, as by `Node::arm`.
+    pub fn arm(&mut self, n: usize)
+        ensures held { self.new.node ≡ record self.old.node { held = armed_with (Some n) self.old.node.held } }
+        ensures floor { self.new.floor ≡ self.old.floor }
+        ensures armed { (config : ConfigParts) (m : NodeState) → NodeStands config self.old.node m
+            → NodeStands config self.new.node (record m { tear = Some n }) }
+    {
+        self.node.arm(n);
+    }
+}
