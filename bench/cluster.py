@@ -1,11 +1,12 @@
 #!/usr/bin/env python3
 """Figures of a cluster of seven processes: cluster.py [--program FILE] [--folder DIR] [--seconds N] [--memory] [--take-over N] [--start N]
-[--postgresql].
+[--postgresql] [--python] [--syncs MS].
 
 Each transaction writes a row at each of two managers: its client sends start, put and end to both at once, then commit and await to a
 leader and await to both managers. For 1, 8 and 32 clients: transactions a second, the time to the leader's outcome and to both views,
 and of 32 clients, over all nodes by `info`: appends, groups and datagrams for a transaction, and what each kind of node takes of a
-processor.
+processor. The clients are those of bench/clients.c, so that they take little of it themselves, which is told too; --python has the ones
+in Python. --syncs has each sync of nodes, servers and logs take so many milliseconds at least.
 --memory tells what each node has in memory, and its record's size, --start N how long a start over N transactions takes,
 --take-over how long it is from a kill of the first leader until every prepared branch has its outcome."""
 import argparse
@@ -14,12 +15,13 @@ import multiprocessing
 import os
 import select
 import shutil
+import subprocess
 import sys
 import tempfile
 import time
 
 sys.path.insert(0, os.path.join(os.path.dirname(os.path.abspath(__file__)), '..', 'tests', 'cluster'))
-from processes import Processes
+from processes import Processes, preload
 from bank import Votes
 from pcommit_client import Cluster, Connection
 
@@ -131,14 +133,82 @@ def run(make, clients, seconds, most=1 << 40, serial=0):
     return times, took
 
 
+def build_clients(folder):
+    """The program of bench/clients.c, built in a folder."""
+    program, source = os.path.join(folder, 'clients'), os.path.join(os.path.dirname(os.path.abspath(__file__)), 'clients.c')
+    try:
+        include = subprocess.run(['pg_config', '--includedir'], check=True, capture_output=True, text=True).stdout.strip()
+    except FileNotFoundError:
+        raise SystemExit('not installed: apt-get install libpq-dev; or --python, for slower clients')
+    subprocess.run(['cc', '-O2', '-I' + include, '-o', program, source, '-lpq'], check=True)
+    return program
+
+
+class Load:
+    """Clients of bench/clients.c of one kind: `nodes` of a cluster by its file, PostgreSQL `servers`, these `logged`, or `ended` by the
+    nodes. `words` are what the servers' connections and the log are."""
+
+    def __init__(self, program, kind, file=None, words='-'):
+        self.program, self.kind, self.file, self.words = program, kind, file, words
+
+    def sockets(self):
+        """Open sockets of two managers and a leader, whose proofs were given."""
+        cluster = Cluster(self.file)
+        ends = [Connection(name, cluster.addresses[name], cluster.key and cluster.proof(name), 5) for name in ('r0', 'r1', 'l0')]
+        for end in ends:
+            end.socket.setblocking(True)
+        return [end.socket for end in ends]
+
+    def start(self, numbers, seconds, most, serial):
+        """A process with these clients, once they are connected."""
+        held = {number: self.sockets() if self.file else [] for number in numbers}
+        words = ['%d=%s' % (number, ','.join(str(one.fileno()) for one in ends)) for number, ends in held.items()]
+        sockets = [one for ends in held.values() for one in ends]
+        process = subprocess.Popen([self.program, self.kind, str(seconds), str(most), str(serial), self.words, *words], text=True,
+                                   stdin=subprocess.PIPE, stdout=subprocess.PIPE, pass_fds=[one.fileno() for one in sockets])
+        for one in sockets:
+            one.close()
+        if process.stdout.readline() != 'ready\n':
+            raise SystemExit('the clients did not start')
+        return process
+
+    def run(self, clients, seconds, most=1 << 40, serial=0):
+        """As `run`, and the seconds of processors that the clients took."""
+        count = min(clients, 4)
+        processes = [self.start(range(number, clients, count), seconds, most, serial) for number in range(count)]
+        for process in processes:
+            process.stdin.write('g')
+            process.stdin.flush()
+        times, took, cpu = [], 0.0, 0.0
+        for process in processes:
+            *lines, last = process.communicate()[0].splitlines() or ['']
+            if process.returncode:
+                raise SystemExit('a client has ended')
+            times += [tuple(int(word) / 1e6 for word in line.split()) for line in lines]
+            ran, used = map(float, last.split())
+            took, cpu = max(took, ran), cpu + used
+        return times, took, cpu
+
+
+class PythonLoad:
+    """Clients in Python, which `make(number, serial)` makes."""
+
+    def __init__(self, make):
+        self.make = make
+
+    def run(self, clients, seconds, most=1 << 40, serial=0):
+        return *run(self.make, clients, seconds, most, serial), None
+
+
 def at(times, part):
     return 1000 * times[min(len(times) - 1, int(part * len(times)))]
 
 
-def rates(times, took):
+def rates(times, took, cpu):
     outcomes, views = sorted(one[0] for one in times), sorted(one[1] for one in times)
-    return '%6.0f a second; to the outcome %.2f ms (99th percentile %.2f), to both views %.2f ms (%.2f)' % (
+    said = '%6.0f a second; to the outcome %.2f ms (99th percentile %.2f), to both views %.2f ms (%.2f)' % (
         len(times) / took, at(outcomes, 0.5), at(outcomes, 0.99), at(views, 0.5), at(views, 0.99))
+    return said if cpu is None else '%s; clients %.0f microseconds of processors each' % (said, 1e6 * cpu / len(times))
 
 
 def totals(cluster):
@@ -151,12 +221,12 @@ def totals(cluster):
     return found
 
 
-def measure(cluster, seconds):
+def measure(cluster, load, seconds):
     for number, clients in enumerate((1, 8, 32)):
         before = totals(cluster)
-        times, took = run(lambda n, serial: Client(n, serial, cluster.file), clients, seconds, serial=(number + 1) << 32)
+        times, took, cpu = load.run(clients, seconds, serial=(number + 1) << 32)
         after = totals(cluster)
-        print('%2d clients: %s' % (clients, rates(times, took)), flush=True)
+        print('%2d clients: %s' % (clients, rates(times, took, cpu)), flush=True)
     count = len(times)
     for word in ('appends', 'groups', 'in', 'out', 'cpu'):
         parts = {kind: (after[kind][word] - before[kind][word]) / count for kind in KINDS}
@@ -222,33 +292,48 @@ def take_over(cluster, rounds):
           '%.2f at most' % (rounds, len(took), at(took, 0.5) / 1000, at(took, 0.99) / 1000, took[-1]), flush=True)
 
 
-def beside_postgresql(cluster, folder, seconds, turns=3):
+def kinds_beside(cluster, program, dsns, log):
+    """The loads that are compared, in C where their program is given, else in Python."""
+    from postgresql_clients import PostgresClient
+    if program:
+        words = '|'.join([*dsns, log])
+        return {
+            'pcommit': Load(program, 'nodes', cluster.file),
+            'PostgreSQL, without a log': Load(program, 'servers', words=words),
+            'PostgreSQL, with a log': Load(program, 'logged', words=words),
+            'PostgreSQL, by pcommit': Load(program, 'ended', cluster.file, words),
+        }
+    return {
+        'pcommit': PythonLoad(lambda n, serial: Client(n, serial, cluster.file)),
+        'PostgreSQL, without a log': PythonLoad(lambda n, serial: PostgresClient(n, serial, dsns)),
+        'PostgreSQL, with a log': PythonLoad(lambda n, serial: PostgresClient(n, serial, dsns, log=log)),
+        'PostgreSQL, by pcommit': PythonLoad(lambda n, serial: PostgresClient(n, serial, dsns, file=cluster.file)),
+    }
+
+
+def beside_postgresql(cluster, program, folder, seconds, turns=3):
     """pcommit's own managers, PostgreSQL's two-phase commit, and PostgreSQL ended by pcommit and by a coordinator that logs, turn and turn
     about on the same disk."""
-    from postgresql_clients import PostgresClient, make_tables
+    from postgresql_clients import make_tables
     from servers import Servers
     os.chmod(folder, 0o755)
     servers = Servers(folder, accounts=1)
-    dsns, log = [one.dsn for one in servers.all], os.path.join(folder, 'log')
-    kinds = {
-        'pcommit': lambda n, serial: Client(n, serial, cluster.file),
-        'PostgreSQL, without a log': lambda n, serial: PostgresClient(n, serial, dsns),
-        'PostgreSQL, with a log': lambda n, serial: PostgresClient(n, serial, dsns, log=log),
-        'PostgreSQL, by pcommit': lambda n, serial: PostgresClient(n, serial, dsns, file=cluster.file),
-    }
+    kinds = kinds_beside(cluster, program, [one.dsn for one in servers.all], os.path.join(folder, 'log'))
     try:
         make_tables(servers)
         serial = 0
         for clients in (1, 8, 32):
-            all_times, all_took = collections.defaultdict(list), collections.Counter()
+            all_times, all_took, all_cpu = collections.defaultdict(list), collections.Counter(), collections.Counter()
             for _ in range(turns):
-                for kind, make in kinds.items():
+                for kind, load in kinds.items():
                     serial += 1
-                    times, took = run(make, clients, seconds / turns, serial=serial << 32)
+                    times, took, cpu = load.run(clients, seconds / turns, serial=serial << 32)
                     all_times[kind] += times
                     all_took[kind] += took
+                    all_cpu[kind] += cpu or 0
             for kind in kinds:
-                print('%2d clients, %-26s %s' % (clients, kind + ':', rates(all_times[kind], all_took[kind])), flush=True)
+                cpu = all_cpu[kind] if program else None
+                print('%2d clients, %-26s %s' % (clients, kind + ':', rates(all_times[kind], all_took[kind], cpu)), flush=True)
     finally:
         servers.stop()
 
@@ -263,19 +348,26 @@ def main():
     words.add_argument('--take-over', type=int)
     words.add_argument('--bundled', action='store_true')
     words.add_argument('--postgresql', action='store_true', help='needs /usr/bin/python3 with psycopg2')
+    words.add_argument('--python', action='store_true', help='clients in Python')
+    words.add_argument('--syncs', type=float, metavar='MS', help='how long a sync takes at least')
     asked = words.parse_args()
     folder = tempfile.mkdtemp(prefix='pcommit-bench-', dir=asked.folder)
     try:
+        program = None if asked.python or asked.start or asked.take_over else build_clients(folder)
+        if asked.syncs:
+            os.environ.update(LD_PRELOAD=preload(folder, 'slow_syncs'), SYNC_MS=str(asked.syncs))
+            print('a sync takes %g ms at least' % asked.syncs, flush=True)
         with Processes(asked.program, folder, bundled=asked.bundled) as cluster:
             cluster.start()
             if asked.start:
                 start(cluster, asked.start)
             elif asked.postgresql:
-                beside_postgresql(cluster, folder, asked.seconds)
+                beside_postgresql(cluster, program, folder, asked.seconds)
             elif asked.take_over:
                 take_over(cluster, asked.take_over)
             else:
-                measure(cluster, asked.seconds)
+                load = Load(program, 'nodes', cluster.file) if program else PythonLoad(lambda n, serial: Client(n, serial, cluster.file))
+                measure(cluster, load, asked.seconds)
             if asked.memory:
                 tell_memory(cluster)
     finally:
