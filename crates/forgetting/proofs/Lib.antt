@@ -1,0 +1,7 @@
+pub mod Lists
+pub mod Saying
+pub mod Effects
+pub mod Growing
+pub mod Coming
+pub mod Leaving
+pub mod Left

@@ -1,0 +1,44 @@
+-- What is asked of a resource manager's facts of one transaction, its name, and what is prepared, by few facts and by all.
+use Rattle.std.proofs.Common.{◌≡◌, ℕ, Bool, false, List, Option, Some, None, refl}
+use Rattle.std.specs.Prelude.{find, option_map}
+use Rattle.std.specs.Option.{option_map_or}
+use Rattle.xid.specs.Names.{XidParts}
+use Rattle.xid.specs.Transactions.{TxParts, BranchParts, is_at, xid_of, xid_at}
+use Rattle.xid.specs.declared.transaction.Vote.{Vote}
+use Rattle.safety.specs.Words.{Fact, View}
+use Rattle.protocol.specs.Facts.{Bound, is_spent, view}
+use Rattle.protocol.specs.Managers.{StoredVotes, stored_votes}
+use Rattle.resource_manager.specs.Courses.{vote_among, is_ended_among, view_among}
+use Rattle.floors.specs.Places.{Place, is_below}
+use Rattle.forgetting.specs.Above.{ManagerSays}
+
+-- what is stored of one transaction and one name
+abbrev pub votes_on : Option Vote → Bool → View → Bool → List Bound → StoredVotes
+votes_on vote ended shown spent bound = record {
+  vote = λ tx. vote;
+  is_ended = λ tx. ended;
+  view = λ tx. shown;
+  is_spent = λ x. spent;
+  bound = bound;
+}
+
+abbrev pub votes_at : StoredVotes → TxParts → Option XidParts → StoredVotes
+votes_at all tx name = votes_on (all.vote tx) (all.is_ended tx) (all.view tx) (option_map_or all.is_spent name false) all.bound
+
+module _ (rm : ℕ) (floor : Option Place) (few all : List Fact) (says : ManagerSays rm floor few all) (tx : TxParts)
+    (above : is_below floor tx ≡ false) where
+  pub view_same : view few tx ≡ view all tx
+  view_same = λ k. view_among (says.stored_are tx above k)
+
+  name_by : (o : Option BranchParts)
+      → option_map_or (is_spent rm few) (option_map (xid_of tx) o) false ≡ option_map_or (is_spent rm all) (option_map (xid_of tx) o) false
+  name_by None = refl
+  name_by (Some b) = says.spent_are (xid_of tx b) above
+
+  pub name_same : option_map_or (is_spent rm few) (xid_at tx rm) false ≡ option_map_or (is_spent rm all) (xid_at tx rm) false
+  name_same = name_by (find (is_at rm) tx.branches)
+
+  pub votes_same : votes_at (stored_votes rm few) tx (xid_at tx rm) ≡ votes_at (stored_votes rm all) tx (xid_at tx rm)
+  votes_same = λ k.
+      votes_on (vote_among (says.stored_are tx above k)) (is_ended_among (says.stored_are tx above k))
+      (view_among (says.stored_are tx above k)) (name_same k) (says.bound_are k)
