@@ -1,15 +1,14 @@
 -- What a node does on an input that isn't below its floor, by few facts and by all.
-use Rattle.std.proofs.Common.{◌≡◌, ◌∙◌, ℕ, Bool, true, false, if◌then◌else◌, ◌&&◌, List, [], Option, Some, None, refl, sym, ap, subst}
+use Rattle.std.proofs.Common.{◌≡◌, ◌∙◌, ℕ, Bool, true, false, if◌then◌else◌, ◌&&◌, List, [], Option, Some, None, refl, sym, ap}
 use Rattle.xid.specs.Names.{XidParts}
-use Rattle.xid.specs.Transactions.{TxParts, xid_at}
+use Rattle.xid.specs.Transactions.{xid_at}
 use Rattle.wire.specs.Messages.{message_tx}
 use Rattle.wire.specs.declared.message.Kind.{Kind}
 use Rattle.wire.specs.declared.message.Kind.TheVariants as kinds
 use Rattle.ballot.specs.declared.slot.Slot.{Slot}
-use Rattle.protocol.specs.declared.requests.Request.{Request}
 use Rattle.protocol.specs.declared.requests.Request.TheVariants as requests
 use Rattle.protocol.specs.declared.states.View.TheVariants as views
-use Rattle.safety.specs.Words.{Fact, NodeId, A, L, R, Row, Action}
+use Rattle.safety.specs.Words.{Fact, NodeId, A, L, R, Action}
 use Rattle.protocol.specs.Acceptors.{Slots, on_acceptor_message}
 use Rattle.protocol.specs.Effects.{Config, Effect, no_effect, is_inside}
 use Rattle.protocol.specs.Facts.{slot, last_ballot}
@@ -144,7 +143,8 @@ module _ (config : Config) (floor : Option Place) (all : List Fact) (memory : Me
   abbrev K : Memory → Memory
   K = kept_memory floor
 
-  acceptor_forgets : (a : ℕ) (input : Input) → effect_of config (A a) all (K memory) input ≡ in_memory K (effect_of config (A a) all memory input)
+  acceptor_forgets : (a : ℕ) (input : Input)
+      → effect_of config (A a) all (K memory) input ≡ in_memory K (effect_of config (A a) all memory input)
   acceptor_forgets a (Received m) = by_test (is_message_inside config m)
     where
       by_test : (t : Bool)
@@ -155,7 +155,8 @@ module _ (config : Config) (floor : Option Place) (all : List Fact) (memory : Me
   acceptor_forgets a (Asked request) = refl
   acceptor_forgets a ReceivedNoise = refl
 
-  manager_forgets : (rm : ℕ) (input : Input) → effect_of config (R rm) all (K memory) input ≡ in_memory K (effect_of config (R rm) all memory input)
+  manager_forgets : (rm : ℕ) (input : Input)
+      → effect_of config (R rm) all (K memory) input ≡ in_memory K (effect_of config (R rm) all memory input)
   manager_forgets rm (Received m) = by_test (is_message_inside config m)
     where
       by_test : (t : Bool)

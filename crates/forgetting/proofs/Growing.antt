@@ -1,5 +1,5 @@
 -- What few facts say of names that aren't below a floor they go on to say with one more fact of such a name.
-use Rattle.std.proofs.Common.{◌≡◌, ◌∙◌, inl, inr, ℕ, max, Bool, true, false, not, ◌&&◌, ◌||◌, List, [], ◌∷◌, ◌++◌, Option, Some, None}
+use Rattle.std.proofs.Common.{◌≡◌, ◌∙◌, ℕ, max, Bool, true, false, not, ◌&&◌, ◌||◌, List, [], ◌∷◌, ◌++◌, Option, Some, None}
 use Rattle.std.proofs.Common.{refl, sym, ap, subst, append-nil, is_none}
 use Rattle.std.specs.Prelude.{filter, filter_map}
 use Rattle.std.specs.List.{list_any, last_or, cons_option}
@@ -37,7 +37,7 @@ use Rattle.resource_manager.proofs.Kept.{commits_voted}
 use Rattle.resource_manager.proofs.More.{keys_stay, stored_other, table_more}
 use Rattle.resource_manager.proofs.Pieces.{either, stored_append}
 use Rattle.resource_manager.proofs.Standing.{keys_of_vote}
-use Rattle.floors.specs.Places.{Place, is_below, is_xid_below}
+use Rattle.floors.specs.Places.{Place, is_below}
 use Rattle.forgetting.specs.Left.{rows_of}
 use Rattle.forgetting.specs.Above.{ManagerSays, Says, AreAlike}
 use Rattle.forgetting.proofs.Lists.{filter_among, filter_under, last_after}
@@ -179,7 +179,8 @@ module _ (rm : ℕ) (floor : Option Place) (few all : List Fact) (says : Manager
 
   -- ---- its table
 
-  module _ (from config : Config) (few_play : all_play from (R rm) [] few ≡ true) (all_play_too : all_play config (R rm) [] all ≡ true) where
+  module _ (from config : Config) (few_play : all_play from (R rm) [] few ≡ true)
+      (all_play_too : all_play config (R rm) [] all ≡ true) where
     -- a transaction that is prepared was voted with the same keys
     keys_same : (tx : TxParts) → is_prepared_view (view few tx) ≡ true → (g : Fact)
         → keys_voted (few ++ g ∷ []) tx ≡ keys_voted (all ++ g ∷ []) tx

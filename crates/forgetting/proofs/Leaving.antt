@@ -1,10 +1,11 @@
 -- What is left of a resource manager's facts without the writes of what is committed says what they say.
-use Rattle.std.proofs.Common.{◌≡◌, ◌⊎◌, inl, inr, ◌∙◌, ℕ, Bool, true, false, not, ◌&&◌, ◌||◌, if◌then◌else◌, List, [], ◌∷◌, ◌++◌, Option, Some, None}
+use Rattle.std.proofs.Common.{◌≡◌, ◌⊎◌, inl, inr, ◌∙◌, ℕ, Bool, true, false, not, ◌&&◌, ◌||◌, if◌then◌else◌, List, [], ◌∷◌, ◌++◌, Option}
+use Rattle.std.proofs.Common.{Some, None}
 use Rattle.std.proofs.Common.{refl, sym, ap, subst, is_none, unwrap_or, fold}
 use Rattle.std.specs.Prelude.{map, filter, filter_map, find, option_map}
 use Rattle.std.specs.List.{list_any, cons_option}
 use Rattle.std.specs.Option.{option_map_or}
-use Rattle.std.proofs.lemmas.Bool.{and_parts, and_from, both_ways, cond-false, false_from_ne_true, not-true}
+use Rattle.std.proofs.lemmas.Bool.{and_parts, and_from, both_ways, cond-false, false_from_ne_true}
 use Rattle.xid.specs.Names.{XidParts, xid_eq}
 use Rattle.xid.specs.Transactions.{TxParts, BranchParts, tx_eq, is_at, is_participant, xid_of, xid_at}
 use Rattle.xid.specs.declared.transaction.Vote.{Vote}
@@ -23,11 +24,11 @@ use Rattle.protocol.specs.Facts.{bound_branches, view}
 use Rattle.protocol.specs.Managers.{stored_votes, is_name_spent, is_some_held, plays_at_manager, view_by}
 use Rattle.protocol.specs.Nodes.{plays, all_play}
 use Rattle.protocol.specs.Tables.{commit_of, keys_voted, put_row, table, with_writes}
-use Rattle.protocol.proofs.Lists.{any_found, none_found, found_any, IsIn-mapped, filter_map_given}
+use Rattle.protocol.proofs.Lists.{any_found, found_any, IsIn-mapped, filter_map_given}
 use Rattle.protocol.proofs.Manager.Apart.{bound_stored, stored_bound}
 use Rattle.protocol.proofs.Manager.Views.{prepared_shows}
 use Rattle.resource_manager.specs.Courses.{Stored, stored_in, view_among, vote_among, is_ended_among}
-use Rattle.resource_manager.proofs.Kept.{IsFirstVote, first_vote}
+use Rattle.resource_manager.proofs.Kept.{first_vote}
 use Rattle.forgetting.specs.Left.{without_writes}
 
 -- whether neither a vote nor an outcome is among these
@@ -277,7 +278,8 @@ module _ (whole : List Fact) where
       where
         by_test : (t : Bool) → tx_eq tx other ≡ t
             → option_map_or (λ (b : Bound). b.keys)
-            (if t then Some (record { tx = other; keys = if list_any (is_commit_of other) whole then [] else keys }) else vote_left tx fs) []
+            (if t then Some (record { tx = other; keys = if list_any (is_commit_of other) whole then [] else keys })
+            else vote_left tx fs) []
             ≡ []
         by_test true e =
             let its : list_any (is_commit_of other) whole ≡ true =

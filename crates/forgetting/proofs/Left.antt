@@ -1,10 +1,9 @@
 -- What is left of a node where its floor rises stands above that place for the node.
-use Rattle.std.proofs.Common.{◌≡◌, ◌∙◌, ℕ, Bool, true, false, not, ◌&&◌, List, [], ◌∷◌, ◌++◌, Option, Some, None, refl, sym, ap, subst}
-use Rattle.std.specs.Prelude.{filter, map}
+use Rattle.std.proofs.Common.{◌≡◌, ◌∙◌, ℕ, Bool, true, false, not, ◌&&◌, List, [], Option, Some, None, refl, sym, ap, subst}
+use Rattle.std.specs.Prelude.{map}
 use Rattle.std.specs.List.{list_any, list_all}
 use Rattle.std.proofs.lemmas.Bool.{and_parts, not-true, not_from_false}
 use Rattle.xid.specs.Transactions.{TxParts, tx_eq}
-use Rattle.xid.specs.declared.transaction.Vote.{Vote}
 use Rattle.xid.specs.declared.transaction.Vote.TheVariants as votes
 use Rattle.wire.specs.Messages.{message_tx}
 use Rattle.stable_record.specs.Facts.{fact_tx}
@@ -15,9 +14,8 @@ use Rattle.protocol.specs.declared.states.View.TheVariants as views
 use Rattle.safety.specs.Words.{Fact, NodeId, A, L, R, Row}
 use Rattle.protocol.specs.Effects.{Config}
 use Rattle.protocol.specs.Facts.{Bound, is_vote_of, is_commit_of, is_abort_of, is_prepared_view, view, bound_branches}
-use Rattle.protocol.specs.LeaderMemory.{LeaderMemory}
-use Rattle.protocol.specs.Managers.{Branch, stored_votes, plays_at_manager}
-use Rattle.protocol.specs.Nodes.{NodeState, Memory, plays, all_play, first_rows}
+use Rattle.protocol.specs.Managers.{Branch}
+use Rattle.protocol.specs.Nodes.{NodeState, Memory, all_play, first_rows}
 use Rattle.protocol.specs.Tables.{table}
 use Rattle.protocol.proofs.Lists.{all_found, filter_kept}
 use Rattle.protocol.proofs.Manager.Apart.{stored_bound}
@@ -26,9 +24,9 @@ use Rattle.resource_manager.specs.Courses.{stored_in}
 use Rattle.resource_manager.proofs.Ascending.{put_again, table_ascends}
 use Rattle.floors.specs.Places.{Place, tx_place, is_lower, is_below, is_xid_below, xid_place}
 use Rattle.floors.specs.Nodes.{is_free_below, is_kept, kept_facts}
-use Rattle.floors.specs.Kept.{kept_leader, kept_memory}
+use Rattle.floors.specs.Kept.{kept_memory}
 use Rattle.floors.proofs.Nodes.{other_vote, other_commit, other_abort}
-use Rattle.floors.proofs.Order.{not_below_none, not_lower}
+use Rattle.floors.proofs.Order.{not_lower}
 use Rattle.floors.proofs.Playing.{all_play_kept}
 use Rattle.floors.proofs.Restricting.{apart, bound_kept, last_ballot_kept, slot_kept, spent_kept, view_kept}
 use Rattle.forgetting.specs.Left.{HasFirstRows, left_facts, left_node, rows_of, without_writes}
@@ -83,12 +81,14 @@ module _ (floor : Option Place) (place : Place) (up : is_lower (Some place) floo
   kept_twice : (memory : Memory) → kept_memory (Some place) (kept_memory floor memory) ≡ kept_memory (Some place) memory
   kept_twice memory = λ k. record memory {
     leader = record {
-      heard = (sym (filter_under (λ message. not (is_below floor (message_tx message))) (λ message. not (is_below (Some place) (message_tx message)))
+      heard = (sym (filter_under (λ message. not (is_below floor (message_tx message)))
+          (λ message. not (is_below (Some place) (message_tx message)))
           memory.leader.heard (λ message h kept. kept_still (tx_place (message_tx message)) kept))) k;
       begun = (sym (filter_under (λ begun. not (is_below floor begun.tx)) (λ begun. not (is_below (Some place) begun.tx))
           memory.leader.begun (λ begun h kept. kept_still (tx_place begun.tx) kept))) k;
       proposed =
-          (sym (filter_under (λ message. not (is_below floor (message_tx message))) (λ message. not (is_below (Some place) (message_tx message)))
+          (sym (filter_under (λ message. not (is_below floor (message_tx message)))
+          (λ message. not (is_below (Some place) (message_tx message)))
           memory.leader.proposed (λ message h kept. kept_still (tx_place (message_tx message)) kept))) k;
       met = (sym (filter_under (λ tx. not (is_below floor tx)) (λ tx. not (is_below (Some place) tx))
           memory.leader.met (λ tx h kept. kept_still (tx_place tx) kept))) k;
@@ -189,7 +189,8 @@ module _ (from config next : Config) (floor : Option Place) (place : Place) (few
     few_play = play_all who stands alike;
     all_play_too = stands.all_play_too;
     node_is =
-        ap (λ (node : NodeState). record node { facts = left_facts who (Some place) few.facts; memory = kept_memory (Some place) node.memory })
+        ap (λ (node : NodeState).
+        record node { facts = left_facts who (Some place) few.facts; memory = kept_memory (Some place) node.memory })
         stands.node_is
         ∙ ap (λ (memory : Memory). record all { facts = left_facts who (Some place) few.facts; memory = memory })
         (kept_twice floor place up all.memory);

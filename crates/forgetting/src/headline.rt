@@ -14,8 +14,8 @@ pub fn nothing_is_forgotten()
         → StandsAbove config config who None node node }
 {}
 
-/// On each input it does what the machine's node with that floor does: the answer, what is sent, and how a view changes; and it stands above
-/// the floor for that node again. That what it has stored then plays is what a node's record says.
+/// On each input it does what the machine's node with that floor does: the answer, what is sent, and how a view changes; and it stands
+/// above the floor for that node again. That what it has stored then plays is what a node's record says.
 pub fn inputs_are_handled_alike()
     ensures { (from config : Config) (who : NodeId) (floor : Option Place) (few all : NodeState)
         → StandsAbove from config who floor few all → (input : Input) (fault : Fault)
