@@ -87,9 +87,6 @@ is_low facts tx i = low_after [] facts tx i (omega arith)
 
 -- ---- one instance
 
-instance_self : (tx : TxParts) (i : ℕ) → instance_eq tx i tx i ≡ true
-instance_self tx i = and_from (i == i) (tx_eq tx tx) (eq-eqb i i refl) (tx_self tx)
-
 -- an instance that is another is the same one
 at_instance : (g : Slots) (other : TxParts) (j : ℕ) (tx : TxParts) (i : ℕ) → instance_eq other j tx i ≡ true → g other j ≡ g tx i
 at_instance g other j tx i e =
@@ -100,9 +97,6 @@ at_instance g other j tx i e =
 -- slots of which one is another
 abbrev changed : Slots → TxParts → ℕ → Slot → Slots
 changed g tx i s other j = if instance_eq other j tx i then s else g other j
-
-changed_self : (g : Slots) (tx : TxParts) (i : ℕ) (s : Slot) → changed g tx i s tx i ≡ s
-changed_self g tx i s = ap (λ t. if t then s else g tx i) (instance_self tx i)
 
 module _ (config : Config) (number : ℕ) where
   -- facts play, and lead to slots

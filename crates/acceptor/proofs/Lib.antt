@@ -10,3 +10,5 @@ pub mod Lengths
 pub mod Compacting
 pub mod Writing
 pub mod Frames
+pub mod Left
+pub mod Above

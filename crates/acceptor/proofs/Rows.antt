@@ -145,7 +145,7 @@ map-set f [] n x = refl
 map-set f (y ∷ xs) zero x = refl
 map-set f (y ∷ xs) (suc n) x = ap (λ ys. f y ∷ ys) (map-set f xs n x)
 
-same_table : (ts us : List TxParts) (rows sows : List (List Slot)) → ts ≡ us → rows ≡ sows → (P : TableParts → Type 0)
+pub same_table : (ts us : List TxParts) (rows sows : List (List Slot)) → ts ≡ us → rows ≡ sows → (P : TableParts → Type 0)
     → P (record { transactions = ts; slots = rows }) → P (record { transactions = us; slots = sows })
 same_table ts us rows sows e f P p = subst P (λ k. record { transactions = e k; slots = f k }) p
 

@@ -1,4 +1,4 @@
-ghost use Rattle.std.specs.Prelude.{◌≡◌, ℕ, ◌<◌, [], IfOk, IfErr};
+ghost use Rattle.std.specs.Prelude.{◌≡◌, ℕ, ◌<◌, [], List, Some, IfOk, IfErr};
 ghost use Rattle.xid.specs.Limits.{most_acceptors};
 ghost use Rattle.xid.specs.declared.refusals.Refusal.TheVariants.{NoMemory};
 ghost use Rattle.wire.specs.Messages.{IsMessage};
@@ -8,6 +8,7 @@ ghost use Rattle.stable_record.specs.Facts.{IsFact, fact_tx};
 ghost use Rattle.stable_record.specs.Spelled.{stated};
 ghost use Rattle.protocol.specs.Acceptors.{on_1a, on_b1a, on_2a, on_acceptor_message};
 ghost use Rattle.protocol.specs.Effects.{Config};
+ghost use Rattle.protocol.specs.Kept.{kept_facts};
 ghost use Rattle.stable_record.specs.Parts.{IsMadeReady, IsPlayed};
 ghost use Rattle.acceptor.specs.Acceptors.{acceptor_part, StandsFor, Decides};
 ghost use Rattle.acceptor.specs.Decisions.{shown};
@@ -24,7 +25,7 @@ use std::alloc::Global;
 use std::marker::Model;
 use transactions::Order;
 use wire::{MAX_TX_BYTES, MessageView, Rest, SpelledTx};
-use xid::{Ballot, ManagerNumber, Refusal, Tx, Vote};
+use xid::{Ballot, Floor, ManagerNumber, Refusal, Tx, Vote};
 
 /// An acceptor: its number, how many leaders there are, whether the cluster is bundled, a slot for each instance of each transaction that
 /// it has seen, and those of which a fact was played, in the order of their first facts.
@@ -303,5 +304,20 @@ impl Acceptor {
         ensures err { IfErr result (λ e. e ≡ NoMemory) }
     {
         self.table.frames(&self.begun)
+    }
+
+    /// What is left of it where it forgets what is below a floor: the slots of the transactions that aren't below, in the order of their
+    /// first facts. Refused: `NoMemory` alone.
+    pub fn above(self, key: HashKey, floor: &Floor) -> Result<Acceptor, Refusal>
+        ensures ok { IfOk result (λ left. (config : Config) (number : ℕ) (facts : List FactKind) → StandsFor config number self facts
+            → StandsFor config number left (kept_facts (Some floor.now) facts)) }
+        ensures err { IfErr result (λ e. e ≡ NoMemory) }
+    {
+        let (table, begun) = self.table.above(key, &self.begun, floor)?;
+        Ok(Acceptor {
+            seat: self.seat,
+            table,
+            begun,
+        })
     }
 }

@@ -1,4 +1,4 @@
-ghost use Rattle.std.specs.Prelude.{◌≡◌, ℕ, ◌<◌, true, [], IfSome, IfOk, IfErr, OnOk, length, map, replicate, slice_get};
+ghost use Rattle.std.specs.Prelude.{◌≡◌, ℕ, ◌<◌, true, [], ◌∷◌, ◌++◌, IfSome, IfOk, IfErr, OnOk, length, map, replicate, slice_get};
 ghost use Rattle.std.specs.List.{slice_index_or, All, IsDistinct};
 ghost use Rattle.xid.specs.Transactions.{TxParts, IsTx, tx_eq};
 ghost use Rattle.xid.specs.declared.refusals.Refusal.TheVariants.{NoMemory};
@@ -9,7 +9,7 @@ ghost use Rattle.stable_record.specs.Written.{AreWritten};
 ghost use Rattle.transactions.specs.Seen.{AreInside, at_places, place_in, seen_with};
 ghost use Rattle.protocol.specs.Acceptors.{plays_at_acceptor};
 ghost use Rattle.acceptor.specs.Slots.{after_fact};
-ghost use Rattle.acceptor.specs.Tables.{IsSeen, IsTable, slots_in, slot_in};
+ghost use Rattle.acceptor.specs.Tables.{IsLeft, IsSeen, IsTable, slots_in, slot_in};
 ghost use Rattle.acceptor.specs.Compaction.{compacted};
 
 use crate::compaction::facts_of;
@@ -21,7 +21,7 @@ use std::alloc::{AllocError, Global};
 use std::marker::Model;
 use transactions::{Order, Transactions};
 use wire::SpelledTx;
-use xid::{Refusal, Tx};
+use xid::{Floor, Refusal, Tx};
 
 /// The slots of all transactions that an acceptor has seen: for each one for each of its branches.
 #[derive(Debug, Drop)]
@@ -109,6 +109,59 @@ impl Table {
         };
         self.slots.push_reserved(slots);
         Ok(number)
+    }
+
+    /// Sees a transaction that wasn't seen, which has these slots. It answers the transaction's number. At `NoMemory`, the only refusal,
+    /// all is as before.
+    fn put(&mut self, tx: &SpelledTx<'_>, slots: &[KeptSlot]) -> Result<usize, Refusal>
+        requires new { ¬ IsSeen self.old tx.now }
+        requires whole { length slots.now ≡ length tx.now.branches }
+        ensures ok { IfOk result (λ number. (number ≡ length self.old.transactions) × (self.new ≡ record {
+          transactions = self.old.transactions ++ tx.now ∷ [];
+          slots = self.old.slots ++ slots.now ∷ [];
+        })) }
+        ensures err { IfErr result (λ e. (e ≡ NoMemory) × (self.new ≡ self.old)) }
+    {
+        let Ok(slots) = Vec::from_slice(self.alloc, slots) else {
+            return Err(Refusal::NoMemory);
+        };
+        if self.slots.reserve(1).is_err() {
+            return Err(Refusal::NoMemory);
+        }
+        let Ok(added) = self.transactions.insert_view(tx) else {
+            return Err(Refusal::NoMemory);
+        };
+        self.slots.push_reserved(slots);
+        Ok(added)
+    }
+
+    /// The slots of those transactions of an order that aren't below a floor, and these in their order. Refused: `NoMemory` alone.
+    pub fn above(
+        &self,
+        key: HashKey,
+        begun: &Order,
+        floor: &Floor,
+    ) -> Result<(Table, Order), Refusal>
+        requires { AreInside (length self.now.transactions) begun.now.numbers }
+        ensures ok { IfOk result (λ left. IsLeft floor.now self.now (at_places self.now.transactions begun.now.numbers) left.0
+            left.1.numbers) }
+        ensures err { IfErr result (λ e. e ≡ NoMemory) }
+    {
+        // no transaction is seen twice, and none begins twice
+        let _ = self.transactions.len();
+        let mut left = Table::new(self.alloc, key);
+        let mut order = Order::new(self.alloc);
+        for i in 0..begun.len() {
+            let Some(tx) = self.begun_view(begun, i) else {
+                unreachable!();
+            };
+            if tx.is_below(floor) {
+                continue;
+            }
+            let number = left.put(&tx, self.begun_slots(begun, i, &tx))?;
+            order.add(number)?;
+        }
+        Ok((left, order))
     }
 
     /// Changes the slots of the transaction of a number by a fact that plays.

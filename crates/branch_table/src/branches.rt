@@ -1,10 +1,11 @@
 //! The branches of a resource manager, by their names.
 
 ghost use Rattle.std.specs.Prelude.{◌≡◌, ◌<◌, ◌^◌, ◌||◌, true, [], None, Some, IfOk, IfErr, IfSome, OnOk, is_some, length, nat_lt, map};
-ghost use Rattle.std.specs.List.{IsDistinct};
+ghost use Rattle.std.specs.List.{IsDistinct, list_any};
 ghost use Rattle.std.specs.Option.{option_map, option_copied};
 ghost use Rattle.xid.specs.Limits.{most_touched};
 ghost use Rattle.xid.specs.Names.{xid_eq};
+ghost use Rattle.xid.specs.Places.{is_xid_below};
 ghost use Rattle.xid.specs.declared.refusals.Refusal.TheVariants.{NoMemory};
 ghost use Rattle.stable_record.specs.Facts.{IsKey, IsAct};
 ghost use Rattle.protocol.specs.Managers.{has_key};
@@ -19,7 +20,7 @@ use protocol::BranchState;
 use stable_record::Act;
 use std::alloc::Global;
 use std::marker::Model;
-use xid::{Refusal, Xid};
+use xid::{Floor, Refusal, Xid};
 
 /// Branches by their names.
 #[derive(Debug, Drop)]
@@ -108,6 +109,18 @@ impl Branches {
             return Ok(());
         };
         branch.touch(alloc, key, act)
+    }
+
+    /// Whether one of them is below a floor.
+    pub fn has_below(&self, floor: &Floor) -> bool
+        ensures { result ≡ list_any (λ branch. is_xid_below (Some floor.now) branch.xid) self.now }
+    {
+        for (xid, _) in &self.named {
+            if floor.is_above_xid(xid) {
+                return true;
+            }
+        }
+        false
     }
 
     /// The names of the prepared branches. Refused: `NoMemory` alone.

@@ -2,8 +2,10 @@
 
 ghost use Rattle.std.specs.Prelude.{◌≡◌, ◌≢◌, ◌<◌, ◌||◌, ◌&&◌, Some, None, [], true, IfOk, IfErr, OnOk, length, Ok};
 ghost use Rattle.std.specs.Bool.{Decides};
+ghost use Rattle.std.specs.List.{list_any};
 ghost use Rattle.std.specs.Option.{option_map};
 ghost use Rattle.xid.specs.Names.{XidParts};
+ghost use Rattle.xid.specs.Places.{is_xid_below};
 ghost use Rattle.xid.specs.declared.codes.XaCode.{XaCode};
 ghost use Rattle.xid.specs.declared.refusals.Refusal.TheVariants.{NoMemory};
 ghost use Rattle.stable_record.specs.Facts.{IsKey, IsAct};
@@ -28,7 +30,7 @@ use protocol::{Answer, BranchState, Row};
 use stable_record::Act;
 use std::alloc::Global;
 use std::marker::Model;
-use xid::{Bytes, MAX_KEY, MAX_VALUE, Refusal, XaCode, Xid};
+use xid::{Bytes, Floor, MAX_KEY, MAX_VALUE, Refusal, XaCode, Xid};
 
 /// How a branch is ended, after the flags TMSUCCESS and TMFAIL of X/Open XA.
 #[derive(Clone, Copy, Debug, PartialEq, Eq)]
@@ -132,6 +134,13 @@ impl BranchTable {
         ensures branches { AreTableBranches self.now.branches }
     {
         self.places.rows(self.alloc)
+    }
+
+    /// Whether a branch is below a floor, in whatever state. It takes no memory.
+    pub fn has_below(&self, floor: &Floor) -> bool
+        ensures { result ≡ list_any (λ branch. is_xid_below (Some floor.now) branch.xid) self.now.branches }
+    {
+        self.branches.has_below(floor)
     }
 
     /// How many branches, holds and keys of their own the ends of branches have read or taken out. It stays at the greatest value.

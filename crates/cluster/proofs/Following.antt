@@ -69,7 +69,8 @@ found_place : (nodes : List NodeState) (o : Option ℕ) (m : NodeState) → opti
 found_place nodes None m e = absurd (cc (e))
 found_place nodes (Some at) m e = (at, refl)
 
-firm_befalls : (fact : Option Fact) (old new : Held) (whole : Bool) → old.nature.may_fail ≡ false → Befalls fact old new (RecordFails whole) → ⊥
+firm_befalls : (fact : Option Fact) (old new : Held) (whole : Bool) → old.nature.may_fail ≡ false
+    → Befalls fact old new (RecordFails whole) → ⊥
 firm_befalls None old new whole firm b = b
 firm_befalls (Some fact) old new whole firm b =
     let at = subst (λ (armed : Option ℕ). IsStoppedAt armed old.nature.may_fail (length (fact_frame fact)) new.kept) b.0 b.1.stopped.at in

@@ -134,6 +134,7 @@ module _ (config : Config) (world : World) (old new : ClusterParts) (rm : ℕ) (
             | inl failed ↦
                 let within : there.0 < length old.nodes =
                 omega (arith, place_within config (R rm) there.0 there.1, running.stands.nodes_are.count) in
-                absurd (both_ways (get_or old.nodes there.0 no_node).held.nature.may_fail (running.firm there.0 no_node within) failed.1.may)
+                absurd (both_ways (get_or old.nodes there.0 no_node).held.nature.may_fail (running.firm there.0 no_node within)
+                failed.1.may)
             | inr wanted ↦ let same = sym err ∙ wanted.0 in cc (same)
           ]

@@ -1,5 +1,9 @@
-pub mod Framing
-pub mod Standing
 pub mod Passing
-pub mod Stepping
+pub mod Standing
+pub mod Handling
+pub mod Grouping
+pub mod Restarting
+pub mod Rising
+pub mod Seen
 pub mod Taking
+pub mod Least

@@ -14,10 +14,10 @@ use Rattle.wire.proofs.DecodingLemmas.{found as message_found, spelled as messag
 use Rattle.wire.proofs.Fields.{tx_valid}
 use Rattle.protocol.specs.Nodes.{Received, ReceivedNoise}
 use Rattle.node_core.specs.Nodes.{datagram_input}
-use Rattle.floors.specs.Places.{Place, tx_place, is_lower}
+use Rattle.xid.specs.Places.{Place, tx_place, is_lower}
 use Rattle.floors.specs.Nodes.{is_input_below}
-use Rattle.floored.specs.Frames.{place_spelling, name_at}
-use Rattle.floored.proofs.Framing.{name_again}
+use Rattle.wire.specs.Names.{place_spelling, name_at}
+use Rattle.wire.proofs.Places.{name_again}
 
 -- a message's name stands behind its version and kind
 record Names (bytes : List ℕ) (k : Kind) : Type 0 where
@@ -40,7 +40,10 @@ named bytes k e =
     ap (drop 2) is.spelled ∙ grouped (number_spelling tx.format) (component_spelling tx.gtrid) branches said in
     record {
       rest = branches ++ said;
-      taken = ap name_at whole ∙ name_again (tx_place tx) (branches ++ said) (omega (arith, valid.format)) valid.gtrid.few;
+      taken =
+          ap name_at whole
+          ∙ name_again (tx_place tx) (branches ++ said)
+          (record { format = omega (arith, valid.format); few = valid.gtrid.few; bytes = valid.gtrid.bytes });
     }
 
 module _ (place : Place) (bytes : List ℕ) where

@@ -1,121 +1,90 @@
--- What the calls of a record make of what it holds behind a front.
-use Rattle.std.proofs.Common.{◌≡◌, ◌∙◌, ℕ, suc, ◌+◌, List, [], ◌∷◌, ◌++◌, length, take, drop, ◌⊎◌, inl, inr, refl, sym, ap, subst}
-use Rattle.std.proofs.Common.{append_assoc, arith}
-use Rattle.std.specs.Prelude.{Result, Ok, Err}
-use Rattle.std.proofs.lemmas.List.{drop_at}
-use Rattle.stable_record.specs.declared.record.RecordError.{RecordError}
-use Rattle.stable_record.specs.declared.record.RecordError.TheVariants.{Fault, Memory}
-use Rattle.stable_record.specs.Held.{Held, Nature, HasRead, HasAdded, HasPut, HasFailed, with_bytes}
-use Rattle.floored.specs.Behind.{behind, BeginsWith}
+-- The floor that a node's record stands behind, and what stands behind it.
+use Rattle.std.proofs.Common.{◌≡◌, ◌∙◌, ℕ, true, List, [], ◌∷◌, Option, Some, None, is_some, inl}
+use Rattle.std.proofs.Common.{refl, sym, ap, subst, append-nil, arith}
+use Rattle.std.specs.Option.{option_map}
+use Rattle.xid.specs.Places.{Place}
+use Rattle.stable_record.specs.Behind.{IsFloor, IsFronting}
+use Rattle.stable_record.specs.Floors.{floor_frame, floor_of, front_of}
+use Rattle.stable_record.specs.Held.{Held, Nature}
+use Rattle.stable_record.proofs.Floors.{floor_again, floor_stays}
+use Rattle.protocol.specs.declared.nodes.NodeId.{NodeId}
+use Rattle.protocol.specs.declared.rows.Row.{Row}
+use Rattle.protocol.specs.Effects.{Config}
+use Rattle.protocol.specs.Nodes.{NodeState}
+use Rattle.node_core.specs.declared.role.Role.{Role}
+use Rattle.node_core.specs.Nodes.{AreSizes, IsSameNode, NodeParts, NodeStands, RoleIs, Stands}
+use Rattle.forgetting.specs.Above.{StandsAbove}
+use Rattle.floored.specs.Nodes.{FlooredStands, IsFlooredSound, first_front, floor_before, with_floor}
 
--- the nature of what is held behind a front
-abbrev nature_behind : List ℕ → Nature → Nature
-nature_behind front nature = record { may_fail = nature.may_fail; fronts = front ∷ nature.fronts }
+-- ---- the floor in front
 
--- the first bytes of a front and of what follows it
-take_past : (front rest : List ℕ) (len : ℕ) → take (len + length front) (front ++ rest) ≡ front ++ take len rest
-take_past [] rest len = ap (λ (n : ℕ). take n rest) (omega arith)
-take_past (x ∷ front) rest len =
-    let more : len + length (x ∷ front) ≡ suc (len + length front) = omega arith in
-    ap (λ (n : ℕ). take n (x ∷ (front ++ rest))) more ∙ ap (λ (xs : List ℕ). x ∷ xs) (take_past front rest len)
+-- a floor is found in its own front
+front_found : (floor : Option Place) → IsFloor floor → floor_of (front_of floor) ≡ floor
+front_found None valid = floor_stays None [] [] [] tt (λ i. omega arith) (refl, inl (omega arith))
+front_found (Some place) valid =
+    ap floor_of (sym (append-nil (floor_frame place))) ∙ ap (option_map (λ x. x.0)) (floor_again place [] valid)
 
-module _ (front : List ℕ) (old new : Held) where
-  -- a record failed, and holds what it held, or what was to stand
-  failed_behind : (all next : List ℕ) → drop (length front) all ≡ next → HasFailed all old new
-      → HasFailed next (behind front old) (behind front new)
-  failed_behind all next e f = record {
-    may = f.may;
-    bytes = by f.bytes;
-    armed = f.armed;
-    counted = f.counted;
-    nature = ap (nature_behind front) f.nature;
-  }
-    where
-      by : (new.bytes ≡ old.bytes) ⊎ (new.bytes ≡ all)
-          → (drop (length front) new.bytes ≡ drop (length front) old.bytes) ⊎ (drop (length front) new.bytes ≡ next)
-      by (inl same) = inl (ap (drop (length front)) same)
-      by (inr same) = inr (ap (drop (length front)) same ∙ e)
+pub floor_found : (floor : Option Place) (held : Held) → IsFronting floor held → floor_before held ≡ floor
+floor_found floor held is =
+    ap (λ (fronts : List (List ℕ)). floor_of (first_front fronts)) is.fronts_are ∙ front_found floor is.valid
 
-  pub read_refused : (T S : Type 0) (error : RecordError) → HasRead {T = T} old new (Err error)
-      → HasRead {T = S} (behind front old) (behind front new) (Err error)
-  read_refused T S Fault h = failed_behind old.bytes (drop (length front) old.bytes) refl h
-  read_refused T S Memory h = ap (behind front) h
+pub floor_same : (old new : Held) → new.nature ≡ old.nature → floor_before new ≡ floor_before old
+floor_same old new same = ap (λ (n : Nature). floor_of (first_front n.fronts)) same
 
-  -- the bytes behind the front, where they begin with it
-  rest_is : (begins : BeginsWith front old.bytes) → drop (length front) old.bytes ≡ begins.rest
-  rest_is begins = ap (drop (length front)) begins.same ∙ drop_at front begins.rest (length front) refl
+pub fronting_found : (floor : Option Place) (held : Held) → IsFronting floor held → IsFronting (floor_before held) held
+fronting_found floor held is = subst (λ (f : Option Place). IsFronting f held) (sym (floor_found floor held is)) is
 
-  added_bytes : (text : List ℕ) → BeginsWith front old.bytes → new.bytes ≡ old.bytes ++ text
-      → drop (length front) new.bytes ≡ drop (length front) old.bytes ++ text
-  added_bytes text begins e =
-      let whole : new.bytes ≡ front ++ (begins.rest ++ text) =
-      e ∙ ap (λ (xs : List ℕ). xs ++ text) begins.same ∙ append_assoc front begins.rest text in
-      ap (drop (length front)) whole ∙ drop_at front (begins.rest ++ text) (length front) refl
-      ∙ ap (λ (xs : List ℕ). xs ++ text) (sym (rest_is begins))
+pub fronting_same : (old new : Held) → new.nature ≡ old.nature → IsFronting (floor_before old) old → IsFronting (floor_before new) new
+fronting_same old new same is = record {
+  valid = subst IsFloor (sym (floor_same old new same)) is.valid;
+  beneath = is.beneath;
+  fronts_are =
+      ap (λ (n : Nature). n.fronts) same ∙ is.fronts_are
+      ∙ ap (λ (f : Option Place). front_of f ∷ is.beneath) (sym (floor_same old new same));
+}
 
-  pub append_behind : (text : List ℕ) (result : Result (Unit {0}) RecordError) → BeginsWith front old.bytes → HasAdded text old new result
-      → HasAdded text (behind front old) (behind front new) result
-  append_behind text (Ok done) begins h = record {
-    bytes = added_bytes text begins h.bytes;
-    kept = h.kept;
-    faults = h.faults;
-    unarmed = h.unarmed;
-    armed = h.armed;
-    nature = ap (nature_behind front) h.nature;
-  }
-  append_behind text (Err Fault) begins h = record {
-    at = h.at;
-    bytes = added_bytes (take new.kept text) begins h.bytes;
-    counted = h.counted;
-    armed = h.armed;
-    nature = ap (nature_behind front) h.nature;
-  }
-  append_behind text (Err Memory) begins h = ap (behind front) h
+-- ---- whether it is up
 
-  longer : (text : List ℕ) → BeginsWith front old.bytes → new.bytes ≡ old.bytes ++ text → BeginsWith front new.bytes
-  longer text begins e = record {
-    rest = begins.rest ++ text;
-    same = e ∙ ap (λ (xs : List ℕ). xs ++ text) begins.same ∙ append_assoc front begins.rest text;
-  }
+pub up_is : (config : Config) (who : NodeId) (m : NodeState) (tail : List ℕ) (role : Option Role) → RoleIs config who m tail role
+    → is_some role ≡ m.up
+up_is config who m tail None is = sym is
+up_is config who m tail (Some role) is = sym is.0
 
-  pub append_begins : (text : List ℕ) (result : Result (Unit {0}) RecordError) → BeginsWith front old.bytes → HasAdded text old new result
-      → BeginsWith front new.bytes
-  append_begins text (Ok done) begins h = longer text begins h.bytes
-  append_begins text (Err Fault) begins h = longer (take new.kept text) begins h.bytes
-  append_begins text (Err Memory) begins h = subst (λ (r : Held). BeginsWith front r.bytes) (sym h) begins
+pub stands_up : (config : Config) (who : NodeId) (own : List Row) (held : Held) (role : Option Role) (m : NodeState)
+    → Stands config who own held role m → is_some role ≡ m.up
+stands_up config who own held role m s = up_is config who m s.tail role s.role_is
 
-  pub put_behind : (next : List ℕ) (result : Result (Unit {0}) RecordError) → HasPut (front ++ next) old new result
-      → HasPut next (behind front old) (behind front new) result
-  put_behind next (Ok done) h =
-      ap (behind front) h ∙ ap (λ (xs : List ℕ). with_bytes xs (behind front old)) (drop_at front next (length front) refl)
-  put_behind next (Err Fault) h = failed_behind (front ++ next) next (drop_at front next (length front) refl) h
-  put_behind next (Err Memory) h = ap (behind front) h
+-- ---- the same node still
 
-  pub put_begins : (next : List ℕ) (result : Result (Unit {0}) RecordError) → BeginsWith front old.bytes
-      → HasPut (front ++ next) old new result → BeginsWith front new.bytes
-  put_begins next (Ok done) begins h = record { rest = next; same = ap (λ (r : Held). r.bytes) h }
-  put_begins next (Err Fault) begins h = by h.bytes
-    where
-      by : (new.bytes ≡ old.bytes) ⊎ (new.bytes ≡ front ++ next) → BeginsWith front new.bytes
-      by (inl same) = subst (BeginsWith front) (sym same) begins
-      by (inr same) = record { rest = next; same = same }
-  put_begins next (Err Memory) begins h = subst (λ (r : Held). BeginsWith front r.bytes) (sym h) begins
+-- a node that is the same, whatever its record and its role are now
+pub stands_still : (config : Config) (old new : NodeParts) (m now : NodeState) → NodeStands config old m → IsSameNode old new
+    → Stands config old.who old.rows new.held new.role now → NodeStands config new now
+stands_still config old new m now stands same is = record {
+  sizes_are = subst (AreSizes config) (sym same.sizes_are) stands.sizes_are;
+  stands = subst (λ (who : NodeId). Stands config who new.rows new.held new.role now) (sym same.who_is)
+      (subst (λ (rows : List Row). Stands config old.who rows new.held new.role now) (sym same.rows_are) is);
+}
 
-  -- the bytes that a cut leaves: the front, and the first of those behind it
-  cut_is : (len : ℕ) → BeginsWith front old.bytes → take (len + length front) old.bytes ≡ front ++ take len (drop (length front) old.bytes)
-  cut_is len begins =
-      ap (take (len + length front)) begins.same ∙ take_past front begins.rest len
-      ∙ ap (λ (xs : List ℕ). front ++ take len xs) (sym (rest_is begins))
+pub stands_on : (config : Config) (old new : NodeParts) (m : NodeState) (s : FlooredStands config (with_floor old) m)
+    → IsSameNode old new → (little whole : NodeState) → Stands s.from old.who old.rows new.held new.role little
+    → StandsAbove s.from config old.who (floor_before old.held) little whole → FlooredStands config (with_floor new) whole
+stands_on config old new m s same little whole stands above = record {
+  from = s.from;
+  few = little;
+  is = stands_still s.from old new s.few little s.is same stands;
+  above = subst (λ (who : NodeId). StandsAbove s.from config who (floor_before new.held) little whole) (sym same.who_is)
+      (subst (λ (f : Option Place). StandsAbove s.from config old.who f little whole)
+      (sym (floor_same old.held new.held same.nature_is)) above);
+}
 
-  pub cut_behind : (len : ℕ) (result : Result (Unit {0}) RecordError) → BeginsWith front old.bytes
-      → HasPut (take (len + length front) old.bytes) old new result
-      → HasPut (take len (drop (length front) old.bytes)) (behind front old) (behind front new) result
-  cut_behind len result begins h =
-      put_behind (take len (drop (length front) old.bytes)) result
-      (subst (λ (xs : List ℕ). HasPut xs old new result) (cut_is len begins) h)
-
-  pub cut_begins : (len : ℕ) (result : Result (Unit {0}) RecordError) → BeginsWith front old.bytes
-      → HasPut (take (len + length front) old.bytes) old new result → BeginsWith front new.bytes
-  cut_begins len result begins h =
-      put_begins (take len (drop (length front) old.bytes)) result begins
-      (subst (λ (xs : List ℕ). HasPut xs old new result) (cut_is len begins) h)
+-- it knows its floor still where it didn't come up, whichever node of the machine it stands for now
+pub sound_on : (known : Option Place) (old new : NodeParts) → IsFlooredSound known old → IsSameNode old new
+    → (is_some new.role ≡ true → is_some old.role ≡ true) → (config : Config) (m : NodeState) → FlooredStands config (with_floor new) m
+    → IsFlooredSound known new
+sound_on known old new sound same stayed config m is = record {
+  front = fronting_same old.held new.held same.nature_is sound.front;
+  known_is = λ up. sound.known_is (stayed up) ∙ sym (floor_same old.held new.held same.nature_is);
+  config = config;
+  state = m;
+  is = is;
+}

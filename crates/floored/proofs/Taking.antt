@@ -1,30 +1,72 @@
 -- How a node with a floor is opened, and what is left of it.
-use Rattle.std.proofs.Common.{◌≡◌, ◌∙◌, ℕ, List, ◌∷◌, ◌++◌, Option, inr, sym, ap, subst}
+use Rattle.std.proofs.Common.{◌≡◌, ◌∙◌, ℕ, true, List, [], ◌∷◌, ◌++◌, Option, Some, is_some, inr, refl, sym, ap, subst}
+use Rattle.xid.specs.Places.{Place}
 use Rattle.xid.specs.declared.refusals.Refusal.{Refusal}
+use Rattle.stable_record.specs.Behind.{BehindParts, IsFronting, IsTakenUp, behind}
+use Rattle.stable_record.specs.Floors.{floor_of, front_of}
+use Rattle.stable_record.specs.Held.{Held, Nature}
 use Rattle.protocol.specs.declared.nodes.NodeId.{NodeId}
 use Rattle.protocol.specs.Effects.{Config}
-use Rattle.stable_record.specs.Held.{Held, Nature}
-use Rattle.node_core.specs.Nodes.{NodeParts}
+use Rattle.protocol.specs.Kept.{kept_memory}
+use Rattle.protocol.specs.Nodes.{Memory, NodeState, all_play, empty_memory}
+use Rattle.node_core.specs.Nodes.{IsSameNode, NodeParts, NodeStands}
 use Rattle.node_core.specs.Opening.{IsOpened, IsUnopened}
-use Rattle.floors.specs.Places.{Place}
-use Rattle.floored.specs.Frames.{front_of, floor_of}
-use Rattle.floored.specs.Behind.{behind, BehindParts, IsTakenUp}
-use Rattle.floored.specs.Nodes.{IsFlooredSound, IsFlooredUnopened}
+use Rattle.forgetting.specs.Above.{StandsAbove}
+use Rattle.forgetting.proofs.Coming.{torn}
+use Rattle.forgetting.proofs.Left.{alike_itself, says_itself}
+use Rattle.floored.specs.Nodes.{FlooredParts, FlooredStands, IsFlooredOpened, IsFlooredSound, IsFlooredUnopened, floor_before, with_floor}
+use Rattle.floored.proofs.Standing.{floor_found, floor_same, fronting_found, sound_on}
+
+-- ---- a node with nothing in memory stands above its floor for itself
+
+stands_itself : (config : Config) (who : NodeId) (floor : Option Place) (node : NodeState) → all_play config who [] node.facts ≡ true
+    → node.memory ≡ empty_memory → StandsAbove config config who floor node node
+stands_itself config who floor node play empty = record {
+  alike = alike_itself who config;
+  says = says_itself who floor node.facts;
+  rows_are = refl;
+  few_play = play;
+  all_play_too = play;
+  node_is = ap (λ (memory : Memory). record node { memory = memory }) (empty ∙ sym (ap (kept_memory floor) empty));
+}
+
+-- ---- opened
 
 -- the first of two lists that are the same
 first_same : (x y : List ℕ) (xs ys : List (List ℕ)) → x ∷ xs ≡ y ∷ ys → x ≡ y
 first_same x y xs ys e = cc
 
-module _ (config : Config) (who : NodeId) (old : Held) (b : BehindParts) (taken : IsTakenUp old b) where
-  pub sound_opened : (node : NodeParts) → IsOpened config who b.held node → IsFlooredSound (record { floor = b.floor; node = node })
-  sound_opened node is = record {
-    behind = record {
-      beneath = old.nature.fronts;
-      fronts_are = ap (λ (n : Nature). n.fronts) is.nature ∙ ap (λ (h : Held). h.nature.fronts) taken.held_is;
-    };
+module _ (config : Config) (who : NodeId) (old : Held) (b : BehindParts) (taken : IsTakenUp old b) (node : NodeParts)
+    (is : IsOpened config who b.held node) where
+  fronting : IsFronting b.floor node.held
+  fronting = record {
+    valid = taken.fronting.valid;
+    beneath = taken.fronting.beneath;
+    fronts_are = ap (λ (n : Nature). n.fronts) is.nature ∙ taken.fronting.fronts_are;
+  }
+
+  floor_is : floor_before node.held ≡ b.floor
+  floor_is = floor_found b.floor node.held fronting
+
+  pub sound_opened : IsFlooredSound b.floor node
+  sound_opened = record {
+    front = fronting_found b.floor node.held fronting;
+    known_is = λ up. sym floor_is;
     config = _;
     state = _;
-    is = is.stands;
+    is = record {
+      from = _;
+      few = _;
+      is = is.stands;
+      above = stands_itself _ node.who (floor_before node.held) _ is.stands.stands.played refl;
+    };
+  }
+
+  pub opened_as : IsFlooredOpened config who old (with_floor node)
+  opened_as = record {
+    floor_is = floor_is ∙ taken.floor_is;
+    opened = subst (λ (h : Held). IsOpened config who h node)
+        (taken.held_is ∙ ap (λ (f : Option Place). behind (front_of f) old) (sym floor_is)) is;
   }
 
 -- whatever a node isn't opened for, its record is by nature what it was
@@ -59,3 +101,50 @@ unopened_as config who old b left new refusal taken u held bytes =
           (subst (λ (h : Held). IsUnopened config who h left.held refusal) was u);
       begins = inr (record { rest = left.held.bytes; same = bytes ∙ ap (λ (xs : List ℕ). xs ++ left.held.bytes) front });
     }
+
+-- ---- taken apart
+
+module _ (node : NodeParts) (known : Option Place) (sound : IsFlooredSound known node) (left : BehindParts) (new : Held)
+    (held_is : left.held ≡ node.held) (held : behind (front_of left.floor) new ≡ left.held) where
+  front_is : front_of left.floor ≡ front_of (floor_before node.held)
+  front_is =
+      same_front (front_of (floor_before node.held)) new left sound.front.beneath held
+      (ap (λ (h : Held). h.nature.fronts) held_is ∙ sound.front.fronts_are)
+
+  pub record_held : behind (front_of (floor_before node.held)) new ≡ node.held
+  record_held = ap (λ (front : List ℕ). behind front new) (sym front_is) ∙ held ∙ held_is
+
+  pub record_bytes : new.bytes ≡ front_of left.floor ++ left.held.bytes
+      → new.bytes ≡ front_of (floor_before node.held) ++ node.held.bytes
+  record_bytes bytes = bytes ∙ λ k. front_is k ++ (held_is k).bytes
+
+-- ---- a tear
+
+module _ (old new : NodeParts) (n : ℕ) (same : IsSameNode old new)
+    (armed : (config : Config) (m : NodeState) → NodeStands config old m → NodeStands config new (record m { tear = Some n })) where
+  pub armed_on : (config : Config) (m : NodeState) → FlooredStands config (with_floor old) m
+      → FlooredStands config (with_floor new) (record m { tear = Some n })
+  armed_on config m s = record {
+    from = s.from;
+    few = record s.few { tear = Some n };
+    is = armed s.from s.few s.is;
+    above =
+        subst (λ (who : NodeId).
+        StandsAbove s.from config who (floor_before new.held) (record s.few { tear = Some n }) (record m { tear = Some n }))
+        (sym same.who_is)
+        (subst (λ (f : Option Place). StandsAbove s.from config old.who f (record s.few { tear = Some n }) (record m { tear = Some n }))
+        (sym (floor_same old.held new.held same.nature_is))
+        (torn s.from config old.who (floor_before old.held) s.few m s.above (Some n)));
+  }
+
+  pub sound_armed : (known : Option Place) → new.role ≡ old.role → IsFlooredSound known old → IsFlooredSound known new
+  sound_armed known role sound =
+      sound_on known old new sound same (λ up. sym (ap is_some role) ∙ up) sound.config (record sound.state { tear = Some n })
+      (armed_on sound.config sound.state sound.is)
+
+pub armed_seen : (old new : NodeParts) (now : FlooredParts) (n : ℕ) → with_floor old ≡ now → IsSameNode old new
+    → ((config : Config) (m : NodeState) → NodeStands config old m → NodeStands config new (record m { tear = Some n }))
+    → (config : Config) (m : NodeState) → FlooredStands config now m → FlooredStands config (with_floor new) (record m { tear = Some n })
+armed_seen old new now n is same armed =
+    subst (λ (f : FlooredParts). (config : Config) (m : NodeState) → FlooredStands config f m
+    → FlooredStands config (with_floor new) (record m { tear = Some n })) is (armed_on old new n same armed)

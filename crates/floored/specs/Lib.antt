@@ -1,3 +1,2 @@
-pub mod Frames
-pub mod Behind
 pub mod Nodes
+pub mod Told

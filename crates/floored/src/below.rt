@@ -1,36 +1,30 @@
 //! Whether an input is below a floor, looked at over its bytes.
 
-ghost use Rattle.std.specs.Prelude.{◌≡◌, Some};
+ghost use Rattle.std.specs.Prelude.{◌≡◌, Some, false};
+ghost use Rattle.std.specs.Option.{option_map_or};
 ghost use Rattle.wire.specs.Decoding.{spells_message};
 ghost use Rattle.protocol.specs.Nodes.{Asked};
 ghost use Rattle.node_core.specs.Nodes.{datagram_input, input_of};
-ghost use Rattle.floors.specs.Places.{is_below as is_name_below};
+ghost use Rattle.xid.specs.Places.{is_lower};
+ghost use Rattle.wire.specs.Names.{name_at};
 ghost use Rattle.floors.specs.Nodes.{forgotten_answer as answer_below, is_input_below, is_request_below as is_asked_below};
 
-use crate::floor::Floor;
 use node_core::Input;
 use protocol::{Action, Answer, Request};
-use wire::view_of;
-use xid::{Refusal, Tx, XaCode};
-
-/// Whether a transaction is below the floor.
-fn is_tx_below(floor: &Floor, tx: &Tx) -> bool
-    ensures { result ≡ is_name_below (Some floor.now) tx.now }
-{
-    floor.is_above(tx.format(), tx.gtrid())
-}
+use wire::{take_name, view_of};
+use xid::{Floor, Refusal, XaCode};
 
 /// Whether a request is on a name below the floor.
 fn is_request_below(floor: &Floor, request: &Request) -> bool
     ensures { result ≡ is_asked_below (Some floor.now) request.now }
 {
     match request {
-        Request::Call { xid, .. } => floor.is_above(xid.format(), xid.gtrid()),
+        Request::Call { xid, .. } => floor.is_above_xid(xid),
         Request::Recover => false,
-        Request::View { tx } => is_tx_below(floor, tx.get()),
-        Request::Commit { tx } => is_tx_below(floor, tx.get()),
-        Request::Status { tx } => is_tx_below(floor, tx.get()),
-        Request::Timeout { tx } => is_tx_below(floor, tx.get()),
+        Request::View { tx } => floor.is_above_tx(tx.get()),
+        Request::Commit { tx } => floor.is_above_tx(tx.get()),
+        Request::Status { tx } => floor.is_above_tx(tx.get()),
+        Request::Timeout { tx } => floor.is_above_tx(tx.get()),
     }
 }
 
@@ -44,6 +38,16 @@ fn is_message(bytes: &[u8]) -> bool
     }
 }
 
+/// Whether the name that is spelled at the front of bytes stands below the floor; no name does.
+fn is_name_below(floor: &Floor, bytes: &[u8]) -> bool
+    ensures { result ≡ option_map_or (λ x. is_lower (Some x.0) (Some floor.now)) (name_at bytes.now) false }
+{
+    match take_name(bytes) {
+        Some((format, gtrid, _)) => floor.is_above(format, gtrid),
+        None => false,
+    }
+}
+
 /// Whether the bytes of a datagram spell a message on a name below the floor. Where the name that stands behind version and kind isn't
 /// below it, no more of them is looked at.
 fn is_datagram_below(floor: &Floor, bytes: &[u8]) -> bool
@@ -52,7 +56,7 @@ fn is_datagram_below(floor: &Floor, bytes: &[u8]) -> bool
     if bytes.len() < 2 {
         return false;
     }
-    if !floor.is_above_spelled(&bytes[2..]) {
+    if !is_name_below(floor, &bytes[2..]) {
         return false;
     }
     is_message(bytes)

@@ -2,14 +2,9 @@
 //! it. The floor stands in front of the node's record; the node beneath sees what is behind it, and no input that is below.
 #![tactic(auto)]
 
-mod behind;
 mod below;
-mod floor;
-mod frame;
-pub mod laws;
 mod node;
+mod told;
 
-pub use behind::Behind;
-pub use floor::Floor;
-pub use frame::take_floor;
 pub use node::Floored;
+pub use told::ToldFloors;

@@ -1,29 +1,32 @@
 //! A node with a floor.
 
-ghost use Rattle.std.specs.Prelude.{◌≡◌, ◌++◌, true, length, map, is_none, IfOk, IfErr, Some};
+ghost use Rattle.std.specs.Prelude.{◌≡◌, ◌++◌, true, length, map, is_none, is_some, IfOk, IfErr, Some};
 ghost use Rattle.protocol.specs.Effects.{Config as ConfigParts};
 ghost use Rattle.protocol.specs.Nodes.{NodeState, accepts_input};
+ghost use Rattle.stable_record.specs.Behind.{behind};
+ghost use Rattle.stable_record.specs.Floors.{front_of};
 ghost use Rattle.stable_record.specs.Held.{armed_with};
+ghost use Rattle.node_core.specs.Compacting.{CompactsAs};
+ghost use Rattle.node_core.specs.Groups.{GroupsAs};
 ghost use Rattle.node_core.specs.Nodes.{NodeStands, input_of};
+ghost use Rattle.node_core.specs.Opening.{RestartsAs};
 ghost use Rattle.floors.specs.Nodes.{is_input_below};
-ghost use Rattle.floored.specs.Frames.{front_of};
-ghost use Rattle.floored.specs.Behind.{behind};
-ghost use Rattle.floored.specs.Nodes.{FlooredCompacts, FlooredGroupsAs, FlooredRestarts, FlooredStepsAs, IsFlooredOpened};
-ghost use Rattle.floored.specs.Nodes.{IsFlooredUnopened, are_above, is_over};
+ghost use Rattle.floored.specs.Nodes.{FlooredCompacts, FlooredGroupsAs, FlooredRaises, FlooredRestarts, FlooredStands, FlooredStepsAs};
+ghost use Rattle.floored.specs.Nodes.{IsFlooredOpened, IsFlooredUnopened, RaisesNode, are_above, is_over};
 
-use crate::behind::Behind;
 use crate::below::{forgotten_answer, is_below};
-use crate::floor::Floor;
 use node_core::{Config, Input, Node, Output, accepts_request};
 use protocol::NodeId;
-use stable_record::{Record, RecordError, Tear};
+use stable_record::{Behind, Record, RecordError, Tear};
 use std::alloc::Global;
 use std::marker::Model;
-use xid::Refusal;
+use xid::{Floor, Refusal};
 
 /// A node over a record that may begin with a floor. It takes no part in what stands below that: a datagram is passed over, as if it had
-/// been lost, a request is refused (`Forgotten`), of a branch a start answers `DupId` and every other call `Nota`.
+/// been lost, a request is refused (`Forgotten`), of a branch a start answers `DupId` and every other call `Nota`. Where its floor rises,
+/// it forgets what is below.
 pub struct Floored<R: Record> {
+    /// The floor that its record begins with, while the node is up.
     floor: Option<Floor>,
     node: Node<Behind<R>>,
 }
@@ -36,13 +39,13 @@ impl<R: Record + Drop> Drop for Floored<R> {
 }
 
 impl<R: Record> Model for Floored<R> {
-    ghost use Rattle.floored.specs.Nodes.{FlooredParts, IsFlooredSound};
+    ghost use Rattle.floored.specs.Nodes.{FlooredParts, IsFlooredSound, with_floor};
 
     ghost Value = { FlooredParts };
 
-    ghost view = { λ n. record { floor = n.floor; node = n.node } };
+    ghost view = { λ n. with_floor n.node };
 
-    ghost invariant = { λ n. IsFlooredSound (record { floor = n.floor; node = n.node }) };
+    ghost invariant = { λ n. IsFlooredSound n.floor n.node };
 }
 
 impl<R: Record> Floored<R> {
@@ -71,9 +74,9 @@ impl<R: Record> Floored<R> {
         }
     }
 
-    /// Its floor, if it has one.
+    /// Its floor, if it has one, while it is up; while it is down, the one that it had last.
     pub fn floor(&self) -> Option<Floor>
-        ensures { result ≡ self.now.floor }
+        ensures { is_some self.now.node.role ≡ true → result ≡ self.now.floor }
     {
         self.floor
     }
@@ -101,27 +104,65 @@ impl<R: Record> Floored<R> {
         node.into_record().into_inner()
     }
 
-    /// Reads what stands behind its floor again, whether it is up or down, and goes on from there, as by `Node::restart`. The floor stays.
-    /// Refused as that is.
+    /// Reads what stands behind its floor again, whether it is up or down, and goes on from there, as by `Node::restart`. The floor is the
+    /// one that its record begins with. Refused as that is.
     pub fn restart(&mut self) -> Result<(), Refusal>
-        ensures { (config : ConfigParts) (m : NodeState) → NodeStands config self.old.node m
+        ensures machine { (config : ConfigParts) (m : NodeState) → FlooredStands config self.old m
             → FlooredRestarts config m self.old self.new result }
+        ensures node { (config : ConfigParts) (m : NodeState) → NodeStands config self.old.node m
+            → RestartsAs config m self.old.node self.new.node result }
     {
+        match self.node.learn_floor() {
+            Ok(floor) => self.floor = floor,
+            Err(refusal) => {
+                self.node.stop();
+                return Err(refusal);
+            }
+        }
         self.node.restart()
     }
 
     /// Makes what stands behind its floor shorter, by one replacement of its record, as by `Node::compact`. The floor stays. Refused as
     /// that is.
     pub fn compact(&mut self) -> Result<(), Refusal>
-        ensures { (config : ConfigParts) (m : NodeState) → NodeStands config self.old.node m
+        ensures machine { (config : ConfigParts) (m : NodeState) → FlooredStands config self.old m
             → FlooredCompacts config m self.old self.new result }
+        ensures node { (config : ConfigParts) (m : NodeState) → NodeStands config self.old.node m
+            → CompactsAs config m self.old.node self.new.node result }
     {
         self.node.compact()
     }
 
-    /// Whether an input is below its floor. Such a one belongs in no group: `step` answers it, and stores nothing.
+    /// Raises its floor to a place: what stands below that is forgotten, and its record becomes the shorter one of what is left, behind the
+    /// new floor, by one replacement. A place that isn't higher than the floor costs nothing. Refused, and nothing changes: the node is
+    /// down (`Down`), or a resource manager has a branch below the place (`Busy`). The record failed (`RecordFault`), and holds what it
+    /// held, or what is left behind the new floor; or `NoMemory`, and it is as it was: after these the node is down.
+    ///
+    /// An acceptor or a leader may rise only to the least floor that it was told of all resource managers since its last start
+    /// (`ToldFloors::least`): below a higher place something may still be prepared, and it would take no part in that any more.
+    pub fn raise(&mut self, floor: &Floor) -> Result<(), Refusal>
+        ensures machine { (config : ConfigParts) (m : NodeState) → FlooredStands config self.old m
+            → FlooredRaises config m floor.now self.old self.new result }
+        ensures node { RaisesNode floor.now self.old self.new result }
+    {
+        if self.is_down() {
+            return Err(Refusal::Down);
+        }
+        if !floor.is_higher_than(&self.floor) {
+            return Ok(());
+        }
+        match self.node.raise(floor) {
+            Ok(()) => {
+                self.floor = Some(*floor);
+                Ok(())
+            }
+            Err(refusal) => Err(refusal),
+        }
+    }
+
+    /// Whether an input is below its floor, while it is up. Such a one belongs in no group: `step` answers it, and stores nothing.
     pub fn is_below(&self, input: &Input) -> bool
-        ensures { result ≡ is_input_below self.now.floor (input_of input.now) }
+        ensures { is_some self.now.node.role ≡ true → result ≡ is_input_below self.now.floor (input_of input.now) }
     {
         match &self.floor {
             Some(floor) => is_below(floor, input),
@@ -133,10 +174,10 @@ impl<R: Record> Floored<R> {
     fn passes_over(&self, input: &Input) -> bool
         ensures { result ≡ is_over self.now.node.who self.now.floor self.now.node.role (input_of input.now) }
     {
-        if !self.is_below(input) {
+        if self.node.is_down() {
             return false;
         }
-        if self.node.is_down() {
+        if !self.is_below(input) {
             return false;
         }
         is_taken(self.node.id(), input)
@@ -145,7 +186,7 @@ impl<R: Record> Floored<R> {
     /// What it does on an input. First, as by `Node::step`, whether its kind takes it, then whether the node is up; an input that is below
     /// its floor changes nothing, and takes no memory; every other one is as by `Node::step`.
     pub fn step(&mut self, input: Input) -> Output
-        ensures { (config : ConfigParts) (m : NodeState) → NodeStands config self.old.node m
+        ensures { (config : ConfigParts) (m : NodeState) → FlooredStands config self.old m
             → FlooredStepsAs config m (input_of input.entry) self.old self.new result }
     {
         let mut out = Output::nothing();
@@ -155,7 +196,7 @@ impl<R: Record> Floored<R> {
 
     /// What it does on an input, as `step` says, in place of what came of another.
     pub fn step_into(&mut self, input: Input, out: &mut Output)
-        ensures { (config : ConfigParts) (m : NodeState) → NodeStands config self.old.node m
+        ensures { (config : ConfigParts) (m : NodeState) → FlooredStands config self.old m
             → FlooredStepsAs config m (input_of input.entry) self.old self.new out.new }
     {
         if self.passes_over(&input) {
@@ -165,13 +206,15 @@ impl<R: Record> Floored<R> {
         self.node.step_into(input, out);
     }
 
-    /// What it does on inputs of which none is below its floor, one after another as `step` says, with one append for all that they store,
-    /// as by `Node::step_all`. Refused as that is.
+    /// What it does, while it is up, on inputs of which none is below its floor, one after another as `step` says, with one append for all
+    /// that they store, as by `Node::step_all`. Refused as that is.
     pub fn step_all(&mut self, inputs: &[Input], outs: &mut [Output]) -> Result<(), RecordError>
         requires places { length outs.old ≡ length inputs.now }
         requires above { are_above self.old.floor (map input_of inputs.now) ≡ true }
-        ensures { (config : ConfigParts) (m : NodeState) → NodeStands config self.old.node m
+        ensures machine { (config : ConfigParts) (m : NodeState) → FlooredStands config self.old m
             → FlooredGroupsAs config m (map input_of inputs.now) self.old self.new outs.new result }
+        ensures node { (config : ConfigParts) (m : NodeState) → NodeStands config self.old.node m
+            → GroupsAs config m (map input_of inputs.now) self.old.node self.new.node outs.new result }
     {
         self.node.step_all(inputs, outs)
     }
@@ -192,8 +235,8 @@ impl<R: Tear> Floored<R> {
     pub fn arm(&mut self, n: usize)
         ensures held { self.new.node ≡ record self.old.node { held = armed_with (Some n) self.old.node.held } }
         ensures floor { self.new.floor ≡ self.old.floor }
-        ensures armed { (config : ConfigParts) (m : NodeState) → NodeStands config self.old.node m
-            → NodeStands config self.new.node (record m { tear = Some n }) }
+        ensures armed { (config : ConfigParts) (m : NodeState) → FlooredStands config self.old m
+            → FlooredStands config self.new (record m { tear = Some n }) }
     {
         self.node.arm(n);
     }

@@ -36,7 +36,7 @@ use Rattle.protocol.specs.Managers.{Branch, StoredVotes, stored_votes, idle_keys
 use Rattle.protocol.specs.Managers.{on_manager_message, on_manager_timeout}
 use Rattle.protocol.specs.Nodes.{Memory, Input, Asked, Received, ReceivedNoise, effect_of, is_message_inside, on_message}
 use Rattle.protocol.proofs.Lists.{IsIn-mapped, IsIn-append, filter_map_given, only_one}
-use Rattle.floors.specs.Places.{Place, is_below}
+use Rattle.xid.specs.Places.{Place, is_below}
 use Rattle.floors.specs.Nodes.{is_input_below}
 
 -- an input has its node store and send about a transaction

@@ -27,7 +27,7 @@ use Rattle.protocol.specs.Worlds.{World, StepResult, answer_result, if_found, da
 use Rattle.protocol.specs.Worlds.{outcome_result, at_node}
 use Rattle.protocol.proofs.Lists.{all_found, filter_keeps, filter_map_gives, IsIn-append, IsIn-map, IsIn-mapped}
 use Rattle.protocol.proofs.Manager.Views.{prepared_shows}
-use Rattle.floors.specs.Places.{Place, tx_place, is_lower, is_below, is_xid_below}
+use Rattle.xid.specs.Places.{Place, tx_place, is_lower, is_below, is_xid_below}
 use Rattle.floors.specs.Nodes.{Rise, floored_node_step, is_free_below, on_raise, on_least, may_replace}
 use Rattle.floors.specs.Worlds.{FlooredWorld, FlooredEvent, FlooredResult, Notice, Machine, Raise, Hear, Replace, at_floored_node}
 use Rattle.floors.specs.Worlds.{is_manager}
@@ -36,7 +36,8 @@ use Rattle.floors.specs.Worlds.{raise_result}
 use Rattle.floors.specs.Worlds.{raise_at, higher, told_with, least_told, hear_result, hear_at, replace_result, replace_at, floored_step}
 use Rattle.floors.specs.Worlds.{told_nodes}
 use Rattle.floors.specs.Runs.{IsFlooredReachable, Opening, After, floored_opening}
-use Rattle.floors.proofs.Order.{not_lower, not_lower_self, not_below_none, higher_bound, least_is}
+use Rattle.xid.proofs.Places.{not_lower, not_lower_self, not_below_none}
+use Rattle.floors.proofs.Order.{higher_bound, least_is}
 use Rattle.floors.proofs.Rising.{IsRisen, raise_is, least_rise, not_sunk, entry_by, entry_own, found_after}
 use Rattle.floors.proofs.Nodes.{IsAboveFloor, kept_above, input_above, step_above, restart_keeps, restart_forgets, compact_keeps}
 use Rattle.floors.proofs.Nodes.{compact_memory}

@@ -39,7 +39,7 @@ use Rattle.progress.proofs.Leading.{Comes, comes_step, leads_now, leads_on, lead
 use Rattle.progress.proofs.Ending.{IsAnnounced}
 use Rattle.progress.proofs.Announcing.{HasStatus, has_committed, has_aborted, commit_stores, commit_ends, abort_stores, abort_ends}
 use Rattle.progress.proofs.Deciding.{decides}
-use Rattle.floors.specs.Places.{Place, is_below}
+use Rattle.xid.specs.Places.{Place, is_below}
 use Rattle.floors.specs.Nodes.{is_passed_over, forgotten_answer}
 use Rattle.floors.specs.Worlds.{FlooredWorld}
 use Rattle.floors.specs.Runs.{floored_status, HasFlooredOutcome, HaveEndedAbove, IsAtHand, leader_and_unforgetting}

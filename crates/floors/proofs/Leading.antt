@@ -22,7 +22,7 @@ use Rattle.progress.specs.Runs.{happens_at, are_at, without_fault, Leads}
 use Rattle.progress.proofs.Mail.{Letter, letter_of, mail, marked_mail, datagram_in, IsDeliverable, deliverable, letters_of, letters}
 use Rattle.progress.proofs.Mail.{posted_mail}
 use Rattle.progress.proofs.Backed.{AllAmong, IsBacked}
-use Rattle.floors.specs.Places.{Place, is_below}
+use Rattle.xid.specs.Places.{Place, is_below}
 use Rattle.floors.specs.Nodes.{floored_node_step, is_input_below}
 use Rattle.floors.specs.Worlds.{FlooredWorld, at_floored_node}
 use Rattle.floors.specs.Runs.{happens_on, are_on, floored_next, floored_after, LeadsFloored}

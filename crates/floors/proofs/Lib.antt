@@ -11,8 +11,7 @@ pub mod Followers
 pub mod Ends
 pub mod Restricting
 pub mod Storing
-pub mod Playing
 pub mod Refusing
 pub mod Prepared
-pub mod Forgetting
 pub mod Snapshots
+pub mod Forgetting

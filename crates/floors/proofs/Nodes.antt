@@ -33,10 +33,11 @@ use Rattle.protocol.specs.Managers.{on_manager_message, on_call}
 use Rattle.protocol.specs.Nodes.{NodeState, Memory, empty_memory, Input, Asked, Received, ReceivedNoise, Fault, NoMemoryAt, RecordFails}
 use Rattle.protocol.specs.Nodes.{Outcome, accepts_input, effect_of, first_rows, is_message_inside, node_step, answer_outcome, down_answer}
 use Rattle.protocol.specs.Nodes.{effect_outcome, restart_outcome, compact_outcome, all_play}
+use Rattle.protocol.proofs.Kept.Facts.{other_abort, other_commit, other_vote}
 use Rattle.protocol.proofs.Lists.{IsIn-mapped, IsIn-push, filter_kept}
 use Rattle.protocol.proofs.Manager.Keys.{changed_name}
 use Rattle.safety.proofs.World.Outcomes.{step_is}
-use Rattle.floors.specs.Places.{Place, is_below, is_xid_below}
+use Rattle.xid.specs.Places.{Place, is_below, is_xid_below}
 use Rattle.floors.specs.Nodes.{floored_node_step, is_passed_over, is_input_below, forgotten_answer}
 use Rattle.floors.proofs.About.{IsOn, effect_about, on_above}
 
@@ -103,19 +104,6 @@ or_none false = refl
 any_same : (p : Fact → Bool) (facts : List Fact) (fact : Fact) → p fact ≡ false → list_any p (facts ++ fact ∷ []) ≡ list_any p facts
 any_same p facts fact e =
     list_any-append p facts (fact ∷ []) ∙ ap (λ (b : Bool). list_any p facts || (b || false)) e ∙ or_none (list_any p facts)
-
-pub other_vote : (tx : TxParts) (v : Vote) (fact : Fact) → tx_eq tx (fact_tx fact) ≡ false → is_vote_of tx v fact ≡ false
-other_vote tx votes.Prepared (stored.VotePrepared other keys) e = e
-other_vote tx votes.Aborted (stored.VoteAborted other) e = e
-other_vote tx v fact e = refl
-
-pub other_commit : (tx : TxParts) (fact : Fact) → tx_eq tx (fact_tx fact) ≡ false → is_commit_of tx fact ≡ false
-other_commit tx (stored.Committed other) e = e
-other_commit tx fact e = refl
-
-pub other_abort : (tx : TxParts) (fact : Fact) → tx_eq tx (fact_tx fact) ≡ false → is_abort_of tx fact ≡ false
-other_abort tx (stored.Aborted other) e = e
-other_abort tx fact e = refl
 
 -- a fact of another transaction leaves the view
 view_other : (facts : List Fact) (fact : Fact) (tx : TxParts) → tx_eq tx (fact_tx fact) ≡ false

@@ -8,7 +8,7 @@ use Rattle.safety.specs.CommitSteps.{committed, aborted}
 use Rattle.safety.specs.Runs.{views_in}
 use Rattle.protocol.specs.Effects.{Config, is_inside}
 use Rattle.progress.specs.Outcomes.{HasBallots}
-use Rattle.floors.specs.Places.{Place, is_below}
+use Rattle.xid.specs.Places.{Place, is_below}
 use Rattle.floors.specs.Worlds.{FlooredWorld}
 use Rattle.floors.specs.Runs.{IsFlooredReachable, IsAtHand, HaveEndedAbove, LeadsFloored, leader_quorum_and_unforgetting, floored_after}
 use Rattle.floors.specs.Runs.{floored_next}

@@ -10,7 +10,7 @@ use Rattle.safety.specs.Words.{NodeId, R, Action, Start, Put, Del, Get, End, End
 use Rattle.protocol.specs.Effects.{Config}
 use Rattle.protocol.specs.Nodes.{NodeState, Input, Asked, Fault, Outcome, accepts_input, accepts_request, node_step, answer_outcome}
 use Rattle.protocol.specs.Nodes.{down_answer}
-use Rattle.floors.specs.Places.{Place, is_xid_below}
+use Rattle.xid.specs.Places.{Place, is_xid_below}
 use Rattle.floors.specs.Nodes.{floored_node_step, forgotten_answer, is_passed_over, is_input_below, is_request_below}
 use Rattle.floors.proofs.Nodes.{floored_is, ended}
 

@@ -10,12 +10,12 @@ use Rattle.protocol.specs.Nodes.{NodeState, empty_memory, Fault, NoFault, NoMemo
 use Rattle.protocol.specs.Worlds.{node_at}
 use Rattle.ballot.specs.Greatest.{IsIn}
 use Rattle.protocol.proofs.Lists.{IsIn-after, IsIn-map}
-use Rattle.floors.specs.Places.{Place, is_lower}
+use Rattle.xid.specs.Places.{Place, is_lower}
 use Rattle.floors.specs.Nodes.{Rise, kept_rise, floor_after, risen, on_raise, on_least, is_free_below, may_replace, is_unused_above}
 use Rattle.floors.specs.Worlds.{FlooredWorld, FlooredEvent, FlooredResult, Notice, Machine, Raise, Hear, Replace, with_entry}
 use Rattle.floors.specs.Worlds.{is_node, is_manager, raise_result, raise_at, floored_if_found, told_with, least_told, hear_result, hear_at}
 use Rattle.floors.specs.Worlds.{replace_result, replace_at, floored_step, floored_answer, told_nodes, notices_of, with_rise}
-use Rattle.floors.proofs.Order.{not_lower_self, not_back, not_below_none}
+use Rattle.xid.proofs.Places.{not_lower_self, not_back, not_below_none}
 use Rattle.floors.proofs.Places.{node_is, self_node}
 use Rattle.floors.proofs.Nodes.{compact_keeps, compact_memory}
 

@@ -9,9 +9,9 @@ use Rattle.stable_record.specs.declared.fact.FactKind.TheVariants as stored
 use Rattle.safety.specs.Words.{Fact, Row}
 use Rattle.protocol.specs.Facts.{Bound, branch_bound_by}
 use Rattle.protocol.specs.Tables.{put_row, with_writes, keys_voted, commit_of, table}
-use Rattle.floors.specs.Places.{Place, is_below}
-use Rattle.floors.specs.Nodes.{is_kept, kept_facts}
-use Rattle.floors.proofs.Restricting.{apart, bound_tx}
+use Rattle.xid.specs.Places.{Place, is_below}
+use Rattle.protocol.specs.Kept.{is_kept, kept_facts}
+use Rattle.protocol.proofs.Kept.Facts.{apart, bound_tx}
 
 -- ---- one more at the end
 

@@ -17,7 +17,7 @@ use Rattle.protocol.specs.Nodes.{restart_outcome, compact_outcome}
 use Rattle.protocol.specs.Worlds.{World, Datagram, StepResult, answer_result, if_found, datagram_at, with_mark, node_at, set_node}
 use Rattle.protocol.specs.Worlds.{datagrams_of}
 use Rattle.protocol.specs.Worlds.{outcome_result, at_node, dispatch, world_step, world_after}
-use Rattle.floors.specs.Places.{Place, is_lower}
+use Rattle.xid.specs.Places.{Place, is_lower}
 use Rattle.floors.specs.Nodes.{floored_node_step, is_passed_over, forgotten_answer, is_free_below, risen, on_raise, on_least, kept_rise}
 use Rattle.protocol.specs.Nodes.{ReceivedNoise, accepts_input}
 use Rattle.floors.specs.Nodes.{is_input_below, may_replace}
@@ -28,7 +28,7 @@ use Rattle.floors.specs.Worlds.{replace_at, replace_result, floored_answer, with
 use Rattle.floors.specs.Worlds.{floored_step}
 use Rattle.floors.specs.Runs.{passes_over, is_lost, machine_events, does_raise, does_rise, is_put_in, receiver_of, events_in_machine}
 use Rattle.floors.specs.Runs.{with_fault}
-use Rattle.floors.proofs.Order.{not_below_none}
+use Rattle.xid.proofs.Places.{not_below_none}
 use Rattle.floors.proofs.Places.{put_same, same_world, still}
 use Rattle.floors.proofs.Nodes.{floored_is, restart_silent, compact_silent}
 

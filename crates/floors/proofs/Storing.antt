@@ -17,9 +17,9 @@ use Rattle.protocol.specs.Worlds.{World, node_at, set_node}
 use Rattle.protocol.proofs.Lists.{IsIn-append}
 use Rattle.safety.proofs.World.Growth.{same_node}
 use Rattle.safety.proofs.World.NodePlaces.{node_there, node_elsewhere}
-use Rattle.floors.specs.Places.{Place, is_lower, is_below}
+use Rattle.xid.specs.Places.{Place, is_lower, is_below}
 use Rattle.floors.specs.Nodes.{floored_node_step, is_input_below, on_raise, on_least, may_replace, is_unused_above}
-use Rattle.floors.specs.Nodes.{is_kept, kept_facts}
+use Rattle.protocol.specs.Kept.{is_kept, kept_facts}
 use Rattle.floors.specs.Runs.{is_put_in}
 use Rattle.floors.specs.Worlds.{FlooredWorld, FlooredEvent, FlooredResult, Notice, Machine, Raise, Hear, Replace, is_manager}
 use Rattle.floors.specs.Worlds.{raise_result, raise_at, told_with, least_told, hear_result, hear_at, replace_result, replace_at}

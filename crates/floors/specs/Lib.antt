@@ -1,4 +1,3 @@
-pub mod Places
 pub mod Nodes
 pub mod Worlds
 pub mod Runs

@@ -9,10 +9,10 @@ use Rattle.protocol.specs.declared.requests.Request.{Request}
 use Rattle.protocol.specs.declared.requests.Request.TheVariants as requests
 use Rattle.safety.specs.Words.{Fact, NodeId, Start, Answer, Done, Code, Refused}
 use Rattle.protocol.specs.Effects.{Config}
-use Rattle.protocol.specs.Facts.{bound_branches}
+use Rattle.protocol.specs.Kept.{are_free_below}
 use Rattle.protocol.specs.Nodes.{NodeState, Input, Asked, Received, ReceivedNoise, Fault, NoMemoryAt, RecordFails, Outcome}
 use Rattle.protocol.specs.Nodes.{accepts_input, effect_of, answer_outcome, effect_outcome, down_answer, compact_outcome}
-use Rattle.floors.specs.Places.{Place, is_lower, is_below, is_xid_below}
+use Rattle.xid.specs.Places.{Place, is_lower, is_below, is_xid_below}
 
 -- ---- inputs
 
@@ -56,9 +56,7 @@ is_passed_over who floor node input = accepts_input who input && node.up && is_i
 
 -- whether no branch of a resource manager is below a place, neither a prepared one nor one that is kept in memory
 abbrev pub is_free_below : Place → NodeState → Bool
-is_free_below place node =
-    list_all (λ bound. not (is_below (Some place) bound.tx)) (bound_branches node.facts)
-    && list_all (λ branch. not (is_xid_below (Some place) branch.xid)) node.memory.branches
+is_free_below place node = are_free_below place node.facts node.memory.branches
 
 -- whether a node has stored nothing about any name at or above a place
 abbrev pub is_unused_above : Place → NodeState → Bool
@@ -104,13 +102,3 @@ on_least floor node (Some place) fault =
 -- lost one has stored nothing about any name at or above it
 abbrev pub may_replace : Option Place → NodeState → Place → Bool
 may_replace floor node place = not (is_lower (Some place) floor) && is_unused_above place node
-
--- ---- what a node keeps
-
--- whether a fact is about a name at or above a floor
-abbrev pub is_kept : Option Place → Fact → Bool
-is_kept floor fact = not (is_below floor (fact_tx fact))
-
--- the facts about names at or above a floor
-abbrev pub kept_facts : Option Place → List Fact → List Fact
-kept_facts floor facts = filter (is_kept floor) facts

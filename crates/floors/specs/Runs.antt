@@ -11,7 +11,7 @@ use Rattle.safety.specs.Runs.{views_in}
 use Rattle.protocol.specs.Effects.{Config}
 use Rattle.protocol.specs.Nodes.{Input, Asked, Received, Fault, NoFault}
 use Rattle.protocol.specs.Worlds.{World, Datagram, Occurrence, opening, datagram_at, node_at}
-use Rattle.floors.specs.Places.{Place, is_lower, is_below}
+use Rattle.xid.specs.Places.{Place, is_lower, is_below}
 use Rattle.floors.specs.Nodes.{is_passed_over, is_free_below, may_replace}
 use Rattle.floors.specs.Worlds.{FlooredWorld, FlooredEvent, Notice, Machine, Raise, Hear, Replace, floored_step, is_manager, least_told}
 use Rattle.floors.specs.Worlds.{told_with, nothing_told}

@@ -7,7 +7,7 @@ use Rattle.protocol.specs.Effects.{Config}
 use Rattle.protocol.specs.Nodes.{NodeState, Input, Asked, Received, Fault, NoMemoryBefore, restart_outcome}
 use Rattle.protocol.specs.Worlds.{World, Datagram, StepResult, if_found, datagram_at, with_mark, node_at, set_node}
 use Rattle.protocol.specs.Worlds.{outcome_result, dispatch}
-use Rattle.floors.specs.Places.{Place, is_lower}
+use Rattle.xid.specs.Places.{Place, is_lower}
 use Rattle.floors.specs.Nodes.{Rise, floored_node_step, on_raise, on_least, may_replace}
 
 -- ---- worlds

@@ -14,7 +14,7 @@ ghost use Rattle.protocol.specs.Effects.{Config, is_inside};
 ghost use Rattle.protocol.specs.Facts.{HasVote};
 ghost use Rattle.progress.specs.Runs.{leader_and_quorum};
 ghost use Rattle.progress.specs.Outcomes.{HasBallots, IsAccepted};
-ghost use Rattle.floors.specs.Places.{is_below};
+ghost use Rattle.xid.specs.Places.{is_below};
 ghost use Rattle.floors.specs.Worlds.{FlooredWorld};
 ghost use Rattle.floors.specs.Runs.{HasFlooredOutcome, HaveEndedAbove, IsAtHand, IsFlooredReachable, LeadsFloored, floored_status};
 ghost use Rattle.floors.specs.Runs.{leader_and_unforgetting, leader_quorum_and_unforgetting};

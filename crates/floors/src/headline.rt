@@ -13,7 +13,7 @@ ghost use Rattle.protocol.specs.Effects.{Config};
 ghost use Rattle.protocol.specs.Managers.{Branch};
 ghost use Rattle.protocol.specs.Nodes.{NodeState, Input, Asked, Fault, NoFault, accepts_request, node_step, answer_outcome};
 ghost use Rattle.protocol.specs.Worlds.{node_at};
-ghost use Rattle.floors.specs.Places.{Place, is_below, is_lower, is_xid_below};
+ghost use Rattle.xid.specs.Places.{Place, is_below, is_lower, is_xid_below};
 ghost use Rattle.xid.specs.declared.refusals.Refusal.TheVariants.{Forgotten};
 ghost use Rattle.floors.specs.Nodes.{floored_node_step, forgotten_answer, is_free_below, is_input_below, is_passed_over, is_request_below};
 ghost use Rattle.floors.specs.Worlds.{FlooredWorld, FlooredEvent, Notice, Raise, Hear, floored_step, is_manager, least_told, told_nodes};

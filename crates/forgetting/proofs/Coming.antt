@@ -1,14 +1,15 @@
 -- What comes of a node by few facts and by all.
-use Rattle.std.proofs.Common.{◌≡◌, ◌∙◌, ℕ, Bool, true, false, not, ◌==◌, if◌then◌else◌, nat_le, List, [], ◌∷◌, ◌++◌, Option, Some, None}
+use Rattle.std.proofs.Common.{◌≡◌, ◌∙◌, ℕ, Bool, true, false, not, ◌&&◌, ◌==◌, if◌then◌else◌, nat_le, List, [], ◌∷◌, ◌++◌}
+use Rattle.std.proofs.Common.{Option, Some, None}
 use Rattle.std.proofs.Common.{refl, sym, ap, subst, arith, append-nil, append_assoc}
-use Rattle.std.specs.Prelude.{IfSome, length}
+use Rattle.std.specs.Prelude.{IfSome, slice_get, length}
 use Rattle.std.specs.Option.{option_and_then}
 use Rattle.std.proofs.lemmas.Bool.{and_parts, cond-true}
 use Rattle.std.proofs.lemmas.Option.{slice_get_past}
 use Rattle.xid.specs.declared.refusals.Refusal.TheVariants.{NoSuch, Damaged}
 use Rattle.stable_record.specs.Facts.{fact_tx}
 use Rattle.stable_record.specs.Frames.{frame_length}
-use Rattle.safety.specs.Words.{Fact, NodeId, A, L, R, Change, Done, Refused}
+use Rattle.safety.specs.Words.{Fact, NodeId, A, L, R, View, Change, Done, Refused, Outgoing, Answer}
 use Rattle.protocol.specs.declared.requests.Request.TheVariants as requests
 use Rattle.protocol.specs.Effects.{Config, Effect}
 use Rattle.protocol.specs.Facts.{view, with_fact}
@@ -17,13 +18,14 @@ use Rattle.protocol.specs.Nodes.{Outcome, accepts_input, answer_outcome, down_no
 use Rattle.protocol.specs.Nodes.{effect_outcome, effect_of, in_memory, node_step, plays, all_play, restart_outcome, compact_outcome}
 use Rattle.protocol.specs.Worlds.{change_of, view_number}
 use Rattle.protocol.proofs.Manager.Played.{all_play_then}
-use Rattle.floors.specs.Places.{Place, is_below}
+use Rattle.xid.specs.Places.{Place, is_below}
 use Rattle.floors.specs.Nodes.{is_input_below, floored_node_step, forgotten_answer}
-use Rattle.floors.specs.Kept.{kept_memory}
+use Rattle.protocol.specs.Kept.{kept_memory}
 use Rattle.floors.proofs.About.{IsOn, effect_about, on_above}
 use Rattle.floors.proofs.Nodes.{above_is}
-use Rattle.forgetting.specs.Left.{rows_of}
+use Rattle.resource_manager.specs.Left.{rows_of}
 use Rattle.forgetting.specs.Above.{CameAlike, Says, StandsAbove}
+use Rattle.resource_manager.specs.Left.{AreAlike}
 use Rattle.forgetting.proofs.Effects.{effect_above}
 use Rattle.forgetting.proofs.Growing.{plays_alike, rows_more, says_more}
 use Rattle.forgetting.proofs.Lists.{last_is}

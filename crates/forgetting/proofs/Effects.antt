@@ -20,39 +20,15 @@ use Rattle.protocol.specs.Nodes.{Memory, Input, Asked, Received, ReceivedNoise, 
 use Rattle.protocol.specs.Nodes.{is_acceptor_inside, is_form_of, is_message_inside, first_rows}
 use Rattle.protocol.specs.Tables.{table}
 use Rattle.resource_manager.specs.Courses.{vote_among, view_among}
-use Rattle.floors.specs.Places.{Place, is_below, is_xid_below}
+use Rattle.xid.specs.Places.{Place, is_below, is_xid_below}
+use Rattle.protocol.proofs.Local.{acceptor_local, leader_local, manager_local, votes_on}
 use Rattle.floors.specs.Nodes.{is_input_below}
-use Rattle.floors.specs.Kept.{kept_memory}
+use Rattle.protocol.specs.Kept.{kept_memory}
 use Rattle.floors.proofs.Forgetting.{leader_forgets}
-use Rattle.forgetting.specs.Left.{rows_of}
-use Rattle.forgetting.specs.Above.{ManagerSays, Says, AreAlike}
-use Rattle.forgetting.proofs.Saying.{votes_on, votes_at, votes_same}
-
--- ---- rules look at their own transaction alone
-
-acceptor_local : (config : Config) (a : ℕ) (slots : Slots) (m : Kind)
-    → on_acceptor_message config a slots m ≡ on_acceptor_message config a (λ tx. slots (message_tx m)) m
-acceptor_local config a slots (kinds.P1a tx i b) = refl
-acceptor_local config a slots (kinds.B1a tx b) = refl
-acceptor_local config a slots (kinds.P2a tx i b v) = refl
-acceptor_local config a slots m = refl
-
-leader_local : (config : Config) (ballots : StoredBallots) (memory : LeaderMemory) (m : Kind)
-    → on_leader_message config ballots memory m ≡ on_leader_message config (λ tx. ballots (message_tx m)) memory m
-leader_local config ballots memory (kinds.P1b tx i b report a) = refl
-leader_local config ballots memory (kinds.B1b tx b a reports) = refl
-leader_local config ballots memory (kinds.P2b tx i b v a) = refl
-leader_local config ballots memory (kinds.B2b tx a accepts) = refl
-leader_local config ballots memory (kinds.Ask tx rm) = refl
-leader_local config ballots memory m = refl
-
-manager_local : (rm : ℕ) (all : StoredVotes) (branches : List Branch) (name : Option XidParts) (m : Kind)
-    → on_manager_message rm all branches name m ≡ on_manager_message rm (votes_at all (message_tx m) name) branches name m
-manager_local rm all branches (Some x) (kinds.Prepare tx) = refl
-manager_local rm all branches (Some x) (kinds.Commit tx) = refl
-manager_local rm all branches (Some x) (kinds.Abort tx) = refl
-manager_local rm all branches (Some x) m = refl
-manager_local rm all branches None m = refl
+use Rattle.resource_manager.specs.Left.{rows_of}
+use Rattle.forgetting.specs.Above.{ManagerSays, Says}
+use Rattle.resource_manager.specs.Left.{AreAlike}
+use Rattle.forgetting.proofs.Saying.{votes_same}
 
 -- ---- by few facts and by all, with the same memory
 

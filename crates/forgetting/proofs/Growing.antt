@@ -1,5 +1,5 @@
 -- What few facts say of names that aren't below a floor they go on to say with one more fact of such a name.
-use Rattle.std.proofs.Common.{◌≡◌, ◌∙◌, ℕ, max, Bool, true, false, not, ◌&&◌, ◌||◌, List, [], ◌∷◌, ◌++◌, Option, Some, None}
+use Rattle.std.proofs.Common.{◌≡◌, ◌∙◌, inl, inr, ℕ, max, Bool, true, false, not, ◌&&◌, ◌||◌, List, [], ◌∷◌, ◌++◌, Option, Some, None}
 use Rattle.std.proofs.Common.{refl, sym, ap, subst, append-nil, is_none}
 use Rattle.std.specs.Prelude.{filter, filter_map}
 use Rattle.std.specs.List.{list_any, last_or, cons_option}
@@ -31,15 +31,17 @@ use Rattle.protocol.proofs.Manager.Apart.{bound_is, bound_stored, stored_bound}
 use Rattle.protocol.proofs.Manager.Keys.{names_name}
 use Rattle.protocol.proofs.Manager.Played.{voted_named}
 use Rattle.protocol.proofs.Manager.Views.{prepared_before, prepared_shows}
+use Rattle.protocol.proofs.Local.{acceptor_play, leader_play}
 use Rattle.progress.proofs.Slots.{greatest-append}
 use Rattle.resource_manager.specs.Courses.{Stored, stored_in, view_among, vote_among, is_ended_among}
 use Rattle.resource_manager.proofs.Kept.{commits_voted}
 use Rattle.resource_manager.proofs.More.{keys_stay, stored_other, table_more}
 use Rattle.resource_manager.proofs.Pieces.{either, stored_append}
 use Rattle.resource_manager.proofs.Standing.{keys_of_vote}
-use Rattle.floors.specs.Places.{Place, is_below}
-use Rattle.forgetting.specs.Left.{rows_of}
-use Rattle.forgetting.specs.Above.{ManagerSays, Says, AreAlike}
+use Rattle.xid.specs.Places.{Place, is_below, is_xid_below}
+use Rattle.resource_manager.specs.Left.{rows_of}
+use Rattle.forgetting.specs.Above.{ManagerSays, Says}
+use Rattle.resource_manager.specs.Left.{AreAlike}
 use Rattle.forgetting.proofs.Lists.{filter_among, filter_under, last_after}
 use Rattle.forgetting.proofs.Saying.{view_same, name_same}
 
@@ -225,27 +227,16 @@ says_more (L l) floor few all says fact above = λ tx high.
     ∙ sym (last_more tx fact all)
 says_more (R rm) floor few all says fact above = manager_more rm floor few all says fact above
 
-acceptor_local : (slots : Slots) (f : Fact) → plays_at_acceptor slots f ≡ plays_at_acceptor (λ tx. slots (fact_tx f)) f
-acceptor_local slots (stored.Promise tx i b) = refl
-acceptor_local slots (stored.Accept tx i b v) = refl
-acceptor_local slots (stored.PromiseAll tx b) = refl
-acceptor_local slots f = refl
-
-leader_local : (leaders l : ℕ) (ballots : StoredBallots) (f : Fact)
-    → plays_at_leader leaders l ballots f ≡ plays_at_leader leaders l (λ tx. ballots (fact_tx f)) f
-leader_local leaders l ballots (stored.Ballot tx b) = refl
-leader_local leaders l ballots f = refl
-
 -- the same facts play
 pub plays_alike : (from config : Config) (who : NodeId) (floor : Option Place) (few all : List Fact) → AreAlike who from config
     → Says who floor few all → (fact : Fact) → is_below floor (fact_tx fact) ≡ false → plays from who few fact ≡ plays config who all fact
 plays_alike from config (A a) floor few all alike says fact above =
-    acceptor_local (slot few) fact ∙ ap (λ (s : ℕ → Slot). plays_at_acceptor (λ tx. s) fact) (says (fact_tx fact) above)
-    ∙ sym (acceptor_local (slot all) fact)
+    acceptor_play (slot few) fact ∙ ap (λ (s : ℕ → Slot). plays_at_acceptor (λ tx. s) fact) (says (fact_tx fact) above)
+    ∙ sym (acceptor_play (slot all) fact)
 plays_alike from config (L l) floor few all alike says fact above =
-    ap (λ (c : Config). plays c (L l) few fact) alike ∙ leader_local config.leaders l (last_ballot few) fact
+    ap (λ (c : Config). plays c (L l) few fact) alike ∙ leader_play config.leaders l (last_ballot few) fact
     ∙ ap (λ (b : ℕ). plays_at_leader config.leaders l (λ tx. b) fact) (says (fact_tx fact) above)
-    ∙ sym (leader_local config.leaders l (last_ballot all) fact)
+    ∙ sym (leader_play config.leaders l (last_ballot all) fact)
 plays_alike from config (R rm) floor few all alike says fact above = manager_plays rm floor few all says fact above
 
 -- and the rows stay the same, where the fact plays

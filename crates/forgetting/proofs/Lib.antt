@@ -3,5 +3,4 @@ pub mod Saying
 pub mod Effects
 pub mod Growing
 pub mod Coming
-pub mod Leaving
 pub mod Left

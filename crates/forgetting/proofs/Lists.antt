@@ -30,14 +30,6 @@ module _ {X : Type 0} where
       by false true e f weaker rest = absurd (both_ways (p x) e (weaker f))
       by false false e f weaker rest = ap (λ (t : Bool). if t then x ∷ filter q xs else filter q xs) f ∙ rest
 
-  -- what fails a filter isn't found
-  pub any_filtered : (p q : X → Bool) (xs : List X) → ((x : X) → p x ≡ false → q x ≡ false) → list_any q (filter p xs) ≡ list_any q xs
-  any_filtered p q [] none = refl
-  any_filtered p q (x ∷ xs) none =
-      cond_both (p x) (x ∷ filter p xs) (filter p xs) (λ (ys : List X). list_any q ys ≡ (q x || list_any q xs))
-      (λ kept. ap (λ (b : Bool). q x || b) (any_filtered p q xs none))
-      (λ dropped. any_filtered p q xs none ∙ sym (ap (λ (b : Bool). b || list_any q xs) (none x dropped)))
-
   -- the last of some
   pub last_is : (before : List X) (x : X) → slice_get (before ++ x ∷ []) (length before) ≡ Some x
   last_is [] x = refl

@@ -7,23 +7,11 @@ use Rattle.xid.specs.Transactions.{TxParts, BranchParts, is_at, xid_of, xid_at}
 use Rattle.xid.specs.declared.transaction.Vote.{Vote}
 use Rattle.safety.specs.Words.{Fact, View}
 use Rattle.protocol.specs.Facts.{Bound, is_spent, view}
-use Rattle.protocol.specs.Managers.{StoredVotes, stored_votes}
+use Rattle.protocol.specs.Managers.{stored_votes}
+use Rattle.protocol.proofs.Local.{votes_at, votes_on}
 use Rattle.resource_manager.specs.Courses.{vote_among, is_ended_among, view_among}
-use Rattle.floors.specs.Places.{Place, is_below}
+use Rattle.xid.specs.Places.{Place, is_below}
 use Rattle.forgetting.specs.Above.{ManagerSays}
-
--- what is stored of one transaction and one name
-abbrev pub votes_on : Option Vote → Bool → View → Bool → List Bound → StoredVotes
-votes_on vote ended shown spent bound = record {
-  vote = λ tx. vote;
-  is_ended = λ tx. ended;
-  view = λ tx. shown;
-  is_spent = λ x. spent;
-  bound = bound;
-}
-
-abbrev pub votes_at : StoredVotes → TxParts → Option XidParts → StoredVotes
-votes_at all tx name = votes_on (all.vote tx) (all.is_ended tx) (all.view tx) (option_map_or all.is_spent name false) all.bound
 
 module _ (rm : ℕ) (floor : Option Place) (few all : List Fact) (says : ManagerSays rm floor few all) (tx : TxParts)
     (above : is_below floor tx ≡ false) where

@@ -8,9 +8,9 @@ use Rattle.protocol.specs.Facts.{slot, last_ballot, is_spent, bound_branches}
 use Rattle.protocol.specs.Nodes.{NodeState, Outcome, all_play}
 use Rattle.protocol.specs.Worlds.{change_of}
 use Rattle.resource_manager.specs.Courses.{stored_in}
-use Rattle.floors.specs.Places.{Place, is_below, is_xid_below}
-use Rattle.floors.specs.Kept.{kept_memory}
-use Rattle.forgetting.specs.Left.{rows_of}
+use Rattle.xid.specs.Places.{Place, is_below, is_xid_below}
+use Rattle.protocol.specs.Kept.{kept_memory}
+use Rattle.resource_manager.specs.Left.{AreAlike, rows_of}
 
 -- a resource manager's few facts say what all say: of each transaction that isn't below a floor the same is stored, of the names that
 -- aren't the same are spent, and the same branches are prepared
@@ -24,11 +24,6 @@ abbrev pub Says : NodeId → Option Place → (few all : List Fact) → Type 0
 Says (A a) floor few all = (tx : TxParts) → is_below floor tx ≡ false → slot few tx ≡ slot all tx
 Says (L l) floor few all = (tx : TxParts) → is_below floor tx ≡ false → last_ballot few tx ≡ last_ballot all tx
 Says (R rm) floor few all = ManagerSays rm floor few all
-
--- clusters are alike to a node: they are the same; to a resource manager their tables may begin with other rows
-abbrev pub AreAlike : NodeId → (from config : Config) → Type 0
-AreAlike (R rm) from config = from ≡ record config { tables = from.tables }
-AreAlike who from config = from ≡ config
 
 -- a node that has forgotten what is below a floor, in a cluster that is alike, and one that has forgotten nothing: they are up or down
 -- together, have the same tear armed, the same rows and, but for what is below, the same in memory; and their facts play

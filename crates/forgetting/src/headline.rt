@@ -3,10 +3,11 @@ ghost use Rattle.std.specs.Prelude.{◌≡◌, ℕ, true, false, [], Option, Som
 ghost use Rattle.safety.specs.Words.{NodeId, R};
 ghost use Rattle.protocol.specs.Effects.{Config};
 ghost use Rattle.protocol.specs.Nodes.{NodeState, Input, Fault, all_play, restart_outcome, compact_outcome};
-ghost use Rattle.floors.specs.Places.{Place, is_lower};
+ghost use Rattle.xid.specs.Places.{Place, is_lower};
 ghost use Rattle.floors.specs.Nodes.{floored_node_step, is_free_below};
-ghost use Rattle.forgetting.specs.Left.{HasFirstRows, left_node, rows_of};
-ghost use Rattle.forgetting.specs.Above.{AreAlike, CameAlike, StandsAbove};
+ghost use Rattle.resource_manager.specs.Left.{HasFirstRows, left_node, rows_of};
+ghost use Rattle.forgetting.specs.Above.{CameAlike, StandsAbove};
+ghost use Rattle.resource_manager.specs.Left.{AreAlike};
 
 /// Without a floor a node whose facts play stands above it for itself.
 pub fn nothing_is_forgotten()

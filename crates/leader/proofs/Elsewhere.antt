@@ -216,7 +216,7 @@ pub one_proposed : (tx : TxParts) (i b : ℕ) (m : Kind) (ms : List Kind)
 one_proposed tx i b (P2a other j c v) ms = refl
 one_proposed tx i b m ms = refl
 
-no_proposal : (tx : TxParts) (i b : ℕ) (m : Kind) → tx_eq tx (message_tx m) ≡ false → is_proposal_of tx i b m ≡ false
+pub no_proposal : (tx : TxParts) (i b : ℕ) (m : Kind) → tx_eq tx (message_tx m) ≡ false → is_proposal_of tx i b m ≡ false
 no_proposal tx i b (P2a other j c v) h = ap (λ t. (b == c) && ((i == j) && t)) h ∙ and_false_2 (b == c) (i == j)
 no_proposal tx i b m h = refl
 

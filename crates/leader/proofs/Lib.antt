@@ -15,3 +15,5 @@ pub mod Leading
 pub mod Storing
 pub mod Compacting
 pub mod Frames
+pub mod Left
+pub mod Above

@@ -1,6 +1,7 @@
 -- The courses of several transactions, each at the number of its transaction.
-use Rattle.std.specs.Prelude.{◌≡◌, ℕ, ◌<◌, ◌&&◌, Bool, nat_lt, if◌then◌else◌, List, length, Option, Some, None}
+use Rattle.std.specs.Prelude.{◌≡◌, ℕ, ◌<◌, ◌&&◌, Bool, not, nat_lt, if◌then◌else◌, List, filter, length, Option, Some, None}
 use Rattle.std.specs.List.{slice_index_or}
+use Rattle.xid.specs.Places.{Place, is_below}
 use Rattle.xid.specs.Transactions.{TxParts, tx_eq}
 use Rattle.transactions.specs.Seen.{place_in, seen_with}
 use Rattle.leader.specs.Courses.{CourseParts, fresh}
@@ -47,3 +48,8 @@ pub record IsChanged (old new : CoursesParts) (tx : TxParts) (c : CourseParts) :
 pub record IsKept (old new : CoursesParts) : Type 0 where
   pub begun_is : new.begun ≡ old.begun
   pub courses_are : (other : TxParts) → course_in new other ≡ course_in old other
+
+-- the courses that are left are those of transactions that aren't below a floor, and those that begin keep their order
+pub record IsLeft (place : Place) (old left : CoursesParts) : Type 0 where
+  pub courses_are : (tx : TxParts) → course_in left tx ≡ (if is_below (Some place) tx then fresh tx else course_in old tx)
+  pub begun_are : left.begun ≡ filter (λ tx. not (is_below (Some place) tx)) old.begun

@@ -1,15 +1,18 @@
-ghost use Rattle.std.specs.Prelude.{◌≡◌, ◌<◌, ◌≤◌, true, false, [], length, map, slice_get, Some, IfOk, OnOk, IfErr, OnErr};
-ghost use Rattle.std.specs.List.{IsDistinct};
+ghost use Rattle.std.specs.Prelude.{◌≡◌, ◌<◌, ◌≤◌, true, false, not, if◌then◌else◌, [], ◌∷◌, ◌++◌, length, map, filter, slice_get, Some};
+ghost use Rattle.std.specs.Prelude.{IfOk, OnOk, IfErr, OnErr};
+ghost use Rattle.std.specs.List.{IsDistinct, slice_index_or};
 ghost use Rattle.xid.specs.Limits.{most_acceptors, most_branches};
 ghost use Rattle.xid.specs.declared.refusals.Refusal.TheVariants.{NoMemory};
-ghost use Rattle.xid.specs.Transactions.{tx_eq};
+ghost use Rattle.xid.specs.Places.{is_below};
+ghost use Rattle.xid.specs.Transactions.{TxParts, tx_eq};
 ghost use Rattle.stable_record.specs.declared.entry.EntryKind.TheVariants as kinds;
 ghost use Rattle.stable_record.specs.Written.{AreWritten};
-ghost use Rattle.transactions.specs.Seen.{place_in};
+ghost use Rattle.transactions.specs.Seen.{AreInside, at_places, place_in};
 ghost use Rattle.protocol.specs.Leaders.{is_final};
-ghost use Rattle.leader.specs.Courses.{after_meeting, after_ballot, after_beginning, after_1b, proposals_after_1b, after_2b};
+ghost use Rattle.leader.specs.Courses.{fresh, after_meeting, after_ballot, after_beginning, after_1b, proposals_after_1b, after_2b};
 ghost use Rattle.leader.specs.Courses.{status_after_2b, status_in};
 ghost use Rattle.leader.specs.Places.{course_in, is_placed_in, is_ready_in, with_beginning, with_room, IsPlaceOf, IsChanged, IsKept};
+ghost use Rattle.leader.specs.Places.{IsLeft};
 ghost use Rattle.leader.specs.Compaction.{compacted};
 
 use crate::compaction::facts_of;
@@ -23,7 +26,7 @@ use std::alloc::Global;
 use std::marker::Model;
 use transactions::{Order, Transactions};
 use wire::{InstanceAccept, InstanceReport, SpelledTx};
-use xid::{Ballot, Refusal, Tx};
+use xid::{Ballot, Floor, Refusal, Tx};
 
 /// The transactions that a leader has to do with, in the order of first sight, and the course of each. A transaction's place is its
 /// number in that order, and stays.
@@ -347,5 +350,110 @@ impl Courses {
         ensures err { IfErr result (λ e. e ≡ NoMemory) }
     {
         frames_of(self.alloc, self)
+    }
+
+    /// Puts a transaction that has no place after the others, with its course. `NoMemory` is the only refusal.
+    fn put(&mut self, tx: &SpelledTx<'_>, course: Course) -> Result<(), Refusal>
+        requires { place_in self.old.transactions tx.now ≡ length self.old.transactions }
+        ensures now { OnOk result (self.new ≡ record self.old {
+          transactions = self.old.transactions ++ tx.now ∷ [];
+          rows = self.old.rows ++ course ∷ [];
+        }) }
+        ensures err { IfErr result (λ e. e ≡ NoMemory) }
+    {
+        self.rows.reserve(1)?;
+        let place = self.transactions.insert_view(tx)?;
+        self.rows.push_reserved(course);
+        self.near = place;
+        Ok(())
+    }
+
+    /// Puts transactions that aren't below a floor, in their order, each with its course. `NoMemory` is the only refusal.
+    fn put_above(
+        &mut self,
+        transactions: &Transactions,
+        rows: Vec<Course>,
+        floor: &Floor,
+    ) -> Result<(), Refusal>
+        requires empty { (self.old.transactions ≡ []) × (self.old.rows ≡ []) }
+        requires each { length rows.items ≡ length transactions.now }
+        ensures courses { OnOk result ((tx : TxParts) → course_in self.new tx ≡ (if is_below (Some floor.now) tx then fresh tx
+            else slice_index_or rows.items (place_in transactions.now tx) (fresh tx))) }
+        ensures begun { OnOk result (self.new.begun ≡ self.old.begun) }
+        ensures err { IfErr result (λ e. e ≡ NoMemory) }
+    {
+        // no two of them are the same
+        let _ = transactions.len();
+        let mut place = 0;
+        for course in rows {
+            let Some(tx) = transactions.view(place) else {
+                unreachable!();
+            };
+            place += 1;
+            if tx.is_below(floor) {
+                continue;
+            }
+            self.put(&tx, course)?;
+        }
+        Ok(())
+    }
+
+    /// Puts the transactions of an order that aren't below a floor among those that begin. `NoMemory` is the only refusal.
+    fn begin_above(
+        &mut self,
+        transactions: &Transactions,
+        begun: &Order,
+        floor: &Floor,
+    ) -> Result<(), Refusal>
+        requires empty { self.old.begun ≡ [] }
+        requires inside { AreInside (length transactions.now) begun.now.numbers }
+        ensures courses { OnOk result ((tx : TxParts) → course_in self.new tx ≡ course_in self.old tx) }
+        ensures begun { OnOk result (self.new.begun
+            ≡ filter (λ tx. not (is_below (Some floor.now) tx)) (at_places transactions.now begun.now.numbers)) }
+        ensures err { IfErr result (λ e. e ≡ NoMemory) }
+    {
+        // no two of them are the same
+        let _ = transactions.len();
+        for i in 0..begun.len() {
+            let Some(tx) = view_at(transactions, begun, i) else {
+                unreachable!();
+            };
+            if tx.is_below(floor) {
+                continue;
+            }
+            let place = self.make_place(&tx)?;
+            self.list(&tx, place)?;
+        }
+        Ok(())
+    }
+
+    /// The courses of those that aren't below a floor, and of these those of which a ballot is stored in their order. Refused: `NoMemory`
+    /// alone.
+    pub fn above(self, key: HashKey, floor: &Floor) -> Result<Courses, Refusal>
+        ensures ok { IfOk result (λ left. IsLeft floor.now self left) }
+        ensures err { IfErr result (λ e. e ≡ NoMemory) }
+    {
+        let Courses {
+            alloc,
+            transactions,
+            rows,
+            begun,
+            near: _,
+        } = self;
+        let mut left = Courses::new(alloc, key);
+        left.put_above(&transactions, rows, floor)?;
+        left.begin_above(&transactions, &begun, floor)?;
+        Ok(left)
+    }
+}
+
+/// The transaction at a place of an order, over its spelled bytes, where there is one.
+fn view_at<'a>(transactions: &'a Transactions, begun: &Order, i: usize) -> Option<SpelledTx<'a>>
+    requires { AreInside (length transactions.now) begun.now.numbers }
+    ensures { result ≡ slice_get (at_places transactions.now begun.now.numbers) i }
+{
+    match begun.get(i) {
+        Some(place) => transactions.view(place),
+        None => None,
     }
 }

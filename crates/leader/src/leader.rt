@@ -1,10 +1,12 @@
-ghost use Rattle.std.specs.Prelude.{◌≡◌, ℕ, ◌<◌, ◌≤◌, true, [], length, None, IfSome, IfNone, IfOk, IfErr};
+ghost use Rattle.std.specs.Prelude.{◌≡◌, ℕ, ◌<◌, ◌≤◌, true, List, [], length, None, Some, IfSome, IfNone, IfOk, IfErr};
 ghost use Rattle.xid.specs.Limits.{most_acceptors, most_branches};
 ghost use Rattle.xid.specs.Transactions.{participants};
 ghost use Rattle.xid.specs.declared.refusals.Refusal.TheVariants.{NoMemory};
 ghost use Rattle.wire.specs.Messages.{IsMessage};
 ghost use Rattle.wire.specs.declared.message.Kind.TheVariants.{B1b};
 ghost use Rattle.protocol.specs.Effects.{Config, decision_of, status_standing};
+ghost use Rattle.protocol.specs.Kept.{kept_facts, kept_leader};
+ghost use Rattle.stable_record.specs.declared.fact.FactKind.{FactKind as FactOf};
 ghost use Rattle.protocol.specs.LeaderMemory.{LeaderMemory, StoredBallots, nothing_heard, with_begun, with_met};
 ghost use Rattle.protocol.specs.Leaders as rules;
 ghost use Rattle.stable_record.specs.Parts.{IsMadeReady, IsPlayed};
@@ -29,7 +31,7 @@ use wire::{
     InstanceAccept, InstanceReport, MAX_TX_BYTES, MessageView, Rest, SpelledTx, accepts_of,
     reports_of,
 };
-use xid::{Ballot, ManagerNumber, Refusal, Tx};
+use xid::{Ballot, Floor, ManagerNumber, Refusal, Tx};
 
 /// A leader: its number, the sizes of its cluster, and the transactions that it has to do with. Contracts say which stored ballots, and
 /// which memory since the last restart, it stands for.
@@ -111,6 +113,33 @@ impl Leader {
             bundled,
             courses: Courses::new(alloc, key),
         }
+    }
+
+    /// What is left of it where it forgets what is below a floor: of stored ballots and memory what is about the transactions that aren't
+    /// below. Refused: `NoMemory` alone.
+    pub fn above(self, key: HashKey, floor: &Floor) -> Result<Leader, Refusal>
+        ensures ok { IfOk result (λ left. (config : Config) (number : ℕ) (stored : List FactOf) (memory : LeaderMemory)
+            → StandsFor config number self stored memory
+            → StandsFor config number left (kept_facts (Some floor.now) stored) (kept_leader (Some floor.now) memory)) }
+        ensures err { IfErr result (λ e. e ≡ NoMemory) }
+    {
+        let Leader {
+            number,
+            acceptors,
+            leaders,
+            managers,
+            bundled,
+            courses,
+        } = self;
+        let courses = courses.above(key, floor)?;
+        Ok(Leader {
+            number,
+            acceptors,
+            leaders,
+            managers,
+            bundled,
+            courses,
+        })
     }
 
     /// A client asks for a commit, which makes the leader know the transaction: undecided, each resource manager is asked to prepare;

@@ -23,4 +23,5 @@ pub mod Sizing
 pub mod Looking
 pub mod Lengths
 pub mod Shortening
+pub mod Risen
 pub mod Replying

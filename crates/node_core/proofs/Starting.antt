@@ -24,7 +24,7 @@ use Rattle.node_core.specs.Opening.{IsPlain, IsBad, IsReadAs, Reads}
 
 -- ---- the cluster in which a table begins with the rows of a record
 
-first_begun : (config : Config) (rm : ℕ) (rows : List Row) → first_rows (beginning_with config rm rows) rm ≡ rows
+pub first_begun : (config : Config) (rm : ℕ) (rows : List Row) → first_rows (beginning_with config rm rows) rm ≡ rows
 first_begun config rm rows =
     unwrap_or-slice_get (replicate (suc rm) rows) rm [] ∙ get_or-replicate (suc rm) rm rows [] (omega arith)
 

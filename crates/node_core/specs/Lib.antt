@@ -12,3 +12,4 @@ pub mod Viewing
 pub mod Listing
 pub mod Compacting
 pub mod Groups
+pub mod Raising

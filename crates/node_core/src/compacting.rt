@@ -16,7 +16,7 @@ use std::alloc::Global;
 use xid::Refusal;
 
 /// The frames of a shorter record that says the same as a role. Refused: `NoMemory` alone.
-fn shorter(alloc: Global, role: &Role) -> Result<Vec<u8>, Refusal>
+pub(crate) fn shorter(alloc: Global, role: &Role) -> Result<Vec<u8>, Refusal>
     ensures ok { IfOk result (λ frames. Shortens role.now frames.items) }
     ensures err { IfErr result (λ e. e ≡ NoMemory) }
 {

@@ -13,6 +13,7 @@ mod migrating;
 mod node;
 mod opening;
 mod output;
+mod raising;
 mod receivers;
 mod records;
 mod replied;

@@ -1,13 +1,14 @@
-ghost use Rattle.std.specs.Prelude.{◌≡◌, length, map, is_none, IfOk, IfErr, Some};
+ghost use Rattle.std.specs.Prelude.{◌≡◌, length, map, is_none, IfOk, IfErr, None, Some};
 ghost use Rattle.stable_record.specs.Held.{armed_with};
 ghost use Rattle.protocol.specs.Effects.{Config as ConfigParts};
-ghost use Rattle.protocol.specs.Nodes.{NodeState};
+ghost use Rattle.protocol.specs.Nodes.{NodeState, down_node};
 ghost use Rattle.node_core.specs.Nodes.{IsSameNode, IsSound, NodeStands, StepsAs, input_of};
 ghost use Rattle.node_core.specs.Opening.{IsOpened, IsUnopened, RestartsAs};
 ghost use Rattle.node_core.specs.Viewing.{ViewsAs, TablesAs};
 ghost use Rattle.node_core.specs.Listing.{ListsOpen};
 ghost use Rattle.node_core.specs.Compacting.{CompactsAs};
 ghost use Rattle.node_core.specs.Groups.{GroupsAs};
+ghost use Rattle.node_core.specs.Raising.{LearnsFloor, RaisesAs};
 
 use crate::acting::handle;
 use crate::compacting::compact;
@@ -15,15 +16,16 @@ use crate::config::{Config, Sizes};
 use crate::grouping::handle_group;
 use crate::opening::{copy_rows, load, reload};
 use crate::output::{Input, Output};
+use crate::raising::raise;
 use crate::role::Role;
 use crate::storing::Workspace;
 use crate::viewing::{list_open, table, view};
 use hashing::HashKey;
 use protocol::{NodeId, Row, View};
-use stable_record::{Record, RecordError, Tear};
+use stable_record::{Behind, Record, RecordError, Tear};
 use std::alloc::Global;
 use std::marker::Model;
-use xid::{Refusal, Sequence, Tx};
+use xid::{Floor, Refusal, Sequence, Tx};
 
 /// One node over a record: an acceptor, a leader or a resource manager, which stores what it decides before it sends anything. It is
 /// up, or it is down and does nothing until a restart.
@@ -287,5 +289,43 @@ impl<R: Tear> Node<R> {
             → NodeStands config self.new (record m { tear = Some n }) }
     {
         self.device.arm(n);
+    }
+}
+
+impl<R: Record> Node<Behind<R>> {
+    /// Raises its floor: what is below the place is forgotten, and by one replacement its record becomes the shorter one of what is left,
+    /// behind the new floor. Refused, and nothing changes: the node is down (`Down`), or a resource manager has a branch below the place
+    /// (`Busy`). The record failed (`RecordFault`), and holds what it held, or what is left behind the new floor; or `NoMemory`, and it is
+    /// as it was: after these the node is down. That the place is higher than its floor isn't asked.
+    pub fn raise(&mut self, floor: &Floor) -> Result<(), Refusal>
+        ensures { (config : ConfigParts) (m : NodeState) → NodeStands config self.old m
+            → RaisesAs config m floor.now self.old self.new result }
+    {
+        raise(
+            self.alloc,
+            self.key,
+            &mut self.device,
+            &mut self.role,
+            floor,
+        )
+    }
+
+    /// The floor that its record stands behind. Where a replacement that was to raise it failed, its record is read. Refused as that is:
+    /// `RecordFault`, which it counts, or `NoMemory`; its record's bytes stay.
+    pub fn learn_floor(&mut self) -> Result<Option<Floor>, Refusal>
+        ensures { LearnsFloor self.old self.new result }
+    {
+        match self.device.learn() {
+            Ok(floor) => Ok(floor),
+            Err(error) => Err(Refusal::from(error)),
+        }
+    }
+
+    /// The node goes down.
+    pub fn stop(&mut self)
+        ensures parts { self.new ≡ record self.old { role = None } }
+        ensures stands { (config : ConfigParts) (m : NodeState) → NodeStands config self.old m → NodeStands config self.new (down_node m) }
+    {
+        self.role = None;
     }
 }

@@ -1,22 +1,25 @@
-ghost use Rattle.std.specs.Prelude.{◌≡◌, ℕ, true, IfErr, IsOk, OnOk};
+ghost use Rattle.std.specs.Prelude.{◌≡◌, ℕ, true, not, IfErr, IfOk, IsOk, OnOk};
 ghost use Rattle.xid.specs.declared.refusals.Refusal.TheVariants.{NoMemory};
 ghost use Rattle.stable_record.specs.Parts.{IsMadeReady};
 ghost use Rattle.acceptor.specs.Acceptors.{acceptor_part};
 ghost use Rattle.protocol.specs.Effects.{Config};
 ghost use Rattle.protocol.specs.Nodes.{on_request as on_request_of};
 ghost use Rattle.node_core.specs.declared.role.Role.TheVariants as roles;
+ghost use Rattle.node_core.specs.Raising.{Leaves, TellsClear};
 ghost use Rattle.node_core.specs.Roles.{Decides, HasRoomFor, IsSame, Replays, Takes, decided};
 ghost use Rattle.node_core.specs.Sparing.{serves_freely};
 
 use crate::output::Output;
 use crate::requests::{at_leader, at_manager, not_taken};
 use acceptor::Acceptor;
+use hashing::HashKey;
 use leader::Leader;
 use protocol::Request;
 use resource_manager::ResourceManager;
 use stable_record::{Fact, FactKind, FactView};
+use std::alloc::Global;
 use wire::{MAX_TX_BYTES, SpelledTx};
-use xid::Refusal;
+use xid::{Floor, Refusal};
 
 /// What a node is: one part of the protocol. None of their rules stands here.
 #[derive(Debug)]
@@ -116,6 +119,28 @@ impl Role {
             Role::Acceptor(acceptor) => acceptor.replay_view(fact),
             Role::Leader(leader) => leader.play_view(fact),
             Role::Manager(manager) => manager.play_view(fact),
+        }
+    }
+
+    /// Whether a branch below a floor keeps that floor from standing here: only a resource manager has any. It takes no memory.
+    pub fn is_held_back(&self, floor: &Floor) -> bool
+        ensures { TellsClear floor.now self.now (not result) }
+    {
+        match self {
+            Role::Manager(manager) => manager.has_branch_below(floor),
+            Role::Acceptor(_) | Role::Leader(_) => false,
+        }
+    }
+
+    /// What is left of it where it forgets what is below a floor. Refused: `NoMemory` alone.
+    pub fn above(self, alloc: Global, key: HashKey, floor: &Floor) -> Result<Role, Refusal>
+        ensures ok { IfOk result (λ left. Leaves floor.now self left) }
+        ensures err { IfErr result (λ e. e ≡ NoMemory) }
+    {
+        match self {
+            Role::Acceptor(acceptor) => Ok(Role::Acceptor(acceptor.above(key, floor)?)),
+            Role::Leader(leader) => Ok(Role::Leader(leader.above(key, floor)?)),
+            Role::Manager(manager) => Ok(Role::Manager(manager.above(alloc, key, floor)?)),
         }
     }
 }

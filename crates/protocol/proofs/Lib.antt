@@ -24,3 +24,5 @@ pub mod BundledCommit
 pub mod BundledTakeover
 pub mod ToldAgain
 pub mod Faults
+pub mod Local
+pub mod Kept

@@ -69,7 +69,7 @@ written_more h ts numbers i n o base old new lt read found before pushed =
     one None = refl
     one (Some tx) = refl
 
-read_at : (numbers : List ℕ) (i d : ℕ) → i < length numbers → get_or numbers i d ≡ get_or numbers i (get_or numbers i d)
+pub read_at : (numbers : List ℕ) (i d : ℕ) → i < length numbers → get_or numbers i d ≡ get_or numbers i (get_or numbers i d)
 read_at [] i d lt = absurd (omega (arith, lt))
 read_at (n ∷ numbers) zero d lt = refl
 read_at (n ∷ numbers) (suc i) d lt = read_at numbers i d (omega (arith, lt))

@@ -20,3 +20,6 @@ pub mod Alike
 pub mod Shortened
 pub mod Opened
 pub mod Frames
+pub mod Leaving
+pub mod Above
+pub mod Floors

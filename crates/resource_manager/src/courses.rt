@@ -1,5 +1,5 @@
-ghost use Rattle.std.specs.Prelude.{◌≡◌, ◌<◌, [], IfOk, IfErr, OnOk, MatchOption, length, filter_map, slice_get};
-ghost use Rattle.std.specs.List.{slice_index_or};
+ghost use Rattle.std.specs.Prelude.{◌≡◌, ◌<◌, [], true, IfOk, IfErr, OnOk, MatchOption, length, nat_lt, filter_map, slice_get};
+ghost use Rattle.std.specs.List.{list_all, slice_index_or};
 ghost use Rattle.xid.specs.Transactions.{TxParts};
 ghost use Rattle.xid.specs.declared.refusals.Refusal.TheVariants.{NoMemory};
 ghost use Rattle.transactions.specs.Seen.{place_in};
@@ -158,7 +158,8 @@ impl Courses {
 
     /// The numbers of the transactions of which a fact is stored, in the order of their first facts.
     pub fn begun(&self) -> &[usize]
-        ensures { filter_map (slice_get self.now.transactions) result.now ≡ self.now.begun }
+        ensures below { list_all (λ number. nat_lt number (length self.now.transactions)) result.now ≡ true }
+        ensures found { filter_map (slice_get self.now.transactions) result.now ≡ self.now.begun }
     {
         &self.begun
     }

@@ -4,6 +4,7 @@
 
 mod course;
 mod courses;
+mod forgetting;
 mod manager;
 mod messages;
 mod playing;

@@ -11,6 +11,7 @@ use Rattle.wire.specs.declared.grammar.VersionNumber.{VersionNumber}
 use Rattle.wire.specs.Grammar.{number_spelling}
 use Rattle.wire.specs.Reading.{number_at}
 use Rattle.wire.proofs.Fields.{number_again}
+use Rattle.wire.proofs.Places.{bytes_front}
 use Rattle.wire.proofs.Spelled.{some_same, unless, number_spelled}
 use Rattle.stable_record.specs.declared.entry.EntryKind.{EntryKind as Entry}
 use Rattle.stable_record.specs.Entries.{IsEntryIn}
@@ -19,12 +20,6 @@ use Rattle.stable_record.specs.Reading.{body_at}
 use Rattle.stable_record.proofs.Again.{body_again}
 use Rattle.stable_record.proofs.SpelledEntries.{body_spelled}
 use Rattle.stable_record.proofs.Lengths.{body_few, frame_has}
-
--- what stands in front of bytes is bytes
-bytes_front : (front rest : List ℕ) → IsBytes (front ++ rest) → IsBytes front
-bytes_front [] rest is i = omega arith
-bytes_front (x ∷ front) rest is zero = is 0
-bytes_front (x ∷ front) rest is (suc i) = bytes_front front rest (λ k. is (suc k)) i
 
 -- a number of four bytes is the same in a beginning that has them
 big_front : (n : ℕ) (xs : List ℕ) → 4 ≤ n → big_number 4 (take n xs) ≡ big_number 4 xs

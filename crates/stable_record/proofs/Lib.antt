@@ -7,3 +7,6 @@ pub mod Lengths
 pub mod Framed
 pub mod Stated
 pub mod Written
+pub mod Floors
+pub mod Known
+pub mod Fronts

@@ -11,7 +11,7 @@ use Rattle.std.proofs.lemmas.List.{take-append-drop, length-take}
 use Rattle.std.proofs.lemmas.List.Concat.{flat_map-cons}
 use Rattle.byteorder.specs.Endian.{big_number, big_bytes}
 use Rattle.xid.specs.Names.{IsBytes}
-use Rattle.xid.specs.Limits.{most_component, most_value, most_touched}
+use Rattle.xid.specs.Limits.{most_value, most_touched}
 use Rattle.wire.specs.Messages.{IsBallot, IsLeaderBallot}
 use Rattle.wire.specs.Versions.{version_of}
 use Rattle.wire.specs.declared.grammar.VersionNumber.{VersionNumber}
@@ -19,7 +19,8 @@ use Rattle.wire.specs.declared.grammar.VersionNumber.TheVariants.{First, Second}
 use Rattle.wire.specs.Grammar.{number_spelling, rm_spelling, component_spelling}
 use Rattle.wire.specs.Reading.{◌>>=◌, byte_at, big_at, number_at, rm_at, component_at, instance_at, list_at}
 use Rattle.wire.proofs.Spelled.{Front, front_of, joined, some_same, step, unless, byte_spelled, short_spelled, number_spelled, rm_spelled}
-use Rattle.wire.proofs.Spelled.{component_spelled}
+use Rattle.wire.proofs.Places.{bytes_front, component_few}
+use Rattle.wire.proofs.Spelled.{bytes_after, component_spelled}
 use Rattle.stable_record.specs.declared.fact.Act.{Act}
 use Rattle.stable_record.specs.declared.fact.Act.TheVariants.{Read, Del}
 use Rattle.stable_record.specs.declared.fact.Touched.{Touched}
@@ -31,16 +32,6 @@ use Rattle.stable_record.specs.Reading.{value_at, key_at, act_at, touched_at, ar
 pub when : {X : Type 0} (t : Bool) (x y : X) → cond t (Some x) None ≡ Some y → (t ≡ true) × (x ≡ y)
 when true x y e = (refl, cc)
 when false x y e = absurd (cc)
-
--- what stands in front of bytes is bytes
-bytes_front : (front rest : List ℕ) → IsBytes (front ++ rest) → IsBytes front
-bytes_front [] rest is i = omega arith
-bytes_front (x ∷ front) rest is zero = is 0
-bytes_front (x ∷ front) rest is (suc i) = bytes_front front rest (λ k. is (suc k)) i
-
-bytes_after : (front rest : List ℕ) → IsBytes (front ++ rest) → IsBytes rest
-bytes_after [] rest is = is
-bytes_after (x ∷ front) rest is = bytes_after front rest (λ i. is (suc i))
 
 pub value_spelled : (bytes : List ℕ) (x : List ℕ × List ℕ) → IsBytes bytes → value_at bytes ≡ Some x
     → IsValue x.0 × Front bytes (value_spelling x.0) x.1
@@ -65,17 +56,6 @@ value_spelled bytes x is e =
     (value, joined bytes (big_bytes 2 (length (take n.0 n.1))) n.1 (take n.0 n.1) (drop n.0 n.1) sized second))
 
 -- what is taken behind its length is no longer than a component
-component_few : (bytes : List ℕ) (x : List ℕ × List ℕ) → component_at bytes ≡ Some x → length x.0 ≤ most_component
-unfolding component_at
-component_few bytes x e =
-    step (byte_at bytes) _ e (λ n en e.
-    let few = unless (ltb most_component n.0) _ x e in
-    let long = unless (ltb (length n.1) n.0) (Some (take n.0 n.1, drop n.0 n.1)) x few.1 in
-    let small : n.0 ≤ most_component = grind (arith, nat_tests, few.0) in
-    let len : length (take n.0 n.1) ≤ n.0 = omega (arith, length-take n.0 n.1) in
-    let short : length (take n.0 n.1) ≤ most_component = omega (arith, len, small) in
-    subst (λ (x : List ℕ × List ℕ). length x.0 ≤ most_component) (some_same (take n.0 n.1, drop n.0 n.1) x long.1) short)
-
 pub key_spelled : (bytes : List ℕ) (x : List ℕ × List ℕ) → IsBytes bytes → key_at bytes ≡ Some x
     → IsKey x.0 × Front bytes (component_spelling x.0) x.1
 unfolding key_at

@@ -10,3 +10,5 @@ pub mod Spelled
 pub mod Rests
 pub mod Views
 pub mod Written
+pub mod Floors
+pub mod Behind

@@ -1,12 +1,15 @@
 //! What a stopped append leaves, and what bytes hold. Each of these functions is there for its laws, which the check proves; calling
 //! it does nothing.
-ghost use Rattle.std.specs.Prelude.{◌≡◌, ◌⊎◌, ℕ, ◌-◌, ◌<◌, ◌≤◌, [], ◌∷◌, ◌++◌, length, take, List};
+ghost use Rattle.std.specs.Prelude.{◌≡◌, ◌⊎◌, ℕ, ◌-◌, ◌<◌, ◌≤◌, [], ◌∷◌, ◌++◌, length, take, List, Some};
 ghost use Rattle.wire.specs.Versions.{version_2, version_of};
 ghost use Rattle.wire.specs.declared.grammar.VersionNumber.{VersionNumber};
 ghost use Rattle.stable_record.specs.declared.fact.FactKind.{FactKind};
 ghost use Rattle.stable_record.specs.declared.entry.EntryKind.{EntryKind};
 ghost use Rattle.stable_record.specs.Frames.{torn, Begins, frame_length, frame_length_in};
 ghost use Rattle.stable_record.specs.Entries.{IsEntry, IsEntryIn};
+ghost use Rattle.xid.specs.Names.{IsBytes};
+ghost use Rattle.xid.specs.Places.{IsPlace, Place};
+ghost use Rattle.stable_record.specs.Floors.{IsFloored, floor_at, floor_frame};
 ghost use Rattle.stable_record.specs.Grammar.{frame, IsTail, IsFramed, IsStored, IsDamaged, HasNoFrame};
 
 /// A stopped append leaves the bytes that stood and a beginning of the frame, which may be the whole.
@@ -69,4 +72,16 @@ pub fn frame_length_is_exact()
         → length (frame (version_of v) (EntryKind.Fact fact)) ≡ frame_length_in (version_of v) fact }
     ensures today { (fact : FactKind) → length (frame version_2 (EntryKind.Fact fact)) ≡ frame_length fact }
     ensures written { (entry : EntryKind) → IsEntry entry → IsEntryIn version_2 entry }
+{}
+
+/// A floor is found at the front of bytes exactly where its frame stands there. So bytes begin with one floor at most.
+pub fn floor_at_is_exact()
+    ensures found { (place : Place) (bytes rest : List ℕ) → IsFloored place bytes rest → floor_at bytes ≡ Some (place, rest) }
+    ensures framed { (place : Place) (bytes rest : List ℕ) → IsBytes bytes → floor_at bytes ≡ Some (place, rest)
+        → IsFloored place bytes rest }
+{}
+
+/// A floor's frame is no entry's, and no tail: a node that reads its record from there, or comes to it behind others, finds it damaged.
+pub fn floors_are_no_entries()
+    ensures { (place : Place) (rest : List ℕ) → IsPlace place → HasNoFrame (floor_frame place ++ rest) }
 {}

@@ -6,3 +6,5 @@ pub mod First
 pub mod Index
 pub mod Sought
 pub mod Cutting
+pub mod Above
+pub mod Before

@@ -17,3 +17,5 @@ pub mod CountedItems
 pub mod BundleKinds
 pub mod SpelledAgain
 pub mod Replies
+pub mod Places
+pub mod Notices

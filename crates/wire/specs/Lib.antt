@@ -7,3 +7,5 @@ pub mod Decoding
 pub mod Spelled
 pub mod SpelledItems
 pub mod Said
+pub mod Names
+pub mod Notices

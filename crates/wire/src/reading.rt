@@ -2,6 +2,7 @@ ghost use Rattle.std.specs.Prelude.{◌≡◌, ℕ, ◌<◌, ◌≤◌, List, []
 ghost use Rattle.std.specs.Option.{option_map};
 ghost use Rattle.wire.specs.Versions.{version_1, version_2, version_of};
 ghost use Rattle.wire.specs.Decoding.{tx_in, are_managers};
+ghost use Rattle.wire.specs.Names.{name_at, taken_name};
 ghost use Rattle.wire.specs.Reading.{taken, taken_bytes, taken_branch, taken_branches, taken_tx, byte_at, number_at, rm_at, component_at};
 ghost use Rattle.wire.specs.Reading.{branch_at, branches_at, tx_at, vote_at, report_at, instance_at, report_item_at, accept_item_at};
 ghost use Rattle.wire.specs.Reading.{list_at, with_first, items_at, end_at};
@@ -86,6 +87,17 @@ pub fn take_component(bytes: &[u8]) -> Option<(&[u8], &[u8])>
         return None;
     }
     Some(rest.split_at(len))
+}
+
+/// Takes the format and the gtrid that a transaction's spelling begins with from the front.
+#[tactic(auto, unfolding(crate::specs::Names::name_at))]
+pub fn take_name(bytes: &[u8]) -> Option<(u32, &[u8], &[u8])>
+    ensures value { taken_name result ≡ name_at bytes.now }
+    ensures few { MatchOption result (Unit {0}) (λ x. length x.1.now ≤ MAX_COMPONENT) }
+{
+    let (format, rest) = take_number(bytes)?;
+    let (gtrid, rest) = take_component(rest)?;
+    Some((format, gtrid, rest))
 }
 
 #[tactic(auto, unfolding(crate::specs::Reading::branch_at))]

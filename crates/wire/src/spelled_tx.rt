@@ -1,8 +1,9 @@
-ghost use Rattle.std.specs.Prelude.{◌≡◌, ℕ, ◌+◌, ◌≤◌, ◌<◌, IfSome, IsTrue, is_some, length, slice_index, MatchOption, nat_lt};
+ghost use Rattle.std.specs.Prelude.{◌≡◌, ℕ, ◌+◌, ◌≤◌, ◌<◌, IfSome, Some, IsTrue, is_some, length, slice_index, MatchOption, nat_lt};
 ghost use Rattle.std.specs.List.{find, list_all, position_or_len};
 ghost use Rattle.std.specs.Option.{option_map};
 ghost use Rattle.xid.specs.Limits.{most_managers};
 ghost use Rattle.xid.specs.Names.{IsComponent};
+ghost use Rattle.xid.specs.Places.{is_below};
 ghost use Rattle.xid.specs.Transactions.{IsTx, nth_branch, participants, is_at, is_participant, xid_at};
 ghost use Rattle.wire.specs.Decoding.{tx_in};
 ghost use Rattle.wire.specs.Grammar.{tx_spelling, branches_spelling};
@@ -15,7 +16,7 @@ use crate::reading::{take_byte, take_component, take_number, take_rm};
 use crate::writing::put_tx;
 use byteorder::{BigEndian, ByteOrder};
 use std::marker::Model;
-use xid::{Branches, FORMATS, MAX_BRANCHES, MAX_MANAGERS, ManagerNumber, Tx, Xid};
+use xid::{Branches, FORMATS, Floor, MAX_BRANCHES, MAX_MANAGERS, ManagerNumber, Tx, Xid};
 
 /// A transaction, by the bytes that spell it, which stand elsewhere.
 #[derive(Debug, Drop)]
@@ -161,6 +162,13 @@ impl<'a> SpelledTx<'a> {
     {
         let bytes = self.bytes;
         &bytes[5..5 + bytes[4] as usize]
+    }
+
+    /// Whether it stands below a floor.
+    pub fn is_below(&self, floor: &Floor) -> bool
+        ensures { result ≡ is_below (Some floor.now) self.now }
+    {
+        floor.is_above(self.format(), self.gtrid())
     }
 
     /// How many branches, and each.

@@ -61,7 +61,7 @@ pub(crate) fn put_rm(out: &mut [u8], at: usize, rm: ManagerNumber) -> usize
     put_bytes(out, at, &bytes)
 }
 
-fn put_component(out: &mut [u8], at: usize, bytes: &[u8]) -> usize
+pub(crate) fn put_component(out: &mut [u8], at: usize, bytes: &[u8]) -> usize
     requires room { at + MAX_COMPONENT_BYTES ≤ length out.old }
     requires fits { length bytes.now ≤ MAX_COMPONENT }
     ensures end { result ≡ at + length (component_spelling bytes.now) }

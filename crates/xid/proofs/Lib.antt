@@ -8,3 +8,4 @@ pub mod TransactionTexts
 pub mod Digits
 pub mod LowerHex
 pub mod HexTables
+pub mod Places

@@ -7,3 +7,4 @@ pub mod Text
 pub mod Transactions
 pub mod BranchArray
 pub mod Comparing
+pub mod Places

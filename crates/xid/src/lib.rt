@@ -6,6 +6,7 @@ mod branch_id;
 mod branches;
 mod codes;
 mod component;
+mod floor;
 mod hex_digits;
 mod limits;
 mod refusals;
@@ -18,6 +19,7 @@ pub use branch_id::Xid;
 pub use branches::Branches;
 pub use codes::XaCode;
 pub use component::Component;
+pub use floor::Floor;
 pub use limits::{
     Ballot, FORMATS, MAX_ACCEPTORS, MAX_BRANCHES, MAX_COMPONENT, MAX_KEY, MAX_LEADERS,
     MAX_MANAGERS, MAX_TOUCHED, MAX_VALUE, ManagerNumber,

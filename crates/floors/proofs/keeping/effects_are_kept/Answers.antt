@@ -1,4 +1,4 @@
-use Rattle.floors.specs.Places.{is_below}
+use Rattle.xid.specs.Places.{is_below}
 use Rattle.safety.specs.Words.{NodeId}
 use Rattle.std.proofs.Common.{◌≡◌, ◌∙◌, false, sym, ap, subst}
 use Rattle.protocol.specs.Worlds.{node_at}

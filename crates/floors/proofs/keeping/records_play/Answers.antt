@@ -2,7 +2,7 @@ use Rattle.std.specs.Prelude.{[]}
 use Rattle.safety.specs.Standing.{facts_at}
 use Rattle.safety.proofs.World.Reachable.{play}
 use Rattle.floors.proofs.Following.{are_runs}
-use Rattle.floors.proofs.Playing.{all_play_kept}
+use Rattle.protocol.proofs.Kept.Playing.{all_play_kept}
 use Rattle.floors.proofs.keeping.records_play.Goals as goal
 
 pub returns : goal.returns

@@ -1,0 +1,3 @@
+pub mod Facts
+pub mod Playing
+pub mod Leaders
