@@ -34,7 +34,8 @@ is_down (Some role) down = absurd (cc (down))
 
 -- while it is up, the floor that it knows is the one in front
 pub lower_now : (known : Option Place) (node : NodeParts) (now : FlooredParts) (place : Place) (down higher test : Bool)
-    → with_floor node ≡ now → IsFlooredSound known node → down ≡ is_none now.node.role → down ≡ false → higher ≡ is_lower known (Some place) → higher ≡ test
+    → with_floor node ≡ now → IsFlooredSound known node → down ≡ is_none now.node.role → down ≡ false
+    → higher ≡ is_lower known (Some place) → higher ≡ test
     → is_lower (floor_before node.held) (Some place) ≡ test
 lower_now known node now place down higher test is sound told up asked high =
     let role = ap (λ (f : FlooredParts). is_none f.node.role) is ∙ sym told ∙ up in
