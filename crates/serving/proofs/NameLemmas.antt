@@ -24,7 +24,7 @@ use Rattle.serving.specs.declared.schedule.TheConstants.{MOST_DELAY}
 use Rattle.serving.specs.Queues.{are_by}
 use Rattle.serving.specs.Watching.{key_of, at_key, has_spelling, turn_end, watch_of, AreAllLater, AreNamed, AreSpelled, HandsOut, Keys}
 use Rattle.serving.specs.Watching.{PutsOff, PutsOffOne}
-use Rattle.serving.specs.Named.{AreAsBefore, IsAdded, IsHandedOut, IsNothingDue, IsPutOff, SetsOnly}
+use Rattle.serving.specs.Named.{AreAsBefore, IsAdded, IsHandedOut, IsPutOff, SetsOnly}
 
 -- ---- the keys of spellings
 

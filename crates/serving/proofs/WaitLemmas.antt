@@ -1,5 +1,5 @@
 -- How long nothing is due: no longer than until the first place of each queue.
-use Rattle.std.proofs.Common.{◌≡◌, ◌⊎◌, inl, inr, ℕ, ◌+◌, ◌-◌, ◌<◌, ◌≤◌, true, false, List, [], ◌∷◌, length, get_or, Option, Some, None}
+use Rattle.std.proofs.Common.{◌≡◌, ◌∙◌, ◌⊎◌, inl, inr, ℕ, ◌+◌, ◌-◌, ◌<◌, ◌≤◌, true, false, List, [], ◌∷◌, length, get_or, Option, Some, None}
 use Rattle.std.proofs.Common.{sym, subst, arith}
 use Rattle.std.specs.Prelude.{IfNone, IfSome}
 use Rattle.std.specs.List.{AllByRecursion}
@@ -11,7 +11,7 @@ use Rattle.std.proofs.lemmas.Bool.{cases_eq, false_from_ne_true}
 use Rattle.slab.specs.Slab.{Slab}
 use Rattle.serving.specs.declared.queue.Place.{Place}
 use Rattle.serving.specs.declared.watched.Watch.{Watch}
-use Rattle.serving.specs.Queues.{due_at, AreSpared, IsFirst}
+use Rattle.serving.specs.Queues.{due_at, AreSpared, EndsAt, IsFirst}
 use Rattle.serving.specs.Watching.{watch_of, AreKept, Keys}
 use Rattle.serving.proofs.NameLemmas.{stands_at}
 use Rattle.serving.proofs.QueueLemmas.{spared_by_first}
@@ -34,6 +34,19 @@ pub spared_first : (wait : Duration) (now : Instant) (first : Place) (item place
 spared_first wait now first item places until by is sorted same =
     subst (AreSpared (Some wait) now) same
     (spared_by_first wait now first item (subst (λ (n : ℕ). as_nanos wait ≤ n) is by) sorted)
+
+-- and such a place is due when the wait ends
+pub ends_first : (wait : Duration) (now : Instant) (first : Place) (item rest : List Place) (queues : List (List Place)) (at : ℕ)
+    → item ≡ get_or queues at [] → item ≡ first ∷ rest → as_nanos wait ≡ due_at first - instant_nanos now → EndsAt wait now queues
+ends_first wait now first item rest queues at same is ends =
+    record { at = at; place = first; rest = rest; stands = sym same ∙ is; ends = ends }
+
+pub ends_sooner : (least : Option Duration) (wait result : Duration) (now : Instant) (queues : List (List Place))
+    → (result ≡ wait) ⊎ (least ≡ Some result) → IfSome least (λ least. EndsAt least now queues) → EndsAt wait now queues
+    → EndsAt result now queues
+ends_sooner least wait result now queues (inl same) before here = subst (λ (d : Duration). EndsAt d now queues) (sym same) here
+ends_sooner least wait result now queues (inr is) before here =
+    subst (λ (o : Option Duration). IfSome o (λ least. EndsAt least now queues)) is before
 
 no_place : (places : List Place) → places ≡ [] → AllByRecursion (λ place. ⊥) places
 no_place [] none = tt

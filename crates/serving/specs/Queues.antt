@@ -1,5 +1,5 @@
 -- Places by when they are due.
-use Rattle.std.specs.Prelude.{◌≡◌, ℕ, ◌-◌, ◌<◌, ◌≤◌, ◌&&◌, nat_le, Bool, true, List, [], ◌∷◌, Option, Some, None}
+use Rattle.std.specs.Prelude.{◌≡◌, get_or, ℕ, ◌-◌, ◌<◌, ◌≤◌, ◌&&◌, nat_le, Bool, true, List, [], ◌∷◌, Option, Some, None}
 use Rattle.std.specs.List.{list_all, AllByRecursion}
 use Rattle.std.specs.Time.{instant_nanos}
 use Rattle.std.specs.Duration.{as_nanos}
@@ -32,6 +32,14 @@ AreLater now places = AllByRecursion (λ place. instant_nanos now < due_at place
 abbrev pub IsFirst : Option Place → List Place → Type 0
 IsFirst None places = places ≡ []
 IsFirst (Some first) places = list_all (λ place. nat_le (due_at first) (due_at place)) places ≡ true
+
+-- a wait ends when a place is due that stands first in one of these queues
+pub record EndsAt (wait : Duration) (now : Instant) (queues : List (List Place)) : Type 0 where
+  pub at : ℕ
+  pub place : Place
+  pub rest : List Place
+  pub stands : get_or queues at [] ≡ place ∷ rest
+  pub ends : as_nanos wait ≡ due_at place - instant_nanos now
 
 -- after now, nothing of these is due for so long; for ever, where there is none
 abbrev pub AreSpared : Option Duration → Instant → List Place → Type 0

@@ -1,4 +1,4 @@
-ghost use Rattle.std.specs.Prelude.{◌≡◌, ℕ, ◌≤◌, ◌++◌, ◌∷◌, [], true, nat_le, OnOk, OnErr, MatchOption};
+ghost use Rattle.std.specs.Prelude.{◌≡◌, ℕ, ◌≤◌, ◌++◌, ◌∷◌, [], List, true, nat_le, IfSome, OnOk, OnErr, MatchOption};
 ghost use Rattle.std.specs.Time.{instant_nanos};
 ghost use Rattle.serving.specs.Queues.{are_before, are_by, due_at, AreLater, IsFirst};
 
@@ -64,7 +64,8 @@ impl Queue {
 
     /// The first place: none is due before it.
     pub(crate) fn first(&self) -> Option<Place>
-        ensures { IsFirst result self.now }
+        ensures order { IsFirst result self.now }
+        ensures front { IfSome result (λ first. (rest : List Place) × (self.now ≡ first ∷ rest)) }
     {
         self.places.front().copied()
     }

@@ -1,4 +1,4 @@
-ghost use Rattle.std.specs.Prelude.{◌≡◌, ◌≢◌, ◌↔◌, ◌==◌, ℕ, ◌+◌, ◌/◌, ◌-◌, ◌^◌, ◌<◌, ◌≤◌, ◌++◌, ◌∷◌, [], length, get_or, set, true};
+ghost use Rattle.std.specs.Prelude.{◌≡◌, ◌≢◌, ◌⊎◌, ◌↔◌, ◌==◌, ℕ, ◌+◌, ◌/◌, ◌-◌, ◌^◌, ◌<◌, ◌≤◌, ◌++◌, ◌∷◌, [], length, get_or, set, true};
 ghost use Rattle.std.specs.Prelude.{false, Some, None, min, IfOk, IfSome, IfNone, OnOk, OnErr, MatchOption, IsSomeAnd, IsTrue, List};
 ghost use Rattle.std.specs.Prelude.{vec_len};
 ghost use Rattle.std.specs.Duration.{as_nanos};
@@ -7,7 +7,7 @@ ghost use Rattle.slab.specs.Slab.{get};
 ghost use Rattle.wire.specs.Grammar.{tx_spelling};
 ghost use Rattle.wire.specs.Spelled.{tx_spelled, IsSpelled};
 ghost use Rattle.wire.specs.Versions.{version_2};
-ghost use Rattle.serving.specs.Queues.{are_before, are_by, due_at, AreLater};
+ghost use Rattle.serving.specs.Queues.{are_before, are_by, due_at, AreLater, EndsAt};
 ghost use Rattle.serving.specs.Watching.{key_of, turn_end, waits_for, AreKept, AreOnTime, AreSpelled, AreAllLater, AreWithin, HandsOut};
 ghost use Rattle.serving.specs.Watching.{HandsOutAt, IsNoWatchOf, PutsOff};
 ghost use Rattle.serving.specs.Named.{age_of, seen, AreAsBefore, IsAdded, IsHandedOut, IsListed, IsNothingDue, IsPutOff, SetsOnly};
@@ -207,6 +207,7 @@ fn no_queues(alloc: Global) -> Result<Vec<Queue>, AllocError>
 
 /// The shorter of two times, of which the first may be missing.
 fn sooner(least: Option<Duration>, wait: Duration) -> Duration
+    ensures which { (result ≡ wait) ⊎ (least ≡ Some result) }
     ensures one { as_nanos result ≤ as_nanos wait }
     ensures other { IfSome least (λ least. as_nanos result ≤ as_nanos least) }
 {
@@ -346,11 +347,13 @@ impl Watches {
         }
     }
 
-    /// How long it is until the first is due, if there is one: nothing that waits is due before.
+    /// How long it is until the first is due, if there is one: nothing that waits is due before, and a place in a queue is due then, of
+    /// what waits, or of what waited for that time and has ended.
     pub fn wait(&self, now: Instant) -> Option<Duration>
         ensures none { IfNone result ((spelled : List ℕ) (watch : Watch) → seen self.now spelled ≡ Some watch → watch.waits ≡ false) }
         ensures some { IfSome result (λ wait. (spelled : List ℕ) (watch : Watch) → seen self.now spelled ≡ Some watch
             → watch.waits ≡ true → as_nanos wait ≤ instant_nanos watch.due - instant_nanos now) }
+        ensures ends { IfSome result (λ wait. EndsAt wait now self.now.queues.items) }
     {
         let mut least = None;
         for queue in &self.queues {
