@@ -30,8 +30,8 @@ loop-queue-preserved c =
             w.saturating_duration_since.ensures w.in-Some.ensures.order same)),
         subst (λ (o : Option Duration). IfSome o (λ least. EndsAt least now queues)) (sym w.least-is)
             (ends_sooner c.loop-queue.least w.saturating_duration_since.result w.sooner.result now queues w.sooner.ensures.which ends
-            (ends_first w.saturating_duration_since.result now w.in-Some.place c.queue-item.result w.in-Some.ensures.front.0 queues index same
-            w.in-Some.ensures.front.1 w.saturating_duration_since.ensures)),
+            (ends_first w.saturating_duration_since.result now w.in-Some.place c.queue-item.result w.in-Some.ensures.front.0 queues index
+            same w.in-Some.ensures.front.1 w.saturating_duration_since.ensures)),
       )
       | in_default w ↦ (
         spared_more queues index c.loop-queue.least c.match-first.least now before
