@@ -1,7 +1,8 @@
 #!/usr/bin/env python3
 """Runs the built programs over many of what a case has few of: `tests/many.py PCOMMIT CASES`. Thousands of transactions in one cluster, of
-which each report to the leader comes twice, and each is committed, or taken over and aborted; and 300 branches that hold 64 keys each,
-shared with those next to them: an end looks at no more than twice its keys and four, and a key is free once its last holder has ended.
+which each report to the leader comes twice, and each is committed, or taken over and aborted, or the first half of which is forgotten once
+all are committed; and 300 branches that hold 64 keys each, shared with those next to them: an end looks at no more than twice its keys and
+four, and a key is free once its last holder has ended.
 The last line is 'N passed, M failed'."""
 import os
 import subprocess
@@ -76,6 +77,22 @@ def many_take_overs(form):
     check(f"all abort{form}", outcomes(trace, "aborted") == 2 * TRANSACTIONS)
 
 
+def many_forgotten():
+    half = TRANSACTIONS // 2
+    names = [f"1:{number:08x}" for number in range(TRANSACTIONS)]
+    lines = ["cluster acceptors 1 leaders 1 rms 1"]
+    for name in names:
+        lines += [f"start r0 {name}:61", f"end r0 {name}:61", f"commit l0 {name}/0=61", "flow 4"]
+    lines += [f"floor r0 {names[half]}", "hear 1", "hear 2"]
+    asked = [f"status l0 {name}/0=61" for name in names]
+    viewed = [f"view r0 {name}/0=61" for name in names] + [f"start r0 {name}:61" for name in names]
+    answers = ["refused 17"] * half + ["committed"] * half
+    wanted = zip(asked + ["restart r0"] + viewed, answers + ["ok"] + answers + ["-8"] * TRANSACTIONS)
+    wanted = [f"{line} -> {answer}" for line, answer in wanted]
+    trace = run(lines + asked + ["restart r0"] + viewed)
+    check("the first half is forgotten", [line for line in trace if " -> " in line][-len(wanted):] == wanted)
+
+
 def reader(number):
     return f"1:{number:04x}:61"
 
@@ -111,6 +128,7 @@ def many_readers():
 for form in ("", " bundled"):
     many_commits(form)
     many_take_overs(form)
+many_forgotten()
 many_readers()
 print(f"{passed} passed, {failed} failed")
 sys.exit(1 if failed else 0)

@@ -19,7 +19,7 @@ program = os.path.realpath(sys.argv[1] if len(sys.argv) > 1 else "bin/pcommit")
 scratch = tempfile.TemporaryDirectory()
 library = os.path.join(scratch.name, "refuse.so")
 ROWS = ["first_branch", "plain_commit", "takeover_before_vote_late", "takeover_before_vote_early", "bundled_commit", "bundled_takeover",
-        "ballots_after_restart", "limits", "compacted"]
+        "ballots_after_restart", "limits", "compacted", "floors_cross", "replaced_acceptor"]
 # a transaction that is in no row, and a branch
 OTHER, STRANGER = "9:77/{}=77", "9:78:78"
 # what may come of a refusal: 11 as a whole, or an answer 11 by a node that goes on or is down, or in what follows the row; or nothing
@@ -81,6 +81,8 @@ class Row:
         again += [line for tx in self.transactions for line in (f"timeout l0 {tx}", "flow 1000")]
         self.serves = [f"start {node} {STRANGER}" for node in self.nodes if node[0] == "r"]
         self.ends = [f"status l0 {tx}" for tx in self.transactions]
+        # what a leader answers of a transaction: its outcome, or that it is over where the row has floors
+        self.outcomes = {"committed", "aborted"} | ({"refused 17"} if any(line.startswith("floor ") for line in self.events) else set())
         is_torn = any(line.startswith("tear ") for line in self.events)
         self.epilogue = again + (again if is_torn else []) + self.serves + self.ends
 
@@ -93,19 +95,22 @@ class Row:
         restarts = [answer for event, answer in lines if event.startswith("restart ")][-len(self.nodes):]
         calls = [answer for _, answer in lines[-len(self.serves + self.ends):]]
         return (set(restarts) == {"ok"} and calls[:len(self.serves)] == ["0"] * len(self.serves)
-                and set(calls[len(self.serves):]) <= {"committed", "aborted"})
+                and set(calls[len(self.serves):]) <= self.outcomes)
 
     def before(self, at):
         """The node that an event reaches; and at that point which nodes are down, the tears that are armed, and how many datagrams
         there are."""
-        receivers, down, tears, place = {}, set(), {}, -1
+        receivers, hearers, down, tears, place = {}, {}, set(), {}, -1
         for line in self.lines:
             words = line.split()
             if words[0] == "sent":
                 receivers[words[1]] = words[3]
+            if words[0] == "told":
+                hearers[words[1]] = words[3]
             if " -> " not in line:
                 continue
-            node = receivers.get(words[1]) if words[0] in ("deliver", "cut", "lose") else words[1]
+            by_number = {"deliver": receivers, "cut": receivers, "lose": receivers, "hear": hearers}
+            node = by_number[words[0]].get(words[1]) if words[0] in by_number else words[1]
             place += 1
             if place == at:
                 return node, down, tears, len(receivers)
@@ -114,7 +119,7 @@ class Row:
             if line.endswith(" -> refused 5"):
                 down.add(node)
                 tears.pop(node, None)
-            if words[0] == "restart":
+            if words[0] in ("restart", "replace") and line.endswith(" -> ok"):
                 down.discard(node)
         return None, down, tears, len(receivers)
 
@@ -161,14 +166,14 @@ def without(row, at):
 
 
 def with_node_down(row, at):
-    """The lines after an event, where its node was taken down before it; that it is restarted in vain leaves it down."""
+    """The lines after an event, where its node was taken down before it; that it is restarted or replaced in vain leaves it down."""
     taken = taken_down(row, at)
     if taken is None:
         return None
     lines, sent = taken
     count = row.before(at)[3]
     # at a node that is down the event itself is answered so, and does nothing
-    ours = [] if row.events[at].startswith("restart ") else [row.events[at]]
+    ours = [] if row.events[at].startswith(("restart ", "replace ")) else [row.events[at]]
     rest = [shifted(line, count, sent) for line in ours + row.events[at + 1:]]
     then = after(row.script(row.events[:at] + lines + rest), at + len(lines) + len(ours))
     return [shifted(line, count + sent, -sent) for line in then]

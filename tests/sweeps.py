@@ -2,7 +2,8 @@
 """Runs the built program on scripts made of those in tests/golden: a vote torn after each number of bytes; each append of whole runs torn
 after each number of bytes; records made shorter after each event; and, before and after each event, lines that are refused: its call with
 wrong lengths, of a branch that isn't there or once more, and every event at a node that isn't there. Then over record files: frames of both
-versions in every mixture, with a tail, cut at each byte, and what is no record; and a trace that is cut at each byte.
+versions in every mixture, with a floor in front and without, with a tail, cut at each byte, and what is no record; and a trace that is cut
+at each byte.
 `tests/sweeps.py [PROGRAM]`. The last line is 'N passed, M failed'."""
 import itertools
 import os
@@ -33,7 +34,7 @@ TORN_ROWS = {
 }
 SHORTER_ROWS = ["plain_commit", "takeover_finds_prepared", "takeover_before_vote_late", "takeover_before_vote_early", "bundled_takeover",
                 "torn_vote_before_first_byte", "torn_vote_in_length", "torn_vote_after_length", "torn_vote_in_body",
-                "torn_vote_one_short", "torn_vote_whole", "torn_vote_far"]
+                "torn_vote_one_short", "torn_vote_whole", "torn_vote_far", "floor_forgets", "floor_waits", "floors_cross", "replace_lost"]
 
 
 def golden(name):
@@ -204,9 +205,9 @@ def is_same_but_for_compactions(trace, wanted):
                 torn = words[1]
             if line.endswith(" -> refused 5"):
                 down.add(torn)
-            if words[0] == "restart":
+            if words[0] == "restart" or words[0] == "replace" and line.endswith(" -> ok"):
                 down.discard(words[1])
-    return others == wanted.splitlines()
+    return others == [line for line in wanted.splitlines() if not line.startswith("compact ")]
 
 
 def shorter(name):
@@ -231,12 +232,12 @@ STRANGER = "9:78:78"
 AGAIN = {("start", "0"): "-8", ("end", "0"): "-6", ("end", "100"): "-6", ("rollback", "0"): "-4"}
 # the message Prepare of a transaction
 PREPARE = "02010000000101740100000161"
-# how many lines are refused about two rows, by hand: 37 about each event, and so many for each word of them
+# how many lines are refused about two rows, by hand: 44 about each event, and so many for each word of them
 REFUSED_LINES = {
     # 3 put, 1 get, 2 start that are done, 1 commit, 1 deliver
-    "busy_then_free": 8 * 37 + 3 * 4 + 3 + 2 * 1 + 1 + 0,
+    "busy_then_free": 8 * 44 + 3 * 4 + 3 + 2 * 1 + 1 + 0,
     # 2 rollback and 1 end that is done, 1 put, a start that is done and one that isn't, 1 commit, 1 deliver
-    "rollback_only": 8 * 37 + 2 * 1 + 2 + 4 + 1 + 0 + 1 + 0,
+    "rollback_only": 8 * 44 + 2 * 1 + 2 + 4 + 1 + 0 + 1 + 0,
 }
 
 
@@ -259,23 +260,61 @@ def of_strange_manager(words, managers):
     return [words[:2] + [f"1:74/{managers}=61"]] if is_one else []
 
 
-def at_no_node(nodes, sent):
-    """Every event at the first node of each kind that isn't there, and of datagrams that aren't there."""
+def place(name):
+    """The place in the order of names of an XID, a transaction or a floor."""
+    form, gtrid = re.match(r"(\d+):([0-9a-f]+|-)", name).groups()
+    return int(form), bytes.fromhex(gtrid.strip("-"))
+
+
+class Floors:
+    """The floors of nodes, by the lines of a trace."""
+
+    def __init__(self, managers):
+        self.managers, self.notices, self.floors, self.told = managers, {}, {}, {}
+
+    def rise(self, node, floor):
+        self.floors[node] = max(self.floors.get(node, floor), floor)
+
+    def take(self, event):
+        """An event of the trace, and what it changed."""
+        words = event.text.split()
+        if words[0] in ("floor", "replace") and event.answer == "ok":
+            self.rise(words[1], place(words[2]))
+        if words[0] == "restart" or words[0] == "replace" and event.answer == "ok":
+            self.told.pop(words[1], None)
+        if words[0] == "hear" and event.answer == "ok":
+            manager, node, floor = self.notices[words[1]]
+            told = self.told.setdefault(node, {})
+            told[manager] = max(told.get(manager, floor), floor)
+            if len(told) == self.managers:
+                self.rise(node, min(told.values()))
+        for number, manager, node, floor in (line.split()[1:] for line in event.then if line.startswith("told ")):
+            self.notices[number] = manager, node, place(floor)
+
+    def is_below(self, node, name):
+        return node in self.floors and place(name) < self.floors[node]
+
+
+def at_no_node(nodes, sent, told):
+    """Every event at the first node of each kind that isn't there, and of datagrams and notices that aren't there; and a resource manager
+    that was to be replaced."""
     absent = {kind: kind + str(sum(node[0] == kind for node in nodes)) for kind in "alr"}
     calls = ["start {} 1:74:61", "put {} 1:74:61 6b 31", "put {} 1:74:61 - " + LONG_VALUE, "del {} 1:74:61 6b", "get {} 1:74:61 6b",
              "end {} 1:74:61", "end {} 1:74:61 fail", "rollback {} 1:74:61", "recover {}", "view {} 1:74/0=61", "timeout {} 1:74/0=61"]
     lines = [call.format(absent["r"]) for call in calls]
     lines += [f"{word} {absent['l']} 1:74/0=61" for word in ("commit", "status", "timeout")]
+    lines += [f"floor {absent['r']} 1:74", "hear 0", f"hear {told + 1}", "replace r0 1:74"]
     for node in absent.values():
-        lines += [f"tear {node} 0", f"restart {node}", f"compact {node}", f"noise {node} -", f"noise {node} {PREPARE}"]
+        lines += [f"{line} {node}" for line in ("restart", "compact")]
+        lines += [f"{line[0]} {node} {line[1]}" for line in (("tear", 0), ("noise", "-"), ("noise", PREPARE), ("replace", "1:74"))]
     for number in (0, sent + 1):
         lines += [f"deliver {number}", f"lose {number}", f"cut {number} 0", f"cut {number} 99"]
     return lines
 
 
-def refused_before(words, nodes, sent, down):
-    """Lines that are refused before an event, with their answers; some nodes are down then."""
-    lines = [f"{line} -> refused 15" for line in at_no_node(nodes, sent)]
+def refused_before(words, nodes, sent, down, floors):
+    """Lines that are refused before an event, with their answers; some nodes are down then, some have floors."""
+    lines = [f"{line} -> refused 15" for line in at_no_node(nodes, sent, len(floors.notices))]
     if words[1] not in nodes:
         return lines
     is_call = words[0] in ("put", "del", "get", "end", "rollback", "view")
@@ -283,22 +322,27 @@ def refused_before(words, nodes, sent, down):
     for others, answer in ((of_wrong_length(words), "-5"), (of_no_branch(words), "-4"), (of_strange_manager(words, managers), "refused 2")):
         if words[1] in down:
             answer = "-7" if is_call else "refused 8"
-        lines += [f"{' '.join(other)} -> {answer}" for other in others]
+        over = "refused 17" if words[0] in ("view", "commit", "status", "timeout") else "-4"
+        for other in others:
+            is_over = words[1] not in down and floors.is_below(words[1], other[2])
+            lines.append(f"{' '.join(other)} -> {over if is_over else answer}")
     return lines
 
 
 def refused_about(head, events):
     """For each event the lines that are refused before it, and those after it."""
     nodes, down, sent, about = nodes_of(head), set(), 0, []
+    floors = Floors(sum(node[0] == "r" for node in nodes))
     for at, event in enumerate(events):
         words = event.text.split()
-        before = refused_before(words, nodes, sent, down)
+        before = refused_before(words, nodes, sent, down, floors)
         again = AGAIN.get((words[0], event.answer))
         about.append((before, [f"{event.text} -> {again}"] if again else []))
         sent += sum(line.startswith("sent ") for line in event.then)
+        floors.take(event)
         if event.answer == "refused 5":
             down.add(reached(events[:at], event)[0])
-        if words[0] == "restart":
+        if words[0] == "restart" or words[0] == "replace" and event.answer == "ok":
             down.discard(words[1])
     return about
 
@@ -373,6 +417,16 @@ REFUSED = [
     ("r0", [PROMISE]), ("r0", [BALLOT]), ("r0", [COMMITTED]), ("r0", [VOTE, VOTE]), ("r0", [PAST_COMMITTED]), ("r0", [VOTE, SNAPSHOT]),
     ("r0", [SNAPSHOT, SNAPSHOT]), ("r0", [SNAPSHOT, ROW, ROW]), ("r0", [ROW]),
 ]
+# the floors 1:74 and 1:75, which stand in front of records
+FLOOR, HIGHER = bytes.fromhex("00000008020d000000010174"), bytes.fromhex("00000008020d000000010175")
+FLOORED = [
+    ("a0", FLOOR, [PROMISE], ""), ("a0", HIGHER, [], ""), ("l0", FLOOR, [BALLOT], ""), ("l0", HIGHER, [], ""), ("r0", FLOOR, [], "working"),
+    ("r0", FLOOR, [VOTE], "prepared"), ("r0", FLOOR, [VOTE, COMMITTED], "committed"), ("r0", HIGHER, [], "refused 17"),
+    ("r0", FLOOR, [SNAPSHOT, ROW, PAST_COMMITTED], "committed"), ("r0", HIGHER, [SNAPSHOT, ROW], "refused 17"),
+]
+# a second one, one behind another frame, one of the old version, one that is cut in its fields, and one with a byte more
+REFUSED_FLOORS = [FLOOR + FLOOR, FLOOR + HIGHER, HIGHER + FLOOR, VOTE[1] + FLOOR, SNAPSHOT[1] + FLOOR,
+                  *map(bytes.fromhex, ("00000008010d000000010174", "00000007020d0000000101", "00000009020d00000001017400"))]
 
 
 def open_over(node, record, stops=False):
@@ -440,6 +494,27 @@ def records():
     print(f"{runs} records in files")
 
 
+def floored_records():
+    runs = 0
+    for node, floor, frames, view in FLOORED:
+        left = floor + b"".join(second for _, second in frames)
+        for versions in itertools.product(*frames):
+            for tail in (b"", b"\0\0\0", b"\0\0\0\x14\2"):
+                record = floor + b"".join(versions) + tail
+                check(f"{node} over {record.hex()}", is_opened(node, record, left, view), "it isn't opened so")
+                runs += 1
+    for record in REFUSED_FLOORS:
+        check(f"r0 over {record.hex()}", is_refused("r0", record), "it isn't refused so")
+        runs += 1
+    for whole, floor in ((FLOOR + VOTE[1], FLOOR), (HIGHER + SNAPSHOT[1], HIGHER)):
+        for length in range(len(whole) + 1):
+            kept = whole if length == len(whole) else floor if length >= len(floor) else b""
+            view = "prepared" if kept == FLOOR + VOTE[1] else "refused 17" if kept.startswith(HIGHER) else "working"
+            check(f"a record with a floor cut at {length}", is_opened("r0", whole[:length], kept, view), "it isn't opened so")
+            runs += 1
+    print(f"{runs} records with floors")
+
+
 def cut_traces():
     """Each beginning of a trace is refused at its last line, or at the one that is missing."""
     whole = golden("dropped_writes.out")
@@ -461,5 +536,6 @@ for row in SHORTER_ROWS:
     shorter(row)
 refuses()
 records()
+floored_records()
 cut_traces()
 end()

@@ -17,6 +17,7 @@ What can be raised, and what then holds:
     Unknown   it was asked to commit, and no answer came: it may be committed now or later, or aborted. `settle(error.tx)` asks
               again; only what it answers is known. Never run such a work again before that
     Refused   a call that the transaction can't do, as a key that is too long; it is rolled back
+    Forgotten it stands below a floor: it is over, and its outcome isn't kept any more. It may be committed: never run such a work again
 A Cluster is for one thread: give each thread its own."""
 import hashlib
 import hmac
@@ -27,6 +28,7 @@ import tomllib
 
 KINDS = (('acceptor', 'a'), ('leader', 'l'), ('rm', 'r'))
 FINAL = ('committed', 'aborted')
+FORGOTTEN = 'refused 17'
 
 
 class Aborted(Exception):
@@ -47,6 +49,14 @@ class Unknown(Exception):
 
 class Refused(Exception):
     """A call that can't be done."""
+
+
+class Forgotten(Exception):
+    """A transaction is over, and its outcome isn't kept any more."""
+
+    def __init__(self, tx):
+        super().__init__('%s is over, and its outcome is not kept any more' % tx)
+        self.tx = tx
 
 
 class Gone(OSError):
@@ -145,9 +155,15 @@ class Cluster:
             raise
 
     def info(self, name):
-        """What a node counts, by its words, as `appends` or `dropped`."""
+        """What a node counts, by its words, as `appends` or `dropped`; and its `floor`, if it has one."""
         words = self.ask(name, 'info')[0].split()
-        return {word: int(number) for word, number in zip(words[2::2], words[3::2])}
+        return {word: count if word == 'floor' else int(count) for word, count in zip(words[2::2], words[3::2])}
+
+    def raise_floor(self, rm, name):
+        """Has a manager's floor rise to a name, FORMAT:GTRID: what stands below is over, and forgotten. Refused where a branch is there."""
+        answer = self.ask('r%d' % rm, 'floor r%d %s' % (rm, name))[0]
+        if answer != 'ok':
+            raise Refused('the floor of r%d: %s' % (rm, answer))
 
     def table(self, rm):
         """The rows of a manager's table."""
@@ -172,10 +188,12 @@ class Cluster:
 
     def settle(self, tx, most=None):
         """The outcome of a transaction that a leader is asked to commit, and another where one doesn't answer. Gone where no leader
-        could be reached at all, so that none was asked; Unknown where none answered an outcome in time."""
+        could be reached at all, so that none was asked; Unknown where none answered an outcome in time; Forgotten where all that answered
+        have forgotten it."""
         until = time.monotonic() + (self.most if most is None else most)
         was_asked, reason = False, 'the file names no leader with a place for clients'
         while True:
+            said = []
             for leader in list(self.leaders):
                 try:
                     self.ask(leader)
@@ -189,6 +207,10 @@ class Cluster:
                     continue
                 if answer in FINAL:
                     return answer
+                said.append(answer)
+            # one leader may have forgotten what another still knows
+            if said and set(said) == {FORGOTTEN}:
+                raise Forgotten(tx)
             if time.monotonic() > until:
                 break
             time.sleep(0.05)
@@ -214,7 +236,8 @@ class Transaction:
 
     def __init__(self, cluster):
         self.cluster = cluster
-        self.gtrid = os.urandom(16).hex()
+        # the time first, in ms, so that names stand in the order of their times, and a floor is a point of time
+        self.gtrid = int(time.time() * 1000).to_bytes(6, 'big').hex() + os.urandom(10).hex()
         self.branches = []
         self.outcome = None
 
@@ -249,18 +272,20 @@ class Transaction:
         except Gone as error:
             self.rollback()
             raise Aborted(str(error)) from error
-        answer = answers[-1]
+        line, answer = lines[-1], answers[-1]
         if answers[0] != '0' and len(answers) > 1:
-            answer = answers[0]
+            line, answer = lines[0], answers[0]
         if answer == '0' or answer == 'none' or answer.startswith('value '):
             return answer
         self.rollback()
         if answer == 'refused 9':
             raise Conflict('%s: another transaction holds the key' % node)
-        # the branch is gone, since the manager has stopped or it was idle for too long; or the manager is down
-        if answer in ('-4', '-7', 'refused 5', 'refused 8', 'refused 11'):
+        # the branch is gone, since the manager has stopped or it was idle for too long; or its name is below the floor; or it is down
+        if answer in ('-4', '-7', '-8', 'refused 5', 'refused 8', 'refused 11'):
             raise Aborted('%s: %s' % (node, answer))
-        raise Refused('%s: %s is answered to: %s' % (node, answer, lines[-1][:80]))
+        if answer == 'refused 19':
+            raise Refused('%s: the name is not of its time: does this clock agree with the manager\'s? %s' % (node, line[:80]))
+        raise Refused('%s: %s is answered to: %s' % (node, answer, line[:80]))
 
     def get(self, rm, key):
         """The value of a key, None where it has none."""
@@ -300,6 +325,9 @@ class Transaction:
             raise Aborted(str(error)) from error
         except Unknown:
             self.outcome = 'unknown'
+            raise
+        except Forgotten:
+            self.outcome = 'forgotten'
             raise
         self.outcome = outcome
         if self.outcome == 'aborted':

@@ -7,6 +7,7 @@ Every while it lists what is prepared at the server under our names, and asks th
     prepared   nothing: the manager asks leaders by itself
     working    nothing at first; once it has been prepared for longer than GRACE, its application is taken for gone, and a leader is
                asked to decide (`timeout`): committed if all have voted so after all, else aborted
+    refused 17 it says so, and nothing else: the manager's floor was raised above it, and its outcome is gone there
 It keeps nothing, so it may be started and killed at any time. It ends nothing whose outcome it wasn't told, and touches no other names."""
 import os
 import sys
@@ -15,7 +16,7 @@ import time
 import psycopg2
 
 from pay import PREFIX, end_prepared, tx_of
-from pcommit_client import FINAL, Cluster, Gone
+from pcommit_client import FINAL, FORGOTTEN, Cluster, Gone
 
 EVERY = float(os.environ.get('PCOMMIT_EVERY', '0.1'))
 GRACE = float(os.environ.get('PCOMMIT_GRACE', '5'))
@@ -45,7 +46,7 @@ class Resolver:
         """Looks at each prepared transaction once. How many were ended."""
         cursor = self.cursor()
         cursor.execute(LIST, (PREFIX,))
-        ended = 0
+        ended, forgotten = 0, []
         for gid, age in cursor.fetchall():
             tx = tx_of(self.rm, gid)
             if tx is None:
@@ -56,6 +57,10 @@ class Resolver:
                 ended += 1
             elif view == 'working' and age > GRACE:
                 self.ask_leaders(tx)
+            elif view == FORGOTTEN:
+                forgotten.append(tx)
+        self.say('prepared here and forgotten by their manager; see how they ended elsewhere, and end them by hand: ' + ' '.join(forgotten)
+                 if forgotten else None)
         return ended
 
     def ask_leaders(self, tx):
@@ -71,7 +76,6 @@ class Resolver:
         while True:
             try:
                 self.round()
-                self.say(None)
             except (psycopg2.Error, Gone) as error:
                 self.say(str(error).strip().split('\n')[0])
             time.sleep(EVERY)

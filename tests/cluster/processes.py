@@ -53,16 +53,17 @@ def preload(folder, name='fail_writes'):
 class Processes:
     """A cluster in a folder: its files, its processes, and who starts them again when they go down with status 3.
 
-    `key` and `client_key` are 64 hex digits or None; `tables` the first contents, one dict of hex a manager; `env` has what the
-    environment of each process has besides. `through` maps (node, node) to the place to which the first sends what is for the second."""
+    `key` and `client_key` are 64 hex digits or None; `tables` the first contents, one dict of hex a manager; `names` what is said of timed
+    names, and `beside` which managers speak for a database; `env` has what the environment of each process has besides. `through` maps
+    (node, node) to the place to which the first sends what is for the second."""
 
     def __init__(self, program, folder, tables=({}, {}), acceptors=3, leaders=2, key=ZEROS, client_key=ZEROS[:-1] + '1', bundled=False,
-                 env=None, clock=None):
+                 env=None, clock=None, names=None, beside=()):
         self.program, self.folder = os.path.abspath(program), folder
         self.records = os.path.join(folder, 'records')
         os.makedirs(self.records, exist_ok=True)
         self.tables, self.bundled, self.keys = list(tables), bundled, {'key': key, 'client_key': client_key}
-        self.env, self.clock = env or {}, clock or {}
+        self.env, self.clock, self.named, self.beside = env or {}, clock or {}, names or {}, beside
         self.counts = {'a': acceptors, 'l': leaders, 'r': len(self.tables)}
         self.names = [letter + str(n) for _kind, letter in KINDS for n in range(self.counts[letter])]
         self.host = address()
@@ -103,8 +104,12 @@ class Processes:
                 if letter == 'r' and self.tables[number]:
                     rows = ', '.join('"%s" = "%s"' % row for row in self.tables[number].items())
                     words.append('table = { %s }' % rows)
+                if letter == 'r' and number in self.beside:
+                    words.append('beside = true')
         if self.clock:
             words += ['[time]'] + ['%s = %d' % row for row in self.clock.items()]
+        if self.named:
+            words += ['[names]', 'timed = true'] + ['%s = %d' % row for row in self.named.items()]
         return '\n'.join(words) + '\n'
 
     def command(self, name):

@@ -1,5 +1,7 @@
 ghost use Rattle.std.specs.Prelude.{◌≡◌, ℕ, ◌<◌, [], List, Some, IfOk, IfErr};
+ghost use Rattle.std.specs.List.{list_all};
 ghost use Rattle.xid.specs.Limits.{most_acceptors};
+ghost use Rattle.xid.specs.Places.{is_below};
 ghost use Rattle.xid.specs.declared.refusals.Refusal.TheVariants.{NoMemory};
 ghost use Rattle.wire.specs.Messages.{IsMessage};
 ghost use Rattle.wire.specs.declared.message.Kind.TheVariants.{P1a, P2a, B1a};
@@ -304,6 +306,14 @@ impl Acceptor {
         ensures err { IfErr result (λ e. e ≡ NoMemory) }
     {
         self.table.frames(&self.begun)
+    }
+
+    /// Whether it has stored nothing about a name at or above a floor: each fact is about a transaction that is below. It takes no memory.
+    pub fn is_unused_above(&self, floor: &Floor) -> bool
+        ensures { (config : Config) (number : ℕ) (facts : List FactKind) → StandsFor config number self.now facts
+            → result ≡ list_all (λ fact. is_below (Some floor.now) (fact_tx fact)) facts }
+    {
+        self.table.are_below(&self.begun, floor)
     }
 
     /// What is left of it where it forgets what is below a floor: the slots of the transactions that aren't below, in the order of their

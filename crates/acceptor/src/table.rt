@@ -1,5 +1,6 @@
-ghost use Rattle.std.specs.Prelude.{◌≡◌, ℕ, ◌<◌, true, [], ◌∷◌, ◌++◌, IfSome, IfOk, IfErr, OnOk, length, map, replicate, slice_get};
-ghost use Rattle.std.specs.List.{slice_index_or, All, IsDistinct};
+ghost use Rattle.std.specs.Prelude.{◌≡◌, ℕ, ◌<◌, true, [], ◌∷◌, ◌++◌, Some, IfSome, IfOk, IfErr, OnOk, length, map, replicate, slice_get};
+ghost use Rattle.std.specs.List.{slice_index_or, All, IsDistinct, list_all};
+ghost use Rattle.xid.specs.Places.{is_below};
 ghost use Rattle.xid.specs.Transactions.{TxParts, IsTx, tx_eq};
 ghost use Rattle.xid.specs.declared.refusals.Refusal.TheVariants.{NoMemory};
 ghost use Rattle.ballot.specs.Slots.{empty_slot};
@@ -207,10 +208,15 @@ impl Table {
         requires { AreInside (length self.now.transactions) begun.now.numbers }
         ensures { result ≡ slice_get (at_places self.now.transactions begun.now.numbers) i }
     {
-        match begun.get(i) {
-            Some(number) => self.transactions.view(number),
-            None => None,
-        }
+        self.transactions.view_at(begun, i)
+    }
+
+    /// Whether each transaction of an order is below a floor. It takes no memory.
+    pub fn are_below(&self, begun: &Order, floor: &Floor) -> bool
+        requires { AreInside (length self.now.transactions) begun.now.numbers }
+        ensures { result ≡ list_all (is_below (Some floor.now)) (at_places self.now.transactions begun.now.numbers) }
+    {
+        self.transactions.are_below(begun, floor)
     }
 
     /// The slots of a transaction, none where it wasn't seen: it is likely to be the one at a place of an order.

@@ -9,6 +9,7 @@ use Rattle.audit.specs.Words.{Step, Row, Table, Trace}
 use Rattle.audit.specs.Told.{step_of, history_of, each_step, moves_rightly}
 use Rattle.audit.specs.Stretches.{stretches_back}
 use Rattle.audit.specs.Tables.{first_tables, table_told, shows_rightly, are_tables}
+use Rattle.audit.specs.Floors.{stays_above}
 use Rattle.audit.specs.Books.{rows_of, stretch_of, has_committed}
 use Rattle.audit.specs.Following.{Follows, Takes}
 use Rattle.audit.specs.Consistent.{committed_back, is_order_kept, is_consistent}
@@ -19,6 +20,10 @@ use Rattle.audit.proofs.SerialLemmas.{order_so}
 -- whether a step is right after a history
 abbrev pub is_right : (first : ℕ → List Row) → List Step → Step → Bool
 is_right first before step = shows_rightly first before step && moves_rightly before step
+
+pub and_true : (b : Bool) → b ≡ (b && true)
+and_true true = refl
+and_true false = refl
 
 module _ (t : Trace) where
   abbrev first : ℕ → List Row
@@ -32,6 +37,9 @@ module _ (t : Trace) where
       is_order_kept first (stretches_back (history_of t.entries)) (committed_back (history_of t.entries))
       (first_commits (history_of t.entries)) t.finals
 
+  abbrev above : Bool
+  above = each_step (stays_above t.sizes.rms) (history_of t.entries)
+
   module _ (i : ℕ) (entry : Entry) (lt : i < length t.entries) (is : entry ≡ get_or t.entries i entry) (new : Ledger) (ok : Bool)
       (takes : Takes first (history_of (take i t.entries)) (step_of entry) ok new) where
     tested : is_right first (history_of (take i t.entries)) (step_of (get_or t.entries i entry)) ≡ ok
@@ -42,7 +50,7 @@ module _ (t : Trace) where
 
     -- a trace isn't consistent where one of its steps isn't right
     pub wrong_step : ok ≡ false → false ≡ is_consistent t
-    wrong_step e = sym (ap (λ b. b && tables_so && order_kept) (fails_at (is_right first) t.entries i entry lt (tested ∙ e)))
+    wrong_step e = sym (ap (λ b. b && tables_so && order_kept && above) (fails_at (is_right first) t.entries i entry lt (tested ∙ e)))
 
     pub next_follows : ok ≡ true → Follows first (history_of (take (i + 1) t.entries)) new
     next_follows e = subst (λ h. Follows first h new) (sym more) (takes.follows e)
@@ -51,6 +59,15 @@ module _ (t : Trace) where
         → each_step (is_right first) (history_of (take (i + 1) t.entries)) ≡ true
     next_right e before = ap (each_step (is_right first)) more ∙ (λ j. before j && (sym takes.right ∙ e) j)
 
+  -- nor where one takes part below a floor
+  pub wrong_floors : false ≡ above → false ≡ is_consistent t
+  wrong_floors wrong = by (each_step (is_right first) (history_of t.entries) && tables_so && order_kept)
+      ∙ ap (λ b. each_step (is_right first) (history_of t.entries) && tables_so && order_kept && b) wrong
+    where
+      by : (b : Bool) → false ≡ (b && false)
+      by true = refl
+      by false = refl
+
   module _ (ledger : Ledger) (follows : Follows first (history_of t.entries) ledger) where
     tables_read : are_tables (rows_of ledger.tables) 0 t.finals ≡ tables_so
     tables_read = λ i. are_tables (λ rm. follows.tables rm i) 0 t.finals
@@ -58,27 +75,29 @@ module _ (t : Trace) where
     -- it isn't where the last rows are others
     pub wrong_tables : false ≡ are_tables (rows_of ledger.tables) 0 t.finals → false ≡ is_consistent t
     wrong_tables wrong = by (each_step (is_right first) (history_of t.entries))
-        ∙ ap (λ b. each_step (is_right first) (history_of t.entries) && b && order_kept) (wrong ∙ tables_read)
+        ∙ ap (λ b. each_step (is_right first) (history_of t.entries) && b && order_kept && above) (wrong ∙ tables_read)
       where
-        by : (b : Bool) → false ≡ (b && false && order_kept)
+        by : (b : Bool) → false ≡ (b && false && order_kept && above)
         by true = refl
         by false = refl
 
     -- else it is where the order of first commits explains it
     pub by_order : each_step (is_right first) (history_of t.entries) ≡ true → true ≡ are_tables (rows_of ledger.tables) 0 t.finals
-        → (b : Bool) → b ≡ is_order_kept first (stretch_of ledger.branches) (has_committed ledger.views) ledger.firsts t.finals
+        → true ≡ above → (b : Bool)
+        → b ≡ is_order_kept first (stretch_of ledger.branches) (has_committed ledger.views) ledger.firsts t.finals
         → b ≡ is_consistent t
-    by_order right tables b order =
-        order ∙ order_so first (history_of t.entries) ledger t.finals follows
-        ∙ (λ i. sym right i && (tables ∙ tables_read) i && order_kept)
+    by_order right tables stays b order =
+        order ∙ order_so first (history_of t.entries) ledger t.finals follows ∙ and_true order_kept
+        ∙ (λ i. sym right i && (tables ∙ tables_read) i && order_kept && stays i)
 
     pub by_result : each_step (is_right first) (history_of t.entries) ≡ true → true ≡ are_tables (rows_of ledger.tables) 0 t.finals
-        → (tables : List Table) → tables ≡ t.tables → (finals : List (List Row)) → finals ≡ t.finals → (r : Result Bool Refusal)
+        → true ≡ above → (tables : List Table) → tables ≡ t.tables → (finals : List (List Row)) → finals ≡ t.finals
+        → (r : Result Bool Refusal)
         → IfOk r (λ b. b ≡ is_order_kept (first_tables tables) (stretch_of ledger.branches) (has_committed ledger.views) ledger.firsts
         finals)
         → IfOk r (λ b. b ≡ is_consistent t)
-    by_result right read tables tables_are finals finals_are (Ok b) order =
-        by_order right read b
+    by_result right read stays tables tables_are finals finals_are (Ok b) order =
+        by_order right read stays b
         (order ∙ (λ i. is_order_kept (first_tables (tables_are i)) (stretch_of ledger.branches) (has_committed ledger.views) ledger.firsts
         (finals_are i)))
-    by_result right read tables tables_are finals finals_are (Err e) order = tt
+    by_result right read stays tables tables_are finals finals_are (Err e) order = tt

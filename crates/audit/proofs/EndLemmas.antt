@@ -1,5 +1,6 @@
 -- The first fault in the last rows: for `Judge::verdict`.
-use Rattle.std.proofs.Common.{◌≡◌, ◌∙◌, ℕ, ◌+◌, ◌-◌, ◌<◌, ◌≤◌, Bool, true, false, ◌&&◌, ◌||◌, eqb, ltb, List, [], ◌∷◌, ◌++◌, length}
+use Rattle.std.proofs.Common.{◌≡◌, ◌∙◌, ◌⊎◌, inl, inr, ℕ, ◌+◌, ◌-◌, ◌<◌, ◌≤◌, Bool, true, false, ◌&&◌, ◌||◌, eqb, ltb, List, [], ◌∷◌}
+use Rattle.std.proofs.Common.{◌++◌, length}
 use Rattle.std.proofs.Common.{map, suc, take, drop, Some, None, refl, sym, ap, subst, arith}
 use Rattle.std.specs.Prelude.{filter}
 use Rattle.std.specs.List.{flat_map}
@@ -18,6 +19,7 @@ use Rattle.audit.specs.Stretches.{stretches_back}
 use Rattle.audit.specs.Tables.{first_tables, table_told, are_tables}
 use Rattle.audit.specs.Consistent.{committed_back, is_order_kept, is_consistent, reads_are_serial, serial_table}
 use Rattle.audit.specs.Books.{rows_of, stretch_of, has_committed, Reaches}
+use Rattle.audit.specs.FloorBooks.{are_above}
 use Rattle.audit.specs.Faults.{keeps, Tells, HasNoFault, IsFound}
 use Rattle.audit.specs.declared.faults.Question.{Question}
 use Rattle.audit.specs.declared.faults.Fault.{Fault}
@@ -136,27 +138,40 @@ some_rows [] some = absurd (omega (arith, some))
 some_rows (f ∷ fs) some = grind (arith, nat_tests)
 
 -- where all entries are right, so is a trace whose last rows are, and else it isn't
-consistent : (t : Trace) → entries_right t ≡ true → tables_kept t t.finals ≡ true → order_kept t t.finals ≡ true → is_consistent t ≡ true
-consistent t right tables order = λ i. right i && tables i && order i
+consistent : (t : Trace) → entries_right t ≡ true → tables_kept t t.finals ≡ true → order_kept t t.finals ≡ true
+    → keeps Question.Floors t ≡ true → is_consistent t ≡ true
+consistent t right tables order above = λ i. right i && tables i && order i && above i
 
 tables_wrong : (t : Trace) → tables_kept t t.finals ≡ false → is_consistent t ≡ false
-tables_wrong t wrong = ap (λ b. entries_right t && b && order_kept t t.finals) wrong ∙ by (entries_right t)
+tables_wrong t wrong =
+    ap (λ b. entries_right t && b && order_kept t t.finals && keeps Question.Floors t) wrong ∙ by (entries_right t)
   where
-    by : (b : Bool) → (b && false && order_kept t t.finals) ≡ false
+    by : (b : Bool) → (b && false && order_kept t t.finals && keeps Question.Floors t) ≡ false
     by true = refl
     by false = refl
 
 order_wrong : (t : Trace) → order_kept t t.finals ≡ false → is_consistent t ≡ false
 order_wrong t wrong =
-    ap (λ b. entries_right t && tables_kept t t.finals && b) wrong ∙ by (entries_right t) (tables_kept t t.finals)
+    ap (λ b. entries_right t && tables_kept t t.finals && b && keeps Question.Floors t) wrong
+    ∙ by (entries_right t) (tables_kept t t.finals)
   where
-    by : (b c : Bool) → (b && c && false) ≡ false
+    by : (b c : Bool) → (b && c && false && keeps Question.Floors t) ≡ false
     by true true = refl
     by true false = refl
     by false c = refl
 
+floors_wrong : (t : Trace) → keeps Question.Floors t ≡ false → is_consistent t ≡ false
+floors_wrong t wrong =
+    ap (λ b. entries_right t && tables_kept t t.finals && order_kept t t.finals && b) wrong
+    ∙ by (entries_right t && tables_kept t t.finals && order_kept t t.finals)
+  where
+    by : (b : Bool) → (b && false) ≡ false
+    by true = refl
+    by false = refl
+
 module _ (bytes : List ℕ) (lines : ℕ) (t : Trace) (tells : Tells bytes lines t) (some : 0 < length t.finals)
-    (right : entries_right t ≡ true) (entries : (n : ℕ) → 0 < n → n + length t.finals ≤ lines → HasNoFault bytes n)
+    (right : entries_right t ≡ true) (above : keeps Question.Floors t ≡ true)
+    (entries : (n : ℕ) → 0 < n → n + length t.finals ≤ lines → HasNoFault bytes n)
     (told explained : ℕ) (tables : Reaches (tables_kept t) t.finals told) (order : Reaches (order_kept t) t.finals explained) where
   abbrev all : ℕ
   all = length t.finals
@@ -188,8 +203,8 @@ module _ (bytes : List ℕ) (lines : ℕ) (t : Trace) (tells : Tells bytes lines
       record {
         so_far = with_rows t m;
         told = tells_rows bytes lines t tells m count (omega (arith, few, as_told, within)) same;
-        none = failed_by (with_rows t m) true true true true kept.0 kept.1 (tables_at m some_row (omega (arith, few, as_told)))
-            (order_at m some_row (omega (arith, few, as_explained)));
+        none = failed_by (with_rows t m) true true true true true kept.0 kept.1 (tables_at m some_row (omega (arith, few, as_told)))
+            (order_at m some_row (omega (arith, few, as_explained))) above;
       }
 
   -- the line of a row by how many rows there are from it on
@@ -208,8 +223,8 @@ module _ (bytes : List ℕ) (lines : ℕ) (t : Trace) (tells : Tells bytes lines
         record {
           so_far = with_rows t (suc told);
           told = tells_rows bytes lines t tells (suc told) (lines - ((all - told) - 1)) (omega (arith, lt)) is;
-          fails = failed_by (with_rows t (suc told)) true true false (keeps Question.Order (with_rows t (suc told))) kept.0 kept.1 wrong
-              refl;
+          fails = failed_by (with_rows t (suc told)) true true false (keeps Question.Order (with_rows t (suc told))) true kept.0 kept.1
+              wrong refl above;
           before = λ count pos less.
               before_row told (omega arith) le count pos (omega (arith, is, less)) (ltb lines (count + all)) refl;
         },
@@ -217,7 +232,7 @@ module _ (bytes : List ℕ) (lines : ℕ) (t : Trace) (tells : Tells bytes lines
 
   pub in_order : explained < all → (told < all → explained < told)
       → IsFound bytes t (Some (record { question = Question.Order; line = lines - ((all - explained) - 1) }))
-  in_order lt above =
+  in_order lt higher =
       let next : explained + 1 ≡ suc explained = omega arith in
       let wrong : order_kept t (take (suc explained) t.finals) ≡ false =
       ap (λ k. order_kept t (take k t.finals)) (sym next) ∙ order.next lt in
@@ -229,22 +244,22 @@ module _ (bytes : List ℕ) (lines : ℕ) (t : Trace) (tells : Tells bytes lines
         record {
           so_far = with_rows t (suc explained);
           told = tells_rows bytes lines t tells (suc explained) (lines - ((all - explained) - 1)) (omega (arith, lt)) is;
-          fails = failed_by (with_rows t (suc explained)) true true true false kept.0 kept.1 (tables_at (suc explained) (omega arith) le)
-              (λ i. some_rows (take (suc explained) t.finals) filled i || wrong i);
+          fails = failed_by (with_rows t (suc explained)) true true true false true kept.0 kept.1
+              (tables_at (suc explained) (omega arith) le) (λ i. some_rows (take (suc explained) t.finals) filled i || wrong i) above;
           before = λ count pos less.
               before_row explained (omega (arith, le)) (omega arith) count pos (omega (arith, is, less)) (ltb lines (count + all)) refl;
         },
       )
     where
       above_told : (b : Bool) → ltb told all ≡ b → suc explained ≤ told
-      above_told true q = omega (arith, above (ltb-true told all q))
+      above_told true q = omega (arith, higher (ltb-true told all q))
       above_told false q = omega (arith, ltb-false told all q, lt)
 
   pub in_none : all ≤ told → all ≤ explained → IsFound bytes t None
   in_none as_told as_explained =
       consistent t right
       (ap (tables_kept t) (sym (take_all told t.finals as_told)) ∙ tables.kept (omega (arith, some, as_told)))
-      (ap (order_kept t) (sym (take_all explained t.finals as_explained)) ∙ order.kept (omega (arith, some, as_explained)))
+      (ap (order_kept t) (sym (take_all explained t.finals as_explained)) ∙ order.kept (omega (arith, some, as_explained))) above
 
 -- ---- a judge's verdict
 
@@ -299,19 +314,20 @@ module _ (bytes : List ℕ) (judge : Judge) (lines : ℕ) (t : Trace) (noted : H
       → IsFound bytes t (Some (record { question = Question.Tables; line = lines - ((rows - told) - 1) }))
   found_in_tables lt le =
       subst (λ k. IsFound bytes t (Some (record { question = Question.Tables; line = lines - ((k - told) - 1) }))) many_so
-      (in_tables bytes lines t tells some entries_so (noted.none none) told explained tables_so order_reached
+      (in_tables bytes lines t tells some entries_so (noted.above none) (noted.none none) told explained tables_so order_reached
       (omega (arith, lt, many_so)) le)
 
   pub found_in_order : explained < rows → (told < rows → explained < told)
       → IsFound bytes t (Some (record { question = Question.Order; line = lines - ((rows - explained) - 1) }))
   found_in_order lt above =
       subst (λ k. IsFound bytes t (Some (record { question = Question.Order; line = lines - ((k - explained) - 1) }))) many_so
-      (in_order bytes lines t tells some entries_so (noted.none none) told explained tables_so order_reached (omega (arith, lt, many_so))
+      (in_order bytes lines t tells some entries_so (noted.above none) (noted.none none) told explained tables_so order_reached
+      (omega (arith, lt, many_so))
       (λ less. above (omega (arith, less, many_so))))
 
   pub found_none : rows ≤ told → rows ≤ explained → IsFound bytes t None
   found_none as_told as_explained =
-      in_none bytes lines t tells some entries_so (noted.none none) told explained tables_so order_reached
+      in_none bytes lines t tells some entries_so (noted.above none) (noted.none none) told explained tables_so order_reached
       (omega (arith, as_told, many_so)) (omega (arith, as_explained, many_so))
 
 -- a fault that was noted is the first
@@ -319,4 +335,8 @@ pub found_noted : (bytes : List ℕ) (judge : Judge) (lines : ℕ) (t : Trace) (
     → judge.fault ≡ Some fault → IsFound bytes t (Some fault)
 found_noted bytes judge lines t fault noted is =
     let was = noted.fault fault is in
-    (sym (wrong_trace t (sym noted.heard.right ∙ was.1)), was.0)
+    (by was.1, was.0)
+  where
+    by : (judge.auditor.is_right ≡ false) ⊎ (are_above (Some t) ≡ false) → is_consistent t ≡ false
+    by (inl wrong) = sym (wrong_trace t (sym noted.heard.right ∙ wrong))
+    by (inr below) = floors_wrong t below

@@ -4,48 +4,62 @@ use Rattle.std.proofs.Common.{Option, Some, None, refl, sym, ap, arith}
 use Rattle.std.proofs.lemmas.Bool.{and_parts}
 use Rattle.std.proofs.lemmas.List.{length_push}
 use Rattle.net_script.specs.declared.trace_lines.TraceLine.{TraceLine}
-use Rattle.net_script.specs.declared.trace_lines.TraceLine.TheVariants.{Cluster, Contents, Happened, Served, Changed, Datagram, Final}
-use Rattle.net_script.specs.TraceReaders.{last_of, is_missing, is_alone, with_now, with_sent, bare_step, opened, begun_with}
+use Rattle.net_script.specs.declared.trace_lines.TraceLine.TheVariants.{Cluster, Contents, Happened, Served, Changed, Datagram}
+use Rattle.net_script.specs.declared.trace_lines.TraceLine.TheVariants.{Notice, Final}
+use Rattle.net_script.specs.TraceReaders.{last_of, is_missing, is_alone, takes_sent, takes_notice, with_now, with_sent, with_notice}
+use Rattle.net_script.specs.TraceReaders.{bare_step, opened, begun_with}
 use Rattle.history.specs.SerialOrder.{first_commits}
+use Rattle.protocol.specs.declared.events.Told.{Told}
 use Rattle.audit.specs.Words.{Change, Step, Entry, Row, Trace}
 use Rattle.audit.specs.Told.{step_of, history_of, each_step, moves_rightly}
 use Rattle.audit.specs.Stretches.{stretches_back}
 use Rattle.audit.specs.Tables.{first_tables, table_told, shows_rightly, are_tables}
 use Rattle.audit.specs.Consistent.{committed_back, is_order_kept}
 use Rattle.audit.specs.Hearing.{are_right}
+use Rattle.audit.specs.FloorBooks.{are_above}
 use Rattle.audit.specs.Faults.{keeps, first_failed, question_of}
 use Rattle.audit.specs.Noting.{rows_so_far}
 use Rattle.audit.specs.declared.faults.Question.{Question}
 use Rattle.audit.proofs.AuditLemmas.{is_right}
 use Rattle.audit.proofs.LedgerLemmas.{history_push}
 use Rattle.std.proofs.lemmas.Option.{same_Some}
-use Rattle.audit.proofs.HearingLemmas.{after_is, none_left, change_made, sent_made, step_sent, step_changed}
+use Rattle.audit.proofs.HearingLemmas.{after_is, none_left, change_made, sent_made, notice_made, step_sent, step_changed}
 
--- ---- the first of four answers
+-- ---- the first of five answers
 
 -- the first question whose answer is no
-abbrev pub asked : (changes gets tables order : Bool) → Option Question
-asked changes gets tables order =
+abbrev pub asked : (changes gets tables order floors : Bool) → Option Question
+asked changes gets tables order floors =
     cond (not changes) (Some Question.Changes)
-    (cond (not gets) (Some Question.Gets) (cond (not tables) (Some Question.Tables) (cond (not order) (Some Question.Order) None)))
+    (cond (not gets) (Some Question.Gets)
+    (cond (not tables) (Some Question.Tables)
+    (cond (not order) (Some Question.Order) (cond (not floors) (Some Question.Floors) None))))
 
-pub failed_by : (t : Trace) (changes gets tables order : Bool) → keeps Question.Changes t ≡ changes → keeps Question.Gets t ≡ gets
-    → keeps Question.Tables t ≡ tables → keeps Question.Order t ≡ order → first_failed t ≡ asked changes gets tables order
-failed_by t changes gets tables order a b c d = λ i. asked (a i) (b i) (c i) (d i)
+pub failed_by : (t : Trace) (changes gets tables order floors : Bool) → keeps Question.Changes t ≡ changes
+    → keeps Question.Gets t ≡ gets → keeps Question.Tables t ≡ tables → keeps Question.Order t ≡ order → keeps Question.Floors t ≡ floors
+    → first_failed t ≡ asked changes gets tables order floors
+failed_by t changes gets tables order floors a b c d f = λ i. asked (a i) (b i) (c i) (d i) (f i)
 
 pub fails_changes : (t : Trace) → keeps Question.Changes t ≡ false → first_failed t ≡ Some Question.Changes
-fails_changes t a = λ i. asked (a i) (keeps Question.Gets t) (keeps Question.Tables t) (keeps Question.Order t)
+fails_changes t a = λ i.
+    asked (a i) (keeps Question.Gets t) (keeps Question.Tables t) (keeps Question.Order t) (keeps Question.Floors t)
 
 pub fails_gets : (t : Trace) → keeps Question.Changes t ≡ true → keeps Question.Gets t ≡ false → first_failed t ≡ Some Question.Gets
-fails_gets t a b = λ i. asked (a i) (b i) (keeps Question.Tables t) (keeps Question.Order t)
+fails_gets t a b = λ i. asked (a i) (b i) (keeps Question.Tables t) (keeps Question.Order t) (keeps Question.Floors t)
 
--- before the last rows two questions are asked
-pub none_fails : (t : Trace) → keeps Question.Changes t ≡ true → keeps Question.Gets t ≡ true → t.finals ≡ [] → first_failed t ≡ None
-none_fails t a b none =
+-- before the last rows three questions are asked
+pub floors_fail : (t : Trace) (floors : Bool) → keeps Question.Changes t ≡ true → keeps Question.Gets t ≡ true
+    → keeps Question.Floors t ≡ floors → t.finals ≡ [] → first_failed t ≡ asked true true true true floors
+floors_fail t floors a b f none =
     let history = history_of t.entries in
     let first = first_tables t.tables in
-    failed_by t true true true true a b (ap (are_tables (λ rm. table_told first rm history) 0) none)
+    failed_by t true true true true floors a b (ap (are_tables (λ rm. table_told first rm history) 0) none)
     (ap (λ fs. eqb (length fs) 0 || is_order_kept first (stretches_back history) (committed_back history) (first_commits history) fs) none)
+    f
+
+pub none_fails : (t : Trace) → keeps Question.Changes t ≡ true → keeps Question.Gets t ≡ true → keeps Question.Floors t ≡ true
+    → t.finals ≡ [] → first_failed t ≡ None
+none_fails t a b f none = floors_fail t true a b f none
 
 -- ---- entries
 
@@ -98,6 +112,12 @@ moves_bare : (t after : Trace) (e : Entry) → record t { entries = t.entries ++
 moves_bare t after e is bare kept =
     ap (keeps Question.Changes) (sym is) ∙ moves_push t.entries e ∙ (λ i. kept i && bare (history_of t.entries) i)
 
+-- a notice changes no view
+notice_moves : (n : Told) (before : List Step) (a : Entry)
+    → moves_rightly before (step_of (with_notice n a)) ≡ moves_rightly before (step_of a)
+notice_moves n before (Entry.Step step) = refl
+notice_moves n before (Entry.Serve node answer now sent) = refl
+
 -- whether a line tells of a change
 abbrev pub is_change : TraceLine → Bool
 is_change (Changed change) = true
@@ -124,6 +144,16 @@ moves_on (Some t) (Datagram d) after e right other =
     ap (keeps Question.Changes) (sym got.1)
     ∙ ap (λ es. each_step moves_rightly (history_of es)) made.new_is ∙ moves_push made.before (with_sent d a)
     ∙ ap (λ s. each_step moves_rightly before && moves_rightly before s) (step_sent d a)
+    ∙ sym (moves_push made.before a) ∙ ap (λ es. each_step moves_rightly (history_of es)) (sym made.old_is)
+    ∙ (both_kept t right).0
+moves_on (Some t) (Notice n) after e right other =
+    let got = after_is t after (Notice n) e in
+    let made = notice_made t n got.0 in
+    let a = made.last in
+    let before = history_of made.before in
+    ap (keeps Question.Changes) (sym got.1)
+    ∙ ap (λ es. each_step moves_rightly (history_of es)) made.new_is ∙ moves_push made.before (with_notice n a)
+    ∙ ap (λ b. each_step moves_rightly before && b) (notice_moves n before a)
     ∙ sym (moves_push made.before a) ∙ ap (λ es. each_step moves_rightly (history_of es)) (sym made.old_is)
     ∙ (both_kept t right).0
 moves_on (Some t) (Final rm rows) after e right other =
@@ -171,18 +201,21 @@ fails_with o (Contents table) after e right wrong = gets_fail o (Contents table)
 fails_with o (Happened event answer) after e right wrong = gets_fail o (Happened event answer) after e right wrong refl
 fails_with o (Served node answer) after e right wrong = gets_fail o (Served node answer) after e right wrong refl
 fails_with o (Datagram sent) after e right wrong = gets_fail o (Datagram sent) after e right wrong refl
+fails_with o (Notice n) after e right wrong = gets_fail o (Notice n) after e right wrong refl
 fails_with o (Final rm rows) after e right wrong = gets_fail o (Final rm rows) after e right wrong refl
 
 -- ---- last rows
 
 no_rows : (t after : Trace) → t.finals ≡ [] → after.finals ≡ t.finals
     → ((length t.finals ≡ 0) × (after.finals ≡ []))
-    ⊎ ((length after.finals ≡ length t.finals + 1) × (entries_right after ≡ entries_right t))
+    ⊎ ((length after.finals ≡ length t.finals + 1) × (entries_right after ≡ entries_right t)
+    × (are_above (Some after) ≡ are_above (Some t)))
 no_rows t after none same = inl (ap length none, same ∙ none)
 
 -- one line more is one of the last rows, or there are none yet
 pub rows_on : (o : Option Trace) (said : TraceLine) (after : Trace) → Some after ≡ begun_with o said
-    → ((rows_so_far o ≡ 0) × (after.finals ≡ [])) ⊎ ((length after.finals ≡ rows_so_far o + 1) × (entries_right after ≡ right_so_far o))
+    → ((rows_so_far o ≡ 0) × (after.finals ≡ []))
+    ⊎ ((length after.finals ≡ rows_so_far o + 1) × (entries_right after ≡ right_so_far o) × (are_above (Some after) ≡ are_above o))
 rows_on None (Cluster sizes) after e = inl (refl, ap (λ (u : Trace). u.finals) (same_Some after (opened sizes) e))
 rows_on None said after e = absurd (cc)
 rows_on (Some t) (Cluster sizes) after e = absurd (cc)
@@ -203,9 +236,17 @@ rows_on (Some t) (Changed c) after e =
     (ap (λ (u : Trace). u.finals) (sym got.1))
 rows_on (Some t) (Datagram d) after e =
     let got = after_is t after (Datagram d) e in
-    no_rows t after (none_left t.finals (and_parts (eqb (length t.finals) 0) (not (is_missing (last_of t.entries))) got.0).0)
+    no_rows t after (none_left t.finals (and_parts (eqb (length t.finals) 0) (takes_sent (last_of t.entries)) got.0).0)
+    (ap (λ (u : Trace). u.finals) (sym got.1))
+rows_on (Some t) (Notice n) after e =
+    let got = after_is t after (Notice n) e in
+    no_rows t after (none_left t.finals (and_parts (eqb (length t.finals) 0) (takes_notice (last_of t.entries)) got.0).0)
     (ap (λ (u : Trace). u.finals) (sym got.1))
 rows_on (Some t) (Final rm rows) after e =
     let got = after_is t after (Final rm rows) e in
     let more : length t.finals + 1 ≡ length (t.finals ++ rows ∷ []) = omega (arith, length_push t.finals rows) in
-    inr (ap (λ (u : Trace). length u.finals) (sym got.1) ∙ sym more, ap entries_right (sym got.1))
+    inr (
+      ap (λ (u : Trace). length u.finals) (sym got.1) ∙ sym more,
+      ap entries_right (sym got.1),
+      ap (λ (u : Trace). are_above (Some u)) (sym got.1),
+    )

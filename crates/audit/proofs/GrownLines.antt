@@ -7,17 +7,20 @@ use Rattle.std.proofs.lemmas.Bool.{and_parts}
 use Rattle.std.proofs.lemmas.List.{length-append, length_push}
 use Rattle.std.proofs.lemmas.List.Elements.{All-head, All-tail}
 use Rattle.net_script.specs.declared.trace_lines.TraceLine.{TraceLine}
-use Rattle.net_script.specs.declared.trace_lines.TraceLine.TheVariants.{Cluster, Contents, Happened, Served, Changed, Datagram, Final}
+use Rattle.net_script.specs.declared.trace_lines.TraceLine.TheVariants.{Cluster, Contents, Happened, Served, Changed, Datagram}
+use Rattle.net_script.specs.declared.trace_lines.TraceLine.TheVariants.{Notice, Final}
 use Rattle.net_script.specs.Items.{IsSizes, IsContents}
-use Rattle.net_script.specs.TraceLines.{IsChange, IsSent, AreFinalRows, IsTraceLine, lines_of, whole_line, trace_line_words}
+use Rattle.net_script.specs.TraceLines.{IsChange, IsSent, IsNotice, AreFinalRows, IsTraceLine, lines_of, whole_line, trace_line_words}
 use Rattle.net_script.specs.TraceReading.{IsEntry, IsBegun}
-use Rattle.net_script.specs.TraceReaders.{so_far_of, may_follow, with_now, with_sent, bare_step, grown, opened, begun_with, lines_so_far}
+use Rattle.net_script.specs.TraceReaders.{last_of as how_much, told_by, takes_notice, so_far_of, may_follow, with_now, with_sent}
+use Rattle.net_script.specs.TraceReaders.{with_notice, bare_step, grown, opened, begun_with, lines_so_far}
 use Rattle.net_script.specs.Traces.{joined_words}
-use Rattle.net_script.proofs.DraftLemmas.{begins}
+use Rattle.net_script.proofs.DraftLemmas.{begins, serve_tells_none}
 use Rattle.protocol.specs.declared.events.Sent.{Sent}
+use Rattle.protocol.specs.declared.events.Told.{Told}
 use Rattle.audit.specs.Words.{Change, Entry, Trace}
 use Rattle.std.proofs.lemmas.Option.{same_Some}
-use Rattle.audit.proofs.HearingLemmas.{after_is, change_made, sent_made}
+use Rattle.audit.proofs.HearingLemmas.{after_is, change_made, sent_made, notice_made}
 
 last_of : {X : Type 0} (P : X → Type 0) (xs : List X) (x : X) → All P (xs ++ x ∷ []) → P x
 last_of P [] x all = All-head P x [] all
@@ -30,6 +33,10 @@ change_in_range c (Entry.Serve node answer now sent) is = is.1.change c refl
 sent_in_range : (d : Sent) (e : Entry) → IsEntry (with_sent d e) → IsSent d
 sent_in_range d (Entry.Step step) is = last_of IsSent step.sent d is.1.datagrams
 sent_in_range d (Entry.Serve node answer now sent) is = last_of IsSent sent d is.1.datagrams
+
+notice_in_range : (n : Told) (e : Entry) → takes_notice (told_by e) ≡ true → IsEntry (with_notice n e) → IsNotice n
+notice_in_range n (Entry.Step step) takes is = last_of IsNotice step.told n is.2
+notice_in_range n (Entry.Serve node answer now sent) takes is = absurd (serve_tells_none now sent takes)
 
 in_range : (t : Trace) (said : TraceLine) → may_follow (so_far_of t) said ≡ true → IsBegun (grown t said) → IsTraceLine said
 in_range t (Cluster sizes) may is = absurd (cc (may))
@@ -44,6 +51,10 @@ in_range t (Changed c) may is =
 in_range t (Datagram d) may is =
     let made = sent_made t d may in
     sent_in_range d made.last (last_of IsEntry made.before (with_sent d made.last) (subst (All IsEntry) made.new_is is.entries))
+in_range t (Notice n) may is =
+    let made = notice_made t n may in
+    notice_in_range n made.last (ap takes_notice (sym made.told) ∙ (and_parts _ (takes_notice (how_much t.entries)) may).1)
+    (last_of IsEntry made.before (with_notice n made.last) (subst (All IsEntry) made.new_is is.entries))
 in_range t (Final rm rows) may is =
     let same : rm ≡ length t.finals = eqb-true rm (length t.finals) (and_parts _ _ may).0 in
     let named : length (t.finals ++ rows ∷ []) ≤ 256 = is.named in

@@ -1,28 +1,31 @@
 -- What an auditor holds after each kind of line: for `Auditor::take` and its parts.
-use Rattle.std.proofs.Common.{◌≡◌, ◌∙◌, ℕ, Bool, true, false, not, ◌&&◌, eqb, cond, List, [], ◌∷◌, ◌++◌, Option, Some, None}
+use Rattle.std.proofs.Common.{◌≡◌, ◌∙◌, ℕ, Bool, true, false, ◌&&◌, eqb, cond, List, [], ◌∷◌, ◌++◌, Option, Some, None}
 use Rattle.std.proofs.Common.{Result, Ok, Err}
-use Rattle.std.proofs.Common.{refl, sym, ap, subst, length, inl, suc, arith, eqb-true}
+use Rattle.std.proofs.Common.{refl, sym, ap, subst, length, inl, eqb-true}
 use Rattle.std.specs.Prelude.{IfErr, OnOk}
 use Rattle.std.specs.Option.{option_map_or}
-use Rattle.std.proofs.lemmas.Bool.{and_parts, not-true}
+use Rattle.std.proofs.lemmas.Bool.{and_parts}
 use Rattle.std.proofs.lemmas.List.{nil_from_length}
 use Rattle.std.proofs.lemmas.Option.{same_Some}
 use Rattle.net_script.specs.declared.values.Sizes.{Sizes}
-use Rattle.net_script.specs.declared.trace_lines.TraceLine.TheVariants.{Cluster, Contents, Happened, Served, Changed, Datagram, Final}
+use Rattle.net_script.specs.declared.trace_lines.TraceLine.TheVariants.{Cluster, Contents, Happened, Served, Changed, Datagram}
+use Rattle.net_script.specs.declared.trace_lines.TraceLine.TheVariants.{Notice, Final}
 use Rattle.net_script.specs.TraceReading.{RefusesTrace}
 use Rattle.net_script.specs.declared.so_far.LastEntry.{LastEntry}
-use Rattle.net_script.specs.TraceReaders.{told_of, told_by, last_of, so_far_of, is_missing, is_alone, may_follow, bare_step}
-use Rattle.net_script.specs.TraceReaders.{with_now, with_sent}
+use Rattle.net_script.specs.TraceReaders.{filled_by, noticed_by, told_by, last_of, so_far_of, is_missing, is_alone, takes_sent}
+use Rattle.net_script.specs.TraceReaders.{takes_notice, may_follow, bare_step, with_now, with_sent, with_notice}
 use Rattle.net_script.specs.TraceReaders.{at_last, grown, begun_with}
 use Rattle.net_script.specs.declared.trace_lines.TraceLine.{TraceLine}
 use Rattle.xid.specs.declared.refusals.Refusal.{Refusal}
 use Rattle.xid.specs.declared.refusals.Refusal.TheVariants.{NoMemory}
 use Rattle.protocol.specs.declared.events.Sent.{Sent}
+use Rattle.protocol.specs.declared.events.Told.{Told}
 use Rattle.protocol.specs.declared.nodes.NodeId.{NodeId}
 use Rattle.audit.specs.Words.{Answer, Event, Deliver, Change, Step, Entry, Row, Table, Trace}
 use Rattle.audit.specs.Told.{step_of, history_of, each_step, is_move}
 use Rattle.audit.specs.Stretches.{stretches_back}
 use Rattle.audit.specs.Tables.{first_tables, table_told, shows_rightly, are_tables}
+use Rattle.audit.specs.Floors.{stays_above}
 use Rattle.audit.specs.Books.{is_move_from}
 use Rattle.audit.specs.Consistent.{committed_back, is_order_kept, is_consistent}
 use Rattle.history.specs.SerialOrder.{first_commits}
@@ -30,8 +33,8 @@ use Rattle.audit.specs.Following.{Follows, IsChanged}
 use Rattle.audit.specs.Hearing.{are_right, Hears, HasHeard}
 use Rattle.audit.specs.declared.ledger.Ledger.{Ledger}
 use Rattle.audit.specs.declared.auditor.Auditor.{Auditor}
-use Rattle.net_script.proofs.DraftLemmas.{no_entries}
-use Rattle.audit.proofs.AuditLemmas.{is_right}
+use Rattle.net_script.proofs.DraftLemmas.{no_entries, alone_some, sent_some, notice_some}
+use Rattle.audit.proofs.AuditLemmas.{is_right, and_true}
 use Rattle.audit.proofs.LedgerLemmas.{bare, follows_event, follows_change, moves_so, nothing_happened, history_push}
 
 wrong_is : (b : Bool) → b ≡ false → b ≡ true → ⊥
@@ -53,10 +56,6 @@ pub right_push : (tables : List Table) (entries : List Entry) (e : Entry)
     → are_right tables (entries ++ e ∷ []) ≡ (are_right tables entries && is_right (first_tables tables) (history_of entries) (step_of e))
 right_push tables entries e = ap (each_step (is_right (first_tables tables))) (history_push entries e)
 
-pub and_true : (b : Bool) → b ≡ (b && true)
-and_true true = refl
-and_true false = refl
-
 serve_heard : (auditor : Auditor) (node : NodeId) (answer : Answer) (tables : List Table) (entries : List Entry) (finals : List (List Row))
     → Hears auditor tables entries finals → Hears auditor tables (entries ++ Entry.Serve node answer None [] ∷ []) finals
 serve_heard auditor node answer tables entries finals heard =
@@ -68,7 +67,7 @@ serve_heard auditor node answer tables entries finals heard =
       right = heard.right ∙ and_true (are_right tables entries) ∙ sym (right_push tables entries entry);
       follows = λ e.
           subst (λ h. Follows first h auditor.ledger) (sym (history_push entries entry))
-          (follows_event first before auditor.ledger auditor.ledger (heard.follows e) (Deliver 0) answer []
+          (follows_event first before auditor.ledger auditor.ledger (heard.follows e) (Deliver 0) answer [] []
           (nothing_happened auditor.ledger answer));
       finals_are = heard.finals_are;
     }
@@ -109,6 +108,35 @@ sent_heard sent auditor tables entries a finals heard =
       finals_are = heard.finals_are;
     }
 
+-- ---- notices
+
+-- what a step told counts for nothing
+follows_told : (first : ℕ → List Row) (before : List Step) (step : Step) (told : List Told) (ledger : Ledger)
+    → Follows first (step ∷ before) ledger → Follows first (record step { told = told } ∷ before) ledger
+follows_told first before step told ledger at = record {
+  tables = at.tables;
+  branches = at.branches;
+  views = at.views;
+  firsts = at.firsts;
+}
+
+notice_heard : (n : Told) (auditor : Auditor) (tables : List Table) (entries : List Entry) (a : Entry) (finals : List (List Row))
+    → Hears auditor tables (entries ++ a ∷ []) finals → Hears auditor tables (entries ++ with_notice n a ∷ []) finals
+notice_heard n auditor tables entries (Entry.Step step) finals heard =
+    let first = first_tables tables in
+    let before = history_of entries in
+    let a = Entry.Step step in
+    record {
+      tables_are = heard.tables_are;
+      right = heard.right ∙ right_push tables entries a ∙ sym (right_push tables entries (with_notice n a));
+      follows = λ e.
+          subst (λ h. Follows first h auditor.ledger) (sym (history_push entries (with_notice n a)))
+          (follows_told first before step (step.told ++ n ∷ []) auditor.ledger
+          (subst (λ h. Follows first h auditor.ledger) (history_push entries a) (heard.follows e)));
+      finals_are = heard.finals_are;
+    }
+notice_heard n auditor tables entries (Entry.Serve node answer now sent) finals heard = heard
+
 -- ---- changes of views
 
 -- the step of an entry with a changed view
@@ -138,7 +166,7 @@ module _ (change : Change) (tables : List Table) (entries : List Entry) (a : Ent
   abbrev after : Step
   after = record step { now = Some change }
 
-  step_is : step ≡ bare step.event step.answer step.sent
+  step_is : step ≡ bare step.event step.answer step.sent step.told
   step_is = ap (λ now. record step { now = now }) none
 
   -- by the entry without its change
@@ -167,7 +195,7 @@ module _ (change : Change) (tables : List Table) (entries : List Entry) (a : Ent
       → new.is_right ≡ ok → new.tables ≡ old.tables → new.finals ≡ old.finals
       → (finals : List (List Row)) → Hears old tables (entries ++ a ∷ []) finals → Hears new tables (entries ++ b ∷ []) finals
   change_heard old new ok right change_is now same others finals heard =
-      let at : Follows first (bare step.event step.answer step.sent ∷ before) old.ledger =
+      let at : Follows first (bare step.event step.answer step.sent step.told ∷ before) old.ledger =
       subst (λ h. Follows first h old.ledger) (history_push entries a ∙ ap (λ s. s ∷ before) step_is) (heard.follows right) in
       let parts = and_parts (each_step (is_right first) before) (shows_rightly first before step && true)
       (sym right_before ∙ sym heard.right ∙ right) in
@@ -175,12 +203,13 @@ module _ (change : Change) (tables : List Table) (entries : List Entry) (a : Ent
       record {
         tables_are = ap (λ v. v.items) same ∙ heard.tables_are;
         right =
-            now ∙ change_is.0 ∙ moves_so first before old.ledger step.event step.answer step.sent at (Some change)
+            now ∙ change_is.0 ∙ moves_so first before old.ledger step.event step.answer step.sent step.told at (Some change)
             ∙ (λ i. sym parts.0 i && (sym shown.0 i && is_move before change)) ∙ sym right_after;
         follows = λ e.
             subst (λ h. Follows first h new.ledger)
             (ap (λ s. s ∷ before) (sym (step_changed change a)) ∙ sym (history_push entries b))
-            (follows_change first before old.ledger step.event step.answer step.sent at new.ledger change (change_is.1 (sym now ∙ e)));
+            (follows_change first before old.ledger step.event step.answer step.sent step.told at new.ledger change
+            (change_is.1 (sym now ∙ e)));
         finals_are = λ e. ap (λ v. v.items) others ∙ heard.finals_are right;
       }
 
@@ -236,32 +265,34 @@ is_made make (e ∷ f ∷ rest) some =
       new_is = ap (λ l. e ∷ l) made.new_is;
     }
 
--- what a change and a datagram do to the last entry, where they may follow
+-- what a change, a datagram and a notice do to the last entry, where they may follow
 pub change_made : (t : Trace) (change : Change) → may_follow (so_far_of t) (Changed change) ≡ true → IsMade (with_now change) t.entries
 change_made t change may =
     is_made (with_now change) t.entries
-    (some (last_of t.entries) (and_parts (eqb (length t.finals) 0) (is_alone (last_of t.entries)) may).1)
-  where
-    some : (l : LastEntry) → is_alone l ≡ true → is_missing l ≡ false
-    some LastEntry.Missing h = absurd (cc (h))
-    some LastEntry.Bare h = refl
-    some LastEntry.Full h = refl
+    (alone_some (last_of t.entries) (and_parts (eqb (length t.finals) 0) (is_alone (last_of t.entries)) may).1)
 
 pub sent_made : (t : Trace) (sent : Sent) → may_follow (so_far_of t) (Datagram sent) ≡ true → IsMade (with_sent sent) t.entries
 sent_made t sent may =
     is_made (with_sent sent) t.entries
-    (not-true (is_missing (last_of t.entries)) (and_parts (eqb (length t.finals) 0) (not (is_missing (last_of t.entries))) may).1)
+    (sent_some (last_of t.entries) (and_parts (eqb (length t.finals) 0) (takes_sent (last_of t.entries)) may).1)
+
+pub notice_made : (t : Trace) (n : Told) → may_follow (so_far_of t) (Notice n) ≡ true → IsMade (with_notice n) t.entries
+notice_made t n may =
+    is_made (with_notice n) t.entries
+    (notice_some (last_of t.entries) (and_parts (eqb (length t.finals) 0) (takes_notice (last_of t.entries)) may).1)
 
 -- an entry with its answer alone changed no view
-bare_none : (last : Entry) → is_alone (told_by last) ≡ true → (step_of last).now ≡ None
-bare_none (Entry.Step step) h = of step.now step.sent h
+pub bare_none : (last : Entry) → is_alone (told_by last) ≡ true → (step_of last).now ≡ None
+bare_none (Entry.Step step) h = of step.now step.sent step.told h
   where
-    of : (now : Option Change) (sent : List Sent) → is_alone (told_of now sent) ≡ true → now ≡ None
-    of None sent h = refl
-    of (Some c) sent h = absurd (cc (h))
+    of : (now : Option Change) (sent : List Sent) (told : List Told)
+        → is_alone (noticed_by told (filled_by now sent LastEntry.Bare)) ≡ true → now ≡ None
+    of None sent told h = refl
+    of (Some c) sent [] h = absurd (cc (h))
+    of (Some c) sent (n ∷ told) h = absurd (cc (h))
 bare_none (Entry.Serve node answer now sent) h = of now sent h
   where
-    of : (now : Option Change) (sent : List Sent) → is_alone (told_of now sent) ≡ true → now ≡ None
+    of : (now : Option Change) (sent : List Sent) → is_alone (filled_by now sent LastEntry.BareServe) ≡ true → now ≡ None
     of None sent h = refl
     of (Some c) sent h = absurd (cc (h))
 
@@ -325,6 +356,17 @@ sent_line auditor sent (Some t) after heard e =
     (sent_heard sent auditor t.tables made.before made.last t.finals
     (subst (λ es. Hears auditor t.tables es t.finals) made.old_is heard)))
 
+pub notice_line : (auditor : Auditor) (n : Told) (before : Option Trace) (after : Trace) → HasHeard auditor before
+    → Some after ≡ begun_with before (Notice n) → HasHeard auditor (Some after)
+notice_line auditor n None after heard e = absurd (cc)
+notice_line auditor n (Some t) after heard e =
+    let got = after_is t after (Notice n) e in
+    let made = notice_made t n got.0 in
+    subst (λ u. HasHeard auditor (Some u)) got.1
+    (subst (λ es. Hears auditor t.tables es t.finals) (sym made.new_is)
+    (notice_heard n auditor t.tables made.before made.last t.finals
+    (subst (λ es. Hears auditor t.tables es t.finals) made.old_is heard)))
+
 pub rows_line : (old new : Auditor) (rm : ℕ) (rows : List Row)
     → ((tables : List Table) (entries : List Entry) (finals : List (List Row)) → Hears old tables entries finals
     → Hears new tables entries (finals ++ rows ∷ []))
@@ -347,7 +389,8 @@ cluster_line auditor sizes (Some t) after heard e = absurd (cc)
 pub wrong_trace : (t : Trace) → are_right t.tables t.entries ≡ false → false ≡ is_consistent t
 wrong_trace t wrong = sym (ap (λ b. b && are_tables (λ rm. table_told (first_tables t.tables) rm (history_of t.entries)) 0 t.finals
     && is_order_kept (first_tables t.tables) (stretches_back (history_of t.entries)) (committed_back (history_of t.entries))
-    (first_commits (history_of t.entries)) t.finals) wrong)
+    (first_commits (history_of t.entries)) t.finals
+    && each_step (stays_above t.sizes.rms) (history_of t.entries)) wrong)
 
 pub wants_memory : {X : Type 0} (bytes : List ℕ) (r : Result X Refusal) → IfErr r (λ e. e ≡ NoMemory) → IfErr r (RefusesTrace bytes)
 wants_memory bytes (Ok b) wants = tt

@@ -8,6 +8,7 @@ use Rattle.std.proofs.lemmas.Bool.{and_parts}
 use Rattle.std.proofs.lemmas.List.{reverse-append, map-append, take-append-drop}
 use Rattle.protocol.specs.Tables.{with_writes}
 use Rattle.protocol.specs.declared.events.Sent.{Sent}
+use Rattle.protocol.specs.declared.events.Told.{Told}
 use Rattle.protocol.specs.declared.nodes.NodeId.{NodeId}
 use Rattle.xid.specs.declared.refusals.Refusal.{Refusal}
 use Rattle.transactions.specs.Seen.{seen_with}
@@ -24,13 +25,13 @@ use Rattle.audit.specs.declared.ledger.Ledger.{Ledger}
 use Rattle.audit.proofs.MoveLemmas.{with_change, views_more, move_same}
 
 -- a step that changed no view
-abbrev pub bare : Event → Answer → List Sent → Step
-bare event answer sent = record { event = event; answer = answer; now = None; sent = sent }
+abbrev pub bare : Event → Answer → List Sent → List Told → Step
+bare event answer sent told = record { event = event; answer = answer; now = None; sent = sent; told = told }
 
 pub follows_event : (first : ℕ → List Row) (before : List Step) (old mid : Ledger) → Follows first before old
-    → (event : Event) (answer : Answer) (sent : List Sent) → IsHappened old mid event answer
-    → Follows first (bare event answer sent ∷ before) mid
-follows_event first before old mid follows event answer sent happened = record {
+    → (event : Event) (answer : Answer) (sent : List Sent) (told : List Told) → IsHappened old mid event answer
+    → Follows first (bare event answer sent told ∷ before) mid
+follows_event first before old mid follows event answer sent told happened = record {
   tables = λ rm. ap (λ ts. rows_of ts rm) happened.tables ∙ follows.tables rm;
   branches = λ rm x. happened.branches rm x ∙ ap (stretch_by rm x event answer) (follows.branches rm x);
   views = λ tx. ap (λ v. views_in v tx) happened.views ∙ follows.views tx;
@@ -38,7 +39,7 @@ follows_event first before old mid follows event answer sent happened = record {
 }
 
 module _ (first : ℕ → List Row) (before : List Step) (mid : Ledger) (event : Event) (answer : Answer) (sent : List Sent)
-    (at : Follows first (bare event answer sent ∷ before) mid) where
+    (told : List Told) (at : Follows first (bare event answer sent told ∷ before) mid) where
   branches_after : (rm : ℕ) (x : XidParts) → stretch_of mid.branches rm x ≡ stretch_by rm x event answer (stretch_back rm x before)
   branches_after = at.branches
 
@@ -53,7 +54,7 @@ module _ (first : ℕ → List Row) (before : List Step) (mid : Ledger) (event :
 
   module _ (new : Ledger) (change : Change) (changed : IsChanged mid new change) where
     abbrev after : Step
-    after = with_change before event answer sent change
+    after = with_change before event answer sent told change
 
     -- a table changes where its resource manager has committed
     table_by : (rm : ℕ) (here : Bool)
@@ -97,15 +98,15 @@ module _ (first : ℕ → List Row) (before : List Step) (mid : Ledger) (event :
       views = λ tx.
           changed.views tx
           ∙ ap (λ vs. cond (tx_eq tx change.tx) (set vs (place_at change.rm tx) change.view) vs) (views_before tx)
-          ∙ sym (views_more before event answer sent change changed.valid tx);
+          ∙ sym (views_more before event answer sent told change changed.valid tx);
       firsts =
           changed.firsts ∙ ap (λ txs. firsts_changed txs change) firsts_before
           ∙ firsts_by (first_commits before) (is_committed_view change.view);
     }
 
   follows_now : (new : Ledger) (now : Option Change) → IsChangedBy mid new now
-      → Follows first (record { event = event; answer = answer; now = now; sent = sent } ∷ before) new
-  follows_now new None same = subst (Follows first (bare event answer sent ∷ before)) (sym same) at
+      → Follows first (record { event = event; answer = answer; now = now; sent = sent; told = told } ∷ before) new
+  follows_now new None same = subst (Follows first (bare event answer sent told ∷ before)) (sym same) at
   follows_now new (Some change) changed = follows_change new change changed
 
   pub moves_so : (now : Option Change) → option_map_or (is_move_from mid.views) now true
@@ -135,12 +136,12 @@ pub taken : (first : ℕ → List Row) (before : List Step) (step : Step) (old m
     → (ok ≡ true → IsChangedBy mid new step.now) → Takes first before step ok new
 taken first before step old mid new ok follows right happened moves changed = record {
   right =
-      moves ∙ moves_so first before mid step.event step.answer step.sent
-      (follows_event first before old mid follows step.event step.answer step.sent happened) step.now
+      moves ∙ moves_so first before mid step.event step.answer step.sent step.told
+      (follows_event first before old mid follows step.event step.answer step.sent step.told happened) step.now
       ∙ ap (λ b. b && moves_rightly before step) (right ∙ right_so first before old step.event step.answer follows);
   follows = λ e.
-      follows_now first before mid step.event step.answer step.sent
-      (follows_event first before old mid follows step.event step.answer step.sent happened) new step.now (changed e);
+      follows_now first before mid step.event step.answer step.sent step.told
+      (follows_event first before old mid follows step.event step.answer step.sent step.told happened) new step.now (changed e);
 }
 
 -- a datagram from a socket changes no branch

@@ -10,7 +10,7 @@ mod ReplayLemmas
 mod AuditLemmas
 mod HearingLemmas
 mod CommitLemmas
-mod MachineStretches
+pub mod MachineStretches
 mod MachineGets
 mod MachineTables
 mod MachineTraces
@@ -19,3 +19,5 @@ mod FaultLemmas
 mod NotedLemmas
 mod RowTests
 mod EndLemmas
+mod FloorLemmas
+mod FloorLines

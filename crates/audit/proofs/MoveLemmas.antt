@@ -16,6 +16,7 @@ use Rattle.wire.proofs.Ascending.{later}
 use Rattle.history.specs.Lines.{view_back, changes_at}
 use Rattle.audit.specs.Words.{TxParts, tx_eq, participants, Answer, Event, Change, Step, View}
 use Rattle.protocol.specs.declared.events.Sent.{Sent}
+use Rattle.protocol.specs.declared.events.Told.{Told}
 use Rattle.audit.specs.Told.{may_move, is_move, views_back}
 use Rattle.audit.specs.Books.{ViewsParts, views_in, place_at, is_move_from}
 
@@ -84,9 +85,9 @@ module _ (rm : ℕ) where
 
 -- ---- looked back at
 
-module _ (before : List Step) (event : Event) (answer : Answer) (sent : List Sent) (change : Change) where
+module _ (before : List Step) (event : Event) (answer : Answer) (sent : List Sent) (told : List Told) (change : Change) where
   abbrev pub with_change : Step
-  with_change = record { event = event; answer = answer; now = Some change; sent = sent }
+  with_change = record { event = event; answer = answer; now = Some change; sent = sent; told = told }
 
   view_more : (tx : TxParts) (rm : ℕ) → view_back rm (with_change ∷ before) tx
       ≡ cond (change.rm == rm) (cond (tx_eq tx change.tx) change.view (view_back rm before tx)) (view_back rm before tx)

@@ -1,14 +1,16 @@
 -- What a judge holds after one line more: for `Judge::take` and `Judge::hear`.
-use Rattle.std.proofs.Common.{◌≡◌, ◌∙◌, ◌⊎◌, inl, inr, ℕ, ◌+◌, ◌<◌, ◌≤◌, Bool, true, false, ltb, List, [], Option, Some, None}
+use Rattle.std.proofs.Common.{◌≡◌, ◌∙◌, ◌⊎◌, inl, inr, ℕ, ◌+◌, ◌<◌, ◌≤◌, Bool, true, false, not, ◌&&◌, ltb, List, [], Option, Some, None}
 use Rattle.std.proofs.Common.{◌++◌, length, Result, Ok, Err, refl, sym, ap, subst, arith}
 use Rattle.std.specs.Prelude.{IfOk}
 use Rattle.std.specs.List.{flat_map}
-use Rattle.std.specs.Option.{is_some}
 use Rattle.std.proofs.lemmas.Bool.{and_parts, leb-true, ltb-true, ltb-false}
 use Rattle.std.proofs.lemmas.List.{append-nil, length-append}
 use Rattle.net_script.specs.declared.trace_lines.TraceLine.{TraceLine}
 use Rattle.xid.specs.Transactions.{TxParts}
-use Rattle.net_script.specs.Basics.{Sent}
+use Rattle.net_script.specs.declared.message_words.Said.{Said}
+use Rattle.net_script.specs.Messages.{kind_of}
+use Rattle.wire.specs.Messages.{message_tx}
+use Rattle.xid.specs.Places.{is_below}
 use Rattle.net_script.specs.declared.said.Heard.{Heard}
 use Rattle.net_script.specs.declared.told.ToldSent.{ToldSent}
 use Rattle.net_script.specs.declared.trace_lines.TraceLine.TheVariants.{Datagram}
@@ -21,101 +23,158 @@ use Rattle.net_script.proofs.EndedText.{text_is_lines}
 use Rattle.xid.specs.declared.refusals.Refusal.{Refusal}
 use Rattle.audit.specs.Words.{Trace}
 use Rattle.audit.specs.Hearing.{HasHeard}
-use Rattle.audit.specs.Faults.{Tells, HasNoFault, IsFirstFault, IsFound, IsJudged, question_of}
-use Rattle.audit.specs.Noting.{rows_so_far, HasNoted}
+use Rattle.audit.specs.Floors.{is_sent_above}
+use Rattle.audit.specs.FloorBooks.{HasHeardFloors, are_above, floor_before}
+use Rattle.audit.specs.Faults.{keeps, first_failed, Tells, HasNoFault, IsFirstFault, IsFound, IsJudged, question_of}
+use Rattle.audit.specs.Noting.{rows_so_far, or_fault, HasNoted}
+use Rattle.audit.specs.declared.faults.Question.{Question}
+use Rattle.audit.specs.declared.floors.Floors.{Floors}
 use Rattle.audit.specs.declared.faults.Fault.{Fault}
 use Rattle.audit.specs.declared.auditor.Auditor.{Auditor}
 use Rattle.audit.specs.declared.judge.Judge.{Judge}
 use Rattle.std.proofs.lemmas.Option.{same_Some}
 use Rattle.audit.proofs.GrownLines.{one_more, lines_few}
-use Rattle.audit.proofs.FaultLemmas.{entries_right, right_so_far, both_kept, none_fails, fails_with, rows_on}
+use Rattle.audit.proofs.FaultLemmas.{entries_right, right_so_far, both_kept, floors_fail, none_fails, fails_with, rows_on}
 
 right_heard : (auditor : Auditor) (o : Option Trace) → HasHeard auditor o → auditor.is_right ≡ true → right_so_far o ≡ true
 right_heard auditor None heard right = refl
 right_heard auditor (Some t) heard right = sym heard.right ∙ right
 
-pub none_is : (f : Option Fault) → is_some f ≡ false → f ≡ None
-none_is None e = refl
-none_is (Some f) e = absurd (cc (e))
-
-pub some_not_none : (f : Option Fault) → is_some f ≡ true → f ≡ None → ⊥
-some_not_none None e none = absurd (cc (e))
-some_not_none (Some f) e none = absurd (cc (none))
-
 module _ (bytes : List ℕ) (old : Judge) (count line : ℕ) (before : Option Trace) (said : TraceLine) (after : Trace)
     (noted : HasNoted bytes old count before) (e : Some after ≡ begun_with before said) (next : line ≡ count + 1)
-    (told : Tells bytes line after) (auditor : Auditor) (heard : HasHeard auditor (Some after)) where
+    (told : Tells bytes line after) (auditor : Auditor) (heard : HasHeard auditor (Some after)) (floors : Floors)
+    (hears : HasHeardFloors floors (Some after)) (above : Bool) (stays : are_above (Some after) ≡ (are_above before && above)) where
   abbrev fault_here : Fault
   fault_here = record { question = question_of said; line = line }
+
+  abbrev floors_here : Fault
+  floors_here = record { question = Question.Floors; line = line }
+
+  abbrev judged : Option Fault → Judge
+  judged fault = record { auditor = auditor; floors = floors; fault = fault }
+
+  abbrev OneMore : Type 0
+  OneMore =
+      ((rows_so_far before ≡ 0) × (after.finals ≡ []))
+      ⊎ ((length after.finals ≡ rows_so_far before + 1) × (entries_right after ≡ right_so_far before)
+      × (are_above (Some after) ≡ are_above before))
+
+  -- a first fault in this line
+  new_noted : (fault : Fault) → IsFirstFault bytes fault → (auditor.is_right ≡ false) ⊎ (are_above (Some after) ≡ false)
+      → HasNoted bytes (judged (Some fault)) line (Some after)
+  new_noted fault here wrong = record {
+    heard = heard;
+    counted = told.counted;
+    floors = hears;
+    fault = λ other is. (subst (IsFirstFault bytes) (same_Some fault other is) here, wrong);
+    right = λ no. absurd (cc (no));
+    above = λ no. absurd (cc (no));
+    none = λ no n pos within. absurd (cc (no));
+  }
 
   module _ (none : old.fault ≡ None) where
     fresh : right_so_far before ≡ true
     fresh = right_heard old.auditor before noted.heard (noted.right none)
 
-    module _ (wrong : auditor.is_right ≡ false) where
-      earlier : ((rows_so_far before ≡ 0) × (after.finals ≡ []))
-          ⊎ ((length after.finals ≡ rows_so_far before + 1) × (entries_right after ≡ right_so_far before))
-          → (n : ℕ) → 0 < n → n < line → HasNoFault bytes n
-      earlier (inl (zero, nil)) n pos less = noted.none none n pos (omega (arith, zero, next, less))
-      earlier (inr (more, same)) n pos less = absurd (cc (sym wrong ∙ heard.right ∙ same ∙ fresh))
+    -- as many steps are above their floors as were
+    above_so : are_above (Some after) ≡ above
+    above_so = stays ∙ ap (λ b. b && above) (noted.above none)
 
-      here : IsFirstFault bytes fault_here
-      here = record {
+    earlier : ((entries_right after ≡ right_so_far before) × (are_above (Some after) ≡ are_above before) → ⊥) → OneMore
+        → (n : ℕ) → 0 < n → n < line → HasNoFault bytes n
+    earlier wrong (inl (zero, nil)) n pos less = noted.none none n pos (omega (arith, zero, next, less))
+    earlier wrong (inr (more, same, kept)) n pos less = absurd (wrong (same, kept))
+
+    module _ (wrong : auditor.is_right ≡ false) where
+      pub fault_noted : HasNoted bytes (judged (Some fault_here)) line (Some after)
+      fault_noted = new_noted fault_here (record {
         so_far = after;
         told = told;
         fails = fails_with before said after e fresh (sym heard.right ∙ wrong);
-        before = earlier (rows_on before said after e);
-      }
-
-      pub fault_noted : HasNoted bytes (record { auditor = auditor; fault = Some fault_here }) line (Some after)
-      fault_noted = record {
-        heard = heard;
-        counted = told.counted;
-        fault = λ fault is. (subst (IsFirstFault bytes) (same_Some fault_here fault is) here, wrong);
-        right = λ no. absurd (cc (no));
-        none = λ no n pos within. absurd (cc (no));
-      }
+        before = earlier (λ kept. absurd (cc (sym wrong ∙ heard.right ∙ kept.0 ∙ fresh))) (rows_on before said after e);
+      }) (inl wrong)
 
     module _ (right : auditor.is_right ≡ true) where
-      there : (n : ℕ) → 0 < n → n ≤ line → after.finals ≡ [] → rows_so_far before ≡ 0 → (b : Bool) → ltb n line ≡ b → HasNoFault bytes n
-      there n pos le nil zero true q =
-          let less = ltb-true n line q in
-          noted.none none n pos (omega (arith, zero, next, less))
-      there n pos le nil zero false q =
-          let same : line ≡ n = omega (arith, le, ltb-false n line q) in
-          let kept = both_kept after (sym heard.right ∙ right) in
-          record { so_far = after; told = subst (λ k. Tells bytes k after) same told; none = none_fails after kept.0 kept.1 nil }
+      kept : (keeps Question.Changes after ≡ true) × (keeps Question.Gets after ≡ true)
+      kept = both_kept after (sym heard.right ∙ right)
 
-      so_far : ((rows_so_far before ≡ 0) × (after.finals ≡ []))
-          ⊎ ((length after.finals ≡ rows_so_far before + 1) × (entries_right after ≡ right_so_far before))
-          → (n : ℕ) → 0 < n → n + length after.finals ≤ line → HasNoFault bytes n
-      so_far (inl (zero, nil)) n pos within = there n pos (omega (arith, within)) nil zero (ltb n line) refl
-      so_far (inr (more, same)) n pos within = noted.none none n pos (omega (arith, within, more, next))
+      module _ (below : above ≡ false) where
+        nothing_kept : (are_above (Some after) ≡ are_above before) → ⊥
+        nothing_kept same = absurd (cc (sym (above_so ∙ below) ∙ same ∙ noted.above none))
 
-      none_noted : HasNoted bytes (record { auditor = auditor; fault = old.fault }) line (Some after)
-      none_noted = record {
-        heard = heard;
-        counted = told.counted;
-        fault = λ fault is. absurd (cc (sym none ∙ is));
-        right = λ _. right;
-        none = λ _. so_far (rows_on before said after e);
-      }
+        fails_here : OneMore → first_failed after ≡ Some Question.Floors
+        fails_here (inl (zero, nil)) = floors_fail after false kept.0 kept.1 (above_so ∙ below) nil
+        fails_here (inr (more, same, still)) = absurd (nothing_kept still)
+
+        floors_noted : HasNoted bytes (judged (Some floors_here)) line (Some after)
+        floors_noted = new_noted floors_here (record {
+          so_far = after;
+          told = told;
+          fails = fails_here (rows_on before said after e);
+          before = earlier (λ same. nothing_kept same.1) (rows_on before said after e);
+        }) (inr (above_so ∙ below))
+
+      module _ (stands : above ≡ true) where
+        there : (n : ℕ) → 0 < n → n ≤ line → after.finals ≡ [] → rows_so_far before ≡ 0 → (b : Bool) → ltb n line ≡ b
+            → HasNoFault bytes n
+        there n pos le nil zero true q =
+            let less = ltb-true n line q in
+            noted.none none n pos (omega (arith, zero, next, less))
+        there n pos le nil zero false q =
+            let same : line ≡ n = omega (arith, le, ltb-false n line q) in
+            record {
+              so_far = after;
+              told = subst (λ k. Tells bytes k after) same told;
+              none = none_fails after kept.0 kept.1 (above_so ∙ stands) nil;
+            }
+
+        so_far : OneMore → (n : ℕ) → 0 < n → n + length after.finals ≤ line → HasNoFault bytes n
+        so_far (inl (zero, nil)) n pos within = there n pos (omega (arith, within)) nil zero (ltb n line) refl
+        so_far (inr (more, same, still)) n pos within = noted.none none n pos (omega (arith, within, more, next))
+
+        none_noted : HasNoted bytes (judged None) line (Some after)
+        none_noted = record {
+          heard = heard;
+          counted = told.counted;
+          floors = hears;
+          fault = λ fault is. absurd (cc (is));
+          right = λ _. right;
+          above = λ _. above_so ∙ stands;
+          none = λ _. so_far (rows_on before said after e);
+        }
+
+  below_still : are_above before ≡ false → are_above (Some after) ≡ false
+  below_still below = stays ∙ ap (λ b. b && above) below
 
   still_noted : (f : Fault) → old.fault ≡ Some f → (old.auditor.is_right ≡ false → auditor.is_right ≡ false)
-      → HasNoted bytes (record { auditor = auditor; fault = old.fault }) line (Some after)
-  still_noted f some still = record {
-    heard = heard;
-    counted = told.counted;
-    fault = λ fault is. let was = noted.fault fault is in (was.0, still was.1);
-    right = λ no. absurd (cc (sym no ∙ some));
-    none = λ no n pos within. absurd (cc (sym no ∙ some));
-  }
+      → HasNoted bytes (judged (Some f)) line (Some after)
+  still_noted f some still =
+      let was = noted.fault f some in
+      new_noted f was.0 (by was.1)
+    where
+      by : (old.auditor.is_right ≡ false) ⊎ (are_above before ≡ false) → (auditor.is_right ≡ false) ⊎ (are_above (Some after) ≡ false)
+      by (inl wrong) = inl (still wrong)
+      by (inr below) = inr (below_still below)
 
-  -- where no fault is new
-  pub kept_noted : (f : Option Fault) → old.fault ≡ f → (old.auditor.is_right ≡ false → auditor.is_right ≡ false)
-      → (f ≡ None → auditor.is_right ≡ true) → HasNoted bytes (record { auditor = auditor; fault = old.fault }) line (Some after)
-  kept_noted None is still right = none_noted is (right refl)
-  kept_noted (Some f) is still right = still_noted f is still
+  -- what a judge keeps where a line may be the first with which a question isn't kept
+  pub noted_on : (f : Option Fault) → old.fault ≡ f → (old.auditor.is_right ≡ false → auditor.is_right ≡ false) → (right : Bool)
+      → auditor.is_right ≡ right → (b : Bool) → above ≡ b
+      → HasNoted bytes (judged (or_fault (or_fault f right fault_here) b floors_here)) line (Some after)
+  noted_on (Some f) is still right r b a = still_noted f is still
+  noted_on None is still false r b a = fault_noted is r
+  noted_on None is still true r false a = floors_noted is r a
+  noted_on None is still true r true a = none_noted is r a
+
+  -- the same of a line that changes nothing for the auditor
+  pub noted_above : old.auditor ≡ auditor → HasNoted bytes (judged (or_fault old.fault above floors_here)) line (Some after)
+  noted_above same = by old.fault refl
+    where
+      by : (f : Option Fault) → old.fault ≡ f → HasNoted bytes (judged (or_fault f above floors_here)) line (Some after)
+      by (Some f) is =
+          noted_on (Some f) is (λ wrong. ap (λ (a : Auditor). a.is_right) (sym same) ∙ wrong) auditor.is_right refl above refl
+      by None is =
+          let right : auditor.is_right ≡ true = ap (λ (a : Auditor). a.is_right) (sym same) ∙ noted.right is in
+          noted_on None is (λ wrong. ap (λ (a : Auditor). a.is_right) (sym same) ∙ wrong) true right above refl
 
 -- ---- what a reader gives
 
@@ -160,8 +219,24 @@ found_text bytes judge lines trace (Ok found) read noted says =
       }) (omega (arith, rows, some));
     }
 
--- a datagram was heard
-pub heard_sent : (known : Option TxParts) (told : ToldSent) (said : TraceLine) → IsHeard known (Heard.Datagram told) said
-    → (s : Sent) × (said ≡ Datagram s)
-heard_sent None told said is = absurd is
-heard_sent (Some tx) told said is = (sent_of tx told, is)
+-- a judge of the same parts
+pub same_judge : (a b : Judge) → a.auditor ≡ b.auditor → a.floors ≡ b.floors → a.fault ≡ b.fault → a ≡ b
+same_judge a b auditor floors fault = λ i. record { auditor = auditor i; floors = floors i; fault = fault i }
+
+-- a datagram was heard: of the transaction that is known
+pub heard_sent : (known : Option TxParts) (told : ToldSent) (said : TraceLine) (tx : TxParts) → known ≡ Some tx
+    → IsHeard known (Heard.Datagram told) said → said ≡ Datagram (sent_of tx told)
+heard_sent known told said tx some is = subst (λ (k : Option TxParts). IsHeard k (Heard.Datagram told) said) some is
+
+pub heard_nothing : (known : Option TxParts) (told : ToldSent) (said : TraceLine) → known ≡ None → IsHeard known (Heard.Datagram told) said
+    → ⊥
+heard_nothing known told said none is = subst (λ (k : Option TxParts). IsHeard k (Heard.Datagram told) said) none is
+
+tx_said : (tx : TxParts) (said : Said) → tx ≡ message_tx (kind_of tx said)
+tx_said tx Said.Prepare = refl
+tx_said tx said = refl
+
+-- whether it may be sent
+pub sent_by : (floors : Floors) (tx : TxParts) (told : ToldSent)
+    → not (is_below (floor_before floors told.sender) tx) ≡ is_sent_above (floor_before floors) (sent_of tx told)
+sent_by floors tx told = ap (λ (x : TxParts). not (is_below (floor_before floors told.sender) x)) (tx_said tx told.said)

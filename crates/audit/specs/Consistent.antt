@@ -1,5 +1,5 @@
 -- What is asked of a trace: that its changes are steps of TCommit, that gets show the tables that it leads to and its last rows are these,
--- and that one serial order explains the last rows and the gets of committed transactions.
+-- that one serial order explains the last rows and the gets of committed transactions, and that no step takes part below a floor.
 use Rattle.std.specs.Prelude.{ℕ, Bool, ◌&&◌, List, filter, fold}
 use Rattle.std.specs.List.{list_all}
 use Rattle.audit.specs.Words.{TxParts, participants, Step, Row, Trace}
@@ -11,6 +11,7 @@ use Rattle.history.specs.Writes.{is_committed_view}
 use Rattle.audit.specs.Told.{history_of, each_step, moves_rightly}
 use Rattle.audit.specs.Stretches.{Stretches, stretches_back, branch_at, gets_in, writes_at}
 use Rattle.audit.specs.Tables.{first_tables, table_told, shows, shows_rightly, are_tables}
+use Rattle.audit.specs.Floors.{stays_above}
 
 -- the table of rm after some transactions, one whole transaction after another
 abbrev pub serial_table : (first : ℕ → List Row) → Stretches → ℕ → List TxParts → List Row
@@ -40,7 +41,7 @@ is_order_kept first done committed order finals =
 abbrev pub committed_back : List Step → ℕ → TxParts → Bool
 committed_back history rm tx = is_committed_view (view_back rm history tx)
 
--- whether a history with these last rows is consistent
+-- whether a history with these last rows is consistent, floors aside
 abbrev pub is_history_consistent : (first : ℕ → List Row) → List Step → (finals : List (List Row)) → Bool
 is_history_consistent first history finals =
     each_step (λ before step. shows_rightly first before step && moves_rightly before step) history
@@ -49,4 +50,6 @@ is_history_consistent first history finals =
 
 -- whether a trace is consistent
 abbrev pub is_consistent : Trace → Bool
-is_consistent t = is_history_consistent (first_tables t.tables) (history_of t.entries) t.finals
+is_consistent t =
+    is_history_consistent (first_tables t.tables) (history_of t.entries) t.finals
+    && each_step (stays_above t.sizes.rms) (history_of t.entries)

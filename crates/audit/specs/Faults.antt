@@ -10,6 +10,7 @@ use Rattle.audit.specs.Words.{Trace}
 use Rattle.audit.specs.Told.{history_of, each_step, moves_rightly}
 use Rattle.audit.specs.Stretches.{stretches_back}
 use Rattle.audit.specs.Tables.{first_tables, table_told, shows_rightly, are_tables}
+use Rattle.audit.specs.Floors.{stays_above}
 use Rattle.audit.specs.Consistent.{committed_back, is_order_kept, is_consistent}
 use Rattle.audit.specs.declared.faults.Question.{Question}
 use Rattle.audit.specs.declared.faults.Fault.{Fault}
@@ -23,10 +24,11 @@ keeps Question.Order t =
     length t.finals == 0
     || is_order_kept (first_tables t.tables) (stretches_back (history_of t.entries)) (committed_back (history_of t.entries))
     (first_commits (history_of t.entries)) t.finals
+keeps Question.Floors t = each_step (stays_above t.sizes.rms) (history_of t.entries)
 
 -- the questions, in the order in which they are asked
 abbrev pub questions : List Question
-questions = Question.Changes ∷ Question.Gets ∷ Question.Tables ∷ Question.Order ∷ []
+questions = Question.Changes ∷ Question.Gets ∷ Question.Tables ∷ Question.Order ∷ Question.Floors ∷ []
 
 -- the first question that a trace so far doesn't keep, if there is one
 abbrev pub first_failed : Trace → Option Question
@@ -63,7 +65,7 @@ pub record IsJudged (bytes : List ℕ) (found : Option Fault) : Type 0 where
   pub spelled : SpellsTrace bytes trace
   pub verdict : IsFound bytes trace found
 
--- the question that a line can be the first not to keep, where it tells of something that happened
+-- the question, floors aside, that a line can be the first not to keep, where it tells of something that happened
 abbrev pub question_of : TraceLine → Question
 question_of (Changed change) = Question.Changes
 question_of said = Question.Gets

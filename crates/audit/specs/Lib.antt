@@ -2,8 +2,10 @@ pub mod Words
 pub mod Told
 pub mod Stretches
 pub mod Tables
+pub mod Floors
 pub mod Consistent
 pub mod Books
+pub mod FloorBooks
 pub mod Following
 pub mod Hearing
 pub mod Faults

@@ -10,7 +10,7 @@ use Rattle.history.specs.Writes.{is_committed_view}
 -- an entry as a step; what a node took from a socket is a datagram with no number, and those of steps are numbered from 1
 abbrev pub step_of : Entry → Step
 step_of (Entry.Step step) = step
-step_of (Entry.Serve node answer now sent) = record { event = Deliver 0; answer = answer; now = now; sent = sent }
+step_of (Entry.Serve node answer now sent) = record { event = Deliver 0; answer = answer; now = now; sent = sent; told = [] }
 
 -- what happened, the newest first
 abbrev pub history_of : List Entry → List Step

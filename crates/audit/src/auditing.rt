@@ -3,8 +3,11 @@ ghost use Rattle.xid.specs.declared.refusals.Refusal.TheVariants.{NoMemory};
 ghost use Rattle.net_script.specs.TraceReading.{RefusesTrace};
 ghost use Rattle.audit.specs.Consistent.{is_consistent};
 ghost use Rattle.audit.specs.Faults.{IsJudged};
+ghost use Rattle.audit.specs.Floors.{stays_above};
+ghost use Rattle.audit.specs.Told.{each_step, history_of};
 
 use crate::faults::Fault;
+use crate::floors::Floors;
 use crate::judge::Judge;
 use crate::ledger::Ledger;
 use crate::serial::is_serial;
@@ -14,9 +17,9 @@ use std::alloc::Global;
 use xid::Refusal;
 
 /// Whether a trace keeps what was promised, by looking at the trace alone. Each change of a view is a step of TCommit; each get that was
-/// answered a value or none showed the table so far, with the writes of its branch over it; the last rows are the tables so made; and
-/// one serial order, that of the first commits anywhere, explains the last rows and the gets of committed transactions. Refused:
-/// `NoMemory` alone.
+/// answered a value or none showed the table so far, with the writes of its branch over it; the last rows are the tables so made;
+/// one serial order, that of the first commits anywhere, explains the last rows and the gets of committed transactions; and no step takes
+/// part below a floor. Refused: `NoMemory` alone.
 pub fn audit(alloc: Global, trace: &Trace) -> Result<bool, Refusal>
     ensures ok { IfOk result (λ yes. yes ≡ is_consistent trace.now) }
     ensures err { IfErr result (λ e. e ≡ NoMemory) }
@@ -37,10 +40,27 @@ pub fn audit_with_hash_key(alloc: Global, key: HashKey, trace: &Trace) -> Result
             return Ok(false);
         }
     }
+    if !are_above(alloc, key, trace)? {
+        return Ok(false);
+    }
     if !ledger.tables.are(finals) {
         return Ok(false);
     }
     is_serial(alloc, &ledger, tables, finals)
+}
+
+/// Whether no step of a trace takes part below a floor. Refused: `NoMemory` alone.
+fn are_above(alloc: Global, key: HashKey, trace: &Trace) -> Result<bool, Refusal>
+    ensures ok { IfOk result (λ yes. yes ≡ each_step (stays_above trace.now.sizes.rms) (history_of trace.now.entries)) }
+    ensures err { IfErr result (λ e. e ≡ NoMemory) }
+{
+    let mut floors = Floors::of(alloc, key.words(), trace.sizes.rms);
+    for entry in trace.entries.as_slice() {
+        if !floors.take_entry(alloc, entry)? {
+            return Ok(false);
+        }
+    }
+    Ok(true)
 }
 
 /// The first fault of the trace of which this is the text, in one pass and with no trace kept; none exactly where `audit` says yes of it.
@@ -68,7 +88,7 @@ pub fn audit_text_with_hash_key(
     let mut lines = 0;
     while let Some(heard) = reader.hear(alloc)? {
         lines += 1;
-        judge.hear(alloc, lines, heard)?;
+        judge.hear(alloc, lines, &reader, heard)?;
     }
     judge.verdict(alloc, lines)
 }

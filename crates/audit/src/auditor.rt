@@ -55,6 +55,7 @@ impl Auditor {
             TraceLine::Served(..) => Ok(()),
             TraceLine::Changed(change) => self.take_change(alloc, change.get()),
             TraceLine::Datagram(_) => Ok(()),
+            TraceLine::Notice(_) => Ok(()),
             TraceLine::Final(_, rows) => self.take_rows(rows),
         }
     }

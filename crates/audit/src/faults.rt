@@ -16,6 +16,8 @@ pub enum Question {
     Tables,
     /// One serial order explains the last rows and the gets of committed transactions.
     Order,
+    /// No step takes part below a floor.
+    Floors,
 }
 
 /// Where a question isn't kept first.
@@ -27,7 +29,7 @@ pub struct Fault {
     pub line: usize,
 }
 
-/// The question that is asked where a line tells of something that happened.
+/// The question, floors aside, that is asked where a line tells of something that happened.
 pub(crate) fn question_of(said: &TraceLine) -> Question
     ensures { result ≡ question_of said.now }
 {

@@ -2,7 +2,6 @@
 
 ghost use Rattle.std.specs.Prelude.{◌≡◌, ℕ, ◌+◌, ◌-◌, ◌<◌, length, List, Option, Some, None, IfOk, IfErr, OnOk};
 ghost use Rattle.xid.specs.declared.refusals.Refusal.TheVariants.{NoMemory};
-ghost use Rattle.xid.specs.Transactions.{TxParts};
 ghost use Rattle.net_script.specs.declared.trace_lines.TraceLine.{TraceLine as LineParts};
 ghost use Rattle.net_script.specs.Telling.{IsHeard};
 ghost use Rattle.net_script.specs.TraceReaders.{begun_with};
@@ -11,20 +10,22 @@ ghost use Rattle.audit.specs.Tables.{first_tables};
 ghost use Rattle.audit.specs.Consistent.{is_order_kept};
 ghost use Rattle.audit.specs.Books.{stretch_of, has_committed, Reaches};
 ghost use Rattle.audit.specs.Faults.{Tells, IsFound};
-ghost use Rattle.audit.specs.Noting.{HasNoted};
+ghost use Rattle.audit.specs.Noting.{HasNoted, or_fault};
 
 use crate::auditor::Auditor;
 use crate::faults::{Fault, Question, question_of};
+use crate::floors::Floors;
 use crate::serial::replayed;
 use hashing::HashKey;
-use net_script::{Heard, TraceLine};
+use net_script::{Heard, TraceLine, TraceReader};
 use std::alloc::Global;
 use xid::Refusal;
 
-/// What the lines so far come to, and the first at which a change or a get isn't right.
+/// What the lines so far come to, and the first at which a change or a get isn't right or something is below a floor.
 #[derive(Debug, Drop)]
 pub struct Judge {
     auditor: Auditor,
+    floors: Floors,
     fault: Option<Fault>,
 }
 
@@ -36,20 +37,45 @@ impl Judge {
     {
         Ok(Judge {
             auditor: Auditor::new(alloc, key)?,
+            floors: Floors::new(alloc, key.words()),
             fault: None,
         })
     }
 
-    /// Hears one line more, which has this number; a datagram is no change, and no get. Refused: `NoMemory` alone.
-    pub fn hear(&mut self, alloc: Global, line: usize, heard: Heard) -> Result<(), Refusal>
-        ensures ok { OnOk result ((known : Option TxParts) (said : LineParts) (bytes : List ℕ) (count : ℕ) (before : Option Trace)
-            (after : Trace) → IsHeard known heard said → HasNoted bytes self.old count before → Some after ≡ begun_with before said
+    /// Hears one line more, which has this number, and which the reader gave last; a datagram is no change, and no get. Refused: `NoMemory`
+    /// alone.
+    pub fn hear(
+        &mut self,
+        alloc: Global,
+        line: usize,
+        reader: &TraceReader<'_>,
+        heard: Heard,
+    ) -> Result<(), Refusal>
+        ensures ok { OnOk result ((said : LineParts) (bytes : List ℕ) (count : ℕ) (before : Option Trace) (after : Trace)
+            → IsHeard reader.now.known heard said → HasNoted bytes self.old count before → Some after ≡ begun_with before said
             → line ≡ count + 1 → Tells bytes line after → HasNoted bytes self.new line (Some after)) }
         ensures err { IfErr result (λ e. e ≡ NoMemory) }
     {
         match heard {
             Heard::Line(said) => self.take(alloc, line, said),
-            Heard::Datagram(_) => Ok(()),
+            Heard::Datagram(told) => {
+                let Some(tx) = reader.tx() else {
+                    return Ok(());
+                };
+                let above = !self.floors.is_below(told.sender(), tx);
+                self.note(Question::Floors, line, above);
+                Ok(())
+            }
+        }
+    }
+
+    /// Keeps a question as the first that isn't kept, if it isn't and none is so far.
+    fn note(&mut self, question: Question, line: usize, kept: bool)
+        ensures fault { self.new.fault ≡ or_fault self.old.fault kept (record { question = question; line = line }) }
+        ensures rest { (self.new.auditor ≡ self.old.auditor) × (self.new.floors ≡ self.old.floors) }
+    {
+        if self.fault.is_none() && !kept {
+            self.fault = Some(Fault { question, line });
         }
     }
 
@@ -61,10 +87,10 @@ impl Judge {
         ensures err { IfErr result (λ e. e ≡ NoMemory) }
     {
         let question = question_of(&said);
+        let above = self.floors.take_line(alloc, &said)?;
         self.auditor.take(alloc, said)?;
-        if self.fault.is_none() && !self.auditor.is_right {
-            self.fault = Some(Fault { question, line });
-        }
+        self.note(question, line, self.auditor.is_right);
+        self.note(Question::Floors, line, above);
         Ok(())
     }
 

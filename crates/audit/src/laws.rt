@@ -23,8 +23,9 @@ pub fn changes_are_commit_moves()
         → is_move before change ≡ true }
 {}
 
-/// Whatever happens in a cluster, an auditor finds its trace consistent: all four questions have the answer yes of the steps of the machine
-/// and of the tables that its resource managers have then, whether they are up or down.
+/// Whatever happens in a cluster, an auditor finds its trace consistent: the first four questions have the answer yes of the steps of the
+/// machine and of the tables that its resource managers have then, whether they are up or down. The fifth is of floors, and a node of the
+/// machine has none.
 pub fn machine_traces_are_consistent()
     ensures { (config : Config) (events : List Occurrence)
         → is_history_consistent (λ rm. fold put_row [] (first_rows config rm)) (history config events)

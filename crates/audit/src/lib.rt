@@ -5,6 +5,7 @@ mod auditing;
 mod auditor;
 mod branches;
 mod faults;
+mod floors;
 mod judge;
 /// What the questions say in the words of the paper.
 pub mod laws;
@@ -13,6 +14,7 @@ mod rows;
 mod serial;
 mod stretch;
 mod tables;
+mod told_floors;
 mod views;
 
 pub use auditing::{audit, audit_text, audit_text_with_hash_key, audit_with_hash_key};

@@ -93,7 +93,7 @@ impl Places {
         ensures err { IfErr result (λ e. e ≡ NoMemory) }
     {
         let mut places = Places {
-            known: IndexMap::with_hasher(alloc, key),
+            known: IndexMap::with_capacity_and_hasher(alloc, rows.len(), key)?,
         };
         for row in rows {
             places.put(row)?;

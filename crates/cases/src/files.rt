@@ -59,7 +59,25 @@ fn say_place(alloc: Global, place: &Place, page: &mut Page) -> Result<(), Stop> 
     }
 }
 
-/// A cluster: its sizes, whether it is bundled, its keys, its times, its digest, and where its nodes are found.
+/// How names stand in time, where they do: their format, for how long they are kept, how far they may be ahead; and which nodes speak for a
+/// database beside them, by their numbers among all.
+fn say_naming(cluster: &Cluster, page: &mut Page) -> Result<(), Stop> {
+    let naming = cluster.naming;
+    if naming.timed {
+        page.number(u64::from(naming.format))?;
+        page.number(u64::from(naming.keep))?;
+        page.number(u64::from(naming.ahead))?;
+    }
+    for at in 0..cluster.places.len() {
+        if cluster.places[at].beside {
+            page.word(b"beside")?;
+            page.number(at as u64)?;
+        }
+    }
+    Ok(())
+}
+
+/// A cluster: its sizes, whether it is bundled, its keys, its times, its names, its digest, and where its nodes are found.
 fn say(alloc: Global, cluster: &Cluster, page: &mut Page) -> Result<(), Stop> {
     let sizes = cluster.config.sizes();
     page.number(u64::from(sizes.acceptors))?;
@@ -70,6 +88,7 @@ fn say(alloc: Global, cluster: &Cluster, page: &mut Page) -> Result<(), Stop> {
     say_name(&cluster.client_key, page)?;
     page.number(u64::from(cluster.timing.ask))?;
     page.number(u64::from(cluster.timing.idle))?;
+    say_naming(cluster, page)?;
     page.hex(&digest(&cluster.config))?;
     for place in &cluster.places {
         say_place(alloc, place, page)?;

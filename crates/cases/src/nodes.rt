@@ -100,7 +100,7 @@ impl Place {
 }
 
 /// Says what opening was refused with.
-fn say_refused(refusal: Refusal, page: &mut Page) -> Result<(), Stop> {
+pub fn say_refused(refusal: Refusal, page: &mut Page) -> Result<(), Stop> {
     page.bytes(b"open ->")?;
     page.refusal(refusal)?;
     page.end_line()

@@ -131,6 +131,7 @@ impl Page {
             answer,
             now,
             sent: Sequence::new(sent),
+            told: Sequence::new(Vec::new(self.alloc)),
         };
         let mut text = Vec::new(self.alloc);
         write_step(&mut text, &mut WrittenTx::none(self.alloc), &step)?;

@@ -5,16 +5,39 @@ use crate::nodes::{self, Place};
 use crate::page::Page;
 use crate::stop::{Stop, wanted};
 use crate::{groups, records, words};
-use node_core::{Input, Node, Output};
-use port::{FakePort, Port, Served, call, call_all, serve_once};
+use net_script::Command;
+use node_core::{Input, Output};
+use port::{FakePort, Member, Port, Served, call, call_all, raise, serve_once};
+use protocol::Event;
 use stable_record::MemRecord;
 use std::alloc::Global;
 
 /// A node and its port.
 #[derive(Drop)]
 struct Station {
-    node: Node<MemRecord>,
+    node: Member<MemRecord>,
     port: FakePort,
+}
+
+/// Opens a node. A record that has failed, or that wanted memory, comes back, and the node is opened over it again.
+fn open(
+    place: &Place,
+    record: MemRecord,
+    alloc: Global,
+    page: &mut Page,
+) -> Result<Member<MemRecord>, Stop> {
+    let (record, refusal) = match Member::open(alloc, &place.config, place.who, record) {
+        Ok(node) => return Ok(node),
+        Err(back) => back,
+    };
+    nodes::say_refused(refusal, page)?;
+    match Member::open(alloc, &place.config, place.who, record) {
+        Ok(node) => Ok(node),
+        Err((record, _refusal)) => {
+            nodes::say_record(place, record, alloc, page)?;
+            Err(Stop::Refused)
+        }
+    }
 }
 
 /// Runs the calls of a case: the call of the port that fails (0: none), and then as of a node over an empty record in memory.
@@ -25,7 +48,7 @@ pub fn run(alloc: Global, rest: &[u8], calls: &[String], page: &mut Page) -> Res
     let (config, _rest) = nodes::cluster(alloc, rest)?;
     let place = Place::new(config, words::node(name)?);
     let record = records::in_memory(alloc, b"-")?;
-    let mut station = match nodes::open(&place, record, alloc, page) {
+    let mut station = match open(&place, record, alloc, page) {
         Ok(node) => Station { node, port },
         Err(stop) => return Err(stop),
     };
@@ -73,6 +96,17 @@ fn group(station: &mut Station, alloc: Global, line: &[u8], page: &mut Page) -> 
     Ok(())
 }
 
+/// A node is asked to raise its floor, by the words of an event, as in a script.
+fn rise(station: &mut Station, alloc: Global, line: &[u8], page: &mut Page) -> Result<(), Stop> {
+    let command = nodes::command(alloc, line)?;
+    match &command {
+        Command::Do(Event::Raise { rm: _, floor }) => {
+            page.finished(raise(&mut station.node, &mut station.port, floor))
+        }
+        _ => Err(Stop::Unread),
+    }
+}
+
 /// What has gone out: how many, and a line for each.
 pub fn say_gone(port: &FakePort, page: &mut Page) -> Result<(), Stop> {
     page.number(port.gone().len() as u64)?;
@@ -103,6 +137,8 @@ impl Part for Station {
                 )
             }
             b"group" => group(self, alloc, rest, page),
+            b"floor" => rise(self, alloc, line, page),
+            b"restart" => page.finished(self.node.restart()),
             b"tear" => {
                 self.node.arm(words::number(rest)? as usize);
                 page.finished(Ok(()))

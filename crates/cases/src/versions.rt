@@ -4,7 +4,7 @@ use crate::nodes::Place;
 use crate::page::{Page, frames_in};
 use crate::stop::Stop;
 use crate::ways;
-use node_core::Node;
+use floored::Floored;
 use stable_record::MemRecord;
 use std::alloc::Global;
 use wire::{SpelledTx, VERSION};
@@ -100,9 +100,9 @@ fn open(
     alloc: Global,
     bytes: &[u8],
     page: &mut Page,
-) -> Result<Option<Node<MemRecord>>, Stop> {
+) -> Result<Option<Floored<MemRecord>>, Stop> {
     let record = MemRecord::new(alloc, Vec::from_slice(alloc, bytes)?);
-    match Node::open(alloc, &place.config, place.who, record) {
+    match Floored::open(alloc, &place.config, place.who, record) {
         Ok(node) => Ok(Some(node)),
         Err((_record, Refusal::NoMemory)) => Err(Stop::Ended),
         Err((_record, refusal)) => {
@@ -113,7 +113,7 @@ fn open(
 }
 
 /// What is seen of a node: the rows of its table, and its open transactions.
-fn look(node: &mut Node<MemRecord>, page: &mut Page) -> Result<(), Stop> {
+fn look(node: &mut Floored<MemRecord>, page: &mut Page) -> Result<(), Stop> {
     match node.table() {
         Ok(rows) => page.rows(rows.as_slice())?,
         Err(Refusal::NoMemory) => return Err(Stop::Ended),

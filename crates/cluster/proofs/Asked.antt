@@ -11,30 +11,22 @@ use Rattle.protocol.specs.declared.rows.Row.{Row}
 use Rattle.protocol.specs.declared.states.View.{View}
 use Rattle.protocol.specs.Effects.{Config}
 use Rattle.protocol.specs.Nodes.{NodeState}
-use Rattle.protocol.specs.Worlds.{World, place, node_at}
+use Rattle.protocol.specs.Worlds.{place, node_at}
+use Rattle.xid.specs.Places.{Place}
 use Rattle.node_core.specs.declared.config.Sizes.{Sizes}
-use Rattle.node_core.specs.declared.role.Role.{Role}
-use Rattle.node_core.specs.Nodes.{NodeParts, NodeStands, Stands, IsSameNode}
-use Rattle.node_core.specs.Viewing.{SaysView, SaysTable, IsUnread, ViewsAs, TablesAs}
+use Rattle.node_core.specs.Nodes.{IsSameNode}
+use Rattle.node_core.specs.Viewing.{SaysTable, IsUnread}
+use Rattle.floors.specs.Worlds.{FlooredWorld}
+use Rattle.floored.specs.Nodes.{FlooredParts, FlooredStands, FlooredTables, FlooredViews, SaysFlooredView}
 use Rattle.network.specs.Networks.{NetworkParts}
-use Rattle.cluster.specs.Clusters.{ClusterParts, sized, cluster_of, ClusterStands, IsSound}
+use Rattle.cluster.specs.Clusters.{ClusterParts, NoticesParts, sized, cluster_of, ClusterStands, IsSameFloored, IsSound}
 use Rattle.cluster.specs.Asking.{IsSaid, ViewsIn, TablesIn}
-use Rattle.cluster.proofs.Standing.{there, placed, found, named, none_there, node_kept, at_place, same_but, others_stay, stands_still}
-use Rattle.cluster.proofs.Standing.{unchanged}
-
--- a node whose parts are all as they were
-node_same : (old new : NodeParts) → IsSameNode old new → new.held ≡ old.held → new.role ≡ old.role → new ≡ old
-node_same old new same held role = λ i. record {
-  who = same.who_is i;
-  sizes = same.sizes_are i;
-  rows = same.rows_are i;
-  held = held i;
-  role = role i;
-}
+use Rattle.cluster.proofs.Standing.{there, placed, found, named, floor_there, none_there, node_kept, at_place, same_but, same_floored}
+use Rattle.cluster.proofs.Standing.{others_stay, unchanged}
 
 -- a cluster that stays what it is stands for a world that can come to be
 pub sound_still : (old new : ClusterParts) → IsSound old
-    → ((config : Config) (world : World) → ClusterStands config old world → ClusterStands config new world) → IsSound new
+    → ((config : Config) (world : FlooredWorld) → ClusterStands config old world → ClusterStands config new world) → IsSound new
 sound_still old new sound still = record {
   config = sound.config;
   world = sound.world;
@@ -44,31 +36,32 @@ sound_still old new sound still = record {
 
 -- the same of a cluster in other words
 pub viewed_as : (old was new : ClusterParts) → old ≡ was → (rm : ℕ) (tx : TxParts) (result : Result View Refusal)
-    → ((config : Config) (world : World) → ClusterStands config old world → ViewsIn config world old new rm tx result)
-    → (config : Config) (world : World) → ClusterStands config was world → ViewsIn config world was new rm tx result
+    → ((config : Config) (world : FlooredWorld) → ClusterStands config old world → ViewsIn config world old new rm tx result)
+    → (config : Config) (world : FlooredWorld) → ClusterStands config was world → ViewsIn config world was new rm tx result
 viewed_as old was new is rm tx result views =
-    subst (λ (p : ClusterParts). (config : Config) (world : World) → ClusterStands config p world
+    subst (λ (p : ClusterParts). (config : Config) (world : FlooredWorld) → ClusterStands config p world
     → ViewsIn config world p new rm tx result) is views
 
 pub tabled_as : (old was new : ClusterParts) → old ≡ was → (rm : ℕ) (result : Result (List Row) Refusal)
-    → ((config : Config) (world : World) → ClusterStands config old world → TablesIn config world old new rm result)
-    → (config : Config) (world : World) → ClusterStands config was world → TablesIn config world was new rm result
+    → ((config : Config) (world : FlooredWorld) → ClusterStands config old world → TablesIn config world old new rm result)
+    → (config : Config) (world : FlooredWorld) → ClusterStands config was world → TablesIn config world was new rm result
 tabled_as old was new is rm result tables =
-    subst (λ (p : ClusterParts). (config : Config) (world : World) → ClusterStands config p world
+    subst (λ (p : ClusterParts). (config : Config) (world : FlooredWorld) → ClusterStands config p world
     → TablesIn config world p new rm result) is tables
 
 -- ---- there is no such resource manager
 
-module _ (config : Config) (world : World) (sizes : Sizes) (nodes : List NodeParts) (network : NetworkParts)
-    (s : ClusterStands config (cluster_of sizes nodes network) world) (rm : ℕ) (nowhere : None ≡ place (sized sizes) (R rm)) where
+module _ (config : Config) (world : FlooredWorld) (sizes : Sizes) (nodes : List FlooredParts) (network : NetworkParts)
+    (notices : NoticesParts) (s : ClusterStands config (cluster_of sizes nodes network notices) world) (rm : ℕ)
+    (nowhere : None ≡ place (sized sizes) (R rm)) where
   abbrev cluster : ClusterParts
-  cluster = cluster_of sizes nodes network
+  cluster = cluster_of sizes nodes network notices
 
-  none : node_at config world (R rm) ≡ None
-  none = none_there config world sizes nodes network s (R rm) (sym nowhere)
+  none : node_at config world.machine (R rm) ≡ None
+  none = none_there config world sizes nodes network notices s (R rm) (sym nowhere)
 
   none_said : {X : Type 0} (Says : NodeState → Type 0) (result : Result X Refusal) → result ≡ Err Refusal.NoSuch
-      → IsSaid config (R rm) cluster cluster Says (node_at config world (R rm)) result
+      → IsSaid config (R rm) cluster cluster Says (node_at config world.machine (R rm)) result
   none_said Says result e =
       subst (λ (o : Option NodeState). IsSaid config (R rm) cluster cluster Says o result) (sym none) (refl, e)
 
@@ -77,7 +70,7 @@ module _ (config : Config) (world : World) (sizes : Sizes) (nodes : List NodePar
   no_view tx result e = record {
     same = unchanged cluster cluster refl refl;
     stands = s;
-    says = none_said (λ m. SaysView config (R rm) m.facts tx result) result e;
+    says = none_said (λ m. SaysFlooredView config (R rm) (world.floor (R rm)) m.facts tx result) result e;
   }
 
   pub no_table : (result : Result (List Row) Refusal) → result ≡ Err Refusal.NoSuch → TablesIn config world cluster cluster rm result
@@ -89,89 +82,96 @@ module _ (config : Config) (world : World) (sizes : Sizes) (nodes : List NodePar
 
 -- ---- its node is asked
 
-module _ (config : Config) (world : World) (sizes : Sizes) (nodes : List NodeParts) (network : NetworkParts)
-    (s : ClusterStands config (cluster_of sizes nodes network) world) (rm at : ℕ) (is : Some at ≡ place (sized sizes) (R rm))
-    (node new : NodeParts) (read : node ≡ get_or nodes at node) where
+module _ (config : Config) (world : FlooredWorld) (sizes : Sizes) (nodes : List FlooredParts) (network : NetworkParts)
+    (notices : NoticesParts) (s : ClusterStands config (cluster_of sizes nodes network notices) world) (rm at : ℕ)
+    (is : Some at ≡ place (sized sizes) (R rm)) (node new : FlooredParts) (read : node ≡ get_or nodes at node) where
   abbrev before : ClusterParts
-  before = cluster_of sizes nodes network
+  before = cluster_of sizes nodes network notices
 
   abbrev after : ClusterParts
-  after = cluster_of sizes (set nodes at new) network
+  after = cluster_of sizes (set nodes at new) network notices
 
-  own : (m : NodeState) × (slice_get world.nodes at ≡ Some m) × NodeStands config (get_or nodes at node) m
-  own = there config world sizes nodes network s (R rm) at (sym is) node
+  own : (m : NodeState) × (slice_get world.machine.nodes at ≡ Some m) × FlooredStands config (get_or nodes at node) m
+  own = there config world sizes nodes network notices s (R rm) at (sym is) node
 
   abbrev m : NodeState
   m = own.0
 
-  was : NodeStands config node m
-  was = subst (λ (x : NodeParts). NodeStands config x m) (sym read) own.2
+  was : FlooredStands config node m
+  was = subst (λ (x : FlooredParts). FlooredStands config x m) (sym read) own.2
 
-  node_is : node_at config world (R rm) ≡ Some m
-  node_is = found config world sizes nodes network s (R rm) at (sym is) m own.1
+  node_is : node_at config world.machine (R rm) ≡ Some m
+  node_is = found config world sizes nodes network notices s (R rm) at (sym is) m own.1
 
-  who_is : node.who ≡ R rm
-  who_is = ap (λ (x : NodeParts). x.who) read ∙ named config world sizes nodes network s (R rm) at (sym is) node
+  who_is : node.node.who ≡ R rm
+  who_is = ap (λ (x : FlooredParts). x.node.who) read ∙ named config world sizes nodes network notices s (R rm) at (sym is) node
 
-  module _ (same : IsSameNode node new) (role_is : new.role ≡ node.role)
-      (stands : Stands config node.who node.rows new.held node.role m) where
-    here : IsSameNode (get_or nodes at node) new
-    here = subst (λ (x : NodeParts). IsSameNode x new) read same
+  floor_was : node.floor ≡ world.floor (R rm)
+  floor_was = ap (λ (x : FlooredParts). x.floor) read ∙ floor_there config world sizes nodes network notices s (R rm) at (sym is) node
 
-    still : NodeStands config new m
-    still =
-        stands_still config node new m m same was
-        (subst (λ (r : Option Role). Stands config node.who node.rows new.held r m) (sym role_is) stands)
+  here : IsSameNode node.node new.node → IsSameNode (get_or nodes at node).node new.node
+  here same = subst (λ (x : FlooredParts). IsSameNode x.node new.node) read same
 
-    world_still : ClusterStands config after world
-    world_still = node_kept config world sizes nodes network s (R rm) at (sym is) node new m own.1 here still
+  same_here : IsSameNode node.node new.node → IsSameFloored (get_or nodes at node) new
+  same_here same = same_floored (get_or nodes at node) new (here same)
 
-    -- what its node says
-    said : {X : Type 0} (Says : NodeId → NodeState → Type 0) (result : Result X Refusal)
-        → ((new.held ≡ node.held) × Says node.who m) ⊎ IsUnread node.held new.held node.role result
-        → (o : Option NodeState) → o ≡ Some m → IsSaid config (R rm) before after (Says (R rm)) o result
-    said Says result says None e = absurd (cc (e))
-    said Says result (inl kept) (Some x) e =
-        let m_is : m ≡ x = cc (e) in
-        let nodes_are : set nodes at new ≡ nodes =
-        ap (λ (n : NodeParts). set nodes at n) (node_same node new same kept.0 role_is ∙ read) ∙ set-get_or nodes at node in
-        inl (
-          ap (λ (ns : List NodeParts). cluster_of sizes ns network) nodes_are,
-          subst (λ (x : NodeState). Says (R rm) x) m_is (subst (λ (n : NodeId). Says n m) who_is kept.1),
-        )
-    said Says result (inr unread) (Some x) e =
-        inr (record {
-          others = others_stay (place config (R rm)) at nodes new (placed config world sizes nodes network s (R rm) at (sym is));
-          network_is = refl;
-          role_is =
-              at_place config world sizes nodes network s (R rm) at (sym is) (λ (old late : NodeParts). late.role ≡ old.role) node new
-              (role_is ∙ ap (λ (x : NodeParts). x.role) read);
-          unread =
-              at_place config world sizes nodes network s (R rm) at (sym is)
-              (λ (old late : NodeParts). IsUnread old.held late.held old.role result) node new
-              (subst (λ (x : NodeParts). IsUnread x.held new.held x.role result) read unread);
-        })
+  world_still : IsSameNode node.node new.node → new.floor ≡ node.floor → FlooredStands config new m → ClusterStands config after world
+  world_still same floor_is stands =
+      node_kept config world sizes nodes network notices s (R rm) at (sym is) node new m own.1 (here same).who_is
+      (floor_is ∙ ap (λ (x : FlooredParts). x.floor) read) stands
+
+  -- what its node says
+  said : {X : Type 0} (Says : NodeId → Option Place → NodeState → Type 0) (result : Result X Refusal) → new.floor ≡ node.floor
+      → new.node.role ≡ node.node.role
+      → ((new ≡ node) × Says node.node.who node.floor m) ⊎ IsUnread node.node.held new.node.held node.node.role result
+      → (o : Option NodeState) → o ≡ Some m → IsSaid config (R rm) before after (Says (R rm) (world.floor (R rm))) o result
+  said Says result floor_is role_is says None e = absurd (cc (e))
+  said Says result floor_is role_is (inl kept) (Some x) e =
+      let m_is : m ≡ x = cc (e) in
+      let nodes_are : set nodes at new ≡ nodes =
+      ap (λ (n : FlooredParts). set nodes at n) (kept.0 ∙ read) ∙ set-get_or nodes at node in
+      inl (
+        ap (λ (ns : List FlooredParts). cluster_of sizes ns network notices) nodes_are,
+        subst (λ (x : NodeState). Says (R rm) (world.floor (R rm)) x) m_is
+            (subst (λ (f : Option Place). Says (R rm) f m) floor_was (subst (λ (n : NodeId). Says n node.floor m) who_is kept.1)),
+      )
+  said Says result floor_is role_is (inr unread) (Some x) e =
+      inr (record {
+        others = others_stay (place config (R rm)) at nodes new (placed config world sizes nodes network notices s (R rm) at (sym is));
+        network_is = refl;
+        notices_are = refl;
+        floor_is =
+            at_place config world sizes nodes network notices s (R rm) at (sym is) (λ (old late : FlooredParts). late.floor ≡ old.floor)
+            node new (floor_is ∙ ap (λ (x : FlooredParts). x.floor) read);
+        role_is =
+            at_place config world sizes nodes network notices s (R rm) at (sym is)
+            (λ (old late : FlooredParts). late.node.role ≡ old.node.role) node new (role_is ∙ ap (λ (x : FlooredParts). x.node.role) read);
+        unread =
+            at_place config world sizes nodes network notices s (R rm) at (sym is)
+            (λ (old late : FlooredParts). IsUnread old.node.held late.node.held old.node.role result) node new
+            (subst (λ (x : FlooredParts). IsUnread x.node.held new.node.held x.node.role result) read unread);
+      })
 
   pub view_said : (tx : TxParts) (result : Result View Refusal)
-      → ((config : Config) (m : NodeState) → NodeStands config node m → ViewsAs config m node new tx result)
+      → ((config : Config) (m : NodeState) → FlooredStands config node m → FlooredViews config m node new tx result)
       → ViewsIn config world before after rm tx result
   view_said tx result views =
       let v = views config m was in record {
-        same = same_but sizes nodes network network at node new (here v.same v.role_is v.views.stands);
-        stands = world_still v.same v.role_is v.views.stands;
+        same = same_but sizes nodes network network notices notices at node new (same_here v.same);
+        stands = world_still v.same v.floor_is v.stands;
         says =
-            said v.same v.role_is v.views.stands (λ who m. SaysView config who m.facts tx result) result v.views.says
-            (node_at config world (R rm)) node_is;
+            said (λ who floor m. SaysFlooredView config who floor m.facts tx result) result v.floor_is v.role_is v.says
+            (node_at config world.machine (R rm)) node_is;
       }
 
   pub table_said : (result : Result (List Row) Refusal)
-      → ((config : Config) (m : NodeState) → NodeStands config node m → TablesAs config m node new result)
+      → ((config : Config) (m : NodeState) → FlooredStands config node m → FlooredTables config m node new result)
       → TablesIn config world before after rm result
   table_said result tables =
       let t = tables config m was in record {
-        same = same_but sizes nodes network network at node new (here t.same t.role_is t.tables.stands);
-        stands = world_still t.same t.role_is t.tables.stands;
+        same = same_but sizes nodes network network notices notices at node new (same_here t.same);
+        stands = world_still t.same t.floor_is t.stands;
         says =
-            said t.same t.role_is t.tables.stands (λ who m. SaysTable config who m.facts result) result t.tables.says
-            (node_at config world (R rm)) node_is;
+            said (λ who floor m. SaysTable config who m.facts result) result t.floor_is t.role_is t.says
+            (node_at config world.machine (R rm)) node_is;
       }

@@ -37,7 +37,7 @@ use Rattle.safety.proofs.World.NodePlaces.{node_there, node_elsewhere}
 use Rattle.safety.proofs.World.Outcomes.{step_is}
 use Rattle.resource_manager.proofs.More.{keys_stay, table_more}
 use Rattle.cluster.specs.Headlines.{IsKept, IsWritten}
-use Rattle.cluster.proofs.Renewed.{restart_keeps, compact_keeps}
+use Rattle.floors.proofs.Nodes.{restart_keeps, compact_keeps}
 
 -- ---- one fact more, or none
 
@@ -54,7 +54,7 @@ abbrev pub Grows : Config → (world next : World) → Type 0
 Grows config world next = (who : NodeId) → HaveGrown (facts_at config world who) (facts_at config next who)
 
 module _ (config : Config) (world : World) where
-  still : Grows config world world
+  pub still : Grows config world world
   still who = stayed (facts_at config world who) (facts_at config world who) refl
 
   -- a node is another one then
@@ -137,6 +137,7 @@ dispatch_grows config world (Noise who bytes) fault = noise_grows config world w
 dispatch_grows config world (Tear who n) fault = tear_grows config world who n fault
 dispatch_grows config world (Restart who) fault = restart_grows config world who fault
 dispatch_grows config world (Compact who) fault = compact_grows config world who fault
+dispatch_grows config world event fault = still config world
 
 pub step_grows : (config : Config) (world : World) (event : Event) (fault : Fault)
     → Grows config world (world_step config world event fault).world

@@ -1,4 +1,4 @@
--- What the functions of this crate make of each event.
+-- What the functions of this crate make of each event at which no floor rises.
 use Rattle.std.proofs.Common.{◌≡◌, ◌∙◌, ℕ, ◌*◌, ◌<◌, ◌≤◌, true, false, List, [], ◌∷◌, length, take}
 use Rattle.std.proofs.Common.{get_or, set}
 use Rattle.std.proofs.Common.{Option, Some, None, refl, sym, ap, subst, arith}
@@ -22,14 +22,17 @@ use Rattle.protocol.specs.Worlds.{World, Datagram, place, node_at, datagram_at, 
 use Rattle.node_core.specs.declared.config.Sizes.{Sizes}
 use Rattle.node_core.specs.declared.output.Output.{Output}
 use Rattle.node_core.specs.Sends.{sent}
-use Rattle.node_core.specs.Nodes.{NodeParts, NodeStands, AreSizes, StepsAs, datagram_input}
+use Rattle.node_core.specs.Nodes.{AreSizes, datagram_input}
+use Rattle.floors.specs.Worlds.{FlooredWorld, nothing_told}
+use Rattle.floored.specs.Nodes.{FlooredParts, FlooredStands, FlooredStepsAs}
 use Rattle.network.specs.Networks.{DatagramParts, NetworkParts, StandsFor, Finds, IsKept}
 use Rattle.cluster.specs.declared.handing.Answered.{Answered}
-use Rattle.cluster.specs.Clusters.{ClusterParts, sized, cluster_of, ClusterStands, IsSound, IsSameCluster, ReachesAs, HappensAs, Reaches}
+use Rattle.cluster.specs.Clusters.{ClusterParts, NoticesParts, sized, cluster_of, ClusterStands, IsSound, ReachesAs}
+use Rattle.cluster.specs.Clusters.{HappensAs, Reaches}
 use Rattle.cluster.specs.Sending.{HaveSent, HasRoom}
 use Rattle.cluster.proofs.Bounds.{count}
 use Rattle.cluster.proofs.Sent.{none_sent}
-use Rattle.cluster.proofs.Standing.{is_there, none_there}
+use Rattle.cluster.proofs.Standing.{is_there, none_there, told_elsewhere}
 use Rattle.cluster.proofs.Reaching.{reached, sends_few, room_less}
 use Rattle.cluster.proofs.Occurring.{is_received, cut_is_noise, mark_absent, occurs_asked, occurs_delivered, occurs_cut, unlost}
 use Rattle.cluster.proofs.Occurring.{occurs_forged, reaches_none, refused_before, not_torn, not_restarted, not_compacted, undelivered}
@@ -42,42 +45,44 @@ none_left [] le = refl
 none_left (x ∷ xs) le = absurd (omega (arith, le))
 
 -- what a node's step says of the one that was read from the list
-abbrev pub Stepped : Input → (node new : NodeParts) → Output → Type 0
-Stepped input node new out = (config : Config) (m : NodeState) → NodeStands config node m → StepsAs config m input node new out
+abbrev pub Stepped : Input → (node new : FlooredParts) → Output → Type 0
+Stepped input node new out = (config : Config) (m : NodeState) → FlooredStands config node m → FlooredStepsAs config m input node new out
 
-module _ (config : Config) (world : World) (sizes : Sizes) (nodes : List NodeParts) (network : NetworkParts)
-    (s : ClusterStands config (cluster_of sizes nodes network) world) (who : NodeId) (at : ℕ) (is : Some at ≡ place (sized sizes) who)
-    (input : Input) (node new : NodeParts) (out : Output) (read : node ≡ get_or nodes at node) (steps : Stepped input node new out) where
+module _ (config : Config) (world : FlooredWorld) (sizes : Sizes) (nodes : List FlooredParts) (network : NetworkParts)
+    (notices : NoticesParts) (s : ClusterStands config (cluster_of sizes nodes network notices) world) (who : NodeId) (at : ℕ)
+    (is : Some at ≡ place (sized sizes) who) (input : Input) (node new : FlooredParts) (out : Output)
+    (read : node ≡ get_or nodes at node) (steps : Stepped input node new out) where
   by_place : Stepped input (get_or nodes at node) new out
-  by_place = subst (λ (n : NodeParts). Stepped input n new out) read steps
+  by_place = subst (λ (n : FlooredParts). Stepped input n new out) read steps
 
   -- its sends fit
   pub fits : (n : ℕ)
       → ((config : Config) → AreSizes config sizes → (facts : List Fact) (memory : Memory)
       → count config who (effect_of config who facts memory input).sends ≤ n)
       → length (flat_map (datagrams_of (sized sizes) who) (sent out.sends)) ≤ n
-  fits n bound = sends_few config world sizes nodes network s who at (sym is) input node new out by_place n bound
+  fits n bound = sends_few config world sizes nodes network notices s who at (sym is) input node new out by_place n bound
 
   pub handed_on : (after : NetworkParts) (answered : Answered)
       → HaveSent network after (flat_map (datagrams_of (sized sizes) who) (sent out.sends))
       → answered.answer ≡ out.reply → answered.now ≡ out.now
-      → ReachesAs config world who input (cluster_of sizes nodes network) (cluster_of sizes (set nodes at new) after) answered
+      → ReachesAs config world world.machine who input (cluster_of sizes nodes network notices)
+      (cluster_of sizes (set nodes at new) after notices) answered
   handed_on after answered so answer_is now_is =
-      reached config world sizes nodes network s who at (sym is) input node new out by_place after answered so answer_is now_is
+      reached config world sizes nodes network notices s who at (sym is) input node new out by_place after answered so answer_is now_is
 
 -- ---- no such node, and no room
 
-module _ (config : Config) (world : World) (sizes : Sizes) (nodes : List NodeParts) (network : NetworkParts)
-    (s : ClusterStands config (cluster_of sizes nodes network) world) (who : NodeId) (none : None ≡ place (sized sizes) who)
-    (answered : Answered)
+module _ (config : Config) (world : FlooredWorld) (sizes : Sizes) (nodes : List FlooredParts) (network : NetworkParts)
+    (notices : NoticesParts) (s : ClusterStands config (cluster_of sizes nodes network notices) world) (who : NodeId)
+    (none : None ≡ place (sized sizes) who) (answered : Answered)
     (answer_is : answered.answer ≡ Refused refusals.NoSuch) (now_is : answered.now ≡ None) where
   abbrev cluster : ClusterParts
-  cluster = cluster_of sizes nodes network
+  cluster = cluster_of sizes nodes network notices
 
-  absent : node_at config world who ≡ None
-  absent = none_there config world sizes nodes network s who (sym none)
+  absent : node_at config world.machine who ≡ None
+  absent = none_there config world sizes nodes network notices s who (sym none)
 
-  pub nowhere : (input : Input) → ReachesAs config world who input cluster cluster answered
+  pub nowhere : (input : Input) → ReachesAs config world world.machine who input cluster cluster answered
   nowhere input = reaches_none config world cluster cluster answered refl refl who input absent answer_is now_is s
 
   pub asked_nowhere : (request : Request) → HappensAs config world (Ask who request) cluster cluster answered
@@ -87,7 +92,14 @@ module _ (config : Config) (world : World) (sizes : Sizes) (nodes : List NodePar
   torn_nowhere n = not_torn config world cluster cluster answered s refl refl who absent n answer_is now_is s
 
   pub restarted_nowhere : HappensAs config world (Restart who) cluster cluster answered
-  restarted_nowhere = not_restarted config world cluster cluster answered s refl refl who absent answer_is now_is s
+  restarted_nowhere = not_restarted config world cluster cluster answered s refl refl who absent answer_is now_is
+      (record {
+        sizes_are = s.sizes_are;
+        nodes_are = s.nodes_are;
+        net_is = s.net_is;
+        told_are = told_elsewhere config world sizes nodes network notices s who (sym none) nothing_told;
+        notices_are = s.notices_are;
+      })
 
   pub compacted_nowhere : HappensAs config world (Compact who) cluster cluster answered
   compacted_nowhere = not_compacted config world cluster cluster answered s refl refl who absent answer_is now_is s
@@ -96,18 +108,18 @@ module _ (config : Config) (world : World) (sizes : Sizes) (nodes : List NodePar
       → HappensAs config world (Noise who bytes) cluster cluster answered
   forged_nowhere bytes k spells =
       occurs_forged config world cluster cluster answered s who bytes refl refl k spells (Refused refusals.NoSuch)
-      (ap (if_found world (λ (node : NodeState). answer_result world (Refused refusals.Forged))) absent) answer_is now_is s
+      (ap (if_found world.machine (λ (node : NodeState). answer_result world.machine (Refused refusals.Forged))) absent) answer_is now_is s
 
 -- no room was made, and the network stands for what it stood for
-pub no_room : (event : Event) (sizes : Sizes) (nodes : List NodeParts) (before after : NetworkParts)
+pub no_room : (event : Event) (sizes : Sizes) (nodes : List FlooredParts) (before after : NetworkParts) (notices : NoticesParts)
     → ((net : List Datagram) → StandsFor before net → StandsFor after net) → (answered : Answered)
     → answered.answer ≡ Refused refusals.NoMemory
-    → answered.now ≡ None → (config : Config) (world : World)
-    → ClusterStands config (cluster_of sizes nodes before) world
-    → HappensAs config world event (cluster_of sizes nodes before) (cluster_of sizes nodes after) answered
-no_room event sizes nodes before after same answered answer_is now_is config world s =
-    refused_before config world event (cluster_of sizes nodes before) (cluster_of sizes nodes after) answered s refl refl answer_is now_is
-    (with_network config world sizes nodes before after same s)
+    → answered.now ≡ None → (config : Config) (world : FlooredWorld)
+    → ClusterStands config (cluster_of sizes nodes before notices) world
+    → HappensAs config world event (cluster_of sizes nodes before notices) (cluster_of sizes nodes after notices) answered
+no_room event sizes nodes before after notices same answered answer_is now_is config world s =
+    refused_before config world event (cluster_of sizes nodes before notices) (cluster_of sizes nodes after notices) answered s refl refl
+    answer_is now_is (with_network config world sizes nodes before after notices same s)
 
 -- ---- noise
 
@@ -119,18 +131,20 @@ noise_few : (config : Config) (who : NodeId) (facts : List Fact) (memory : Memor
 noise_few config who facts memory = omega arith
 
 -- bytes that spell no message
-pub noise_handed : (config : Config) (world : World) (sizes : Sizes) (nodes : List NodeParts) (network : NetworkParts)
-    → ClusterStands config (cluster_of sizes nodes network) world → (who : NodeId) (at : ℕ) → Some at ≡ place (sized sizes) who
-    → (bytes : List ℕ) → message_at bytes ≡ None → (node new : NodeParts) (out : Output) → node ≡ get_or nodes at node
+pub noise_handed : (config : Config) (world : FlooredWorld) (sizes : Sizes) (nodes : List FlooredParts) (network : NetworkParts)
+    (notices : NoticesParts) → ClusterStands config (cluster_of sizes nodes network notices) world → (who : NodeId) (at : ℕ)
+    → Some at ≡ place (sized sizes) who
+    → (bytes : List ℕ) → message_at bytes ≡ None → (node new : FlooredParts) (out : Output) → node ≡ get_or nodes at node
     → Stepped (datagram_input bytes) node new out
     → (answered : Answered) → answered.answer ≡ out.reply → answered.now ≡ out.now
-    → ReachesAs config world who ReceivedNoise (cluster_of sizes nodes network) (cluster_of sizes (set nodes at new) network) answered
-noise_handed config world sizes nodes network s who at is bytes none node new out read steps answered answer_is now_is =
+    → ReachesAs config world world.machine who ReceivedNoise (cluster_of sizes nodes network notices)
+    (cluster_of sizes (set nodes at new) network notices) answered
+noise_handed config world sizes nodes network notices s who at is bytes none node new out read steps answered answer_is now_is =
     let noise : Stepped ReceivedNoise node new out = subst (λ (i : Input). Stepped i node new out) (noise_input bytes none) steps in
     let few : length (flat_map (datagrams_of (sized sizes) who) (sent out.sends)) ≤ 0 =
-    fits config world sizes nodes network s who at is ReceivedNoise node new out read noise 0
+    fits config world sizes nodes network notices s who at is ReceivedNoise node new out read noise 0
     (λ c are facts memory. noise_few c who facts memory) in
-    handed_on config world sizes nodes network s who at is ReceivedNoise node new out read noise network answered
+    handed_on config world sizes nodes network notices s who at is ReceivedNoise node new out read noise network answered
     (subst (λ (more : List Datagram). HaveSent network network more) (none_left _ few) (none_sent network)) answer_is now_is
 
 -- a cut
@@ -139,55 +153,60 @@ module _ (network : NetworkParts) (n k : ℕ) (kept : DatagramParts)
   pub cut_none : (net : List Datagram) → StandsFor network net → message_at (take k kept.bytes) ≡ None
   cut_none net s = let f = finds net s in cut_is_noise kept.bytes f.0.message k f.2.spells lt
 
-  pub cut_made : (sizes : Sizes) (nodes new : List NodeParts) (answered : Answered)
-      → ((other : NetworkParts) → Reaches kept.receiver ReceivedNoise (cluster_of sizes nodes other) (cluster_of sizes new other) answered)
-      → (config : Config) (world : World) → ClusterStands config (cluster_of sizes nodes network) world
-      → HappensAs config world (Cut n k) (cluster_of sizes nodes network) (cluster_of sizes new network) answered
-  cut_made sizes nodes new answered reaches config world s =
-      let f = finds world.net s.net_is in
+  pub cut_made : (sizes : Sizes) (nodes new : List FlooredParts) (answered : Answered)
+      → ((other : NetworkParts) (notices : NoticesParts) → Reaches kept.receiver ReceivedNoise (cluster_of sizes nodes other notices)
+      (cluster_of sizes new other notices) answered)
+      → (notices : NoticesParts) (config : Config) (world : FlooredWorld)
+      → ClusterStands config (cluster_of sizes nodes network notices) world
+      → HappensAs config world (Cut n k) (cluster_of sizes nodes network notices) (cluster_of sizes new network notices) answered
+  cut_made sizes nodes new answered reaches notices config world s =
+      let f = finds world.machine.net s.net_is in
       let d : Datagram = f.0 in
       let is_kept : IsKept kept d = f.2 in
       let fewer : k < length (spelling d.message) = subst (λ (bytes : List ℕ). k < length bytes) is_kept.spells.spelled lt in
-      occurs_cut config world (cluster_of sizes nodes network) (cluster_of sizes new network) answered s n d f.1 k fewer
-      (subst (λ (who : NodeId). ReachesAs config world who ReceivedNoise (cluster_of sizes nodes network)
-      (cluster_of sizes new network) answered)
-      is_kept.receiver_is (reaches network config world s))
+      occurs_cut config world (cluster_of sizes nodes network notices) (cluster_of sizes new network notices) answered s n d f.1 k fewer
+      (subst (λ (who : NodeId). ReachesAs config world world.machine who ReceivedNoise (cluster_of sizes nodes network notices)
+      (cluster_of sizes new network notices) answered)
+      is_kept.receiver_is (reaches network notices config world s))
 
 -- bytes that nobody sent, but that spell a message
-pub forged_there : (config : Config) (world : World) (sizes : Sizes) (nodes : List NodeParts) (network : NetworkParts)
-    → ClusterStands config (cluster_of sizes nodes network) world → (who : NodeId) (at : ℕ) → Some at ≡ place (sized sizes) who
+pub forged_there : (config : Config) (world : FlooredWorld) (sizes : Sizes) (nodes : List FlooredParts) (network : NetworkParts)
+    (notices : NoticesParts) → ClusterStands config (cluster_of sizes nodes network notices) world → (who : NodeId) (at : ℕ)
+    → Some at ≡ place (sized sizes) who
     → (bytes : List ℕ) (k : Kind) → Spells k bytes → (answered : Answered) → answered.answer ≡ Refused refusals.Forged → answered.now ≡ None
-    → HappensAs config world (Noise who bytes) (cluster_of sizes nodes network) (cluster_of sizes nodes network) answered
-forged_there config world sizes nodes network s who at is bytes k spells answered answer_is now_is =
-    let m : (m : NodeState) × (node_at config world who ≡ Some m) = is_there config world sizes nodes network s who at (sym is) in
-    occurs_forged config world (cluster_of sizes nodes network) (cluster_of sizes nodes network) answered s who bytes refl refl k spells
-    (Refused refusals.Forged)
-    (ap (if_found world (λ (node : NodeState). answer_result world (Refused refusals.Forged))) m.1) answer_is now_is s
+    → HappensAs config world (Noise who bytes) (cluster_of sizes nodes network notices) (cluster_of sizes nodes network notices) answered
+forged_there config world sizes nodes network notices s who at is bytes k spells answered answer_is now_is =
+    let cluster : ClusterParts = cluster_of sizes nodes network notices in
+    let m : (m : NodeState) × (node_at config world.machine who ≡ Some m) =
+    is_there config world sizes nodes network notices s who at (sym is) in
+    occurs_forged config world cluster cluster answered s who bytes refl refl k spells (Refused refusals.Forged)
+    (ap (if_found world.machine (λ (node : NodeState). answer_result world.machine (Refused refusals.Forged))) m.1) answer_is now_is s
 
 -- a number that none has
-module _ (sizes : Sizes) (nodes : List NodeParts) (network : NetworkParts) (n : ℕ)
+module _ (sizes : Sizes) (nodes : List FlooredParts) (network : NetworkParts) (n : ℕ)
     (absent : (net : List Datagram) → StandsFor network net → Finds net n None) (answered : Answered)
-    (answer_is : answered.answer ≡ Refused refusals.NoSuch) (now_is : answered.now ≡ None)
-    (config : Config) (world : World) (s : ClusterStands config (cluster_of sizes nodes network) world) where
+    (answer_is : answered.answer ≡ Refused refusals.NoSuch) (now_is : answered.now ≡ None) (notices : NoticesParts)
+    (config : Config) (world : FlooredWorld) (s : ClusterStands config (cluster_of sizes nodes network notices) world) where
   abbrev unmoved : ClusterParts
-  unmoved = cluster_of sizes nodes network
+  unmoved = cluster_of sizes nodes network notices
 
   pub delivered_none : HappensAs config world (Deliver n) unmoved unmoved answered
   delivered_none =
-      undelivered config world unmoved unmoved answered s refl refl n (absent world.net s.net_is) answer_is now_is s
+      undelivered config world unmoved unmoved answered s refl refl n (absent world.machine.net s.net_is) answer_is now_is s
 
   pub cut_absent : (k : ℕ) → HappensAs config world (Cut n k) unmoved unmoved answered
-  cut_absent k = uncut config world unmoved unmoved answered s refl refl n k (absent world.net s.net_is) answer_is now_is s
+  cut_absent k = uncut config world unmoved unmoved answered s refl refl n k (absent world.machine.net s.net_is) answer_is now_is s
 
 -- a cut that leaves nothing off
-pub cut_nothing : (sizes : Sizes) (nodes : List NodeParts) (network : NetworkParts) (n k : ℕ) (kept : DatagramParts)
+pub cut_nothing : (sizes : Sizes) (nodes : List FlooredParts) (network : NetworkParts) (n k : ℕ) (kept : DatagramParts)
     → ((net : List Datagram) → StandsFor network net → Finds net n (Some kept)) → length kept.bytes ≤ k → (answered : Answered)
-    → answered.answer ≡ Refused refusals.NoSuch → answered.now ≡ None → (config : Config) (world : World)
-    → ClusterStands config (cluster_of sizes nodes network) world
-    → HappensAs config world (Cut n k) (cluster_of sizes nodes network) (cluster_of sizes nodes network) answered
-cut_nothing sizes nodes network n k kept finds le answered answer_is now_is config world s =
-    let f = finds world.net s.net_is in
-    not_cut config world (cluster_of sizes nodes network) (cluster_of sizes nodes network) answered s n f.0 f.1 refl refl k
+    → answered.answer ≡ Refused refusals.NoSuch → answered.now ≡ None → (notices : NoticesParts) (config : Config) (world : FlooredWorld)
+    → ClusterStands config (cluster_of sizes nodes network notices) world
+    → HappensAs config world (Cut n k) (cluster_of sizes nodes network notices) (cluster_of sizes nodes network notices) answered
+cut_nothing sizes nodes network n k kept finds le answered answer_is now_is notices config world s =
+    let cluster : ClusterParts = cluster_of sizes nodes network notices in
+    let f = finds world.machine.net s.net_is in
+    not_cut config world cluster cluster answered s n f.0 f.1 refl refl k
     (subst (λ (bytes : List ℕ). length bytes ≤ k) f.2.spells.spelled le) answer_is now_is s
 
 -- a number that none has is lost without a mark
@@ -195,16 +214,21 @@ pub lost_none : (network after : NetworkParts) (n : ℕ) (answered : Answered)
     → ((net : List Datagram) → StandsFor network net → false ≡ is_some (datagram_at net n))
     → ((net : List Datagram) → StandsFor network net → StandsFor after (mark_at net n))
     → answered.answer ≡ Refused refusals.NoSuch → answered.now ≡ None
-    → (sizes : Sizes) (nodes : List NodeParts) (config : Config) (world : World) → ClusterStands config
-    (cluster_of sizes nodes network) world
-    → HappensAs config world (Lose n) (cluster_of sizes nodes network) (cluster_of sizes nodes after) answered
-lost_none network after n answered absent marks answer_is now_is sizes nodes config world s =
-    let none : datagram_at world.net n ≡ None = no_some (datagram_at world.net n) (absent world.net s.net_is) in
-    unlost config world (cluster_of sizes nodes network) (cluster_of sizes nodes after) answered s refl refl n none answer_is now_is
+    → (sizes : Sizes) (nodes : List FlooredParts) (notices : NoticesParts) (config : Config) (world : FlooredWorld)
+    → ClusterStands config (cluster_of sizes nodes network notices) world
+    → HappensAs config world (Lose n) (cluster_of sizes nodes network notices) (cluster_of sizes nodes after notices) answered
+lost_none network after n answered absent marks answer_is now_is sizes nodes notices config world s =
+    let none : datagram_at world.machine.net n ≡ None =
+    no_some (datagram_at world.machine.net n) (absent world.machine.net s.net_is) in
+    unlost config world (cluster_of sizes nodes network notices) (cluster_of sizes nodes after notices) answered s refl refl n none
+    answer_is now_is
     (record {
       sizes_are = s.sizes_are;
       nodes_are = s.nodes_are;
-      net_is = subst (λ (ds : List Datagram). StandsFor after ds) (mark_absent world.net n none) (marks world.net s.net_is);
+      net_is =
+          subst (λ (ds : List Datagram). StandsFor after ds) (mark_absent world.machine.net n none) (marks world.machine.net s.net_is);
+      told_are = s.told_are;
+      notices_are = s.notices_are;
     })
   where
     no_some : {X : Type 0} (o : Option X) → false ≡ is_some o → o ≡ None
@@ -216,61 +240,63 @@ pub lost_one : (network after : NetworkParts) (n : ℕ) (answered : Answered)
     → ((net : List Datagram) → StandsFor network net → true ≡ is_some (datagram_at net n))
     → ((net : List Datagram) → StandsFor network net → StandsFor after (mark_at net n))
     → answered.answer ≡ Done → answered.now ≡ None
-    → (sizes : Sizes) (nodes : List NodeParts) (config : Config) (world : World) → ClusterStands config
-    (cluster_of sizes nodes network) world
-    → HappensAs config world (Lose n) (cluster_of sizes nodes network) (cluster_of sizes nodes after) answered
-lost_one network after n answered there marks answer_is now_is sizes nodes config world s =
-    let d = found_one (datagram_at world.net n) (there world.net s.net_is) in
-    occurs_lost config world (cluster_of sizes nodes network) (cluster_of sizes nodes after) answered s n d.0 d.1 refl refl answer_is now_is
-    (with_marked config world sizes nodes network after n marks s)
+    → (sizes : Sizes) (nodes : List FlooredParts) (notices : NoticesParts) (config : Config) (world : FlooredWorld)
+    → ClusterStands config (cluster_of sizes nodes network notices) world
+    → HappensAs config world (Lose n) (cluster_of sizes nodes network notices) (cluster_of sizes nodes after notices) answered
+lost_one network after n answered there marks answer_is now_is sizes nodes notices config world s =
+    let d = found_one (datagram_at world.machine.net n) (there world.machine.net s.net_is) in
+    occurs_lost config world (cluster_of sizes nodes network notices) (cluster_of sizes nodes after notices) answered s n d.0 d.1 refl refl
+    answer_is now_is (with_marked config world sizes nodes network after notices n marks s)
   where
     found_one : {X : Type 0} (o : Option X) → true ≡ is_some o → (x : X) × (o ≡ Some x)
     found_one None e = absurd (cc (e))
     found_one (Some x) e = (x, refl)
 
-same_as : (sizes : Sizes) (nodes : List NodeParts) (a b : NetworkParts) (new : ClusterParts)
-    → IsSameCluster (cluster_of sizes nodes a) new → IsSameCluster (cluster_of sizes nodes b) new
-same_as sizes nodes a b new same = record { sizes_are = same.sizes_are; nodes_are = same.nodes_are }
-
--- what is said of the nodes before holds whatever the network was
-as_before : (config : Config) (world : World) (who : NodeId) (input : Input) (sizes : Sizes) (nodes : List NodeParts) (a b : NetworkParts)
-    (new : ClusterParts) (answered : Answered) → ReachesAs config world who input (cluster_of sizes nodes a) new answered
-    → ReachesAs config world who input (cluster_of sizes nodes b) new answered
-as_before config world who input sizes nodes a b new answered r =
+-- what is said of the nodes before holds whatever the network was, and of what was marked in it
+as_before : (config : Config) (world : FlooredWorld) (machine : World) (who : NodeId) (input : Input) (sizes : Sizes)
+    (nodes : List FlooredParts) (a b : NetworkParts) (notices : NoticesParts) (new : ClusterParts) (answered : Answered)
+    → ReachesAs config (record world { machine = machine }) machine who input (cluster_of sizes nodes a notices) new answered
+    → ReachesAs config world machine who input (cluster_of sizes nodes b notices) new answered
+as_before config world machine who input sizes nodes a b notices new answered r =
     record {
       fault = r.fault;
       reached = r.reached;
-      same = same_as sizes nodes a b new r.same;
+      same = record { sizes_are = r.same.sizes_are; nodes_are = r.same.nodes_are };
       others = r.others;
       befalls = r.befalls;
-      comes = r.comes;
+      comes = record { answer_is = r.comes.answer_is; now_is = r.comes.now_is; stands = r.comes.stands };
     }
 
 -- ---- a request
 
-module _ (sizes : Sizes) (nodes : List NodeParts) (network after : NetworkParts)
+module _ (sizes : Sizes) (nodes : List FlooredParts) (network after : NetworkParts)
     (same : (net : List Datagram) → StandsFor network net → StandsFor after net)
     (who : NodeId) (at : ℕ) (is : Some at ≡ place (sized sizes) who) (request : Request)
-    (node new : NodeParts) (out : Output) (read : node ≡ get_or nodes at node) (steps : Stepped (Asked request) node new out) where
-  pub ask_room : IsSound (cluster_of sizes nodes network) → (n : ℕ)
+    (node new : FlooredParts) (out : Output) (read : node ≡ get_or nodes at node) (steps : Stepped (Asked request) node new out) where
+  pub ask_room : (notices : NoticesParts) → IsSound (cluster_of sizes nodes network notices) → (n : ℕ)
       → ((config : Config) → AreSizes config sizes → (facts : List Fact) (memory : Memory)
       → count config who (on_request config who facts memory request).sends ≤ n)
       → HasRoom n after → HasRoom (length (flat_map (datagrams_of (sized sizes) who) (sent out.sends))) after
-  ask_room sound n bound room =
+  ask_room notices sound n bound room =
       room_less after (length (flat_map (datagrams_of (sized sizes) who) (sent out.sends))) n
-      (fits sound.config sound.world sizes nodes network sound.is who at is (Asked request) node new out read steps n bound) room
+      (fits sound.config sound.world sizes nodes network notices sound.is who at is (Asked request) node new out read steps n bound) room
 
   pub ask_made : (final : NetworkParts) (answered : Answered)
       → HaveSent after final (flat_map (datagrams_of (sized sizes) who) (sent out.sends))
       → answered.answer ≡ out.reply → answered.now ≡ out.now
-      → (config : Config) (world : World) → ClusterStands config (cluster_of sizes nodes network) world
-      → HappensAs config world (Ask who request) (cluster_of sizes nodes network) (cluster_of sizes (set nodes at new) final)
-      answered
-  ask_made final answered so answer_is now_is config world s =
-      let next : ClusterStands config (cluster_of sizes nodes after) world = with_network config world sizes nodes network after same s in
-      occurs_asked config world (cluster_of sizes nodes network) (cluster_of sizes (set nodes at new) final) answered s who request
-      (as_before config world who (Asked request) sizes nodes after network (cluster_of sizes (set nodes at new) final) answered
-      (handed_on config world sizes nodes after next who at is (Asked request) node new out read steps final answered so answer_is now_is))
+      → (notices : NoticesParts) (config : Config) (world : FlooredWorld)
+      → ClusterStands config (cluster_of sizes nodes network notices) world
+      → HappensAs config world (Ask who request) (cluster_of sizes nodes network notices)
+      (cluster_of sizes (set nodes at new) final notices) answered
+  ask_made final answered so answer_is now_is notices config world s =
+      let next : ClusterStands config (cluster_of sizes nodes after notices) world =
+      with_network config world sizes nodes network after notices same s in
+      occurs_asked config world (cluster_of sizes nodes network notices) (cluster_of sizes (set nodes at new) final notices) answered s who
+      request
+      (as_before config world world.machine who (Asked request) sizes nodes after network notices
+      (cluster_of sizes (set nodes at new) final notices) answered
+      (handed_on config world sizes nodes after notices next who at is (Asked request) node new out read steps final answered so answer_is
+      now_is))
 
 -- ---- a datagram
 
@@ -282,51 +308,59 @@ room_marked before after n spare bytes room = record {
   bytes = subst (λ (k : ℕ). n * MAX_MESSAGE_BYTES ≤ k) (sym bytes) room.bytes;
 }
 
-module _ (sizes : Sizes) (nodes : List NodeParts) (network after marked : NetworkParts) (n : ℕ)
+module _ (sizes : Sizes) (nodes : List FlooredParts) (network after marked : NetworkParts) (n : ℕ)
     (same : (net : List Datagram) → StandsFor network net → StandsFor after net)
     (marks : (net : List Datagram) → StandsFor after net → StandsFor marked (mark_at net n))
     (first : DatagramParts) (finds : (net : List Datagram) → StandsFor network net → Finds net n (Some first)) where
-  stands_marked : (config : Config) (world : World) → ClusterStands config (cluster_of sizes nodes network) world
-      → ClusterStands config (cluster_of sizes nodes marked) (with_mark world n)
-  stands_marked config world s =
-      with_marked config world sizes nodes after marked n marks (with_network config world sizes nodes network after same s)
+  stands_marked : (notices : NoticesParts) (config : Config) (world : FlooredWorld)
+      → ClusterStands config (cluster_of sizes nodes network notices) world
+      → ClusterStands config (cluster_of sizes nodes marked notices) (record world { machine = with_mark world.machine n })
+  stands_marked notices config world s =
+      with_marked config world sizes nodes after marked notices n marks (with_network config world sizes nodes network after notices same s)
 
   -- to a node that isn't there
   pub deliver_nowhere : place (sized sizes) first.receiver ≡ None → (answered : Answered)
       → answered.answer ≡ Refused refusals.NoSuch → answered.now ≡ None
-      → (config : Config) (world : World) → ClusterStands config (cluster_of sizes nodes network) world
-      → HappensAs config world (Deliver n) (cluster_of sizes nodes network) (cluster_of sizes nodes marked) answered
-  deliver_nowhere nowhere answered answer_is now_is config world s =
-      let f = finds world.net s.net_is in
+      → (notices : NoticesParts) (config : Config) (world : FlooredWorld)
+      → ClusterStands config (cluster_of sizes nodes network notices) world
+      → HappensAs config world (Deliver n) (cluster_of sizes nodes network notices) (cluster_of sizes nodes marked notices) answered
+  deliver_nowhere nowhere answered answer_is now_is notices config world s =
+      let f = finds world.machine.net s.net_is in
       let d : Datagram = f.0 in
+      let machine : World = with_mark world.machine n in
       let receiver_is : first.receiver ≡ d.receiver = f.2.receiver_is in
-      let none : node_at config world d.receiver ≡ None =
-      none_there config world sizes nodes network s d.receiver (ap (λ (w : NodeId). place (sized sizes) w) (sym receiver_is) ∙ nowhere) in
-      occurs_delivered config world (cluster_of sizes nodes network) (cluster_of sizes nodes marked) answered s n d f.1
-      (reaches_none config (with_mark world n) (cluster_of sizes nodes network) (cluster_of sizes nodes marked) answered refl refl
-      d.receiver
-      (Received d.message) none answer_is now_is (stands_marked config world s))
+      let none : node_at config world.machine d.receiver ≡ None =
+      none_there config world sizes nodes network notices s d.receiver
+      (ap (λ (w : NodeId). place (sized sizes) w) (sym receiver_is) ∙ nowhere) in
+      occurs_delivered config world (cluster_of sizes nodes network notices) (cluster_of sizes nodes marked notices) answered s n d f.1
+      (as_before config world machine d.receiver (Received d.message) sizes nodes network network notices
+      (cluster_of sizes nodes marked notices) answered
+      (reaches_none config (record world { machine = machine }) (cluster_of sizes nodes network notices)
+      (cluster_of sizes nodes marked notices) answered refl refl d.receiver
+      (Received d.message) none answer_is now_is (stands_marked notices config world s)))
 
   -- it is found again
-  pub found_again : IsSound (cluster_of sizes nodes network) → ((net : List Datagram) → StandsFor after net → Finds net n None) → ⊥
-  found_again sound none =
-      let f = finds sound.world.net sound.is.net_is in
-      let e : None ≡ Some f.0 = sym (none sound.world.net (same sound.world.net sound.is.net_is)) ∙ f.1 in
+  pub found_again : (notices : NoticesParts) → IsSound (cluster_of sizes nodes network notices)
+      → ((net : List Datagram) → StandsFor after net → Finds net n None) → ⊥
+  found_again notices sound none =
+      let net : List Datagram = sound.world.machine.net in
+      let f = finds net sound.is.net_is in
+      let e : None ≡ Some f.0 = sym (none net (same net sound.is.net_is)) ∙ f.1 in
       absurd (cc (e))
 
   module _ (again : DatagramParts) (finds_again : (net : List Datagram) → StandsFor after net → Finds net n (Some again))
-      (at : ℕ) (is : Some at ≡ place (sized sizes) first.receiver) (node new : NodeParts) (out : Output)
+      (at : ℕ) (is : Some at ≡ place (sized sizes) first.receiver) (node new : FlooredParts) (out : Output)
       (read : node ≡ get_or nodes at node)
       (steps : Stepped (datagram_input again.bytes) node new out) where
-    pub deliver_room : IsSound (cluster_of sizes nodes network) → (most : ℕ)
+    pub deliver_room : (notices : NoticesParts) → IsSound (cluster_of sizes nodes network notices) → (most : ℕ)
         → ((config : Config) → AreSizes config sizes → (facts : List Fact) (memory : Memory) (bytes : List ℕ)
         → count config first.receiver (effect_of config first.receiver facts memory (datagram_input bytes)).sends ≤ most)
         → marked.spare ≡ after.spare → marked.spare_bytes ≡ after.spare_bytes
         → HasRoom most after
         → HasRoom (length (flat_map (datagrams_of (sized sizes) first.receiver) (sent out.sends))) marked
-    deliver_room sound most bound spare bytes room =
+    deliver_room notices sound most bound spare bytes room =
         room_less marked (length (flat_map (datagrams_of (sized sizes) first.receiver) (sent out.sends))) most
-        (fits sound.config sound.world sizes nodes network sound.is first.receiver at is
+        (fits sound.config sound.world sizes nodes network notices sound.is first.receiver at is
         (datagram_input again.bytes) node new out read steps most
         (λ config are facts memory. bound config are facts memory again.bytes))
         (room_marked after marked most spare bytes room)
@@ -334,22 +368,26 @@ module _ (sizes : Sizes) (nodes : List NodeParts) (network after marked : Networ
     pub deliver_made : (final : NetworkParts) (answered : Answered)
         → HaveSent marked final (flat_map (datagrams_of (sized sizes) first.receiver) (sent out.sends))
         → answered.answer ≡ out.reply → answered.now ≡ out.now
-        → (config : Config) (world : World) → ClusterStands config (cluster_of sizes nodes network) world
-        → HappensAs config world (Deliver n) (cluster_of sizes nodes network) (cluster_of sizes (set nodes at new) final) answered
-    deliver_made final answered so answer_is now_is config world s =
-        let f = finds world.net s.net_is in
-        let g = finds_again world.net (same world.net s.net_is) in
+        → (notices : NoticesParts) (config : Config) (world : FlooredWorld)
+        → ClusterStands config (cluster_of sizes nodes network notices) world
+        → HappensAs config world (Deliver n) (cluster_of sizes nodes network notices)
+        (cluster_of sizes (set nodes at new) final notices) answered
+    deliver_made final answered so answer_is now_is notices config world s =
+        let f = finds world.machine.net s.net_is in
+        let g = finds_again world.machine.net (same world.machine.net s.net_is) in
         let d : Datagram = f.0 in
+        let machine : World = with_mark world.machine n in
+        let last : ClusterParts = cluster_of sizes (set nodes at new) final notices in
         let e : Some g.0 ≡ Some d = sym g.1 ∙ f.1 in
         let one : g.0 ≡ d = cc (e) in
         let receiver_is : first.receiver ≡ d.receiver = f.2.receiver_is in
         let input_is : datagram_input again.bytes ≡ Received d.message =
         is_received again.bytes g.0.message g.2.spells ∙ ap (λ (x : Datagram). Received x.message) one in
         let stepped : Stepped (Received d.message) node new out = subst (λ (i : Input). Stepped i node new out) input_is steps in
-        occurs_delivered config world (cluster_of sizes nodes network) (cluster_of sizes (set nodes at new) final) answered s n d f.1
-        (subst (λ (w : NodeId). ReachesAs config (with_mark world n) w (Received d.message) (cluster_of sizes nodes network)
-        (cluster_of sizes (set nodes at new) final) answered) receiver_is
-        (as_before config (with_mark world n) first.receiver (Received d.message) sizes nodes marked network
-        (cluster_of sizes (set nodes at new) final) answered
-        (handed_on config (with_mark world n) sizes nodes marked (stands_marked config world s) first.receiver at is (Received d.message)
-        node new out read stepped final answered so answer_is now_is)))
+        occurs_delivered config world (cluster_of sizes nodes network notices) last answered s n d f.1
+        (subst (λ (w : NodeId). ReachesAs config world machine w (Received d.message) (cluster_of sizes nodes network notices) last
+        answered)
+        receiver_is
+        (as_before config world machine first.receiver (Received d.message) sizes nodes marked network notices last answered
+        (handed_on config (record world { machine = machine }) sizes nodes marked notices (stands_marked notices config world s)
+        first.receiver at is (Received d.message) node new out read stepped final answered so answer_is now_is)))

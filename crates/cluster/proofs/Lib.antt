@@ -1,10 +1,14 @@
 pub mod Sent
 pub mod Bounds
+pub mod Names
+pub mod Noticed
 pub mod Standing
 pub mod Reaching
 pub mod Occurring
 pub mod Handed
 pub mod Renewed
+pub mod Raised
+pub mod Replaced
 pub mod Asked
 pub mod Opened
 pub mod Grown

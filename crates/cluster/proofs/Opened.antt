@@ -1,12 +1,13 @@
 -- A cluster is made: node after node, and for which world it stands then.
-use Rattle.std.proofs.Common.{◌≡◌, ◌⊎◌, ◌∙◌, inl, inr, ℕ, suc, ◌+◌, ◌-◌, ◌<◌, ◌≤◌, Bool, true, false, if◌then◌else◌, List, [], ◌∷◌}
-use Rattle.std.proofs.Common.{◌++◌, length, map, get_or, Option, Some, None, refl, sym, ap, subst, append_assoc, length-append, nat_lt}
+use Rattle.std.proofs.Common.{◌≡◌, ◌⊎◌, ◌∙◌, inl, inr, ℕ, suc, ◌+◌, ◌<◌, Bool, true, false, List, [], ◌∷◌}
+use Rattle.std.proofs.Common.{◌++◌, length, map, get_or, Option, Some, None, refl, sym, ap, subst, append_assoc, length-append}
 use Rattle.std.proofs.Common.{arith}
 use Rattle.std.specs.Prelude.{◌==◌, slice_get, replicate, IsTrue, Err}
-use Rattle.std.specs.List.{AllZip, slice_set}
+use Rattle.std.specs.List.{All, AllZip, slice_set}
 use Rattle.std.specs.Option.{option_and_then, option_map_or}
-use Rattle.std.proofs.lemmas.Bool.{lt-ltb, le-ltb, ltb-true, ltb-false, eqb-true}
-use Rattle.std.proofs.lemmas.List.{append-nil, map_push, length-map, get_or-map, get_or_append_left, get_or_default}
+use Rattle.std.proofs.lemmas.Bool.{eqb-true}
+use Rattle.std.proofs.lemmas.List.{append-nil, map_push, length-map, get_or-map, get_or_append_left, get_or_default, length-replicate}
+use Rattle.std.proofs.lemmas.List.{get_or-replicate}
 use Rattle.std.proofs.Math.Seq.{get_or-append_seam}
 use Rattle.std.proofs.lemmas.List.Elements.{All-push, All-head, All-tail}
 use Rattle.std.proofs.lemmas.Simd.{splat_is_map}
@@ -14,7 +15,11 @@ use Rattle.xid.specs.declared.refusals.Refusal.{Refusal}
 use Rattle.stable_record.specs.declared.record.RecordError.{RecordError}
 use Rattle.stable_record.specs.declared.record.RecordError.TheVariants as errors
 use Rattle.stable_record.specs.Grammar.{IsStored}
-use Rattle.stable_record.specs.Held.{Held, HasRead, refusal_of}
+use Rattle.stable_record.specs.Behind.{behind}
+use Rattle.stable_record.specs.Floors.{floor_of, front_of}
+use Rattle.stable_record.specs.Held.{Held, HasRead, Nature, refusal_of}
+use Rattle.stable_record.proofs.Floors.{floor_stays}
+use Rattle.xid.specs.Places.{Place}
 use Rattle.protocol.specs.declared.events.Event.TheVariants.{Tear}
 use Rattle.protocol.specs.declared.answers.Answer.TheVariants.{Done}
 use Rattle.protocol.specs.declared.nodes.NodeId.{NodeId}
@@ -22,17 +27,23 @@ use Rattle.protocol.specs.declared.nodes.NodeId.TheVariants.{A, L, R}
 use Rattle.protocol.specs.Effects.{Config}
 use Rattle.protocol.specs.Nodes.{NodeState, NoFault, new_node}
 use Rattle.protocol.specs.Worlds.{World, place, node_at, set_node, answer_result, if_found, world_step}
-use Rattle.safety.specs.Runs.{IsReachable, Opening, After}
+use Rattle.floors.specs.Worlds.{FlooredWorld, Machine, floored_step}
+use Rattle.floors.specs.Runs.{IsFlooredReachable, Opening, After, floored_opening}
+use Rattle.forgetting.specs.Above.{StandsAbove}
+use Rattle.forgetting.proofs.Left.{stands_whole}
+use Rattle.floored.specs.Nodes.{FlooredParts, FlooredStands, IsFlooredOpened, IsFlooredUnopened}
+use Rattle.floored.specs.Told.{told_at}
 use Rattle.node_core.specs.declared.config.Sizes.{Sizes}
 use Rattle.node_core.specs.Configs.{is_among}
-use Rattle.node_core.specs.Nodes.{NodeParts, NodeStands, AreSizes, MeansFrom, Holds}
+use Rattle.node_core.specs.Nodes.{NodeStands, AreSizes, MeansFrom, Holds}
 use Rattle.node_core.proofs.Loading.{read_faulted}
 use Rattle.node_core.proofs.Restarting.{opened_empty}
 use Rattle.node_core.specs.Opening.{HasFaulted, IsOpened, IsUnopened}
 use Rattle.network.specs.Networks.{NetworkParts, StandsFor}
-use Rattle.cluster.specs.Clusters.{sized, node_count, cluster_of, ClusterStands, IsSound}
+use Rattle.cluster.specs.Clusters.{NoticesParts, sized, node_count, cluster_of, AreTold, ClusterStands, IsSound}
 use Rattle.cluster.specs.Opening.{torn_node, opening_with, tears_of, NoneArmed, IsOver, IsMade, IsUnmade, name_of}
 use Rattle.cluster.specs.Opening.{IsBegun, IsUnbegun, AreBegun}
+use Rattle.cluster.proofs.Names.{count_of, name_as, name_placed, name_there}
 use Rattle.cluster.proofs.Standing.{place_within}
 
 nothing_stored : IsStored [] [] []
@@ -40,123 +51,6 @@ nothing_stored = (refl, inl (omega arith))
 
 pub may_not : (may : Bool) → IsTrue may → may ≡ false → ⊥
 may_not may allowed e = let both : true ≡ false = sym allowed ∙ e in absurd (cc (both))
-
--- ---- names and places
-
-abbrev count_of : Config → ℕ
-count_of config = config.acceptors + config.leaders + config.managers
-
--- the names of places
-module _ (config : Config) (at : ℕ) where
-  abbrev is_acceptor : Bool
-  is_acceptor = nat_lt at config.acceptors
-
-  abbrev is_leader : Bool
-  is_leader = nat_lt at (config.acceptors + config.leaders)
-
-  abbrev name_by : Bool → Bool → NodeId
-  name_by a l =
-      if a then A at
-      else if l then L (at - config.acceptors)
-      else R (at - config.acceptors - config.leaders)
-
-  pub acceptor_named : at < config.acceptors → name_of config at ≡ A at
-  acceptor_named lt = ap (λ (a : Bool). name_by a is_leader) (lt-ltb at config.acceptors lt)
-
-  pub leader_named : config.acceptors ≤ at → at < config.acceptors + config.leaders → name_of config at ≡ L (at - config.acceptors)
-  leader_named le lt =
-      ap (λ (a : Bool). name_by a is_leader) (le-ltb at config.acceptors le)
-      ∙ ap (λ (l : Bool). name_by false l) (lt-ltb at (config.acceptors + config.leaders) lt)
-
-  pub manager_named : config.acceptors + config.leaders ≤ at → name_of config at ≡ R (at - config.acceptors - config.leaders)
-  manager_named le =
-      let past : config.acceptors ≤ at = omega (arith, le) in
-      ap (λ (a : Bool). name_by a is_leader) (le-ltb at config.acceptors past)
-      ∙ ap (λ (l : Bool). name_by false l) (le-ltb at (config.acceptors + config.leaders) le)
-
--- what a test of a place says
-placed_at : (t : Bool) (x at : ℕ) → (if t then Some x else None) ≡ Some at → (t ≡ true) × (x ≡ at)
-placed_at true x at e = (refl, cc (e))
-placed_at false x at e = absurd (cc (e))
-
--- the name of a place is that of the node that stands there
-pub name_there : (config : Config) (who : NodeId) (at : ℕ) → place config who ≡ Some at → name_of config at ≡ who
-name_there config (A a) at e =
-    let p = placed_at (nat_lt a config.acceptors) a at e in
-    let lt : a < config.acceptors = ltb-true a config.acceptors p.0 in
-    let here : a ≡ at = p.1 in
-    acceptor_named config at (omega (arith, lt, here)) ∙ ap A (sym here)
-name_there config (L l) at e =
-    let p = placed_at (nat_lt l config.leaders) (config.acceptors + l) at e in
-    let lt : l < config.leaders = ltb-true l config.leaders p.0 in
-    let here : config.acceptors + l ≡ at = p.1 in
-    let own : at - config.acceptors ≡ l = omega (arith, here) in
-    leader_named config at (omega (arith, here)) (omega (arith, lt, here)) ∙ ap L own
-name_there config (R rm) at e =
-    let p = placed_at (nat_lt rm config.managers) (config.acceptors + config.leaders + rm) at e in
-    let here : config.acceptors + config.leaders + rm ≡ at = p.1 in
-    let own : at - config.acceptors - config.leaders ≡ rm = omega (arith, here) in
-    manager_named config at (omega (arith, here)) ∙ ap R own
-
--- and stands there
-module _ (config : Config) (at : ℕ) (lt : at < count_of config) where
-  acceptor_placed : at < config.acceptors → place config (A at) ≡ Some at
-  acceptor_placed below = ap (λ (t : Bool). if t then Some at else None) (lt-ltb at config.acceptors below)
-
-  leader_placed : config.acceptors ≤ at → at < config.acceptors + config.leaders → place config (L (at - config.acceptors)) ≡ Some at
-  leader_placed le below =
-      let few : at - config.acceptors < config.leaders = omega (arith, le, below) in
-      let here : config.acceptors + (at - config.acceptors) ≡ at = omega (arith, le) in
-      ap (λ (t : Bool). if t then Some (config.acceptors + (at - config.acceptors)) else None)
-      (lt-ltb (at - config.acceptors) config.leaders few)
-      ∙ ap (λ (n : ℕ). Some n) here
-
-  manager_placed : config.acceptors + config.leaders ≤ at → place config (R (at - config.acceptors - config.leaders)) ≡ Some at
-  manager_placed le =
-      let few : at - config.acceptors - config.leaders < config.managers = omega (arith, le, lt) in
-      let here : config.acceptors + config.leaders + (at - config.acceptors - config.leaders) ≡ at = omega (arith, le) in
-      ap (λ (t : Bool). if t then Some (config.acceptors + config.leaders + (at - config.acceptors - config.leaders)) else None)
-      (lt-ltb (at - config.acceptors - config.leaders) config.managers few)
-      ∙ ap (λ (n : ℕ). Some n) here
-
-  placed_as : (who : NodeId) → name_of config at ≡ who → place config who ≡ Some at → place config (name_of config at) ≡ Some at
-  placed_as who e h = ap (place config) e ∙ h
-
-  placed_by : (a l : Bool) → nat_lt at config.acceptors ≡ a → nat_lt at (config.acceptors + config.leaders) ≡ l
-      → place config (name_of config at) ≡ Some at
-  placed_by true l e f =
-      let below : at < config.acceptors = ltb-true at config.acceptors e in
-      placed_as (A at) (acceptor_named config at below) (acceptor_placed below)
-  placed_by false true e f =
-      let le : config.acceptors ≤ at = ltb-false at config.acceptors e in
-      let below : at < config.acceptors + config.leaders = ltb-true at (config.acceptors + config.leaders) f in
-      placed_as (L (at - config.acceptors)) (leader_named config at le below) (leader_placed le below)
-  placed_by false false e f =
-      let le : config.acceptors + config.leaders ≤ at = ltb-false at (config.acceptors + config.leaders) f in
-      placed_as (R (at - config.acceptors - config.leaders)) (manager_named config at le) (manager_placed le)
-
-  pub name_placed : place config (name_of config at) ≡ Some at
-  name_placed = placed_by (nat_lt at config.acceptors) (nat_lt at (config.acceptors + config.leaders)) refl refl
-
-among_placed : (config : Config) (who : NodeId) (at : ℕ) → place config who ≡ Some at → is_among config who ≡ true
-among_placed config (A a) at e = (placed_at (nat_lt a config.acceptors) a at e).0
-among_placed config (L l) at e = (placed_at (nat_lt l config.leaders) (config.acceptors + l) at e).0
-among_placed config (R rm) at e = (placed_at (nat_lt rm config.managers) (config.acceptors + config.leaders + rm) at e).0
-
-name_as : (config : Config) (sizes : Sizes) → AreSizes config sizes → (at : ℕ) → name_of (sized sizes) at ≡ name_of config at
-name_as config sizes are at =
-    ap (λ (a : ℕ). if nat_lt at a then A at else if nat_lt at (a + sizes.leaders) then L (at - a) else R (at - a - sizes.leaders))
-    are.acceptors_are
-    ∙ ap (λ (l : ℕ). if nat_lt at config.acceptors then A at else if nat_lt at (config.acceptors + l) then L (at - config.acceptors)
-    else R (at - config.acceptors - l)) are.leaders_are
-
--- the next node is one of the cluster
-pub next_among : (config : Config) (sizes : Sizes) → AreSizes config sizes → (at : ℕ) (who : NodeId) → who ≡ name_of (sized sizes) at
-    → at < node_count sizes → is_among config who ≡ true
-next_among config sizes are at who named lt =
-    let few : at < count_of config = omega (arith, lt, are.acceptors_are, are.leaders_are, are.managers_are) in
-    ap (is_among config) (named ∙ name_as config sizes are at)
-    ∙ among_placed config (name_of config at) at (name_placed config at few)
 
 -- ---- one node
 
@@ -183,23 +77,58 @@ pub no_bytes : (bytes : List ℕ) (n : ℕ) → n ≡ length bytes → (n == 0) 
 no_bytes [] n e t = refl
 no_bytes (x ∷ xs) n e t = absurd (none_equal n (length xs) e t)
 
-pub begun : (config : Config) (who : NodeId) (held now : Held) (node : NodeParts) → now ≡ held → held.bytes ≡ []
-    → IsOpened config who now node → IsBegun config who held node
-begun config who held now node same empty opened =
-    let o : IsOpened config who held node = subst (λ (h : Held). IsOpened config who h node) same opened in
-    record { who_is = o.who_is; empty = empty; over = o.nature; stands = opened_empty config who held node empty o }
+-- and begins with no floor
+no_floor : (bytes : List ℕ) → bytes ≡ [] → floor_of bytes ≡ None
+no_floor bytes empty = ap floor_of empty ∙ floor_stays None [] [] [] tt (λ i. omega arith) nothing_stored
+
+pub begun : (config : Config) (who : NodeId) (held now : Held) (floored : FlooredParts) → now ≡ held → held.bytes ≡ []
+    → IsFlooredOpened config who now floored → IsBegun config who held floored
+begun config who held now floored same empty opened =
+    let o : IsFlooredOpened config who held floored = subst (λ (h : Held). IsFlooredOpened config who h floored) same opened in
+    let none : floored.floor ≡ None = o.floor_is ∙ no_floor held.bytes empty in
+    let is : IsOpened config who (behind [] held) floored.node =
+    subst (λ (f : Option Place). IsOpened config who (behind (front_of f) held) floored.node) none o.opened in
+    record {
+      who_is = is.who_is;
+      empty = empty;
+      over = ap (λ (n : Nature). n.may_fail) is.nature;
+      floor_is = none;
+      stands = opened_empty config who (behind [] held) floored.node empty is;
+    }
+
+-- the fronts behind the first
+abbrev later_fronts : List (List ℕ) → List (List ℕ)
+later_fronts [] = []
+later_fronts (front ∷ beneath) = beneath
+
+-- what failed behind no floor did so
+faulted_whole : (old new : Held) → HasFaulted (behind [] old) (behind [] new) → HasFaulted old new
+faulted_whole old new failed = record {
+  may = failed.may;
+  counted = failed.counted;
+  armed = failed.armed;
+  nature = λ i. record { may_fail = (failed.nature i).may_fail; fronts = later_fronts (failed.nature i).fronts };
+  holds = failed.holds;
+}
+
+unbegun_behind : (config : Config) (who : NodeId) (now after : Held) (refusal : Refusal) → now.bytes ≡ []
+    → is_among config who ≡ true → IsUnopened config who (behind [] now) (behind [] after) refusal → IsUnbegun now refusal
+unbegun_behind config who now after Refusal.NoSuch empty among un = absurd (cc (among, un.1))
+unbegun_behind config who now after Refusal.Damaged empty among un =
+    absurd (un.2 (record { rows = None; facts = [] }) [] (nothing_held config who now.bytes empty))
+unbegun_behind config who now after Refusal.RecordFault empty among un = (after, faulted_whole now after un.1)
+unbegun_behind config who now after Refusal.NoMemory empty among un = tt
+unbegun_behind config who now after other empty among un = absurd un
 
 -- why it isn't opened
 pub unbegun : (config : Config) (who : NodeId) (held now after : Held) (refusal : Refusal) → now ≡ held → held.bytes ≡ []
-    → is_among config who ≡ true → IsUnopened config who now after refusal → IsUnbegun held refusal
-unbegun config who held now after Refusal.NoSuch same empty among un = absurd (cc (among, un.1))
-unbegun config who held now after Refusal.Damaged same empty among un =
-    absurd (un.2 (record { rows = None; facts = [] }) []
-    (nothing_held config who now.bytes (ap (λ (h : Held). h.bytes) same ∙ empty)))
-unbegun config who held now after Refusal.RecordFault same empty among un =
-    (after, subst (λ (h : Held). HasFaulted h after) same un.1)
-unbegun config who held now after Refusal.NoMemory same empty among un = tt
-unbegun config who held now after other same empty among un = absurd un
+    → is_among config who ≡ true → IsFlooredUnopened config who now after refusal → IsUnbegun held refusal
+unbegun config who held now after refusal same empty among un =
+    let none : now.bytes ≡ [] = ap (λ (h : Held). h.bytes) same ∙ empty in
+    subst (λ (h : Held). IsUnbegun h refusal) same
+    (unbegun_behind config who now after refusal none among
+    (subst (λ (f : Option Place). IsUnopened config who (behind (front_of f) now) (behind (front_of f) after) refusal)
+    (no_floor now.bytes none) un.unopened))
 
 -- why it isn't read
 pub unread : (held after : Held) (error : RecordError) (refusal : Refusal) → refusal ≡ refusal_of error
@@ -223,35 +152,39 @@ zip_length P [] (y ∷ ys) all = absurd all
 zip_length P (x ∷ xs) [] all = absurd all
 zip_length P (x ∷ xs) (y ∷ ys) all = ap suc (zip_length P xs ys all.1)
 
-module _ (config : Config) (sizes : Sizes) (are : AreSizes config sizes) (records : List Held) (nodes : List NodeParts) (held : Held)
-    (node : NodeParts) (so : AreBegun config records nodes) (who : NodeId) (named : who ≡ name_of (sized sizes) (length nodes))
-    (begun : IsBegun config who held node) where
-  name_is : node.who ≡ name_of config (length nodes)
+module _ (config : Config) (sizes : Sizes) (are : AreSizes config sizes) (records : List Held) (nodes : List FlooredParts) (held : Held)
+    (floored : FlooredParts) (so : AreBegun config records nodes) (who : NodeId) (named : who ≡ name_of (sized sizes) (length nodes))
+    (begun : IsBegun config who held floored) where
+  name_is : floored.node.who ≡ name_of config (length nodes)
   name_is = begun.who_is ∙ named ∙ name_as config sizes are (length nodes)
 
-  named_now : (at : ℕ) (d : NodeParts) → at < length (nodes ++ node ∷ []) → (at < length nodes) ⊎ (at ≡ length nodes)
-      → (get_or (nodes ++ node ∷ []) at d).who ≡ name_of config at
+  named_now : (at : ℕ) (d : FlooredParts) → at < length (nodes ++ floored ∷ []) → (at < length nodes) ⊎ (at ≡ length nodes)
+      → (get_or (nodes ++ floored ∷ []) at d).node.who ≡ name_of config at
   named_now at d lt (inl before) =
-      ap (λ (n : NodeParts). n.who) (get_or_append_left nodes (node ∷ []) d at before) ∙ so.named at d before
+      ap (λ (n : FlooredParts). n.node.who) (get_or_append_left nodes (floored ∷ []) d at before) ∙ so.named at d before
   named_now at d lt (inr last) =
-      ap (λ (i : ℕ). (get_or (nodes ++ node ∷ []) i d).who) last
-      ∙ ap (λ (n : NodeParts). n.who) (get_or-append_seam nodes node [] d)
+      ap (λ (i : ℕ). (get_or (nodes ++ floored ∷ []) i d).node.who) last
+      ∙ ap (λ (n : FlooredParts). n.node.who) (get_or-append_seam nodes floored [] d)
       ∙ name_is ∙ ap (name_of config) (sym last)
 
   tears_more : map torn_node (tears_of (records ++ held ∷ [])) ≡ map torn_node (tears_of records) ++ torn_node held.armed ∷ []
   tears_more =
       ap (map torn_node) (map_push (λ (h : Held). h.armed) records held) ∙ map_push torn_node (tears_of records) held.armed
 
-  pub begun_more : AreBegun config (records ++ held ∷ []) (nodes ++ node ∷ [])
+  abbrev Stand : FlooredParts → NodeState → Type 0
+  Stand f m = NodeStands config f.node m
+
+  pub begun_more : AreBegun config (records ++ held ∷ []) (nodes ++ floored ∷ [])
   begun_more = record {
     empty = All-push (λ (h : Held). h.bytes ≡ []) records held so.empty begun.empty;
-    over = zip_push IsOver held node begun.over records nodes so.over;
+    over = zip_push IsOver held floored begun.over records nodes so.over;
     named = λ at d lt.
-        let all : at < length nodes + 1 = omega (arith, lt, length-append nodes (node ∷ [])) in
+        let all : at < length nodes + 1 = omega (arith, lt, length-append nodes (floored ∷ [])) in
         named_now at d lt (below_or_last at (length nodes) all);
+    without_floor = All-push (λ (f : FlooredParts). f.floor ≡ None) nodes floored so.without_floor begun.floor_is;
     stand =
-        subst (λ (states : List NodeState). AllZip (NodeStands config) (nodes ++ node ∷ []) states) (sym tears_more)
-        (zip_push (NodeStands config) node (torn_node held.armed) begun.stands nodes (map torn_node (tears_of records)) so.stand);
+        subst (λ (states : List NodeState). AllZip Stand (nodes ++ floored ∷ []) states) (sym tears_more)
+        (zip_push Stand floored (torn_node held.armed) begun.stands nodes (map torn_node (tears_of records)) so.stand);
   }
     where
       below_or_last : (i n : ℕ) → i < n + 1 → (i < n) ⊎ (i ≡ n)
@@ -273,16 +206,16 @@ unmade_at config records k held other lt read un = absurd un
 
 -- over the first of some records
 module _ {X : Type 0} (held : X → Held) (config : Config) (sizes : Sizes) (are : AreSizes config sizes) (all done : List X)
-    (nodes : List NodeParts) (so : AreBegun config (map held done) nodes) where
+    (nodes : List FlooredParts) (so : AreBegun config (map held done) nodes) where
   pub count_here : length nodes ≡ length done
   count_here = zip_length IsOver (map held done) nodes so.over ∙ length-map done held
 
   -- and one more
   module _ (x : X) (lt : length done < length all) (read : x ≡ get_or all (length done) x) where
-    pub begun_next : (who : NodeId) → who ≡ name_of (sized sizes) (length nodes) → (node : NodeParts) → IsBegun config who (held x) node
-        → (new : List NodeParts) → new ≡ nodes ++ node ∷ [] → AreBegun config (map held (done ++ x ∷ [])) new
+    pub begun_next : (who : NodeId) → who ≡ name_of (sized sizes) (length nodes) → (node : FlooredParts) → IsBegun config who (held x) node
+        → (new : List FlooredParts) → new ≡ nodes ++ node ∷ [] → AreBegun config (map held (done ++ x ∷ [])) new
     begun_next who named node begun new new_is =
-        subst (λ (ns : List NodeParts). AreBegun config (map held (done ++ x ∷ [])) ns) (sym new_is)
+        subst (λ (ns : List FlooredParts). AreBegun config (map held (done ++ x ∷ [])) ns) (sym new_is)
         (subst (λ (records : List Held). AreBegun config records (nodes ++ node ∷ [])) (sym (map_push held done x))
         (begun_more config sizes are (map held done) nodes (held x) node so who named begun))
 
@@ -304,8 +237,11 @@ get_at [] x ys = refl
 get_at (z ∷ xs) x ys = get_at xs x ys
 
 module _ (config : Config) where
-  abbrev world_of : List NodeState → World
-  world_of nodes = record { nodes = nodes; net = [] }
+  abbrev machine_of : List NodeState → World
+  machine_of nodes = record { nodes = nodes; net = [] }
+
+  abbrev world_of : List NodeState → FlooredWorld
+  world_of nodes = record (floored_opening config) { machine = machine_of nodes }
 
   abbrev fresh : List (Option ℕ) → List NodeState
   fresh tears = map (λ tear. new_node) tears
@@ -313,7 +249,7 @@ module _ (config : Config) where
   -- a new node among others is torn
   module _ (done : List NodeState) (rest : List NodeState) (n : ℕ) (lt : length done < count_of config) where
     abbrev before : World
-    before = world_of (done ++ new_node ∷ rest)
+    before = machine_of (done ++ new_node ∷ rest)
 
     abbrev who : NodeId
     who = name_of config (length done)
@@ -325,26 +261,34 @@ module _ (config : Config) where
     found =
         ap (λ (o : Option ℕ). option_and_then (λ (at : ℕ). slice_get before.nodes at) o) placed ∙ get_at done new_node rest
 
-    torn_then : (world_step config before (Tear who n) NoFault).world ≡ world_of (done ++ torn_node (Some n) ∷ rest)
-    torn_then =
+    torn_there : (world_step config before (Tear who n) NoFault).world ≡ machine_of (done ++ torn_node (Some n) ∷ rest)
+    torn_there =
         ap (λ (o : Option NodeState). (if_found before (λ (node : NodeState).
         answer_result (set_node config before who (record node { tear = Some n })) Done) o).world) found
-        ∙ ap (λ (o : Option ℕ). world_of (option_map_or (λ (at : ℕ). slice_set before.nodes at (torn_node (Some n))) o before.nodes)) placed
-        ∙ ap world_of (set_at done new_node (torn_node (Some n)) rest)
+        ∙ ap (λ (o : Option ℕ). machine_of (option_map_or (λ (at : ℕ). slice_set before.nodes at (torn_node (Some n))) o before.nodes))
+        placed
+        ∙ ap machine_of (set_at done new_node (torn_node (Some n)) rest)
 
-    torn_reached : IsReachable config before → IsReachable config (world_of (done ++ torn_node (Some n) ∷ rest))
-    torn_reached h = subst (IsReachable config) torn_then (After before (Tear who n) NoFault h)
+    torn_then : (floored_step config (world_of (done ++ new_node ∷ rest)) (Machine (Tear who n)) NoFault).world
+        ≡ world_of (done ++ torn_node (Some n) ∷ rest)
+    torn_then = ap (λ (machine : World). record (floored_opening config) { machine = machine }) torn_there
+
+    torn_reached : IsFlooredReachable config (world_of (done ++ new_node ∷ rest))
+        → IsFlooredReachable config (world_of (done ++ torn_node (Some n) ∷ rest))
+    torn_reached h =
+        subst (IsFlooredReachable config) torn_then (After (world_of (done ++ new_node ∷ rest)) (Machine (Tear who n)) NoFault h)
 
   -- one node after another is torn, where it is to be
   torn_all : (done rest : List (Option ℕ)) → length done + length rest ≡ count_of config
-      → IsReachable config (world_of (map torn_node done ++ fresh rest)) → IsReachable config (world_of (map torn_node (done ++ rest)))
+      → IsFlooredReachable config (world_of (map torn_node done ++ fresh rest))
+      → IsFlooredReachable config (world_of (map torn_node (done ++ rest)))
   torn_all done [] count h =
-      subst (λ (nodes : List NodeState). IsReachable config (world_of nodes))
+      subst (λ (nodes : List NodeState). IsFlooredReachable config (world_of nodes))
       (append-nil (map torn_node done) ∙ ap (map torn_node) (sym (append-nil done))) h
   torn_all done (None ∷ rest) count h =
-      subst (λ (tears : List (Option ℕ)). IsReachable config (world_of (map torn_node tears))) (append_assoc done (None ∷ []) rest)
+      subst (λ (tears : List (Option ℕ)). IsFlooredReachable config (world_of (map torn_node tears))) (append_assoc done (None ∷ []) rest)
       (torn_all (done ++ None ∷ []) rest (count_more None)
-      (subst (λ (nodes : List NodeState). IsReachable config (world_of nodes)) (moved None) h))
+      (subst (λ (nodes : List NodeState). IsFlooredReachable config (world_of nodes)) (moved None) h))
     where
       count_more : (tear : Option ℕ) → length (done ++ tear ∷ []) + length rest ≡ count_of config
       count_more tear = omega (arith, count, length-append done (tear ∷ []))
@@ -354,9 +298,9 @@ module _ (config : Config) where
           sym (append_assoc (map torn_node done) (torn_node tear ∷ []) (fresh rest))
           ∙ ap (λ (nodes : List NodeState). nodes ++ fresh rest) (sym (map_push torn_node done tear))
   torn_all done (Some n ∷ rest) count h =
-      subst (λ (tears : List (Option ℕ)). IsReachable config (world_of (map torn_node tears))) (append_assoc done (Some n ∷ []) rest)
+      subst (λ (tears : List (Option ℕ)). IsFlooredReachable config (world_of (map torn_node tears))) (append_assoc done (Some n ∷ []) rest)
       (torn_all (done ++ Some n ∷ []) rest (count_more (Some n))
-      (subst (λ (nodes : List NodeState). IsReachable config (world_of nodes)) (moved (Some n))
+      (subst (λ (nodes : List NodeState). IsFlooredReachable config (world_of nodes)) (moved (Some n))
       (torn_reached (map torn_node done) (fresh rest) n here h)))
     where
       count_more : (tear : Option ℕ) → length (done ++ tear ∷ []) + length rest ≡ count_of config
@@ -370,10 +314,10 @@ module _ (config : Config) where
       here : length (map torn_node done) < count_of config
       here = omega (arith, count, length-map done torn_node)
 
-  pub opening_reached : (tears : List (Option ℕ)) → length tears ≡ count_of config → IsReachable config (opening_with tears)
+  pub opening_reached : (tears : List (Option ℕ)) → length tears ≡ count_of config → IsFlooredReachable config (opening_with config tears)
   opening_reached tears count =
       torn_all [] tears (omega (arith, count))
-      (subst (λ (nodes : List NodeState). IsReachable config (world_of nodes)) (splat_is_map tears (count_of config) new_node count)
+      (subst (λ (nodes : List NodeState). IsFlooredReachable config (world_of nodes)) (splat_is_map tears (count_of config) new_node count)
       Opening)
 
   -- no tear is armed
@@ -387,9 +331,56 @@ module _ (config : Config) where
 
 -- ---- the cluster
 
-module _ (config : Config) (sizes : Sizes) (are : AreSizes config sizes) (records : List Held) (nodes : List NodeParts)
+-- a node that has no floor has forgotten nothing
+floored_one : (config : Config) (floored : FlooredParts) (m : NodeState) → floored.floor ≡ None → NodeStands config floored.node m
+    → FlooredStands config floored m
+floored_one config floored m none stands = record {
+  from = config;
+  few = m;
+  is = stands;
+  above =
+      subst (λ (f : Option Place). StandsAbove config config floored.node.who f m m) (sym none)
+      (stands_whole config floored.node.who m stands.stands.played);
+}
+
+floored_all : (config : Config) (nodes : List FlooredParts) (states : List NodeState)
+    → AllZip (λ floored. NodeStands config floored.node) nodes states → All (λ floored. floored.floor ≡ None) nodes
+    → AllZip (FlooredStands config) nodes states
+floored_all config [] [] all none = tt
+floored_all config [] (m ∷ states) all none = absurd all
+floored_all config (floored ∷ nodes) [] all none = absurd all
+floored_all config (floored ∷ nodes) (m ∷ states) all none = (
+  floored_one config floored m (All-head (λ (f : FlooredParts). f.floor ≡ None) floored nodes none) all.0,
+  floored_all config nodes states all.1 (All-tail (λ (f : FlooredParts). f.floor ≡ None) floored nodes none),
+)
+
+-- nothing was told to any of them
+untold_all : (config : Config) (sizes : Sizes) → AreSizes config sizes → (told : List (List (Option Place)))
+    → told ≡ replicate (node_count sizes) (replicate sizes.managers None) → AreTold config told (floored_opening config).told
+untold_all config sizes are told told_is =
+    subst (λ (t : List (List (Option Place))). AreTold config t (floored_opening config).told) (sym told_is) (record {
+      count = whole;
+      each_count = λ at d lt.
+          ap length (get_or-replicate (node_count sizes) at none d (omega (arith, lt, length-replicate (node_count sizes) none)))
+          ∙ length-replicate sizes.managers None ∙ are.managers_are;
+      told_are = λ who at rm d h few.
+          let inside : at < node_count sizes =
+          omega (arith, place_within config who at h, are.acceptors_are, are.leaders_are, are.managers_are) in
+          ap (λ (list : List (Option Place)). told_at list rm) (get_or-replicate (node_count sizes) at none d inside)
+          ∙ get_or-replicate sizes.managers rm None None (omega (arith, few, are.managers_are));
+    })
+  where
+    none : List (Option Place)
+    none = replicate sizes.managers None
+
+    whole : length (replicate (node_count sizes) none) ≡ config.acceptors + config.leaders + config.managers
+    whole =
+        omega (arith, length-replicate (node_count sizes) none, are.acceptors_are, are.leaders_are, are.managers_are)
+
+module _ (config : Config) (sizes : Sizes) (are : AreSizes config sizes) (records : List Held) (nodes : List FlooredParts)
     (network : NetworkParts) (empty : StandsFor network []) (count : length records ≡ node_count sizes)
-    (begun : AreBegun config records nodes) where
+    (begun : AreBegun config records nodes) (notices : NoticesParts)
+    (untold : notices.told ≡ replicate (node_count sizes) (replicate sizes.managers None)) (none : notices.all ≡ []) where
   all : length records ≡ count_of config
   all = omega (arith, count, are.acceptors_are, are.leaders_are, are.managers_are)
 
@@ -399,35 +390,39 @@ module _ (config : Config) (sizes : Sizes) (are : AreSizes config sizes) (record
   nodes_count : length nodes ≡ count_of config
   nodes_count = zip_length IsOver records nodes begun.over ∙ all
 
-  stands : ClusterStands config (cluster_of sizes nodes network) (opening_with (tears_of records))
+  within : (who : NodeId) (at : ℕ) → place config who ≡ Some at → at < length nodes
+  within who at h = omega (arith, place_within config who at h, nodes_count)
+
+  stands : ClusterStands config (cluster_of sizes nodes network notices) (opening_with config (tears_of records))
   stands = record {
     sizes_are = are;
     nodes_are = record {
       count = nodes_count;
-      named = λ who at d h.
-          let lt : at < length nodes = omega (arith, place_within config who at h, nodes_count) in
-          begun.named at d lt ∙ name_there config who at h;
-      stand = begun.stand;
+      named = λ who at d h. begun.named at d (within who at h) ∙ name_there config who at h;
+      floors_are = λ who at d h. begun.without_floor at d (within who at h);
+      stand = floored_all config nodes (map torn_node (tears_of records)) begun.stand begun.without_floor;
     };
     net_is = empty;
+    told_are = untold_all config sizes are notices.told untold;
+    notices_are = none;
   }
 
-  pub made_sound : IsSound (cluster_of sizes nodes network)
+  pub made_sound : IsSound (cluster_of sizes nodes network notices)
   made_sound = record {
     config = config;
-    world = opening_with (tears_of records);
+    world = opening_with config (tears_of records);
     reached = opening_reached config (tears_of records) tears_count;
     is = stands;
   }
 
-  pub made : IsMade config records (cluster_of sizes nodes network)
+  pub made : IsMade config records (cluster_of sizes nodes network notices)
   made = record {
     new = record { count = all; empty = begun.empty };
     over = begun.over;
     reached = opening_reached config (tears_of records) tears_count;
     stands = stands;
-    unarmed = λ none.
-        subst (λ (world : World). ClusterStands config (cluster_of sizes nodes network) world)
-        (ap (λ (states : List NodeState). record { nodes = states; net = [] })
-        (none_torn config records none ∙ ap (λ (n : ℕ). replicate n new_node) all)) stands;
+    unarmed = λ torn.
+        subst (λ (world : FlooredWorld). ClusterStands config (cluster_of sizes nodes network notices) world)
+        (ap (λ (states : List NodeState). record (floored_opening config) { machine = record { nodes = states; net = [] } })
+        (none_torn config records torn ∙ ap (λ (n : ℕ). replicate n new_node) all)) stands;
   }

@@ -1,4 +1,4 @@
--- A node of a cluster is handed an input: what comes of it is what comes of it in the machine.
+-- A node of a cluster is handed an input: what comes of it is what comes of it in a world with floors.
 use Rattle.std.proofs.Common.{◌≡◌, ◌∙◌, ℕ, ◌*◌, ◌≤◌, Bool, true, false, not, List, [], ◌++◌, length, get_or, set}
 use Rattle.std.proofs.Common.{Option, Some, None, sym, ap, subst, arith}
 use Rattle.std.specs.Prelude.{if◌then◌else◌, slice_get}
@@ -13,25 +13,44 @@ use Rattle.wire.proofs.DecodingLemmas.{found as message_found}
 use Rattle.xid.specs.declared.refusals.Refusal.TheVariants as refusals
 use Rattle.stable_record.specs.declared.fact.FactKind.{FactKind as Fact}
 use Rattle.protocol.specs.declared.answers.Answer.TheVariants.{Refused}
-use Rattle.protocol.specs.declared.events.Event.TheVariants.{Deliver, Noise}
+use Rattle.protocol.specs.declared.events.Event.{Event}
+use Rattle.protocol.specs.declared.events.Event.TheVariants.{Ask, Deliver, Noise}
 use Rattle.protocol.specs.declared.nodes.NodeId.{NodeId}
+use Rattle.protocol.specs.declared.requests.Request.{Request}
 use Rattle.protocol.specs.Effects.{Config, Effect}
-use Rattle.protocol.specs.Nodes.{NodeState, Memory, Input, Received, ReceivedNoise, Fault, Outcome, NoFault}
-use Rattle.protocol.specs.Nodes.{NoMemoryBefore, NoMemoryAt, RecordFails, node_step}
+use Rattle.protocol.specs.Nodes.{NodeState, Memory, Input, Asked, Received, ReceivedNoise, Fault, Outcome, NoFault}
+use Rattle.protocol.specs.Nodes.{NoMemoryBefore, NoMemoryAt, RecordFails}
 use Rattle.protocol.specs.Nodes.{effect_of, effect_outcome, accepts_input}
-use Rattle.protocol.specs.Worlds.{World, Datagram, StepResult, place, node_at, at_node, datagrams_of, dispatch, if_found, outcome_result}
-use Rattle.protocol.specs.Worlds.{answer_result, with_mark, world_step}
+use Rattle.protocol.specs.Worlds.{World, Datagram, StepResult, place, node_at, at_node, datagrams_of, if_found, outcome_result}
+use Rattle.protocol.specs.Worlds.{answer_result, with_mark}
 use Rattle.node_core.specs.declared.config.Sizes.{Sizes}
 use Rattle.node_core.specs.declared.output.Output.{Output}
+use Rattle.node_core.specs.Groups.{Place as At}
 use Rattle.node_core.specs.Sends.{sent}
-use Rattle.node_core.specs.Nodes.{NodeParts, NodeStands, AreSizes, Stands, Steps, StepsAs, IsSameNode, Shows, Befalls}
-use Rattle.node_core.specs.Nodes.{datagram_input, fact_to_store}
+use Rattle.node_core.specs.Nodes.{AreSizes, Befalls}
+use Rattle.node_core.specs.Nodes.{datagram_input}
+use Rattle.stable_record.specs.Held.{Held}
+use Rattle.xid.specs.Places.{Place}
+use Rattle.floors.specs.Nodes.{floored_node_step, is_input_below}
+use Rattle.floors.specs.Worlds.{FlooredResult, FlooredWorld, at_floored_node, floored_dispatch, step_with_floors, with_floors}
+use Rattle.floored.specs.Nodes.{FlooredDoes, FlooredParts, FlooredStands, FlooredStepsAs, IsOutput, floored_fact}
 use Rattle.network.specs.Networks.{DatagramParts, NetworkParts, StandsFor, Finds}
 use Rattle.cluster.specs.declared.handing.Answered.{Answered}
-use Rattle.cluster.specs.Clusters.{sized, cluster_of, ClusterStands, ReachesAs, ComesTo, BefallsAt}
+use Rattle.cluster.specs.Clusters.{NoticesParts, sized, cluster_of, ClusterStands, ReachesAs, ComesTo, BefallsAt}
 use Rattle.cluster.specs.Sending.{HaveSent, HasRoom}
-use Rattle.cluster.proofs.Standing.{there, placed, found, named, node_put, at_place, same_but, others_stay, stands_still, datagrams_as}
+use Rattle.cluster.proofs.Standing.{there, placed, found, named, floor_there, node_put, at_place, same_but, same_floored, others_stay}
+use Rattle.cluster.proofs.Standing.{datagrams_as}
 use Rattle.cluster.proofs.Bounds.{count}
+
+-- what came of a machine's event that says nothing of floors
+abbrev pub came_of : FlooredWorld → StepResult → FlooredResult
+came_of world result = record {
+  world = record world { machine = result.world };
+  answer = result.answer;
+  now = result.now;
+  sent = result.sent;
+  noticed = [];
+}
 
 -- ---- how much a step sends
 
@@ -57,73 +76,79 @@ module _ (config : Config) (who : NodeId) (n : ℕ) where
   none_few : count config who [] ≤ n
   none_few = omega arith
 
-  pub step_few : (node : NodeState) (input : Input) (fault : Fault)
+  pub step_few : (floor : Option Place) (node : NodeState) (input : Input) (fault : Fault)
       → count config who (effect_of config who node.facts node.memory input).sends ≤ n
-      → count config who (node_step config who node input fault).sends ≤ n
-  step_few node input fault le =
+      → count config who (floored_node_step config who floor node input fault).sends ≤ n
+  step_few floor node input fault le =
       outcome_if (not (accepts_input who input)) _ _ none_few
-      (outcome_if (not node.up) _ _ none_few (effect_few node (effect_of config who node.facts node.memory input)
-      (effect_of config who node.facts node.memory input).fact node.tear fault le))
+      (outcome_if (not node.up) _ _ none_few (outcome_if (is_input_below floor input) _ _ none_few
+      (effect_few node (effect_of config who node.facts node.memory input)
+      (effect_of config who node.facts node.memory input).fact node.tear fault le)))
 
 -- an input that sends few datagrams, at whatever node
-pub sent_few : (config : Config) (world : World) (who : NodeId) (input : Input) (fault : Fault) (n : ℕ)
+pub sent_few : (config : Config) (world : World) (floor : Option Place) (who : NodeId) (input : Input) (fault : Fault) (n : ℕ)
     → ((facts : List Fact) (memory : Memory) → count config who (effect_of config who facts memory input).sends ≤ n)
-    → length (at_node config world who input fault).sent ≤ n
-sent_few config world who input fault n bound = found_few (node_at config world who)
+    → length (at_floored_node config world floor who input fault).sent ≤ n
+sent_few config world floor who input fault n bound = found_few (node_at config world who)
   where
     found_few : (o : Option NodeState) → length (if_found world (λ node. outcome_result config world who node.facts
-        (node_step config who node input fault)) o).sent ≤ n
+        (floored_node_step config who floor node input fault)) o).sent ≤ n
     found_few None = omega arith
-    found_few (Some node) = step_few config who n node input fault (bound node.facts node.memory)
+    found_few (Some node) = step_few config who n floor node input fault (bound node.facts node.memory)
+
+-- an event sends few that does where it reaches its node
+few_sent : (config : Config) (world : FlooredWorld) (event : Event) (most : ℕ)
+    → ((fault : Fault) → length (floored_dispatch config world (with_floors event) fault).sent ≤ most) → (fault : Fault)
+    → length (step_with_floors config world event fault).sent ≤ most
+few_sent config world event most few NoMemoryBefore = omega arith
+few_sent config world event most few fault = few fault
+
+-- a request sends as few
+pub asked_few : (config : Config) (world : FlooredWorld) (who : NodeId) (request : Request) (fault : Fault) (most : ℕ)
+    → ((facts : List Fact) (memory : Memory) → count config who (effect_of config who facts memory (Asked request)).sends ≤ most)
+    → length (step_with_floors config world (Ask who request) fault).sent ≤ most
+asked_few config world who request fault most bound =
+    few_sent config world (Ask who request) most
+    (λ fault. sent_few config world.machine (world.floor who) who (Asked request) fault most bound) fault
 
 -- a datagram that is handed over sends as few
-pub delivered_few : (config : Config) (world : World) (n : ℕ) (kept : DatagramParts) (fault : Fault) (most : ℕ)
-    → Finds world.net n (Some kept)
+pub delivered_few : (config : Config) (world : FlooredWorld) (n : ℕ) (kept : DatagramParts) (fault : Fault) (most : ℕ)
+    → Finds world.machine.net n (Some kept)
     → ((facts : List Fact) (memory : Memory)
     → count config kept.receiver (effect_of config kept.receiver facts memory (datagram_input kept.bytes)).sends ≤ most)
-    → length (world_step config world (Deliver n) fault).sent ≤ most
-delivered_few config world n kept fault most (d, at, is) bound = by_fault fault
+    → length (step_with_floors config world (Deliver n) fault).sent ≤ most
+delivered_few config world n kept fault most (d, at, is) bound = few_sent config world (Deliver n) most handed fault
   where
     input_is : datagram_input kept.bytes ≡ Received d.message
     input_is = ap (λ (o : Option Kind). option_map_or Received o ReceivedNoise) (message_found d.message kept.bytes is.spells)
 
-    handed : (fault : Fault) → length (dispatch config world (Deliver n) fault).sent ≤ most
+    handed : (fault : Fault) → length (floored_dispatch config world (with_floors (Deliver n)) fault).sent ≤ most
     handed fault =
-        subst (λ (o : Option Datagram). length (if_found world (λ d.
-        at_node config (with_mark world n) d.receiver (Received d.message) fault) o).sent ≤ most) (sym at)
-        (sent_few config (with_mark world n) d.receiver (Received d.message) fault most (λ facts memory.
+        subst (λ (o : Option Datagram). length (if_found world.machine (λ d.
+        at_floored_node config (with_mark world.machine n) (world.floor d.receiver) d.receiver (Received d.message) fault) o).sent ≤ most)
+        (sym at)
+        (sent_few config (with_mark world.machine n) (world.floor d.receiver) d.receiver (Received d.message) fault most (λ facts memory.
         subst (λ (input : Input). count config d.receiver (effect_of config d.receiver facts memory input).sends ≤ most) input_is
         (subst (λ (who : NodeId). count config who (effect_of config who facts memory (datagram_input kept.bytes)).sends ≤ most)
         is.receiver_is (bound facts memory))))
 
-    by_fault : (fault : Fault) → length (world_step config world (Deliver n) fault).sent ≤ most
-    by_fault NoFault = handed NoFault
-    by_fault NoMemoryBefore = omega arith
-    by_fault NoMemoryAt = handed NoMemoryAt
-    by_fault (RecordFails whole) = handed (RecordFails whole)
-
 -- noise sends nothing
-pub noise_silent : (config : Config) (world : World) (who : NodeId) (bytes : List ℕ) (fault : Fault)
-    → length (world_step config world (Noise who bytes) fault).sent ≤ 0
-noise_silent config world who bytes fault = by_fault fault
+pub noise_silent : (config : Config) (world : FlooredWorld) (who : NodeId) (bytes : List ℕ) (fault : Fault)
+    → length (step_with_floors config world (Noise who bytes) fault).sent ≤ 0
+noise_silent config world who bytes fault = few_sent config world (Noise who bytes) 0 handed fault
   where
-    forged : (o : Option NodeState) → length (if_found world (λ node. answer_result world (Refused refusals.Forged)) o).sent ≤ 0
+    forged : (o : Option NodeState)
+        → length (if_found world.machine (λ node. answer_result world.machine (Refused refusals.Forged)) o).sent ≤ 0
     forged None = omega arith
     forged (Some node) = omega arith
 
-    handed : (fault : Fault) → length (dispatch config world (Noise who bytes) fault).sent ≤ 0
+    handed : (fault : Fault) → length (floored_dispatch config world (with_floors (Noise who bytes)) fault).sent ≤ 0
     handed fault =
         cond_both (spells_message bytes)
-        (if_found world (λ node. answer_result world (Refused refusals.Forged)) (node_at config world who))
-        (at_node config world who ReceivedNoise fault) (λ (r : StepResult). length r.sent ≤ 0)
-        (λ spelled. forged (node_at config world who))
-        (λ garbled. sent_few config world who ReceivedNoise fault 0 (λ facts memory. omega arith))
-
-    by_fault : (fault : Fault) → length (world_step config world (Noise who bytes) fault).sent ≤ 0
-    by_fault NoFault = handed NoFault
-    by_fault NoMemoryBefore = omega arith
-    by_fault NoMemoryAt = handed NoMemoryAt
-    by_fault (RecordFails whole) = handed (RecordFails whole)
+        (if_found world.machine (λ node. answer_result world.machine (Refused refusals.Forged)) (node_at config world.machine who))
+        (at_node config world.machine who ReceivedNoise fault) (λ (r : StepResult). length r.sent ≤ 0)
+        (λ spelled. forged (node_at config world.machine who))
+        (λ garbled. sent_few config world.machine None who ReceivedNoise fault 0 (λ facts memory. omega arith))
 
 -- less room will do
 pub room_less : (network : NetworkParts) (few many : ℕ) → few ≤ many → HasRoom many network → HasRoom few network
@@ -139,45 +164,56 @@ room_less network few many le room =
 
 -- ---- a node is reached
 
-module _ (config : Config) (world : World) (sizes : Sizes) (nodes : List NodeParts) (network : NetworkParts)
-    (s : ClusterStands config (cluster_of sizes nodes network) world) (who : NodeId) (at : ℕ) (is : place (sized sizes) who ≡ Some at)
-    (input : Input) (d new : NodeParts) (out : Output)
-    (steps : (config : Config) (m : NodeState) → NodeStands config (get_or nodes at d) m → StepsAs config m input
+module _ (config : Config) (world : FlooredWorld) (sizes : Sizes) (nodes : List FlooredParts) (network : NetworkParts)
+    (notices : NoticesParts) (s : ClusterStands config (cluster_of sizes nodes network notices) world) (who : NodeId) (at : ℕ)
+    (is : place (sized sizes) who ≡ Some at) (input : Input) (d new : FlooredParts) (out : Output)
+    (steps : (config : Config) (m : NodeState) → FlooredStands config (get_or nodes at d) m → FlooredStepsAs config m input
     (get_or nodes at d) new out) where
-  abbrev old : NodeParts
+  abbrev old : FlooredParts
   old = get_or nodes at d
 
-  own : (m : NodeState) × (slice_get world.nodes at ≡ Some m) × NodeStands config old m
-  own = there config world sizes nodes network s who at is d
+  own : (m : NodeState) × (slice_get world.machine.nodes at ≡ Some m) × FlooredStands config old m
+  own = there config world sizes nodes network notices s who at is d
 
   abbrev state : NodeState
   state = own.0
 
-  who_is : old.who ≡ who
-  who_is = named config world sizes nodes network s who at is d
+  abbrev floor : Option Place
+  floor = world.floor who
 
-  stepped : StepsAs config state input old new out
+  who_is : old.node.who ≡ who
+  who_is = named config world sizes nodes network notices s who at is d
+
+  floor_was : old.floor ≡ floor
+  floor_was = floor_there config world sizes nodes network notices s who at is d
+
+  stepped : FlooredStepsAs config state input old new out
   stepped = steps config state own.2
 
-  same : IsSameNode old new
-  same = stepped.same
+  abbrev from : At
+  from = record { state = state; held = old.node.held; role = old.node.role }
 
-  by_name : Steps config who old.rows state input old.held new.held new.role out
-  by_name = subst (λ (n : NodeId). Steps config n old.rows state input old.held new.held new.role out) who_is stepped.steps
+  does : FlooredDoes config who floor from input out stepped.to
+  does =
+      subst (λ (f : Option Place). FlooredDoes config who f from input out stepped.to) floor_was
+      (subst (λ (n : NodeId). FlooredDoes config n old.floor from input out stepped.to) who_is stepped.does)
 
   abbrev outcome : Outcome
-  outcome = node_step config who state input by_name.fault
+  outcome = floored_node_step config who floor state input does.fault
 
-  shows : Shows config who old.rows state.facts new.held new.role out outcome
-  shows = by_name.shows
+  shows : IsOutput who state.facts out outcome
+  shows = does.output_is
 
-  new_stands : NodeStands config new outcome.node
-  new_stands =
-      stands_still config old new state outcome.node same own.2
-      (subst (λ (n : NodeId). Stands config n old.rows new.held new.role outcome.node) (sym who_is) shows.stands)
+  befalls : Befalls (floored_fact config who floor state input) old.node.held new.node.held does.fault
+  befalls =
+      subst (λ (held : Held). Befalls (floored_fact config who floor state input) old.node.held held does.fault) stepped.held_is
+      does.befalls
 
-  node_is : node_at config world who ≡ Some state
-  node_is = found config world sizes nodes network s who at is state own.1
+  new_stands : FlooredStands config new outcome.node
+  new_stands = subst (FlooredStands config new) does.state_is stepped.stands
+
+  node_is : node_at config world.machine who ≡ Some state
+  node_is = found config world sizes nodes network notices s who at is state own.1
 
   -- how many datagrams it sends, where the input can't send more
   pub sends_few : (n : ℕ)
@@ -187,42 +223,48 @@ module _ (config : Config) (world : World) (sizes : Sizes) (nodes : List NodePar
   sends_few n bound =
       subst (λ (ds : List Datagram). length ds ≤ n)
       (ap (flat_map (datagrams_of config who)) (sym shows.sends_are) ∙ sym (datagrams_as config sizes s.sizes_are who (sent out.sends)))
-      (step_few config who n state input by_name.fault (bound config s.sizes_are state.facts state.memory))
+      (step_few config who n floor state input does.fault (bound config s.sizes_are state.facts state.memory))
 
-  befallen : (o : Option NodeState) → o ≡ Some state → BefallsAt config nodes (set nodes at new) (who, input) o by_name.fault
+  befallen : (o : Option NodeState) → o ≡ Some state
+      → BefallsAt config world nodes (set nodes at new) (who, input) o does.fault
   befallen None e = absurd (cc (e))
   befallen (Some m) e =
       let m_is : state ≡ m = cc (e) in
-      at_place config world sizes nodes network s who at is
-      (λ (before after : NodeParts). Befalls (fact_to_store config who m input) before.held after.held by_name.fault) d new
-      (subst (λ (a : NodeState). Befalls (fact_to_store config who a input) old.held new.held by_name.fault) m_is by_name.befalls)
+      at_place config world sizes nodes network notices s who at is
+      (λ (before after : FlooredParts). Befalls (floored_fact config who floor m input) before.node.held after.node.held does.fault) d new
+      (subst (λ (a : NodeState). Befalls (floored_fact config who floor a input) old.node.held new.node.held does.fault) m_is befalls)
 
   pub reached : (after : NetworkParts) (answered : Answered)
       → HaveSent network after (flat_map (datagrams_of (sized sizes) who) (sent out.sends))
       → answered.answer ≡ out.reply → answered.now ≡ out.now
-      → ReachesAs config world who input (cluster_of sizes nodes network) (cluster_of sizes (set nodes at new) after) answered
+      → ReachesAs config world world.machine who input (cluster_of sizes nodes network notices)
+      (cluster_of sizes (set nodes at new) after notices) answered
   reached after answered so answer_is now_is =
       let datagrams : flat_map (datagrams_of (sized sizes) who) (sent out.sends) ≡ flat_map (datagrams_of config who) outcome.sends =
       datagrams_as config sizes s.sizes_are who (sent out.sends) ∙ ap (flat_map (datagrams_of config who)) shows.sends_are in
-      let comes : ComesTo config (cluster_of sizes (set nodes at new) after) answered
-      (outcome_result config world who state.facts outcome) =
+      let result : StepResult = outcome_result config world.machine who state.facts outcome in
+      let comes : ComesTo config (cluster_of sizes (set nodes at new) after notices) answered (came_of world result) =
       record {
         answer_is = answer_is ∙ shows.reply_is;
         now_is = now_is ∙ shows.now_is;
         stands =
-            node_put config world sizes nodes network s who at is d new outcome.node same new_stands after
-            (world.net ++ flat_map (datagrams_of config who) outcome.sends)
-            (subst (λ (ds : List Datagram). StandsFor after (world.net ++ ds)) datagrams (so world.net s.net_is));
+            node_put config world sizes nodes network notices s who at is d new outcome.node stepped.same stepped.floor_is new_stands after
+            (world.machine.net ++ flat_map (datagrams_of config who) outcome.sends)
+            (subst (λ (ds : List Datagram). StandsFor after (world.machine.net ++ ds)) datagrams (so world.machine.net s.net_is));
       } in
       record {
-        fault = by_name.fault;
-        reached = λ e. subst (λ (f : Fault). Befalls (fact_to_store config who state input) old.held new.held f) e by_name.befalls;
-        same = same_but sizes nodes network after at d new same;
-        others = others_stay (place config who) at nodes new (placed config world sizes nodes network s who at is);
-        befalls = befallen (node_at config world who) node_is;
+        fault = does.fault;
+        reached = λ e. subst (λ (f : Fault). Befalls (floored_fact config who floor state input) old.node.held new.node.held f) e befalls;
+        same = same_but sizes nodes network after notices notices at d new (same_floored old new stepped.same);
+        others = others_stay (place config who) at nodes new (placed config world sizes nodes network notices s who at is);
+        befalls = befallen (node_at config world.machine who) node_is;
         comes =
-            subst (ComesTo config (cluster_of sizes (set nodes at new) after) answered)
-            (sym (ap (if_found world (λ (node : NodeState). outcome_result config world who node.facts
-            (node_step config who node input by_name.fault))) node_is))
-            comes;
+            subst (λ (o : Option NodeState). ComesTo config (cluster_of sizes (set nodes at new) after notices) answered (by_found o))
+            (sym node_is) comes;
       }
+    where
+      -- what comes of it, by the node that there is
+      by_found : Option NodeState → FlooredResult
+      by_found o =
+          came_of world (if_found world.machine (λ (node : NodeState). outcome_result config world.machine who node.facts
+          (floored_node_step config who floor node input does.fault)) o)

@@ -14,13 +14,9 @@ use Rattle.wire.specs.Grammar.{Spells, spelling}
 use Rattle.wire.specs.Decoding.{message_at}
 use Rattle.wire.specs.Messages.{IsMessage}
 use Rattle.wire.proofs.DecodingLemmas.{found, spelled}
-use Rattle.protocol.specs.declared.events.Event.{Event}
 use Rattle.protocol.specs.declared.events.Sent.{Sent}
 use Rattle.protocol.specs.declared.nodes.NodeId.{NodeId}
-use Rattle.protocol.specs.Effects.{Config}
-use Rattle.protocol.specs.Nodes.{Fault}
-use Rattle.protocol.specs.Worlds.{World, Datagram, numbered, world_step}
-use Rattle.history.proofs.Datagrams.{event_sent}
+use Rattle.protocol.specs.Worlds.{Datagram, numbered}
 use Rattle.network.specs.Networks.{DatagramParts, NetworkParts, StandsFor, IsKept, datagram_to}
 use Rattle.network.proofs.Sent.{sent_again}
 use Rattle.network.proofs.Standing.{same_length}
@@ -189,24 +185,22 @@ dropped_zip (suc k) [] (d ∷ net) all = absurd all
 dropped_zip (suc k) (first ∷ kept) [] all = absurd all
 dropped_zip (suc k) (first ∷ kept) (d ∷ net) all = dropped_zip k kept net all.1
 
--- the datagrams of an event are those that the network has after it, beside those that it had
-pub sent_is : (config : Config) (world : World) (event : Event) (fault : Fault) (old new : NetworkParts) → StandsFor old world.net
-    → StandsFor new (world_step config world event fault).world.net
-    → sent_after (length old.datagrams) new ≡ numbered (suc (length world.net)) (world_step config world event fault).sent
-sent_is config world event fault old new stood stands =
-    let result = world_step config world event fault in
-    let n : ℕ = length world.net in
-    let count : length old.datagrams ≡ n = same_length old.datagrams world.net stood.datagrams_are in
+-- the datagrams that were sent are those that the network has then, beside those that it had
+pub sent_is : (before after sent : List Datagram) → numbered 1 after ≡ numbered 1 before ++ numbered (suc (length before)) sent
+    → (old new : NetworkParts) → StandsFor old before → StandsFor new after
+    → sent_after (length old.datagrams) new ≡ numbered (suc (length before)) sent
+sent_is before after sent says old new stood stands =
+    let n : ℕ = length before in
+    let count : length old.datagrams ≡ n = same_length old.datagrams before stood.datagrams_are in
     let later : 1 + n ≡ suc n = omega arith in
-    let before : length (numbered 1 world.net) ≡ n = numbered_count 1 world.net in
+    let all : length (numbered 1 before) ≡ n = numbered_count 1 before in
     ap (λ (k : ℕ). sent_after k new) count
-    ∙ listed_numbered (suc n) (drop n new.datagrams) (drop n result.world.net)
-    (dropped_zip n new.datagrams result.world.net stands.datagrams_are)
-    ∙ ap (λ (k : ℕ). numbered k (drop n result.world.net)) (sym later)
-    ∙ sym (drop_numbered n 1 result.world.net)
-    ∙ ap (drop n) (event_sent config world event fault)
-    ∙ ap (λ (k : ℕ). drop k (numbered 1 world.net ++ numbered (suc n) result.sent)) (sym before)
-    ∙ drop-append_seam (numbered 1 world.net) (numbered (suc n) result.sent)
+    ∙ listed_numbered (suc n) (drop n new.datagrams) (drop n after) (dropped_zip n new.datagrams after stands.datagrams_are)
+    ∙ ap (λ (k : ℕ). numbered k (drop n after)) (sym later)
+    ∙ sym (drop_numbered n 1 after)
+    ∙ ap (drop n) says
+    ∙ ap (λ (k : ℕ). drop k (numbered 1 before ++ numbered (suc n) sent)) (sym all)
+    ∙ drop-append_seam (numbered 1 before) (numbered (suc n) sent)
 
 -- ---- one datagram after another is listed
 
@@ -224,7 +218,7 @@ listed_push n (first ∷ xs) x =
     (listed_push (suc n) xs x ∙ ap (λ (k : ℕ). listed_from (suc n) xs ++ listed_at k x) e)
     ∙ sym (append_assoc (listed_at n first) (listed_from (suc n) xs) (listed_at (n + suc (length xs)) x))
 
-get_dropped : {X : Type 0} (k : ℕ) (xs : List X) (i : ℕ) (d : X) → get_or (drop k xs) i d ≡ get_or xs (k + i) d
+pub get_dropped : {X : Type 0} (k : ℕ) (xs : List X) (i : ℕ) (d : X) → get_or (drop k xs) i d ≡ get_or xs (k + i) d
 get_dropped zero xs i d = let e : i ≡ 0 + i = omega arith in ap (λ (n : ℕ). get_or xs n d) e
 get_dropped (suc k) [] i d = refl
 get_dropped (suc k) (x ∷ xs) i d =
@@ -275,22 +269,19 @@ listed_missed n kept none =
     ap (λ (o : Option Kind). option_map_or (λ m. record { number = n; sender = kept.sender; receiver = kept.receiver; message = m } ∷ [])
     o []) (no_message kept.bytes none)
 
--- how many datagrams there are after an event
-pub count_after : (config : Config) (world : World) (event : Event) (fault : Fault) (old new : NetworkParts) → StandsFor old world.net
-    → StandsFor new (world_step config world event fault).world.net
-    → length new.datagrams ≡ length old.datagrams + length (world_step config world event fault).sent
-count_after config world event fault old new stood stands =
-    let result = world_step config world event fault in
-    let all : length (numbered 1 result.world.net)
-    ≡ length (numbered 1 world.net) + length (numbered (suc (length world.net)) result.sent) =
-    ap length (event_sent config world event fault)
-    ∙ length-append (numbered 1 world.net) (numbered (suc (length world.net)) result.sent) in
+-- how many datagrams there are then
+pub count_after : (before after sent : List Datagram) → numbered 1 after ≡ numbered 1 before ++ numbered (suc (length before)) sent
+    → (old new : NetworkParts) → StandsFor old before → StandsFor new after
+    → length new.datagrams ≡ length old.datagrams + length sent
+count_after before after sent says old new stood stands =
+    let all : length (numbered 1 after) ≡ length (numbered 1 before) + length (numbered (suc (length before)) sent) =
+    ap length says ∙ length-append (numbered 1 before) (numbered (suc (length before)) sent) in
     omega (
       arith,
-      same_length old.datagrams world.net stood.datagrams_are,
-      same_length new.datagrams result.world.net stands.datagrams_are,
+      same_length old.datagrams before stood.datagrams_are,
+      same_length new.datagrams after stands.datagrams_are,
       all,
-      numbered_count 1 result.world.net,
-      numbered_count 1 world.net,
-      numbered_count (suc (length world.net)) result.sent,
+      numbered_count 1 after,
+      numbered_count 1 before,
+      numbered_count (suc (length before)) sent,
     )

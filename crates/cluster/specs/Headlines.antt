@@ -22,12 +22,16 @@ use Rattle.protocol.specs.Managers.{Branch, all_branches, view_named}
 use Rattle.protocol.specs.Nodes.{NodeState, Fault}
 use Rattle.protocol.specs.Tables.{with_writes, keys_voted}
 use Rattle.protocol.specs.TCommit.{IsReady, IsCommitStep}
-use Rattle.protocol.specs.Worlds.{World, node_at, world_step, table_at}
+use Rattle.protocol.specs.Worlds.{World, node_at, table_at}
 use Rattle.safety.specs.CommitSteps.{IsConsistent}
-use Rattle.safety.specs.Runs.{IsReachable, views_in}
+use Rattle.safety.specs.Runs.{views_in}
 use Rattle.safety.specs.Standing.{facts_at}
 use Rattle.history.specs.LookingBack.{write_by}
-use Rattle.node_core.specs.Nodes.{NodeParts, Kept, Holds}
+use Rattle.resource_manager.specs.Left.{AreAlike}
+use Rattle.node_core.specs.Nodes.{Kept, Holds}
+use Rattle.floors.specs.Worlds.{FlooredWorld, step_with_floors}
+use Rattle.floors.specs.Runs.{IsFlooredReachable}
+use Rattle.floored.specs.Nodes.{FlooredParts}
 use Rattle.cluster.specs.Clusters.{ClusterParts, ClusterStands, OccursAs}
 
 -- no transaction became committed at a resource manager, and its table is as it was
@@ -45,12 +49,15 @@ pub record IsWritten (config : Config) (world next : World) (rm : ℕ) : Type 0 
       → other ≡ tx
   pub table_is : table_at config next rm ≡ with_writes (table_at config world rm) (keys_voted (facts_at config world (R rm)) tx)
 
--- a node's record is whole frames, what they keep plays, and there is a tail only while the node is down
-pub record IsInOrder (config : Config) (node : NodeParts) : Type 0 where
+-- what a node's record has behind its floor is whole frames, what they keep plays in a cluster that is alike, and there is a tail only
+-- while the node is down
+pub record IsInOrder (config : Config) (floored : FlooredParts) : Type 0 where
+  pub from : Config
+  pub alike : AreAlike floored.node.who from config
   pub kept : Kept
   pub tail : List ℕ
-  pub holds : Holds config node.who node.held.bytes kept tail
-  pub up : is_some node.role ≡ true → tail ≡ []
+  pub holds : Holds from floored.node.who floored.node.held.bytes kept tail
+  pub up : is_some floored.node.role ≡ true → tail ≡ []
 
 -- the branches of a resource manager, each with its last act on every key that it touched: those that are prepared, as their votes were
 -- stored, and while it is up those in its memory
@@ -79,25 +86,26 @@ LeavesKept step rm x key before after =
 -- of the specification; no participant is committed while another is aborted; one that became committed found each prepared; each table
 -- has changed only where a view became committed, and by that branch's writes; nothing came to be kept for a branch but what a put or a
 -- delete wrote that was answered ok; each record is in order; and no restart is refused as damaged
-pub record IsSafeMove (config : Config) (world : World) (step : Step) (next : World) (new : ClusterParts) : Type 0 where
-  pub reached : IsReachable config next
+pub record IsSafeMove (config : Config) (world : FlooredWorld) (step : Step) (next : FlooredWorld) (new : ClusterParts) : Type 0 where
+  pub reached : IsFlooredReachable config next
   pub stands : ClusterStands config new next
-  pub moved : (tx : TxParts) → IsCommitStep (is_participant tx) (views_in config world tx) (views_in config next tx)
-  pub consistent : (tx : TxParts) → IsConsistent (is_participant tx) (views_in config next tx)
+  pub moved : (tx : TxParts) → IsCommitStep (is_participant tx) (views_in config world.machine tx) (views_in config next.machine tx)
+  pub consistent : (tx : TxParts) → IsConsistent (is_participant tx) (views_in config next.machine tx)
   pub found_prepared : (tx : TxParts) (r q : ℕ) → IsTrue (is_participant tx r) → IsTrue (is_participant tx q)
-      → views_in config world tx r ≢ views.Committed → views_in config next tx r ≡ views.Committed → IsReady (views_in config world tx q)
-  pub tables : (rm : ℕ) → IsKept config world next rm ⊎ IsWritten config world next rm
+      → views_in config world.machine tx r ≢ views.Committed → views_in config next.machine tx r ≡ views.Committed
+      → IsReady (views_in config world.machine tx q)
+  pub tables : (rm : ℕ) → IsKept config world.machine next.machine rm ⊎ IsWritten config world.machine next.machine rm
   pub kept : (rm : ℕ) (x : XidParts) (key : List ℕ)
-      → LeavesKept step rm x key (branch_kept config world rm x) (branch_kept config next rm x)
+      → LeavesKept step rm x key (branch_kept config world.machine rm x) (branch_kept config next.machine rm x)
   pub records : All (IsInOrder config) new.nodes
-  pub restarts : (who : NodeId) (fault : Fault) → (world_step config next (Restart who) fault).answer ≢ Refused Refusal.Damaged
+  pub restarts : (who : NodeId) (fault : Fault) → (step_with_floors config next (Restart who) fault).answer ≢ Refused Refusal.Damaged
 
--- a cluster stood for a world that can come to be; an event was handled as the machine handles it there; and the one world to which that
--- led it is a safe move away
+-- a cluster stood for a world that can come to be; an event was handled as there; and the one world to which that led it is a safe move
+-- away
 pub record MovesSafely (event : Event) (old new : ClusterParts) (step : Step) : Type 0 where
   pub config : Config
-  pub world : World
-  pub reached : IsReachable config world
+  pub world : FlooredWorld
+  pub reached : IsFlooredReachable config world
   pub stood : ClusterStands config old world
   pub occurs : OccursAs config world event old new step
-  pub safe : IsSafeMove config world step (world_step config world event occurs.fault).world new
+  pub safe : IsSafeMove config world step (step_with_floors config world event occurs.fault).world new

@@ -1,4 +1,5 @@
 pub mod Clusters
+pub mod Notices
 pub mod Opening
 pub mod Asking
 pub mod Sending

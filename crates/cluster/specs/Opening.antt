@@ -7,10 +7,11 @@ use Rattle.protocol.specs.declared.nodes.NodeId.{NodeId}
 use Rattle.protocol.specs.declared.nodes.NodeId.TheVariants.{A, L, R}
 use Rattle.protocol.specs.Effects.{Config}
 use Rattle.protocol.specs.Nodes.{NodeState, new_node}
-use Rattle.protocol.specs.Worlds.{World, opening}
-use Rattle.safety.specs.Runs.{IsReachable}
-use Rattle.node_core.specs.Nodes.{NodeParts, NodeStands}
+use Rattle.floors.specs.Worlds.{FlooredWorld}
+use Rattle.floors.specs.Runs.{IsFlooredReachable, floored_opening}
+use Rattle.node_core.specs.Nodes.{NodeStands}
 use Rattle.node_core.specs.Opening.{HasFaulted}
+use Rattle.floored.specs.Nodes.{FlooredParts}
 use Rattle.cluster.specs.Clusters.{ClusterParts, ClusterStands}
 
 -- a node that has done nothing, over a record on which a tear may be armed
@@ -18,8 +19,8 @@ abbrev pub torn_node : Option ℕ → NodeState
 torn_node tear = record new_node { tear = tear }
 
 -- the world at first, where these tears are armed already
-abbrev pub opening_with : List (Option ℕ) → World
-opening_with tears = record { nodes = map torn_node tears; net = [] }
+abbrev pub opening_with : Config → List (Option ℕ) → FlooredWorld
+opening_with config tears = record (floored_opening config) { machine = record { nodes = map torn_node tears; net = [] } }
 
 -- the tears that are armed on records
 abbrev pub tears_of : List Held → List (Option ℕ)
@@ -38,17 +39,17 @@ NoneArmed records = All (λ held. held.armed ≡ None) records
 abbrev pub NoneFails : List Held → Type 0
 NoneFails records = All (λ held. held.nature.may_fail ≡ false) records
 
--- a node's record is by nature what the one is that it was opened over
-abbrev pub IsOver : Held → NodeParts → Type 0
-IsOver held node = node.held.nature ≡ held.nature
+-- a node's record may fail of itself where the one may that it was opened over
+abbrev pub IsOver : Held → FlooredParts → Type 0
+IsOver held floored = floored.node.held.nature.may_fail ≡ held.nature.may_fail
 
 -- a cluster was made over empty records: it stands for the opening world, in which the tears are armed that were; events lead to it
 pub record IsMade (config : Config) (records : List Held) (cluster : ClusterParts) : Type 0 where
   pub new : AreNew config records
   pub over : AllZip IsOver records cluster.nodes
-  pub reached : IsReachable config (opening_with (tears_of records))
-  pub stands : ClusterStands config cluster (opening_with (tears_of records))
-  pub unarmed : NoneArmed records → ClusterStands config cluster (opening config)
+  pub reached : IsFlooredReachable config (opening_with config (tears_of records))
+  pub stands : ClusterStands config cluster (opening_with config (tears_of records))
+  pub unarmed : NoneArmed records → ClusterStands config cluster (floored_opening config)
 
 -- one of these records failed, which it may, and counted it, before it was let go
 pub record HasOneFaulted (records : List Held) : Type 0 where
@@ -73,12 +74,13 @@ name_of config at =
     else if nat_lt at (config.acceptors + config.leaders) then L (at - config.acceptors)
     else R (at - config.acceptors - config.leaders)
 
--- a node was opened over an empty record
-pub record IsBegun (config : Config) (who : NodeId) (held : Held) (node : NodeParts) : Type 0 where
-  pub who_is : node.who ≡ who
+-- a node was opened over an empty record: it has no floor
+pub record IsBegun (config : Config) (who : NodeId) (held : Held) (floored : FlooredParts) : Type 0 where
+  pub who_is : floored.node.who ≡ who
   pub empty : held.bytes ≡ []
-  pub over : IsOver held node
-  pub stands : NodeStands config node (torn_node held.armed)
+  pub over : IsOver held floored
+  pub floor_is : floored.floor ≡ None
+  pub stands : NodeStands config floored.node (torn_node held.armed)
 
 -- why a node wasn't opened over a record as an empty one: it isn't empty, it failed, which it may, and counted it, or memory ran out
 abbrev pub IsUnbegun : Held → Refusal → Type 0
@@ -88,8 +90,9 @@ IsUnbegun held Refusal.NoMemory = Unit {0}
 IsUnbegun held other = ⊥
 
 -- nodes were opened over empty records, in the order of their places
-pub record AreBegun (config : Config) (records : List Held) (nodes : List NodeParts) : Type 0 where
+pub record AreBegun (config : Config) (records : List Held) (nodes : List FlooredParts) : Type 0 where
   pub empty : All (λ held. held.bytes ≡ []) records
   pub over : AllZip IsOver records nodes
-  pub named : (at : ℕ) (d : NodeParts) → at < length nodes → (slice_index_or nodes at d).who ≡ name_of config at
-  pub stand : AllZip (NodeStands config) nodes (map torn_node (tears_of records))
+  pub named : (at : ℕ) (d : FlooredParts) → at < length nodes → (slice_index_or nodes at d).node.who ≡ name_of config at
+  pub without_floor : All (λ floored. floored.floor ≡ None) nodes
+  pub stand : AllZip (λ floored. NodeStands config floored.node) nodes (map torn_node (tears_of records))

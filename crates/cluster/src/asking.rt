@@ -2,28 +2,30 @@
 
 ghost use Rattle.std.specs.Prelude.{◌≡◌, length};
 ghost use Rattle.protocol.specs.Effects.{Config};
-ghost use Rattle.protocol.specs.Worlds.{World};
+ghost use Rattle.floors.specs.Worlds.{FlooredWorld};
 ghost use Rattle.network.specs.Networks.{NetworkParts};
 ghost use Rattle.cluster.specs.Asking.{ViewsIn, TablesIn};
-ghost use Rattle.cluster.specs.Clusters.{cluster_of, node_count, ClusterStands};
+ghost use Rattle.cluster.specs.Clusters.{NoticesParts, cluster_of, node_count, ClusterStands};
 
 use crate::receivers::place_of;
-use node_core::{Node, Sizes};
+use floored::Floored;
+use node_core::Sizes;
 use protocol::{NodeId, Row, View};
 use stable_record::Record;
 use xid::{Refusal, Sequence, Tx};
 
-/// Where a resource manager stands in a transaction.
+/// Where a resource manager stands in a transaction; of one that is below its floor it says that this is over (`Forgotten`).
 pub(crate) fn view<R: Record>(
     sizes: Sizes,
-    nodes: &mut Vec<Node<R>>,
+    nodes: &mut Vec<Floored<R>>,
     rm: u8,
     tx: &Tx,
 ) -> Result<View, Refusal>
     requires { length nodes.old.items ≡ node_count sizes }
-    ensures { (network : NetworkParts) (config : Config) (world : World)
-        → ClusterStands config (cluster_of sizes nodes.old.items network) world
-        → ViewsIn config world (cluster_of sizes nodes.old.items network) (cluster_of sizes nodes.new.items network) rm tx.now result }
+    ensures { (network : NetworkParts) (notices : NoticesParts) (config : Config) (world : FlooredWorld)
+        → ClusterStands config (cluster_of sizes nodes.old.items network notices) world
+        → ViewsIn config world (cluster_of sizes nodes.old.items network notices) (cluster_of sizes nodes.new.items network notices)
+        rm tx.now result }
 {
     let Some(at) = place_of(sizes, NodeId::R(rm)) else {
         return Err(Refusal::NoSuch);
@@ -35,13 +37,14 @@ pub(crate) fn view<R: Record>(
 /// The rows of a resource manager's table.
 pub(crate) fn table<R: Record>(
     sizes: Sizes,
-    nodes: &mut Vec<Node<R>>,
+    nodes: &mut Vec<Floored<R>>,
     rm: u8,
 ) -> Result<Sequence<Row>, Refusal>
     requires { length nodes.old.items ≡ node_count sizes }
-    ensures { (network : NetworkParts) (config : Config) (world : World)
-        → ClusterStands config (cluster_of sizes nodes.old.items network) world
-        → TablesIn config world (cluster_of sizes nodes.old.items network) (cluster_of sizes nodes.new.items network) rm result }
+    ensures { (network : NetworkParts) (notices : NoticesParts) (config : Config) (world : FlooredWorld)
+        → ClusterStands config (cluster_of sizes nodes.old.items network notices) world
+        → TablesIn config world (cluster_of sizes nodes.old.items network notices) (cluster_of sizes nodes.new.items network notices)
+        rm result }
 {
     let Some(at) = place_of(sizes, NodeId::R(rm)) else {
         return Err(Refusal::NoSuch);

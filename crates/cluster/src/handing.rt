@@ -1,32 +1,37 @@
-//! The events of a cluster: which node one reaches, what that node is handed, and what is sent then.
+//! The events of a cluster: which node one reaches, what that node is handed, and what is sent or told then.
 
-ghost use Rattle.std.specs.Prelude.{◌≡◌, List, None, length};
+ghost use Rattle.std.specs.Prelude.{◌≡◌, ◌<◌, ◌≤◌, List, None, length, OnOk, OnErr};
 ghost use Rattle.std.specs.List.{flat_map};
 ghost use Rattle.wire.specs.Decoding.{message_at};
-ghost use Rattle.protocol.specs.declared.events.Event.TheVariants.{Ask, Deliver, Lose, Cut, Noise, Restart, Compact};
-ghost use Rattle.protocol.specs.declared.events.Event.TheVariants.{Tear as Tears};
+ghost use Rattle.protocol.specs.declared.events.Event.TheVariants.{Ask, Deliver, Lose, Cut, Noise, Restart, Compact, Hear};
+ghost use Rattle.protocol.specs.declared.events.Event.TheVariants.{Raise as Raises, Replace as Replaces, Tear as Tears};
 ghost use Rattle.protocol.specs.Nodes.{ReceivedNoise};
 ghost use Rattle.protocol.specs.Worlds.{datagrams_of};
 ghost use Rattle.node_core.specs.declared.config.Sizes.{Sizes as ClusterSizes};
-ghost use Rattle.node_core.specs.Nodes.{NodeParts};
 ghost use Rattle.node_core.specs.Opening.{restart_answer};
 ghost use Rattle.node_core.specs.Sends.{sent as sent_by};
+ghost use Rattle.floors.specs.Worlds.{is_manager as is_named_manager};
+ghost use Rattle.floored.specs.Nodes.{FlooredParts};
 ghost use Rattle.network.specs.Networks.{NetworkParts};
-ghost use Rattle.cluster.specs.Clusters.{cluster_of, node_count, sized, Happens, IsSound, Reaches};
+ghost use Rattle.cluster.specs.Clusters.{NoticesParts, cluster_of, node_count, sized, Happens, IsSound, Reaches};
+ghost use Rattle.cluster.specs.Notices.{HasToldOwn, RaisesTo, RaisesToLeast, is_in_use, replaced_at, told_count};
 ghost use Rattle.cluster.specs.Sending.{HasRoom, HaveSent};
 
+use crate::notices::{Notices, count_told};
 use crate::receivers::place_of;
 use crate::room::{make_room, most_asked, most_heard};
 use crate::sending::send_all;
+use floored::Floored;
 use network::Network;
-use node_core::{Input, Node, Output, Sizes};
+use node_core::{Input, Output, Sizes};
 use protocol::{Answer, Change, Event, NodeId, Request};
 use stable_record::{Record, Tear};
 use std::mem;
 use wire::decode;
-use xid::Refusal;
+use xid::{Floor, Refusal};
 
-/// What an event is answered, and the view that it changed. The datagrams that it sent are the last ones of its cluster.
+/// What an event is answered, and the view that it changed. The datagrams that it sent, and the notices that it told, are the last ones of
+/// its cluster.
 #[derive(Debug, Drop)]
 pub struct Answered {
     /// What it was answered.
@@ -103,16 +108,16 @@ fn put_out(
 /// Asks a node something.
 fn ask<R: Record>(
     sizes: Sizes,
-    nodes: &mut Vec<Node<R>>,
+    nodes: &mut Vec<Floored<R>>,
     network: &mut Network,
     who: NodeId,
     request: &Request,
     out: &mut Output,
     answered: &mut Answered,
 )
-    requires { IsSound (cluster_of sizes nodes.old.items network.old) }
-    ensures { Happens (Ask who request.now) (cluster_of sizes nodes.old.items network.old)
-        (cluster_of sizes nodes.new.items network.new) answered.new }
+    requires { (notices : NoticesParts) × IsSound (cluster_of sizes nodes.old.items network.old notices) }
+    ensures { (notices : NoticesParts) → Happens (Ask who request.now) (cluster_of sizes nodes.old.items network.old notices)
+        (cluster_of sizes nodes.new.items network.new notices) answered.new }
 {
     let Some(at) = place_of(sizes, who) else {
         answered.answers(Answer::Refused(Refusal::NoSuch));
@@ -133,15 +138,15 @@ fn ask<R: Record>(
 /// Hands a datagram to its receiver, and marks it.
 fn deliver<R: Record>(
     sizes: Sizes,
-    nodes: &mut Vec<Node<R>>,
+    nodes: &mut Vec<Floored<R>>,
     network: &mut Network,
     number: u32,
     out: &mut Output,
     answered: &mut Answered,
 )
-    requires { IsSound (cluster_of sizes nodes.old.items network.old) }
-    ensures { Happens (Deliver number) (cluster_of sizes nodes.old.items network.old)
-        (cluster_of sizes nodes.new.items network.new) answered.new }
+    requires { (notices : NoticesParts) × IsSound (cluster_of sizes nodes.old.items network.old notices) }
+    ensures { (notices : NoticesParts) → Happens (Deliver number) (cluster_of sizes nodes.old.items network.old notices)
+        (cluster_of sizes nodes.new.items network.new notices) answered.new }
 {
     let who = match network.get(number) {
         Some(kept) => kept.receiver,
@@ -173,8 +178,8 @@ fn deliver<R: Record>(
 
 /// Marks a datagram.
 fn lose(network: &mut Network, number: u32, answered: &mut Answered)
-    ensures { (sizes : ClusterSizes) (nodes : List NodeParts)
-        → Happens (Lose number) (cluster_of sizes nodes network.old) (cluster_of sizes nodes network.new) answered.new }
+    ensures { (sizes : ClusterSizes) (nodes : List FlooredParts) (notices : NoticesParts)
+        → Happens (Lose number) (cluster_of sizes nodes network.old notices) (cluster_of sizes nodes network.new notices) answered.new }
 {
     if !network.mark(number) {
         answered.answers(Answer::Refused(Refusal::NoSuch));
@@ -186,7 +191,7 @@ fn lose(network: &mut Network, number: u32, answered: &mut Answered)
 /// Hands bytes that spell no message to a node. Nothing is sent.
 fn hand_noise<R: Record>(
     sizes: Sizes,
-    nodes: &mut Vec<Node<R>>,
+    nodes: &mut Vec<Floored<R>>,
     who: NodeId,
     bytes: &[u8],
     out: &mut Output,
@@ -194,8 +199,8 @@ fn hand_noise<R: Record>(
 )
     requires count { length nodes.old.items ≡ node_count sizes }
     requires noise { message_at bytes.now ≡ None }
-    ensures { (network : NetworkParts) → Reaches who ReceivedNoise (cluster_of sizes nodes.old.items network)
-        (cluster_of sizes nodes.new.items network) answered.new }
+    ensures { (network : NetworkParts) (notices : NoticesParts) → Reaches who ReceivedNoise
+        (cluster_of sizes nodes.old.items network notices) (cluster_of sizes nodes.new.items network notices) answered.new }
 {
     let Some(at) = place_of(sizes, who) else {
         answered.answers(Answer::Refused(Refusal::NoSuch));
@@ -209,16 +214,16 @@ fn hand_noise<R: Record>(
 /// Hands the first bytes of a datagram to its receiver, fewer than all.
 fn cut<R: Record>(
     sizes: Sizes,
-    nodes: &mut Vec<Node<R>>,
+    nodes: &mut Vec<Floored<R>>,
     network: &Network,
     number: u32,
     bytes: u32,
     out: &mut Output,
     answered: &mut Answered,
 )
-    requires sound { IsSound (cluster_of sizes nodes.old.items network.now) }
-    ensures { Happens (Cut number bytes) (cluster_of sizes nodes.old.items network.now)
-        (cluster_of sizes nodes.new.items network.now) answered.new }
+    requires sound { (notices : NoticesParts) × IsSound (cluster_of sizes nodes.old.items network.now notices) }
+    ensures { (notices : NoticesParts) → Happens (Cut number bytes) (cluster_of sizes nodes.old.items network.now notices)
+        (cluster_of sizes nodes.new.items network.now notices) answered.new }
 {
     let Some(kept) = network.get(number) else {
         answered.answers(Answer::Refused(Refusal::NoSuch));
@@ -242,15 +247,15 @@ fn cut<R: Record>(
 /// Hands bytes to a node that nobody sent, unless they spell a message.
 fn noise<R: Record>(
     sizes: Sizes,
-    nodes: &mut Vec<Node<R>>,
+    nodes: &mut Vec<Floored<R>>,
     who: NodeId,
     bytes: &[u8],
     out: &mut Output,
     answered: &mut Answered,
 )
     requires count { length nodes.old.items ≡ node_count sizes }
-    ensures { (network : NetworkParts) → Happens (Noise who bytes.now) (cluster_of sizes nodes.old.items network)
-        (cluster_of sizes nodes.new.items network) answered.new }
+    ensures { (network : NetworkParts) (notices : NoticesParts) → Happens (Noise who bytes.now)
+        (cluster_of sizes nodes.old.items network notices) (cluster_of sizes nodes.new.items network notices) answered.new }
 {
     match decode(bytes) {
         Err(_) => hand_noise(sizes, nodes, who, bytes, out, answered),
@@ -264,14 +269,14 @@ fn noise<R: Record>(
 /// Arms a tear on a node's record.
 fn tear<R: Tear>(
     sizes: Sizes,
-    nodes: &mut Vec<Node<R>>,
+    nodes: &mut Vec<Floored<R>>,
     who: NodeId,
     bytes: u32,
     answered: &mut Answered,
 )
     requires count { length nodes.old.items ≡ node_count sizes }
-    ensures { (network : NetworkParts) → Happens (Tears who bytes) (cluster_of sizes nodes.old.items network)
-        (cluster_of sizes nodes.new.items network) answered.new }
+    ensures { (network : NetworkParts) (notices : NoticesParts) → Happens (Tears who bytes)
+        (cluster_of sizes nodes.old.items network notices) (cluster_of sizes nodes.new.items network notices) answered.new }
 {
     let Some(at) = place_of(sizes, who) else {
         answered.answers(Answer::Refused(Refusal::NoSuch));
@@ -292,26 +297,39 @@ fn answer_of(restarted: Result<(), Refusal>) -> Answer
     }
 }
 
-/// Restarts a node.
-fn restart<R: Record>(sizes: Sizes, nodes: &mut Vec<Node<R>>, who: NodeId, answered: &mut Answered)
+/// Restarts a node, which has forgotten then what it was told of floors.
+fn restart<R: Record>(
+    sizes: Sizes,
+    nodes: &mut Vec<Floored<R>>,
+    notices: &mut Notices,
+    who: NodeId,
+    answered: &mut Answered,
+)
     requires count { length nodes.old.items ≡ node_count sizes }
-    ensures { (network : NetworkParts) → Happens (Restart who) (cluster_of sizes nodes.old.items network)
-        (cluster_of sizes nodes.new.items network) answered.new }
+    requires told { length notices.old.told ≡ node_count sizes }
+    ensures { (network : NetworkParts) → Happens (Restart who) (cluster_of sizes nodes.old.items network notices.old)
+        (cluster_of sizes nodes.new.items network notices.new) answered.new }
 {
     let Some(at) = place_of(sizes, who) else {
         answered.answers(Answer::Refused(Refusal::NoSuch));
         return;
     };
+    notices.forget(at);
     let node = &mut nodes[at];
     let restarted = node.restart();
     answered.answers(answer_of(restarted));
 }
 
 /// Compacts a node.
-fn compact<R: Record>(sizes: Sizes, nodes: &mut Vec<Node<R>>, who: NodeId, answered: &mut Answered)
+fn compact<R: Record>(
+    sizes: Sizes,
+    nodes: &mut Vec<Floored<R>>,
+    who: NodeId,
+    answered: &mut Answered,
+)
     requires count { length nodes.old.items ≡ node_count sizes }
-    ensures { (network : NetworkParts) → Happens (Compact who) (cluster_of sizes nodes.old.items network)
-        (cluster_of sizes nodes.new.items network) answered.new }
+    ensures { (network : NetworkParts) (notices : NoticesParts) → Happens (Compact who)
+        (cluster_of sizes nodes.old.items network notices) (cluster_of sizes nodes.new.items network notices) answered.new }
 {
     let Some(at) = place_of(sizes, who) else {
         answered.answers(Answer::Refused(Refusal::NoSuch));
@@ -322,19 +340,175 @@ fn compact<R: Record>(sizes: Sizes, nodes: &mut Vec<Node<R>>, who: NodeId, answe
     answered.answers(answer_of(compacted));
 }
 
+/// Raises a resource manager's floor. Where that is done, its floor is told, also where it was no lower before; there is room for that.
+fn raise_told<R: Record>(
+    sizes: Sizes,
+    node: &mut Floored<R>,
+    notices: &mut Notices,
+    rm: u8,
+    floor: &Floor,
+) -> Result<(), Refusal>
+    requires { told_count sizes ≤ notices.old.spare }
+    ensures raises { RaisesTo floor.now node.old node.new result }
+    ensures told { OnOk result (HasToldOwn sizes rm node.new notices.old notices.new) }
+    ensures err { OnErr result (notices.new ≡ notices.old) }
+{
+    match node.raise(floor) {
+        Ok(()) => {
+            notices.tell(sizes, rm, &node.floor());
+            Ok(())
+        }
+        Err(refusal) => Err(refusal),
+    }
+}
+
+/// Asks a resource manager to raise its floor. No node is reached where there is no room for the notices.
+fn raise<R: Record>(
+    sizes: Sizes,
+    nodes: &mut Vec<Floored<R>>,
+    notices: &mut Notices,
+    rm: u8,
+    floor: &Floor,
+    answered: &mut Answered,
+)
+    requires count { length nodes.old.items ≡ node_count sizes }
+    ensures { (network : NetworkParts) → Happens (Raises rm floor.now) (cluster_of sizes nodes.old.items network notices.old)
+        (cluster_of sizes nodes.new.items network notices.new) answered.new }
+{
+    let Some(at) = place_of(sizes, NodeId::R(rm)) else {
+        answered.answers(Answer::Refused(Refusal::NoSuch));
+        return;
+    };
+    match notices.reserve(count_told(sizes)) {
+        Ok(()) => {}
+        Err(_) => {
+            answered.answers(Answer::Refused(Refusal::NoMemory));
+            return;
+        }
+    }
+    let node = &mut nodes[at];
+    let raised = raise_told(sizes, node, notices, rm, floor);
+    answered.answers(answer_of(raised));
+}
+
+/// Whether a node is a resource manager.
+fn is_manager(who: NodeId) -> bool
+    ensures { result ≡ is_named_manager who }
+{
+    match who {
+        NodeId::A(_) => false,
+        NodeId::L(_) => false,
+        NodeId::R(_) => true,
+    }
+}
+
+/// Raises a node's floor to the least that it was told, if there is one.
+fn raise_least<R: Record>(node: &mut Floored<R>, least: &Option<Floor>) -> Result<(), Refusal>
+    ensures { RaisesToLeast least.now node.old node.new result }
+{
+    match least {
+        Some(floor) => node.raise(floor),
+        None => Ok(()),
+    }
+}
+
+/// Hands a notice to its receiver, which keeps it; its own floor is then the least that it was told, where that is higher.
+fn hear<R: Record>(
+    sizes: Sizes,
+    nodes: &mut Vec<Floored<R>>,
+    notices: &mut Notices,
+    number: u32,
+    answered: &mut Answered,
+)
+    requires count { length nodes.old.items ≡ node_count sizes }
+    requires told { length notices.old.told ≡ node_count sizes }
+    ensures { (network : NetworkParts) → Happens (Hear number) (cluster_of sizes nodes.old.items network notices.old)
+        (cluster_of sizes nodes.new.items network notices.new) answered.new }
+{
+    let Some(notice) = notices.at(number) else {
+        answered.answers(Answer::Refused(Refusal::NoSuch));
+        return;
+    };
+    if is_manager(notice.receiver) {
+        answered.answers(Answer::Done);
+        return;
+    }
+    let Some(at) = place_of(sizes, notice.receiver) else {
+        answered.answers(Answer::Refused(Refusal::NoSuch));
+        return;
+    };
+    if nodes[at].is_down() {
+        answered.answers(Answer::Refused(Refusal::Down));
+        return;
+    }
+    let least = notices.hear(at, &notice);
+    let node = &mut nodes[at];
+    let raised = raise_least(node, &least);
+    answered.answers(answer_of(raised));
+}
+
+/// Whether none stands in for a node since that has stored something, or has a higher floor.
+fn is_in_use(replaced: &Result<(), Refusal>) -> bool
+    ensures { result ≡ is_in_use replaced.now }
+{
+    match replaced {
+        Ok(()) => false,
+        Err(refusal) => matches!(refusal, Refusal::InUse),
+    }
+}
+
+/// Once a blank node was to stand in for the one of a place, what that was told is forgotten, but where it is in use.
+fn forget_replaced(notices: &mut Notices, at: usize, replaced: &Result<(), Refusal>)
+    requires { at < length notices.old.told }
+    ensures { notices.new ≡ replaced_at at replaced.now notices.old }
+{
+    if !is_in_use(replaced) {
+        notices.forget(at);
+    }
+}
+
+/// Puts a blank node with a floor in the place of a lost one, an acceptor or a leader, unless that is in use.
+fn replace<R: Record>(
+    sizes: Sizes,
+    nodes: &mut Vec<Floored<R>>,
+    notices: &mut Notices,
+    who: NodeId,
+    floor: &Floor,
+    answered: &mut Answered,
+)
+    requires count { length nodes.old.items ≡ node_count sizes }
+    requires told { length notices.old.told ≡ node_count sizes }
+    ensures { (network : NetworkParts) → Happens (Replaces who floor.now) (cluster_of sizes nodes.old.items network notices.old)
+        (cluster_of sizes nodes.new.items network notices.new) answered.new }
+{
+    if is_manager(who) {
+        answered.answers(Answer::Refused(Refusal::NoSuch));
+        return;
+    }
+    let Some(at) = place_of(sizes, who) else {
+        answered.answers(Answer::Refused(Refusal::NoSuch));
+        return;
+    };
+    let node = &mut nodes[at];
+    let replaced = node.stand_in(floor);
+    forget_replaced(notices, at, &replaced);
+    answered.answers(answer_of(replaced));
+}
+
 /// What comes of an event.
 pub(crate) fn happen<R: Tear>(
     sizes: Sizes,
-    nodes: &mut Vec<Node<R>>,
+    nodes: &mut Vec<Floored<R>>,
     network: &mut Network,
+    notices: &mut Notices,
     event: &Event,
     out: &mut Output,
     answered: &mut Answered,
 )
-    requires { IsSound (cluster_of sizes nodes.old.items network.old) }
-    ensures occurs { Happens event.now (cluster_of sizes nodes.old.items network.old)
-        (cluster_of sizes nodes.new.items network.new) answered.new }
-    ensures sound { IsSound (cluster_of sizes nodes.new.items network.new) }
+    requires { IsSound (cluster_of sizes nodes.old.items network.old notices.old) }
+    ensures occurs { Happens event.now (cluster_of sizes nodes.old.items network.old notices.old)
+        (cluster_of sizes nodes.new.items network.new notices.new) answered.new }
+    ensures sound { IsSound (cluster_of sizes nodes.new.items network.new notices.new) }
 {
     match event {
         Event::Ask { node, request } => ask(sizes, nodes, network, *node, request, out, answered),
@@ -343,7 +517,10 @@ pub(crate) fn happen<R: Tear>(
         Event::Cut { number, bytes } => cut(sizes, nodes, network, *number, *bytes, out, answered),
         Event::Noise { node, bytes } => noise(sizes, nodes, *node, bytes.as_slice(), out, answered),
         Event::Tear { node, bytes } => tear(sizes, nodes, *node, *bytes, answered),
-        Event::Restart { node } => restart(sizes, nodes, *node, answered),
+        Event::Restart { node } => restart(sizes, nodes, notices, *node, answered),
         Event::Compact { node } => compact(sizes, nodes, *node, answered),
+        Event::Raise { rm, floor } => raise(sizes, nodes, notices, *rm, floor, answered),
+        Event::Hear { number } => hear(sizes, nodes, notices, *number, answered),
+        Event::Replace { node, floor } => replace(sizes, nodes, notices, *node, floor, answered),
     }
 }

@@ -7,7 +7,8 @@ ghost use Rattle.cluster.specs.Clusters.{node_count};
 ghost use Rattle.cluster.specs.Opening.{AreBegun, IsBegun, IsUnbegun, IsUnmade};
 
 use crate::receivers::{count_of, name_at};
-use node_core::{Config, Node, Sizes};
+use floored::Floored;
+use node_core::{Config, Sizes};
 use protocol::NodeId;
 use stable_record::Record;
 use std::alloc::Global;
@@ -19,7 +20,7 @@ fn open_new<R: Record + Drop>(
     config: &Config,
     who: NodeId,
     device: R,
-) -> Result<Node<R>, Refusal>
+) -> Result<Floored<R>, Refusal>
     requires { is_among config.now who ≡ true }
     ensures ok { IfOk result (λ node. IsBegun config.now who (R.Record.held device) node) }
     ensures err { IfErr result (λ e. IsUnbegun (R.Record.held device) e) }
@@ -32,7 +33,7 @@ fn open_new<R: Record + Drop>(
     if !bytes.is_empty() {
         return Err(Refusal::BadConfig);
     }
-    match Node::open(alloc, config, who, device) {
+    match Floored::open(alloc, config, who, device) {
         Ok(node) => Ok(node),
         Err((_, refusal)) => Err(refusal),
     }
@@ -45,7 +46,7 @@ pub(crate) fn open_all<R: Record + Drop>(
     config: &Config,
     sizes: Sizes,
     records: Vec<R>,
-) -> Result<Vec<Node<R>>, Refusal>
+) -> Result<Vec<Floored<R>>, Refusal>
     requires sizes { AreSizes config.now sizes }
     requires count { length records.items ≡ node_count sizes }
     ensures ok { IfOk result (λ nodes. AreBegun config.now (map R.Record.held records.items) nodes.items) }

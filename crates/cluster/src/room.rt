@@ -1,4 +1,4 @@
-//! Room for what an event may send: made before its node is reached.
+//! Room for what an event may send or tell: made before its node is reached.
 
 ghost use Rattle.std.specs.Prelude.{◌≡◌, ◌≤◌, ℕ, List, length, IfErr, OnOk};
 ghost use Rattle.std.specs.List.{flat_map};
@@ -7,12 +7,15 @@ ghost use Rattle.stable_record.specs.declared.fact.FactKind.{FactKind};
 ghost use Rattle.protocol.specs.declared.events.Event.TheVariants.{Deliver};
 ghost use Rattle.protocol.specs.Effects.{Config};
 ghost use Rattle.protocol.specs.Nodes.{Fault, Memory, on_request, effect_of};
-ghost use Rattle.protocol.specs.Worlds.{World, Datagram, datagrams_of, world_step};
-ghost use Rattle.node_core.specs.Nodes.{NodeParts, AreSizes, datagram_input};
+ghost use Rattle.protocol.specs.Worlds.{Datagram, datagrams_of};
+ghost use Rattle.node_core.specs.Nodes.{AreSizes, datagram_input};
+ghost use Rattle.floors.specs.Worlds.{FlooredWorld, step_with_floors};
+ghost use Rattle.floored.specs.Nodes.{FlooredParts};
 ghost use Rattle.network.specs.Networks.{StandsFor};
-ghost use Rattle.cluster.specs.Clusters.{ClusterStands, cluster_of};
+ghost use Rattle.cluster.specs.Clusters.{NoticesParts, ClusterStands, cluster_of};
 ghost use Rattle.cluster.specs.Sending.{HasRoom};
 
+use crate::notices::count_told;
 use network::Network;
 use node_core::Sizes;
 use protocol::{Event, NodeId, Request};
@@ -56,9 +59,9 @@ pub(crate) fn most_heard(sizes: Sizes, who: NodeId) -> usize
 
 /// How many datagrams an event sends at most.
 pub(crate) fn most_sent(sizes: Sizes, network: &Network, event: &Event) -> usize
-    ensures { (nodes : List NodeParts) (config : Config) (world : World)
-        → ClusterStands config (cluster_of sizes nodes network.now) world → (fault : Fault)
-        → length (world_step config world event.now fault).sent ≤ result }
+    ensures { (nodes : List FlooredParts) (notices : NoticesParts) (config : Config) (world : FlooredWorld)
+        → ClusterStands config (cluster_of sizes nodes network.now notices) world → (fault : Fault)
+        → length (step_with_floors config world event.now fault).sent ≤ result }
 {
     match event {
         Event::Ask { node, request } => most_asked(sizes, *node, request),
@@ -69,14 +72,37 @@ pub(crate) fn most_sent(sizes: Sizes, network: &Network, event: &Event) -> usize
         Event::Tear { .. } => 0,
         Event::Restart { .. } => 0,
         Event::Compact { .. } => 0,
+        Event::Raise { .. } => 0,
+        Event::Hear { .. } => 0,
+        Event::Replace { .. } => 0,
+    }
+}
+
+/// How many notices an event tells at most.
+pub(crate) fn most_told(sizes: Sizes, event: &Event) -> usize
+    ensures { (config : Config) → AreSizes config sizes → (world : FlooredWorld) (fault : Fault)
+        → length (step_with_floors config world event.now fault).noticed ≤ result }
+{
+    match event {
+        Event::Ask { .. } => 0,
+        Event::Deliver { .. } => 0,
+        Event::Lose { .. } => 0,
+        Event::Cut { .. } => 0,
+        Event::Noise { .. } => 0,
+        Event::Tear { .. } => 0,
+        Event::Restart { .. } => 0,
+        Event::Compact { .. } => 0,
+        Event::Raise { .. } => count_told(sizes),
+        Event::Hear { .. } => 0,
+        Event::Replace { .. } => 0,
     }
 }
 
 /// How many datagrams are sent at most where the one of a number is handed over.
 fn most_delivered(sizes: Sizes, network: &Network, number: u32) -> usize
-    ensures { (nodes : List NodeParts) (config : Config) (world : World)
-        → ClusterStands config (cluster_of sizes nodes network.now) world → (fault : Fault)
-        → length (world_step config world (Deliver number) fault).sent ≤ result }
+    ensures { (nodes : List FlooredParts) (notices : NoticesParts) (config : Config) (world : FlooredWorld)
+        → ClusterStands config (cluster_of sizes nodes network.now notices) world → (fault : Fault)
+        → length (step_with_floors config world (Deliver number) fault).sent ≤ result }
 {
     match network.get(number) {
         Some(kept) => most_heard(sizes, kept.receiver),

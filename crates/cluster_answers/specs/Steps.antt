@@ -7,17 +7,18 @@ use Rattle.protocol.specs.declared.events.Step.{Step}
 use Rattle.protocol.specs.declared.states.Standing.{Standing}
 use Rattle.protocol.specs.Effects.{Config}
 use Rattle.protocol.specs.Nodes.{Input, Asked}
-use Rattle.protocol.specs.Worlds.{World, world_after}
+use Rattle.protocol.specs.Worlds.{World}
 use Rattle.answers.specs.Answers.{IsQuestion}
+use Rattle.floors.specs.Worlds.{FlooredWorld, floored_world_after}
 use Rattle.node_core.specs.declared.output.Output.{Output}
 use Rattle.cluster.specs.Clusters.{ClusterParts}
 use Rattle.cluster.specs.Runs.{FollowMachine}
 use Rattle.groups.specs.Runs.{Happening, Handled, IsReached, all_happened}
 
--- steps end in the world to which their events lead in the machine: the cluster stands for it, and it has a property
-pub record EndIn (config : Config) (world : World) (steps : List Step) (last : ClusterParts) (P : World → Type 0) : Type 0 where
+-- steps end in the world to which their events lead: the cluster stands for it, and what of it is the machine's has a property
+pub record EndIn (config : Config) (world : FlooredWorld) (steps : List Step) (last : ClusterParts) (P : World → Type 0) : Type 0 where
   pub follow : FollowMachine config world steps last
-  pub holds : P (world_after config world follow.occurrences)
+  pub holds : P (floored_world_after config world follow.occurrences).machine
 
 -- what happened is that leader l was asked to commit a transaction or for its status, and answered so
 pub record TellsIn (l : ℕ) (tx : TxParts) (standing : Standing) (happened : Happening) : Type 0 where

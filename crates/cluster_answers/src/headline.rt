@@ -6,8 +6,8 @@ ghost use Rattle.protocol.specs.declared.events.Step.{Step as Made};
 ghost use Rattle.protocol.specs.declared.states.Standing.TheVariants as standings;
 ghost use Rattle.protocol.specs.declared.states.View.TheVariants as views;
 ghost use Rattle.protocol.specs.Effects.{Config};
-ghost use Rattle.protocol.specs.Worlds.{World};
-ghost use Rattle.safety.specs.Runs.{IsReachable};
+ghost use Rattle.floors.specs.Worlds.{FlooredWorld};
+ghost use Rattle.floors.specs.Runs.{IsFlooredReachable};
 ghost use Rattle.answers.specs.Answers.{Tells, HavePrepared, NoneIs};
 ghost use Rattle.cluster.specs.Clusters.{ClusterParts, ClusterStands, IsSound};
 ghost use Rattle.cluster.specs.Runs.{HaveOccurred};
@@ -21,14 +21,14 @@ pub fn clusters_tell_one_outcome()
         → ¬ Tells other tx standings.Aborted two }
 {}
 
-/// And where the steps end, what was told holds in the world to which their events lead in the machine, which the cluster stands for:
+/// And where the steps end, what was told holds in the world with floors to which their events lead, which the cluster stands for:
 /// after an answer committed every participant has stored a vote prepared, and is prepared or committed; after an answer aborted none is
 /// committed.
 pub fn told_outcomes_hold()
-    ensures committed { (config : Config) (world : World) → IsReachable config world → (first last : ClusterParts) (steps : List Made)
-        → ClusterStands config first world → HaveOccurred first steps last → (tx : TxParts) (l : ℕ) (told : Made) → IsIn steps told
-        → Tells l tx standings.Committed told → EndIn config world steps last (HavePrepared config tx) }
-    ensures aborted { (config : Config) (world : World) → IsReachable config world → (first last : ClusterParts) (steps : List Made)
-        → ClusterStands config first world → HaveOccurred first steps last → (tx : TxParts) (l : ℕ) (told : Made) → IsIn steps told
-        → Tells l tx standings.Aborted told → EndIn config world steps last (NoneIs config tx views.Committed) }
+    ensures committed { (config : Config) (world : FlooredWorld) → IsFlooredReachable config world → (first last : ClusterParts)
+        (steps : List Made) → ClusterStands config first world → HaveOccurred first steps last → (tx : TxParts) (l : ℕ) (told : Made)
+        → IsIn steps told → Tells l tx standings.Committed told → EndIn config world steps last (HavePrepared config tx) }
+    ensures aborted { (config : Config) (world : FlooredWorld) → IsFlooredReachable config world → (first last : ClusterParts)
+        (steps : List Made) → ClusterStands config first world → HaveOccurred first steps last → (tx : TxParts) (l : ℕ) (told : Made)
+        → IsIn steps told → Tells l tx standings.Aborted told → EndIn config world steps last (NoneIs config tx views.Committed) }
 {}

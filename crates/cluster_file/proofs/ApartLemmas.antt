@@ -13,7 +13,7 @@ use Rattle.cluster_file.proofs.SocketLemmas.{same_true, same_false}
 
 -- a place, where there is none
 abbrev pub no_place : Place
-no_place = record { node = V4 (record { ip = record { octets = [] }; port = 0 }); client = None }
+no_place = record { node = V4 (record { ip = record { octets = [] }; port = 0 }); client = None; beside = false }
 
 -- one that stands at a place stands among them
 pub stands_at : (taken : List SocketAddr) (address : SocketAddr) (i : ℕ) (d : SocketAddr) → i < length taken → get_or taken i d ≡ address

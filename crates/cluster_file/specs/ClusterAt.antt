@@ -1,5 +1,5 @@
--- The cluster that a file says, or what is wrong with it first: keys that it doesn't know, then the keys at its top, `time`, the nodes,
--- kind by kind, and what can only be said of all nodes.
+-- The cluster that a file says, or what is wrong with it first: keys that it doesn't know, then the keys at its top, `time`, `names`, the
+-- nodes, kind by kind, and what can only be said of all nodes.
 use Rattle.std.specs.Prelude.{◌≡◌, ℕ, Bool, false, if◌then◌else◌, List, [], ◌∷◌, ◌++◌, map, length, codes, bytes_eq}
 use Rattle.std.specs.Prelude.{Option, Some, None, is_some, Result, Ok, Err}
 use Rattle.toml.specs.Data.{Members, get_member}
@@ -7,6 +7,7 @@ use Rattle.toml.specs.Parse.{parse_document}
 use Rattle.node_core.specs.Configs.{is_config, config_of}
 use Rattle.protocol.specs.Effects.{Config}
 use Rattle.cluster_file.specs.declared.cluster.Cluster.{Cluster}
+use Rattle.cluster_file.specs.declared.cluster.Naming.{Naming}
 use Rattle.cluster_file.specs.declared.cluster.Place.{Place}
 use Rattle.cluster_file.specs.declared.cluster.Timing.{Timing}
 use Rattle.cluster_file.specs.declared.error.ClusterError.{ClusterError}
@@ -22,11 +23,16 @@ use Rattle.cluster_file.specs.Repeated.{apart_at}
 -- the keys at the top of a file
 abbrev pub top_keys : List (List ℕ)
 top_keys =
-    codes "acceptor" ∷ codes "bundled" ∷ codes "client_key" ∷ codes "key" ∷ codes "leader" ∷ codes "rm" ∷ codes "time" ∷ []
+    codes "acceptor" ∷ codes "bundled" ∷ codes "client_key" ∷ codes "key" ∷ codes "leader" ∷ codes "names" ∷ codes "rm"
+    ∷ codes "time" ∷ []
 
 -- the keys of `time`
 abbrev pub time_keys : List (List ℕ)
 time_keys = codes "ask" ∷ codes "idle" ∷ []
+
+-- the keys of `names`
+abbrev pub names_keys : List (List ℕ)
+names_keys = codes "ahead" ∷ codes "format" ∷ codes "keep" ∷ codes "timed" ∷ []
 
 -- what a cluster is, without where it lies in memory
 pub record Said : Type 0 where
@@ -35,6 +41,7 @@ pub record Said : Type 0 where
   pub key : Option (List ℕ)
   pub client_key : Option (List ℕ)
   pub timing : Timing
+  pub naming : Naming
 
 -- what is said of a cluster
 abbrev pub said_of : Cluster → Said
@@ -44,6 +51,7 @@ said_of cluster = record {
   key = name_bytes cluster.key;
   client_key = name_bytes cluster.client_key;
   timing = cluster.timing;
+  naming = cluster.naming;
 }
 
 -- the name of a file at a key
@@ -73,6 +81,21 @@ timing_in (Some members) = do
 abbrev pub timing_at : List ℕ → Members → Result Timing Mistake
 timing_at path members = reads_at path (codes "time") (table_of (get_member (codes "time") members)) >>= timing_in
 
+-- how names stand in time, by the table of that, or where there is none
+unfoldable pub naming_in : Option Members → Result Naming Mistake
+naming_in None = Ok (record { timed = false; format = 1; keep = 600000; ahead = 60000 })
+naming_in (Some members) = do
+  known ← keys_at (codes "names.") names_keys members
+  timed ← reads_at (codes "names.") (codes "timed") (flag_of (get_member (codes "timed") members))
+  format ← reads_at (codes "names.") (codes "format") (number_of 0 2147483647 1 (get_member (codes "format") members))
+  keep ← reads_at (codes "names.") (codes "keep") (number_of 1000 4294967295 600000 (get_member (codes "keep") members))
+  ahead ← reads_at (codes "names.") (codes "ahead") (number_of 0 4294967295 60000 (get_member (codes "ahead") members))
+  Ok (record { timed = timed; format = format; keep = keep; ahead = ahead })
+
+-- how names stand in time
+abbrev pub naming_at : List ℕ → Members → Result Naming Mistake
+naming_at path members = reads_at path (codes "names") (table_of (get_member (codes "names") members)) >>= naming_in
+
 -- a cluster within the limits
 abbrev pub config_within : Config → Result Config Fault
 config_within config = if is_config config then Ok config else Err Limits
@@ -98,6 +121,7 @@ cluster_behind path members = do
   client_key ← name_at path (codes "client_key") members
   apart ← reads_at path (codes "client_key") (keys_apart key client_key)
   timing ← timing_at path members
+  naming ← naming_at path members
   parts ← parts_at path (is_some key) (is_some client_key) members
   Ok (record {
     config = record parts.0 { bundled = bundled };
@@ -105,6 +129,7 @@ cluster_behind path members = do
     key = key;
     client_key = client_key;
     timing = timing;
+    naming = naming;
   })
 
 -- the cluster that a file's table says, or what is wrong first

@@ -12,7 +12,7 @@ use Rattle.cluster_file.specs.declared.error.Fault.{Fault}
 use Rattle.cluster_file.specs.declared.error.Fault.TheVariants.{Unknown, NoTable, Acceptors, Leaders, Managers}
 use Rattle.cluster_file.specs.Kinds.{kind_name}
 use Rattle.cluster_file.specs.Mistakes.{Mistake, ◌>>=◌, reads_at, mistake_at}
-use Rattle.cluster_file.specs.Reads.{node_address_of, client_address_of, list_of}
+use Rattle.cluster_file.specs.Reads.{node_address_of, client_address_of, flag_of, list_of}
 use Rattle.cluster_file.specs.Rows.{rows_at}
 
 -- each key of a table behind a path is among those known; the first that isn't is wrong
@@ -25,7 +25,7 @@ keys_at path known (member key value more) =
 abbrev pub node_keys : Kind → List (List ℕ)
 node_keys Acceptor = codes "node" ∷ codes "client" ∷ []
 node_keys Leader = codes "node" ∷ codes "client" ∷ []
-node_keys Manager = codes "node" ∷ codes "client" ∷ codes "table" ∷ []
+node_keys Manager = codes "node" ∷ codes "client" ∷ codes "beside" ∷ codes "table" ∷ []
 
 -- where the node of a number stands
 abbrev pub node_path : Kind → ℕ → List ℕ
@@ -39,12 +39,13 @@ section_path kind index = kind_name kind ++ (codes "[" ++ (decimal index ++ code
 abbrev pub Node : Type 0
 Node = Place × List Row
 
--- where a node is found
+-- where a node is found, and whether it speaks for a database beside it
 unfoldable pub place_at : List ℕ → (nodes_keyed clients_keyed : Bool) → Members → Result Place Mistake
 place_at path nodes_keyed clients_keyed members = do
   node ← reads_at path (codes "node") (node_address_of nodes_keyed (get_member (codes "node") members))
   client ← reads_at path (codes "client") (client_address_of clients_keyed (get_member (codes "client") members))
-  Ok (record { node = node; client = client })
+  beside ← reads_at path (codes "beside") (flag_of (get_member (codes "beside") members))
+  Ok (record { node = node; client = client; beside = beside })
 
 -- the node of a table
 unfoldable pub node_in : List ℕ → Kind → (nodes_keyed clients_keyed : Bool) → Members → Result Node Mistake

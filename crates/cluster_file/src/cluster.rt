@@ -3,8 +3,8 @@ ghost use Rattle.toml.specs.Data.{get_member, Members};
 ghost use Rattle.toml.specs.View.{table_view};
 ghost use Rattle.toml.specs.Parse.{parse_document};
 ghost use Rattle.cluster_file.specs.Clusters.{IsCluster, AreNodePlaces};
-ghost use Rattle.cluster_file.specs.ClusterAt.{are_shared, cluster_at, cluster_behind, name_at, parts_at, timing_at, timing_in};
-ghost use Rattle.cluster_file.specs.ClusterAt.{said_of, IsNoCluster, IsNoTable};
+ghost use Rattle.cluster_file.specs.ClusterAt.{are_shared, cluster_at, cluster_behind, name_at, naming_at, naming_in, parts_at, timing_at};
+ghost use Rattle.cluster_file.specs.ClusterAt.{said_of, timing_in, IsNoCluster, IsNoTable};
 ghost use Rattle.cluster_file.specs.Mistakes.{IsRefused};
 ghost use Rattle.cluster_file.specs.Reads.{name_bytes};
 
@@ -26,6 +26,8 @@ pub struct Place {
     pub node: SocketAddr,
     /// Where its clients come, if they may.
     pub client: Option<SocketAddr>,
+    /// Whether it is a resource manager that speaks for a database beside it, and so raises no floor by itself.
+    pub beside: bool,
 }
 
 /// How long nodes wait, in milliseconds.
@@ -35,6 +37,19 @@ pub struct Timing {
     pub ask: u32,
     /// How long nobody touches a branch that is then rolled back. It never is where this is 0.
     pub idle: u32,
+}
+
+/// How names stand in time, in milliseconds.
+#[derive(Clone, Copy, Debug, PartialEq, Eq)]
+pub struct Naming {
+    /// Whether names begin with their time, so that floors rise by themselves.
+    pub timed: bool,
+    /// The format of such names.
+    pub format: u32,
+    /// For how long what stands in a name's time is kept.
+    pub keep: u32,
+    /// How far a name's time may be ahead of a resource manager's clock.
+    pub ahead: u32,
 }
 
 /// A cluster, as a file says it.
@@ -50,15 +65,18 @@ pub struct Cluster {
     pub client_key: Option<String>,
     /// How long nodes wait.
     pub timing: Timing,
+    /// How names stand in time.
+    pub naming: Naming,
 }
 
 /// The keys of a cluster's file.
-const KEYS: [&str; 7] = [
+const KEYS: [&str; 8] = [
     "acceptor",
     "bundled",
     "client_key",
     "key",
     "leader",
+    "names",
     "rm",
     "time",
 ];
@@ -120,6 +138,48 @@ fn timing_of(root: &Section<'_>) -> Result<Timing, ClusterError>
     }
 }
 
+/// How names stand in time, as a table says it.
+fn naming_in(alloc: Global, table: &Table) -> Result<Naming, ClusterError>
+    ensures ok { IfOk result (λ naming. naming_in (Some (table_view table.now)) ≡ Ok naming) }
+    ensures err { IfErr result (IsRefused (naming_in (Some (table_view table.now)))) }
+{
+    let names = Section {
+        alloc,
+        path: "names.",
+        table,
+    };
+    names.check_keys(&["ahead", "format", "keep", "timed"])?;
+    let timed = names.flag("timed")?;
+    let format = names.number("format", 0, 2_147_483_647, 1)?;
+    let keep = names.number("keep", 1000, u32::MAX, 600_000)?;
+    let ahead = names.number("ahead", 0, u32::MAX, 60_000)?;
+    Ok(Naming {
+        timed,
+        format,
+        keep,
+        ahead,
+    })
+}
+
+/// How names stand in time, as a table says it; where there is none, in no order of time.
+fn naming_of(root: &Section<'_>) -> Result<Naming, ClusterError>
+    ensures ok { IfOk result (λ naming. naming_at root.now.path.now (table_view root.now.table.now) ≡ Ok naming) }
+    ensures err { IfErr result (IsRefused (naming_at root.now.path.now (table_view root.now.table.now))) }
+{
+    let Some(table) = root.inner("names")? else {
+        return Ok(Naming {
+            timed: false,
+            format: 1,
+            keep: 600_000,
+            ahead: 60_000,
+        });
+    };
+    match naming_in(root.alloc, table) {
+        Ok(naming) => Ok(naming),
+        Err(error) => Err(error),
+    }
+}
+
 /// The nodes of a cluster: where they are found, and their sizes and tables.
 fn nodes_of(root: &Section<'_>, keyed: Keyed) -> Result<(Config, Vec<Place>), ClusterError>
     ensures nodes { IfOk result (λ found. AreNodePlaces keyed.nodes keyed.clients found.0 found.1.items) }
@@ -157,6 +217,7 @@ fn cluster_of(root: &Section<'_>) -> Result<Cluster, ClusterError>
         return Err(root.fault("client_key", Fault::SharedKey));
     }
     let timing = timing_of(root)?;
+    let naming = naming_of(root)?;
     let keyed = Keyed {
         nodes: key.is_some(),
         clients: client_key.is_some(),
@@ -169,6 +230,7 @@ fn cluster_of(root: &Section<'_>) -> Result<Cluster, ClusterError>
         key,
         client_key,
         timing,
+        naming,
     })
 }
 

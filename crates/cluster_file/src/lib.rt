@@ -12,7 +12,7 @@ mod owner;
 mod section;
 mod tables;
 
-pub use cluster::{Cluster, Place, Timing, read_cluster};
+pub use cluster::{Cluster, Naming, Place, Timing, read_cluster};
 pub use digesting::digest;
 pub use error::{ClusterError, Fault, KeyError, Kind, Spot};
 pub use keys::{KEY, key_of};

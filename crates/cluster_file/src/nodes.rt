@@ -113,7 +113,7 @@ fn keys_of(kind: Kind) -> &'static [&'static str]
     ensures { map (λ key. key.now) result.now ≡ node_keys kind }
 {
     match kind {
-        Kind::Manager => &["node", "client", "table"],
+        Kind::Manager => &["node", "client", "beside", "table"],
         Kind::Acceptor | Kind::Leader => &["node", "client"],
     }
 }
@@ -175,7 +175,12 @@ fn place_of(node: &Section<'_>, keyed: Keyed) -> Result<Place, ClusterError>
 {
     let at = node_address(node, keyed)?;
     let client = client_address(node, keyed)?;
-    Ok(Place { node: at, client })
+    let beside = node.flag("beside")?;
+    Ok(Place {
+        node: at,
+        client,
+        beside,
+    })
 }
 
 /// Where the node of a table is found, and its first rows.

@@ -1,4 +1,11 @@
 pub mod Lines
+pub mod Alike
+pub mod Floored
+pub mod Beside
+pub mod Outages
+pub mod Raised
+pub mod Hindering
+pub mod Answering
 pub mod Printing
 pub mod Completing
 pub mod MachineCalls

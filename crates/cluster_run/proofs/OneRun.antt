@@ -7,7 +7,9 @@ use Rattle.cluster_run.specs.Runs.{IsRun}
 use Rattle.cluster_run.specs.Traces.{config_of, IsTraceOf}
 use Rattle.protocol.specs.Effects.{Config}
 use Rattle.protocol.specs.Nodes.{Fault, NoFault}
-use Rattle.protocol.specs.Worlds.{World, Occurrence, opening, world_after, world_step}
+use Rattle.protocol.specs.Worlds.{Occurrence}
+use Rattle.floors.specs.Worlds.{FlooredWorld, floored_world_after, step_with_floors}
+use Rattle.floors.specs.Runs.{floored_opening}
 use Rattle.network.specs.Networks.{least_unmarked}
 use Rattle.net_script.specs.declared.values.Command.{Command}
 use Rattle.net_script.specs.declared.values.Command.TheVariants.{Do, Flow}
@@ -26,7 +28,7 @@ same_occurrence one other event fault =
     let with_fault : Fault → Occurrence = λ (f : Fault). record { event = other.event; fault = f } in
     ap with_event event ∙ ap with_fault fault
 
-same_next : (world : World) (one other : Occurrence) → IsNext world one → IsNext world other → one.fault ≡ NoFault
+same_next : (world : FlooredWorld) (one other : Occurrence) → IsNext world one → IsNext world other → one.fault ≡ NoFault
     → other.fault ≡ NoFault → one ≡ other
 same_next world one other is then fault unmet =
     let e : Some is.0 ≡ Some then.0 = sym is.1 ∙ then.1 in
@@ -36,22 +38,23 @@ same_next world one other is then fault unmet =
 -- ---- a flow
 
 -- a flow ends: so many were delivered, or none is left
-abbrev Ends : Config → World → ℕ → List Occurrence → Type 0
-Ends config world count happened = (length happened ≡ count) ⊎ (least_unmarked (world_after config world happened).net ≡ None)
+abbrev Ends : Config → FlooredWorld → ℕ → List Occurrence → Type 0
+Ends config world count happened =
+    (length happened ≡ count) ⊎ (least_unmarked (floored_world_after config world happened).machine.net ≡ None)
 
 -- one that has ended can't go on
-ended : (config : Config) (world : World) (count : ℕ) (next : Occurrence) (rest : List Occurrence) → Ends config world count []
+ended : (config : Config) (world : FlooredWorld) (count : ℕ) (next : Occurrence) (rest : List Occurrence) → Ends config world count []
     → IsNext world next → length (next ∷ rest) ≤ count → ⊥
 ended config world count next rest (inl all) is within = omega (arith, all, within)
 ended config world count next rest (inr none) is within =
     let e : Some is.0 ≡ None = sym is.1 ∙ none in absurd (cc (e))
 
-less_ends : (config : Config) (world : World) (count : ℕ) (first : Occurrence) (rest : List Occurrence)
-    → Ends config world (suc count) (first ∷ rest) → Ends config (world_step config world first.event first.fault).world count rest
+less_ends : (config : Config) (world : FlooredWorld) (count : ℕ) (first : Occurrence) (rest : List Occurrence)
+    → Ends config world (suc count) (first ∷ rest) → Ends config (step_with_floors config world first.event first.fault).world count rest
 less_ends config world count first rest (inl all) = inl (omega (arith, all))
 less_ends config world count first rest (inr none) = inr none
 
-one_flow : (config : Config) (world : World) (count : ℕ) (one other : List Occurrence) → AreNext config world one
+one_flow : (config : Config) (world : FlooredWorld) (count : ℕ) (one other : List Occurrence) → AreNext config world one
     → AreNext config world other → length one ≤ count → length other ≤ count → Ends config world count one → Ends config world count other
     → AreUnmet one → AreUnmet other → one ≡ other
 one_flow config world count [] [] next then within below ends stops unmet free = refl
@@ -62,7 +65,7 @@ one_flow config world count (o ∷ one) [] next then within below ends stops unm
 one_flow config world zero (o ∷ one) (p ∷ other) next then within below ends stops unmet free = absurd (omega (arith, within))
 one_flow config world (suc count) (o ∷ one) (p ∷ other) next then within below ends stops unmet free =
     let same = same_next world o p next.0 then.0 unmet.0 free.0 in
-    let at : Occurrence → World = λ (x : Occurrence). (world_step config world x.event x.fault).world in
+    let at : Occurrence → FlooredWorld = λ (x : Occurrence). (step_with_floors config world x.event x.fault).world in
     let rest : AreNext config (at o) other = subst (λ (x : Occurrence). AreNext config (at x) other) (sym same) then.1 in
     let last : Ends config (at o) count other =
     subst (λ (x : Occurrence). Ends config (at x) count other) (sym same) (less_ends config world count p other stops) in
@@ -85,13 +88,13 @@ one_event event fault unmet one other is then free clear =
     let second : unmet ≡ NoFault = (subst AreUnmet then clear).0 in
     is ∙ ap made (first ∙ sym second) ∙ sym then
 
-one_done : (config : Config) (world : World) (command : Command) (one other : List Occurrence) → IsDoneBy config world command one
+one_done : (config : Config) (world : FlooredWorld) (command : Command) (one other : List Occurrence) → IsDoneBy config world command one
     → IsDoneBy config world command other → AreUnmet one → AreUnmet other → one ≡ other
 one_done config world (Do event) one other is then unmet free = one_event event is.0 then.0 one other is.1 then.1 unmet free
 one_done config world (Flow count) one other is then unmet free =
     one_flow config world count one other is.next then.next is.at_most then.at_most is.ends then.ends unmet free
 
-pub all_done : (config : Config) (world : World) (commands : List Command) (one other : List Occurrence)
+pub all_done : (config : Config) (world : FlooredWorld) (commands : List Command) (one other : List Occurrence)
     → AreDoneBy config world commands one → AreDoneBy config world commands other → AreUnmet one → AreUnmet other → one ≡ other
 all_done config world [] one other is then unmet free = is ∙ sym then
 all_done config world (command ∷ commands) one other is then unmet free =
@@ -99,8 +102,8 @@ all_done config world (command ∷ commands) one other is then unmet free =
     let pieces = unmet_parts then.0 then.1 (subst AreUnmet then.2 free) in
     let first : is.0 ≡ then.0 = one_done config world command is.0 then.0 is.3 then.3 parts.0 pieces.0 in
     let rest : is.1 ≡ then.1 =
-    all_done config (world_after config world is.0) commands is.1 then.1 is.4
-    (subst (λ (os : List Occurrence). AreDoneBy config (world_after config world os) commands then.1) (sym first) then.4) parts.1
+    all_done config (floored_world_after config world is.0) commands is.1 then.1 is.4
+    (subst (λ (os : List Occurrence). AreDoneBy config (floored_world_after config world os) commands then.1) (sym first) then.4) parts.1
     pieces.1 in
     is.2 ∙ ap (λ (os : List Occurrence). os ++ is.1) first ∙ ap (λ (os : List Occurrence). then.0 ++ os) rest ∙ sym then.2
 
@@ -122,10 +125,10 @@ pub one_run : (bytes one other : List ℕ) (a : IsRun bytes one) (b : IsRun byte
 one_run bytes one other a b unmet free =
     let script : b.script ≡ a.script = one_script (lines bytes) b.script a.script b.spelled a.spelled in
     let config = config_of a.script in
-    let done : AreDoneBy config (opening config) a.script.commands b.is.happened =
-    subst (λ (s : Script). AreDoneBy (config_of s) (opening (config_of s)) s.commands b.is.happened) script b.is.done in
+    let done : AreDoneBy config (floored_opening config) a.script.commands b.is.happened =
+    subst (λ (s : Script). AreDoneBy (config_of s) (floored_opening (config_of s)) s.commands b.is.happened) script b.is.done in
     let happened : b.is.happened ≡ a.is.happened =
-    all_done config (opening config) a.script.commands b.is.happened a.is.happened done a.is.done free unmet in
+    all_done config (floored_opening config) a.script.commands b.is.happened a.is.happened done a.is.done free unmet in
     let is : IsTraceOf a.script a.is.happened b.is.trace =
     subst (λ (os : List Occurrence). IsTraceOf a.script os b.is.trace) happened
     (subst (λ (s : Script). IsTraceOf s b.is.happened b.is.trace) script b.is.is_trace) in

@@ -15,8 +15,10 @@ use Rattle.cluster_run.specs.Running.{IsRunning}
 use Rattle.protocol.specs.Effects.{Config}
 use Rattle.protocol.specs.Nodes.{NodeState, first_rows}
 use Rattle.protocol.specs.Tables.{table}
-use Rattle.protocol.specs.Worlds.{World, node_at, opening, place, table_at}
-use Rattle.node_core.specs.Nodes.{NodeParts, NodeStands}
+use Rattle.protocol.specs.Worlds.{node_at, place, table_at}
+use Rattle.floors.specs.Worlds.{FlooredWorld}
+use Rattle.floors.specs.Runs.{floored_opening}
+use Rattle.floored.specs.Nodes.{FlooredParts, FlooredStands}
 use Rattle.node_core.specs.Viewing.{SaysTable}
 use Rattle.cluster.specs.Asking.{IsSaid, TablesIn}
 use Rattle.cluster.specs.Clusters.{ClusterParts, ClusterStands}
@@ -38,7 +40,7 @@ module _ (config : Config) (records : List Held) (count : ℕ) (are : records �
   }
 
   -- a cluster over new records in memory stands for the opening world
-  pub opened_over : (cluster : ClusterParts) → IsMade config records cluster → IsRunning config (opening config) cluster
+  pub opened_over : (cluster : ClusterParts) → IsMade config records cluster → IsRunning config (floored_opening config) cluster
   opened_over cluster made = record {
     stands = made.unarmed (each_fresh (λ held. held.armed ≡ None) refl);
     firm = made_firm config records cluster made (each_fresh (λ held. held.nature.may_fail ≡ false) refl);
@@ -56,23 +58,26 @@ module _ (config : Config) (records : List Held) (count : ℕ) (are : records �
 -- ---- at the end
 
 -- a node past the last one
-no_node : NodeParts
+no_node : FlooredParts
 no_node = record {
-  who = R 0;
-  sizes = record { acceptors = 0; leaders = 0; managers = 0; bundled = false };
-  rows = [];
-  held = fresh [];
-  role = None;
+  node = record {
+    who = R 0;
+    sizes = record { acceptors = 0; leaders = 0; managers = 0; bundled = false };
+    rows = [];
+    held = fresh [];
+    role = None;
+  };
+  floor = None;
 }
 
 -- the place of a node that is there
-placed : (config : Config) (world : World) (who : NodeId) (m : NodeState) → node_at config world who ≡ Some m
+placed : (config : Config) (world : FlooredWorld) (who : NodeId) (m : NodeState) → node_at config world.machine who ≡ Some m
     → (at : ℕ) × (place config who ≡ Some at)
 placed config world who m is = by (place config who) refl
   where
     by : (o : Option ℕ) → place config who ≡ o → (at : ℕ) × (place config who ≡ Some at)
     by None none =
-        let e : None ≡ Some m = sym (ap (option_and_then (λ (at : ℕ). slice_get world.nodes at)) none) ∙ is in absurd (cc (e))
+        let e : None ≡ Some m = sym (ap (option_and_then (λ (at : ℕ). slice_get world.machine.nodes at)) none) ∙ is in absurd (cc (e))
     by (Some at) found = (at, found)
 
 -- there is a state for each node
@@ -87,27 +92,27 @@ some_at [] at lt none = omega (arith, lt)
 some_at (x ∷ xs) zero lt none = absurd (cc (none))
 some_at (x ∷ xs) (suc at) lt none = some_at xs at (omega (arith, lt)) none
 
-manager_there : (config : Config) (world : World) (cluster : ClusterParts) (rm : ℕ) → ClusterStands config cluster world
-    → rm < config.managers → node_at config world (R rm) ≡ None → ⊥
+manager_there : (config : Config) (world : FlooredWorld) (cluster : ClusterParts) (rm : ℕ) → ClusterStands config cluster world
+    → rm < config.managers → node_at config world.machine (R rm) ≡ None → ⊥
 manager_there config world cluster rm stands lt none =
     let at = config.acceptors + config.leaders + rm in
     let found : place config (R rm) ≡ Some at =
     ap (λ (b : Bool). if b then Some at else None) (lt-ltb rm config.managers lt) in
     let count = stands.nodes_are.count in
-    let same = zip_length (NodeStands config) cluster.nodes world.nodes stands.nodes_are.stand in
-    some_at world.nodes at (omega (arith, count, same, lt))
-    (sym (ap (option_and_then (λ (k : ℕ). slice_get world.nodes k)) found) ∙ none)
+    let same = zip_length (FlooredStands config) cluster.nodes world.machine.nodes stands.nodes_are.stand in
+    some_at world.machine.nodes at (omega (arith, count, same, lt))
+    (sym (ap (option_and_then (λ (k : ℕ). slice_get world.machine.nodes k)) found) ∙ none)
 
-module _ (config : Config) (world : World) (old new : ClusterParts) (rm : ℕ) (running : IsRunning config world old)
+module _ (config : Config) (world : FlooredWorld) (old new : ClusterParts) (rm : ℕ) (running : IsRunning config world old)
     (result : Result (List Row) Refusal) (is : TablesIn config world old new rm result) where
   pub still_running : IsRunning config world new
   still_running = record { stands = is.stands; firm = still_firm old new is.same running.firm }
 
-  pub shown : (rows : List Row) → result ≡ Ok rows → rows ≡ table_at config world rm
-  shown rows ok = by (node_at config world (R rm)) refl is.says
+  pub shown : (rows : List Row) → result ≡ Ok rows → rows ≡ table_at config world.machine rm
+  shown rows ok = by (node_at config world.machine (R rm)) refl is.says
     where
-      by : (o : Option NodeState) → node_at config world (R rm) ≡ o
-          → IsSaid config (R rm) old new (λ m. SaysTable config (R rm) m.facts result) o result → rows ≡ table_at config world rm
+      by : (o : Option NodeState) → node_at config world.machine (R rm) ≡ o
+          → IsSaid config (R rm) old new (λ m. SaysTable config (R rm) m.facts result) o result → rows ≡ table_at config world.machine rm
       by None e said = let bad = sym ok ∙ said.1 in absurd (cc (bad))
       by (Some m) e (inl said) =
           subst (λ (r : Result (List Row) Refusal). SaysTable config (R rm) m.facts r) ok said.1
@@ -121,9 +126,9 @@ module _ (config : Config) (world : World) (old new : ClusterParts) (rm : ℕ) (
           ]
 
   pub unshown : rm < config.managers → (e : Refusal) → result ≡ Err e → e ≡ Refusal.NoMemory
-  unshown lt refusal err = by (node_at config world (R rm)) refl is.says
+  unshown lt refusal err = by (node_at config world.machine (R rm)) refl is.says
     where
-      by : (o : Option NodeState) → node_at config world (R rm) ≡ o
+      by : (o : Option NodeState) → node_at config world.machine (R rm) ≡ o
           → IsSaid config (R rm) old new (λ m. SaysTable config (R rm) m.facts result) o result → refusal ≡ Refusal.NoMemory
       by None e said = absurd (manager_there config world old rm running.stands lt e)
       by (Some m) e (inl said) = subst (λ (r : Result (List Row) Refusal). SaysTable config (R rm) m.facts r) err said.1
@@ -134,7 +139,7 @@ module _ (config : Config) (world : World) (old new : ClusterParts) (rm : ℕ) (
             | inl failed ↦
                 let within : there.0 < length old.nodes =
                 omega (arith, place_within config (R rm) there.0 there.1, running.stands.nodes_are.count) in
-                absurd (both_ways (get_or old.nodes there.0 no_node).held.nature.may_fail (running.firm there.0 no_node within)
+                absurd (both_ways (get_or old.nodes there.0 no_node).node.held.nature.may_fail (running.firm there.0 no_node within)
                 failed.1.may)
             | inr wanted ↦ let same = sym err ∙ wanted.0 in cc (same)
           ]

@@ -19,7 +19,9 @@ use Rattle.cluster_run.proofs.Printing.{breaks_off, prints_later, prints_more, s
 use Rattle.cluster_run.proofs.Safe.{safe_ever}
 use Rattle.cluster_run.proofs.Traces.{is_serial, looks_back}
 use Rattle.protocol.specs.Effects.{Config}
-use Rattle.protocol.specs.Worlds.{World, Occurrence, opening, table_at, trace, world_after}
+use Rattle.protocol.specs.Worlds.{Occurrence, table_at}
+use Rattle.floors.specs.Worlds.{FlooredWorld, floored_trace, floored_world_after}
+use Rattle.floors.specs.Runs.{floored_opening}
 use Rattle.cluster.specs.Clusters.{ClusterParts}
 use Rattle.net_script.specs.declared.values.Command.{Command}
 use Rattle.net_script.specs.declared.values.Entry.{Entry}
@@ -33,19 +35,19 @@ use Rattle.net_script.specs.Writing.{WritesText}
 
 -- the last rows of each resource manager
 abbrev pub last_rows : Script → List Occurrence → List (List Row)
-last_rows s happened = each_manager (table_at (config_of s) (last_world (config_of s) happened)) s.sizes.rms
+last_rows s happened = each_manager (table_at (config_of s) (last_world (config_of s) happened).machine) s.sizes.rms
 
 -- the text of a script's trace, by what happened
 abbrev pub run_text : Script → List Occurrence → List ℕ
 run_text s happened =
-    head_text s.sizes s.tables ++ lines_from (config_of s) (opening (config_of s)) happened ++ final_lines 0 (last_rows s happened)
+    head_text s.sizes s.tables ++ lines_from (config_of s) (floored_opening (config_of s)) happened ++ final_lines 0 (last_rows s happened)
 
 -- where events are what its commands make happen, that is its run
 run_of : (s : Script) → is_in_limits s.sizes ≡ true → (happened : List Occurrence)
-    → AreDoneBy (config_of s) (opening (config_of s)) s.commands happened → AreOfMemory happened → IsRunOf s (run_text s happened)
+    → AreDoneBy (config_of s) (floored_opening (config_of s)) s.commands happened → AreOfMemory happened → IsRunOf s (run_text s happened)
 run_of s limits happened done faults =
     let config = config_of s in
-    let steps = trace config (opening config) happened in
+    let steps = floored_trace config (floored_opening config) happened in
     let t : Trace = record { sizes = s.sizes; tables = s.tables; entries = map Entry.Step steps; finals = last_rows s happened } in
     let is : IsTraceOf s happened t = record { sizes = refl; tables = refl; entries = refl; finals = refl } in
     record {
@@ -70,7 +72,7 @@ some_lines (rows ∷ rest) some = omega arith
 
 some_last : (s : Script) → is_in_limits s.sizes ≡ true → (happened : List Occurrence) → 0 < length (final_lines 0 (last_rows s happened))
 some_last s limits happened =
-    let each = table_at (config_of s) (last_world (config_of s) happened) in
+    let each = table_at (config_of s) (last_world (config_of s) happened).machine in
     some_lines (last_rows s happened)
     (subst (λ (n : ℕ). 0 < n) (sym (length-map-range_with_len each 0 s.sizes.rms)) (some_managers s.sizes limits))
 
@@ -80,12 +82,12 @@ some_last s limits happened =
 pub record IsBegun (s : Script) (config : Config) (first : ClusterParts) (piece : List ℕ) : Type 0 where
   pub is : config ≡ config_of s
   pub limits : is_in_limits s.sizes ≡ true
-  pub running : IsRunning config (opening config) first
+  pub running : IsRunning config (floored_opening config) first
   pub head : piece ≡ head_text s.sizes s.tables
 
 -- from values that are those of the script
 pub begun_by : (s : Script) (config : Config) (tables : List Table) → config ≡ config_for s.sizes tables → tables ≡ s.tables
-    → is_in_limits s.sizes ≡ true → (first : ClusterParts) → IsRunning config (opening config) first → (start piece : List ℕ)
+    → is_in_limits s.sizes ≡ true → (first : ClusterParts) → IsRunning config (floored_opening config) first → (start piece : List ℕ)
     → start ≡ [] → piece ≡ start ++ head_text s.sizes tables → IsBegun s config first piece
 begun_by s config tables config_is tables_is limits first running start piece start_is piece_is = record {
   is = config_is ∙ ap (config_for s.sizes) tables_is;
@@ -97,17 +99,17 @@ begun_by s config tables config_is tables_is limits first running start piece st
 module _ (s : Script) (config : Config) (first : ClusterParts) (piece : List ℕ) (begun : IsBegun s config first piece)
     (commands : List Command) (are : commands ≡ s.commands) (out : Option (List ℕ)) where
   -- what the commands make happen
-  abbrev pub AreDone : Config → World → List Occurrence → Type 0
+  abbrev pub AreDone : Config → FlooredWorld → List Occurrence → Type 0
   AreDone config world happened = AreDoneBy config world commands happened
 
-  running : IsRunning (config_of s) (opening (config_of s)) first
-  running = subst (λ (c : Config). IsRunning c (opening c) first) begun.is begun.running
+  running : IsRunning (config_of s) (floored_opening (config_of s)) first
+  running = subst (λ (c : Config). IsRunning c (floored_opening c) first) begun.is begun.running
 
-  run_done : (happened : List Occurrence) → AreDone (config_of s) (opening (config_of s)) happened → AreOfMemory happened
+  run_done : (happened : List Occurrence) → AreDone (config_of s) (floored_opening (config_of s)) happened → AreOfMemory happened
       → IsRunOf s (run_text s happened)
   run_done happened done faults =
       run_of s begun.limits happened
-      (subst (λ (cs : List Command). AreDoneBy (config_of s) (opening (config_of s)) cs happened) are done) faults
+      (subst (λ (cs : List Command). AreDoneBy (config_of s) (floored_opening (config_of s)) cs happened) are done) faults
 
   head_printed : Prints (so_far [] out) (so_far piece out) (head_text s.sizes s.tables)
   head_printed = prints_later [] piece (head_text s.sizes s.tables) out begun.head
@@ -115,14 +117,14 @@ module _ (s : Script) (config : Config) (first : ClusterParts) (piece : List ℕ
   -- printing stops while commands are carried out
   pub stops_in : (new : Option (List ℕ)) (e : Refusal) → StopsIn AreDone first (so_far piece out) new e → StopsRunOf s e out new
   stops_in new e (file, short) =
-      let (happened, done, faults, printed) = short (config_of s) (opening (config_of s)) running in
+      let (happened, done, faults, printed) = short (config_of s) (floored_opening (config_of s)) running in
       inr (
         file,
         record {
           text = run_text s happened;
           is = run_done happened done faults;
           broken =
-              breaks_off out new (head_text s.sizes s.tables ++ lines_from (config_of s) (opening (config_of s)) happened)
+              breaks_off out new (head_text s.sizes s.tables ++ lines_from (config_of s) (floored_opening (config_of s)) happened)
               (final_lines 0 (last_rows s happened))
               (short_after (so_far [] out) (so_far piece out) new (head_text s.sizes s.tables) _ head_printed printed)
               (some_last s begun.limits happened);
@@ -133,14 +135,14 @@ module _ (s : Script) (config : Config) (first : ClusterParts) (piece : List ℕ
   pub stops_after : (last : ClusterParts) (body : List ℕ) (new : Option (List ℕ)) (e : Refusal)
       → GoesOn AreDone first last (so_far piece out) (so_far body new) → e ≡ NoMemory → StopsRunOf s e out new
   stops_after last body new e goes no_memory =
-      let (happened, done, comes) = goes (config_of s) (opening (config_of s)) running in
+      let (happened, done, comes) = goes (config_of s) (floored_opening (config_of s)) running in
       inr (
         inl no_memory,
         record {
           text = run_text s happened;
           is = run_done happened done comes.faults;
           broken =
-              breaks_off out new (head_text s.sizes s.tables ++ lines_from (config_of s) (opening (config_of s)) happened)
+              breaks_off out new (head_text s.sizes s.tables ++ lines_from (config_of s) (floored_opening (config_of s)) happened)
               (final_lines 0 (last_rows s happened)) (
                 body,
                 prints_more (so_far [] out) (so_far piece out) (so_far body new) (head_text s.sizes s.tables) _ head_printed
@@ -153,20 +155,21 @@ module _ (s : Script) (config : Config) (first : ClusterParts) (piece : List ℕ
   -- what happened, where the last piece is that of its last lines
   ended : (last : ClusterParts) (body text : List ℕ) (new : Option (List ℕ))
       → GoesOn AreDone first last (so_far piece out) (so_far body new) → (count : ℕ) → count ≡ config.managers → (finals : List (List Row))
-      → ((other : Config) (world : World) → IsRunning other world last → count ≡ other.managers
-      → finals ≡ each_manager (table_at other world) count)
+      → ((other : Config) (world : FlooredWorld) → IsRunning other world last → count ≡ other.managers
+      → finals ≡ each_manager (table_at other world.machine) count)
       → text ≡ body ++ final_lines 0 finals
       → (happened : List Occurrence) × IsRunOf s (run_text s happened) × Prints (so_far [] out) (so_far text new) (run_text s happened)
   ended last body text new goes count count_is finals shown text_is =
-      let (happened, done, comes) = goes (config_of s) (opening (config_of s)) running in
+      let (happened, done, comes) = goes (config_of s) (floored_opening (config_of s)) running in
       let managers : count ≡ s.sizes.rms = count_is ∙ ap (λ (c : Config). c.managers) begun.is in
       let are_last : finals ≡ last_rows s happened =
       shown (config_of s) (last_world (config_of s) happened) comes.running managers
-      ∙ ap (each_manager (table_at (config_of s) (last_world (config_of s) happened))) managers in (
+      ∙ ap (each_manager (table_at (config_of s) (last_world (config_of s) happened).machine)) managers in (
         happened,
         run_done happened done comes.faults,
         prints_more (so_far [] out) (so_far body new) (so_far text new)
-            (head_text s.sizes s.tables ++ lines_from (config_of s) (opening (config_of s)) happened) (final_lines 0 (last_rows s happened))
+            (head_text s.sizes s.tables ++ lines_from (config_of s) (floored_opening (config_of s)) happened)
+            (final_lines 0 (last_rows s happened))
             (prints_more (so_far [] out) (so_far piece out) (so_far body new) (head_text s.sizes s.tables) _ head_printed comes.prints)
             (prints_later body text (final_lines 0 (last_rows s happened)) new
             (text_is ∙ ap (λ (rows : List (List Row)). body ++ final_lines 0 rows) are_last)),
@@ -205,8 +208,8 @@ module _ (s : Script) (config : Config) (first : ClusterParts) (piece : List ℕ
   pub ends_by : {X : Type 0} (last : ClusterParts) (body text : List ℕ) (middle new : Option (List ℕ))
       → GoesOn AreDone first last (so_far piece out) (so_far body middle) → (count : ℕ) → count ≡ config.managers
       → (finals : List (List Row))
-      → ((other : Config) (world : World) → IsRunning other world last → count ≡ other.managers
-      → finals ≡ each_manager (table_at other world) count)
+      → ((other : Config) (world : FlooredWorld) → IsRunning other world last → count ≡ other.managers
+      → finals ≡ each_manager (table_at other world.machine) count)
       → text ≡ body ++ final_lines 0 finals → (result : Result X Refusal) → WritesText middle new result text → Ends result new
   ends_by last body text middle new goes count count_is finals shown text_is result wrote =
       let (happened, is, printed) = ended last body text middle goes count count_is finals shown text_is in
@@ -214,9 +217,10 @@ module _ (s : Script) (config : Config) (first : ClusterParts) (piece : List ℕ
 
   -- after all commands the cluster stands for some world
   pub runs_on : (last : ClusterParts) (body : List ℕ) (new : Option (List ℕ))
-      → GoesOn AreDone first last (so_far piece out) (so_far body new) → (world : World) × IsRunning config world last
+      → GoesOn AreDone first last (so_far piece out) (so_far body new) → (world : FlooredWorld) × IsRunning config world last
   runs_on last body new goes =
-      let so = goes config (opening config) begun.running in (world_after config (opening config) so.0, so.2.running)
+      let so = goes config (floored_opening config) begun.running in
+      (floored_world_after config (floored_opening config) so.0, so.2.running)
 
   -- what a call ensures that ends so
   pub ends_ok : {X : Type 0} (result : Result X Refusal) (new : Option (List ℕ)) → Ends result new → OnOk result (PrintsRunOf s out new)

@@ -1,4 +1,4 @@
--- One event of a run, and one after another: the cluster stands for the world of the machine.
+-- One event of a run, and one after another: the cluster stands for a world with floors.
 use Rattle.std.proofs.Common.{◌≡◌, ◌∙◌, ℕ, List, [], ◌∷◌, ◌++◌, length, Option, Some, None, refl, sym, ap, subst}
 use Rattle.std.proofs.Common.{◌+◌, ◌-◌, ◌<◌, ◌≤◌, inl, inr, arith}
 use Rattle.std.proofs.lemmas.List.{append-nil, length_push}
@@ -10,7 +10,8 @@ use Rattle.cluster_run.proofs.Happening.{after_more, memory_more, next_more, don
 use Rattle.cluster_run.proofs.Printing.{prints_later, prints_more, prints_no_more, prints_none, short_after, short_before}
 use Rattle.protocol.specs.Effects.{Config}
 use Rattle.protocol.specs.Nodes.{Fault, NoFault, NoMemoryBefore, NoMemoryAt, RecordFails}
-use Rattle.protocol.specs.Worlds.{World, Occurrence, step_of, world_after, world_step}
+use Rattle.protocol.specs.Worlds.{Occurrence}
+use Rattle.floors.specs.Worlds.{FlooredWorld, floored_step_of, floored_world_after, step_with_floors}
 use Rattle.network.specs.Networks.{least_unmarked}
 use Rattle.cluster.specs.Clusters.{BefallsIn, ClusterParts, ClusterStands, Occurs}
 use Rattle.cluster.proofs.Following.{no_failure, still_firm}
@@ -19,41 +20,44 @@ use Rattle.net_script.specs.declared.values.Command.TheVariants.{Do}
 use Rattle.net_script.specs.Traces.{step_text}
 
 -- a run goes on from where it has come to
-pub comes_on : (config : Config) (world : World) (old new : ClusterParts) (first before after : Printed) (happened more : List Occurrence)
-    → ComesTo config world old first before happened → ComesTo config (world_after config world happened) new before after more
+pub comes_on : (config : Config) (world : FlooredWorld) (old new : ClusterParts) (first before after : Printed)
+    (happened more : List Occurrence)
+    → ComesTo config world old first before happened → ComesTo config (floored_world_after config world happened) new before after more
     → ComesTo config world new first after (happened ++ more)
 comes_on config world old new first before after happened more so then = record {
-  running = subst (λ (w : World). IsRunning config w new) (sym (after_more config world happened more)) then.running;
+  running = subst (λ (w : FlooredWorld). IsRunning config w new) (sym (after_more config world happened more)) then.running;
   faults = memory_more happened more so.faults then.faults;
   prints =
       subst (Prints first after) (sym (lines_more config world happened more))
-      (prints_more first before after (lines_from config world happened) (lines_from config (world_after config world happened) more)
+      (prints_more first before after (lines_from config world happened)
+      (lines_from config (floored_world_after config world happened) more)
       so.prints then.prints);
 }
 
 -- nothing has happened yet
-pub none_yet : (config : Config) (world : World) (cluster : ClusterParts) (at : Printed) → IsRunning config world cluster
+pub none_yet : (config : Config) (world : FlooredWorld) (cluster : ClusterParts) (at : Printed) → IsRunning config world cluster
     → ComesTo config world cluster at at []
 none_yet config world cluster at running = record { running = running; faults = tt; prints = prints_none at }
 
 -- what was printed on the way to more events falls short of these, and of others after them
-pub short_on : (config : Config) (world : World) (first before : Printed) (out : Option (List ℕ)) (happened more others : List Occurrence)
+pub short_on : (config : Config) (world : FlooredWorld) (first before : Printed) (out : Option (List ℕ))
+    (happened more others : List Occurrence)
     → Prints first before (lines_from config world happened)
-    → PrintsShort before out (lines_from config (world_after config world happened) more)
+    → PrintsShort before out (lines_from config (floored_world_after config world happened) more)
     → PrintsShort first out (lines_from config world ((happened ++ more) ++ others))
 short_on config world first before out happened more others so then =
-    let at = world_after config world happened in
+    let at = floored_world_after config world happened in
     let both : PrintsShort first out (lines_from config world (happened ++ more)) =
     subst (PrintsShort first out) (sym (lines_more config world happened more))
     (short_after first before out (lines_from config world happened) (lines_from config at more) so then) in
     subst (PrintsShort first out) (sym (lines_more config world (happened ++ more) others))
     (short_before first out (lines_from config world (happened ++ more))
-    (lines_from config (world_after config world (happened ++ more)) others) both)
+    (lines_from config (floored_world_after config world (happened ++ more)) others) both)
 
 -- ---- an event
 
 -- a fault that is true to what happened is none, or want of memory
-of_memory : (config : Config) (world : World) (event : Event) (old new : ClusterParts) (fault : Fault) → IsRunning config world old
+of_memory : (config : Config) (world : FlooredWorld) (event : Event) (old new : ClusterParts) (fault : Fault) → IsRunning config world old
     → BefallsIn config world event old.nodes new.nodes fault → IsOfMemory fault
 of_memory config world event old new NoFault running befalls = tt
 of_memory config world event old new NoMemoryBefore running befalls = tt
@@ -62,10 +66,10 @@ of_memory config world event old new (RecordFails whole) running befalls =
     no_failure config world old new running.stands running.firm whole event befalls
 
 -- what came of an event of the machine, and its lines, of which some text was printed
-pub happened_one : (config : Config) (world : World) (old new : ClusterParts) (event : Event) (step : Step)
+pub happened_one : (config : Config) (world : FlooredWorld) (old new : ClusterParts) (event : Event) (step : Step)
     → IsRunning config world old → Occurs event old new step
     → (happened : List Occurrence) × IsDoneBy config world (Do event) happened × AreOfMemory happened
-    × IsRunning config (world_after config world happened) new × (lines_from config world happened ≡ step_text step)
+    × IsRunning config (floored_world_after config world happened) new × (lines_from config world happened ≡ step_text step)
 happened_one config world old new event step running occurs =
     let o = occurs config world running.stands in
     let one : Occurrence = record { event = event; fault = o.fault } in (
@@ -73,7 +77,7 @@ happened_one config world old new event step running occurs =
       (o.fault, refl),
       (of_memory config world event old new o.fault running o.befalls, tt),
       record { stands = o.stands; firm = still_firm old new o.same running.firm },
-      append-nil (step_text (step_of world event (world_step config world event o.fault))) ∙ sym (ap step_text o.step_is),
+      append-nil (step_text (floored_step_of world event (step_with_floors config world event o.fault))) ∙ sym (ap step_text o.step_is),
     )
 
 -- an event whose lines joined the piece, of which a beginning was printed then
@@ -118,23 +122,24 @@ happens_unprinted old new event step before after out_old out_new occurs text sh
 -- ---- a flow
 
 -- so many deliveries so far
-pub record HasFlown (config : Config) (world : World) (count : ℕ) (cluster : ClusterParts) (before after : Printed) : Type 0 where
+pub record HasFlown (config : Config) (world : FlooredWorld) (count : ℕ) (cluster : ClusterParts) (before after : Printed) : Type 0 where
   pub happened : List Occurrence
   pub next : AreNext config world happened
   pub made : length happened ≡ count
   pub comes : ComesTo config world cluster before after happened
 
-pub flown_none : (config : Config) (world : World) (cluster : ClusterParts) (out : Printed) → IsRunning config world cluster
+pub flown_none : (config : Config) (world : FlooredWorld) (cluster : ClusterParts) (out : Printed) → IsRunning config world cluster
     → HasFlown config world 0 cluster out out
 flown_none config world cluster out running =
     record { happened = []; next = tt; made = refl; comes = none_yet config world cluster out running }
 
-pub flown_more : (config : Config) (world : World) (count number : ℕ) (old new : ClusterParts) (first before after : Printed)
-    → HasFlown config world count old first before → ((c : Config) (w : World) → ClusterStands c old w → Some number ≡ least_unmarked w.net)
+pub flown_more : (config : Config) (world : FlooredWorld) (count number : ℕ) (old new : ClusterParts) (first before after : Printed)
+    → HasFlown config world count old first before
+    → ((c : Config) (w : FlooredWorld) → ClusterStands c old w → Some number ≡ least_unmarked w.machine.net)
     → GoesOn (λ c w. IsDoneBy c w (Do (Deliver number))) old new before after
     → HasFlown config world (count + 1) new first after
 flown_more config world count number old new first before after so least goes =
-    let at = world_after config world so.happened in
+    let at = floored_world_after config world so.happened in
     let more = goes config at so.comes.running in
     let is : IsNext at (record { event = Deliver number; fault = (more.1).0 }) =
     (number, sym (least config at so.comes.running.stands), refl) in
@@ -150,7 +155,7 @@ flown_more config world count number old new first before after so least goes =
     }
 
 -- it has made all, or none is left
-pub flow_all : (config : Config) (world : World) (count : ℕ) (cluster : ClusterParts) (before after : Printed)
+pub flow_all : (config : Config) (world : FlooredWorld) (count : ℕ) (cluster : ClusterParts) (before after : Printed)
     → HasFlown config world count cluster before after
     → (happened : List Occurrence) × IsFlow config world count happened × ComesTo config world cluster before after happened
 flow_all config world count cluster before after so = (
@@ -159,29 +164,29 @@ flow_all config world count cluster before after so = (
   so.comes,
 )
 
-pub flow_stops : (config : Config) (world : World) (count made : ℕ) (cluster : ClusterParts) (before after : Printed) → made ≤ count
+pub flow_stops : (config : Config) (world : FlooredWorld) (count made : ℕ) (cluster : ClusterParts) (before after : Printed) → made ≤ count
     → HasFlown config world made cluster before after
-    → ((c : Config) (w : World) → ClusterStands c cluster w → None ≡ least_unmarked w.net)
+    → ((c : Config) (w : FlooredWorld) → ClusterStands c cluster w → None ≡ least_unmarked w.machine.net)
     → (happened : List Occurrence) × IsFlow config world count happened × ComesTo config world cluster before after happened
 flow_stops config world count made cluster before after few so none = (
   so.happened,
   record {
     next = so.next;
     at_most = let is = so.made in omega (arith, is, few);
-    ends = inr (sym (none config (world_after config world so.happened) so.comes.running.stands));
+    ends = inr (sym (none config (floored_world_after config world so.happened) so.comes.running.stands));
   },
   so.comes,
 )
 
 -- a delivery whose lines aren't printed whole
-pub flow_short : (config : Config) (world : World) (count made number : ℕ) (cluster : ClusterParts) (first before : Printed)
+pub flow_short : (config : Config) (world : FlooredWorld) (count made number : ℕ) (cluster : ClusterParts) (first before : Printed)
     (out : Option (List ℕ)) → made < count → HasFlown config world made cluster first before
-    → ((c : Config) (w : World) → ClusterStands c cluster w → Some number ≡ least_unmarked w.net)
+    → ((c : Config) (w : FlooredWorld) → ClusterStands c cluster w → Some number ≡ least_unmarked w.machine.net)
     → FallsShort (λ c w. IsDoneBy c w (Do (Deliver number))) cluster before out
     → (happened : List Occurrence) × IsFlow config world count happened × AreOfMemory happened
     × PrintsShort first out (lines_from config world happened)
 flow_short config world count made number cluster first before out few so least short =
-    let at = world_after config world so.happened in
+    let at = floored_world_after config world so.happened in
     let (one, (fault, is), memory, printed) = short config at so.comes.running in
     let next : IsNext at (record { event = Deliver number; fault = fault }) =
     (number, sym (least config at so.comes.running.stands), refl) in
@@ -192,7 +197,7 @@ flow_short config world count made number cluster first before out few so least 
     let long : length some ≡ made + 1 =
     ap (λ (os : List Occurrence). length (so.happened ++ os)) is
     ∙ length_push so.happened (record { event = Deliver number; fault = fault }) ∙ ap (λ (n : ℕ). n + 1) so.made in
-    let (others, flow, unmet) = flow_on config (world_after config world some) (count - (made + 1)) in (
+    let (others, flow, unmet) = flow_on config (floored_world_after config world some) (count - (made + 1)) in (
       some ++ others,
       flow_after config world count (made + 1) some others are long (omega (arith, few)) flow,
       memory_more some others (memory_more so.happened one so.comes.faults memory) unmet,
@@ -207,7 +212,7 @@ pub commands_more : (commands : List Command) (command : Command) (old middle ne
     → GoesOn (λ config world. AreDoneBy config world (commands ++ command ∷ [])) old new first after
 commands_more commands command old middle new first before after so then config world running =
     let done = so config world running in
-    let more = then config (world_after config world done.0) done.2.running in (
+    let more = then config (floored_world_after config world done.0) done.2.running in (
       done.0 ++ more.0,
       done_more config world commands done.0 command more.0 done.1 more.1,
       comes_on config world middle new first before after done.0 more.0 done.2 more.2,
@@ -220,8 +225,8 @@ pub commands_short : (commands : List Command) (command : Command) (others : Lis
     → FallsShort (λ config world. AreDoneBy config world ((commands ++ command ∷ []) ++ others)) old first out
 commands_short commands command others old middle first before out so short config world running =
     let (done, are, comes) = so config world running in
-    let (one, is, memory, printed) = short config (world_after config world done) comes.running in
-    let (rest, then, unmet) = commands_on config (world_after config world (done ++ one)) others in (
+    let (one, is, memory, printed) = short config (floored_world_after config world done) comes.running in
+    let (rest, then, unmet) = commands_on config (floored_world_after config world (done ++ one)) others in (
       (done ++ one) ++ rest,
       done_on config world (commands ++ command ∷ []) others (done ++ one) rest (done_more config world commands done command one are is)
           then,

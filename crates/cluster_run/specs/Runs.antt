@@ -1,13 +1,13 @@
--- What a script's run is: what its commands make happen, as the machine takes it, the text of that, and what looking back over it says.
+-- What a script's run is: what its commands make happen, where each node has a floor, the text of that, and what looking back over it says.
 use Rattle.std.specs.Prelude.{◌≡◌, ◌⊎◌, ℕ, Bool, false, true, List, Option}
 use Rattle.std.specs.Io.KnownBytes.{Appends, Keeps}
 use Rattle.xid.specs.declared.refusals.Refusal.{Refusal}
 use Rattle.xid.specs.declared.refusals.Refusal.TheVariants.{NoMemory, BadConfig}
 use Rattle.cluster_run.specs.Happenings.{AreOfMemory, AreDoneBy}
 use Rattle.cluster_run.specs.Headlines.{AreSafe}
-use Rattle.cluster_run.specs.Traces.{config_of, IsTraceOf, LooksBack, IsSerial}
-use Rattle.protocol.specs.Worlds.{Occurrence, opening}
-use Rattle.history.specs.Lines.{history}
+use Rattle.cluster_run.specs.Traces.{config_of, run_history, IsTraceOf, LooksBack, IsSerial}
+use Rattle.protocol.specs.Worlds.{Occurrence}
+use Rattle.floors.specs.Runs.{floored_opening}
 use Rattle.node_core.specs.Configs.{are_sizes}
 use Rattle.net_script.specs.declared.values.Sizes.{Sizes}
 use Rattle.net_script.specs.declared.values.Script.{Script}
@@ -26,13 +26,13 @@ is_in_limits s = are_sizes s.acceptors s.leaders s.rms
 pub record IsRunOf (script : Script) (output : List ℕ) : Type 0 where
   pub limits : is_in_limits script.sizes ≡ true
   pub happened : List Occurrence
-  pub done : AreDoneBy (config_of script) (opening (config_of script)) script.commands happened
+  pub done : AreDoneBy (config_of script) (floored_opening (config_of script)) script.commands happened
   pub faults : AreOfMemory happened
   pub trace : Trace
   pub is_trace : IsTraceOf script happened trace
   pub text : output ≡ trace_text trace
   pub looks_back : LooksBack (config_of script) happened trace
-  pub safe : AreSafe (history (config_of script) happened)
+  pub safe : AreSafe (run_history (config_of script) happened)
   pub serial : IsSerial (config_of script) happened trace
 
 -- the output is the run of the script that the bytes spell

@@ -1,6 +1,7 @@
--- The trace of a script as a run of the machine, and what it says when one looks back over it. What happens in the cluster, and which
--- nodes it happens to, is left open here.
-use Rattle.std.specs.Prelude.{◌≡◌, ◌≢◌, true, ℕ, ◌==◌, if◌then◌else◌, false, List, [], ◌∷◌, ◌++◌, map, filter_map, Some}
+-- The trace of a script as a run in which each node has a floor, and what it says when one looks back over it. What happens in the cluster,
+-- and which nodes it happens to, is left open here.
+use Rattle.std.specs.Prelude.{◌≡◌, ◌≢◌, true, ℕ, ◌==◌, if◌then◌else◌, false, List, [], ◌∷◌, ◌++◌, map, filter_map, reverse}
+use Rattle.std.specs.Prelude.{Some}
 use Rattle.std.specs.List.{list_any, range_with_len}
 use Rattle.xid.specs.Names.{XidParts}
 use Rattle.xid.specs.Transactions.{TxParts, xid_at}
@@ -9,9 +10,10 @@ use Rattle.protocol.specs.Branches.{get_answer}
 use Rattle.protocol.specs.Effects.{Config}
 use Rattle.protocol.specs.Holds.{IsIn}
 use Rattle.protocol.specs.Nodes.{first_rows}
-use Rattle.protocol.specs.Worlds.{World, Occurrence, opening, trace, world_after, table_at}
-use Rattle.history.specs.Lines.{history}
-use Rattle.history.specs.Answers.{AreAnswered}
+use Rattle.protocol.specs.Worlds.{Occurrence, table_at}
+use Rattle.floors.specs.Worlds.{FlooredWorld, floored_trace, floored_world_after}
+use Rattle.floors.specs.Runs.{floored_opening}
+use Rattle.cluster_run.specs.Answers.{AreAnsweredHere}
 use Rattle.history.specs.Calls.{call_done}
 use Rattle.history.specs.LookingBack.{is_start, done_at}
 use Rattle.history.specs.SerialOrder.{first_commits, committed_at, stands_first, voted_branch, is_conflict, serial_table, serial_read}
@@ -45,23 +47,28 @@ config_for sizes tables = record {
 abbrev pub config_of : Script → Config
 config_of s = config_for s.sizes s.tables
 
--- the cluster's world after all that happened in it
-abbrev pub last_world : Config → List Occurrence → World
-last_world config happened = world_after config (opening config) happened
+-- the steps of what happened in a cluster, each node of which has a floor, the newest first
+abbrev pub run_history : Config → List Occurrence → List Step
+run_history config happened = reverse (floored_trace config (floored_opening config) happened)
 
--- the trace of a script in whose cluster this happened: its steps are the machine's, and its last tables are those of the world then
+-- the cluster's world after all that happened in it
+abbrev pub last_world : Config → List Occurrence → FlooredWorld
+last_world config happened = floored_world_after config (floored_opening config) happened
+
+-- the trace of a script in whose cluster this happened: its steps are those that these events make in a world with floors, and its last
+-- tables are those of the world then
 pub record IsTraceOf (s : Script) (happened : List Occurrence) (t : Trace) : Type 0 where
   pub sizes : t.sizes ≡ s.sizes
   pub tables : t.tables ≡ s.tables
-  pub entries : t.entries ≡ map Entry.Step (trace (config_of s) (opening (config_of s)) happened)
-  pub finals : t.finals ≡ each_manager (table_at (config_of s) (last_world (config_of s) happened)) s.sizes.rms
+  pub entries : t.entries ≡ map Entry.Step (floored_trace (config_of s) (floored_opening (config_of s)) happened)
+  pub finals : t.finals ≡ each_manager (table_at (config_of s) (last_world (config_of s) happened).machine) s.sizes.rms
 
--- a trace of which, looking back over it, each answer of a resource manager is one that the steps before it leave to it, and each last
--- table is the one that all steps make
+-- a trace of which, looking back over it, each answer of a resource manager is one that the steps before it leave to it, of a name below
+-- its floor that of what is over, and each last table is the one that all steps make
 pub record LooksBack (config : Config) (happened : List Occurrence) (t : Trace) : Type 0 where
-  pub answers : AreAnswered config (history config happened)
+  pub answers : AreAnsweredHere config (run_history config happened)
   pub tables_are : t.finals
-      ≡ each_manager (λ rm. table_back (first_rows config rm) rm (history config happened)) config.managers
+      ≡ each_manager (λ rm. table_back (first_rows config rm) rm (run_history config happened)) config.managers
 
 -- what a get was answered in the branch of a transaction that some manager has committed, since that branch was last started, is what
 -- the serial run shows there: the table after all transactions before its own, with the branch's own earlier writes over it
@@ -83,8 +90,8 @@ AreConflictsOrdered all =
 -- one serial order, that of the first commits anywhere, explains each last table of a trace, and each read of a committed transaction;
 -- and each manager keeps to it where two transactions conflict
 pub record IsSerial (config : Config) (happened : List Occurrence) (t : Trace) : Type 0 where
-  pub conflicts : AreConflictsOrdered (history config happened)
+  pub conflicts : AreConflictsOrdered (run_history config happened)
   pub tables_are : t.finals
-      ≡ each_manager (λ rm. let all = history config happened in serial_table (first_rows config rm) rm all (committed_at rm all))
+      ≡ each_manager (λ rm. let all = run_history config happened in serial_table (first_rows config rm) rm all (committed_at rm all))
       config.managers
-  pub reads : AreReadsSerial config (history config happened)
+  pub reads : AreReadsSerial config (run_history config happened)

@@ -4,7 +4,9 @@ ghost use Rattle.std.specs.Prelude.{◌≡◌, ℕ, ◌≤◌, IfOk, IfErr, Matc
 ghost use Rattle.std.specs.List.{All};
 ghost use Rattle.xid.specs.declared.refusals.Refusal.TheVariants.{NoMemory, BadConfig};
 ghost use Rattle.protocol.specs.Effects.{Config as ConfigParts};
-ghost use Rattle.protocol.specs.Worlds.{World, opening, table_at};
+ghost use Rattle.protocol.specs.Worlds.{table_at};
+ghost use Rattle.floors.specs.Worlds.{FlooredWorld};
+ghost use Rattle.floors.specs.Runs.{floored_opening};
 ghost use Rattle.net_script.specs.Items.{IsContents};
 ghost use Rattle.cluster_run.specs.Running.{IsRunning};
 ghost use Rattle.cluster_run.specs.Runs.{is_in_limits, RefusesSizes};
@@ -104,7 +106,7 @@ fn copied(alloc: Global, rows: &[Row]) -> Result<Vec<Row>, Refusal>
 
 /// The cluster at first, over records in memory: nothing has happened in it. Refused: `NoMemory` alone.
 pub fn opened(alloc: Global, config: &Config) -> Result<Cluster<MemRecord>, Refusal>
-    ensures ok { IfOk result (IsRunning config.now (opening config.now)) }
+    ensures ok { IfOk result (IsRunning config.now (floored_opening config.now)) }
     ensures err { IfErr result (λ e. e ≡ NoMemory) }
 {
     let sizes = config.sizes();
@@ -124,8 +126,8 @@ pub fn final_rows(
     cluster: &mut Cluster<MemRecord>,
     count: u8,
 ) -> Result<Vec<Sequence<Row>>, Refusal>
-    ensures { (config : ConfigParts) (world : World) → IsRunning config world cluster.old → count ≡ config.managers
-        → MatchResult result (λ finals. finals.items ≡ each_manager (table_at config world) count) (λ e. e ≡ NoMemory) }
+    ensures { (config : ConfigParts) (world : FlooredWorld) → IsRunning config world cluster.old → count ≡ config.managers
+        → MatchResult result (λ finals. finals.items ≡ each_manager (table_at config world.machine) count) (λ e. e ≡ NoMemory) }
 {
     let mut finals = Vec::new(alloc);
     for rm in 0..count {

@@ -2,14 +2,16 @@
 
 ghost use Rattle.std.specs.Prelude.{[], IfErr, OnOk};
 ghost use Rattle.net_script.specs.declared.values.Command.TheVariants.{Do};
-ghost use Rattle.net_script.specs.Traces.{step_text};
+ghost use Rattle.std.specs.List.{flat_map};
+ghost use Rattle.net_script.specs.Events.{event_words};
+ghost use Rattle.net_script.specs.Traces.{notice_line, outcome_text};
 ghost use Rattle.net_script.specs.Writing.{IsFileRefusal, Puts};
-ghost use Rattle.cluster.specs.Clusters.{sent_after};
+ghost use Rattle.cluster.specs.Clusters.{sent_after, told_after};
 ghost use Rattle.cluster_run.specs.Happenings.{IsFlow, IsDoneBy, AreDoneBy};
 ghost use Rattle.cluster_run.specs.Running.{GoesOn, Prints, PrintsShort, StopsIn, so_far};
 
 use cluster::{Answered, Cluster};
-use net_script::{Command, WrittenTx, write_answered, write_datagram, write_text};
+use net_script::{Command, WrittenTx, write_answered, write_datagram, write_notice, write_text};
 use protocol::Event;
 use stable_record::MemRecord;
 use std::alloc::Global;
@@ -33,7 +35,8 @@ fn print_long<W: Write>(piece: &mut Vec<u8>, out: &mut W) -> Result<(), Refusal>
     Ok(())
 }
 
-/// The lines of an event that happened last, when its cluster had so many datagrams, join the piece. Refused: `NoMemory` alone.
+/// The lines of an event that happened last join the piece, but for those of the notices that it told; its cluster had so many datagrams
+/// before. Refused: `NoMemory` alone.
 fn write_lines(
     cluster: &Cluster<MemRecord>,
     before: u32,
@@ -42,12 +45,8 @@ fn write_lines(
     written: &mut WrittenTx,
     piece: &mut Vec<u8>,
 ) -> Result<(), Refusal>
-    ensures { Puts piece.old.items piece.new.items result (step_text (record {
-      event = event.now;
-      answer = answered.entry.now.answer;
-      now = answered.entry.now.now;
-      sent = sent_after before cluster.now.network;
-    })) }
+    ensures { Puts piece.old.items piece.new.items result (outcome_text (event_words event.now) answered.entry.now.answer
+        answered.entry.now.now (sent_after before cluster.now.network)) }
 {
     write_answered(piece, written, event, &answered.answer, &answered.now)?;
     for place in before..cluster.datagram_count() {
@@ -60,6 +59,20 @@ fn write_lines(
             kept.receiver,
             kept.bytes,
         )?;
+    }
+    Ok(())
+}
+
+/// The lines of the notices that were told last join the piece, when their cluster had so many before. Refused: `NoMemory` alone.
+fn write_notices(
+    cluster: &Cluster<MemRecord>,
+    before: u32,
+    piece: &mut Vec<u8>,
+) -> Result<(), Refusal>
+    ensures { Puts piece.old.items piece.new.items result (flat_map notice_line (told_after before cluster.now.notices)) }
+{
+    for place in before..cluster.notice_count() {
+        write_notice(piece, &cluster.notice(place))?;
     }
     Ok(())
 }
@@ -79,9 +92,11 @@ fn happen<W: Write>(
     ensures err { IfErr result (StopsIn (λ config world. IsDoneBy config world (Do event.now)) cluster.old
         (so_far piece.old.items (W.contents out.old)) (W.contents out.new)) }
 {
-    let before = cluster.datagram_count();
+    let sent_before = cluster.datagram_count();
+    let told_before = cluster.notice_count();
     cluster.step_into(event, answered);
-    write_lines(cluster, before, event, answered, written, piece)?;
+    write_lines(cluster, sent_before, event, answered, written, piece)?;
+    write_notices(cluster, told_before, piece)?;
     print_long(piece, out)
 }
 

@@ -12,11 +12,11 @@ use std::alloc::Global;
 use std::io::Write;
 use xid::Refusal;
 
-/// Runs a script over a whole cluster, whose nodes have records in memory, and gives the text of its trace: that of the machine for what
-/// the commands make happen, where no record fails of itself. What looking back gives of that trace, the specification of transaction
-/// commit at each of its steps, and one serial order stand in the same clause. Refused: `BadScript` with the first line at fault; else
-/// `BadConfig` for sizes outside the limits (1, 3, 5 or 7 acceptors, 1 to 4 leaders, 1 to 64 resource managers); and `NoMemory`, where the
-/// run as a whole is out of memory. Where it is refused nothing is given.
+/// Runs a script over a whole cluster, whose nodes have records in memory, and gives the text of its trace: that of what the commands make
+/// happen where each node has a floor and no record fails of itself. What looking back gives of that trace, the specification of
+/// transaction commit at each of its steps, and one serial order stand in the same clause. Refused: `BadScript` with the first line at
+/// fault; else `BadConfig` for sizes outside the limits (1, 3, 5 or 7 acceptors, 1 to 4 leaders, 1 to 64 resource managers); and
+/// `NoMemory`, where the run as a whole is out of memory. Where it is refused nothing is given.
 pub fn run(alloc: Global, script: &[u8]) -> Result<Vec<u8>, Refusal>
     ensures ok { IfOk result (λ output. IsRun script.now output.items) }
     ensures err { IfErr result (RefusesRun script.now) }

@@ -7,3 +7,5 @@ pub mod Rising
 pub mod Seen
 pub mod Taking
 pub mod Least
+pub mod Asked
+pub mod Replacing

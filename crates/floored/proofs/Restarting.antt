@@ -128,11 +128,11 @@ sound_restart known learned old new result sound fronting restarts =
 abbrev pub stopped_node : NodeParts → Held → NodeParts
 stopped_node old held = record old { held = held; role = None }
 
-read_nature : (old new : Held) (error : RecordError) → HasRead {T = Unit {0}} old new (Err error) → new.nature ≡ old.nature
+pub read_nature : (old new : Held) (error : RecordError) → HasRead {T = Unit {0}} old new (Err error) → new.nature ≡ old.nature
 read_nature old new errors.Fault h = h.nature
 read_nature old new errors.Memory h = ap (λ (r : Held). r.nature) h
 
-read_bytes : (old new : Held) (error : RecordError) → HasRead {T = Unit {0}} old new (Err error) → new.bytes ≡ old.bytes
+pub read_bytes : (old new : Held) (error : RecordError) → HasRead {T = Unit {0}} old new (Err error) → new.bytes ≡ old.bytes
 read_bytes old new errors.Fault h = by h.bytes
   where
     by : (new.bytes ≡ old.bytes) ⊎ (new.bytes ≡ old.bytes) → new.bytes ≡ old.bytes
@@ -140,7 +140,7 @@ read_bytes old new errors.Fault h = by h.bytes
     by (inr same) = same
 read_bytes old new errors.Memory h = ap (λ (r : Held). r.bytes) h
 
-read_armed : (old new : Held) (error : RecordError) → HasRead {T = Unit {0}} old new (Err error) → new.armed ≡ old.armed
+pub read_armed : (old new : Held) (error : RecordError) → HasRead {T = Unit {0}} old new (Err error) → new.armed ≡ old.armed
 read_armed old new errors.Fault h = h.armed
 read_armed old new errors.Memory h = ap (λ (r : Held). r.armed) h
 

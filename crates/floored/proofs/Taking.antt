@@ -19,7 +19,7 @@ use Rattle.floored.proofs.Standing.{floor_found, floor_same, fronting_found, sou
 
 -- ---- a node with nothing in memory stands above its floor for itself
 
-stands_itself : (config : Config) (who : NodeId) (floor : Option Place) (node : NodeState) → all_play config who [] node.facts ≡ true
+pub stands_itself : (config : Config) (who : NodeId) (floor : Option Place) (node : NodeState) → all_play config who [] node.facts ≡ true
     → node.memory ≡ empty_memory → StandsAbove config config who floor node node
 stands_itself config who floor node play empty = record {
   alike = alike_itself who config;

@@ -2,16 +2,19 @@
 use Rattle.std.specs.Prelude.{◌≡◌, ◌⊎◌, ℕ, Bool, true, false, ◌&&◌, if◌then◌else◌, is_some, not, List, [], ◌∷◌, ◌++◌, map, Option}
 use Rattle.std.specs.Prelude.{Some, None, Result}
 use Rattle.std.specs.Prelude.{Ok, Err}
-use Rattle.xid.specs.Places.{Place, is_lower}
+use Rattle.xid.specs.Places.{Place, is_below, is_lower}
+use Rattle.xid.specs.Transactions.{TxParts}
 use Rattle.xid.specs.declared.refusals.Refusal.{Refusal}
 use Rattle.stable_record.specs.declared.fact.FactKind.{FactKind as Fact}
 use Rattle.stable_record.specs.declared.record.RecordError.{RecordError}
 use Rattle.stable_record.specs.Behind.{behind, BeginsWith, IsFronting}
 use Rattle.stable_record.specs.Floors.{front_of, floor_of}
-use Rattle.stable_record.specs.Held.{Held, refusal_of}
+use Rattle.stable_record.specs.Held.{HasRead, Held, refusal_of}
 use Rattle.protocol.specs.declared.answers.Answer.TheVariants.{Refused}
 use Rattle.protocol.specs.declared.nodes.NodeId.{NodeId}
 use Rattle.protocol.specs.declared.nodes.NodeId.TheVariants.{R}
+use Rattle.protocol.specs.declared.rows.Row.{Row}
+use Rattle.protocol.specs.declared.states.View.{View}
 use Rattle.protocol.specs.Effects.{Config}
 use Rattle.protocol.specs.Nodes.{NodeState, Input, Fault, NoFault, NoMemoryBefore, NoMemoryAt, RecordFails, Outcome, accepts_input}
 use Rattle.protocol.specs.Nodes.{compact_outcome, restart_outcome}
@@ -26,7 +29,9 @@ use Rattle.node_core.specs.Raising.{HasCountedFault, RaisesAs}
 use Rattle.node_core.specs.Sends.{sent}
 use Rattle.node_core.specs.Sparing.{is_free}
 use Rattle.node_core.specs.Storing.{output_of}
+use Rattle.node_core.specs.Viewing.{IsUnread, SaysTable, SaysView}
 use Rattle.floors.specs.Nodes.{Rise, floored_node_step, forgotten_answer, is_input_below, is_passed_over, kept_rise, on_least, on_raise}
+use Rattle.floors.specs.Nodes.{may_replace, on_replace}
 use Rattle.forgetting.specs.Above.{StandsAbove}
 
 -- a floor, and the node that sees what stands behind it in the record
@@ -170,6 +175,40 @@ pub record FlooredGroupsAs (config : Config) (m : NodeState) (inputs : List Inpu
   pub comes : FlooredGroups config old.node.who old.floor (record { state = m; held = old.node.held; role = old.node.role }) inputs new outs
       result
 
+-- ---- asked
+
+-- a view is what the machine's node with a floor answers: of what is below the floor a resource manager says that it is over
+abbrev pub SaysFlooredView : Config → NodeId → Option Place → List Fact → TxParts → Result View Refusal → Type 0
+SaysFlooredView config (R rm) floor facts tx result =
+    (is_below floor tx ≡ true → result ≡ Err Refusal.Forgotten) × (is_below floor tx ≡ false → SaysView config (R rm) facts tx result)
+SaysFlooredView config who floor facts tx result = SaysView config who facts tx result
+
+-- a node was asked where it stands in a transaction, or for its table: it stays what it is, and nothing has changed where it says so; else
+-- its record couldn't be read
+pub record FlooredSays {X : Type 0} (config : Config) (m : NodeState) (old new : FlooredParts) (Says : Type 0) (result : Result X Refusal)
+    : Type 0 where
+  pub floor_is : new.floor ≡ old.floor
+  pub same : IsSameNode old.node new.node
+  pub role_is : new.node.role ≡ old.node.role
+  pub stands : FlooredStands config new m
+  pub says : ((new ≡ old) × Says) ⊎ IsUnread old.node.held new.node.held old.node.role result
+
+-- its floor was learned; or, where it is down, the read of its record that was to tell it failed
+abbrev pub LearnsOwn : (old new : FlooredParts) → Result (Option Place) Refusal → Type 0
+LearnsOwn old new (Ok floor) = (floor ≡ old.floor) × (new ≡ old)
+LearnsOwn old new (Err refusal) =
+    (old.node.role ≡ None) × (new.floor ≡ old.floor) × (new.node ≡ record old.node { held = new.node.held })
+    × ((error : RecordError) × (refusal ≡ refusal_of error) × HasRead {T = Unit {0}} old.node.held new.node.held (Err error))
+
+-- asked where it stands in a transaction
+abbrev pub FlooredViews : Config → NodeState → (old new : FlooredParts) → TxParts → Result View Refusal → Type 0
+FlooredViews config m old new tx result =
+    FlooredSays config m old new (SaysFlooredView config old.node.who old.floor m.facts tx result) result
+
+-- asked for its table: the one that all facts give, also those that it has forgotten
+abbrev pub FlooredTables : Config → NodeState → (old new : FlooredParts) → Result (List Row) Refusal → Type 0
+FlooredTables config m old new result = FlooredSays config m old new (SaysTable config old.node.who m.facts result) result
+
 -- ---- restarted, made shorter, and raised
 
 -- a node restarted as the machine's does, over what stands behind its floor, which stays, under a fault that is true
@@ -234,3 +273,30 @@ pub record FlooredRaises (config : Config) (m : NodeState) (place : Place) (old 
   pub floor_is : new.floor ≡ (on_rise old.node.who old.floor m place fault).floor
   pub answer_is : restart_answer result ≡ (on_rise old.node.who old.floor m place fault).answer
   pub stands : FlooredStands config new (on_rise old.node.who old.floor m place fault).node
+
+-- ---- a blank node stands in for it
+
+-- asked whether a blank node with its floor at a place may stand in for it
+abbrev pub FlooredMayReplace : Config → NodeState → (old new : FlooredParts) → Place → Result Bool Refusal → Type 0
+FlooredMayReplace config m old new place result = FlooredSays config m old new (result ≡ Ok (may_replace old.floor m place)) result
+
+-- a fault of a replacement is true to what befell the record
+abbrev pub BefallsReplace : (old new : Held) → Fault → Type 0
+BefallsReplace old new NoFault = (new.faults ≡ old.faults) × (new.armed ≡ old.armed)
+BefallsReplace old new NoMemoryBefore = ⊥
+BefallsReplace old new NoMemoryAt = (new.faults ≡ old.faults) × (new.armed ≡ old.armed)
+BefallsReplace old new (RecordFails whole) = HasCountedFault old new
+
+-- a blank node with its floor at a place was to stand in for it, and what came of that comes of the machine's node, under a fault that is
+-- true
+pub record FlooredReplaces (config : Config) (m : NodeState) (place : Place) (old new : FlooredParts) (result : Result (Unit {0}) Refusal)
+    : Type 0 where
+  pub who_is : new.node.who ≡ old.node.who
+  pub sizes_are : new.node.sizes ≡ old.node.sizes
+  pub rows_are : new.node.rows ≡ old.node.rows
+  pub may_fail_is : new.node.held.nature.may_fail ≡ old.node.held.nature.may_fail
+  pub fault : Fault
+  pub befalls : BefallsReplace old.node.held new.node.held fault
+  pub floor_is : new.floor ≡ (on_replace config old.node.who old.floor m place fault).floor
+  pub answer_is : restart_answer result ≡ (on_replace config old.node.who old.floor m place fault).answer
+  pub stands : FlooredStands config new (on_replace config old.node.who old.floor m place fault).node

@@ -1,6 +1,9 @@
 //! A node with a floor.
 
-ghost use Rattle.std.specs.Prelude.{◌≡◌, ◌++◌, true, length, map, is_none, is_some, IfOk, IfErr, Some};
+ghost use Rattle.std.specs.Prelude.{◌≡◌, ◌++◌, ℕ, true, false, length, map, is_none, is_some, Err, IfOk, IfErr, Some};
+ghost use Rattle.xid.specs.Places.{is_below, is_lower};
+ghost use Rattle.xid.specs.declared.refusals.Refusal.TheVariants.{NoSuch};
+ghost use Rattle.protocol.specs.declared.nodes.NodeId.TheVariants.{R as Manager};
 ghost use Rattle.protocol.specs.Effects.{Config as ConfigParts};
 ghost use Rattle.protocol.specs.Nodes.{NodeState, accepts_input};
 ghost use Rattle.stable_record.specs.Behind.{behind};
@@ -8,19 +11,23 @@ ghost use Rattle.stable_record.specs.Floors.{front_of};
 ghost use Rattle.stable_record.specs.Held.{armed_with};
 ghost use Rattle.node_core.specs.Compacting.{CompactsAs};
 ghost use Rattle.node_core.specs.Groups.{GroupsAs};
+ghost use Rattle.node_core.specs.Listing.{ListsOpen};
 ghost use Rattle.node_core.specs.Nodes.{NodeStands, input_of};
 ghost use Rattle.node_core.specs.Opening.{RestartsAs};
-ghost use Rattle.floors.specs.Nodes.{is_input_below};
+ghost use Rattle.floors.specs.Nodes.{is_input_below, may_replace};
+ghost use Rattle.floors.specs.Worlds.{is_manager};
 ghost use Rattle.floored.specs.Nodes.{FlooredCompacts, FlooredGroupsAs, FlooredRaises, FlooredRestarts, FlooredStands, FlooredStepsAs};
-ghost use Rattle.floored.specs.Nodes.{IsFlooredOpened, IsFlooredUnopened, RaisesNode, are_above, is_over};
+ghost use Rattle.floored.specs.Nodes.{FlooredTables, FlooredViews, IsFlooredOpened, IsFlooredUnopened, LearnsOwn, RaisesNode, are_above};
+ghost use Rattle.floored.specs.Nodes.{FlooredMayReplace, FlooredReplaces};
+ghost use Rattle.floored.specs.Nodes.{is_over};
 
 use crate::below::{forgotten_answer, is_below};
 use node_core::{Config, Input, Node, Output, accepts_request};
-use protocol::NodeId;
+use protocol::{NodeId, Row, View};
 use stable_record::{Behind, Record, RecordError, Tear};
 use std::alloc::Global;
 use std::marker::Model;
-use xid::{Floor, Refusal};
+use xid::{Floor, Refusal, Sequence, Tx};
 
 /// A node over a record that may begin with a floor. It takes no part in what stands below that: a datagram is passed over, as if it had
 /// been lost, a request is refused (`Forgotten`), of a branch a start answers `DupId` and every other call `Nota`. Where its floor rises,
@@ -144,6 +151,7 @@ impl<R: Record> Floored<R> {
         ensures machine { (config : ConfigParts) (m : NodeState) → FlooredStands config self.old m
             → FlooredRaises config m floor.now self.old self.new result }
         ensures node { RaisesNode floor.now self.old self.new result }
+        ensures nature { self.new.node.held.nature.may_fail ≡ self.old.node.held.nature.may_fail }
     {
         if self.is_down() {
             return Err(Refusal::Down);
@@ -158,6 +166,112 @@ impl<R: Record> Floored<R> {
             }
             Err(refusal) => Err(refusal),
         }
+    }
+
+    /// Its floor, whether it is up or down; where it is down, its record may be read for it. Refused as that is.
+    fn own_floor(&mut self) -> Result<Option<Floor>, Refusal>
+        ensures { LearnsOwn self.old self.new result }
+    {
+        if !self.is_down() {
+            return Ok(self.floor);
+        }
+        self.node.learn_floor()
+    }
+
+    /// Whether a blank node with its floor at a place may stand in for it: the place isn't lower than its floor, and nothing is stored
+    /// about a name at or above it. Where it is down, its record is read. Refused as that is.
+    fn may_be_replaced(&mut self, floor: &Floor) -> Result<bool, Refusal>
+        ensures { is_manager self.old.node.who ≡ false → (config : ConfigParts) (m : NodeState) → FlooredStands config self.old m
+            → FlooredMayReplace config m self.old self.new floor.now result }
+    {
+        let own = self.own_floor()?;
+        if is_lower_than(floor, &own) {
+            return Ok(false);
+        }
+        self.node.is_unused_above(floor)
+    }
+
+    /// A blank acceptor or leader, with its floor at a place, stands in for this one, whose record is lost: it restarts, and forgets all
+    /// that was stored, which is about names below the place. It is up then, or as it was where it is refused for what it is or has stored:
+    /// it is a resource manager (`NoSuch`); the place is lower than its floor, or something is stored about a name at or above it
+    /// (`InUse`). The record failed (`RecordFault`), which holds what it held, or nothing behind the new floor; or `NoMemory`, and it holds
+    /// what it held: after these it is down.
+    ///
+    /// That the lost one never runs again is for its caller to see to.
+    pub fn stand_in(&mut self, floor: &Floor) -> Result<(), Refusal>
+        ensures manager { (rm : ℕ) → self.old.node.who ≡ Manager rm → (result ≡ Err NoSuch) × (self.new ≡ self.old) }
+        ensures other { is_manager self.old.node.who ≡ false → (config : ConfigParts) (m : NodeState) → FlooredStands config self.old m
+            → FlooredReplaces config m floor.now self.old self.new result }
+    {
+        match self.id() {
+            NodeId::A(_) | NodeId::L(_) => self.replace(floor),
+            NodeId::R(_) => Err(Refusal::NoSuch),
+        }
+    }
+
+    /// The same of an acceptor or a leader.
+    fn replace(&mut self, floor: &Floor) -> Result<(), Refusal>
+        ensures { is_manager self.old.node.who ≡ false → (config : ConfigParts) (m : NodeState) → FlooredStands config self.old m
+            → FlooredReplaces config m floor.now self.old self.new result }
+    {
+        match self.may_be_replaced(floor) {
+            Ok(true) => self.restart_above(floor),
+            Ok(false) => Err(Refusal::InUse),
+            Err(refusal) => Err(refusal),
+        }
+    }
+
+    /// It restarts, and its floor rises, where nothing is stored about a name at or above it.
+    fn restart_above(&mut self, floor: &Floor) -> Result<(), Refusal>
+        ensures { is_manager self.old.node.who ≡ false → (config : ConfigParts) (m : NodeState) → FlooredStands config self.old m
+            → may_replace self.old.floor m floor.now ≡ true → FlooredReplaces config m floor.now self.old self.new result }
+    {
+        match self.restart() {
+            Ok(()) => self.raise(floor),
+            Err(refusal) => Err(refusal),
+        }
+    }
+
+    /// Where the resource manager stands in a transaction, as by `Node::view`; of one that is below its floor it says that this is over
+    /// (`Forgotten`). Refused as that is.
+    pub fn view(&mut self, tx: &Tx) -> Result<View, Refusal>
+        ensures { (config : ConfigParts) (m : NodeState) → FlooredStands config self.old m
+            → FlooredViews config m self.old self.new tx.now result }
+    {
+        match self.id() {
+            NodeId::A(_) => Err(Refusal::NoSuch),
+            NodeId::L(_) => Err(Refusal::NoSuch),
+            NodeId::R(_) => self.view_above(tx),
+        }
+    }
+
+    /// The same of a resource manager.
+    fn view_above(&mut self, tx: &Tx) -> Result<View, Refusal>
+        ensures { (rm : ℕ) → self.old.node.who ≡ Manager rm → (config : ConfigParts) (m : NodeState) → FlooredStands config self.old m
+            → FlooredViews config m self.old self.new tx.now result }
+    {
+        let floor = self.own_floor()?;
+        if stands_below(&floor, tx) {
+            return Err(Refusal::Forgotten);
+        }
+        self.node.view(tx)
+    }
+
+    /// The rows of the resource manager's table, as by `Node::table`. Refused as that is.
+    pub fn table(&mut self) -> Result<Sequence<Row>, Refusal>
+        ensures { (config : ConfigParts) (m : NodeState) → FlooredStands config self.old m
+            → FlooredTables config m self.old self.new result }
+    {
+        self.node.table()
+    }
+
+    /// The transactions that the resource manager has prepared and not ended, as by `Node::open_transactions`; none of them is below its
+    /// floor. Refused as that is.
+    pub fn open_transactions(&self) -> Result<Sequence<Tx>, Refusal>
+        ensures { (config : ConfigParts) (m : NodeState) → NodeStands config self.now.node m
+            → ListsOpen self.now.node.who m.facts self.now.node.role result }
+    {
+        self.node.open_transactions()
     }
 
     /// Whether an input is below its floor, while it is up. Such a one belongs in no group: `step` answers it, and stores nothing.
@@ -217,6 +331,26 @@ impl<R: Record> Floored<R> {
             → GroupsAs config m (map input_of inputs.now) self.old.node self.new.node outs.new result }
     {
         self.node.step_all(inputs, outs)
+    }
+}
+
+/// Whether a transaction is below a floor; none is below none.
+fn stands_below(floor: &Option<Floor>, tx: &Tx) -> bool
+    ensures { result ≡ is_below floor.now tx.now }
+{
+    match floor {
+        Some(floor) => floor.is_above_tx(tx),
+        None => false,
+    }
+}
+
+/// Whether a place is lower than a floor; none is lower than none.
+fn is_lower_than(place: &Floor, floor: &Option<Floor>) -> bool
+    ensures { result ≡ is_lower (Some place.now) floor.now }
+{
+    match floor {
+        Some(floor) => floor.is_higher_than(&Some(*place)),
+        None => false,
     }
 }
 

@@ -62,6 +62,13 @@ impl ToldFloors {
         }
     }
 
+    /// Nothing was told any more.
+    pub fn forget(&mut self)
+        ensures { self.new ≡ replicate (length self.old) None }
+    {
+        self.floors.fill(None);
+    }
+
     /// The least that was told of all of them; none, where one of them told none.
     pub fn least(&self) -> Option<Floor>
         ensures least { result ≡ least_of self.now }

@@ -22,15 +22,15 @@ use Rattle.protocol.specs.Effects.{Config}
 use Rattle.protocol.specs.Facts.{Bound, view, is_prepared_view, branch_bound_by, bound_branches}
 use Rattle.protocol.specs.Managers.{Branch}
 use Rattle.protocol.specs.Nodes.{NodeState, new_node, Input, Asked, Received, ReceivedNoise, Fault, NoMemoryBefore}
-use Rattle.protocol.specs.Nodes.{node_step, restart_outcome, compact_outcome}
+use Rattle.protocol.specs.Nodes.{node_step, restart_outcome, compact_outcome, NoFault, NoMemoryAt, RecordFails}
 use Rattle.protocol.specs.Worlds.{World, StepResult, answer_result, if_found, datagram_at, with_mark, node_at, set_node}
 use Rattle.protocol.specs.Worlds.{outcome_result, at_node}
 use Rattle.protocol.proofs.Lists.{all_found, filter_keeps, filter_map_gives, IsIn-append, IsIn-map, IsIn-mapped}
 use Rattle.protocol.proofs.Manager.Views.{prepared_shows}
 use Rattle.xid.specs.Places.{Place, tx_place, is_lower, is_below, is_xid_below}
-use Rattle.floors.specs.Nodes.{Rise, floored_node_step, is_free_below, on_raise, on_least, may_replace}
+use Rattle.floors.specs.Nodes.{Rise, floor_after, floored_node_step, is_free_below, on_raise, on_least, may_replace, is_unread}
 use Rattle.floors.specs.Worlds.{FlooredWorld, FlooredEvent, FlooredResult, Notice, Machine, Raise, Hear, Replace, at_floored_node}
-use Rattle.floors.specs.Worlds.{is_manager}
+use Rattle.floors.specs.Worlds.{is_manager, is_put}
 use Rattle.floors.specs.Worlds.{machine_result, on_machine, with_entry, nothing_told, told_after, with_rise, notices_of, is_done}
 use Rattle.floors.specs.Worlds.{raise_result}
 use Rattle.floors.specs.Worlds.{raise_at, higher, told_with, least_told, hear_result, hear_at, replace_result, replace_at, floored_step}
@@ -133,6 +133,7 @@ module _ (config : Config) (world : FlooredWorld) (n : NodeId) (Q : NodeState �
         (λ node is. cond_both node.up _ _ (λ (r : StepResult). Keeps r.world)
         (λ up. put_keeps world.machine who node (compact_outcome node fault).node refl is (λ own. compacts node fault))
         (λ down. before))
+    event_keeps event fault = before
 
 -- ---- prepared branches
 
@@ -370,37 +371,53 @@ module _ (config : Config) (world : FlooredWorld) (above : IsAbove config world)
 
   -- ---- a node that is replaced
 
-  module _ (who : NodeId) (other : is_manager who ≡ false) (place : Place) (left : NodeState) where
+  module _ (who : NodeId) (other : is_manager who ≡ false) (left : NodeState) (floor : Option Place) (put : Bool)
+      (kept_there : put ≡ false → floor ≡ world.floor who) where
     abbrev replacing : Rise
-    replacing = record { node = left; floor = Some place; answer = Done }
+    replacing = record { node = left; floor = floor; answer = Done }
+
+    abbrev replaced_now : NodeId → Bool
+    replaced_now = if put then with_entry world.is_replaced who true else world.is_replaced
+
+    -- where it wasn't put there, its floor is what it was; where it was, nothing is said of it
+    own_least : (b : Bool) → put ≡ b → (if b then with_entry world.is_replaced who true else world.is_replaced) who ≡ false → (r : ℕ)
+        → r < config.managers → is_lower (world.floor (R r)) floor ≡ false
+    own_least true is kept r inside =
+        let put_in : with_entry world.is_replaced who true who ≡ true = entry_own world.is_replaced who true in
+        absurd (cc (put_in, kept))
+    own_least false is kept r inside =
+        subst (λ (f : Option Place). is_lower (world.floor (R r)) f ≡ false) (sym (kept_there is)) (above.least who other kept r inside)
+
+    other_kept : (b : Bool) (n : NodeId) → (n ≡ who → ⊥)
+        → (if b then with_entry world.is_replaced who true else world.is_replaced) n ≡ false → world.is_replaced n ≡ false
+    other_kept true n apart kept =
+        entry_by world.is_replaced who true (λ (b : Bool). b ≡ false → world.is_replaced n ≡ false) n (λ own. absurd (apart own))
+        (λ also e. e) kept
+    other_kept false n apart kept = kept
 
     pub replaced_above : IsAbove config (record (with_rise config world who replacing) {
       told = with_entry world.told who nothing_told;
-      is_replaced = with_entry world.is_replaced who true;
+      is_replaced = replaced_now;
     })
     replaced_above = record {
-      nodes = others_kept who other left (Some place);
+      nodes = others_kept who other left floor;
       least = λ n n_other kept r inside.
-          subst (λ (low : Option Place). is_lower low (with_entry world.floor who (Some place) n) ≡ false)
-          (sym (same_floor who other (Some place) r))
+          subst (λ (low : Option Place). is_lower low (with_entry world.floor who floor n) ≡ false) (sym (same_floor who other floor r))
           (elim (same_node n who) [
             | inl own ↦
-                let put_in : with_entry world.is_replaced who true n ≡ true =
-                ap (with_entry world.is_replaced who true) own ∙ entry_own world.is_replaced who true in
-                absurd (cc (put_in, kept))
+                subst (λ (f : Option Place). is_lower (world.floor (R r)) f ≡ false)
+                (sym (ap (with_entry world.floor who floor) own ∙ entry_own world.floor who floor))
+                (own_least put refl (subst (λ (k : NodeId). replaced_now k ≡ false) own kept) r inside)
             | inr apart ↦
-                entry_by world.floor who (Some place) (λ (f : Option Place). is_lower (world.floor (R r)) f ≡ false) n
-                (λ own. absurd (apart own))
-                (λ elsewhere. above.least n n_other
-                (entry_by world.is_replaced who true (λ (b : Bool). b ≡ false → world.is_replaced n ≡ false) n
-                (λ own. absurd (apart own)) (λ also e. e) kept) r inside)
+                entry_by world.floor who floor (λ (f : Option Place). is_lower (world.floor (R r)) f ≡ false) n
+                (λ own. absurd (apart own)) (λ elsewhere. above.least n n_other (other_kept put n apart kept) r inside)
           ]);
       noticed = λ one h.
-          subst (λ (f : Option Place). is_lower f (Some one.place) ≡ false) (sym (same_floor who other (Some place) one.manager))
+          subst (λ (f : Option Place). is_lower f (Some one.place) ≡ false) (sym (same_floor who other floor one.manager))
           (above.noticed one h);
       told = λ n r.
           subst (λ (low : Option Place). is_lower low (with_entry world.told who nothing_told n r) ≡ false)
-          (sym (same_floor who other (Some place) r))
+          (sym (same_floor who other floor r))
           (entry_by world.told who nothing_told (λ (t : ℕ → Option Place). is_lower (world.floor (R r)) (t r) ≡ false) n
           (λ own. not_below_none (world.floor (R r))) (λ apart. above.told n r));
     }
@@ -427,13 +444,34 @@ hear_keeps config world above notice among fault =
     (λ node is. cond_both node.up _ _ (λ (r : FlooredResult). IsAbove config r.world)
     (λ up. heard_above config world above notice among other node fault) (λ down. above)))
 
+unput_floor : (floor : Option Place) (place : Place) (fault : Fault) → is_put fault ≡ false → floor_after floor place fault ≡ floor
+unput_floor floor place NoMemoryAt none = refl
+unput_floor floor place (RecordFails false) none = refl
+unput_floor floor place (RecordFails true) none = absurd (cc (none))
+unput_floor floor place NoFault none = absurd (cc (none))
+unput_floor floor place NoMemoryBefore none = absurd (cc (none))
+
+-- what was told to a node is lost
+lost_above : (config : Config) (world : FlooredWorld) → IsAbove config world → (who : NodeId)
+    → IsAbove config (record world { told = with_entry world.told who nothing_told })
+lost_above config world above who = record {
+  nodes = above.nodes;
+  least = above.least;
+  noticed = above.noticed;
+  told = λ n r.
+      entry_by world.told who nothing_told (λ (t : ℕ → Option Place). is_lower (world.floor (R r)) (t r) ≡ false) n
+      (λ own. not_below_none (world.floor (R r))) (λ apart. above.told n r);
+}
+
 replace_keeps : (config : Config) (world : FlooredWorld) → IsAbove config world → (who : NodeId) (place : Place) (fault : Fault)
     → IsAbove config (replace_at config world who place fault).world
 replace_keeps config world above who place fault =
     cond_both (is_manager who) _ _ (λ (r : FlooredResult). IsAbove config r.world) (λ manager. above)
     (λ other. found_after world (IsAbove config) above (node_at config world.machine who) (replace_result config world who place fault)
     (λ node is. cond_both (may_replace (world.floor who) node place) _ _ (λ (r : FlooredResult). IsAbove config r.world)
-    (λ may. replaced_above config world above who other place (restart_outcome config who node fault).node) (λ used. above)))
+    (λ may. replaced_above config world above who other (restart_outcome config who node fault).node
+    (floor_after (world.floor who) place fault) (is_put fault) (unput_floor (world.floor who) place fault))
+    (λ used. cond_both (is_unread node fault) _ world (IsAbove config) (λ unread. lost_above config world above who) (λ told. above))))
 
 got_in : {X : Type 0} (xs : List X) (n : ℕ) (x : X) → slice_get xs n ≡ Some x → IsIn xs x
 got_in [] n x e = absurd (cc (e))

@@ -12,9 +12,10 @@ use Rattle.protocol.specs.Effects.{Config}
 use Rattle.protocol.specs.Nodes.{Fault, Asked}
 use Rattle.protocol.specs.TCommit.{IsCommitStep}
 use Rattle.protocol.specs.Worlds.{World, Occurrence, opening, datagram_at, world_step, world_after}
-use Rattle.floors.specs.Worlds.{FlooredWorld, FlooredEvent, Machine, Raise, Hear, Replace, floored_step}
+use Rattle.floors.specs.Worlds.{FlooredWorld, FlooredEvent, Machine, Raise, Hear, Replace, floored_step, floored_world_after}
+use Rattle.floors.specs.Worlds.{step_with_floors, with_floors}
 use Rattle.floors.specs.Runs.{IsFlooredReachable, Opening, After, passes_over, is_lost, does_raise, does_rise, is_put_in, receiver_of}
-use Rattle.floors.specs.Runs.{events_in_machine, with_fault, all_events}
+use Rattle.floors.specs.Runs.{events_from, events_in_machine, with_fault, all_events}
 use Rattle.floors.proofs.Steps.{in_machine}
 
 -- ---- runs
@@ -38,6 +39,25 @@ machine_run config _ (After world event fault reach) =
     let more = with_fault fault (events_in_machine config world event) in
     after_both config (opening config) (all_events config world reach) more
     ∙ ap (λ (w : World). world_after config w more) (machine_run config world reach) ∙ sym (in_machine config world event fault)
+
+-- so do those that come of events from a world on
+pub machine_after : (config : Config) (world : FlooredWorld) (events : List Occurrence)
+    → world_after config world.machine (events_from config world events) ≡ (floored_world_after config world events).machine
+machine_after config world [] = refl
+machine_after config world (first ∷ rest) =
+    let here = with_fault first.fault (events_in_machine config world (with_floors first.event)) in
+    let next = (step_with_floors config world first.event first.fault).world in
+    after_both config world.machine here (events_from config next rest)
+    ∙ ap (λ (w : World). world_after config w (events_from config next rest))
+    (sym (in_machine config world (with_floors first.event) first.fault))
+    ∙ machine_after config next rest
+
+pub floored_reachable : (config : Config) (world : FlooredWorld) → IsFlooredReachable config world → (events : List Occurrence)
+    → IsFlooredReachable config (floored_world_after config world events)
+floored_reachable config world reach [] = reach
+floored_reachable config world reach (first ∷ rest) =
+    floored_reachable config (step_with_floors config world first.event first.fault).world
+    (After world (with_floors first.event) first.fault reach) rest
 
 -- ---- one step
 

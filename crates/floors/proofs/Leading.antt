@@ -43,10 +43,10 @@ step_sends config who node input send h = elim (step_is config who node input No
 
 module _ (config : Config) (tx : TxParts) where
   -- the nodes are the same, and what was sent there, all of it on the transaction, was sent here too
-  record IsBeside (a b : World) : Type 0 where
-    nodes_are : a.nodes ≡ b.nodes
-    sent : AllAmong (mail a.net) (mail b.net)
-    on : (letter : Letter) → IsIn (mail a.net) letter → message_tx letter.message ≡ tx
+  pub record IsBeside (a b : World) : Type 0 where
+    pub nodes_are : a.nodes ≡ b.nodes
+    pub sent : AllAmong (mail a.net) (mail b.net)
+    pub on : (letter : Letter) → IsIn (mail a.net) letter → message_tx letter.message ≡ tx
 
   abbrev AreOn : List Outgoing → Type 0
   AreOn sends = (send : Outgoing) → IsIn sends send → message_tx send.message ≡ tx
@@ -117,7 +117,7 @@ module _ (config : Config) (tx : TxParts) where
           (λ send h. on (message_tx send.message) (step_sends config who node input send h)))
 
       -- the same input at a node, whose floor isn't above it
-      input_beside : IsBeside (at_node config a who input NoFault).world (at_floored_node config b floor who input NoFault).world
+      pub input_beside : IsBeside (at_node config a who input NoFault).world (at_floored_node config b floor who input NoFault).world
       input_beside =
           subst (λ (o : Option NodeState). IsBeside (at_node config a who input NoFault).world
           (if_found b (λ node. outcome_result config b who node.facts (floored_node_step config who floor node input NoFault)) o).world)
@@ -253,7 +253,7 @@ module _ (config : Config) (tx : TxParts) where
     abbrev pub narrowed : World → World
     narrowed world = record world { net = filter on_it world.net }
 
-    narrowed_beside : (world : World) → IsBeside (narrowed world) world
+    pub narrowed_beside : (world : World) → IsBeside (narrowed world) world
     narrowed_beside world = record {
       nodes_are = refl;
       sent = λ letter h.
@@ -272,16 +272,23 @@ module _ (config : Config) (tx : TxParts) where
         record { machine = world; reach = reach; nodes_are = refl; sent = (narrowed_beside world).sent }
 
     -- so a run of the machine on the transaction alone leads to the same with floors
+    pub leads_beside : (P : FlooredWorld → Type 0) (world : FlooredWorld) (Q : World → Type 0) (a : World) → IsBeside a world.machine
+        → ((after : World) (floored : FlooredWorld) → after.nodes ≡ floored.machine.nodes → floored.floor ≡ world.floor
+        → Q after → P floored)
+        → ((who : NodeId) → part who ≡ true → is_below (world.floor who) tx ≡ false)
+        → Leads config part tx Q a → LeadsFloored config part tx P world
+    leads_beside P world Q a beside makes above run =
+        let all = all_floored run.events a world beside above run.at in
+        record {
+          events = all.events;
+          at = all.at;
+          holds = makes (world_after config a (without_fault run.events)) (floored_after config world all.events) all.nodes_are all.floors
+              run.holds;
+        }
+
     pub leads_floored : (P : FlooredWorld → Type 0) (world : FlooredWorld) (Q : World → Type 0)
         → ((after : World) (floored : FlooredWorld) → after.nodes ≡ floored.machine.nodes → floored.floor ≡ world.floor
         → Q after → P floored)
         → ((who : NodeId) → part who ≡ true → is_below (world.floor who) tx ≡ false)
         → Leads config part tx Q (narrowed world.machine) → LeadsFloored config part tx P world
-    leads_floored P world Q makes above run =
-        let all = all_floored run.events (narrowed world.machine) world (narrowed_beside world.machine) above run.at in
-        record {
-          events = all.events;
-          at = all.at;
-          holds = makes (world_after config (narrowed world.machine) (without_fault run.events)) (floored_after config world all.events)
-              all.nodes_are all.floors run.holds;
-        }
+    leads_floored P world Q = leads_beside P world Q (narrowed world.machine) (narrowed_beside world.machine)

@@ -1,8 +1,14 @@
 -- What is higher, lower and least of floors.
-use Rattle.std.proofs.Common.{◌≡◌, inl, inr, false, List, [], ◌∷◌, Option, sym, subst}
+use Rattle.std.proofs.Common.{◌≡◌, ◌∙◌, inl, inr, ℕ, false, List, [], ◌∷◌, Option, Some, None, refl, sym, ap, subst}
 use Rattle.std.proofs.lemmas.Bool.{cond_both}
+use Rattle.std.proofs.lemmas.Cmp.{nat_cmp_total, on_total, ranked, then_total}
+use Rattle.std.proofs.lemmas.Map.Text.{is_eq-slice_cmp}
+use Rattle.std.specs.Cmp.Lexicographic.{bytes_decides, on_texts, slice_cmp}
+use Rattle.std.specs.Ordering.{is_eq, is_lt, nat_cmp, ordering_reverse, ordering_then}
+use Rattle.std.specs.declared.cmp.Ordering.{Ordering}
+use Rattle.std.specs.declared.cmp.Ordering.TheVariants.{Less, Equal, Greater}
 use Rattle.ballot.specs.Greatest.{IsIn}
-use Rattle.xid.specs.Places.{Place, is_lower}
+use Rattle.xid.specs.Places.{Place, is_lower, place_cmp}
 use Rattle.xid.proofs.Places.{not_back, not_lower, not_lower_self}
 use Rattle.floors.specs.Worlds.{higher, lower, least_of}
 
@@ -29,3 +35,35 @@ least_is (first ∷ second ∷ rest) x (inl e) =
 least_is (first ∷ second ∷ rest) x (inr h) =
     not_lower (lower first (least_of (second ∷ rest))) (least_of (second ∷ rest)) x (lower_second first (least_of (second ∷ rest)))
     (least_is (second ∷ rest) x h)
+
+-- ---- neither is lower
+
+equal_by : (r s : Ordering) → ordering_then r s ≡ Equal → (r ≡ Equal) × (s ≡ Equal)
+equal_by Equal s e = (refl, e)
+equal_by Less s e = absurd (cc (e))
+equal_by Greater s e = absurd (cc (e))
+
+number_equal : (x y : ℕ) → nat_cmp x y ≡ Equal → x ≡ y
+number_equal x y e = ranked x y Equal (sym e)
+
+text_equal : (xs ys : List ℕ) → slice_cmp nat_cmp xs ys ≡ Equal → xs ≡ ys
+text_equal xs ys e = (bytes_decides xs ys).0 (sym (is_eq-slice_cmp xs ys) ∙ ap is_eq e)
+
+place_equal : (a b : Place) → place_cmp a b ≡ Equal → a ≡ b
+place_equal a b e =
+    let parts = equal_by (nat_cmp a.format b.format) (slice_cmp nat_cmp a.gtrid b.gtrid) e in
+    λ k. record { format = number_equal a.format b.format parts.0 k; gtrid = text_equal a.gtrid b.gtrid parts.1 k }
+
+-- a floor and a place of which neither is lower are the same
+pub same_floor : (floor : Option Place) (place : Place) → is_lower floor (Some place) ≡ false → is_lower (Some place) floor ≡ false
+    → floor ≡ Some place
+same_floor None place up back = absurd (cc (up))
+same_floor (Some own) place up back = by (place_cmp own place) refl up
+  where
+    by : (r : Ordering) → place_cmp own place ≡ r → is_lt r ≡ false → Some own ≡ Some place
+    by Less e up = absurd (cc (up))
+    by Equal e up = ap Some (place_equal own place e)
+    by Greater e up =
+        let total = then_total (on_total (λ (p : Place). p.format) nat_cmp_total) (on_texts (λ (p : Place). p.gtrid)) in
+        let lower : place_cmp place own ≡ Less = total.antisymm place own ∙ ap ordering_reverse e in
+        absurd (cc (lower, back))

@@ -11,7 +11,8 @@ use Rattle.protocol.specs.Worlds.{node_at}
 use Rattle.ballot.specs.Greatest.{IsIn}
 use Rattle.protocol.proofs.Lists.{IsIn-after, IsIn-map}
 use Rattle.xid.specs.Places.{Place, is_lower}
-use Rattle.floors.specs.Nodes.{Rise, kept_rise, floor_after, risen, on_raise, on_least, is_free_below, may_replace, is_unused_above}
+use Rattle.floors.specs.Nodes.{Rise, kept_rise, floor_after, risen, on_raise, on_least, is_free_below, may_replace, is_unread}
+use Rattle.floors.specs.Nodes.{is_unused_above}
 use Rattle.floors.specs.Worlds.{FlooredWorld, FlooredEvent, FlooredResult, Notice, Machine, Raise, Hear, Replace, with_entry}
 use Rattle.floors.specs.Worlds.{is_node, is_manager, raise_result, raise_at, floored_if_found, told_with, least_told, hear_result, hear_at}
 use Rattle.floors.specs.Worlds.{replace_result, replace_at, floored_step, floored_answer, told_nodes, notices_of, with_rise}
@@ -124,15 +125,24 @@ module _ (config : Config) (world : FlooredWorld) where
       (not_sunk (world.floor who) node (λ p. least ≡ Some p) _ (least_rise (world.floor who) node least fault)))
       (λ down. same_floors)))
 
+  -- what a fault leaves is the floor as it was, or the place
+  after_sinks : (floor : Option Place) (place : Place) (fault : Fault) → is_lower (Some place) floor ≡ false
+      → is_lower (floor_after floor place fault) floor ≡ false
+  after_sinks floor place NoFault high = high
+  after_sinks floor place NoMemoryBefore high = high
+  after_sinks floor place NoMemoryAt high = not_lower_self floor
+  after_sinks floor place (RecordFails true) high = high
+  after_sinks floor place (RecordFails false) high = not_lower_self floor
+
   replace_sinks : (who : NodeId) (place : Place) (fault : Fault) → NeverSinks (replace_at config world who place fault).world
   replace_sinks who place fault =
       cond_both (is_manager who) _ _ (λ (r : FlooredResult). NeverSinks r.world) (λ manager. same_floors)
       (λ other. found_after world NeverSinks same_floors (node_at config world.machine who) (replace_result config world who place fault)
       (λ node is. cond_both (may_replace (world.floor who) node place) _ _ (λ (r : FlooredResult). NeverSinks r.world)
-      (λ may. entry_sinks who (Some place)
-      (not-true (is_lower (Some place) (world.floor who))
-      (and_parts (not (is_lower (Some place) (world.floor who))) (is_unused_above place node) may).0))
-      (λ used. same_floors)))
+      (λ may. entry_sinks who (floor_after (world.floor who) place fault)
+      (after_sinks (world.floor who) place fault (not-true (is_lower (Some place) (world.floor who))
+      (and_parts (not (is_lower (Some place) (world.floor who))) (is_unused_above place node) may).0)))
+      (λ used. cond_both (is_unread node fault) _ world NeverSinks (λ unread. same_floors) (λ told. same_floors))))
 
   -- no event has a floor sink
   pub never_sinks : (event : FlooredEvent) (fault : Fault) → NeverSinks (floored_step config world event fault).world

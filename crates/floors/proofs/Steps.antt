@@ -5,8 +5,8 @@ use Rattle.std.proofs.Common.{append-nil}
 use Rattle.std.specs.Prelude.{slice_get}
 use Rattle.std.specs.Option.{option_map_or}
 use Rattle.std.specs.List.{flat_map}
-use Rattle.std.proofs.lemmas.Bool.{cond-true, cond-false}
-use Rattle.xid.specs.declared.refusals.Refusal.TheVariants.{NoSuch, Down, Busy, InUse}
+use Rattle.std.proofs.lemmas.Bool.{cond_both, cond-true, cond-false}
+use Rattle.xid.specs.declared.refusals.Refusal.TheVariants.{NoSuch, Down, Busy}
 use Rattle.safety.specs.Words.{NodeId, A, L, R, Outgoing, Done, Refused, Event, Ask, Deliver, Lose, Restart}
 use Rattle.safety.specs.Words.{Compact}
 use Rattle.protocol.specs.declared.requests.Request.{Request}
@@ -18,12 +18,13 @@ use Rattle.protocol.specs.Worlds.{World, Datagram, StepResult, answer_result, if
 use Rattle.protocol.specs.Worlds.{datagrams_of}
 use Rattle.protocol.specs.Worlds.{outcome_result, at_node, dispatch, world_step, world_after}
 use Rattle.xid.specs.Places.{Place, is_lower}
-use Rattle.floors.specs.Nodes.{floored_node_step, is_passed_over, forgotten_answer, is_free_below, risen, on_raise, on_least, kept_rise}
+use Rattle.floors.specs.Nodes.{floored_node_step, floor_after, is_passed_over, forgotten_answer, is_free_below, risen, on_raise, on_least}
+use Rattle.floors.specs.Nodes.{kept_rise}
 use Rattle.protocol.specs.Nodes.{ReceivedNoise, accepts_input}
-use Rattle.floors.specs.Nodes.{is_input_below, may_replace}
+use Rattle.floors.specs.Nodes.{is_input_below, may_replace, is_unread, not_put_in}
 use Rattle.floors.specs.Worlds.{FlooredWorld, FlooredEvent, FlooredResult, Notice, Machine, Raise, Hear, Replace, at_floored_node}
 use Rattle.floors.specs.Worlds.{machine_part, on_machine, machine_result, is_manager, raise_at, raise_result, told_with, least_told}
-use Rattle.floors.specs.Worlds.{hear_at, hear_result}
+use Rattle.floors.specs.Worlds.{hear_at, hear_result, is_put, with_told_lost}
 use Rattle.floors.specs.Worlds.{replace_at, replace_result, floored_answer, with_rise, with_entry, nothing_told, floored_if_found}
 use Rattle.floors.specs.Worlds.{floored_step}
 use Rattle.floors.specs.Runs.{passes_over, is_lost, machine_events, does_raise, does_rise, is_put_in, receiver_of, events_in_machine}
@@ -219,14 +220,15 @@ module _ (config : Config) (world : FlooredWorld) (fault : Fault) where
 
         by_test : (t : Bool)
             → (if t then floored_answer (record (with_rise config world who
-            (record { node = left.node; floor = Some place; answer = left.answer })) {
+            (record { node = left.node; floor = floor_after (world.floor who) place fault; answer = left.answer })) {
               told = with_entry world.told who nothing_told;
-              is_replaced = with_entry world.is_replaced who true;
+              is_replaced = if is_put fault then with_entry world.is_replaced who true else world.is_replaced;
             }) left.answer
-            else floored_answer world (Refused InUse)).world.machine
+            else floored_answer (with_told_lost world who (is_unread node fault)) (not_put_in config who node fault)).world.machine
             ≡ (if t then restarted who (Some node) else world.machine)
         by_test true = sym (silent_result config world.machine who node left (restart_silent config who node fault))
-        by_test false = refl
+        by_test false =
+            cond_both (is_unread node fault) _ world (λ (w : FlooredWorld). w.machine ≡ world.machine) (λ unread. refl) (λ told. refl)
 
     replaced_is : (replace_at config world who place fault).world.machine
         ≡ (if is_put_in config world who place then restarted who (node_at config world.machine who) else world.machine)

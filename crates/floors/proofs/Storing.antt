@@ -18,7 +18,8 @@ use Rattle.protocol.proofs.Lists.{IsIn-append}
 use Rattle.safety.proofs.World.Growth.{same_node}
 use Rattle.safety.proofs.World.NodePlaces.{node_there, node_elsewhere}
 use Rattle.xid.specs.Places.{Place, is_lower, is_below}
-use Rattle.floors.specs.Nodes.{floored_node_step, is_input_below, on_raise, on_least, may_replace, is_unused_above}
+use Rattle.floors.specs.Nodes.{floored_node_step, is_input_below, on_raise, on_least, may_replace, is_unread}
+use Rattle.floors.specs.Nodes.{is_unused_above}
 use Rattle.protocol.specs.Kept.{is_kept, kept_facts}
 use Rattle.floors.specs.Runs.{is_put_in}
 use Rattle.floors.specs.Worlds.{FlooredWorld, FlooredEvent, FlooredResult, Notice, Machine, Raise, Hear, Replace, is_manager}
@@ -163,7 +164,7 @@ module _ (config : Config) (world : FlooredWorld) (n : NodeId) where
       (λ other. found_after world StoresAbove nothing_new (node_at config world.machine who) (replace_result config world who place fault)
       (λ node is. cond_both (may_replace (world.floor who) node place) _ _ (λ (r : FlooredResult). StoresAbove r.world)
       (λ may. put_stores who node (restart_outcome config who node fault).node is (restart_keeps config who node fault))
-      (λ used. nothing_new)))
+      (λ used. cond_both (is_unread node fault) _ world StoresAbove (λ unread. nothing_new) (λ told. nothing_new))))
 
   -- whatever happens, what a node stores is about a name that isn't below its floor
   pub stores_above : (event : FlooredEvent) (fault : Fault) → StoresAbove (floored_step config world event fault).world

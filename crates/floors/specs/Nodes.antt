@@ -2,7 +2,7 @@
 use Rattle.std.specs.Prelude.{Bool, false, not, ◌&&◌, if◌then◌else◌, List, filter, Option, Some, None}
 use Rattle.std.specs.List.{list_all}
 use Rattle.xid.specs.declared.codes.XaCode.TheVariants.{DupId, Nota}
-use Rattle.xid.specs.declared.refusals.Refusal.TheVariants.{NoSuch, Down, Busy, Forgotten}
+use Rattle.xid.specs.declared.refusals.Refusal.TheVariants.{NoSuch, Down, Busy, Forgotten, InUse}
 use Rattle.wire.specs.Messages.{message_tx}
 use Rattle.stable_record.specs.Facts.{fact_tx}
 use Rattle.protocol.specs.declared.requests.Request.{Request}
@@ -11,7 +11,7 @@ use Rattle.safety.specs.Words.{Fact, NodeId, Start, Answer, Done, Code, Refused}
 use Rattle.protocol.specs.Effects.{Config}
 use Rattle.protocol.specs.Kept.{are_free_below}
 use Rattle.protocol.specs.Nodes.{NodeState, Input, Asked, Received, ReceivedNoise, Fault, NoMemoryAt, RecordFails, Outcome}
-use Rattle.protocol.specs.Nodes.{accepts_input, effect_of, answer_outcome, effect_outcome, down_answer, compact_outcome}
+use Rattle.protocol.specs.Nodes.{accepts_input, effect_of, answer_outcome, effect_outcome, down_answer, compact_outcome, restart_outcome}
 use Rattle.xid.specs.Places.{Place, is_lower, is_below, is_xid_below}
 
 -- ---- inputs
@@ -98,7 +98,32 @@ on_least floor node None fault = kept_rise floor node Done
 on_least floor node (Some place) fault =
     if is_lower floor (Some place) then risen floor node place fault else kept_rise floor node Done
 
+-- ---- a blank node stands in for a lost one
+
 -- whether a blank node with its floor at a place may stand in for a lost one: the place is no lower than the lost one's floor, and the
 -- lost one has stored nothing about any name at or above it
 abbrev pub may_replace : Option Place → NodeState → Place → Bool
 may_replace floor node place = not (is_lower (Some place) floor) && is_unused_above place node
+
+-- where it does, in the machine the lost one is restarted, with the facts of all names below its floor, with which it does nothing any
+-- more. Where the blank record couldn't be put there, the lost one's stands there, and its floor
+abbrev pub put_in : Config → NodeId → Option Place → NodeState → Place → Fault → Rise
+put_in config who floor node place fault =
+    let left = restart_outcome config who node fault in
+    record { node = left.node; floor = floor_after floor place fault; answer = left.answer }
+
+-- whether what a node has stored couldn't be told: it is down, and its record couldn't be read
+abbrev pub is_unread : NodeState → Fault → Bool
+is_unread node NoMemoryAt = not node.up
+is_unread node (RecordFails whole) = not node.up
+is_unread node fault = false
+
+-- why none stands in for it: something is stored, or that couldn't be told
+abbrev pub not_put_in : Config → NodeId → NodeState → Fault → Answer
+not_put_in config who node fault = if is_unread node fault then (restart_outcome config who node fault).answer else Refused InUse
+
+-- what comes of an acceptor or a leader for which a blank one was to stand in
+abbrev pub on_replace : Config → NodeId → Option Place → NodeState → Place → Fault → Rise
+on_replace config who floor node place fault =
+    if may_replace floor node place then put_in config who floor node place fault
+    else kept_rise floor node (not_put_in config who node fault)

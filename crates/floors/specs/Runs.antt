@@ -14,7 +14,7 @@ use Rattle.protocol.specs.Worlds.{World, Datagram, Occurrence, opening, datagram
 use Rattle.xid.specs.Places.{Place, is_lower, is_below}
 use Rattle.floors.specs.Nodes.{is_passed_over, is_free_below, may_replace}
 use Rattle.floors.specs.Worlds.{FlooredWorld, FlooredEvent, Notice, Machine, Raise, Hear, Replace, floored_step, is_manager, least_told}
-use Rattle.floors.specs.Worlds.{told_with, nothing_told}
+use Rattle.floors.specs.Worlds.{told_with, nothing_told, step_with_floors, with_floors}
 
 -- ---- worlds
 
@@ -89,6 +89,13 @@ events_in_machine config world (Replace who place) = if is_put_in config world w
 -- events that a fault meets
 abbrev pub with_fault : Fault → List Event → List Occurrence
 with_fault fault events = map (λ event. record { event = event; fault = fault }) events
+
+-- the events of the machine that come of events with floors from a world on
+abbrev pub events_from : Config → FlooredWorld → List Occurrence → List Occurrence
+events_from config world [] = []
+events_from config world (first ∷ rest) =
+    with_fault first.fault (events_in_machine config world (with_floors first.event))
+    ++ events_from config (step_with_floors config world first.event first.fault).world rest
 
 -- the events of the machine that came of a run with floors, one after another
 abbrev pub all_events : (config : Config) (world : FlooredWorld) → IsFlooredReachable config world → List Occurrence

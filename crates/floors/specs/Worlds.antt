@@ -1,14 +1,18 @@
 -- Worlds with floors, and one event in them.
-use Rattle.std.specs.Prelude.{ℕ, Bool, true, false, ◌==◌, if◌then◌else◌, List, [], ◌∷◌, ◌++◌, map, slice_get, Option, Some, None}
+use Rattle.std.specs.Prelude.{ℕ, suc, Bool, true, false, ◌==◌, if◌then◌else◌, List, [], ◌∷◌, ◌++◌, length, map, slice_get, Option, Some}
+use Rattle.std.specs.Prelude.{None}
 use Rattle.std.specs.List.{range_with_len}
-use Rattle.xid.specs.declared.refusals.Refusal.TheVariants.{NoMemory, NoSuch, Down, InUse}
+use Rattle.xid.specs.declared.refusals.Refusal.TheVariants.{NoMemory, NoSuch, Down}
 use Rattle.safety.specs.Words.{NodeId, A, L, R, Answer, Done, Refused, Event, Ask, Deliver, Restart, Change}
+use Rattle.protocol.specs.declared.events.Event.TheVariants as events
+use Rattle.protocol.specs.declared.events.Told.{Told}
+use Rattle.protocol.specs.declared.events.Step.{Step}
 use Rattle.protocol.specs.Effects.{Config}
-use Rattle.protocol.specs.Nodes.{NodeState, Input, Asked, Received, Fault, NoMemoryBefore, restart_outcome}
+use Rattle.protocol.specs.Nodes.{NodeState, Input, Asked, Received, Fault, NoMemoryBefore, NoMemoryAt, RecordFails}
 use Rattle.protocol.specs.Worlds.{World, Datagram, StepResult, if_found, datagram_at, with_mark, node_at, set_node}
-use Rattle.protocol.specs.Worlds.{outcome_result, dispatch}
+use Rattle.protocol.specs.Worlds.{Occurrence, outcome_result, dispatch, step_of}
 use Rattle.xid.specs.Places.{Place, is_lower}
-use Rattle.floors.specs.Nodes.{Rise, floored_node_step, on_raise, on_least, may_replace}
+use Rattle.floors.specs.Nodes.{Rise, floored_node_step, on_raise, on_least, may_replace, put_in, not_put_in, is_unread}
 
 -- ---- worlds
 
@@ -196,16 +200,26 @@ hear_at config world fault notice =
 
 -- ---- a blank node stands in for a lost one
 
--- in the machine it is restarted, with the facts of all names below its floor, with which it does nothing any more
+-- whether the blank record stands there after a fault: where its frame couldn't be put there, the lost one's does
+abbrev pub is_put : Fault → Bool
+is_put NoMemoryAt = false
+is_put (RecordFails whole) = whole
+is_put fault = true
+
+-- a world in which what was told to a node is lost, where it is
+abbrev pub with_told_lost : FlooredWorld → NodeId → Bool → FlooredWorld
+with_told_lost world who lost = if lost then record world { told = with_entry world.told who nothing_told } else world
+
+-- what was told to the lost one is lost, also where it couldn't be read whether it may be replaced; else nothing changes
 abbrev pub replace_result : Config → FlooredWorld → NodeId → Place → Fault → NodeState → FlooredResult
 replace_result config world who place fault node =
-    let left = restart_outcome config who node fault in
+    let rise = put_in config who (world.floor who) node place fault in
     if may_replace (world.floor who) node place
-    then floored_answer (record (with_rise config world who (record { node = left.node; floor = Some place; answer = left.answer })) {
+    then floored_answer (record (with_rise config world who rise) {
       told = with_entry world.told who nothing_told;
-      is_replaced = with_entry world.is_replaced who true;
-    }) left.answer
-    else floored_answer world (Refused InUse)
+      is_replaced = if is_put fault then with_entry world.is_replaced who true else world.is_replaced;
+    }) rise.answer
+    else floored_answer (with_told_lost world who (is_unread node fault)) (not_put_in config who node fault)
 
 -- an acceptor or a leader is replaced; a resource manager can't be, as its table is its own
 abbrev pub replace_at : Config → FlooredWorld → NodeId → Place → Fault → FlooredResult
@@ -227,3 +241,41 @@ floored_dispatch config world (Replace who place) fault = replace_at config worl
 abbrev pub floored_step : Config → FlooredWorld → FlooredEvent → Fault → FlooredResult
 floored_step config world event NoMemoryBefore = floored_answer world (Refused NoMemory)
 floored_step config world event fault = floored_dispatch config world event fault
+
+-- ---- events as a cluster meets them
+
+-- what an event is where nodes have floors; notices are numbered from 1 as they are told
+abbrev pub with_floors : Event → FlooredEvent
+with_floors (events.Raise rm place) = Raise (R rm) place
+with_floors (events.Hear (suc n)) = Hear n
+with_floors (events.Replace who place) = Replace who place
+with_floors event = Machine event
+
+-- what comes of an event where nodes have floors
+abbrev pub step_with_floors : Config → FlooredWorld → Event → Fault → FlooredResult
+step_with_floors config world event fault = floored_step config world (with_floors event) fault
+
+-- notices by their numbers, the first of which is given
+abbrev pub told_from : ℕ → List Notice → List Told
+told_from n [] = []
+told_from n (notice ∷ rest) =
+    record { number = n; manager = notice.manager; receiver = notice.receiver; floor = notice.place } ∷ told_from (suc n) rest
+
+-- the step of an event in a world with floors
+abbrev pub floored_step_of : FlooredWorld → Event → FlooredResult → Step
+floored_step_of world event result = record (step_of world.machine event (machine_part result)) {
+  told = told_from (suc (length world.notices)) result.noticed;
+}
+
+-- the steps of events, one after the other
+abbrev pub floored_trace : Config → FlooredWorld → List Occurrence → List Step
+floored_trace config world [] = []
+floored_trace config world (first ∷ rest) =
+    let result = step_with_floors config world first.event first.fault in
+    floored_step_of world first.event result ∷ floored_trace config result.world rest
+
+-- the world after events
+abbrev pub floored_world_after : Config → FlooredWorld → List Occurrence → FlooredWorld
+floored_world_after config world [] = world
+floored_world_after config world (first ∷ rest) =
+    floored_world_after config (step_with_floors config world first.event first.fault).world rest

@@ -95,7 +95,7 @@ module _ (floor : Option Place) (few all : List Fact) where
     call_same branches x action above = λ k.
         on_call rm (votes_on None false views.Working (says.spent_are x above k) (says.bound_are k)) (rows k) branches x action
 
-    manager_same : (memory : Memory) (input : Input) → is_input_below floor input ≡ false
+    pub manager_same : (memory : Memory) (input : Input) → is_input_below floor input ≡ false
         → effect_of from (R rm) few memory input ≡ effect_of config (R rm) all memory input
     manager_same memory (Asked (requests.Call x action)) above = ap (of_manager memory) (call_same memory.branches x action above)
     manager_same memory (Asked requests.Recover) above = λ k.

@@ -4,3 +4,4 @@ pub mod Effects
 pub mod Growing
 pub mod Coming
 pub mod Left
+pub mod Unused

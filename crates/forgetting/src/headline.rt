@@ -4,7 +4,8 @@ ghost use Rattle.safety.specs.Words.{NodeId, R};
 ghost use Rattle.protocol.specs.Effects.{Config};
 ghost use Rattle.protocol.specs.Nodes.{NodeState, Input, Fault, all_play, restart_outcome, compact_outcome};
 ghost use Rattle.xid.specs.Places.{Place, is_lower};
-ghost use Rattle.floors.specs.Nodes.{floored_node_step, is_free_below};
+ghost use Rattle.floors.specs.Nodes.{floored_node_step, is_free_below, is_unused_above};
+ghost use Rattle.floors.specs.Worlds.{is_manager};
 ghost use Rattle.resource_manager.specs.Left.{HasFirstRows, left_node, rows_of};
 ghost use Rattle.forgetting.specs.Above.{CameAlike, StandsAbove};
 ghost use Rattle.resource_manager.specs.Left.{AreAlike};
@@ -48,4 +49,12 @@ pub fn what_is_left_stands()
         → StandsAbove next config who (Some place) (left_node who (Some place) few) all }
     ensures free { (from config : Config) (rm : ℕ) (floor : Option Place) (place : Place) (few all : NodeState)
         → StandsAbove from config (R rm) floor few all → is_free_below place few ≡ is_free_below place all }
+{}
+
+/// Whether an acceptor or a leader has stored nothing about any name at or above a place that isn't lower than its floor, it knows by what
+/// it has.
+pub fn what_is_used_is_known()
+    ensures { (from config : Config) (who : NodeId) (floor : Option Place) (place : Place) (few all : NodeState)
+        → StandsAbove from config who floor few all → is_manager who ≡ false → is_lower (Some place) floor ≡ false
+        → is_unused_above place few ≡ is_unused_above place all }
 {}

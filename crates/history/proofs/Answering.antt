@@ -75,6 +75,7 @@ module _ (config : Config) (world : World) where
       (λ node. cond_both node.up (outcome_result config world who node.facts (compact_outcome node fault))
       (answer_result world (Refused Down)) (KeepsCount world)
       (λ up. set_count world.nodes (compact_outcome node fault).node (place config who)) (λ down. refl))
+  dispatch_count event fault = refl
 
   event_count : (event : Event) (fault : Fault) → KeepsCount world (world_step config world event fault)
   event_count event NoMemoryBefore = refl

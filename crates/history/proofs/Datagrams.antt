@@ -110,6 +110,7 @@ dispatch_sent config world (Compact who) fault = found_sent config world (node_a
     (answer_result world (Refused Down)) (SaysSent world)
     (λ up. outcome_sent config world who node (compact_outcome node fault))
     (λ down. none_sent config world (answer_result world (Refused Down)) refl refl))
+dispatch_sent config world event fault = none_sent config world (answer_result world (Refused NoSuch)) refl refl
 
 pub event_sent : (config : Config) (world : World) (event : Event) (fault : Fault) → SaysSent world (world_step config world event fault)
 event_sent config world event NoMemoryBefore = none_sent config world (world_step config world event NoMemoryBefore) refl refl

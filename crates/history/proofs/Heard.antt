@@ -318,6 +318,7 @@ module _ (config : Config) (world : World) (before : List Step) (l : ℕ) (run :
       (λ up. outcome_hears config world l [] who node (compact_outcome node fault) (Compact who) stands
       (λ same. compact_hears node fault) (λ apart. refl))
       (λ down. unheard config world l [] (Compact who) (answer_result world (Refused Down)) refl refl))
+  dispatch_hears event fault = unheard config world l [] event (answer_result world (Refused NoSuch)) refl refl
 
   event_hears : (event : Event) (fault : Fault)
       → Heard (came_at l before event) config world l event (world_step config world event fault)

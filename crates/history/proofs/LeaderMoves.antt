@@ -206,6 +206,7 @@ module _ (config : Config) (l : ℕ) (before : List Step) (k : ℕ) (now : Optio
     answer = e.answer;
     now = now;
     sent = numbered k (flat_map (datagrams_of config (L l)) e.sends);
+    told = [];
   }
 
   -- an effect leaves what its lines say

@@ -126,6 +126,7 @@ module _ (config : Config) (l : ℕ) (before : List Step) (k : ℕ) (now : Optio
     answer = answer;
     now = now;
     sent = numbered k (flat_map (datagrams_of config (L l)) sends);
+    told = [];
   }
 
   abbrev Leads : Outcome → Type 0
@@ -222,7 +223,7 @@ leader_node config world l = unwrap_or (node_at config world (L l)) new_node
 -- what an event does to leader l, the numbers of whose datagrams begin with k
 abbrev Moved : Config → World → ℕ → List Step → ℕ → Event → StepResult → Type 0
 Moved config world l before k event result = IsLeaderMove config l before (leader_node config world l) (leader_node config result.world l)
-    (record { event = event; answer = result.answer; now = result.now; sent = numbered k result.sent })
+    (record { event = event; answer = result.answer; now = result.now; sent = numbered k result.sent; told = [] })
 
 module _ (config : Config) (world : World) (l : ℕ) (before : List Step) (k : ℕ) (some : 0 < config.acceptors) where
   refused : (event : Event) (e : Refusal) → Moved config world l before k event (answer_result world (Refused e))
@@ -280,6 +281,7 @@ module _ (config : Config) (world : World) (l : ℕ) (before : List Step) (k : �
         answer = left.answer;
         now = change_of n node.facts left.node.facts;
         sent = numbered k (flat_map (datagrams_of config n) left.sends);
+        told = [];
       }
 
   found_moved : {X : Type 0} (o : Option X) (f : X → StepResult) (event : Event)
@@ -393,6 +395,7 @@ module _ (config : Config) (world : World) (l : ℕ) (before : List Step) (k : �
       (record { restart = λ answer. refl; met = λ answer. refl; taken = λ answer. refl }))
       (λ other. record { restart = λ answer. refl; met = λ answer. refl; taken = λ answer. refl }))
       (λ down. refused config world l before k some (Compact who) Down))
+  dispatch_moved event fault = refused config world l before k some event NoSuch
 
   event_moved : (event : Event) (fault : Fault) → Moved config world l before k event (world_step config world event fault)
   event_moved event NoMemoryBefore = refused config world l before k some event NoMemory

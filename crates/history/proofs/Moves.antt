@@ -603,6 +603,7 @@ module _ (config : Config) (world : World) (rm : ℕ) where
       (λ up. outcome_moved config world rm who node (compact_outcome node fault) (Compact who) stands
       (λ same. compact_moves config rm node who fault) (λ apart. record { calls = λ x a. refl; restart = λ a. refl }))
       (λ down. refused config world rm (Compact who) Down))
+  dispatch_moved event fault = refused config world rm event NoSuch
 
   -- every event
   pub event_moved : (event : Event) (fault : Fault) → Moved config world rm event (world_step config world event fault)

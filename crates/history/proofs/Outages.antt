@@ -371,6 +371,7 @@ module _ (config : Config) (world : World) (before : List Step) (rm : ℕ) (run 
       (λ up. outcome_turned config world rm who node (compact_outcome node fault) (Compact who) stands
       (λ same. compact_turns config rm node (Compact who) (λ answer. refl) fault) (λ apart. refl))
       (λ down. refused config world rm (is_manager rm who) (Compact who) Down refl))
+  dispatch_turned event fault = refused config world rm false event NoSuch refl
 
   event_turned : (event : Event) (fault : Fault)
       → Turned (is_event_at rm before event) config world rm event (world_step config world event fault)

@@ -31,11 +31,11 @@ first = row 0x6b 0x30 ∷ []
 
 -- an event and its answer
 abbrev said : Event → Answer → Step
-said event answer = record { event = event; answer = answer; now = None; sent = [] }
+said event answer = record { event = event; answer = answer; now = None; sent = []; told = [] }
 
 -- a delivery that changes a view at r0
 abbrev moved : ℕ → TxParts → View → Step
-moved n tx view = record { event = Deliver n; answer = Done; now = Some (record { rm = 0; tx = tx; view = view }); sent = [] }
+moved n tx view = record { event = Deliver n; answer = Done; now = Some (record { rm = 0; tx = tx; view = view }); sent = []; told = [] }
 
 -- up to the get, oldest first
 abbrev begun : List Step
@@ -111,7 +111,13 @@ same_table = refl
 
 -- a delivery that changes a view at a manager
 abbrev moved_at : ℕ → TxParts → View → Step
-moved_at rm tx view = record { event = Deliver 1; answer = Done; now = Some (record { rm = rm; tx = tx; view = view }); sent = [] }
+moved_at rm tx view = record {
+  event = Deliver 1;
+  answer = Done;
+  now = Some (record { rm = rm; tx = tx; view = view });
+  sent = [];
+  told = [];
+}
 
 -- 1:76/1=61, and its branch
 abbrev alone : TxParts

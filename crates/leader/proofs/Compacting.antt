@@ -186,7 +186,7 @@ no_less before (fact ∷ more) tx =
     (omega (arith, later, one))
 
 -- a ballot of a transaction that has begun is above 0
-some_ballot : (config : Config) (number : ℕ) (before more : List Fact) (tx : TxParts) → all_play config (L number) before more ≡ true
+pub some_ballot : (config : Config) (number : ℕ) (before more : List Fact) (tx : TxParts) → all_play config (L number) before more ≡ true
     → list_any (λ fact. tx_eq tx (fact_tx fact)) more ≡ true → 0 < last_ballot (before ++ more) tx
 some_ballot config number before [] tx play there = absurd (true≢false (sym there))
 some_ballot config number before (fact ∷ more) tx play there =
@@ -223,7 +223,7 @@ some_ballot config number before (fact ∷ more) tx play there =
     by false e later = goes_on (later (sym (ap (λ t. t || list_any (λ f. tx_eq tx (fact_tx f)) more) e) ∙ there))
 
 -- of a transaction that hasn't begun there is none
-no_ballot : (before more : List Fact) (tx : TxParts) → list_any (λ fact. tx_eq tx (fact_tx fact)) more ≡ false
+pub no_ballot : (before more : List Fact) (tx : TxParts) → list_any (λ fact. tx_eq tx (fact_tx fact)) more ≡ false
     → last_ballot (before ++ more) tx ≡ last_ballot before tx
 no_ballot before [] tx none = λ k. last_ballot (append-nil before k) tx
 no_ballot before (fact ∷ more) tx none =

@@ -1,6 +1,6 @@
 ghost use Rattle.std.specs.Prelude.{◌≡◌, ◌<◌, ◌≤◌, true, false, not, if◌then◌else◌, [], ◌∷◌, ◌++◌, length, map, filter, slice_get, Some};
 ghost use Rattle.std.specs.Prelude.{IfOk, OnOk, IfErr, OnErr};
-ghost use Rattle.std.specs.List.{IsDistinct, slice_index_or};
+ghost use Rattle.std.specs.List.{IsDistinct, list_all, slice_index_or};
 ghost use Rattle.xid.specs.Limits.{most_acceptors, most_branches};
 ghost use Rattle.xid.specs.declared.refusals.Refusal.TheVariants.{NoMemory};
 ghost use Rattle.xid.specs.Places.{is_below};
@@ -321,10 +321,14 @@ impl Courses {
     pub fn begun_view(&self, i: usize) -> Option<SpelledTx<'_>>
         ensures { result ≡ slice_get self.now.begun i }
     {
-        match self.begun.get(i) {
-            Some(place) => self.transactions.view(place),
-            None => None,
-        }
+        self.transactions.view_at(&self.begun, i)
+    }
+
+    /// Whether each of those that begin is below a floor. It takes no memory.
+    pub fn are_below(&self, floor: &Floor) -> bool
+        ensures { result ≡ list_all (is_below (Some floor.now)) self.now.begun }
+    {
+        self.transactions.are_below(&self.begun, floor)
     }
 
     /// The greatest stored ballot of a transaction, 0 where there is none: it is likely to be the one at a place among those that begin.
@@ -415,7 +419,7 @@ impl Courses {
         // no two of them are the same
         let _ = transactions.len();
         for i in 0..begun.len() {
-            let Some(tx) = view_at(transactions, begun, i) else {
+            let Some(tx) = transactions.view_at(begun, i) else {
                 unreachable!();
             };
             if tx.is_below(floor) {
@@ -444,16 +448,5 @@ impl Courses {
         left.put_above(&transactions, rows, floor)?;
         left.begin_above(&transactions, &begun, floor)?;
         Ok(left)
-    }
-}
-
-/// The transaction at a place of an order, over its spelled bytes, where there is one.
-fn view_at<'a>(transactions: &'a Transactions, begun: &Order, i: usize) -> Option<SpelledTx<'a>>
-    requires { AreInside (length transactions.now) begun.now.numbers }
-    ensures { result ≡ slice_get (at_places transactions.now begun.now.numbers) i }
-{
-    match begun.get(i) {
-        Some(place) => transactions.view(place),
-        None => None,
     }
 }

@@ -1,5 +1,7 @@
 ghost use Rattle.std.specs.Prelude.{◌≡◌, ℕ, ◌<◌, ◌≤◌, true, List, [], length, None, Some, IfSome, IfNone, IfOk, IfErr};
+ghost use Rattle.std.specs.List.{list_all};
 ghost use Rattle.xid.specs.Limits.{most_acceptors, most_branches};
+ghost use Rattle.xid.specs.Places.{is_below};
 ghost use Rattle.xid.specs.Transactions.{participants};
 ghost use Rattle.xid.specs.declared.refusals.Refusal.TheVariants.{NoMemory};
 ghost use Rattle.wire.specs.Messages.{IsMessage};
@@ -9,6 +11,7 @@ ghost use Rattle.protocol.specs.Kept.{kept_facts, kept_leader};
 ghost use Rattle.stable_record.specs.declared.fact.FactKind.{FactKind as FactOf};
 ghost use Rattle.protocol.specs.LeaderMemory.{LeaderMemory, StoredBallots, nothing_heard, with_begun, with_met};
 ghost use Rattle.protocol.specs.Leaders as rules;
+ghost use Rattle.stable_record.specs.Facts.{fact_tx};
 ghost use Rattle.stable_record.specs.Parts.{IsMadeReady, IsPlayed};
 ghost use Rattle.stable_record.specs.declared.fact.FactKind.TheVariants as facts;
 ghost use Rattle.leader.specs.Leaders.{are_below, commit_messages, decided, taken_over, StandsFor, StandsForBallots, Follows};
@@ -113,6 +116,15 @@ impl Leader {
             bundled,
             courses: Courses::new(alloc, key),
         }
+    }
+
+    /// Whether it has stored nothing about a name at or above a floor: each ballot is of a transaction that is below. It takes no memory.
+    pub fn is_unused_above(&self, floor: &Floor) -> bool
+        ensures { (config : Config) (number : ℕ) (stored : List FactOf) (memory : LeaderMemory)
+            → StandsFor config number self.now stored memory
+            → result ≡ list_all (λ fact. is_below (Some floor.now) (fact_tx fact)) stored }
+    {
+        self.courses.are_below(floor)
     }
 
     /// What is left of it where it forgets what is below a floor: of stored ballots and memory what is about the transactions that aren't

@@ -4,7 +4,7 @@ use Rattle.std.proofs.Common.{zero, suc, ◌≡◌, ℕ, ◌+◌, ◌-◌, ◌<�
 use Rattle.std.proofs.Common.{get_or, set, drop, map, Option, None, Some, refl, sym, ap, subst, ◌∙◌, arith, eqb-true, eq-eqb}
 use Rattle.std.specs.List.{All, AllPairs, list_all, flat_map}
 use Rattle.std.specs.Option.{ForSome}
-use Rattle.std.proofs.lemmas.Bool.{lt-ltb, and_parts, not-true}
+use Rattle.std.proofs.lemmas.Bool.{lt-ltb, and_parts}
 use Rattle.std.proofs.lemmas.Option.{cond_some, none-some, same_Some}
 use Rattle.std.proofs.lemmas.Bool.Decides.{nat_tests}
 use Rattle.std.proofs.lemmas.List.{nil_from_length, append-nil, append_assoc, length-append, length_push, map_push, get_or_at}
@@ -15,15 +15,17 @@ use Rattle.std.proofs.lemmas.List.Sums.{AllPass-from_list_all, list_all-from_All
 use Rattle.std.proofs.lemmas.List.Elements.{All-nil, All-cons, All-head, All-tail, All-push, All-append, All-map}
 use Rattle.std.proofs.lemmas.List.Quantifiers.{all_pairs_push}
 use Rattle.xid.proofs.Texts.{both_true}
-use Rattle.net_script.specs.Basics.{Row, Event, Answer, Change, Sent, Sizes, Table, Entry, Trace, LastEntry, TraceLine}
-use Rattle.net_script.specs.declared.trace_lines.TraceLine.TheVariants.{Cluster, Contents, Happened, Served, Changed, Datagram, Final}
+use Rattle.net_script.specs.Basics.{Row, Event, Answer, Change, Sent, Told, Sizes, Table, Entry, Trace, LastEntry, TraceLine}
+use Rattle.net_script.specs.declared.trace_lines.TraceLine.TheVariants.{Cluster, Contents, Happened, Served, Changed, Datagram}
+use Rattle.net_script.specs.declared.trace_lines.TraceLine.TheVariants.{Notice, Final}
 use Rattle.net_script.specs.Items.{IsSizes, IsContents}
 use Rattle.net_script.specs.Answers.{IsAnswer}
-use Rattle.net_script.specs.TraceLines.{IsChange, IsSent, AreFinalRows, IsTraceLine, changed_lines, entry_lines, rows_lines, later_lines}
-use Rattle.net_script.specs.TraceLines.{lines_of}
+use Rattle.net_script.specs.TraceLines.{IsChange, IsSent, IsNotice, AreFinalRows, IsTraceLine, changed_lines, entry_lines, rows_lines}
+use Rattle.net_script.specs.TraceLines.{later_lines, lines_of}
 use Rattle.net_script.specs.TraceReading.{IsResult, IsEntry, IsBegun}
-use Rattle.net_script.specs.TraceReaders.{told_of, told_by, last_of, so_far_of, is_missing, is_alone, takes_table, may_follow, bare_step}
-use Rattle.net_script.specs.TraceReaders.{with_now, with_sent, at_last, grown, opened, begun_with, lines_so_far}
+use Rattle.net_script.specs.TraceReaders.{filled, noticed, filled_by, noticed_by, told_by, last_of, so_far_of, is_missing, is_alone}
+use Rattle.net_script.specs.TraceReaders.{takes_sent, takes_notice, takes_table, may_follow, bare_step}
+use Rattle.net_script.specs.TraceReaders.{with_now, with_sent, with_notice, at_last, grown, opened, begun_with, lines_so_far}
 
 -- a trace of these parts
 abbrev trace : Sizes → List Table → List Entry → List (List Row) → Trace
@@ -105,17 +107,52 @@ last_push [] e = refl
 last_push (x ∷ []) e = refl
 last_push (x ∷ y ∷ es) e = last_push (y ∷ es) e
 
-told_some : (now : Option Change) (sent : List Sent) → is_missing (told_of now sent) ≡ false
-told_some None [] = refl
-told_some now sent = refl
+filled_some : (last : LastEntry) → is_missing (filled last) ≡ is_missing last
+filled_some LastEntry.Missing = refl
+filled_some last = refl
+
+filled_by_some : (now : Option Change) (sent : List Sent) (last : LastEntry) → is_missing (filled_by now sent last) ≡ is_missing last
+filled_by_some None [] last = refl
+filled_by_some None (d ∷ sent) last = filled_some last
+filled_by_some (Some c) sent last = filled_some last
+
+noticed_some : (last : LastEntry) → is_missing (noticed last) ≡ is_missing last
+noticed_some LastEntry.Missing = refl
+noticed_some last = refl
+
+noticed_by_some : (told : List Told) (last : LastEntry) → is_missing (noticed_by told last) ≡ is_missing last
+noticed_by_some [] last = refl
+noticed_by_some (n ∷ told) last = noticed_some last
 
 not_missing : (e : Entry) → is_missing (told_by e) ≡ false
-not_missing (Entry.Step step) = told_some step.now step.sent
-not_missing (Entry.Serve node answer now sent) = told_some now sent
+not_missing (Entry.Step step) =
+    noticed_by_some step.told (filled_by step.now step.sent LastEntry.Bare) ∙ filled_by_some step.now step.sent LastEntry.Bare
+not_missing (Entry.Serve node answer now sent) = filled_by_some now sent LastEntry.BareServe
+
+filled_takes : (last : LastEntry) → takes_sent (filled last) ≡ takes_sent last
+filled_takes LastEntry.Missing = refl
+filled_takes last = refl
+
+-- a datagram may follow another, and a changed view
+filled_by_takes : (now : Option Change) (sent : List Sent) (last : LastEntry) → takes_sent (filled_by now sent last) ≡ takes_sent last
+filled_by_takes None [] last = refl
+filled_by_takes None (d ∷ sent) last = filled_takes last
+filled_by_takes (Some c) sent last = filled_takes last
+
+-- and a notice may follow those of an event, and another
+event_takes : (now : Option Change) (sent : List Sent) (told : List Told)
+    → takes_notice (noticed_by told (filled_by now sent LastEntry.Bare)) ≡ true
+event_takes None [] [] = refl
+event_takes None [] (n ∷ told) = refl
+event_takes None (d ∷ sent) [] = refl
+event_takes None (d ∷ sent) (n ∷ told) = refl
+event_takes (Some c) sent [] = refl
+event_takes (Some c) sent (n ∷ told) = refl
 
 -- entries that may differ in what came of them
 record IsMaker (make : Option Change → List Sent → Entry) : Type 0 where
-  bare : told_by (make None []) ≡ LastEntry.Bare
+  bare : is_alone (told_by (make None [])) ≡ true
+  takes : (now : Option Change) (sent : List Sent) → takes_sent (told_by (make now sent)) ≡ true
   changes : (c : Change) → with_now c (make None []) ≡ make (Some c) []
   sends : (now : Option Change) (sent : List Sent) (d : Sent) → with_sent d (make now sent) ≡ make now (sent ++ d ∷ [])
 
@@ -125,7 +162,7 @@ run_changed : (s : Sizes) (ts : List Table) (done : List Entry) (make : Option C
 run_changed s ts done make is None = refl
 run_changed s ts done make is (Some c) =
     run_more (trace s ts (done ++ make None [] ∷ []) []) (trace s ts (done ++ make (Some c) [] ∷ []) []) (Changed c) []
-    (ap is_alone (last_push done (make None []) ∙ is.bare)) (simp (at_last_push, is.changes))
+    (ap is_alone (last_push done (make None [])) ∙ is.bare) (simp (at_last_push, is.changes))
 
 run_sent : (s : Sizes) (ts : List Table) (done : List Entry) (make : Option Change → List Sent → Entry) → IsMaker make
     → (now : Option Change) (told more : List Sent)
@@ -134,7 +171,7 @@ run_sent : (s : Sizes) (ts : List Table) (done : List Entry) (make : Option Chan
 run_sent s ts done make is now told [] = simp append-nil
 run_sent s ts done make is now told (d ∷ more) =
     run_more (trace s ts (done ++ make now told ∷ []) []) (trace s ts (done ++ make now (told ++ d ∷ []) ∷ []) []) (Datagram d)
-    (map Datagram more) (simp (last_push, not_missing)) (simp (at_last_push, is.sends))
+    (map Datagram more) (ap takes_sent (last_push done (make now told)) ∙ is.takes now told) (simp (at_last_push, is.sends))
     ∙ simp (run_sent s ts done make is now (told ++ d ∷ []) more, append_assoc)
 
 run_outcome : (s : Sizes) (ts : List Table) (done : List Entry) (make : Option Change → List Sent → Entry) → IsMaker make
@@ -143,17 +180,34 @@ run_outcome : (s : Sizes) (ts : List Table) (done : List Entry) (make : Option C
     ≡ Some (trace s ts (done ++ make now sent ∷ []) [])
 run_outcome s ts done make is now sent = simp (run_append, run_changed s ts done make is now, run_sent s ts done make is now [] sent)
 
-abbrev make_step : Event → Answer → Option Change → List Sent → Entry
-make_step event answer now sent = Entry.Step (record { event = event; answer = answer; now = now; sent = sent })
+abbrev make_step : Event → Answer → List Told → Option Change → List Sent → Entry
+make_step event answer told now sent = Entry.Step (record { event = event; answer = answer; now = now; sent = sent; told = told })
+
+run_told : (s : Sizes) (ts : List Table) (done : List Entry) (event : Event) (answer : Answer) (now : Option Change) (sent : List Sent)
+    (told more : List Told)
+    → run on (Some (trace s ts (done ++ make_step event answer told now sent ∷ []) [])) (map Notice more)
+    ≡ Some (trace s ts (done ++ make_step event answer (told ++ more) now sent ∷ []) [])
+run_told s ts done event answer now sent told [] = simp append-nil
+run_told s ts done event answer now sent told (n ∷ more) =
+    run_more (trace s ts (done ++ make_step event answer told now sent ∷ []) [])
+    (trace s ts (done ++ make_step event answer (told ++ n ∷ []) now sent ∷ []) []) (Notice n) (map Notice more)
+    (ap takes_notice (last_push done (make_step event answer told now sent)) ∙ event_takes now sent told) (simp at_last_push)
+    ∙ simp (run_told s ts done event answer now sent (told ++ n ∷ []) more, append_assoc)
 
 run_entry : (s : Sizes) (ts : List Table) (done : List Entry) (e : Entry)
     → run on (Some (trace s ts done [])) (entry_lines e) ≡ Some (trace s ts (done ++ e ∷ []) [])
 run_entry s ts done (Entry.Step step) =
-    run_outcome s ts done (make_step step.event step.answer)
-    (record { bare = refl; changes = λ c. refl; sends = λ now sent d. refl }) step.now step.sent
+    let make = make_step step.event step.answer [] in
+    let takes = λ (now : Option Change) (sent : List Sent). filled_by_takes now sent LastEntry.Bare in
+    let outcome = changed_lines step.now ++ map Datagram step.sent in
+    run_append on (Some (trace s ts (done ++ make None [] ∷ []) [])) outcome (map Notice step.told)
+    ∙ ap (λ (o : Option Trace). run on o (map Notice step.told))
+    (run_outcome s ts done make (record { bare = refl; takes = takes; changes = λ c. refl; sends = λ now sent d. refl }) step.now step.sent)
+    ∙ run_told s ts done step.event step.answer step.now step.sent [] step.told
 run_entry s ts done (Entry.Serve node answer now sent) =
-    run_outcome s ts done (Entry.Serve node answer) (record { bare = refl; changes = λ c. refl; sends = λ now' sent' d. refl }) now
-    sent
+    let takes = λ (now' : Option Change) (sent' : List Sent). filled_by_takes now' sent' LastEntry.BareServe in
+    run_outcome s ts done (Entry.Serve node answer)
+    (record { bare = refl; takes = takes; changes = λ c. refl; sends = λ now' sent' d. refl }) now sent
 
 run_entries : (s : Sizes) (ts : List Table) (done es : List Entry)
     → run on (Some (trace s ts done [])) (flat_map entry_lines es) ≡ Some (trace s ts (done ++ es) [])
@@ -250,14 +304,27 @@ last_made make said (e ∷ f ∷ es) some made all =
     let more = last_made make said (f ∷ es) some made (All-tail IsEntry e (f ∷ es) all) in
     (All-cons IsEntry e (at_last make (f ∷ es)) (All-head IsEntry e (f ∷ es) all) more.0, simp (more.1, append_assoc))
 
-changed_last : (first : TraceLine) (c : Change) (now : Option Change) (sent : List Sent) → told_of now sent ≡ LastEntry.Bare
-    → first ∷ (Changed c ∷ map Datagram sent) ≡ (first ∷ (changed_lines now ++ map Datagram sent)) ++ Changed c ∷ []
-changed_last first c None [] bare = refl
-changed_last first c now sent bare = absurd (cc (bare))
+changed_step : (first : TraceLine) (c : Change) (now : Option Change) (sent : List Sent) (told : List Told)
+    → is_alone (noticed_by told (filled_by now sent LastEntry.Bare)) ≡ true
+    → first ∷ ((Changed c ∷ map Datagram sent) ++ map Notice told)
+    ≡ (first ∷ ((changed_lines now ++ map Datagram sent) ++ map Notice told)) ++ Changed c ∷ []
+changed_step first c None [] [] bare = refl
+changed_step first c None [] (n ∷ told) bare = absurd (cc (bare))
+changed_step first c None (d ∷ sent) [] bare = absurd (cc (bare))
+changed_step first c None (d ∷ sent) (n ∷ told) bare = absurd (cc (bare))
+changed_step first c (Some was) sent [] bare = absurd (cc (bare))
+changed_step first c (Some was) sent (n ∷ told) bare = absurd (cc (bare))
 
-now_lines : (c : Change) (e : Entry) → told_by e ≡ LastEntry.Bare → entry_lines (with_now c e) ≡ entry_lines e ++ Changed c ∷ []
-now_lines c (Entry.Step step) bare = changed_last (Happened step.event step.answer) c step.now step.sent bare
-now_lines c (Entry.Serve node answer now sent) bare = changed_last (Served node answer) c now sent bare
+changed_serve : (first : TraceLine) (c : Change) (now : Option Change) (sent : List Sent)
+    → is_alone (filled_by now sent LastEntry.BareServe) ≡ true
+    → first ∷ (Changed c ∷ map Datagram sent) ≡ (first ∷ (changed_lines now ++ map Datagram sent)) ++ Changed c ∷ []
+changed_serve first c None [] bare = refl
+changed_serve first c None (d ∷ sent) bare = absurd (cc (bare))
+changed_serve first c (Some was) sent bare = absurd (cc (bare))
+
+now_lines : (c : Change) (e : Entry) → is_alone (told_by e) ≡ true → entry_lines (with_now c e) ≡ entry_lines e ++ Changed c ∷ []
+now_lines c (Entry.Step step) bare = changed_step (Happened step.event step.answer) c step.now step.sent step.told bare
+now_lines c (Entry.Serve node answer now sent) bare = changed_serve (Served node answer) c now sent bare
 
 now_result : (c : Change) {answer : Answer} {now : Option Change} {sent : List Sent} → IsChange c → IsResult answer now sent
     → IsResult answer (Some c) sent
@@ -265,12 +332,26 @@ now_result c range is =
     record { answer_is = is.answer_is; change = λ x e. subst IsChange (same_Some c x e) range; datagrams = is.datagrams }
 
 now_valid : (c : Change) → IsChange c → (e : Entry) → IsEntry e → IsEntry (with_now c e)
-now_valid c range (Entry.Step step) is = (is.0, now_result c range is.1)
+now_valid c range (Entry.Step step) is = (is.0, now_result c range is.1, is.2)
 now_valid c range (Entry.Serve node answer now sent) is = (is.0, now_result c range is.1)
 
-sent_lines : (d : Sent) (e : Entry) → entry_lines (with_sent d e) ≡ entry_lines e ++ Datagram d ∷ []
-sent_lines d (Entry.Step step) = simp (map_push, append_assoc)
-sent_lines d (Entry.Serve node answer now sent) = simp (map_push, append_assoc)
+none_told : (now : Option Change) (sent : List Sent) (told : List Told)
+    → takes_sent (noticed_by told (filled_by now sent LastEntry.Bare)) ≡ true → told ≡ []
+none_told now sent [] takes = refl
+none_told None [] (n ∷ told) takes = absurd (cc (takes))
+none_told None (d ∷ sent) (n ∷ told) takes = absurd (cc (takes))
+none_told (Some c) sent (n ∷ told) takes = absurd (cc (takes))
+
+sent_step : (first : TraceLine) (d : Sent) (changed : List TraceLine) (sent : List Sent) (told : List Told) → told ≡ []
+    → first ∷ ((changed ++ map Datagram (sent ++ d ∷ [])) ++ map Notice told)
+    ≡ (first ∷ ((changed ++ map Datagram sent) ++ map Notice told)) ++ Datagram d ∷ []
+sent_step first d changed sent told none = simp (none, map_push, append-nil, append_assoc)
+
+sent_lines : (d : Sent) (e : Entry) → takes_sent (told_by e) ≡ true → entry_lines (with_sent d e) ≡ entry_lines e ++ Datagram d ∷ []
+sent_lines d (Entry.Step step) takes =
+    sent_step (Happened step.event step.answer) d (changed_lines step.now) step.sent step.told
+    (none_told step.now step.sent step.told takes)
+sent_lines d (Entry.Serve node answer now sent) takes = simp (map_push, append_assoc)
 
 sent_result : (d : Sent) {answer : Answer} {now : Option Change} {sent : List Sent} → IsSent d → IsResult answer now sent
     → IsResult answer now (sent ++ d ∷ [])
@@ -278,8 +359,22 @@ sent_result d {sent = sent} range is =
     record { answer_is = is.answer_is; change = is.change; datagrams = All-push IsSent sent d is.datagrams range }
 
 sent_valid : (d : Sent) → IsSent d → (e : Entry) → IsEntry e → IsEntry (with_sent d e)
-sent_valid d range (Entry.Step step) is = (is.0, sent_result d range is.1)
+sent_valid d range (Entry.Step step) is = (is.0, sent_result d range is.1, is.2)
 sent_valid d range (Entry.Serve node answer now sent) is = (is.0, sent_result d range is.1)
+
+-- a serve tells no notice
+pub serve_tells_none : (now : Option Change) (sent : List Sent) → takes_notice (filled_by now sent LastEntry.BareServe) ≡ true → ⊥
+serve_tells_none None [] takes = absurd (cc (takes))
+serve_tells_none None (d ∷ sent) takes = absurd (cc (takes))
+serve_tells_none (Some c) sent takes = absurd (cc (takes))
+
+notice_lines : (n : Told) (e : Entry) → takes_notice (told_by e) ≡ true → entry_lines (with_notice n e) ≡ entry_lines e ++ Notice n ∷ []
+notice_lines n (Entry.Step step) takes = simp (map_push, append_assoc)
+notice_lines n (Entry.Serve node answer now sent) takes = absurd (serve_tells_none now sent takes)
+
+notice_valid : (n : Told) → IsNotice n → (e : Entry) → IsEntry e → IsEntry (with_notice n e)
+notice_valid n range (Entry.Step step) is = (is.0, is.1, All-push IsNotice step.told n is.2 range)
+notice_valid n range (Entry.Serve node answer now sent) is = is
 
 bare_result : (answer : Answer) → IsAnswer answer → IsResult answer None []
 bare_result answer is = record { answer_is = is; change = λ x e. absurd (cc); datagrams = All-nil IsSent }
@@ -310,30 +405,45 @@ grown_rows t rm rows is range takes =
     let named : length (t.finals ++ rows ∷ []) ≤ 256 = omega (arith, length_push t.finals rows, same, range.0) in
     record { valid = assumption; lines = simp (rows_push, last, append_assoc) }
 
-pub alone : (l : LastEntry) → is_alone l ≡ true → l ≡ LastEntry.Bare
-alone LastEntry.Bare h = refl
-alone l h = absurd (cc (h))
+-- what may follow something that happened follows something
+pub alone_some : (last : LastEntry) → is_alone last ≡ true → is_missing last ≡ false
+alone_some LastEntry.Missing h = absurd (cc (h))
+alone_some last h = refl
+
+pub sent_some : (last : LastEntry) → takes_sent last ≡ true → is_missing last ≡ false
+sent_some LastEntry.Missing h = absurd (cc (h))
+sent_some last h = refl
+
+pub notice_some : (last : LastEntry) → takes_notice last ≡ true → is_missing last ≡ false
+notice_some LastEntry.Missing h = absurd (cc (h))
+notice_some last h = refl
 
 grows : (t : Trace) (said : TraceLine) → IsBegun t → IsTraceLine said → may_follow (so_far_of t) said ≡ true → Grown t said (grown t said)
 grows t (Cluster s) is range may = absurd (cc (may))
 grows t (Contents x) is range may = grown_table t x is range may
 grows t (Happened event answer) is range may =
-    pushed t (Happened event answer) (bare_step event answer) is (no_rows t may) (range.0, bare_result answer range.1) refl
+    pushed t (Happened event answer) (bare_step event answer) is (no_rows t may)
+    (range.0, bare_result answer range.1, All-nil IsNotice) refl
 grows t (Served node answer) is range may =
     pushed t (Served node answer) (Entry.Serve node answer None []) is (no_rows t may) (range.0, bare_result answer range.1) refl
 grows t (Changed c) is range may =
     let parts = and_parts (eqb (length t.finals) 0) (is_alone (last_of t.entries)) may in
-    let bare = alone (last_of t.entries) parts.1 in
     let new =
-    last_made (with_now c) (Changed c) t.entries (ap is_missing bare)
-    (record { lines = λ e last. now_lines c e (last ∙ bare); valid = now_valid c range }) is.entries in
+    last_made (with_now c) (Changed c) t.entries (alone_some (last_of t.entries) parts.1)
+    (record { lines = λ e last. now_lines c e (ap is_alone last ∙ parts.1); valid = now_valid c range }) is.entries in
     grown_entries t (Changed c) (at_last (with_now c) t.entries) is (no_rows t parts.0) new.0 new.1
 grows t (Datagram d) is range may =
-    let parts = and_parts (eqb (length t.finals) 0) (not (is_missing (last_of t.entries))) may in
+    let parts = and_parts (eqb (length t.finals) 0) (takes_sent (last_of t.entries)) may in
     let new =
-    last_made (with_sent d) (Datagram d) t.entries (not-true (is_missing (last_of t.entries)) parts.1)
-    (record { lines = λ e last. sent_lines d e; valid = sent_valid d range }) is.entries in
+    last_made (with_sent d) (Datagram d) t.entries (sent_some (last_of t.entries) parts.1)
+    (record { lines = λ e last. sent_lines d e (ap takes_sent last ∙ parts.1); valid = sent_valid d range }) is.entries in
     grown_entries t (Datagram d) (at_last (with_sent d) t.entries) is (no_rows t parts.0) new.0 new.1
+grows t (Notice n) is range may =
+    let parts = and_parts (eqb (length t.finals) 0) (takes_notice (last_of t.entries)) may in
+    let new =
+    last_made (with_notice n) (Notice n) t.entries (notice_some (last_of t.entries) parts.1)
+    (record { lines = λ e last. notice_lines n e (ap takes_notice last ∙ parts.1); valid = notice_valid n range }) is.entries in
+    grown_entries t (Notice n) (at_last (with_notice n) t.entries) is (no_rows t parts.0) new.0 new.1
 grows t (Final rm rows) is range may = grown_rows t rm rows is range may
 
 -- ---- from the first line on
@@ -376,7 +486,10 @@ result_valid first answer now sent range is = search (All-cons, All-append, All-
 
 entry_valid : (e : Entry) → IsEntry e → All IsTraceLine (entry_lines e)
 entry_valid (Entry.Step step) is =
-    result_valid (Happened step.event step.answer) step.answer step.now step.sent (is.0, is.1.answer_is) is.1
+    let first = Happened step.event step.answer in
+    let outcome = result_valid first step.answer step.now step.sent (is.0, is.1.answer_is) is.1 in
+    All-append IsTraceLine (first ∷ (changed_lines step.now ++ map Datagram step.sent)) (map Notice step.told) outcome
+    (All-map IsTraceLine Notice step.told is.2)
 entry_valid (Entry.Serve node answer now sent) is = result_valid (Served node answer) answer now sent (is.0, is.1.answer_is) is.1
 
 entries_valid : (es : List Entry) → All IsEntry es → All IsTraceLine (flat_map entry_lines es)

@@ -9,9 +9,9 @@ use Rattle.std.proofs.lemmas.List.Folds.{flat_map-map}
 use Rattle.std.proofs.lemmas.List.Elements.{All-head, All-tail}
 use Rattle.xid.specs.Text.{lacks}
 use Rattle.xid.proofs.Texts.{first_true, second_true, lacks_not}
-use Rattle.net_script.specs.Basics.{Change, Sent, Row, Table, Entry, Trace, TraceLine}
-use Rattle.net_script.specs.declared.trace_lines.TraceLine.TheVariants.{Cluster, Contents, Happened, Served, Changed, Datagram}
-use Rattle.net_script.specs.Traces.{table_line, change_text, sent_line, entry_text, final_lines, trace_text}
+use Rattle.net_script.specs.Basics.{Change, Sent, Told, Row, Table, Entry, Trace, TraceLine}
+use Rattle.net_script.specs.declared.trace_lines.TraceLine.TheVariants.{Cluster, Contents, Happened, Served, Changed, Datagram, Notice}
+use Rattle.net_script.specs.Traces.{table_line, change_text, sent_line, notice_line, entry_text, final_lines, trace_text}
 use Rattle.net_script.specs.TraceLines.{IsTraceLine, trace_line_words, trace_line_text, whole_line, changed_lines, entry_lines, rows_lines}
 use Rattle.net_script.specs.TraceLines.{lines_of}
 use Rattle.net_script.specs.TraceReading.{ended_lines}
@@ -68,6 +68,9 @@ change_is (Some c) = sym (append-nil (whole_line (Changed c)))
 sent_is : (sent : List Sent) → flat_map sent_line sent ≡ flat_map whole_line (map Datagram sent)
 sent_is sent = sym (flat_map-map whole_line Datagram sent)
 
+notices_are : (told : List Told) → flat_map notice_line told ≡ flat_map whole_line (map Notice told)
+notices_are told = sym (flat_map-map whole_line Notice told)
+
 tables_are : (ts : List Table) → flat_map table_line ts ≡ flat_map whole_line (map Contents ts)
 tables_are ts = sym (flat_map-map whole_line Contents ts)
 
@@ -77,7 +80,12 @@ outcome_is : (first : TraceLine) (now : Option Change) (sent : List Sent)
 outcome_is first now sent = simp (append_assoc, change_is, sent_is, flat_map-append)
 
 entry_is : (e : Entry) → entry_text e ≡ flat_map whole_line (entry_lines e)
-entry_is (Entry.Step step) = outcome_is (Happened step.event step.answer) step.now step.sent
+entry_is (Entry.Step step) =
+    let first = Happened step.event step.answer in
+    let outcome = first ∷ (changed_lines step.now ++ map Datagram step.sent) in
+    ap (λ (l : List ℕ). l ++ flat_map notice_line step.told) (outcome_is first step.now step.sent)
+    ∙ ap (λ (l : List ℕ). flat_map whole_line outcome ++ l) (notices_are step.told)
+    ∙ sym (flat_map-append whole_line outcome (map Notice step.told))
 entry_is (Entry.Serve node answer now sent) = outcome_is (Served node answer) now sent
 
 entries_are : (es : List Entry) → flat_map entry_text es ≡ flat_map whole_line (flat_map entry_lines es)

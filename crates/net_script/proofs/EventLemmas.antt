@@ -2,13 +2,14 @@
 use Rattle.std.proofs.Common.{◌≡◌, ℕ, Bool, true, false, ◌||◌, List, refl, ap, codes, ◌<◌, ◌^◌, sym, subst, ◌∙◌, arith, decimal}
 use Rattle.std.specs.Str.{bytes_eq}
 use Rattle.net_script.specs.Basics.{A, L, R, Start, Put, Del, Get, End, EndFail, Rollback, Request, Call, Recover, Timeout, Event, Ask}
-use Rattle.net_script.specs.Basics.{Deliver, Lose, Cut, Noise, Tear, Restart, Compact, Do, Flow, code_number, number_of, XaCode, Refusal}
+use Rattle.net_script.specs.Basics.{Deliver, Lose, Cut, Noise, Tear, Restart, Compact, Raise, Hear, Replace, Do, Flow, code_number}
+use Rattle.net_script.specs.Basics.{number_of, XaCode, Refusal}
 use Rattle.net_script.specs.Basics.{Standing, Answer, Done, Code, Value, NoValue, Xids, Stands, Refused}
 use Rattle.net_script.specs.Events.{IsEvent, event_word, event_words}
 use Rattle.net_script.specs.Items.{IsCommand, command_words}
 use Rattle.net_script.specs.Spelling.{no_words, ◌&◌, IsCommon, IsSpelling, list_of_words}
 use Rattle.net_script.specs.Laws.{literal, a_number, a_node, some_bytes, an_xid, a_tx, manager_of, a_manager, leader_of, a_leader, party_of}
-use Rattle.net_script.specs.Laws.{a_party, an_ending, number_common}
+use Rattle.net_script.specs.Laws.{a_party, a_floor, an_ending, number_common}
 use Rattle.net_script.proofs.Arms.{Arm, made_of, IsSaid, arm_said, apart, first_word}
 use Rattle.std.specs.Fmt.{digits, signed_decimal}
 use Rattle.std.proofs.lemmas.Fmt.{decimal_injective}
@@ -51,6 +52,21 @@ pub compact_arm : Arm (a_node & no_words) IsEvent event_words (codes "compact") 
 compact_arm (Compact n) p args e = made_of (n, tt) (p, tt) (cc) refl
 compact_arm (Ask n (Call x Start)) p args e = absurd (apart _ _ e refl)
 compact_arm line p args e = absurd (apart _ _ e refl)
+
+pub floor_arm : Arm (a_manager & a_floor & no_words) IsEvent event_words (codes "floor") (λ said. Raise said.0.0 said.1.0)
+floor_arm (Raise m f) p args e = made_of (manager_of m, (f, tt)) (p.0, (p.1, tt)) (cc) refl
+floor_arm (Ask n (Call x Start)) p args e = absurd (apart _ _ e refl)
+floor_arm line p args e = absurd (apart _ _ e refl)
+
+pub hear_arm : Arm (a_number & no_words) IsEvent event_words (codes "hear") (λ said. Hear said.0)
+hear_arm (Hear n) p args e = made_of (n, tt) (p, tt) (cc) refl
+hear_arm (Ask n (Call x Start)) p args e = absurd (apart _ _ e refl)
+hear_arm line p args e = absurd (apart _ _ e refl)
+
+pub replace_arm : Arm (a_node & a_floor & no_words) IsEvent event_words (codes "replace") (λ said. Replace said.0 said.1.0)
+replace_arm (Replace n f) p args e = made_of (n, (f, tt)) (p.0, (p.1, tt)) (cc) refl
+replace_arm (Ask n (Call x Start)) p args e = absurd (apart _ _ e refl)
+replace_arm line p args e = absurd (apart _ _ e refl)
 
 pub start_arm : Arm (a_manager & an_xid & no_words) IsEvent event_words (codes "start") (λ said. Ask (R said.0.0) (Call said.1.0 Start))
 start_arm (Ask (R m) (Call x Start)) p args e = made_of (manager_of m, (x, tt)) (p.0, (p.1.0, tt)) (cc) refl
@@ -128,6 +144,9 @@ event_said (Noise n xs) p = arm_said (a_node & some_bytes & no_words) noise_arm 
 event_said (Tear n m) p = arm_said (a_node & a_number & no_words) tear_arm (literal refl refl) _ p _ refl
 event_said (Restart n) p = arm_said (a_node & no_words) restart_arm (literal refl refl) _ p _ refl
 event_said (Compact n) p = arm_said (a_node & no_words) compact_arm (literal refl refl) _ p _ refl
+event_said (Raise m f) p = arm_said (a_manager & a_floor & no_words) floor_arm (literal refl refl) _ p _ refl
+event_said (Hear n) p = arm_said (a_number & no_words) hear_arm (literal refl refl) _ p _ refl
+event_said (Replace n f) p = arm_said (a_node & a_floor & no_words) replace_arm (literal refl refl) _ p _ refl
 event_said (Ask (R m) (Call x Start)) p = arm_said (a_manager & an_xid & no_words) start_arm (literal refl refl) _ p _ refl
 event_said (Ask (R m) (Call x (Put k v))) p =
     arm_said (a_manager & an_xid & some_bytes & some_bytes & no_words) put_arm (literal refl refl) _ p _ refl
@@ -152,7 +171,7 @@ event_injective a b p q e = (event_said a p).one b q e
 abbrev pub is_other : List ℕ → Bool
 is_other word =
     bytes_eq word (codes "cluster") || bytes_eq word (codes "table") || bytes_eq word (codes "flow") || bytes_eq word (codes "serve")
-    || bytes_eq word (codes "now") || bytes_eq word (codes "sent") || bytes_eq word (codes "final")
+    || bytes_eq word (codes "now") || bytes_eq word (codes "sent") || bytes_eq word (codes "told") || bytes_eq word (codes "final")
 
 event_is_none : (e : Event) → is_other (event_word e) ≡ false
 event_is_none (Ask n (Call x Start)) = refl
@@ -190,6 +209,8 @@ refusal_injective Refusal.NoMemory Refusal.NoMemory p q e = refl
 refusal_injective Refusal.PortFault Refusal.PortFault p q e = refl
 refusal_injective Refusal.Forged Refusal.Forged p q e = refl
 refusal_injective Refusal.NoSuch Refusal.NoSuch p q e = refl
+refusal_injective Refusal.Forgotten Refusal.Forgotten p q e = refl
+refusal_injective Refusal.InUse Refusal.InUse p q e = refl
 refusal_injective r s p q e = absurd (grind (arith, p, q, e))
 
 -- ---- first words

@@ -1,31 +1,34 @@
 -- What a reader of lines keeps says which line may follow as the trace so far does, and what it gives and refuses is right: for
 -- `TraceReader`; and a text is that of one trace: for `one_trace`.
-use Rattle.std.proofs.Common.{◌≡◌, ℕ, ◌+◌, ◌<◌, ◌≤◌, Bool, true, false, not, cond, eqb, ltb, List, [], ◌∷◌, ◌++◌, length, take, drop, map}
+use Rattle.std.proofs.Common.{◌≡◌, ℕ, ◌+◌, ◌<◌, ◌≤◌, Bool, true, false, cond, eqb, ltb, List, [], ◌∷◌, ◌++◌, length, take, drop, map}
 use Rattle.std.proofs.Common.{inl, inr, Option, None, Some, refl, sym, ap, subst, ◌∙◌, arith, eqb-true}
 use Rattle.std.specs.Prelude.{Result, Ok, Err, IfErr}
 use Rattle.std.specs.List.{flat_map}
 use Rattle.std.specs.Option.{ForSome, option_map}
-use Rattle.std.proofs.lemmas.Bool.{and_parts, not-true}
+use Rattle.std.proofs.lemmas.Bool.{and_parts}
 use Rattle.std.proofs.lemmas.Option.{same_Some}
 use Rattle.std.proofs.lemmas.List.Concat.{flat_map-append}
 use Rattle.std.proofs.lemmas.List.{append-nil, append_assoc, length-append, length-map, length_push, map_push, take_at, take-append-drop}
 use Rattle.xid.specs.Text.{lacks}
-use Rattle.net_script.specs.Basics.{Refusal, TxParts, Change, Sent, BadScript, BadConfig, Sizes, Entry, Trace, LastEntry, SoFar}
+use Rattle.net_script.specs.Basics.{Refusal, TxParts, Change, Sent, Told, BadScript, BadConfig, Sizes, Entry, Trace, LastEntry}
+use Rattle.net_script.specs.Basics.{SoFar}
 use Rattle.net_script.specs.Basics.{TraceLine}
 use Rattle.net_script.specs.declared.said.Heard.{Heard}
-use Rattle.net_script.specs.declared.trace_lines.TraceLine.TheVariants.{Cluster, Contents, Happened, Served, Changed, Datagram, Final}
+use Rattle.net_script.specs.declared.trace_lines.TraceLine.TheVariants.{Cluster, Contents, Happened, Served, Changed, Datagram}
+use Rattle.net_script.specs.declared.trace_lines.TraceLine.TheVariants.{Notice, Final}
 use Rattle.net_script.specs.Items.{IsSizes, is_in_limits}
 use Rattle.net_script.specs.Traces.{trace_text}
 use Rattle.net_script.specs.TraceLines.{IsTraceLine, trace_line_text, whole_line, lines_of}
 use Rattle.net_script.specs.TraceReading.{IsBegun, IsTrace, ended_lines, CanBeginTrace, IsTraceFault, RefusesTrace}
-use Rattle.net_script.specs.TraceReaders.{told_of, told_by, last_of, so_far_of, is_missing, is_alone, may_follow, after_line, follow}
-use Rattle.net_script.specs.TraceReaders.{with_now, with_sent, at_last, grown, opened, begun_with, lines_so_far, ReaderParts}
+use Rattle.net_script.specs.TraceReaders.{filled, noticed, filled_by, noticed_by, told_by, last_of, so_far_of, may_follow, after_line}
+use Rattle.net_script.specs.TraceReaders.{follow, with_now, with_sent, with_notice, at_last, grown, opened, begun_with, lines_so_far}
+use Rattle.net_script.specs.TraceReaders.{ReaderParts}
 use Rattle.net_script.specs.TraceReaders.{HasRead, ReadsOn, IsRead, as_line, Follows, GivesHeard}
 use Rattle.net_script.specs.Telling.{IsHeard}
 use Rattle.net_script.proofs.Arms.{texts_injective, texts_go_on}
 use Rattle.net_script.proofs.LawLemmas.{one_line}
 use Rattle.net_script.proofs.TraceLineLemmas.{lines_have_one_text, same_front, line_text_words, line_injective}
-use Rattle.net_script.proofs.DraftLemmas.{lines_same, begins, none_begins, opened_valid, lines_valid, so_far_valid, last_push, alone}
+use Rattle.net_script.proofs.DraftLemmas.{lines_same, begins, none_begins, opened_valid, lines_valid, so_far_valid, last_push}
 use Rattle.net_script.proofs.EndedText.{ended_cut, ended_last, ended_more, ended_all, unended, text_is_lines}
 
 -- ---- texts of traces
@@ -62,26 +65,68 @@ one_trace_fault bytes m n (inr p) (inr q) = p.1 ∙ sym q.1
 
 -- ---- which lines may follow
 
--- the last of some entries, made anew so that it tells all
-last_full : (make : Entry → Entry) (es : List Entry) → is_missing (last_of es) ≡ false → ((e : Entry) → told_by (make e) ≡ LastEntry.Full)
-    → last_of (at_last make es) ≡ LastEntry.Full
-last_full make [] some full = absurd (cc (some))
-last_full make (e ∷ []) some full = full e
-last_full make (e ∷ f ∷ []) some full = full f
-last_full make (e ∷ f ∷ g ∷ es) some full = last_full make (f ∷ g ∷ es) some full
+-- the last of some entries, made anew so that it tells more
+last_more : (make : Entry → Entry) (more : LastEntry → LastEntry) (es : List Entry) → more LastEntry.Missing ≡ LastEntry.Missing
+    → ((e : Entry) → told_by (make e) ≡ more (told_by e)) → last_of (at_last make es) ≡ more (last_of es)
+last_more make more [] none each = sym none
+last_more make more (e ∷ []) none each = each e
+last_more make more (e ∷ f ∷ []) none each = each f
+last_more make more (e ∷ f ∷ g ∷ es) none each = last_more make more (f ∷ g ∷ es) none each
 
-now_full : (c : Change) (e : Entry) → told_by (with_now c e) ≡ LastEntry.Full
-now_full c (Entry.Step step) = refl
-now_full c (Entry.Serve node answer now sent) = refl
+filled_again : (last : LastEntry) → filled last ≡ filled (filled last)
+filled_again LastEntry.Missing = refl
+filled_again last = refl
 
-told_full : (now : Option Change) (sent : List Sent) (d : Sent) → told_of now (sent ++ d ∷ []) ≡ LastEntry.Full
-told_full None [] d = refl
-told_full None (s ∷ sent) d = refl
-told_full (Some c) sent d = refl
+noticed_again : (last : LastEntry) → noticed last ≡ noticed (noticed last)
+noticed_again LastEntry.Missing = refl
+noticed_again last = refl
 
-sent_full : (d : Sent) (e : Entry) → told_by (with_sent d e) ≡ LastEntry.Full
-sent_full d (Entry.Step step) = told_full step.now step.sent d
-sent_full d (Entry.Serve node answer now sent) = told_full now sent d
+filled_noticed : (last : LastEntry) → noticed (filled last) ≡ filled (noticed last)
+filled_noticed LastEntry.Missing = refl
+filled_noticed last = refl
+
+noticed_by_filled : (told : List Told) (last : LastEntry) → noticed_by told (filled last) ≡ filled (noticed_by told last)
+noticed_by_filled [] last = refl
+noticed_by_filled (n ∷ told) last = filled_noticed last
+
+filled_by_again : (now : Option Change) (sent : List Sent) (last : LastEntry) → filled last ≡ filled (filled_by now sent last)
+filled_by_again None [] last = refl
+filled_by_again None (s ∷ sent) last = filled_again last
+filled_by_again (Some c) sent last = filled_again last
+
+now_more : (c : Change) (e : Entry) → told_by (with_now c e) ≡ filled (told_by e)
+now_more c (Entry.Step step) =
+    ap (noticed_by step.told) (filled_by_again step.now step.sent LastEntry.Bare)
+    ∙ noticed_by_filled step.told (filled_by step.now step.sent LastEntry.Bare)
+now_more c (Entry.Serve node answer now sent) = filled_by_again now sent LastEntry.BareServe
+
+sent_filled : (now : Option Change) (sent : List Sent) (d : Sent) (last : LastEntry) → filled_by now (sent ++ d ∷ []) last ≡ filled last
+sent_filled None [] d last = refl
+sent_filled None (s ∷ sent) d last = refl
+sent_filled (Some c) sent d last = refl
+
+sent_more : (d : Sent) (e : Entry) → told_by (with_sent d e) ≡ filled (told_by e)
+sent_more d (Entry.Step step) =
+    ap (noticed_by step.told)
+    (sent_filled step.now step.sent d LastEntry.Bare ∙ filled_by_again step.now step.sent LastEntry.Bare)
+    ∙ noticed_by_filled step.told (filled_by step.now step.sent LastEntry.Bare)
+sent_more d (Entry.Serve node answer now sent) =
+    sent_filled now sent d LastEntry.BareServe ∙ filled_by_again now sent LastEntry.BareServe
+
+notice_noticed : (told : List Told) (n : Told) (last : LastEntry) → noticed_by (told ++ n ∷ []) last ≡ noticed (noticed_by told last)
+notice_noticed [] n last = refl
+notice_noticed (t ∷ told) n last = noticed_again last
+
+-- a serve tells no notice
+serve_noticed : (now : Option Change) (sent : List Sent)
+    → filled_by now sent LastEntry.BareServe ≡ noticed (filled_by now sent LastEntry.BareServe)
+serve_noticed None [] = refl
+serve_noticed None (s ∷ sent) = refl
+serve_noticed (Some c) sent = refl
+
+notice_more : (n : Told) (e : Entry) → told_by (with_notice n e) ≡ noticed (told_by e)
+notice_more n (Entry.Step step) = notice_noticed step.told n (filled_by step.now step.sent LastEntry.Bare)
+notice_more n (Entry.Serve node answer now sent) = serve_noticed now sent
 
 -- a reader keeps of the trace after a line what it kept before, and of the line
 kept_after : (t : Trace) (said : TraceLine) → may_follow (so_far_of t) said ≡ true
@@ -91,13 +136,11 @@ kept_after t (Contents table) may = simp map_push
 kept_after t (Happened event answer) may = simp last_push
 kept_after t (Served node answer) may = simp last_push
 kept_after t (Changed change) may =
-    let parts = and_parts (eqb (length t.finals) 0) (is_alone (last_of t.entries)) may in
-    let some = ap is_missing (alone (last_of t.entries) parts.1) in
-    ap (λ l. record (so_far_of t) { last = l }) (last_full (with_now change) t.entries some (now_full change))
+    ap (λ l. record (so_far_of t) { last = l }) (last_more (with_now change) filled t.entries refl (now_more change))
 kept_after t (Datagram sent) may =
-    let parts = and_parts (eqb (length t.finals) 0) (not (is_missing (last_of t.entries))) may in
-    ap (λ l. record (so_far_of t) { last = l })
-    (last_full (with_sent sent) t.entries (not-true (is_missing (last_of t.entries)) parts.1) (sent_full sent))
+    ap (λ l. record (so_far_of t) { last = l }) (last_more (with_sent sent) filled t.entries refl (sent_more sent))
+kept_after t (Notice told) may =
+    ap (λ l. record (so_far_of t) { last = l }) (last_more (with_notice told) noticed t.entries refl (notice_more told))
 kept_after t (Final rm rows) may =
     let parts = and_parts (eqb rm (length t.finals)) (ltb (length t.finals) t.sizes.rms) may in
     let same : rm ≡ length t.finals = eqb-true rm (length t.finals) parts.0 in

@@ -3,12 +3,13 @@ use Rattle.std.proofs.Common.{◌≡◌, ℕ, ◌<◌, Bool, true, false, Option
 use Rattle.std.proofs.Common.{arith, codes, Result, Ok, Err, ◌-◌, not, ◌&&◌, eqb, take, drop}
 use Rattle.std.specs.List.{AllByRecursion}
 use Rattle.net_script.specs.Basics.{TxParts, IsTx, tx_text, View, NodeId, Answer, Change, Sent, Event, TraceLine, Stop, Wrong, Memory}
-use Rattle.net_script.specs.declared.trace_lines.TraceLine.TheVariants.{Cluster, Contents, Happened, Served, Changed, Datagram, Final}
+use Rattle.net_script.specs.declared.trace_lines.TraceLine.TheVariants.{Cluster, Contents, Happened, Served, Changed, Datagram}
+use Rattle.net_script.specs.declared.trace_lines.TraceLine.TheVariants.{Notice, Final}
 use Rattle.net_script.specs.Lines.{words}
 use Rattle.net_script.specs.Events.{IsNode, IsEvent, event_words}
 use Rattle.net_script.specs.Answers.{IsAnswer, view_text, answer_words}
 use Rattle.net_script.specs.Spelling.{IsClean, IsCommon, IsSpelling, AreSpellings, no_words, ◌&◌, shaped, Finds}
-use Rattle.net_script.specs.Laws.{literal, all_join, a_number, a_node, manager_of, a_manager, a_tx, a_table, final_rows, a_sizes}
+use Rattle.net_script.specs.Laws.{literal, all_join, a_number, a_node, manager_of, a_manager, a_tx, a_floor, a_table, final_rows, a_sizes}
 use Rattle.net_script.specs.Laws.{node_injective}
 use Rattle.net_script.specs.Traces.{joined_words, serve_words, change_words, sent_words, spaced_words}
 use Rattle.net_script.specs.TraceLines.{IsChange, IsSent, IsTraceLine, trace_line_words, trace_line_text, whole_line, is_tidy, Knows}
@@ -81,6 +82,13 @@ sent_arm (Datagram s) p args e = made_of s p (cc) refl
 sent_arm (Happened d a) p args e = absurd (event_apart (codes "sent") d refl (cc))
 sent_arm line p args e = absurd (apart _ _ e refl)
 
+pub told_arm : Arm (a_number & a_manager & a_node & a_floor & no_words) IsTraceLine trace_line_words (codes "told") (λ said.
+    Notice (record { number = said.0; manager = said.1.0.0; receiver = said.1.1.0; floor = said.1.1.1.0 }))
+told_arm (Notice n) p args e =
+    made_of (n.number, (manager_of n.manager, (n.receiver, (n.floor, tt)))) (p.number, (p.manager, (p.receiver, (p.floor, tt)))) (cc) refl
+told_arm (Happened d a) p args e = absurd (event_apart (codes "told") d refl (cc))
+told_arm line p args e = absurd (apart _ _ e refl)
+
 pub final_arm : Arm (a_manager & final_rows) IsTraceLine trace_line_words (codes "final") (λ said. Final said.0.0 said.1.0)
 final_arm (Final rm rows) p args e = made_of (manager_of rm, record { 0 = rows }) (p.0, p.1) (cc) refl
 final_arm (Happened d a) p args e = absurd (event_apart (codes "final") d refl (cc))
@@ -150,6 +158,8 @@ other_said (Happened e a) other p = absurd (cc)
 other_said (Served n a) other p = absurd (cc)
 other_said (Changed c) other p = arm_said a_change now_arm (literal refl refl) _ p _ refl
 other_said (Datagram s) other p = arm_said a_sent sent_arm (literal refl refl) _ p _ refl
+other_said (Notice n) other p =
+    arm_said (a_number & a_manager & a_node & a_floor & no_words) told_arm (literal refl refl) _ p _ refl
 other_said (Final rm rows) other p = arm_said (a_manager & final_rows) final_arm (literal refl refl) _ p _ refl
 
 pub line_injective : (a b : TraceLine) → IsTraceLine a → IsTraceLine b → trace_line_words a ≡ trace_line_words b → a ≡ b
@@ -226,6 +236,7 @@ pub record IsOther (word : List ℕ) : Type 0 where
   pub table : word ≡ codes "table" → ⊥
   pub cluster : word ≡ codes "cluster" → ⊥
   pub sent : word ≡ codes "sent" → ⊥
+  pub told : word ≡ codes "told" → ⊥
 
 outcome_of : (said : TraceLine) (rest : List (List ℕ)) (word : List ℕ) → IsOther word → IsTraceLine said
     → word ∷ rest ≡ trace_line_words said → IsOutcome said
@@ -235,6 +246,7 @@ outcome_of (Happened d a) rest word other is e = is
 outcome_of (Served n a) rest word other is e = is
 outcome_of (Changed c) rest word other is e = absurd (other.now (cc))
 outcome_of (Datagram s) rest word other is e = absurd (other.sent (cc))
+outcome_of (Notice n) rest word other is e = absurd (other.told (cc))
 outcome_of (Final rm rows) rest word other is e = absurd (other.final (cc))
 
 -- so a line with another first word tells of an event or of a serve

@@ -12,7 +12,8 @@ use Rattle.xid.proofs.TransactionTexts.{hex_same}
 use Rattle.net_script.specs.Lines.{pieces, IsFirstPiece, Reads, IsSome, bytes_text, row_text}
 pub use Rattle.net_script.specs.Laws.{differ, hex_some, hex_decodes, bytes_are_hex, bytes_injective, hex_long}
 use Rattle.memchr.specs.Find.{IsFirstByte, is_byte}
-use Rattle.net_script.specs.Basics.{IsBytes, hex_text, Row, Table}
+use Rattle.net_script.specs.Basics.{IsBytes, hex_text, Place, Row, Table}
+use Rattle.net_script.specs.Events.{IsFloor}
 use Rattle.net_script.specs.Laws.{hex_lacks_equals, a_row}
 use Rattle.net_script.specs.Items.{IsRow, IsContents, contents_words}
 use Rattle.net_script.specs.Spelling.{one_list}
@@ -93,6 +94,23 @@ pub unmarked : (mark : ℕ) (text : List ℕ) → IsFirstByte (is_byte mark) tex
 unmarked mark text none =
     ap (lacks mark) (sym (take_all (length text) text (omega arith)))
     ∙ lacks_until mark text (length text) (omega arith) (λ k lt e. none k (omega arith) lt e)
+
+-- ---- floors
+
+pub large_format : (m n : ℕ) → m < 2 ^ 32 → 2 ^ 31 ≤ m → n < 2 ^ 31 → decimal m ≡ decimal n → ⊥
+large_format m n small large lt e =
+    let same : m ≡ n = decimal_injective m n (omega arith) (omega arith) e in
+    omega arith
+
+pub long_gtrid : (floor : Place) (back bytes : List ℕ) → IsFloor floor → back ≡ bytes_text floor.gtrid
+    → IsBytes bytes × (back ≡ bytes_text bytes)
+    → 64 < length bytes → ⊥
+long_gtrid floor back bytes is e read long =
+    let same : bytes ≡ floor.gtrid = bytes_injective bytes floor.gtrid read.0 is.bytes (sym read.1 ∙ e) in
+    let few = is.few in
+    omega (arith, ap length same)
+
+-- ---- rows
 
 -- a row's text is cut at its first `=` in one way
 pub cut_row : (row : Row) (text front back : List ℕ) → IsRow row → text ≡ row_text row

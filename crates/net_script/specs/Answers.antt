@@ -8,7 +8,7 @@ use Rattle.net_script.specs.Lines.{bytes_text}
 
 -- ---- what is in range
 
--- a refusal that an event may be answered: 2 to 6, 8 to 12, 14 and 15
+-- a refusal that an event may be answered: 2 to 6, 8 to 12, 14, 15, 17 and 18
 abbrev pub IsTold : Refusal → Type 0
 IsTold Refusal.BadTx = Unit {0}
 IsTold Refusal.BadMessage = Unit {0}
@@ -22,6 +22,8 @@ IsTold Refusal.NoMemory = Unit {0}
 IsTold Refusal.PortFault = Unit {0}
 IsTold Refusal.Forged = Unit {0}
 IsTold Refusal.NoSuch = Unit {0}
+IsTold Refusal.Forgotten = Unit {0}
+IsTold Refusal.InUse = Unit {0}
 IsTold refusal = ⊥
 
 -- an answer that a trace may tell of

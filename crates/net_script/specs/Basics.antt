@@ -3,6 +3,7 @@
 pub use Rattle.xid.specs.Names.{XidParts, IsBytes, IsXid}
 pub use Rattle.xid.specs.Transactions.{TxParts, IsTx, tx_text}
 pub use Rattle.xid.specs.Text.{hex_text, xid_text}
+pub use Rattle.xid.specs.Places.{Place}
 pub use Rattle.xid.specs.Codes.{code_number}
 pub use Rattle.xid.specs.declared.codes.XaCode.{XaCode}
 pub use Rattle.xid.specs.Refusals.{number_of}
@@ -18,8 +19,10 @@ pub use Rattle.protocol.specs.declared.answers.Answer.{Answer}
 pub use Rattle.protocol.specs.declared.answers.Answer.TheVariants.{Done, Code, Value, NoValue, Xids, Stands, Refused}
 pub use Rattle.protocol.specs.declared.events.Event.{Event}
 pub use Rattle.protocol.specs.declared.events.Event.TheVariants.{Ask, Deliver, Lose, Cut, Noise, Tear, Restart, Compact}
+pub use Rattle.protocol.specs.declared.events.Event.TheVariants.{Raise, Hear, Replace}
 pub use Rattle.protocol.specs.declared.events.Change.{Change}
 pub use Rattle.protocol.specs.declared.events.Sent.{Sent}
+pub use Rattle.protocol.specs.declared.events.Told.{Told}
 pub use Rattle.protocol.specs.declared.events.Step.{Step}
 pub use Rattle.protocol.specs.declared.nodes.NodeId.{NodeId}
 pub use Rattle.protocol.specs.declared.nodes.NodeId.TheVariants.{A, L, R}

@@ -1,9 +1,10 @@
 -- What may happen in a script, and the one list of words of each event: those of traces too.
-use Rattle.std.specs.Prelude.{ℕ, ◌<◌, ◌^◌, List, [], ◌∷◌, codes, decimal}
+use Rattle.std.specs.Prelude.{ℕ, ◌<◌, ◌≤◌, ◌^◌, List, [], ◌∷◌, length, codes, decimal}
+use Rattle.xid.specs.Limits.{most_component, formats}
 use Rattle.net_script.specs.Basics.{IsBytes, IsXid, IsTx, xid_text, tx_text, NodeId, A, L, R, Action, Start, Put, Del, Get, End}
 use Rattle.net_script.specs.Basics.{EndFail, Rollback, Request, Call, Recover, Timeout, Event, Ask, Deliver, Lose, Cut, Noise}
-use Rattle.net_script.specs.Basics.{Tear, Restart, Compact}
-use Rattle.net_script.specs.Lines.{bytes_text, node_text}
+use Rattle.net_script.specs.Basics.{Tear, Restart, Compact, Raise, Hear, Replace, Place}
+use Rattle.net_script.specs.Lines.{bytes_text, node_text, floor_text}
 
 -- ---- what is in range
 
@@ -12,6 +13,12 @@ abbrev pub IsNode : NodeId → Type 0
 IsNode (A number) = number < 256
 IsNode (L number) = number < 256
 IsNode (R number) = number < 256
+
+-- a floor that a text may name: a format, and a gtrid or no bytes
+pub record IsFloor (place : Place) : Type 0 where
+  pub format : place.format < formats
+  pub few : length place.gtrid ≤ most_component
+  pub bytes : IsBytes place.gtrid
 
 -- what a call may ask: keys and values of calls have any length
 abbrev pub IsAction : Action → Type 0
@@ -45,6 +52,9 @@ IsEvent (Noise node bytes) = IsNode node × IsBytes bytes
 IsEvent (Tear node bytes) = IsNode node × (bytes < 2 ^ 32)
 IsEvent (Restart node) = IsNode node
 IsEvent (Compact node) = IsNode node
+IsEvent (Raise rm floor) = (rm < 256) × IsFloor floor
+IsEvent (Hear number) = number < 2 ^ 32
+IsEvent (Replace node floor) = IsNode node × IsFloor floor
 
 -- ---- the first words
 
@@ -77,6 +87,9 @@ event_word (Noise node bytes) = codes "noise"
 event_word (Tear node bytes) = codes "tear"
 event_word (Restart node) = codes "restart"
 event_word (Compact node) = codes "compact"
+event_word (Raise rm floor) = codes "floor"
+event_word (Hear number) = codes "hear"
+event_word (Replace node floor) = codes "replace"
 
 -- ---- the words after the first
 
@@ -109,6 +122,9 @@ event_args (Noise node bytes) = node_text node ∷ bytes_text bytes ∷ []
 event_args (Tear node bytes) = node_text node ∷ decimal bytes ∷ []
 event_args (Restart node) = node_text node ∷ []
 event_args (Compact node) = node_text node ∷ []
+event_args (Raise rm floor) = node_text (R rm) ∷ floor_text floor ∷ []
+event_args (Hear number) = decimal number ∷ []
+event_args (Replace node floor) = node_text node ∷ floor_text floor ∷ []
 
 -- the words of an event
 abbrev pub event_words : Event → List (List ℕ)

@@ -12,8 +12,8 @@ use Rattle.xid.proofs.Texts.{length-hex_text, both_true, list_all_join, list_all
 use Rattle.xid.proofs.Texts.{hex_lacks_colon, decimal_lacks_colon}
 use Rattle.xid.proofs.TransactionTexts.{hex_same, cut_tx, cut_gtrid, cut_branch, branch_same}
 use Rattle.net_script.specs.Basics.{IsBytes, hex_text, XidParts, IsXid, TxParts, IsTx, xid_text, tx_text, NodeId, A, L, R, Action, End}
-use Rattle.net_script.specs.Basics.{EndFail, Row, Sizes, Table, Vote, InstanceReport, InstanceAccept}
-use Rattle.net_script.specs.Lines.{IsSome, bytes_text, node_text, is_word, row_text}
+use Rattle.net_script.specs.Basics.{EndFail, Place, Row, Sizes, Table, Vote, InstanceReport, InstanceAccept}
+use Rattle.net_script.specs.Lines.{IsSome, bytes_text, node_text, floor_text, is_word, row_text}
 use Rattle.std.specs.List.{All, AllByRecursion, list_all, flat_map}
 use Rattle.std.proofs.lemmas.List.{append-nil}
 use Rattle.std.proofs.lemmas.List.Concat.{flat_map-cons}
@@ -22,7 +22,7 @@ use Rattle.std.proofs.lemmas.List.Folds.{list_all-append}
 use Rattle.std.proofs.lemmas.Fmt.{decimal_injective, decimal_nonempty}
 use Rattle.xid.specs.Text.{lacks}
 use Rattle.xid.specs.Transactions.{BranchParts, IsBranch, branch_text, branches_text}
-use Rattle.net_script.specs.Events.{IsNode, IsParty, IsEnding, action_words}
+use Rattle.net_script.specs.Events.{IsNode, IsFloor, IsParty, IsEnding, action_words}
 use Rattle.net_script.specs.declared.nodes.Manager.{Manager}
 use Rattle.net_script.specs.declared.nodes.Acceptor.{Acceptor}
 use Rattle.net_script.specs.declared.nodes.Leader.{Leader}
@@ -348,6 +348,32 @@ row_common row is =
 -- a row
 pub a_row : IsSpelling IsRow row_text
 a_row = record { one = row_injective; common = row_common }
+
+-- the text of a floor is cut at its first colon in one way
+pub cut_floor : (floor : Place) (text front back : List ℕ) → IsFloor floor → text ≡ floor_text floor
+    → (text ≡ front ++ 58 ∷ back) × (lacks 58 front ≡ true)
+    → (front ≡ decimal floor.format) × (back ≡ bytes_text floor.gtrid)
+cut_floor floor text front back is e cut =
+    cut_same 58 front back (decimal floor.format) (bytes_text floor.gtrid) cut.1
+    (decimal_lacks_colon floor.format (omega (arith, is.format))) (sym cut.0 ∙ e)
+
+floor_injective : (a b : Place) → IsFloor a → IsFloor b → floor_text a ≡ floor_text b → a ≡ b
+floor_injective a b p q e =
+    let cut =
+    cut_floor b (floor_text a) (decimal a.format) (bytes_text a.gtrid) q e
+    (refl, decimal_lacks_colon a.format (omega (arith, p.format))) in
+    let format : a.format ≡ b.format = number_one a.format b.format (omega (arith, p.format)) (omega (arith, q.format)) cut.0 in
+    let gtrid : a.gtrid ≡ b.gtrid = bytes_injective a.gtrid b.gtrid p.bytes q.bytes cut.1 in
+    grind arith
+
+floor_common : (floor : Place) → IsFloor floor → IsCommon (floor_text floor)
+floor_common floor is =
+    let gtrid = bytes_common floor.gtrid is.bytes in
+    joined (decimal floor.format) (58 ∷ bytes_text floor.gtrid) (number_common floor.format (omega (arith, is.format))) gtrid.bytes
+
+-- a floor
+pub a_floor : IsSpelling IsFloor floor_text
+a_floor = record { one = floor_injective; common = floor_common }
 
 -- ---- words of lines
 

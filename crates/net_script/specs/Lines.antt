@@ -2,7 +2,7 @@
 use Rattle.std.specs.Prelude.{◌≡◌, ◌≢◌, ℕ, ◌<◌, List, [], ◌∷◌, ◌++◌, length, Bool, true, false, ◌==◌, ◌&&◌, nat_le, if◌then◌else◌}
 use Rattle.std.specs.Prelude.{codes, decimal, Result, Ok, Err, Option, Some, None}
 use Rattle.std.specs.List.{filter, onto_first}
-use Rattle.net_script.specs.Basics.{IsBytes, hex_text, Refusal, NoMemory, NodeId, A, L, R, Row}
+use Rattle.net_script.specs.Basics.{IsBytes, hex_text, Place, Refusal, NoMemory, NodeId, A, L, R, Row}
 
 -- the pieces that end at each mark; the last may lack its mark
 abbrev pub pieces : ℕ → List ℕ → List (List ℕ)
@@ -50,6 +50,10 @@ node_text (R number) = 114 ∷ decimal number
 -- KEY=VALUE
 abbrev pub row_text : Row → List ℕ
 row_text row = hex_text row.key ++ 61 ∷ bytes_text row.value
+
+-- a floor, a place in the order of names: FORMAT:GTRID
+abbrev pub floor_text : Place → List ℕ
+floor_text place = decimal place.format ++ 58 ∷ bytes_text place.gtrid
 
 -- at least one byte
 abbrev pub IsSome : List ℕ → Type 0

@@ -5,13 +5,14 @@ use Rattle.std.specs.Prelude.{Option, Some, None}
 use Rattle.std.specs.Cmp.Lexicographic.{slice_cmp}
 use Rattle.std.specs.List.{All, flat_map}
 use Rattle.std.specs.Ordering.{nat_cmp, is_lt}
-use Rattle.net_script.specs.Basics.{TxParts, IsTx, tx_text, IsMessage, R, Row, Change, Sent, Entry, Trace, TraceLine}
-use Rattle.net_script.specs.declared.trace_lines.TraceLine.TheVariants.{Cluster, Contents, Happened, Served, Changed, Datagram, Final}
+use Rattle.net_script.specs.Basics.{TxParts, IsTx, tx_text, IsMessage, R, Row, Change, Sent, Told, Entry, Trace, TraceLine}
+use Rattle.net_script.specs.declared.trace_lines.TraceLine.TheVariants.{Cluster, Contents, Happened, Served, Changed, Datagram}
+use Rattle.net_script.specs.declared.trace_lines.TraceLine.TheVariants.{Notice, Final}
 use Rattle.net_script.specs.Lines.{node_text}
-use Rattle.net_script.specs.Events.{IsNode, IsEvent, event_words}
+use Rattle.net_script.specs.Events.{IsNode, IsFloor, IsEvent, event_words}
 use Rattle.net_script.specs.Items.{IsSizes, IsRow, IsContents, sizes_words, rows_words, contents_words}
 use Rattle.net_script.specs.Answers.{IsAnswer, answer_words}
-use Rattle.net_script.specs.Traces.{joined_words, line_text, serve_words, change_words, sent_words}
+use Rattle.net_script.specs.Traces.{joined_words, line_text, serve_words, change_words, sent_words, notice_words}
 
 -- ---- what is in range
 
@@ -26,6 +27,13 @@ pub record IsSent (sent : Sent) : Type 0 where
   pub sender : IsNode sent.sender
   pub receiver : IsNode sent.receiver
   pub message : IsMessage sent.message
+
+-- a notice that a line may tell of
+pub record IsNotice (told : Told) : Type 0 where
+  pub number : told.number < 2 ^ 32
+  pub manager : told.manager < 256
+  pub receiver : IsNode told.receiver
+  pub floor : IsFloor told.floor
 
 -- whether the keys of rows ascend strictly, byte by byte
 abbrev pub are_ascending : List Row → Bool
@@ -46,6 +54,7 @@ IsTraceLine (Happened event answer) = IsEvent event × IsAnswer answer
 IsTraceLine (Served node answer) = IsNode node × IsAnswer answer
 IsTraceLine (Changed change) = IsChange change
 IsTraceLine (Datagram sent) = IsSent sent
+IsTraceLine (Notice told) = IsNotice told
 IsTraceLine (Final rm rows) = (rm < 256) × AreFinalRows rows
 
 -- ---- the words
@@ -62,6 +71,7 @@ trace_line_words (Happened event answer) = event_words event ++ codes "->" ∷ a
 trace_line_words (Served node answer) = serve_words node ++ codes "->" ∷ answer_words answer
 trace_line_words (Changed change) = codes "now" ∷ change_words change
 trace_line_words (Datagram sent) = codes "sent" ∷ sent_words sent
+trace_line_words (Notice told) = codes "told" ∷ notice_words told
 trace_line_words (Final rm rows) = codes "final" ∷ final_words rm rows
 
 -- the one text of a line, without its end
@@ -81,7 +91,8 @@ changed_lines (Some change) = Changed change ∷ []
 
 -- what happened and what came of it
 abbrev pub entry_lines : Entry → List TraceLine
-entry_lines (Entry.Step step) = Happened step.event step.answer ∷ (changed_lines step.now ++ map Datagram step.sent)
+entry_lines (Entry.Step step) =
+    Happened step.event step.answer ∷ ((changed_lines step.now ++ map Datagram step.sent) ++ map Notice step.told)
 entry_lines (Entry.Serve node answer now sent) = Served node answer ∷ (changed_lines now ++ map Datagram sent)
 
 -- the last rows, from this resource manager on

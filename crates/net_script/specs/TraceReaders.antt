@@ -4,8 +4,9 @@ use Rattle.std.specs.Prelude.{Option, Some, None, Result, Ok, Err}
 use Rattle.std.specs.List.{list_all, flat_map}
 use Rattle.std.specs.Option.{ForSome, option_map}
 use Rattle.net_script.specs.Basics.{Refusal, Stop, Wrong, Memory, TxParts, Event, Answer, Change}
-use Rattle.net_script.specs.Basics.{Sent, Sizes, Entry, Table, Trace, LastEntry, SoFar, TraceLine}
-use Rattle.net_script.specs.declared.trace_lines.TraceLine.TheVariants.{Cluster, Contents, Happened, Served, Changed, Datagram, Final}
+use Rattle.net_script.specs.Basics.{Sent, Told, Sizes, Entry, Table, Trace, LastEntry, SoFar, TraceLine}
+use Rattle.net_script.specs.declared.trace_lines.TraceLine.TheVariants.{Cluster, Contents, Happened, Served, Changed, Datagram}
+use Rattle.net_script.specs.declared.trace_lines.TraceLine.TheVariants.{Notice, Final}
 use Rattle.net_script.specs.TraceLines.{whole_line, lines_of}
 use Rattle.net_script.specs.TraceReading.{IsBegun, SpellsTrace, RefusesTrace}
 use Rattle.net_script.specs.declared.said.Heard.{Heard}
@@ -14,16 +15,33 @@ use Rattle.net_script.specs.Telling.{sent_of, IsHeard}
 
 -- ---- which lines may follow
 
--- how much a changed view and datagrams tell
-abbrev pub told_of : Option Change → List Sent → LastEntry
-told_of None [] = LastEntry.Bare
-told_of None (datagram ∷ sent) = LastEntry.Full
-told_of (Some change) sent = LastEntry.Full
+-- how much is told with a changed view or a datagram more
+abbrev pub filled : LastEntry → LastEntry
+filled LastEntry.Bare = LastEntry.Full
+filled LastEntry.BareServe = LastEntry.FullServe
+filled last = last
+
+-- how much is told with a notice more: a serve tells none
+abbrev pub noticed : LastEntry → LastEntry
+noticed LastEntry.Bare = LastEntry.Noticed
+noticed LastEntry.Full = LastEntry.Noticed
+noticed last = last
+
+-- how much is told with a changed view, if there is one, and with datagrams
+abbrev pub filled_by : Option Change → List Sent → LastEntry → LastEntry
+filled_by None [] last = last
+filled_by None (datagram ∷ sent) last = filled last
+filled_by (Some change) sent last = filled last
+
+-- how much is told with notices
+abbrev pub noticed_by : List Told → LastEntry → LastEntry
+noticed_by [] last = last
+noticed_by (notice ∷ told) last = noticed last
 
 -- how much an entry tells
 abbrev pub told_by : Entry → LastEntry
-told_by (Entry.Step step) = told_of step.now step.sent
-told_by (Entry.Serve node answer now sent) = told_of now sent
+told_by (Entry.Step step) = noticed_by step.told (filled_by step.now step.sent LastEntry.Bare)
+told_by (Entry.Serve node answer now sent) = filled_by now sent LastEntry.BareServe
 
 -- how much the last of some entries tells
 abbrev pub last_of : List Entry → LastEntry
@@ -48,7 +66,21 @@ is_missing other = false
 -- whether the last that happened has its answer alone
 abbrev pub is_alone : LastEntry → Bool
 is_alone LastEntry.Bare = true
+is_alone LastEntry.BareServe = true
 is_alone other = false
+
+-- whether a datagram may follow the last that happened: none follows a notice
+abbrev pub takes_sent : LastEntry → Bool
+takes_sent LastEntry.Missing = false
+takes_sent LastEntry.Noticed = false
+takes_sent other = true
+
+-- whether a notice may follow it
+abbrev pub takes_notice : LastEntry → Bool
+takes_notice LastEntry.Bare = true
+takes_notice LastEntry.Full = true
+takes_notice LastEntry.Noticed = true
+takes_notice other = false
 
 -- whether a first table of this resource manager may follow
 abbrev pub takes_table : SoFar → ℕ → Bool
@@ -61,7 +93,8 @@ may_follow s (Contents table) = takes_table s table.rm
 may_follow s (Happened event answer) = s.finals == 0
 may_follow s (Served node answer) = s.finals == 0
 may_follow s (Changed change) = (s.finals == 0) && is_alone s.last
-may_follow s (Datagram sent) = (s.finals == 0) && not (is_missing s.last)
+may_follow s (Datagram sent) = (s.finals == 0) && takes_sent s.last
+may_follow s (Notice told) = (s.finals == 0) && takes_notice s.last
 may_follow s (Final rm rows) = (rm == s.finals) && nat_lt s.finals s.sizes.rms
 
 -- the same after a line that may follow
@@ -69,9 +102,10 @@ abbrev pub after_line : SoFar → TraceLine → SoFar
 after_line s (Cluster sizes) = s
 after_line s (Contents table) = record s { managers = s.managers ++ table.rm ∷ [] }
 after_line s (Happened event answer) = record s { last = LastEntry.Bare }
-after_line s (Served node answer) = record s { last = LastEntry.Bare }
-after_line s (Changed change) = record s { last = LastEntry.Full }
-after_line s (Datagram sent) = record s { last = LastEntry.Full }
+after_line s (Served node answer) = record s { last = LastEntry.BareServe }
+after_line s (Changed change) = record s { last = filled s.last }
+after_line s (Datagram sent) = record s { last = filled s.last }
+after_line s (Notice told) = record s { last = noticed s.last }
 after_line s (Final rm rows) = record s { finals = rm + 1 }
 
 -- the same after one more line, the first or another; none, where it can't follow
@@ -95,7 +129,7 @@ Follows old new said (Err Memory) = Unit {0}
 
 -- what an event and its answer are alone
 abbrev pub bare_step : Event → Answer → Entry
-bare_step event answer = Entry.Step (record { event = event; answer = answer; now = None; sent = [] })
+bare_step event answer = Entry.Step (record { event = event; answer = answer; now = None; sent = []; told = [] })
 
 -- an entry that changed this view
 abbrev pub with_now : Change → Entry → Entry
@@ -107,10 +141,16 @@ abbrev pub with_sent : Sent → Entry → Entry
 with_sent datagram (Entry.Step step) = Entry.Step (record step { sent = step.sent ++ datagram ∷ [] })
 with_sent datagram (Entry.Serve node answer now sent) = Entry.Serve node answer now (sent ++ datagram ∷ [])
 
+-- an entry with one more notice: a serve tells none
+abbrev pub with_notice : Told → Entry → Entry
+with_notice notice (Entry.Step step) = Entry.Step (record step { told = step.told ++ notice ∷ [] })
+with_notice notice entry = entry
+
 -- an entry of which one more line tells
 abbrev pub with_told : TraceLine → Entry → Entry
 with_told (Changed change) entry = with_now change entry
 with_told (Datagram sent) entry = with_sent sent entry
+with_told (Notice told) entry = with_notice told entry
 with_told said entry = entry
 
 -- entries of which the last is made anew
@@ -127,6 +167,7 @@ grown t (Happened event answer) = record t { entries = t.entries ++ bare_step ev
 grown t (Served node answer) = record t { entries = t.entries ++ Entry.Serve node answer None [] ∷ [] }
 grown t (Changed change) = record t { entries = at_last (with_now change) t.entries }
 grown t (Datagram sent) = record t { entries = at_last (with_sent sent) t.entries }
+grown t (Notice told) = record t { entries = at_last (with_notice told) t.entries }
 grown t (Final rm rows) = record t { finals = t.finals ++ rows ∷ [] }
 
 -- a trace of which only the cluster was told

@@ -8,7 +8,7 @@ use Rattle.net_script.specs.Items.{IsSizes, IsContents, is_in_limits}
 use Rattle.net_script.specs.Answers.{IsAnswer}
 use Rattle.net_script.specs.Scripts.{FailsAt}
 use Rattle.net_script.specs.Traces.{trace_text}
-use Rattle.net_script.specs.TraceLines.{IsChange, IsSent, AreFinalRows}
+use Rattle.net_script.specs.TraceLines.{IsChange, IsSent, IsNotice, AreFinalRows}
 
 -- ---- traces
 
@@ -18,9 +18,9 @@ pub record IsResult (answer : Answer) (now : Option Change) (sent : List Sent) :
   pub change : ForSome now IsChange
   pub datagrams : All IsSent sent
 
--- an event or a serve with what came of it
+-- an event, which may tell any notices, or a serve, with what came of it
 abbrev pub IsEntry : Entry → Type 0
-IsEntry (Entry.Step step) = IsEvent step.event × IsResult step.answer step.now step.sent
+IsEntry (Entry.Step step) = IsEvent step.event × IsResult step.answer step.now step.sent × All IsNotice step.told
 IsEntry (Entry.Serve node answer now sent) = IsNode node × IsResult answer now sent
 
 -- a trace, or the beginning of one: tables are of the cluster's resource managers, at most one for each, and so are the last rows, in

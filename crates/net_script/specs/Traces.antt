@@ -3,8 +3,8 @@ use Rattle.std.specs.Prelude.{ℕ, suc, List, [], ◌∷◌, ◌++◌, codes, de
 use Rattle.std.specs.List.{flat_map}
 use Rattle.std.specs.Option.{option_map_or}
 use Rattle.wire.specs.Decoding.{message_at}
-use Rattle.net_script.specs.Basics.{tx_text, NodeId, R, Row, Answer, Change, Sent, Step, Sizes, Table, Entry, Trace}
-use Rattle.net_script.specs.Lines.{node_text}
+use Rattle.net_script.specs.Basics.{tx_text, NodeId, R, Row, Answer, Change, Sent, Told, Step, Sizes, Table, Entry, Trace}
+use Rattle.net_script.specs.Lines.{node_text, floor_text}
 use Rattle.net_script.specs.Events.{event_words}
 use Rattle.net_script.specs.Items.{sizes_words, rows_words, contents_words}
 use Rattle.net_script.specs.Answers.{view_text, answer_words}
@@ -49,6 +49,14 @@ abbrev pub datagram_line : (number : ℕ) (sender receiver : NodeId) (bytes : Li
 datagram_line number sender receiver bytes = option_map_or (λ message.
     sent_line (record { number = number; sender = sender; receiver = receiver; message = message })) (message_at bytes) []
 
+-- the words of a notice that was told after the first
+abbrev pub notice_words : Told → List (List ℕ)
+notice_words told = decimal told.number ∷ node_text (R told.manager) ∷ node_text told.receiver ∷ floor_text told.floor ∷ []
+
+-- a notice that was told
+abbrev pub notice_line : Told → List ℕ
+notice_line told = line_text (codes "told" ∷ notice_words told)
+
 -- the words of a datagram taken by a node, over sockets
 abbrev pub serve_words : NodeId → List (List ℕ)
 serve_words node = codes "serve" ∷ node_text node ∷ []
@@ -63,7 +71,7 @@ outcome_text happened answer now sent = answered_line happened answer ++ change_
 
 -- an event and what came of it
 abbrev pub step_text : Step → List ℕ
-step_text step = outcome_text (event_words step.event) step.answer step.now step.sent
+step_text step = outcome_text (event_words step.event) step.answer step.now step.sent ++ flat_map notice_line step.told
 
 -- an entry
 abbrev pub entry_text : Entry → List ℕ

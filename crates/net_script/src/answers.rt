@@ -1,22 +1,24 @@
-//! What came of events: answers, written and read, and changed views and datagrams, written.
+//! What came of events: answers, written and read, and changed views, datagrams and notices, written.
 
 ghost use Rattle.std.specs.Prelude.{◌≡◌, ◌++◌, IfErr, OnOk, ◌≢◌, ◌∷◌, true, MatchOption, OnErr};
 ghost use Rattle.xid.specs.Text.{Extends};
 ghost use Rattle.net_script.specs.Basics.{NoMemory, Refusal, XaCode, Standing, View, number_of};
 ghost use Rattle.net_script.specs.Answers.{standing_text, view_text, answer_words, IsTold, IsAnswer, code_text};
-ghost use Rattle.net_script.specs.Traces.{spaced_words, change_text, datagram_line, sent_line};
+ghost use Rattle.net_script.specs.Traces.{spaced_words, change_text, datagram_line, sent_line, notice_line};
 ghost use Rattle.net_script.specs.Writing.{Puts};
 ghost use Rattle.net_script.specs.Lines.{words};
 ghost use Rattle.net_script.specs.Spelling.{Finds};
 
 use crate::messages::put_message;
-use crate::pieces::{put_bytes_word, put_manager, put_node, put_number, put_word, put_xid};
+use crate::pieces::{
+    put_bytes_word, put_floor, put_manager, put_node, put_number, put_word, put_xid,
+};
 use crate::stop::Stop;
 use crate::word::{Words, is_word};
 use crate::words::next_word;
 use crate::written::WrittenTx;
 use itoa::Buffer;
-use protocol::{Answer, Change, NodeId, Sent, Standing, View};
+use protocol::{Answer, Change, NodeId, Sent, Standing, Told, View};
 use std::alloc::Global;
 use wire::{MAX_DATAGRAM, MAX_TX_BYTES, MessageView, SpelledTx, encode, view_of};
 use xid::{Refusal, XaCode};
@@ -165,6 +167,22 @@ pub(crate) fn put_sent(
     )
 }
 
+/// Writes the line of a notice that was told after what stands in `out`. The only refusal is `NoMemory`, and then what stood in `out`
+/// still begins it, and what is new there is no whole line.
+pub fn write_notice(out: &mut Vec<u8>, told: &Told) -> Result<(), Refusal>
+    ensures ok { OnOk result (out.new.items ≡ out.old.items ++ notice_line told.now) }
+    ensures err { IfErr result (λ e. e ≡ NoMemory) }
+    ensures kept { OnErr result (Extends out.old.items out.new.items) }
+{
+    out.extend_from_slice(b"told")?;
+    put_number(out, told.number)?;
+    put_manager(out, u32::from(told.manager))?;
+    put_node(out, told.receiver)?;
+    put_floor(out, &told.floor)?;
+    out.push(b'\n')?;
+    Ok(())
+}
+
 /// The code of this number.
 fn code_named(word: &[u8]) -> Option<XaCode>
     ensures { MatchOption result ((c : XaCode) → word.now ≢ code_text c) (λ c. word.now ≡ code_text c) }
@@ -228,6 +246,8 @@ fn refusal_numbered(number: u32) -> Option<Refusal>
         12 => Some(Refusal::PortFault),
         14 => Some(Refusal::Forged),
         15 => Some(Refusal::NoSuch),
+        17 => Some(Refusal::Forgotten),
+        18 => Some(Refusal::InUse),
         _ => None,
     }
 }

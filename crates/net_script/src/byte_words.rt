@@ -1,17 +1,19 @@
-//! Words that are bytes, XIDs and transactions.
+//! Words that are bytes, XIDs, transactions and floors.
 
 ghost use Rattle.std.specs.Prelude.{true, false};
 ghost use Rattle.net_script.specs.Basics.{IsBytes, IsXid, IsTx, hex_text, xid_text, tx_text};
-ghost use Rattle.net_script.specs.Lines.{IsSome, bytes_text};
-ghost use Rattle.net_script.specs.Laws.{a_hex, some_bytes, an_xid, a_tx};
+ghost use Rattle.net_script.specs.Lines.{IsSome, bytes_text, floor_text};
+ghost use Rattle.net_script.specs.Events.{IsFloor};
+ghost use Rattle.net_script.specs.Laws.{a_hex, some_bytes, an_xid, a_tx, a_floor};
 
 use crate::stop::Stop;
 use crate::word::{Word, is_word};
+use crate::words::split_once;
 use hex::FromHexError;
 use protocol::Boxed;
 use std::alloc::Global;
 use xid::text::lacks_capitals;
-use xid::{Bytes, Sequence, Tx, Xid};
+use xid::{Bytes, FORMATS, Floor, MAX_COMPONENT, Sequence, Tx, Xid};
 
 /// Bytes of which there is at least one.
 #[derive(Drop)]
@@ -92,5 +94,30 @@ impl Word for Boxed<Tx> {
             return Err(Stop::Wrong);
         };
         Boxed::new(alloc, tx).ok().ok_or(Stop::Memory)
+    }
+}
+
+impl Word for Floor {
+    ghost fits = { IsFloor };
+
+    ghost text = { floor_text };
+
+    ghost allocates = { true };
+
+    ghost spelling = { a_floor };
+
+    fn read(alloc: Global, word: &[u8]) -> Result<Floor, Stop> {
+        let Some((digits, rest)) = split_once(word, b':') else {
+            return Err(Stop::Wrong);
+        };
+        let format = <u32 as Word>::read(alloc, digits)?;
+        if format >= FORMATS {
+            return Err(Stop::Wrong);
+        }
+        let gtrid = <Bytes as Word>::read(alloc, rest)?;
+        if gtrid.as_slice().len() > MAX_COMPONENT {
+            return Err(Stop::Wrong);
+        }
+        Ok(Floor::new(format, gtrid.as_slice()))
     }
 }

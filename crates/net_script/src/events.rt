@@ -13,7 +13,9 @@ ghost use Rattle.net_script.specs.Traces.{spaced_words};
 ghost use Rattle.net_script.specs.Writing.{Puts};
 
 use crate::nodes::{Leader, Manager, Party};
-use crate::pieces::{put_bytes_word, put_node, put_number, put_tx, put_word, put_xid};
+use crate::pieces::{
+    put_bytes_word, put_floor, put_manager, put_node, put_number, put_tx, put_word, put_xid,
+};
 use crate::stop::{Stop, or_none};
 use crate::values::Command;
 use crate::word::{Words, is_word};
@@ -134,6 +136,18 @@ pub(crate) fn event_by(alloc: Global, name: &[u8], args: &[u8]) -> Result<Event,
         let (node, ()) = Words::read(alloc, args)?;
         return Ok(Event::Compact { node });
     }
+    if is_word(name, b"floor") {
+        let (Manager(rm), (floor, ())) = Words::read(alloc, args)?;
+        return Ok(Event::Raise { rm, floor });
+    }
+    if is_word(name, b"hear") {
+        let (number, ()) = Words::read(alloc, args)?;
+        return Ok(Event::Hear { number });
+    }
+    if is_word(name, b"replace") {
+        let (node, (floor, ())) = Words::read(alloc, args)?;
+        return Ok(Event::Replace { node, floor });
+    }
     Err(Stop::Wrong)
 }
 
@@ -233,6 +247,9 @@ pub(crate) fn event_word(event: &Event) -> &'static [u8]
         Event::Tear { .. } => b"tear",
         Event::Restart { .. } => b"restart",
         Event::Compact { .. } => b"compact",
+        Event::Raise { .. } => b"floor",
+        Event::Hear { .. } => b"hear",
+        Event::Replace { .. } => b"replace",
     }
 }
 
@@ -246,7 +263,9 @@ pub(crate) fn put_event_args(out: &mut Vec<u8>, event: &Event) -> Result<(), Ref
             put_node(out, *node)?;
             put_request(out, request)
         }
-        Event::Deliver { number } | Event::Lose { number } => put_number(out, *number),
+        Event::Deliver { number } | Event::Lose { number } | Event::Hear { number } => {
+            put_number(out, *number)
+        }
         Event::Cut { number, bytes } => {
             put_number(out, *number)?;
             put_number(out, *bytes)
@@ -260,5 +279,13 @@ pub(crate) fn put_event_args(out: &mut Vec<u8>, event: &Event) -> Result<(), Ref
             put_number(out, *bytes)
         }
         Event::Restart { node } | Event::Compact { node } => put_node(out, *node),
+        Event::Raise { rm, floor } => {
+            put_manager(out, u32::from(*rm))?;
+            put_floor(out, floor)
+        }
+        Event::Replace { node, floor } => {
+            put_node(out, *node)?;
+            put_floor(out, floor)
+        }
     }
 }

@@ -26,9 +26,9 @@ mod words;
 mod writing;
 mod written;
 
-pub use answers::{put_answer, write_datagram};
+pub use answers::{put_answer, write_datagram, write_notice};
 pub use events::read_command;
-pub use pieces::{put_node, put_rows, put_tx};
+pub use pieces::{put_floor, put_node, put_rows, put_tx};
 pub use said::Heard;
 pub use scripts::{line_of, one_reading, read_script};
 pub use trace_lines::TraceLine;

@@ -3,13 +3,13 @@
 ghost use Rattle.std.specs.Prelude.{◌≡◌, ◌++◌, ◌∷◌, IfErr, OnOk, decimal, OnErr};
 ghost use Rattle.xid.specs.Text.{Extends};
 ghost use Rattle.net_script.specs.Basics.{NoMemory, R, tx_text, xid_text};
-ghost use Rattle.net_script.specs.Lines.{bytes_text, node_text, row_text};
+ghost use Rattle.net_script.specs.Lines.{bytes_text, node_text, floor_text, row_text};
 ghost use Rattle.net_script.specs.Items.{rows_words};
 ghost use Rattle.net_script.specs.Traces.{spaced_words};
 ghost use Rattle.net_script.specs.Writing.{Puts};
 
 use protocol::{NodeId, Row};
-use xid::{Refusal, Tx, Xid, text};
+use xid::{Floor, Refusal, Tx, Xid, text};
 
 /// A word.
 pub(crate) fn put_word(out: &mut Vec<u8>, word: &[u8]) -> Result<(), Refusal>
@@ -93,6 +93,17 @@ pub(crate) fn put_xid(out: &mut Vec<u8>, xid: &Xid) -> Result<(), Refusal>
     out.push(b' ')?;
     xid.write(out)?;
     Ok(())
+}
+
+/// A floor. Refused as `put_node` is.
+pub fn put_floor(out: &mut Vec<u8>, floor: &Floor) -> Result<(), Refusal>
+    ensures ok { OnOk result (out.new.items ≡ out.old.items ++ 32 ∷ floor_text floor.now) }
+    ensures err { IfErr result (λ e. e ≡ NoMemory) }
+    ensures kept { OnErr result (Extends out.old.items out.new.items) }
+{
+    put_number(out, floor.format())?;
+    out.push(b':')?;
+    put_bytes(out, floor.gtrid())
 }
 
 /// A transaction. Refused as `put_node` is.

@@ -18,7 +18,7 @@ use crate::told::{ToldSent, read_told};
 use crate::trace_lines::{TraceLine, is_tidy, split_arrow};
 use crate::word::{Words, is_word};
 use crate::words::{is_over, last_node, manager_word, next_word};
-use protocol::{Boxed, Change, Row};
+use protocol::{Boxed, Change, Row, Told};
 use std::alloc::Global;
 use std::cmp::Ordering;
 use xid::Sequence;
@@ -133,6 +133,16 @@ fn said_words(
     if is_word(word, b"final") {
         let (Manager(rm), FinalRows(rows)) = Words::read(alloc, args)?;
         return Ok(TraceLine::Final(rm, rows));
+    }
+    if is_word(word, b"told") {
+        let (number, (Manager(manager), (receiver, (floor, ())))) = Words::read(alloc, args)?;
+        let told = Told {
+            number,
+            manager,
+            receiver,
+            floor,
+        };
+        return Ok(TraceLine::Notice(told));
     }
     if is_word(word, b"table") {
         let table = Words::read(alloc, args)?;

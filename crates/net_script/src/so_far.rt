@@ -2,6 +2,7 @@
 
 ghost use Rattle.std.specs.Prelude.{◌≡◌, not, ◌==◌, OnOk};
 ghost use Rattle.std.specs.List.{list_all};
+ghost use Rattle.net_script.specs.TraceReaders.{filled, noticed, is_alone, takes_sent, takes_notice};
 ghost use Rattle.net_script.specs.TraceReaders.{takes_table, may_follow, after_line, as_line, Follows};
 
 use crate::said::Heard;
@@ -17,10 +18,60 @@ use xid::Sequence;
 pub enum LastEntry {
     /// Nothing happened yet.
     Missing,
-    /// Its answer alone.
+    /// An event's answer alone.
     Bare,
-    /// A changed view or a datagram too.
+    /// An event's changed view or a datagram too.
     Full,
+    /// A notice of an event too.
+    Noticed,
+    /// The answer of a serve alone.
+    BareServe,
+    /// A changed view or a datagram of a serve too.
+    FullServe,
+}
+
+impl LastEntry {
+    /// The same with a changed view or a datagram more.
+    fn filled(self) -> LastEntry
+        ensures { result ≡ filled self }
+    {
+        match self {
+            LastEntry::Bare => LastEntry::Full,
+            LastEntry::BareServe => LastEntry::FullServe,
+            last => last,
+        }
+    }
+
+    /// The same with a notice more.
+    fn noticed(self) -> LastEntry
+        ensures { result ≡ noticed self }
+    {
+        match self {
+            LastEntry::Bare | LastEntry::Full => LastEntry::Noticed,
+            last => last,
+        }
+    }
+
+    /// Whether it has its answer alone.
+    fn is_alone(self) -> bool
+        ensures { result ≡ is_alone self }
+    {
+        matches!(self, LastEntry::Bare | LastEntry::BareServe)
+    }
+
+    /// Whether a datagram may follow.
+    fn takes_sent(self) -> bool
+        ensures { result ≡ takes_sent self }
+    {
+        !matches!(self, LastEntry::Missing | LastEntry::Noticed)
+    }
+
+    /// Whether a notice may follow.
+    fn takes_notice(self) -> bool
+        ensures { result ≡ takes_notice self }
+    {
+        matches!(self, LastEntry::Bare | LastEntry::Full | LastEntry::Noticed)
+    }
 }
 
 /// What was read so far, as far as it says which lines may follow.
@@ -62,12 +113,11 @@ impl SoFar {
             Heard::Line(TraceLine::Cluster(_)) => false,
             Heard::Line(TraceLine::Contents(table)) => self.takes_table(table.rm),
             Heard::Line(TraceLine::Happened(..) | TraceLine::Served(..)) => self.finals == 0,
-            Heard::Line(TraceLine::Changed(_)) => {
-                self.finals == 0 && matches!(self.last, LastEntry::Bare)
-            }
+            Heard::Line(TraceLine::Changed(_)) => { self.finals == 0 && self.last.is_alone() }
             Heard::Line(TraceLine::Datagram(_)) | Heard::Datagram(_) => {
-                self.finals == 0 && !matches!(self.last, LastEntry::Missing)
+                self.finals == 0 && self.last.takes_sent()
             }
+            Heard::Line(TraceLine::Notice(_)) => self.finals == 0 && self.last.takes_notice(),
             Heard::Line(TraceLine::Final(rm, _)) => {
                 usize::from(*rm) == self.finals && self.finals < self.sizes.rms as usize
             }
@@ -81,12 +131,12 @@ impl SoFar {
         match heard {
             Heard::Line(TraceLine::Cluster(_)) => (),
             Heard::Line(TraceLine::Contents(table)) => push(alloc, &mut self.managers, table.rm)?,
-            Heard::Line(TraceLine::Happened(..) | TraceLine::Served(..)) => {
-                self.last = LastEntry::Bare;
-            }
+            Heard::Line(TraceLine::Happened(..)) => self.last = LastEntry::Bare,
+            Heard::Line(TraceLine::Served(..)) => self.last = LastEntry::BareServe,
             Heard::Line(TraceLine::Changed(_) | TraceLine::Datagram(_)) | Heard::Datagram(_) => {
-                self.last = LastEntry::Full;
+                self.last = self.last.filled();
             }
+            Heard::Line(TraceLine::Notice(_)) => self.last = self.last.noticed(),
             Heard::Line(TraceLine::Final(rm, _)) => self.finals = usize::from(*rm) + 1,
         }
         Ok(())

@@ -92,6 +92,13 @@ fn kind_of(tx: Tx, said: Said) -> Kind
 }
 
 impl ToldSent {
+    /// Who sent it.
+    pub fn sender(&self) -> NodeId
+        ensures { result ≡ self.now.sender }
+    {
+        self.sender
+    }
+
     /// The datagram, about this transaction.
     pub(crate) fn with_tx(self, tx: &Tx) -> Sent
         requires { IsMessage (kind_of tx.now self.said) }

@@ -20,7 +20,7 @@ pub(crate) fn push<T: Drop>(alloc: Global, all: &mut Sequence<T>, one: T) -> Res
     Ok(())
 }
 
-/// Says of an entry that it changed a view, or that it sent one more datagram.
+/// Says of an entry that it changed a view, or that it sent one more datagram or told one more notice.
 fn tell(alloc: Global, entry: &mut Entry, said: &TraceLine) -> Result<(), AllocError>
     ensures { OnOk result (entry.new ≡ with_told said.now entry.old) }
 {
@@ -32,6 +32,10 @@ fn tell(alloc: Global, entry: &mut Entry, said: &TraceLine) -> Result<(), AllocE
         TraceLine::Datagram(datagram) => match entry {
             Entry::Step(step) => push(alloc, &mut step.sent, *datagram.get())?,
             Entry::Serve { sent, .. } => push(alloc, sent, *datagram.get())?,
+        },
+        TraceLine::Notice(notice) => match entry {
+            Entry::Step(step) => push(alloc, &mut step.told, *notice)?,
+            Entry::Serve { .. } => (),
         },
         _ => (),
     }
@@ -59,6 +63,7 @@ fn grow(alloc: Global, trace: &mut Trace, said: TraceLine) -> Result<(), AllocEr
     ensures { OnOk result (trace.new ≡ grown trace.old said) }
 {
     let sent = Sequence::new(Vec::new(alloc));
+    let told = Sequence::new(Vec::new(alloc));
     let now = None;
     match said {
         TraceLine::Cluster(_) => (),
@@ -69,6 +74,7 @@ fn grow(alloc: Global, trace: &mut Trace, said: TraceLine) -> Result<(), AllocEr
                 answer,
                 now,
                 sent,
+                told,
             };
             push(alloc, &mut trace.entries, Entry::Step(step))?;
         }

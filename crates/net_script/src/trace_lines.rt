@@ -6,7 +6,7 @@ ghost use Rattle.net_script.specs.TraceLines.{is_tidy};
 
 use crate::values::{Sizes, Table};
 use crate::words::split_once;
-use protocol::{Answer, Boxed, Change, Event, NodeId, Row, Sent};
+use protocol::{Answer, Boxed, Change, Event, NodeId, Row, Sent, Told};
 use xid::Sequence;
 
 /// What one line of a trace says.
@@ -24,6 +24,8 @@ pub enum TraceLine {
     Changed(Boxed<Change>),
     /// A datagram that it sent.
     Datagram(Boxed<Sent>),
+    /// A notice that it told.
+    Notice(Told),
     /// Last rows of a resource manager.
     Final(u8, Sequence<Row>),
 }

@@ -1,7 +1,7 @@
 //! A trace's text, read a line at a time or whole.
 
 ghost use Rattle.std.specs.Prelude.{◌≡◌, [], Option, None, IfOk, IfErr, MatchResult, ℕ, List};
-ghost use Rattle.std.specs.Option.{ForSome};
+ghost use Rattle.std.specs.Option.{ForSome, option_copied};
 ghost use Rattle.net_script.specs.Basics.{NoMemory, Trace};
 ghost use Rattle.net_script.specs.declared.trace_lines.TraceLine.{TraceLine};
 ghost use Rattle.net_script.specs.declared.values.Trace.{Trace};
@@ -22,7 +22,7 @@ use crate::words::split_once;
 use protocol::Boxed;
 use std::alloc::Global;
 use std::marker::Model;
-use xid::{MAX_LEADERS, MAX_MANAGERS, Refusal};
+use xid::{MAX_LEADERS, MAX_MANAGERS, Refusal, Tx};
 
 /// A reader of a trace's text, which gives one line after another and keeps none of them.
 #[derive(Drop)]
@@ -88,6 +88,16 @@ impl<'a> TraceReader<'a> {
         self.rest = after;
         self.number = line;
         Ok(Some(heard))
+    }
+
+    /// The transaction that was read last, if one was: that of a datagram which was heard last.
+    pub fn tx(&self) -> Option<&Tx>
+        ensures { option_copied result ≡ self.now.known }
+    {
+        match &self.known {
+            Some(known) => Some(known.tx()),
+            None => None,
+        }
     }
 
     /// What was heard, a datagram with its transaction. Refused: `NoMemory` alone.

@@ -7,17 +7,17 @@ ghost use Rattle.net_script.specs.Basics.{NoMemory};
 ghost use Rattle.net_script.specs.Items.{bundled_words, sizes_words};
 ghost use Rattle.net_script.specs.Answers.{answer_words};
 ghost use Rattle.net_script.specs.Events.{event_words};
-ghost use Rattle.net_script.specs.Traces.{spaced_words, line_text, change_text, sent_line, step_text, final_line, table_line};
+ghost use Rattle.net_script.specs.Traces.{spaced_words, line_text, change_text, sent_line, notice_line, step_text, final_line, table_line};
 ghost use Rattle.net_script.specs.Traces.{entry_text, final_lines, head_text, outcome_text, trace_text};
 ghost use Rattle.net_script.specs.Writing.{Puts};
 
-use crate::answers::{put_answer, put_change, put_sent};
+use crate::answers::{put_answer, put_change, put_sent, write_notice};
 use crate::events::{event_word, put_event_args};
 use crate::pieces::{put_manager, put_node, put_number, put_rows, put_word};
 use crate::values::{Entry, Sizes, Table, Trace};
 use crate::written::WrittenTx;
 use itoa::Buffer;
-use protocol::{Answer, Change, Event, Row, Sent, Step};
+use protocol::{Answer, Change, Event, Row, Sent, Step, Told};
 use std::alloc::Global;
 use xid::{Refusal, Sequence};
 
@@ -83,8 +83,19 @@ fn put_all_sent(out: &mut Vec<u8>, written: &mut WrittenTx, sent: &[Sent]) -> Re
     Ok(())
 }
 
-/// Writes the first lines of an event after what stands in `out`: its answer, and the view that it changed; what it sent is to follow
-/// them. The text of the transaction that was written last isn't made again. The only refusal is `NoMemory`, and then what stood in
+/// The notices that an event told.
+fn put_all_told(out: &mut Vec<u8>, told: &[Told]) -> Result<(), Refusal>
+    ensures puts { Puts out.old.items out.new.items result (flat_map notice_line told.now) }
+    ensures kept { OnErr result (Extends out.old.items out.new.items) }
+{
+    for notice in told {
+        write_notice(out, notice)?;
+    }
+    Ok(())
+}
+
+/// Writes the first lines of an event after what stands in `out`: its answer, and the view that it changed; what it sent and told is to
+/// follow them. The text of the transaction that was written last isn't made again. The only refusal is `NoMemory`, and then what stood in
 /// `out` still begins it, and what is new there is no whole text.
 pub fn write_answered(
     out: &mut Vec<u8>,
@@ -102,11 +113,21 @@ pub fn write_answered(
     put_outcome(out, written, answer, now)
 }
 
-/// Writes the lines of an event after what stands in `out`: its answer, the view that it changed, and what it sent. The only refusal is
-/// `NoMemory`, and then what stood in `out` still begins it, and what is new there is no whole text.
+/// Writes the lines of an event after what stands in `out`: its answer, the view that it changed, what it sent, and what it told. The only
+/// refusal is `NoMemory`, and then what stood in `out` still begins it, and what is new there is no whole text.
 pub fn write_step(out: &mut Vec<u8>, written: &mut WrittenTx, step: &Step) -> Result<(), Refusal>
     ensures ok { OnOk result (out.new.items ≡ out.old.items ++ step_text step.entry.now) }
     ensures err { IfErr result (λ e. e ≡ NoMemory) }
+    ensures kept { OnErr result (Extends out.old.items out.new.items) }
+{
+    put_step_outcome(out, written, step)?;
+    put_all_told(out, step.told.as_slice())
+}
+
+/// The lines of an event but for those of what it told.
+fn put_step_outcome(out: &mut Vec<u8>, written: &mut WrittenTx, step: &Step) -> Result<(), Refusal>
+    ensures puts { Puts out.old.items out.new.items result
+        (outcome_text (event_words step.entry.now.event) step.entry.now.answer step.entry.now.now step.entry.now.sent) }
     ensures kept { OnErr result (Extends out.old.items out.new.items) }
 {
     write_answered(out, written, &step.event, &step.answer, &step.now)?;

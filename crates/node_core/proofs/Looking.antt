@@ -1,21 +1,29 @@
 -- What is read of a record that is left as it is.
-use Rattle.std.proofs.Common.{◌≡◌, ◌∙◌, ℕ, List, Option, Some, None, inl, inr, refl, sym, ap, subst}
+use Rattle.std.proofs.Common.{◌≡◌, ◌∙◌, ℕ, Bool, List, Option, Some, None, inl, inr, refl, sym, ap, subst}
 use Rattle.std.specs.Prelude.{◌⊎◌, Result, Ok, Err, drop}
+use Rattle.std.specs.List.{list_all}
+use Rattle.xid.specs.Places.{Place, is_below}
 use Rattle.xid.specs.Transactions.{TxParts}
 use Rattle.xid.specs.declared.refusals.Refusal.{Refusal}
 use Rattle.stable_record.specs.declared.fact.FactKind.{FactKind as Fact}
+use Rattle.stable_record.specs.Facts.{fact_tx}
 use Rattle.stable_record.specs.Held.{Held, armed_with}
 use Rattle.protocol.specs.declared.nodes.NodeId.{NodeId}
+use Rattle.protocol.specs.declared.nodes.NodeId.TheVariants.{A, L, R}
 use Rattle.protocol.specs.declared.rows.Row.{Row}
 use Rattle.protocol.specs.declared.states.View.{View}
 use Rattle.protocol.specs.Effects.{Config}
+use Rattle.protocol.specs.LeaderMemory.{LeaderMemory}
 use Rattle.protocol.specs.Nodes.{NodeState, Memory, empty_memory}
+use Rattle.leader.specs.Leaders as of_leader
+use Rattle.leader.specs.Leaders.{LeaderParts}
 use Rattle.node_core.specs.declared.config.Sizes.{Sizes}
 use Rattle.node_core.specs.declared.role.Role.{Role}
 use Rattle.node_core.specs.Roles.{RoleStands}
 use Rattle.node_core.specs.Nodes.{AreSizes, Keeps, Stands, NodeParts, NodeStands, IsSameNode, IsSound}
 use Rattle.node_core.specs.Opening.{IsBad, IsReadAs, Reads}
 use Rattle.node_core.specs.Viewing.{Peeks, SaysView, SaysTable, IsUnread, Views, Tables, ViewsAs, TablesAs}
+use Rattle.node_core.specs.Viewing.{AsksUnused, AsksUnusedAs, TellsUnused}
 use Rattle.node_core.proofs.Loading.{either_same}
 use Rattle.node_core.proofs.Restarting.{same_role}
 
@@ -30,6 +38,14 @@ abbrev pub TablesAll : Role → Result (List Row) Refusal → Type 0
 TablesAll role result =
     (config : Config) (who : NodeId) (facts : List Fact) (memory : Memory) → RoleStands config who role facts memory
     → SaysTable config who facts result
+
+-- a leader that says of its facts whether none is about a name at or above a place says so as a role
+pub leader_tells : (place : Place) (p : LeaderParts) (unused : Bool)
+    → ((config : Config) (number : ℕ) (facts : List Fact) (memory : LeaderMemory) → of_leader.StandsFor config number p facts memory
+    → unused ≡ list_all (λ fact. is_below (Some place) (fact_tx fact)) facts) → TellsUnused place (Role.Leader p) unused
+leader_tells place p unused says config (A a) facts memory stands = absurd stands
+leader_tells place p unused says config (L l) facts memory stands = says config l facts memory.leader stands
+leader_tells place p unused says config (R rm) facts memory stands = absurd stands
 
 -- ---- what is read of a record
 
@@ -70,6 +86,10 @@ module _ (config : Config) (who : NodeId) (own : List Row) (m : NodeState) (old 
       → Tables config who own m old new role result
   says_table r result is t h = record { stands = stays is; says = inl (is, h config who m.facts t.0 t.1) }
 
+  pub says_unused : (r : Role) (place : Place) (unused : Bool) → new ≡ old → Standing r → TellsUnused place r unused
+      → AsksUnused config who own m old new role place (Ok unused)
+  says_unused r place unused is t h = record { stands = stays is; says = inl (is, ap Ok (h config who m.facts t.0 t.1)) }
+
   -- where it isn't read
   pub record Unread (X : Type 0) (e : Refusal) : Type 0 where
     pub stands : Stands config who own new role m
@@ -99,6 +119,10 @@ module _ (config : Config) (who : NodeId) (own : List Row) (m : NodeState) (old 
 
   pub unread_table : role ≡ None → (e : Refusal) → Peeks config who own old new (Err e) → Tables config who own m old new role (Err e)
   unread_table none e p = let u = unread (List Row) none e p in record { stands = u.stands; says = inr u.is }
+
+  pub unread_unused : (place : Place) → role ≡ None → (e : Refusal) → Peeks config who own old new (Err e)
+      → AsksUnused config who own m old new role place (Err e)
+  unread_unused place none e p = let u = unread Bool none e p in record { stands = u.stands; says = inr u.is }
 
 -- ---- the whole node
 
@@ -140,6 +164,10 @@ module _ (node : NodeParts) (held : Held) where
       → Tables config node.who node.rows m node.held held node.role result → TablesAs config m node with_held result
   tables_as config m result v = record { same = same_with (said_nature (List Row) _ result v.says); role_is = refl; tables = v }
 
+  pub unused_as : (config : Config) (m : NodeState) (place : Place) (result : Result Bool Refusal)
+      → AsksUnused config node.who node.rows m node.held held node.role place result → AsksUnusedAs config m node with_held place result
+  unused_as config m place result a = record { same = same_with (said_nature Bool _ result a.says); role_is = refl; asks = a }
+
 -- a tear that is armed
 pub armed_stands : (config : Config) (who : NodeId) (own : List Row) (m : NodeState) (old new : Held) (role : Option Role) (n : ℕ)
     → new ≡ armed_with (Some n) old → Stands config who own old role m → Stands config who own new role (record m { tear = Some n })
@@ -178,6 +206,12 @@ pub tables_from : (inside old new : NodeParts) (result : Result (List Row) Refus
 tables_from inside old new result is h config m s =
     subst (λ o. TablesAs config m o new result) is (h config m (subst (λ o. NodeStands config o m) (sym is) s))
 
+pub unused_from : (inside old new : NodeParts) (place : Place) (result : Result Bool Refusal) → inside ≡ old
+    → ((config : Config) (m : NodeState) → NodeStands config inside m → AsksUnusedAs config m inside new place result)
+    → (config : Config) (m : NodeState) → NodeStands config old m → AsksUnusedAs config m old new place result
+unused_from inside old new place result is h config m s =
+    subst (λ o. AsksUnusedAs config m o new place result) is (h config m (subst (λ o. NodeStands config o m) (sym is) s))
+
 -- the same of rows under another name
 pub views_over : (sizes : Sizes) (who : NodeId) (own rows : List Row) (old new : Held) (role : Option Role) (tx : TxParts)
     (result : Result View Refusal) → own ≡ rows
@@ -198,3 +232,13 @@ pub tables_over : (sizes : Sizes) (who : NodeId) (own rows : List Row) (old new 
 tables_over sizes who own rows old new role result is h =
     subst (λ r. (config : Config) (m : NodeState) → AreSizes config sizes → Stands config who r old role m
     → Tables config who r m old new role result) is h
+
+pub unused_over : (sizes : Sizes) (who : NodeId) (own rows : List Row) (old new : Held) (role : Option Role) (place : Place)
+    (result : Result Bool Refusal) → own ≡ rows
+    → ((config : Config) (m : NodeState) → AreSizes config sizes → Stands config who own old role m
+    → AsksUnused config who own m old new role place result)
+    → (config : Config) (m : NodeState) → AreSizes config sizes → Stands config who rows old role m
+    → AsksUnused config who rows m old new role place result
+unused_over sizes who own rows old new role place result is h =
+    subst (λ r. (config : Config) (m : NodeState) → AreSizes config sizes → Stands config who r old role m
+    → AsksUnused config who r m old new role place result) is h

@@ -4,7 +4,7 @@ use Rattle.std.specs.Prelude.{Result, Ok, Err}
 use Rattle.xid.specs.Places.{Place, IsPlace}
 use Rattle.xid.specs.declared.refusals.Refusal.{Refusal}
 use Rattle.stable_record.specs.declared.fact.FactKind.{FactKind as Fact}
-use Rattle.stable_record.specs.Held.{Held}
+use Rattle.stable_record.specs.Held.{Held, Nature}
 use Rattle.stable_record.specs.Behind.{BehindParts, HasFailedToRise, IsFronting, risen}
 use Rattle.stable_record.proofs.Known.{IsEither, failed_either, failed_fronting}
 use Rattle.protocol.specs.declared.nodes.NodeId.{NodeId}
@@ -170,6 +170,15 @@ module _ (config : Config) (who : NodeId) (own : List Row) (m : NodeState) (plac
   )
   up_unraised Refusal.NoMemory is = (s.role_is.0, clear, is, refl)
   up_unraised other is = absurd is
+
+-- whether a record may fail of itself stays, whatever comes of the rise
+pub forgets_nature : (place : Place) (role : Role) (old new : BehindParts) (result : Result Role Refusal)
+    → Forgets place role old new result → new.held.nature.may_fail ≡ old.held.nature.may_fail
+forgets_nature place role old new (Ok left) (leaves, bytes, shortens, valid, is) = ap (λ (b : BehindParts). b.held.nature.may_fail) is
+forgets_nature place role old new (Err Refusal.RecordFault) (left, leaves, bytes, shortens, h) =
+    ap (λ (n : Nature). n.may_fail) h.nature
+forgets_nature place role old new (Err Refusal.NoMemory) is = ap (λ (b : BehindParts). b.held.nature.may_fail) is
+forgets_nature place role old new (Err other) h = absurd h
 
 -- ---- by the role that there is
 

@@ -4,7 +4,7 @@ ghost use Rattle.protocol.specs.Effects.{Config as ConfigParts};
 ghost use Rattle.protocol.specs.Nodes.{NodeState, down_node};
 ghost use Rattle.node_core.specs.Nodes.{IsSameNode, IsSound, NodeStands, StepsAs, input_of};
 ghost use Rattle.node_core.specs.Opening.{IsOpened, IsUnopened, RestartsAs};
-ghost use Rattle.node_core.specs.Viewing.{ViewsAs, TablesAs};
+ghost use Rattle.node_core.specs.Viewing.{AsksUnusedAs, ViewsAs, TablesAs};
 ghost use Rattle.node_core.specs.Listing.{ListsOpen};
 ghost use Rattle.node_core.specs.Compacting.{CompactsAs};
 ghost use Rattle.node_core.specs.Groups.{GroupsAs};
@@ -19,7 +19,7 @@ use crate::output::{Input, Output};
 use crate::raising::raise;
 use crate::role::Role;
 use crate::storing::Workspace;
-use crate::viewing::{list_open, table, view};
+use crate::viewing::{is_unused_above, list_open, table, view};
 use hashing::HashKey;
 use protocol::{NodeId, Row, View};
 use stable_record::{Behind, Record, RecordError, Tear};
@@ -177,6 +177,25 @@ impl<R: Record> Node<R> {
         )
     }
 
+    /// Whether an acceptor or a leader has stored nothing about a name at or above a floor, by the whole frames of its record, whether it
+    /// is up or down; of a resource manager it says no. Refused, where it is down: its record fails (`RecordFault`), which it counts, or
+    /// `NoMemory`. The node stays as it is, and so do its record's bytes.
+    pub fn is_unused_above(&mut self, floor: &Floor) -> Result<bool, Refusal>
+        ensures { (config : ConfigParts) (m : NodeState) → NodeStands config self.old m
+            → AsksUnusedAs config m self.old self.new floor.now result }
+    {
+        is_unused_above(
+            self.alloc,
+            self.key,
+            &mut self.device,
+            self.who,
+            self.sizes,
+            &self.rows,
+            &self.role,
+            floor,
+        )
+    }
+
     /// The transactions that the resource manager's record has prepared and not ended, in the order of their first facts. Refused: it is no
     /// resource manager (`NoSuch`), it is down (`Down`), or `NoMemory`. The node stays as it is.
     pub fn open_transactions(&self) -> Result<Sequence<Tx>, Refusal>
@@ -298,8 +317,9 @@ impl<R: Record> Node<Behind<R>> {
     /// (`Busy`). The record failed (`RecordFault`), and holds what it held, or what is left behind the new floor; or `NoMemory`, and it is
     /// as it was: after these the node is down. That the place is higher than its floor isn't asked.
     pub fn raise(&mut self, floor: &Floor) -> Result<(), Refusal>
-        ensures { (config : ConfigParts) (m : NodeState) → NodeStands config self.old m
+        ensures machine { (config : ConfigParts) (m : NodeState) → NodeStands config self.old m
             → RaisesAs config m floor.now self.old self.new result }
+        ensures nature { self.new.held.nature.may_fail ≡ self.old.held.nature.may_fail }
     {
         raise(
             self.alloc,

@@ -1,6 +1,6 @@
 //! How a node's floor rises: its role forgets what is below, and what is left of its record stands behind the new floor.
 
-ghost use Rattle.std.specs.Prelude.{List};
+ghost use Rattle.std.specs.Prelude.{◌≡◌, List};
 ghost use Rattle.protocol.specs.declared.nodes.NodeId.{NodeId as Id};
 ghost use Rattle.protocol.specs.declared.rows.Row.{Row};
 ghost use Rattle.protocol.specs.Effects.{Config};
@@ -42,8 +42,9 @@ pub(crate) fn raise<R: Record>(
     role: &mut Option<Role>,
     floor: &Floor,
 ) -> Result<(), Refusal>
-    ensures { (config : Config) (who : Id) (own : List Row) (m : NodeState) → Stands config who own device.old.held role.old m
+    ensures machine { (config : Config) (who : Id) (own : List Row) (m : NodeState) → Stands config who own device.old.held role.old m
         → Raises config who own m floor.now device.old device.new role.old role.new result }
+    ensures nature { device.new.held.nature.may_fail ≡ device.old.held.nature.may_fail }
 {
     match role {
         None => return Err(Refusal::Down),

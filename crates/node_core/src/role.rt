@@ -8,6 +8,7 @@ ghost use Rattle.node_core.specs.declared.role.Role.TheVariants as roles;
 ghost use Rattle.node_core.specs.Raising.{Leaves, TellsClear};
 ghost use Rattle.node_core.specs.Roles.{Decides, HasRoomFor, IsSame, Replays, Takes, decided};
 ghost use Rattle.node_core.specs.Sparing.{serves_freely};
+ghost use Rattle.node_core.specs.Viewing.{TellsUnused};
 
 use crate::output::Output;
 use crate::requests::{at_leader, at_manager, not_taken};
@@ -129,6 +130,18 @@ impl Role {
         match self {
             Role::Manager(manager) => manager.has_branch_below(floor),
             Role::Acceptor(_) | Role::Leader(_) => false,
+        }
+    }
+
+    /// Whether an acceptor or a leader has stored nothing about a name at or above a floor; of a resource manager it says no. It takes no
+    /// memory.
+    pub fn is_unused_above(&self, floor: &Floor) -> bool
+        ensures { TellsUnused floor.now self.now result }
+    {
+        match self {
+            Role::Acceptor(acceptor) => acceptor.is_unused_above(floor),
+            Role::Leader(leader) => leader.is_unused_above(floor),
+            Role::Manager(_) => false,
         }
     }
 

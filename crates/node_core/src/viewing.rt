@@ -8,7 +8,7 @@ ghost use Rattle.protocol.specs.Nodes.{Memory, NodeState};
 ghost use Rattle.node_core.specs.Roles.{RoleStands};
 ghost use Rattle.branch_table.specs.Tables.{are_rows};
 ghost use Rattle.node_core.specs.Nodes.{AreSizes, IsAmong, IsSized, Stands};
-ghost use Rattle.node_core.specs.Viewing.{Peeks, SaysView, SaysTable, Views, Tables};
+ghost use Rattle.node_core.specs.Viewing.{AsksUnused, Peeks, SaysView, SaysTable, Views, Tables};
 ghost use Rattle.node_core.specs.Listing.{ListsOpen, SaysOpen};
 ghost use Rattle.stable_record.specs.Held.{Held};
 ghost use Rattle.protocol.specs.declared.rows.Row.{Row as RowParts};
@@ -20,7 +20,7 @@ use hashing::HashKey;
 use protocol::{NodeId, Row, View};
 use stable_record::Record;
 use std::alloc::Global;
-use xid::{Refusal, Sequence, Tx};
+use xid::{Floor, Refusal, Sequence, Tx};
 
 /// Reads a record and plays its entries, and leaves it as it is. Refused: its bytes are no frames of entries that play, and a tail
 /// (`Damaged`); it failed (`RecordFault`), and then its bytes are what they were; `NoMemory`.
@@ -127,6 +127,33 @@ pub(crate) fn table<R: Record>(
     }
     match peek(alloc, key, device, who, sizes, own) {
         Ok(read) => table_of(&read),
+        Err(refusal) => Err(refusal),
+    }
+}
+
+/// Whether an acceptor or a leader has stored nothing about a name at or above a floor: by its role if it is up, else by its record.
+pub(crate) fn is_unused_above<R: Record>(
+    alloc: Global,
+    key: HashKey,
+    device: &mut R,
+    who: NodeId,
+    sizes: Sizes,
+    own: &[Row],
+    role: &Option<Role>,
+    floor: &Floor,
+) -> Result<bool, Refusal>
+    requires sized { IsSized sizes }
+    requires among { IsAmong sizes who }
+    requires short { are_rows own.now ≡ true }
+    ensures { (config : Config) (m : NodeState) → AreSizes config sizes → Stands config who own.now (R.held device.old) role.now m
+        → AsksUnused config who own.now m (R.held device.old) (R.held device.new) role.now floor.now result }
+{
+    match role {
+        Some(up) => return Ok(up.is_unused_above(floor)),
+        None => {}
+    }
+    match peek(alloc, key, device, who, sizes, own) {
+        Ok(read) => Ok(read.is_unused_above(floor)),
         Err(refusal) => Err(refusal),
     }
 }

@@ -7,12 +7,13 @@ ghost use Rattle.std.specs.Prelude.{◌≡◌, [], ◌∷◌, IfOk, OnOk};
 ghost use Rattle.protocol.specs.Nodes.Input.{Asked};
 ghost use Rattle.protocol.specs.declared.requests.Request.TheVariants.{Call};
 ghost use Rattle.node_core.specs.Configs.{config_of};
+ghost use Rattle.port.specs.Members.{Acts};
 ghost use Rattle.port.specs.Calls.{Calls};
 ghost use Rattle.one_node.specs.Embedding.{IsTakenUp, ServesRounds};
 
 use anyhow::{Context, Result, bail};
-use node_core::{Config, Input, Node};
-use port::{Addresses, Port, Served, UdpPort, call, serve_once};
+use node_core::{Config, Input};
+use port::{Addresses, Member, Port, Served, UdpPort, call, serve_once};
 use protocol::{Action, NodeId, Request};
 use stable_record::{FileRecord, Record};
 use std::alloc::Global;
@@ -34,13 +35,13 @@ fn cluster(alloc: Global) -> Result<Config, Refusal>
 }
 
 /// The node over its record in a folder, a file that is made where there is none.
-fn open(rt: HostRuntime, folder: &str) -> Result<Node<FileRecord>, Refusal>
+fn open(rt: HostRuntime, folder: &str) -> Result<Member<FileRecord>, Refusal>
     ensures { IfOk result IsTakenUp }
 {
     let config = cluster(rt.alloc())?;
     let path = format!(in rt.alloc(); "{folder}/r0.rec")?;
     let record = FileRecord::open(rt, path.as_str())?;
-    match Node::open(rt.alloc(), &config, WHO, record) {
+    match Member::open(rt.alloc(), &config, WHO, record) {
         Ok(node) => Ok(node),
         Err((_record, refusal)) => Err(refusal),
     }
@@ -60,8 +61,8 @@ fn bind(rt: &HostRuntime) -> Result<(UdpPort, UdpPort), Refusal> {
 }
 
 /// A client calls: this comes of it.
-fn ask<R: Record, P: Port>(node: &mut Node<R>, port: &mut P, xid: Xid, action: Action) -> Served
-    ensures { Calls P.sent (Asked (Call xid action)) node.old node.new port.old port.new result }
+fn ask<R: Record, P: Port>(node: &mut Member<R>, port: &mut P, xid: Xid, action: Action) -> Served
+    ensures { Calls P.sent (Acts (Asked (Call xid action))) node.old node.new port.old port.new result }
 {
     let request = Request::Call { xid, action };
     call(node, port, Input::Asked(&request))
@@ -70,7 +71,7 @@ fn ask<R: Record, P: Port>(node: &mut Node<R>, port: &mut P, xid: Xid, action: A
 /// So many rounds, in each of which the node takes one datagram, if one has come. Prints what came of it.
 fn serve<R: Record, P: Port>(
     rt: &impl Print,
-    node: &mut Node<R>,
+    node: &mut Member<R>,
     port: &mut P,
     count: u32,
 ) -> Result<()>
@@ -89,7 +90,7 @@ fn serve<R: Record, P: Port>(
 /// The work of a branch: a client starts it, puts a row, and ends it.
 fn work<R: Record, P: Port>(
     rt: &HostRuntime,
-    node: &mut Node<R>,
+    node: &mut Member<R>,
     port: &mut P,
     xid: Xid,
 ) -> Result<()> {
@@ -114,7 +115,7 @@ fn send<P: Port>(elsewhere: &mut P, kind: Kind) -> Result<(), Refusal> {
 }
 
 /// Prints where the node stands in a transaction, and its table.
-fn report<R: Record>(rt: &impl Print, node: &mut Node<R>, tx: &Tx) -> Result<()> {
+fn report<R: Record>(rt: &impl Print, node: &mut Member<R>, tx: &Tx) -> Result<()> {
     println!(rt; "view: {:?}", node.view(tx)?)?;
     for row in node.table()?.as_slice() {
         println!(rt; "row: {:?} {:?}", row.key.as_slice(), row.value.as_slice())?;
@@ -129,7 +130,7 @@ fn commit<P: Port>(elsewhere: &mut P, tx: &Tx) -> Result<(), Refusal> {
 }
 
 /// What the process does with its node.
-fn live(rt: &HostRuntime, node: &mut Node<FileRecord>, tx: &Tx) -> Result<()> {
+fn live(rt: &HostRuntime, node: &mut Member<FileRecord>, tx: &Tx) -> Result<()> {
     let (mut port, mut elsewhere) = bind(rt).context("binding sockets")?;
     work(rt, node, &mut port, Xid::new(1, b"t", b"a")?)?;
     commit(&mut elsewhere, tx)?;

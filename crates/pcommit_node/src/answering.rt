@@ -6,18 +6,20 @@ use crate::failure::Failure;
 use crate::group::{Item, Origin, Work};
 use crate::life::standing;
 use crate::socket::Counting;
-use node_core::{Input, Node, Output};
-use port::Port;
-use protocol::{Answer, Boxed, Change, NodeId, Request, Standing, View};
-use serving::{Counts, Wish, put_info, put_open, put_reply, put_table};
+use node_core::{Input, Output};
+use port::{Member, Port};
+use protocol::{Action, Answer, Boxed, Change, NodeId, Request, Standing, View};
+use serving::{Counts, Wish, put_info, put_open, put_reply, put_table, time_of};
 use stable_record::FileRecord;
 use std::alloc::Global;
 use std::time::{Duration, Instant};
 use wire::{Kind, decode};
-use xid::{Refusal, Tx};
+use xid::{Floor, Refusal, Tx, XaCode, Xid};
 
 /// How many seconds the end of a transaction is awaited at most.
 const MOST_AWAITED: u64 = 60;
+/// How a start is answered whose name isn't of its time, and a floor above the clock's.
+const UNTIMELY: &[u8] = b"refused 19\n";
 /// From which turn on a leader asks after a transaction that it was asked about: that somebody waits for it is known.
 const ASKED: usize = 2;
 
@@ -63,6 +65,15 @@ fn watch(
     Ok(())
 }
 
+/// A branch was begun: the latest time of a name is known.
+fn note_time(desk: &mut Desk, xid: &Xid, action: &Action, answer: &Answer) {
+    if let (Action::Start, Answer::Code(XaCode::Ok)) = (action, answer) {
+        if let Some(time) = time_of(xid.gtrid()) {
+            desk.latest = desk.latest.max(time);
+        }
+    }
+}
+
 /// A request was answered.
 fn note_request(
     desk: &mut Desk,
@@ -78,6 +89,7 @@ fn note_request(
                 Origin::Node => 0,
             };
             desk.branches.note(number, xid, action, answer, now)?;
+            note_time(desk, xid, action, answer);
         }
         Request::Commit { tx } => watch(desk, tx.get(), 0, answer, now)?,
         Request::Timeout { tx } => {
@@ -108,12 +120,18 @@ fn answer_input(desk: &mut Desk, item: &Item, out: &Output, now: Instant) -> Res
         note_change(desk, change, now)?;
     }
     match &item.work {
-        Work::Take(bytes) => note_question(desk, bytes.as_slice(), now),
+        Work::Take(bytes) => {
+            if let Answer::Refused(Refusal::RecordFault) = out.reply {
+                // its floor was to rise
+                return Err(Refusal::RecordFault.into());
+            }
+            note_question(desk, bytes.as_slice(), now)
+        }
         Work::Ask(request) => {
             note_request(desk, item.origin, request, &out.reply, now)?;
             reply(desk, item.origin, &out.reply)
         }
-        Work::Say(_) => Ok(()),
+        Work::Say(_) | Work::Untimely => Ok(()),
     }
 }
 
@@ -132,7 +150,7 @@ fn counts_now<P: Port + Counting>(desk: &Desk, port: &P) -> Counts {
 
 /// The transactions that aren't final here, each with its age.
 fn open_here(
-    node: &mut Node<FileRecord>,
+    node: &mut Member<FileRecord>,
     desk: &Desk,
     now: Instant,
 ) -> Result<Vec<(Tx, u64)>, Refusal> {
@@ -145,18 +163,52 @@ fn open_here(
     }
     for place in 0..desk.watches.len() {
         if let Some(tx) = desk.watches.get(place) {
-            if standing(desk.alloc, node, &tx)? == Standing::Undecided {
-                open.push((tx, desk.watches.age(&tx, now)))?;
+            match standing(desk.alloc, node, &tx) {
+                Ok(Standing::Undecided) => open.push((tx, desk.watches.age(&tx, now)))?,
+                Ok(_) | Err(Refusal::Forgotten) => {}
+                Err(refusal) => return Err(refusal),
             }
         }
     }
     Ok(open)
 }
 
+/// A node's floor is to rise to a place; what that is answered. A node that is down then ends.
+pub(crate) fn raise<P: Port>(
+    node: &mut Member<FileRecord>,
+    port: &mut P,
+    floor: &Floor,
+) -> Result<Answer, Failure> {
+    match port::raise(node, port, floor) {
+        Ok(()) => Ok(Answer::Done),
+        Err(refusal) => match refusal {
+            Refusal::NoMemory | Refusal::RecordFault => Err(refusal.into()),
+            _ => Ok(Answer::Refused(refusal)),
+        },
+    }
+}
+
+/// A client has a node's floor rise. Where names stand in time, it doesn't rise above the clock's.
+fn raise_for<P: Port>(
+    node: &mut Member<FileRecord>,
+    port: &mut P,
+    desk: &mut Desk,
+    origin: Origin,
+    floor: &Floor,
+) -> Result<(), Failure> {
+    if let Some(times) = desk.times {
+        if times.is_ahead(floor, desk.clock) {
+            return put_text(desk, origin, UNTIMELY);
+        }
+    }
+    let answer = raise(node, port, floor)?;
+    reply(desk, origin, &answer)
+}
+
 /// What is wished beside inputs is answered.
 fn say<P: Port + Counting>(
-    node: &mut Node<FileRecord>,
-    port: &P,
+    node: &mut Member<FileRecord>,
+    port: &mut P,
     desk: &mut Desk,
     origin: Origin,
     wish: &Wish,
@@ -172,7 +224,11 @@ fn say<P: Port + Counting>(
             Ok(open) => put_open(desk.alloc, &mut out, &open),
             Err(refusal) => Err(refusal),
         },
-        Wish::Info => put_info(desk.alloc, &mut out, desk.who, &counts_now(desk, port)),
+        Wish::Info => {
+            let counts = counts_now(desk, port);
+            put_info(desk.alloc, &mut out, desk.who, &counts, &node.floor())
+        }
+        Wish::Raise(floor) => return raise_for(node, port, desk, origin, floor),
         Wish::Await(tx) => return begin_await(desk, origin, tx, now),
         Wish::Elsewhere => Err(Refusal::NoSuch),
         _ => Err(Refusal::BadScript { line: 1 }),
@@ -223,8 +279,8 @@ fn begin_await(
 
 /// What came of the items of a group is noted, and answered, in order.
 pub(crate) fn answer_all<P: Port + Counting>(
-    node: &mut Node<FileRecord>,
-    port: &P,
+    node: &mut Member<FileRecord>,
+    port: &mut P,
     desk: &mut Desk,
     items: &[Item],
     outs: &[Output],
@@ -232,11 +288,15 @@ pub(crate) fn answer_all<P: Port + Counting>(
 ) -> Result<(), Failure> {
     let mut place = 0usize;
     for item in items {
-        if let Work::Say(wish) = &item.work {
-            say(node, port, desk, item.origin, wish, now)?;
-        } else if let Some(out) = outs.get(place) {
-            answer_input(desk, item, out, now)?;
-            place = place.saturating_add(1);
+        match &item.work {
+            Work::Say(wish) => say(node, port, desk, item.origin, wish, now)?,
+            Work::Untimely => put_text(desk, item.origin, UNTIMELY)?,
+            _ => {
+                if let Some(out) = outs.get(place) {
+                    answer_input(desk, item, out, now)?;
+                    place = place.saturating_add(1);
+                }
+            }
         }
     }
     Ok(())
@@ -253,11 +313,11 @@ fn is_last_word(answer: &Answer) -> bool {
 }
 
 /// What an await is answered now, if it is.
-fn awaited(node: &mut Node<FileRecord>, stage: &Stage, now: Instant) -> Option<Answer> {
+fn awaited(node: &mut Member<FileRecord>, stage: &Stage, now: Instant) -> Option<Answer> {
     let Stage::Awaiting { request, until } = stage else {
         return None;
     };
-    let answer = node.step(Input::Asked(request)).reply;
+    let answer = node.take(Input::Asked(request)).reply;
     if is_last_word(&answer) || now >= *until {
         return Some(answer);
     }
@@ -266,7 +326,7 @@ fn awaited(node: &mut Node<FileRecord>, stage: &Stage, now: Instant) -> Option<A
 
 /// The awaits whose time has come are answered, and the lines behind them are looked at again.
 pub(crate) fn answer_awaited(
-    node: &mut Node<FileRecord>,
+    node: &mut Member<FileRecord>,
     desk: &mut Desk,
     now: Instant,
 ) -> Result<(), Failure> {

@@ -6,7 +6,7 @@ use crate::group::{Item, MOST_ITEMS, Origin, Work};
 use crate::proving::{Lock, is_proof};
 use log::debug;
 use protocol::{Action, NodeId, Request};
-use serving::{Branches, Counts, Schedule, Shortening, Watches, Wish, read_wish};
+use serving::{Branches, Counts, Schedule, Shortening, Times, Watches, Wish, read_wish};
 use std::alloc::{AllocError, Global};
 use std::collections::VecDeque;
 use std::time::{Duration, Instant};
@@ -16,6 +16,8 @@ use xid::Xid;
 const IDLE_LOOKS: u64 = 1000;
 /// How many milliseconds are waited at most where there are clients: lines that were begun and ends that are awaited have their times too.
 const CLIENT_LOOKS: u64 = 250;
+/// How often a resource manager tells its floor again, in seconds.
+const TELLS: u64 = 60;
 
 /// What the process keeps beside its node and its port.
 #[derive(Drop)]
@@ -32,6 +34,16 @@ pub(crate) struct Desk {
     pub(crate) idle: Option<Duration>,
     /// When such branches are looked for next.
     pub(crate) next_look: Instant,
+    /// How names stand in time, at a resource manager where they do.
+    pub(crate) times: Option<Times>,
+    /// Milliseconds since 1970 by the system's clock, where names stand in time.
+    pub(crate) clock: u64,
+    /// The latest time of a name that was begun here since the process began, 0 for none.
+    pub(crate) latest: u64,
+    /// When its floor may rise by itself next.
+    pub(crate) next_rise: Instant,
+    /// When a resource manager tells its floor next.
+    pub(crate) next_tell: Instant,
     /// Requests that nobody is answered for, which come into the next group.
     pub(crate) pending: VecDeque<Request>,
     /// The client whose lines are looked at first.
@@ -112,6 +124,7 @@ impl Desk {
             let Some(work) = hear(self.alloc, self.who, &self.door.lock, client, line)? else {
                 continue;
             };
+            let work = timely(&self.times, self.clock, work);
             let is_last = holds_up(&work);
             let number = client.number;
             items.push(Item {
@@ -155,6 +168,36 @@ impl Desk {
         Ok(())
     }
 
+    /// Whether its floor may rise by itself: half of the time has passed for which names are kept, or the record is to be made shorter. If
+    /// so, it may not before as long has passed again.
+    pub(crate) fn may_rise(&mut self, now: Instant) -> bool {
+        let Some(
+            Times {
+                keep: Some(keep),
+                ..
+            },
+        ) = self.times
+        else {
+            return false;
+        };
+        if now < self.next_rise && !self.shortening.is_due(self.counts.record) {
+            return false;
+        }
+        self.next_rise = now
+            .checked_add(Duration::from_millis(keep / 2))
+            .unwrap_or(now);
+        true
+    }
+
+    /// Whether a floor is to be told again. If so, it isn't before some time has passed.
+    pub(crate) fn is_to_tell(&mut self, now: Instant) -> bool {
+        if now < self.next_tell {
+            return false;
+        }
+        self.next_tell = now.checked_add(Duration::from_secs(TELLS)).unwrap_or(now);
+        true
+    }
+
     /// The branches that nobody touches are rolled back.
     pub(crate) fn look_for_idle(&mut self, now: Instant) -> Result<(), AllocError> {
         let Some(idle) = self.idle else {
@@ -182,6 +225,22 @@ fn holds_up(work: &Work) -> bool {
         Work::Say(Wish::Unknown | Wish::Elsewhere | Wish::Info) => false,
         Work::Say(_) => true,
         _ => false,
+    }
+}
+
+/// What is to be done, but that no branch is started whose name isn't of its time.
+fn timely(times: &Option<Times>, clock: u64, work: Work) -> Work {
+    let Some(times) = times else {
+        return work;
+    };
+    match &work {
+        Work::Ask(
+            Request::Call {
+                xid,
+                action: Action::Start,
+            },
+        ) if !times.is_timely(xid, clock) => Work::Untimely,
+        _ => work,
     }
 }
 

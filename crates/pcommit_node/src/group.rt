@@ -29,6 +29,8 @@ pub(crate) enum Work {
     Ask(Request),
     /// A wish that is no input of the node is answered.
     Say(Wish),
+    /// A start is refused, of a name that isn't of its time.
+    Untimely,
 }
 
 /// A piece of work, and for whom.
@@ -48,7 +50,7 @@ pub(crate) fn inputs_of<'a>(
         match &item.work {
             Work::Take(bytes) => inputs.push(Input::Received(bytes.as_slice()))?,
             Work::Ask(request) => inputs.push(Input::Asked(request))?,
-            Work::Say(_) => {}
+            Work::Say(_) | Work::Untimely => {}
         }
     }
     Ok(inputs)

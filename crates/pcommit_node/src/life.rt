@@ -3,22 +3,22 @@
 ghost use Rattle.std.specs.Prelude.{◌≡◌, OnOk};
 ghost use Rattle.serving.specs.Shortenings.{IsDue, IsMarked};
 
-use crate::answering::{answer_all, answer_awaited};
+use crate::answering::{answer_all, answer_awaited, raise};
 use crate::desk::Desk;
 use crate::failure::Failure;
 use crate::group::{Item, MOST_DATAGRAMS, MOST_ITEMS, Origin, Work, inputs_of};
 use crate::socket::Counting;
 use log::info;
 use mio::Events;
-use node_core::{Input, Node, Output};
-use port::{MAX_TAKEN, Port, call_all};
+use node_core::{Input, Output};
+use port::{MAX_TAKEN, Member, Port, call_all};
 use protocol::{Answer, Boxed, NodeId, Request, Standing, View};
 use serving::{Due, Turn};
 use stable_record::{FileRecord, RecordError};
 use std::alloc::{AllocError, Global};
 use std::fs;
 use std::io::ErrorKind;
-use std::time::{Duration, Instant};
+use std::time::{Duration, Instant, SystemTime};
 use xid::{Bytes, Refusal, Tx};
 
 /// Datagrams that wait come into a group. Those that the port refuses come to nothing.
@@ -52,7 +52,7 @@ fn take_datagrams<P: Port>(
 /// Where a transaction stands with a leader or a resource manager. A transaction is read, and nothing stored or sent.
 pub(crate) fn standing(
     alloc: Global,
-    node: &mut Node<FileRecord>,
+    node: &mut Member<FileRecord>,
     tx: &Tx,
 ) -> Result<Standing, Refusal> {
     let request = match node.id() {
@@ -63,7 +63,7 @@ pub(crate) fn standing(
             tx: Boxed::new(alloc, *tx)?,
         },
     };
-    match node.step(Input::Asked(&request)).reply {
+    match node.take(Input::Asked(&request)).reply {
         Answer::Stands(standing) => Ok(standing),
         Answer::Refused(refusal) => Err(refusal),
         _ => Err(Refusal::NoSuch),
@@ -86,7 +86,7 @@ fn is_open(standing: Standing) -> bool {
 
 /// What is due is asked after.
 fn take_due(
-    node: &mut Node<FileRecord>,
+    node: &mut Member<FileRecord>,
     desk: &mut Desk,
     items: &mut Vec<Item>,
     now: Instant,
@@ -123,7 +123,7 @@ fn down(error: RecordError) -> Failure {
 /// The items are handed to the node as one group: one append for all that they store. Then what came of them is sent.
 fn hand<P: Port>(
     alloc: Global,
-    node: &mut Node<FileRecord>,
+    node: &mut Member<FileRecord>,
     port: &mut P,
     items: &[Item],
     outs: &mut Vec<Output>,
@@ -155,7 +155,7 @@ pub(crate) fn record_len(rt: &HostRuntime, path: &str) -> Result<u64, Failure> {
 /// The record is made shorter, if it is time: of so many bytes as it is known to have, and as many as its file has then.
 fn shorten(
     rt: &HostRuntime,
-    node: &mut Node<FileRecord>,
+    node: &mut Member<FileRecord>,
     desk: &mut Desk,
     path: &str,
 ) -> Result<(), Failure>
@@ -179,7 +179,7 @@ fn shorten(
 /// What waits is done: one group of inputs, and then its answers.
 fn do_group<P: Port + Counting>(
     rt: &HostRuntime,
-    node: &mut Node<FileRecord>,
+    node: &mut Member<FileRecord>,
     port: &mut P,
     desk: &mut Desk,
     outs: &mut Vec<Output>,
@@ -197,6 +197,10 @@ fn do_group<P: Port + Counting>(
     hand(desk.alloc, node, port, &items, outs)?;
     let len = record_len(rt, path)?;
     desk.counts.groups = desk.counts.groups.saturating_add(1);
+    if len < desk.counts.record {
+        // its floor rose
+        desk.shortening.note(desk.counts.record, len);
+    }
     if len != desk.counts.record {
         desk.counts.appends = desk.counts.appends.saturating_add(1);
         desk.counts.record = len;
@@ -204,16 +208,78 @@ fn do_group<P: Port + Counting>(
     answer_all(node, port, desk, &items, outs, now)
 }
 
+/// The floor of a resource manager whose names stand in time rises by itself, if it is time.
+fn rise<P: Port>(
+    rt: &HostRuntime,
+    node: &mut Member<FileRecord>,
+    port: &mut P,
+    desk: &mut Desk,
+    path: &str,
+    now: Instant,
+) -> Result<(), Failure> {
+    if !desk.may_rise(now) {
+        return Ok(());
+    }
+    let Some(times) = desk.times else {
+        return Ok(());
+    };
+    let prepared = node.open_transactions()?;
+    let Some(floor) = times.floor(desk.clock, desk.latest, &desk.branches, prepared.as_slice())
+    else {
+        return Ok(());
+    };
+    if !floor.is_higher_than(&node.floor()) {
+        return Ok(());
+    }
+    if let Answer::Done = raise(node, port, &floor)? {
+        let (before, after) = (desk.counts.record, record_len(rt, path)?);
+        desk.shortening.note(before, after);
+        desk.counts.record = after;
+        info!(desk.door.log; "the floor rose, and the record went from {before} bytes to {after}");
+    }
+    Ok(())
+}
+
+/// The milliseconds since 1970 by the system's clock, none where that is set before.
+fn clock(rt: &HostRuntime) -> Result<u64, Failure> {
+    match SystemTime::now(rt)?.duration_since(SystemTime::UNIX_EPOCH) {
+        Ok(since) => Ok(u64::try_from(since.as_millis()).unwrap_or(u64::MAX)),
+        Err(_) => Ok(0),
+    }
+}
+
+/// A resource manager that has a floor tells it again, if it is time: who was told may have been started anew since.
+fn tell_again<P: Port>(
+    node: &mut Member<FileRecord>,
+    port: &mut P,
+    desk: &mut Desk,
+    now: Instant,
+) -> Result<(), Failure> {
+    if !desk.is_to_tell(now) {
+        return Ok(());
+    }
+    let NodeId::R(_) = desk.who else {
+        return Ok(());
+    };
+    if let Some(floor) = node.floor() {
+        raise(node, port, &floor)?;
+    }
+    Ok(())
+}
+
 /// One round of the loop, at a time.
 fn go_round<P: Port + Counting>(
     rt: &HostRuntime,
-    node: &mut Node<FileRecord>,
+    node: &mut Member<FileRecord>,
     port: &mut P,
     desk: &mut Desk,
     outs: &mut Vec<Output>,
     path: &str,
     now: Instant,
 ) -> Result<(), Failure> {
+    if desk.times.is_some() {
+        desk.clock = clock(rt)?;
+    }
     desk.door.accept_all(now);
     desk.door.read_all();
     do_group(rt, node, port, desk, outs, path, now)?;
@@ -224,11 +290,13 @@ fn go_round<P: Port + Counting>(
     }
     desk.sweep(now)?;
     desk.look_for_idle(now)?;
+    rise(rt, node, port, desk, path, now)?;
+    tell_again(node, port, desk, now)?;
     shorten(rt, node, desk, path)
 }
 
 /// After a start a resource manager asks after all that its record has prepared and not ended.
-fn watch_open(node: &Node<FileRecord>, desk: &mut Desk, now: Instant) -> Result<(), Failure> {
+fn watch_open(node: &Member<FileRecord>, desk: &mut Desk, now: Instant) -> Result<(), Failure> {
     let NodeId::R(_) = desk.who else {
         return Ok(());
     };
@@ -256,7 +324,7 @@ fn wait(
 /// The node's life. It ends where it fails.
 pub(crate) fn live<P: Port + Counting>(
     rt: &HostRuntime,
-    node: &mut Node<FileRecord>,
+    node: &mut Member<FileRecord>,
     port: &mut P,
     desk: &mut Desk,
     path: &str,

@@ -32,9 +32,9 @@ use hmac::Key;
 use log::LevelFilter;
 use mio::net::TcpListener;
 use mio::{Interest, Poll};
-use node_core::Node;
+use port::Member;
 use protocol::NodeId;
-use serving::{Branches, Counts, Schedule, Shortening, Watches};
+use serving::{Branches, Counts, Schedule, Shortening, Times, Watches};
 use signed_port::{PlainPort, SignedPort};
 use slab::Slab;
 use stable_record::FileRecord;
@@ -147,6 +147,26 @@ fn idle_of(setup: &Setup) -> Option<Duration> {
     }
 }
 
+/// How names stand in time, at a resource manager where they do. One that speaks for a database beside it raises no floor by itself.
+fn times_of(setup: &Setup) -> Option<Times> {
+    let NodeId::R(_) = setup.who else {
+        return None;
+    };
+    let naming = setup.cluster.naming;
+    if !naming.timed {
+        return None;
+    }
+    Some(Times {
+        format: naming.format,
+        ahead: u64::from(naming.ahead),
+        keep: if setup.place.beside {
+            None
+        } else {
+            Some(u64::from(naming.keep))
+        },
+    })
+}
+
 /// What the process keeps beside its node and its port.
 fn make_desk(rt: HostRuntime, setup: &Setup, door: Door) -> Result<Desk, Failure> {
     let alloc = rt.alloc();
@@ -162,6 +182,11 @@ fn make_desk(rt: HostRuntime, setup: &Setup, door: Door) -> Result<Desk, Failure
         counts: Counts::default(),
         idle: idle_of(setup),
         next_look: Instant::now(&rt)?,
+        times: times_of(setup),
+        clock: 0,
+        latest: 0,
+        next_rise: Instant::now(&rt)?,
+        next_tell: Instant::now(&rt)?,
         pending: VecDeque::new(alloc),
         first: 0,
     })
@@ -187,7 +212,7 @@ fn signing_key(key: &[u8; KEY]) -> Key {
 /// The life of a node at a socket, whose datagrams are signed if there is a key.
 fn lead_signed(
     rt: &HostRuntime,
-    node: &mut Node<FileRecord>,
+    node: &mut Member<FileRecord>,
     socket: NodeSocket,
     desk: &mut Desk,
     setup: &Setup,
@@ -208,7 +233,7 @@ fn lead_signed(
 /// The life of a node at its place.
 fn lead(
     rt: HostRuntime,
-    node: &mut Node<FileRecord>,
+    node: &mut Member<FileRecord>,
     setup: &Setup,
     options: Options,
     path: &str,

@@ -5,7 +5,8 @@ use crate::failure::Failure;
 use cluster_file::{Cluster, ClusterError, Fault, KEY, Owner, Place, digest, key_of, read_cluster};
 use hashing::HashKey;
 use net_script::last_node;
-use node_core::{Config, Node, place_of};
+use node_core::{Config, place_of};
+use port::Member;
 use protocol::NodeId;
 use stable_record::{FileRecord, RecordError};
 use std::alloc::{AllocError, Global};
@@ -277,12 +278,12 @@ pub(crate) fn open_node(
     config: &Config,
     who: NodeId,
     path: &str,
-) -> Result<Node<FileRecord>, Failure> {
+) -> Result<Member<FileRecord>, Failure> {
     let record = match open_record(rt, path) {
         Ok(record) => record,
         Err(failure) => return Err(failure),
     };
-    match Node::open(rt.alloc(), config, who, record) {
+    match Member::open(rt.alloc(), config, who, record) {
         Ok(node) => Ok(node),
         Err((_record, Refusal::NoMemory)) => Err(Failure::Memory),
         Err((_record, refusal)) => Err(Failure::Device {

@@ -1,13 +1,13 @@
 -- The rows of a trace are in the order of their lines: each is on the line at its place.
 use Rattle.std.proofs.Common.{◌≡◌, ℕ, ◌+◌, ◌≤◌, List, [], ◌∷◌, ◌++◌, length, fold, Bool, Option, Some, None, ap, ◌∙◌, arith}
-use Rattle.net_script.specs.Basics.{Change, Sent}
+use Rattle.net_script.specs.Basics.{Change, Sent, Told}
 use Rattle.net_script.specs.declared.values.Entry.{Entry}
 use Rattle.net_script.specs.declared.values.Trace.{Trace}
 use Rattle.picture.specs.declared.rows.Row.{Row}
 use Rattle.picture.specs.declared.rows.What.{What}
 use Rattle.picture.specs.Order.{Ascend}
 use Rattle.picture.specs.Pictures.{trace_rows}
-use Rattle.picture.specs.Rows.{line_at, are_several, with_row, with_change, with_sent, with_entry}
+use Rattle.picture.specs.Rows.{line_at, are_several, with_row, with_change, with_sent, with_notice, with_entry}
 
 -- rows from a place on, each on its line
 abbrev AreNumbered : ℕ → ℕ → List Row → Type 0
@@ -40,10 +40,16 @@ sent_more first several rows [] are = are
 sent_more first several rows (datagram ∷ sent) are =
     sent_more first several (with_sent first several rows datagram) sent (row_more first rows _ _ are)
 
+told_more : (first : ℕ) (rows : List Row) (told : List Told) → AreNumbered first 0 rows
+    → AreNumbered first 0 (fold (with_notice first) rows told)
+told_more first rows [] are = are
+told_more first rows (notice ∷ told) are = told_more first (with_notice first rows notice) told (row_more first rows _ _ are)
+
 entry_more : (first : ℕ) (several : Bool) (rows : List Row) (entry : Entry) → AreNumbered first 0 rows
     → AreNumbered first 0 (with_entry first several rows entry)
 entry_more first several rows (Entry.Step step) are =
-    sent_more first several _ step.sent (change_more first several _ step.now (row_more first rows _ _ are))
+    told_more first _ step.told
+    (sent_more first several _ step.sent (change_more first several _ step.now (row_more first rows _ _ are)))
 entry_more first several rows (Entry.Serve node answer now sent) are =
     sent_more first several _ sent (change_more first several _ now (row_more first rows _ _ are))
 

@@ -1,8 +1,8 @@
 -- What stands beside the marks of a picture.
-use Rattle.std.specs.Prelude.{ℕ, Bool, if◌then◌else◌, List, [], ◌∷◌, ◌++◌, decimal}
+use Rattle.std.specs.Prelude.{ℕ, Bool, if◌then◌else◌, List, [], ◌∷◌, ◌++◌, codes, decimal}
 use Rattle.net_script.specs.Basics.{TxParts, tx_text, message_tx, Kind, Prepare, P1a, P1b, P2a, P2b, Commit, Abort, B1a, B1b, B2b, R}
-use Rattle.net_script.specs.Basics.{Change, Sent}
-use Rattle.net_script.specs.Lines.{node_text}
+use Rattle.net_script.specs.Basics.{Change, Sent, Told}
+use Rattle.net_script.specs.Lines.{node_text, floor_text}
 use Rattle.net_script.specs.Answers.{view_text}
 use Rattle.net_script.specs.Messages.{ballot_words, message_word, report_words, vote_text}
 use Rattle.net_script.specs.Traces.{spaced_words}
@@ -29,6 +29,10 @@ named several tx = if several then 32 ∷ tx_text tx else []
 abbrev pub sent_label : Bool → Sent → List ℕ
 sent_label several sent =
     message_word sent.message ++ spaced_words (label_args sent.message) ++ named several (message_tx sent.message)
+
+-- a notice, by its word and the floor that it tells
+abbrev pub notice_label : Told → List ℕ
+notice_label told = codes "told" ++ 32 ∷ floor_text told.floor
 
 -- a changed view
 abbrev pub change_label : Bool → Change → List ℕ

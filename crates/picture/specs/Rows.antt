@@ -7,14 +7,15 @@ use Rattle.xid.specs.declared.codes.XaCode.{XaCode}
 use Rattle.xid.specs.declared.refusals.Refusal.{Refusal}
 use Rattle.xid.specs.Transactions.{TxParts, tx_eq}
 use Rattle.net_script.specs.Basics.{message_tx, Answer, Code, Refused}
-use Rattle.net_script.specs.Basics.{Event, Ask, Deliver, Lose, Cut, Noise, Tear, Restart, Compact, Change, Sent}
+use Rattle.net_script.specs.Basics.{Event, Ask, Deliver, Lose, Cut, Noise, Tear, Restart, Compact, Raise, Hear, Replace, R}
+use Rattle.net_script.specs.Basics.{Change, Sent, Told}
 use Rattle.net_script.specs.declared.values.Entry.{Entry}
 use Rattle.net_script.specs.Events.{event_word}
 use Rattle.picture.specs.declared.elements.Mark.{Mark}
 use Rattle.picture.specs.declared.rows.Row.{Row}
 use Rattle.picture.specs.declared.rows.What.{What}
 use Rattle.picture.specs.declared.rows.What.TheVariants.{At, Delivers, Loses, Misses, Changes, Sends}
-use Rattle.picture.specs.Labels.{change_label, sent_label}
+use Rattle.picture.specs.Labels.{change_label, notice_label, sent_label}
 
 -- whether a code is that of an error
 abbrev pub is_error_code : XaCode → Bool
@@ -51,6 +52,10 @@ delivered number is_taken answer = if is_missing answer then Misses else Deliver
 abbrev pub lost : ℕ → Answer → What
 lost number answer = if is_error answer then Misses else Loses number
 
+-- the number by which a picture has a notice, which is drawn as a datagram is: it is behind those of all datagrams
+abbrev pub notice_number : ℕ → ℕ
+notice_number number = 2 ^ 32 + number
+
 -- what an event adds, by its answer and the view that it changed. The first bytes of a datagram nobody takes
 abbrev pub what_of : Event → Answer → Option Change → What
 what_of (Ask node request) answer now = At node (mark_of Mark.Done answer)
@@ -61,6 +66,9 @@ what_of (Noise node bytes) answer now = At node (mark_of Mark.Done answer)
 what_of (Tear node bytes) answer now = At node (mark_of Mark.Tear answer)
 what_of (Restart node) answer now = At node (mark_of Mark.Restart answer)
 what_of (Compact node) answer now = At node (mark_of Mark.Compaction answer)
+what_of (Raise rm floor) answer now = At (R rm) (mark_of Mark.Compaction answer)
+what_of (Hear number) answer now = delivered (notice_number number) (is_taken answer now) answer
+what_of (Replace node floor) answer now = At node (mark_of Mark.Restart answer)
 
 -- ---- rows
 
@@ -81,6 +89,11 @@ with_change first several rows (Some change) = with_row first rows (change_label
 abbrev pub with_sent : ℕ → Bool → List Row → Sent → List Row
 with_sent first several rows sent = with_row first rows (sent_label several sent) (Sends sent.number sent.sender sent.receiver)
 
+-- the row of a notice more
+abbrev pub with_notice : ℕ → List Row → Told → List Row
+with_notice first rows told =
+    with_row first rows (notice_label told) (Sends (notice_number told.number) (R told.manager) told.receiver)
+
 -- the rows of what came of an event more
 abbrev pub with_outcome : ℕ → Bool → List Row → Option Change → List Sent → List Row
 with_outcome first several rows now sent = fold (with_sent first several) (with_change first several rows now) sent
@@ -88,8 +101,9 @@ with_outcome first several rows now sent = fold (with_sent first several) (with_
 -- the rows of what happened more
 abbrev pub with_entry : ℕ → Bool → List Row → Entry → List Row
 with_entry first several rows (Entry.Step step) =
-    with_outcome first several (with_row first rows (event_word step.event) (what_of step.event step.answer step.now)) step.now
-    step.sent
+    fold (with_notice first)
+    (with_outcome first several (with_row first rows (event_word step.event) (what_of step.event step.answer step.now)) step.now step.sent)
+    step.told
 with_entry first several rows (Entry.Serve node answer now sent) =
     with_outcome first several (with_row first rows (codes "serve") (At node (mark_of Mark.Done answer))) now sent
 

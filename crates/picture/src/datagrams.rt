@@ -1,4 +1,4 @@
-//! The rows in which datagrams are sent, taken and lost, by their numbers.
+//! The rows in which datagrams are sent, taken and lost, by their numbers. A notice is a datagram here, with a number behind all theirs.
 
 ghost use Rattle.std.specs.Prelude.{◌≡◌, ℕ, [], ◌∷◌, find, IfOk, IfErr, OnOk};
 ghost use Rattle.std.specs.BTreeMap.{get};
@@ -28,7 +28,7 @@ pub(crate) enum Role {
 }
 
 /// The number of the datagram with which a row does this, if there is one.
-fn number_in(role: Role, row: &Row) -> Option<u32>
+fn number_in(role: Role, row: &Row) -> Option<u64>
     ensures { result ≡ number_in role row.now }
 {
     match (role, row.what) {
@@ -48,7 +48,7 @@ fn number_in(role: Role, row: &Row) -> Option<u32>
 
 /// Keeps a row, if it is the first that does this with its datagram.
 fn keep_first<'a>(
-    firsts: &mut BTreeMap<u32, &'a Row>,
+    firsts: &mut BTreeMap<u64, &'a Row>,
     role: Role,
     row: &'a Row,
 ) -> Result<(), Refusal>
@@ -70,7 +70,7 @@ fn first_rows<'a>(
     alloc: Global,
     role: Role,
     rows: &'a [Row],
-) -> Result<BTreeMap<u32, &'a Row>, Refusal>
+) -> Result<BTreeMap<u64, &'a Row>, Refusal>
     ensures ok { IfOk result (AreFirst role rows.now) }
     ensures err { IfErr result (λ e. e ≡ NoMemory) }
 {
@@ -85,9 +85,9 @@ fn first_rows<'a>(
 #[derive(Drop)]
 pub(crate) struct IndexedRows<'a> {
     rows: &'a [Row],
-    sent: BTreeMap<u32, &'a Row>,
-    taken: BTreeMap<u32, &'a Row>,
-    lost: BTreeMap<u32, &'a Row>,
+    sent: BTreeMap<u64, &'a Row>,
+    taken: BTreeMap<u64, &'a Row>,
+    lost: BTreeMap<u64, &'a Row>,
 }
 
 impl<'a> Model for IndexedRows<'a> {
@@ -133,21 +133,21 @@ impl<'a> IndexedRows<'a> {
     }
 
     /// The row of the datagram of this number, sent before a line.
-    pub(crate) fn find_sent(&self, number: u32, line: u32) -> Option<&'a Row>
+    pub(crate) fn find_sent(&self, number: u64, line: u32) -> Option<&'a Row>
         ensures { option_copied result ≡ find (is_sent number line) self.now }
     {
         earlier(line, self.sent.get(&number))
     }
 
     /// Whether the datagram of this number was taken before a line.
-    pub(crate) fn is_taken_before(&self, number: u32, line: u32) -> bool
+    pub(crate) fn is_taken_before(&self, number: u64, line: u32) -> bool
         ensures { result ≡ list_any (takes number line) self.now }
     {
         earlier(line, self.taken.get(&number)).is_some()
     }
 
     /// Whether the datagram of this number is taken or lost.
-    pub(crate) fn is_settled(&self, number: u32) -> bool
+    pub(crate) fn is_settled(&self, number: u64) -> bool
         ensures { result ≡ list_any (settles number) self.now }
     {
         self.taken.contains_key(&number) || self.lost.contains_key(&number)

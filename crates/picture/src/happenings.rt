@@ -126,7 +126,7 @@ fn half_way(sizes: Sizes, row: &Row, line: u32) -> Ends
 }
 
 /// How a datagram is drawn that is delivered: thick, where it is taken, and wasn't before.
-fn arrow_pen(rows: &IndexedRows<'_>, line: u32, number: u32, is_taken: bool) -> Pen
+fn arrow_pen(rows: &IndexedRows<'_>, line: u32, number: u64, is_taken: bool) -> Pen
     ensures { result ≡ arrow_pen rows.now line number is_taken }
 {
     if is_taken && !rows.is_taken_before(number, line) {
@@ -142,7 +142,7 @@ fn draw_arrow(
     sizes: Sizes,
     rows: &IndexedRows<'_>,
     line: u32,
-    number: u32,
+    number: u64,
     is_taken: bool,
 ) -> Result<(), Refusal>
     ensures ok { OnOk result (out.new.items ≡ out.old.items ++ arrow_elements sizes rows.now line number is_taken) }
@@ -163,7 +163,7 @@ fn draw_loss(
     sizes: Sizes,
     rows: &IndexedRows<'_>,
     line: u32,
-    number: u32,
+    number: u64,
 ) -> Result<(), Refusal>
     ensures ok { OnOk result (out.new.items ≡ out.old.items ++ loss_elements sizes rows.now line number) }
     ensures err { IfErr result (λ e. e ≡ NoMemory) }
@@ -218,7 +218,7 @@ fn short_way(at: Point, receiver: u64) -> Point
 fn draw_sent(
     out: &mut Vec<Element>,
     rows: &IndexedRows<'_>,
-    number: u32,
+    number: u64,
     at: Point,
     receiver: u64,
 ) -> Result<(), Refusal>
@@ -318,7 +318,7 @@ fn draw_delivered(
     sizes: Sizes,
     rows: &IndexedRows<'_>,
     row: &Row,
-    number: u32,
+    number: u64,
     mark: Mark,
 ) -> Result<(), Refusal>
     ensures ok { OnOk result (out.new.items ≡ out.old.items ++ delivered_elements sizes rows.now row.now number mark) }
@@ -338,7 +338,7 @@ fn draw_lost(
     sizes: Sizes,
     rows: &IndexedRows<'_>,
     row: &Row,
-    number: u32,
+    number: u64,
 ) -> Result<(), Refusal>
     ensures ok { OnOk result (out.new.items ≡ out.old.items ++ lost_elements sizes rows.now row.now number) }
     ensures err { IfErr result (λ e. e ≡ NoMemory) }

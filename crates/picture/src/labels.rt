@@ -8,11 +8,11 @@ ghost use Rattle.net_script.specs.Events.{action_word, request_word, event_word}
 ghost use Rattle.net_script.specs.Answers.{view_text};
 ghost use Rattle.net_script.specs.Messages.{ballot_words, message_word, report_words, vote_text};
 ghost use Rattle.net_script.specs.Traces.{spaced_words};
-ghost use Rattle.picture.specs.Labels.{change_label, label_args, named, sent_label};
+ghost use Rattle.picture.specs.Labels.{change_label, label_args, named, notice_label, sent_label};
 
 use itoa::Buffer;
-use net_script::put_tx;
-use protocol::{Action, Change, Event, Request, Sent, View};
+use net_script::{put_floor, put_tx};
+use protocol::{Action, Change, Event, Request, Sent, Told, View};
 use std::alloc::Global;
 use wire::Kind;
 use xid::{Ballot, Bytes, ManagerNumber, Refusal, Sequence, Tx, Vote};
@@ -58,6 +58,9 @@ pub(crate) fn event_word(event: &Event) -> &'static [u8]
         Event::Tear { .. } => b"tear",
         Event::Restart { .. } => b"restart",
         Event::Compact { .. } => b"compact",
+        Event::Raise { .. } => b"floor",
+        Event::Hear { .. } => b"hear",
+        Event::Replace { .. } => b"replace",
     }
 }
 
@@ -222,6 +225,17 @@ pub(crate) fn sent_label(alloc: Global, several: bool, sent: &Sent) -> Result<By
     label.extend_from_slice(kind_word(kind))?;
     put_args(&mut label, kind)?;
     put_named(&mut label, several, kind.tx())?;
+    Ok(Sequence::new(label))
+}
+
+/// The word of a notice and the floor that it tells. The only refusal is `NoMemory`.
+pub(crate) fn notice_label(alloc: Global, told: &Told) -> Result<Bytes, Refusal>
+    ensures ok { IfOk result (λ label. label ≡ notice_label told.now) }
+    ensures err { IfErr result (λ e. e ≡ NoMemory) }
+{
+    let mut label = Vec::new(alloc);
+    label.extend_from_slice(b"told")?;
+    put_floor(&mut label, &told.floor)?;
     Ok(Sequence::new(label))
 }
 

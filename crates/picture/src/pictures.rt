@@ -128,9 +128,9 @@ pub fn picture(alloc: Global, path: &[u8], bytes: &[u8]) -> Result<Vec<u8>, Refu
     Ok(text)
 }
 
-/// An arrow, thick or thin, begins on the lane of the node that sent a datagram, in the row of that, or at the head of the lane where that
-/// is on an earlier page; and it ends on the lane of the node that it is for, in the row of an event that handed it over, or its first
-/// bytes. Of a thick one that is the first event that took it. The stroke of one that is lost ends half way.
+/// An arrow, thick or thin, begins on the lane of the node that sent a datagram or told a notice, in the row of that, or at the head of the
+/// lane where that is on an earlier page; and it ends on the lane of the node that it is for, in the row of an event that handed it over,
+/// or its first bytes. Of a thick one that is the first event that took it. The stroke of one that is lost ends half way.
 pub fn true_arrows()
     ensures { (bytes : List ℕ) (t : Trace) → All (IsTrueOf t.sizes (trace_rows t)) (elements_of bytes t) }
 {}

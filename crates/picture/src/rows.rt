@@ -1,17 +1,17 @@
 //! The lines of a trace that tell of events, each with its label and with what it adds to the picture.
 
-ghost use Rattle.std.specs.Prelude.{◌≡◌, IfOk, IfErr, OnOk};
+ghost use Rattle.std.specs.Prelude.{◌≡◌, fold, IfOk, IfErr, OnOk};
 ghost use Rattle.std.specs.List.{list_any};
 ghost use Rattle.std.specs.Option.{option_copied};
 ghost use Rattle.xid.specs.declared.refusals.Refusal.TheVariants.{NoMemory};
 ghost use Rattle.picture.specs.Rows.{are_several, is_error, is_missing, is_of_other, is_taken, line_at, lost, mark_of, rows_of};
-ghost use Rattle.picture.specs.Rows.{delivered, told_tx, tx_of, what_of};
-ghost use Rattle.picture.specs.Rows.{with_change, with_entry, with_outcome, with_row, with_sent};
+ghost use Rattle.picture.specs.Rows.{delivered, notice_number, told_tx, tx_of, what_of};
+ghost use Rattle.picture.specs.Rows.{with_change, with_entry, with_notice, with_outcome, with_row, with_sent};
 
 use crate::elements::Mark;
-use crate::labels::{change_label, event_word, sent_label};
+use crate::labels::{change_label, event_word, notice_label, sent_label};
 use net_script::Entry;
-use protocol::{Answer, Change, Event, NodeId, Sent, View};
+use protocol::{Answer, Change, Event, NodeId, Sent, Told, View};
 use std::alloc::Global;
 use xid::{Bytes, Refusal, Tx, XaCode};
 
@@ -25,10 +25,10 @@ pub enum What {
         /// What happened.
         mark: Mark,
     },
-    /// A datagram was handed over, or its first bytes.
+    /// A datagram or a notice was handed over, or the first bytes of a datagram.
     Delivers {
         /// Its number.
-        number: u32,
+        number: u64,
         /// Whether its receiver took it.
         is_taken: bool,
         /// What came of it.
@@ -37,9 +37,9 @@ pub enum What {
     /// A datagram was lost.
     Loses {
         /// Its number.
-        number: u32,
+        number: u64,
     },
-    /// There is no such datagram, or no such part of it.
+    /// There is no such datagram, no such part of it, or no such notice.
     Misses,
     /// A resource manager changed its view.
     Changes {
@@ -48,10 +48,10 @@ pub enum What {
         /// The view.
         view: View,
     },
-    /// A datagram was sent.
+    /// A datagram was sent, or a notice was told.
     Sends {
         /// Its number.
-        number: u32,
+        number: u64,
         /// Who sent it.
         sender: NodeId,
         /// Whom it is for.
@@ -119,7 +119,7 @@ fn is_taken(answer: &Answer, now: &Option<Change>) -> bool
 }
 
 /// What the delivery of a datagram adds, or that of its first bytes.
-fn delivered(number: u32, is_taken: bool, answer: &Answer) -> What
+fn delivered(number: u64, is_taken: bool, answer: &Answer) -> What
     ensures { result ≡ delivered number is_taken answer.now }
 {
     if is_missing(answer) {
@@ -133,13 +133,20 @@ fn delivered(number: u32, is_taken: bool, answer: &Answer) -> What
 }
 
 /// What the loss of a datagram adds.
-fn lost(number: u32, answer: &Answer) -> What
+fn lost(number: u64, answer: &Answer) -> What
     ensures { result ≡ lost number answer.now }
 {
     if is_error(answer) {
         return What::Misses;
     }
     What::Loses { number }
+}
+
+/// The number by which a picture has a notice, which is drawn as a datagram is: it is behind those of all datagrams.
+fn notice_number(number: u32) -> u64
+    ensures { result ≡ notice_number number }
+{
+    (1 << 32) + u64::from(number)
 }
 
 /// What an event adds, by its answer and the view that it changed. The first bytes of a datagram nobody takes.
@@ -151,14 +158,16 @@ fn what_of(event: &Event, answer: &Answer, now: &Option<Change>) -> What
             node: *node,
             mark: mark_of(Mark::Done, answer),
         },
-        Event::Deliver { number } => delivered(*number, is_taken(answer, now), answer),
-        Event::Cut { number, .. } => delivered(*number, false, answer),
-        Event::Lose { number } => lost(*number, answer),
+        Event::Deliver { number } => {
+            delivered(u64::from(*number), is_taken(answer, now), answer)
+        }
+        Event::Cut { number, .. } => delivered(u64::from(*number), false, answer),
+        Event::Lose { number } => lost(u64::from(*number), answer),
         Event::Tear { node, .. } => What::At {
             node: *node,
             mark: mark_of(Mark::Tear, answer),
         },
-        Event::Restart { node } => What::At {
+        Event::Restart { node } | Event::Replace { node, .. } => What::At {
             node: *node,
             mark: mark_of(Mark::Restart, answer),
         },
@@ -166,6 +175,13 @@ fn what_of(event: &Event, answer: &Answer, now: &Option<Change>) -> What
             node: *node,
             mark: mark_of(Mark::Compaction, answer),
         },
+        Event::Raise { rm, .. } => What::At {
+            node: NodeId::R(*rm),
+            mark: mark_of(Mark::Compaction, answer),
+        },
+        Event::Hear { number } => {
+            delivered(notice_number(*number), is_taken(answer, now), answer)
+        }
     }
 }
 
@@ -224,9 +240,34 @@ fn push_sent(
 {
     let label = sent_label(alloc, several, sent)?;
     let what = What::Sends {
-        number: sent.number,
+        number: u64::from(sent.number),
         sender: sent.sender,
         receiver: sent.receiver,
+    };
+    push_row(rows, first, label, what)
+}
+
+/// Puts the rows of notices after others.
+fn push_told(alloc: Global, rows: &mut Vec<Row>, first: u32, told: &[Told]) -> Result<(), Refusal>
+    ensures ok { OnOk result (rows.new.items ≡ fold (with_notice first) rows.old.items told.now) }
+    ensures err { IfErr result (λ e. e ≡ NoMemory) }
+{
+    for notice in told {
+        push_notice(alloc, rows, first, notice)?;
+    }
+    Ok(())
+}
+
+/// Puts the row of a notice after others.
+fn push_notice(alloc: Global, rows: &mut Vec<Row>, first: u32, told: &Told) -> Result<(), Refusal>
+    ensures ok { OnOk result (rows.new.items ≡ with_notice first rows.old.items told.now) }
+    ensures err { IfErr result (λ e. e ≡ NoMemory) }
+{
+    let label = notice_label(alloc, told)?;
+    let what = What::Sends {
+        number: notice_number(told.number),
+        sender: NodeId::R(told.manager),
+        receiver: told.receiver,
     };
     push_row(rows, first, label, what)
 }
@@ -266,7 +307,8 @@ fn push_entry(
             let label = Bytes::copy_of(alloc, event_word(&step.event))?;
             let what = what_of(&step.event, &step.answer, &step.now);
             push_row(rows, first, label, what)?;
-            push_outcome(alloc, rows, first, several, &step.now, step.sent.as_slice())
+            push_outcome(alloc, rows, first, several, &step.now, step.sent.as_slice())?;
+            push_told(alloc, rows, first, step.told.as_slice())
         }
         Entry::Serve {
             node,

@@ -1,2 +1,5 @@
 pub mod Sending
 pub mod Copying
+pub mod Members
+pub mod Taking
+pub mod Raising

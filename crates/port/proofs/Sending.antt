@@ -1,13 +1,16 @@
 -- Datagrams that go out by a port, one send after another.
 use Rattle.std.proofs.Common.{◌≡◌, ◌∙◌, ℕ, ◌+◌, ◌<◌, List, [], ◌∷◌, ◌++◌, length, map, take, get_or, refl, sym, ap, subst, Result}
-use Rattle.std.proofs.Common.{None}
+use Rattle.std.proofs.Common.{Option, Some, None}
 use Rattle.std.specs.List.{flat_map, range_with_len}
 use Rattle.std.proofs.lemmas.Grind.{flat_map-append}
 use Rattle.std.proofs.lemmas.List.{append-nil, map_push, take_more}
 use Rattle.xid.specs.declared.refusals.Refusal.{Refusal}
+use Rattle.xid.specs.Places.{Place}
 use Rattle.xid.specs.Transactions.{TxParts}
 use Rattle.wire.specs.Grammar.{spelling}
 use Rattle.wire.specs.Messages.{message_tx}
+use Rattle.wire.specs.Notices.{notice_spelling}
+use Rattle.wire.specs.declared.message.Kind.{Kind}
 use Rattle.protocol.specs.declared.decisions.Address.{Address}
 use Rattle.protocol.specs.declared.decisions.Address.TheVariants as addresses
 use Rattle.protocol.specs.declared.decisions.Outgoing.{Outgoing}
@@ -23,7 +26,8 @@ use Rattle.protocol.specs.Nodes.{Input}
 use Rattle.node_core.specs.declared.output.Output.{Output}
 use Rattle.node_core.specs.Sends.{sent}
 use Rattle.node_core.specs.Storing.{output_of}
-use Rattle.port.specs.Calls.{Sending, SendsAll, datagrams_from, datagram_for}
+use Rattle.floors.specs.Worlds.{Notice, notices_of, told_nodes}
+use Rattle.port.specs.Calls.{Sending, SendsAll, SendsTo, TellsAll, datagrams_from, datagram_for}
 
 module _ {P : Type 0} (Sent : Sending P) where
   -- more of them after some
@@ -58,6 +62,40 @@ module _ {P : Type 0} (Sent : Sending P) where
       ∙ sym (flat_map-append f (take k xs) (x ∷ []))
       ∙ ap (flat_map f) (ap (λ (y : X). take k xs ++ y ∷ []) read ∙ sym (take_more xs k x lt)) in
       subst (λ (ds : List Datagram). SendsAll Sent a c ds) grown (sends_then (flat_map f (take k xs)) (f x) a b c some more)
+
+  -- the same bytes to more nodes
+  pub to_then : (bytes : List ℕ) (whos more : List NodeId) (a b c : P) → SendsTo Sent a b bytes whos → SendsTo Sent b c bytes more
+      → SendsTo Sent a c bytes (whos ++ more)
+  to_then bytes [] more a b c none rest = subst (λ (p : P). SendsTo Sent p c bytes more) none rest
+  to_then bytes (who ∷ whos) more a b c some rest = (some.0, some.1, some.2, to_then bytes whos more some.0 b c some.3 rest)
+
+  pub to_one : (bytes : List ℕ) (whos : List NodeId) (a b c : P) (who : NodeId) (result : Result (Unit {0}) Refusal)
+      → SendsTo Sent a b bytes whos → Sent b c who bytes result → SendsTo Sent a c bytes (whos ++ who ∷ [])
+  to_one bytes whos a b c who result some one = to_then bytes whos (who ∷ []) a b c some (c, result, one, refl)
+
+  -- bytes that spell a message are datagrams
+  pub sends_to : (sender : NodeId) (message : Kind) (bytes : List ℕ) → bytes ≡ spelling message → (whos : List NodeId) (a b : P)
+      → SendsTo Sent a b bytes whos → SendsAll Sent a b (map (datagram_for sender message) whos)
+  sends_to sender message bytes spelled [] a b none = none
+  sends_to sender message bytes spelled (who ∷ whos) a b (next, result, sent, rest) = (
+    next,
+    result,
+    subst (λ (xs : List ℕ). Sent a next who xs result) spelled sent,
+    sends_to sender message bytes spelled whos next b rest,
+  )
+
+  -- and those that spell a notice are notices
+  pub tells_to : (manager : ℕ) (place : Place) (bytes : List ℕ)
+      → bytes ≡ notice_spelling (record { manager = manager; floor = place }) → (whos : List NodeId) (a b : P)
+      → SendsTo Sent a b bytes whos
+      → TellsAll Sent a b (map (λ who. record { manager = manager; receiver = who; place = place }) whos)
+  tells_to manager place bytes spelled [] a b none = none
+  tells_to manager place bytes spelled (who ∷ whos) a b (next, result, sent, rest) = (
+    next,
+    result,
+    subst (λ (xs : List ℕ). Sent a next who xs result) spelled sent,
+    tells_to manager place bytes spelled whos next b rest,
+  )
 
 receivers_as : (config : Config) (sizes : Sizes) → AreSizes config sizes → (address : Address) (tx : TxParts)
     → receivers (config_by sizes []) address tx ≡ receivers config address tx
@@ -95,3 +133,16 @@ pub nothing_sent : {P : Type 0} (Sent : Sending P) (config : Config) (who : Node
 nothing_sent Sent config who refusal inputs outs port is =
     subst (λ (ds : List Datagram). SendsAll Sent port port ds)
     (sym (ap (flat_map (datagrams_from config who)) is ∙ nothing_from config who refusal inputs)) refl
+
+-- ---- notices
+
+told_nodes_as : (config : Config) (sizes : Sizes) → AreSizes config sizes → told_nodes (config_by sizes []) ≡ told_nodes config
+told_nodes_as config sizes are =
+    λ i. map A (range_with_len 0 (are.acceptors_are i)) ++ map L (range_with_len 0 (are.leaders_are i))
+
+-- notices depend on the sizes of a cluster alone
+pub notices_as : (config : Config) (sizes : Sizes) → AreSizes config sizes → (manager : ℕ) (floor : Option Place)
+    → notices_of (config_by sizes []) manager floor ≡ notices_of config manager floor
+notices_as config sizes are manager None = refl
+notices_as config sizes are manager (Some place) =
+    ap (map (λ (who : NodeId). record { manager = manager; receiver = who; place = place })) (told_nodes_as config sizes are)

@@ -1,3 +1,4 @@
 pub mod Addresses
 pub mod Ports
+pub mod Members
 pub mod Calls

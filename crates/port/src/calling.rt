@@ -1,22 +1,25 @@
-ghost use Rattle.std.specs.Prelude.{◌≡◌, [], length, map, IfErr};
+ghost use Rattle.std.specs.Prelude.{◌≡◌, [], length, map, IfErr, OnOk};
 ghost use Rattle.std.specs.List.{flat_map};
 ghost use Rattle.xid.specs.declared.refusals.Refusal.TheVariants.{PortFault};
 ghost use Rattle.stable_record.specs.Held.{IsCounted};
-ghost use Rattle.wire.specs.declared.message.Kind.{Kind};
-ghost use Rattle.wire.specs.Grammar.{Spells};
 ghost use Rattle.protocol.specs.declared.nodes.NodeId.{NodeId as Sender};
+ghost use Rattle.protocol.specs.Effects.{Config};
+ghost use Rattle.protocol.specs.Nodes.{NodeState};
 ghost use Rattle.protocol.specs.Worlds.{datagrams_of};
 ghost use Rattle.node_core.specs.Configs.{config_by};
 ghost use Rattle.node_core.specs.Sends.{sent as sent_by};
-ghost use Rattle.node_core.specs.Nodes.{input_of};
-ghost use Rattle.port.specs.Calls.{SendsAll, Calls, CallsAll, Serves, datagrams_from, datagram_for, leaders_below, acceptors_below};
+ghost use Rattle.floors.specs.Worlds.{notices_of};
+ghost use Rattle.floored.specs.Nodes.{FlooredStands};
+ghost use Rattle.port.specs.Members.{TakesAll, item_of};
+ghost use Rattle.port.specs.Calls.{Calls, Raises, SendsAll, SendsTo, Serves, TellsAll, acceptors_below, datagrams_from, leaders_below};
 
+use crate::member::Member;
 use crate::port::{MAX_TAKEN, Port};
-use node_core::{Input, Node, NodeSends, Output, Sizes, receiver_at, receiver_count};
+use node_core::{Input, NodeSends, Output, Sizes, receiver_at, receiver_count};
 use protocol::{Address, Answer, Change, NodeId, Outgoing};
 use stable_record::{Record, RecordError};
-use wire::{MAX_DATAGRAM, encode};
-use xid::Refusal;
+use wire::{MAX_DATAGRAM, Notice, encode};
+use xid::{Floor, ManagerNumber, Refusal};
 
 /// What came of an input: its sends are out.
 #[derive(Debug, Drop)]
@@ -42,8 +45,7 @@ fn send<P: Port>(port: &mut P, sizes: Sizes, outgoing: &Outgoing)
 
 /// Sends bytes to each leader.
 fn send_to_leaders<P: Port>(port: &mut P, leaders: u8, bytes: &[u8])
-    ensures { (sender : Sender) (message : Kind) → Spells message bytes.now → SendsAll P.sent port.old port.new
-        (map (datagram_for sender message) (leaders_below leaders)) }
+    ensures { SendsTo P.sent port.old port.new bytes.now (leaders_below leaders) }
 {
     for number in 0..leaders {
         // what isn't sent is lost, as a datagram may be
@@ -53,8 +55,7 @@ fn send_to_leaders<P: Port>(port: &mut P, leaders: u8, bytes: &[u8])
 
 /// Sends bytes to each acceptor.
 fn send_to_acceptors<P: Port>(port: &mut P, acceptors: u8, bytes: &[u8])
-    ensures { (sender : Sender) (message : Kind) → Spells message bytes.now → SendsAll P.sent port.old port.new
-        (map (datagram_for sender message) (acceptors_below acceptors)) }
+    ensures { SendsTo P.sent port.old port.new bytes.now (acceptors_below acceptors) }
 {
     for number in 0..acceptors {
         // what isn't sent is lost, as a datagram may be
@@ -89,13 +90,13 @@ fn send_all<P: Port>(port: &mut P, sizes: Sizes, sends: &NodeSends)
     }
 }
 
-/// Hands an input to a node, and sends what it puts out, once to each receiver and in order. A send that fails is a loss, which the port
-/// counts, and the next is tried.
-pub fn call<R: Record, P: Port>(node: &mut Node<R>, port: &mut P, input: Input) -> Served
-    ensures { Calls P.sent (input_of input.entry) node.old node.new port.old port.new result }
+/// Hands an input to a node, as `Member::take` takes it, and sends what it puts out, once to each receiver and in order. A send that fails
+/// is a loss, which the port counts, and the next is tried.
+pub fn call<R: Record, P: Port>(member: &mut Member<R>, port: &mut P, input: Input) -> Served
+    ensures { Calls P.sent (item_of member.old.floored.node.who input.entry) member.old member.new port.old port.new result }
 {
-    let sizes = node.sizes();
-    let Output { reply, now, sends } = node.step(input);
+    let sizes = member.sizes();
+    let Output { reply, now, sends } = member.take(input);
     send_all(port, sizes, &sends);
     Served { reply, now }
 }
@@ -109,21 +110,23 @@ fn send_each<P: Port>(port: &mut P, sizes: Sizes, outs: &[Output])
     }
 }
 
-/// Hands a group of inputs to a node, which stores with one append what it decides on them, and then sends what came of each, in order
-/// and once to each receiver. What came of an input stands in its place of `outs`. A send that fails is a loss, which the port counts,
-/// and the next is tried. Refused: the append, as `Node::step_all` says; then nothing is sent, and nobody is to be answered.
+/// Hands inputs to a node at once, as `Member::take_all` takes them: it stores with one append what it decides on them. Then it sends what
+/// came of each, in order and once to each receiver. What came of an input stands in its place of `outs`. A send that fails is a loss,
+/// which the port counts, and the next is tried. Refused: as `Member::take_all` is; then nothing is sent, and nobody is to be answered.
 pub fn call_all<R: Record, P: Port>(
-    node: &mut Node<R>,
+    member: &mut Member<R>,
     port: &mut P,
     inputs: &[Input],
     outs: &mut [Output],
 ) -> Result<(), RecordError>
     requires { length outs.old ≡ length inputs.now }
-    ensures calls { CallsAll P.sent (map input_of inputs.now) node.old node.new port.old port.new outs.new result }
+    ensures takes { TakesAll (map (item_of member.old.floored.node.who) inputs.now) member.old member.new outs.old outs.new result }
+    ensures sends { OnOk result ((config : Config) (m : NodeState) → FlooredStands config member.old.floored m → SendsAll P.sent port.old
+        port.new (flat_map (datagrams_from config member.old.floored.node.who) outs.new)) }
     ensures quiet { IfErr result (λ error. port.new ≡ port.old) }
 {
-    let sizes = node.sizes();
-    match node.step_all(inputs, outs) {
+    let sizes = member.sizes();
+    match member.take_all(inputs, outs) {
         Ok(()) => {}
         Err(error) => return Err(error),
     }
@@ -134,10 +137,10 @@ pub fn call_all<R: Record, P: Port>(
 /// Takes a datagram at a node's port, if one is there, and hands its bytes to the node as `call` does. Refused: the port failed
 /// (`PortFault`), and the node is as it was.
 pub fn serve_once<R: Record, P: Port>(
-    node: &mut Node<R>,
+    member: &mut Member<R>,
     port: &mut P,
 ) -> Result<Option<Served>, Refusal>
-    ensures serves { Serves P.received P.sent node.old node.new port.old port.new result }
+    ensures serves { Serves P.received P.sent member.old member.new port.old port.new result }
     ensures fault { IfErr result (λ e. (e ≡ PortFault) × IsCounted (P.fault_count port.old) (P.fault_count port.new)) }
 {
     let mut buffer = [0; MAX_TAKEN];
@@ -146,5 +149,44 @@ pub fn serve_once<R: Record, P: Port>(
         Ok(None) => return Ok(None),
         Err(refusal) => return Err(refusal),
     };
-    Ok(Some(call(node, port, Input::Received(&buffer[..len]))))
+    Ok(Some(call(member, port, Input::Received(&buffer[..len]))))
+}
+
+/// Tells a resource manager's floor, if it has one, once to each acceptor and then to each leader.
+fn tell<P: Port>(port: &mut P, sizes: Sizes, manager: ManagerNumber, floor: &Option<Floor>)
+    ensures { TellsAll P.sent port.old port.new (notices_of (config_by sizes []) manager floor.now) }
+{
+    let Some(floor) = floor else {
+        return;
+    };
+    let notice = Notice {
+        manager,
+        floor: *floor,
+    };
+    let mut buffer = [0; MAX_DATAGRAM];
+    let len = notice.encode(&mut buffer);
+    send_to_acceptors(port, sizes.acceptors, &buffer[..len]);
+    send_to_leaders(port, sizes.leaders, &buffer[..len]);
+}
+
+/// Asks a node to raise its floor to a place, as `Floored::raise` does; where that is done, also where the floor was no lower before, sends
+/// its floor, as a notice, once to each acceptor and then to each leader. A send that fails is a loss, which the port counts, and the next
+/// is tried. Refused, and nothing is sent: it is no resource manager (`NoSuch`), or as `Floored::raise` is.
+pub fn raise<R: Record, P: Port>(
+    member: &mut Member<R>,
+    port: &mut P,
+    floor: &Floor,
+) -> Result<(), Refusal>
+    ensures { Raises P.sent floor.now member.old.floored.node.who member.old member.new port.old port.new result }
+{
+    let NodeId::R(rm) = member.id() else {
+        return Err(Refusal::NoSuch);
+    };
+    let sizes = member.sizes();
+    match member.raise(floor) {
+        Ok(()) => {}
+        Err(refusal) => return Err(refusal),
+    }
+    tell(port, sizes, u16::from(rm), &member.floor());
+    Ok(())
 }

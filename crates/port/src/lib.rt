@@ -5,12 +5,14 @@
 mod addresses;
 mod calling;
 mod fake;
+mod member;
 mod port;
 mod udp;
 
 pub use addresses::Addresses;
-pub use calling::{Served, call, call_all, serve_once};
+pub use calling::{Served, call, call_all, raise, serve_once};
 pub use fake::{FakePort, Letter};
+pub use member::Member;
 pub use port::{MAX_TAKEN, Port};
 pub use udp::UdpPort;
 

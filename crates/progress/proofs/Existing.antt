@@ -77,6 +77,7 @@ module _ (config : Config) (world : World) where
       (λ node. cond_both node.up (outcome_result config world who node.facts (compact_outcome node fault))
       (answer_result world (Refused Down)) IsSameCount
       (λ up. node_count world refl who (compact_outcome node fault).node) (λ down. refl))
+  dispatch_count event fault = refl
 
   step_count : (event : Event) (fault : Fault) → IsSameCount (world_step config world event fault)
   step_count event NoMemoryBefore = refl

@@ -117,7 +117,7 @@ cut_result config world n k fault =
     else answer_result world (Refused Refusal.NoSuch))
     (datagram_at world.net n)
 
--- what comes of an event that reaches its node, if it has one
+-- what comes of an event that reaches its node, if it has one. No node of the machine has a floor, or is replaced
 abbrev pub dispatch : Config → World → Event → Fault → StepResult
 dispatch config world (Ask who request) fault = at_node config world who (Asked request) fault
 dispatch config world (Deliver n) fault =
@@ -136,6 +136,7 @@ dispatch config world (Compact who) fault =
     if_found world (λ node.
     if node.up then outcome_result config world who node.facts (compact_outcome node fault) else answer_result world (Refused Refusal.Down))
     (node_at config world who)
+dispatch config world event fault = answer_result world (Refused Refusal.NoSuch)
 
 -- what comes of an event; nothing, where memory is wanted before a node is reached
 abbrev pub world_step : Config → World → Event → Fault → StepResult
@@ -155,7 +156,7 @@ numbered n (d ∷ rest) = record { number = n; sender = d.sender; receiver = d.r
 -- the step of an event in a world
 abbrev pub step_of : World → Event → StepResult → Step
 step_of world event result =
-    record { event = event; answer = result.answer; now = result.now; sent = numbered (suc (length world.net)) result.sent }
+    record { event = event; answer = result.answer; now = result.now; sent = numbered (suc (length world.net)) result.sent; told = [] }
 
 -- the steps of events, one after the other
 abbrev pub trace : Config → World → List Occurrence → List Step

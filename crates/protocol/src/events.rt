@@ -3,7 +3,7 @@ use crate::nodes::NodeId;
 use crate::requests::Request;
 use crate::states::View;
 use wire::Message;
-use xid::{Bytes, Sequence, Tx};
+use xid::{Bytes, Floor, Sequence, Tx};
 
 /// What can happen in a cluster. Datagrams are numbered from 1 as they are sent, and are kept.
 ///
@@ -68,6 +68,33 @@ pub enum Event {
         /// The node.
         node: NodeId,
     },
+    /// A resource manager is asked to raise its floor: from then on it takes no part in what stands below, and it tells each acceptor and
+    /// each leader its floor, also where that was no lower before. Refused: no such resource manager (`NoSuch`); it is down (`Down`); a
+    /// branch of it stands below (`Busy`); its record fails (`RecordFault`): it is down, its floor the old one or the new one.
+    Raise {
+        /// The resource manager.
+        rm: u8,
+        /// Its floor from then on, if that is higher.
+        floor: Floor,
+    },
+    /// A notice of a resource manager's floor is handed to its receiver. It is kept in memory, and the receiver's own floor is from then on
+    /// the least that it was told by all resource managers since its last start, where that is higher. Notices are numbered from 1 as they
+    /// are told, and are kept. Refused: no such notice (`NoSuch`); the receiver is down (`Down`); its record fails (`RecordFault`): it is
+    /// down, its floor the old one or the new one.
+    Hear {
+        /// The notice's number.
+        number: u32,
+    },
+    /// A blank acceptor or leader stands in the place of a lost one, up or down, with a floor: from then on it takes no part in what stands
+    /// below, and it is up, with nothing in memory. Refused: no such acceptor or leader (`NoSuch`); the lost one has stored something about
+    /// a name that isn't below the floor, or the floor is lower than its own (`InUse`), and nothing changes; the record fails
+    /// (`RecordFault`): the node is down, its floor the old one or the new one.
+    Replace {
+        /// The node.
+        node: NodeId,
+        /// Its floor from then on.
+        floor: Floor,
+    },
 }
 
 /// The view that an event changed at a resource manager.
@@ -94,6 +121,19 @@ pub struct Sent {
     pub message: Message,
 }
 
+/// A notice that was told: what a resource manager's floor is.
+#[derive(Clone, Copy, Debug)]
+pub struct Told {
+    /// Its number, from 1.
+    pub number: u32,
+    /// The resource manager.
+    pub manager: u8,
+    /// Whom it is for.
+    pub receiver: NodeId,
+    /// The resource manager's floor.
+    pub floor: Floor,
+}
+
 /// An event and what came of it.
 #[derive(Debug, Drop)]
 pub struct Step {
@@ -105,4 +145,6 @@ pub struct Step {
     pub now: Option<Change>,
     /// The datagrams that it sent, in order.
     pub sent: Sequence<Sent>,
+    /// The notices of a floor that it told, in order.
+    pub told: Sequence<Told>,
 }

@@ -15,7 +15,7 @@ mod states;
 pub use answers::Answer;
 pub use boxed::Boxed;
 pub use decisions::{Address, Decision, Outgoing, Sends};
-pub use events::{Change, Event, Sent, Step};
+pub use events::{Change, Event, Sent, Step, Told};
 pub use nodes::NodeId;
 pub use requests::{Action, Request};
 pub use rows::Row;

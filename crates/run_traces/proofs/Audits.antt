@@ -5,13 +5,15 @@ use Rattle.std.proofs.Common.{reverse, arith}
 use Rattle.std.proofs.Math.Path.{fun_ext}
 use Rattle.std.specs.Prelude.{◌==◌, ◌≢◌, fold}
 use Rattle.std.specs.List.{All, AllByRecursion, AllPairs, range_with_len}
-use Rattle.std.proofs.lemmas.Bool.{both_ways, eqb-true, ne_eqb}
+use Rattle.std.proofs.lemmas.Bool.{and_from, both_ways, eqb-true, ne_eqb}
 use Rattle.std.proofs.lemmas.List.Elements.{recursion_from_All}
 use Rattle.run_traces.specs.Words.{Row, Step}
 use Rattle.protocol.specs.Effects.{Config}
 use Rattle.protocol.specs.Nodes.{first_rows}
 use Rattle.protocol.specs.Tables.{put_row}
-use Rattle.protocol.specs.Worlds.{Occurrence, opening, table_at, trace, world_after}
+use Rattle.protocol.specs.Worlds.{World, Occurrence, opening, table_at, world_after}
+use Rattle.floors.specs.Runs.{floored_opening}
+use Rattle.floors.specs.Worlds.{floored_trace}
 use Rattle.history.specs.Lines.{history}
 use Rattle.net_script.specs.declared.values.Entry.{Entry}
 use Rattle.net_script.specs.declared.values.Script.{Script}
@@ -20,13 +22,18 @@ use Rattle.net_script.specs.declared.values.Trace.{Trace}
 use Rattle.net_script.specs.Scripts.{IsScript}
 use Rattle.audit.specs.Consistent.{is_consistent, is_history_consistent}
 use Rattle.audit.specs.Faults.{IsJudged}
+use Rattle.audit.specs.Floors.{stays_above}
 use Rattle.audit.specs.Tables as told
 use Rattle.audit.specs.Tables.{first_tables}
-use Rattle.audit.specs.Told.{history_of, step_of}
+use Rattle.audit.specs.Told.{each_step, history_of, step_of}
 use Rattle.audit.specs.declared.faults.Fault.{Fault}
 use Rattle.cluster_run.specs.Runs.{IsRun}
-use Rattle.cluster_run.specs.Traces.{config_of, first_rows_of}
+use Rattle.cluster_run.specs.Traces.{config_of, first_rows_of, last_world, run_history}
+use Rattle.cluster_run.proofs.Beside.{IsBeside, beside}
+use Rattle.cluster_run.proofs.Floored.{run_is}
 use Rattle.run_traces.specs.Numbers.{HasNumbers}
+use Rattle.run_traces.proofs.AlikeAudits.{consistent_alike}
+use Rattle.run_traces.proofs.FloorsTold.{all_above}
 use Rattle.run_traces.proofs.Limits.{rows_are}
 use Rattle.run_traces.proofs.Reading.{made, made_so, one_spelled, reads}
 
@@ -77,7 +84,11 @@ steps_same : (steps : List Step) → map step_of (map Entry.Step steps) ≡ step
 steps_same [] = refl
 steps_same (step ∷ steps) = ap (λ (rest : List Step). step ∷ rest) (steps_same steps)
 
--- each trace of the machine is consistent, as a law of `audit` says
+-- the first contents of a cluster's tables
+abbrev first_of : Config → ℕ → List Row
+first_of config rm = fold put_row [] (first_rows config rm)
+
+-- each trace of the machine is consistent, floors aside, as a law of `audit` says
 abbrev pub AreConsistent : Type 0
 AreConsistent =
     (config : Config) (events : List Occurrence)
@@ -85,17 +96,38 @@ AreConsistent =
     (map (table_at config (world_after config (opening config) events)) (range_with_len 0 config.managers)) ≡ true
 
 module _ (law : AreConsistent) (bytes output : List ℕ) (run : IsRun bytes output) where
-  history_same : history_of (made bytes output run).entries ≡ history (config_of run.script) run.is.happened
-  history_same = ap reverse (steps_same (trace (config_of run.script) (opening (config_of run.script)) run.is.happened))
+  abbrev config : Config
+  config = config_of run.script
+
+  abbrev steps : List Step
+  steps = run_history config run.is.happened
+
+  abbrev finals : List (List Row)
+  finals = (made bytes output run).finals
+
+  history_same : history_of (made bytes output run).entries ≡ steps
+  history_same = ap reverse (steps_same (floored_trace config (floored_opening config) run.is.happened))
+
+  -- the first four questions, of the run and of the machine's run beside it
+  history_consistent : is_history_consistent (first_of config) steps finals ≡ true
+  history_consistent =
+      let so : IsBeside config run.is.happened = beside config run.is.happened in
+      consistent_alike (first_of config) steps (history config so.events) so.alike finals
+      (subst (λ (w : World). is_history_consistent (first_of config) (history config so.events)
+      (map (table_at config w) (range_with_len 0 config.managers)) ≡ true) so.leads (law config so.events))
+
+  -- the fifth
+  floors_kept : each_step (stays_above config.managers) steps ≡ true
+  floors_kept = all_above config (last_world config run.is.happened) steps (run_is config run.is.happened)
 
   made_consistent : is_consistent (made bytes output run) ≡ true
   made_consistent =
-      let config = config_of run.script in
-      let happened = run.is.happened in
-      ap (λ (steps : List Step). is_history_consistent (first_tables run.script.tables) steps (made bytes output run).finals) history_same
-      ∙ ap (λ (first : ℕ → List Row). is_history_consistent first (history config happened) (made bytes output run).finals)
-      (sym (fun_ext (first_same run.script run.spelled.valid)))
-      ∙ law config happened
+      let read = history_of (made bytes output run).entries in
+      and_from (is_history_consistent (first_tables run.script.tables) read finals) (each_step (stays_above run.script.sizes.rms) read)
+      (ap (λ (all : List Step). is_history_consistent (first_tables run.script.tables) all finals) history_same
+      ∙ ap (λ (first : ℕ → List Row). is_history_consistent first steps finals) (sym (fun_ext (first_same run.script run.spelled.valid)))
+      ∙ history_consistent)
+      (ap (each_step (stays_above run.script.sizes.rms)) history_same ∙ floors_kept)
 
   is_so : is_consistent run.is.trace ≡ true
   is_so = subst (λ (t : Trace). is_consistent t ≡ true) (made_so bytes output run) made_consistent

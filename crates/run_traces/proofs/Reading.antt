@@ -6,8 +6,9 @@ use Rattle.std.proofs.lemmas.List.FromFn.{length-map-range_with_len}
 use Rattle.run_traces.specs.Words.{Row}
 use Rattle.protocol.specs.Effects.{Config}
 use Rattle.protocol.specs.Nodes.{first_rows}
-use Rattle.protocol.specs.Worlds.{opening, table_at, trace}
-use Rattle.safety.specs.Forms as forms
+use Rattle.protocol.specs.Worlds.{table_at}
+use Rattle.floors.specs.Runs.{floored_opening}
+use Rattle.floors.specs.Worlds.{floored_trace}
 use Rattle.net_script.specs.Basics.{Refusal, NoMemory}
 use Rattle.net_script.specs.declared.values.Entry.{Entry}
 use Rattle.net_script.specs.declared.values.Script.{Script}
@@ -25,6 +26,7 @@ use Rattle.run_traces.specs.Machine.{CanBeTold}
 use Rattle.run_traces.specs.Numbers.{HasNumbers}
 use Rattle.run_traces.proofs.Commands.{all_named}
 use Rattle.run_traces.proofs.Events.{finals_told, steps_told}
+use Rattle.run_traces.proofs.Floors.{good_opening}
 use Rattle.run_traces.proofs.Limits.{few_managers, first_keep, limited, within_limits}
 
 -- the trace of some steps and last tables
@@ -43,8 +45,8 @@ module _ (bytes output : List ℕ) (run : IsRun bytes output) where
 
   -- the trace as it is made
   abbrev pub made : Trace
-  made = traced script.sizes script.tables (map Entry.Step (trace config (opening config) run.is.happened))
-      (each_manager (table_at config (last_world config run.is.happened)) script.sizes.rms)
+  made = traced script.sizes script.tables (map Entry.Step (floored_trace config (floored_opening config) run.is.happened))
+      (each_manager (table_at config (last_world config run.is.happened).machine) script.sizes.rms)
 
   pub made_so : made ≡ run.is.trace
   made_so =
@@ -63,13 +65,14 @@ module _ (bytes output : List ℕ) (run : IsRun bytes output) where
         record {
           limits = limits;
           rows = λ rm. All-from_recursion items.IsRow (first_rows config rm) (first rm);
-          events = all_named config (record { acceptors = limits.acceptors }) limits first (opening config) forms.Opening script.commands
-              run.is.happened (recursion_from_All IsCommand script.commands valid.commands) run.is.done numbers.few;
+          events = all_named config (record { acceptors = limits.acceptors }) limits first (floored_opening config) (good_opening config)
+              script.commands run.is.happened (recursion_from_All IsCommand script.commands valid.commands) run.is.done numbers.few;
           few = numbers.few;
+          few_notices = numbers.few_notices;
         }
 
     counted : length made.finals ≡ script.sizes.rms
-    counted = length-map-range_with_len (table_at config (last_world config run.is.happened)) 0 script.sizes.rms
+    counted = length-map-range_with_len (table_at config (last_world config run.is.happened).machine) 0 script.sizes.rms
 
     made_is : IsTrace made
     made_is =

@@ -38,7 +38,8 @@ use Rattle.safety.proofs.World.NodePlaces.{node_there}
 use Rattle.net_script.specs.declared.values.Entry.{Entry}
 use Rattle.net_script.specs.Answers.{IsAnswer}
 use Rattle.net_script.specs.Events.{IsEvent, IsNode}
-use Rattle.net_script.specs.TraceLines.{IsChange, IsSent}
+use Rattle.net_script.specs.TraceLines.{IsChange, IsNotice, IsSent}
+use Rattle.protocol.specs.declared.events.Told.{Told as Notice}
 use Rattle.net_script.specs.TraceReading.{IsEntry}
 use Rattle.run_traces.proofs.Managers as managers
 use Rattle.run_traces.specs.Machine.{IsLimited}
@@ -61,7 +62,7 @@ participant_below tx rm is h =
     let fits = all_in IsBranch tx.branches (recursion_from_All IsBranch tx.branches is.branches.each) at.source at.among in
     subst (λ (n : ℕ). n < most_managers) at.maps fits.rm
 
-number_below : (from count n : ℕ) → IsIn (range_with_len from count) n → n < from + count
+pub number_below : (from count n : ℕ) → IsIn (range_with_len from count) n → n < from + count
 number_below from zero n h = absurd h
 number_below from (suc count) n (inl e) = omega (arith, e)
 number_below from (suc count) n (inr h) = let below = number_below (from + 1) count n h in omega (arith, below)
@@ -77,7 +78,7 @@ fact_valid (stored.Aborted tx) is = is
 fact_valid (stored.PromiseAll tx b) is = is.0
 
 -- what is found at a place is there
-among : {X : Type 0} (xs : List X) (n : ℕ) (x : X) → slice_get xs n ≡ Some x → IsIn xs x
+pub among : {X : Type 0} (xs : List X) (n : ℕ) (x : X) → slice_get xs n ≡ Some x → IsIn xs x
 among [] n x h = absurd (cc (h))
 among (y ∷ xs) zero x h = inl (cc (h))
 among (y ∷ xs) (suc n) x h = inr (among xs n x h)
@@ -223,7 +224,7 @@ pub record IsTold (count : ℕ) (result : StepResult) : Type 0 where
   pub sent : (d : Datagram) → IsIn result.sent d → IsPosted d
   pub counted : length result.world.net ≡ count + length result.sent
 
-silent : (count : ℕ) (world : World) (answer : Answer) → length world.net ≡ count → IsAnswer answer
+pub silent : (count : ℕ) (world : World) (answer : Answer) → length world.net ≡ count → IsAnswer answer
     → IsTold count (answer_result world answer)
 silent count world answer same is = record {
   answer = is;
@@ -343,6 +344,7 @@ module _ (config : Config) (limits : IsLimited config) (first : (rm : ℕ) → K
       (answer_result world (Refused Down)) Told
       (λ up. left who node (compact_outcome node fault) at (compact_tells node fault))
       (λ down after. silent (length world.net) world (Refused Down) refl tt))
+  does_told event fault is = λ after. silent (length world.net) world (Refused NoSuch) refl tt
 
   pub happens_told : (event : Event) (fault : Fault) → forms.IsEvent event → IsWellWorld config (world_step config world event fault).world
       → IsTold (length world.net) (world_step config world event fault)
@@ -360,10 +362,11 @@ numbered_are first (d ∷ ds) few are =
       numbered_are (suc first) ds (omega (arith, few)) (λ x h. are x (inr h)),
     )
 
--- the lines of an event that a trace may tell of, where fewer datagrams than numbers were sent
-pub step_is : (world : World) (event : Event) (result : StepResult) → IsEvent event → IsTold (length world.net) result
-    → length result.world.net < 2 ^ 32 → IsEntry (Entry.Step (step_of world event result))
-step_is world event result is told few = (
+-- the lines of an event that a trace may tell of, where fewer datagrams than numbers were sent, and of its notices
+pub step_is : (world : World) (event : Event) (result : StepResult) (notices : List Notice) → IsEvent event
+    → IsTold (length world.net) result → length result.world.net < 2 ^ 32 → AllByRecursion IsNotice notices
+    → IsEntry (Entry.Step (record (step_of world event result) { told = notices }))
+step_is world event result notices is told few named = (
   is,
   record {
     answer_is = told.answer;
@@ -371,4 +374,5 @@ step_is world event result is told few = (
     datagrams = All-from_recursion IsSent (numbered (suc (length world.net)) result.sent)
         (numbered_are (suc (length world.net)) result.sent (omega (arith, told.counted, few)) told.sent);
   },
+  All-from_recursion IsNotice notices named,
 )

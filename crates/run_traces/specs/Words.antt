@@ -5,7 +5,8 @@ pub use Rattle.protocol.specs.declared.decisions.Address.{Address}
 pub use Rattle.protocol.specs.declared.decisions.Address.TheVariants.{Node, Acceptors, Leaders, Managers}
 pub use Rattle.protocol.specs.declared.decisions.Outgoing.{Outgoing}
 pub use Rattle.protocol.specs.declared.events.Event.{Event}
-pub use Rattle.protocol.specs.declared.events.Event.TheVariants.{Ask, Deliver, Lose, Cut, Noise, Tear, Restart, Compact}
+pub use Rattle.protocol.specs.declared.events.Event.TheVariants.{Ask, Deliver, Lose, Cut, Noise, Tear, Restart, Compact, Raise, Hear}
+pub use Rattle.protocol.specs.declared.events.Event.TheVariants.{Replace}
 pub use Rattle.protocol.specs.declared.events.Change.{Change}
 pub use Rattle.protocol.specs.declared.events.Step.{Step}
 pub use Rattle.protocol.specs.declared.nodes.NodeId.{NodeId}

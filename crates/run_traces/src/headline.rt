@@ -12,9 +12,9 @@ ghost use Rattle.run_traces.specs.Numbers.{HasNumbers};
 
 use audit::laws::machine_traces_are_consistent;
 
-/// What is printed of a run spells its trace, where fewer than 2^32 datagrams were sent: each line, each last row and the sizes are what
-/// a trace may have; and it spells no other. So a reader of traces, `audit_text` and `picture`, which refuse a text as that reader does,
-/// refuse it for want of memory alone.
+/// What is printed of a run spells its trace, where fewer than 2^32 datagrams were sent and notices told: each line, each last row and the
+/// sizes are what a trace may have; and it spells no other. So a reader of traces, `audit_text` and `picture`, which refuse a text as that
+/// reader does, refuse it for want of memory alone.
 pub fn runs_are_read()
     ensures reads { (bytes output : List ℕ) (run : IsRun bytes output) → HasNumbers run → SpellsTrace output run.is.trace }
     ensures only { (bytes output : List ℕ) (run : IsRun bytes output) → HasNumbers run → (trace : Trace) → SpellsTrace output trace

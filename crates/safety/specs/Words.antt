@@ -9,6 +9,7 @@ pub use Rattle.protocol.specs.declared.decisions.Address.TheVariants.{Node, Acce
 pub use Rattle.protocol.specs.declared.decisions.Outgoing.{Outgoing}
 pub use Rattle.protocol.specs.declared.events.Event.{Event}
 pub use Rattle.protocol.specs.declared.events.Event.TheVariants.{Ask, Deliver, Lose, Cut, Noise, Tear, Restart, Compact}
+pub use Rattle.protocol.specs.declared.events.Event.TheVariants.{Raise, Hear, Replace}
 pub use Rattle.protocol.specs.declared.events.Change.{Change}
 pub use Rattle.protocol.specs.declared.nodes.NodeId.{NodeId}
 pub use Rattle.protocol.specs.declared.nodes.NodeId.TheVariants.{A, L, R}

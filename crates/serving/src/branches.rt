@@ -159,6 +159,18 @@ impl Branches {
         Ok(found)
     }
 
+    /// The name of the branch that stands lowest, if there is one.
+    pub fn lowest(&self) -> Option<Xid> {
+        let mut lowest: Option<Xid> = None;
+        for (xid, _) in self.named.iter() {
+            lowest = match lowest {
+                Some(found) if found < *xid => Some(found),
+                _ => Some(*xid),
+            };
+        }
+        lowest
+    }
+
     /// The branches that nobody has touched since then: these, and no others.
     pub fn untouched_since(&self, since: Instant) -> Result<Vec<Xid>, AllocError>
         ensures { IfOk result (λ found. found.items ≡ names_of (is_untouched since) self.now.named.entries) }

@@ -1,6 +1,6 @@
 //! What the process of a node keeps in mind beside the node: the lines of its clients and the words in them, the branches that they
-//! started, the transactions that are to be asked after and when, and when the record is to be made shorter. There is no socket and no
-//! clock here: whoever calls says what came and when.
+//! started, the transactions that are to be asked after and when, when the record is to be made shorter, and where a floor may rise to by
+//! itself. There is no socket and no clock here: whoever calls says what came and when.
 #![tactic(auto)]
 
 mod branches;
@@ -9,6 +9,7 @@ mod queue;
 mod replies;
 mod schedule;
 mod shortening;
+mod times;
 mod waiting;
 mod watched;
 mod watches;
@@ -19,5 +20,6 @@ pub use lines::{Front, MAX_LINE, front_of};
 pub use replies::{Counts, put_info, put_open, put_reply, put_table};
 pub use schedule::{MOST_DELAY, Schedule, Turn};
 pub use shortening::{LEAST_RECORD, Shortening};
+pub use times::{Times, time_of};
 pub use watches::{Due, Watches};
 pub use words::{Wish, read_wish};

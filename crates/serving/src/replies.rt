@@ -1,8 +1,8 @@
 use itoa::Buffer;
-use net_script::{put_answer, put_node, put_rows, put_tx};
+use net_script::{put_answer, put_floor, put_node, put_rows, put_tx};
 use protocol::{Answer, NodeId, Row};
 use std::alloc::Global;
-use xid::{Refusal, Tx};
+use xid::{Floor, Refusal, Tx};
 
 /// What a node's process has counted.
 #[derive(Clone, Copy, Debug, Default, PartialEq, Eq)]
@@ -73,12 +73,14 @@ fn put_count(out: &mut Vec<u8>, name: &[u8], count: u64) -> Result<(), Refusal> 
     put_number(out, count)
 }
 
-/// Puts the line that says how a node is: `info`, its name, and each count under its name. The only refusal is `NoMemory`.
+/// Puts the line that says how a node is: `info`, its name, each count under its name, and `floor` with its floor, if it has one. The only
+/// refusal is `NoMemory`.
 pub fn put_info(
     alloc: Global,
     out: &mut Vec<u8>,
     who: NodeId,
     counts: &Counts,
+    floor: &Option<Floor>,
 ) -> Result<(), Refusal> {
     let mut words = Vec::from_slice(alloc, b" info")?;
     put_node(&mut words, who)?;
@@ -91,5 +93,9 @@ pub fn put_info(
     put_count(&mut words, b"port-faults", counts.port_faults)?;
     put_count(&mut words, b"record-faults", counts.record_faults)?;
     put_count(&mut words, b"clients", counts.clients)?;
+    if let Some(floor) = floor {
+        words.extend_from_slice(b" floor")?;
+        put_floor(&mut words, floor)?;
+    }
     put_words(out, &words)
 }

@@ -1,13 +1,15 @@
 use net_script::{Command, is_over, last_node, last_tx, next_word, node, read_command};
 use protocol::{Boxed, Event, NodeId, Request};
 use std::alloc::Global;
-use xid::{Refusal, Tx};
+use xid::{Floor, Refusal, Tx};
 
 /// What a client's line wishes of a node.
 #[derive(Debug, Drop)]
 pub enum Wish {
     /// A request of this node.
     Ask(Request),
+    /// That its floor rises to a place.
+    Raise(Floor),
     /// The rows of its table.
     Table,
     /// The transactions that aren't final here.
@@ -42,6 +44,17 @@ fn read_await(alloc: Global, me: NodeId, args: &[u8]) -> Result<Wish, Refusal> {
     }
 }
 
+/// That a floor is to rise, by the words of a script.
+fn read_floor(alloc: Global, me: NodeId, line: &[u8]) -> Result<Wish, Refusal> {
+    let command = read_command(alloc, line)?;
+    match &command {
+        Some(Command::Do(Event::Raise { rm, floor })) => {
+            Ok(of_node(me, Some(NodeId::R(*rm)), Wish::Raise(*floor)))
+        }
+        _ => Ok(Wish::Unknown),
+    }
+}
+
 /// A request, by the words of a script.
 fn read_request(alloc: Global, me: NodeId, line: &[u8]) -> Result<Wish, Refusal> {
     match read_command(alloc, line)? {
@@ -65,6 +78,9 @@ pub fn read_wish(alloc: Global, me: NodeId, line: &[u8]) -> Result<Wish, Refusal
     }
     if word == b"await".as_slice() {
         return read_await(alloc, me, rest);
+    }
+    if word == b"floor".as_slice() {
+        return read_floor(alloc, me, line);
     }
     if word == b"info".as_slice() {
         return Ok(if is_over(rest) {

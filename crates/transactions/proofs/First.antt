@@ -1,10 +1,10 @@
 -- The transactions that things are about, in the order of the first.
-use Rattle.std.proofs.Common.{◌≡◌, ◌∙◌, Bool, true, false, ◌||◌, cond, List, [], ◌∷◌, ◌++◌, refl, sym, ap, subst}
+use Rattle.std.proofs.Common.{◌≡◌, ◌∙◌, Bool, true, false, ◌&&◌, ◌||◌, cond, List, [], ◌∷◌, ◌++◌, refl, sym, ap, subst}
 use Rattle.std.proofs.Common.{append_assoc, append-nil}
 use Rattle.std.specs.Prelude.{fold}
-use Rattle.std.specs.List.{AllByRecursion, IsDistinct, list_any}
+use Rattle.std.specs.List.{AllByRecursion, IsDistinct, list_all, list_any}
 use Rattle.std.proofs.lemmas.Bool.{true≢false, false_from_ne_true}
-use Rattle.std.proofs.lemmas.List.Folds.{list_any-append}
+use Rattle.std.proofs.lemmas.List.Folds.{list_all-append, list_any-append}
 use Rattle.xid.specs.Transactions.{TxParts, tx_eq}
 use Rattle.xid.proofs.Deciding.{tx_decides, tx_self}
 use Rattle.transactions.specs.Seen.{seen_with, first_seen}
@@ -109,6 +109,52 @@ module _ {X : Type 0} (about : X → TxParts) where
   -- it is among them where something is about it
   pub first_any : (t : TxParts) (xs : List X) → list_any (tx_eq t) (first_seen about xs) ≡ list_any (λ x. tx_eq t (about x)) xs
   first_any t xs = any_from t [] xs
+
+  -- all of them pass a test where what each thing is about does
+  module _ (q : TxParts → Bool) where
+    and_true : (a : Bool) → (a && true) ≡ a
+    and_true true = refl
+    and_true false = refl
+
+    -- one that was seen passes where all that were seen do
+    passes_there : (seen : List TxParts) (t : TxParts) → list_any (tx_eq t) seen ≡ true → (list_all q seen && q t) ≡ list_all q seen
+    passes_there [] t there = absurd (true≢false (sym there))
+    passes_there (y ∷ ys) t there = by (tx_eq t y) refl (passes_there ys t)
+      where
+        twice : (a b : Bool) → ((a && b) && a) ≡ (a && b)
+        twice true b = and_true b
+        twice false b = refl
+
+        grouped : (a b c : Bool) → (b && c) ≡ b → ((a && b) && c) ≡ (a && b)
+        grouped true b c e = e
+        grouped false b c e = refl
+
+        by : (u : Bool) → tx_eq t y ≡ u → (list_any (tx_eq t) ys ≡ true → (list_all q ys && q t) ≡ list_all q ys)
+            → ((q y && list_all q ys) && q t) ≡ (q y && list_all q ys)
+        by true e later = ap (λ (x : TxParts). (q y && list_all q ys) && q x) ((tx_decides t y).0 e) ∙ twice (q y) (list_all q ys)
+        by false e later =
+            grouped (q y) (list_all q ys) (q t) (later (sym (ap (λ b. b || list_any (tx_eq t) ys) e) ∙ there))
+
+    all_with : (seen : List TxParts) (t : TxParts) → list_all q (seen_with seen t) ≡ (list_all q seen && q t)
+    all_with seen t = by (list_any (tx_eq t) seen) refl
+      where
+        by : (u : Bool) → list_any (tx_eq t) seen ≡ u → list_all q (cond u seen (seen ++ t ∷ [])) ≡ (list_all q seen && q t)
+        by true there = sym (passes_there seen t there)
+        by false none = list_all-append q seen (t ∷ []) ∙ ap (λ b. list_all q seen && b) (and_true (q t))
+
+    all_from : (seen : List TxParts) (xs : List X)
+        → list_all q (fold seen_after seen xs) ≡ (list_all q seen && list_all (λ x. q (about x)) xs)
+    all_from seen [] = sym (and_true (list_all q seen))
+    all_from seen (x ∷ xs) =
+        all_from (seen_after seen x) xs ∙ ap (λ b. b && list_all (λ y. q (about y)) xs) (all_with seen (about x))
+        ∙ grouped (list_all q seen) (q (about x)) (list_all (λ y. q (about y)) xs)
+      where
+        grouped : (a b c : Bool) → ((a && b) && c) ≡ (a && (b && c))
+        grouped true b c = refl
+        grouped false b c = refl
+
+    pub first_all : (xs : List X) → list_all q (first_seen about xs) ≡ list_all (λ x. q (about x)) xs
+    first_all xs = all_from [] xs
 
   -- some things, all about one transaction
   pub fold_same : (seen : List TxParts) (t : TxParts) (x : X) (xs : List X) → about x ≡ t → AllByRecursion (λ y. about y ≡ t) xs

@@ -1,19 +1,21 @@
-ghost use Rattle.std.specs.Prelude.{◌≡◌, ◌<◌, [], IfOk, IfErr, IsTrue, MatchOption, length, position, slice_get, false};
-ghost use Rattle.std.specs.List.{All, IsDistinct, list_any, position_or_len};
+ghost use Rattle.std.specs.Prelude.{◌≡◌, ◌<◌, [], IfOk, IfErr, IsTrue, MatchOption, Some, length, position, slice_get, false};
+ghost use Rattle.std.specs.List.{All, IsDistinct, list_all, list_any, position_or_len};
 ghost use Rattle.std.specs.Str.{bytes_eq};
+ghost use Rattle.xid.specs.Places.{is_below};
 ghost use Rattle.xid.specs.Transactions.{IsTx, tx_eq};
 ghost use Rattle.xid.specs.declared.refusals.Refusal.TheVariants.{NoMemory};
 ghost use Rattle.wire.specs.Grammar.{tx_spelling};
 ghost use Rattle.wire.specs.Versions.{version_2};
-ghost use Rattle.transactions.specs.Seen.{place_in, seen_with};
+ghost use Rattle.transactions.specs.Seen.{AreInside, at_places, place_in, seen_with};
 
 use crate::hashed::{HashedPlaces, stand_at};
+use crate::order::Order;
 use crate::spellings::Spellings;
 use hashing::{HashKey, WordKey, hash_of};
 use std::alloc::Global;
 use std::marker::Model;
 use wire::{MAX_TX_BYTES, SpelledTx, VersionNumber, take_tx};
-use xid::{Refusal, Tx};
+use xid::{Floor, Refusal, Tx};
 
 /// Transactions in the order of first sight. The number of a transaction is its place in that order, and stays. Each is kept by its
 /// spelled bytes, and is found by a hash of them under a key.
@@ -111,6 +113,33 @@ impl Transactions {
         let spelled = self.spelled.get(number)?;
         let (tx, _) = SpelledTx::take(spelled)?;
         Some(tx)
+    }
+
+    /// The transaction at a place of an order over its spelled bytes, where there is one. It takes no memory.
+    pub fn view_at(&self, order: &Order, i: usize) -> Option<SpelledTx<'_>>
+        requires { AreInside (length self.now) order.now.numbers }
+        ensures { result ≡ slice_get (at_places self.now order.now.numbers) i }
+    {
+        match order.get(i) {
+            Some(number) => self.view(number),
+            None => None,
+        }
+    }
+
+    /// Whether each transaction of an order is below a floor. It takes no memory.
+    pub fn are_below(&self, order: &Order, floor: &Floor) -> bool
+        requires { AreInside (length self.now) order.now.numbers }
+        ensures { result ≡ list_all (is_below (Some floor.now)) (at_places self.now order.now.numbers) }
+    {
+        for i in 0..order.len() {
+            let Some(tx) = self.view_at(order, i) else {
+                unreachable!();
+            };
+            if !tx.is_below(floor) {
+                return false;
+            }
+        }
+        true
     }
 
     /// Whether the transaction of a number is the one that these bytes spell.

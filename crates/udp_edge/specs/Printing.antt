@@ -29,6 +29,7 @@ question_text Question.Changes = codes "pcommit: audit: a change is no step of T
 question_text Question.Gets = codes "pcommit: audit: a get shows another table, line "
 question_text Question.Tables = codes "pcommit: audit: last rows are another table, line "
 question_text Question.Order = codes "pcommit: audit: the order of first commits doesn't explain it, line "
+question_text Question.Floors = codes "pcommit: audit: a step takes part below a floor, line "
 
 -- the line of a fault
 abbrev pub fault_line : Fault → List ℕ

@@ -5,7 +5,7 @@ mod command;
 mod printing;
 
 pub use command::{Rejected, Subcommand, action};
-pub use port::{Port, Served, UdpPort, call, serve_once};
+pub use port::{Member, Port, Served, UdpPort, call, raise, serve_once};
 pub use printing::{DONE, INCONSISTENT, MISUSED, REFUSED, answer, program, reject};
 
 #[cfg(test)]

@@ -111,6 +111,7 @@ fn question_text(question: Question) -> &'static str
         Question::Gets => "pcommit: audit: a get shows another table, line ",
         Question::Tables => "pcommit: audit: last rows are another table, line ",
         Question::Order => "pcommit: audit: the order of first commits doesn't explain it, line ",
+        Question::Floors => "pcommit: audit: a step takes part below a floor, line ",
     }
 }
 

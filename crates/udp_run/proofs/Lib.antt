@@ -4,3 +4,4 @@ pub mod Shown
 pub mod Taken
 pub mod Finding
 pub mod Ran
+pub mod Serving

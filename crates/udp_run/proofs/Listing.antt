@@ -4,7 +4,7 @@ use Rattle.std.proofs.lemmas.List.{append-nil}
 use Rattle.net_script.specs.declared.values.Command.{Command}
 use Rattle.net_script.specs.declared.values.Entry.{Entry}
 use Rattle.node_core.specs.declared.config.Sizes.{Sizes}
-use Rattle.node_core.specs.Nodes.{NodeParts}
+use Rattle.port.specs.Members.{MemberParts}
 use Rattle.port.specs.Calls.{Receiving, Sending}
 use Rattle.udp_run.specs.Sites.{SiteParts, site_of, ChangesAt}
 use Rattle.udp_run.specs.Commands.{Joins, JoinsServed, Then, ServesFirst, ServesListed, Flows, CarriesOut, CarriesAll}
@@ -29,7 +29,7 @@ module _ {P : Type 0} (Received : Receiving P) (Sent : Sending P) where
   flows_none a x = record { more = []; makes = (refl, refl); entries_are = sym (append-nil x) }
 
   -- the node of the next place
-  served_at : (sizes : Sizes) (nodes : List NodeParts) (ports : List P) (noise : P) (k : ℕ) (was node : NodeParts) (before port : P)
+  served_at : (sizes : Sizes) (nodes : List MemberParts) (ports : List P) (noise : P) (k : ℕ) (was node : MemberParts) (before port : P)
       (x y : List Entry) → k < length nodes → was ≡ get_or nodes k was → before ≡ get_or ports k before
       → JoinsServed Received Sent was node before port x y
       → Joins (λ a b listed. ChangesAt (ServesListed Received Sent listed) k a b) (site_of sizes nodes ports noise)
@@ -50,8 +50,8 @@ module _ {P : Type 0} (Received : Receiving P) (Sent : Sending P) where
     entries_are = h.entries_are;
   }
 
-  pub serves_next : (start : SiteParts P) (sizes : Sizes) (nodes : List NodeParts) (ports : List P) (noise : P) (k : ℕ)
-      (was node : NodeParts) (before port : P) (x y z : List Entry) → k < length nodes → was ≡ get_or nodes k was
+  pub serves_next : (start : SiteParts P) (sizes : Sizes) (nodes : List MemberParts) (ports : List P) (noise : P) (k : ℕ)
+      (was node : MemberParts) (before port : P) (x y z : List Entry) → k < length nodes → was ≡ get_or nodes k was
       → before ≡ get_or ports k before → JoinsServed Received Sent was node before port y z
       → Joins (ServesFirst Received Sent k) start (site_of sizes nodes ports noise) x y
       → Joins (ServesFirst Received Sent (k + 1)) start (site_of sizes (set nodes k node) (set ports k port) noise) x z

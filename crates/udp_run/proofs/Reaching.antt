@@ -14,11 +14,12 @@ use Rattle.protocol.specs.declared.answers.Answer.TheVariants.{Refused}
 use Rattle.protocol.specs.declared.nodes.NodeId.{NodeId}
 use Rattle.protocol.specs.declared.nodes.NodeId.TheVariants.{A, L, R}
 use Rattle.node_core.specs.declared.config.Sizes.{Sizes}
-use Rattle.node_core.specs.Nodes.{NodeParts}
+use Rattle.port.specs.Members.{MemberParts}
 use Rattle.node_core.specs.Opening.{restart_answer}
 use Rattle.port.specs.Calls.{Sending}
 use Rattle.port.specs.declared.calling.Served.{Served}
-use Rattle.udp_run.specs.Sites.{node_count, place_in, site_of, Making, ReachesAt, Handling, HandlesIn, SendsNoise, IsSentBy, answer_served}
+use Rattle.udp_run.specs.Sites.{node_count, place_in, site_of, Making, ReachesAt, Handling, HandlesIn, SendsNoise, IsSentBy}
+use Rattle.udp_run.specs.Sites.{answer_served, is_forged}
 
 below_by : (number bound before at : ℕ) (t : Bool) → nat_lt number bound ≡ t → (if t then Some (before + number) else None) ≡ Some at
     → at < before + bound
@@ -54,8 +55,8 @@ place_fits sizes xs who at count is =
 -- ---- what became of it
 
 -- the node of a place and its port became others
-pub reaches : {P : Type 0} (Makes : Served → Making P) (sizes : Sizes) (nodes : List NodeParts) (ports : List P) (noise : P)
-    (who : NodeId) (at : ℕ) → Some at ≡ place_in sizes who → length nodes ≡ node_count sizes → (was node : NodeParts) (before port : P)
+pub reaches : {P : Type 0} (Makes : Served → Making P) (sizes : Sizes) (nodes : List MemberParts) (ports : List P) (noise : P)
+    (who : NodeId) (at : ℕ) → Some at ≡ place_in sizes who → length nodes ≡ node_count sizes → (was node : MemberParts) (before port : P)
     (served : Served) → was ≡ get_or nodes at was → before ≡ get_or ports at before → Makes served was node before port
     → ReachesAt Makes (place_in sizes who) (site_of sizes nodes ports noise) (site_of sizes (set nodes at node) (set ports at port) noise)
     served
@@ -76,8 +77,8 @@ reaches Makes sizes nodes ports noise who at is count was node before port serve
     })
 
 -- the node of a place was handled
-pub handled : (Handles : Handling) (sizes : Sizes) (nodes : List NodeParts) (who : NodeId) (at : ℕ) → Some at ≡ place_in sizes who
-    → length nodes ≡ node_count sizes → (was node : NodeParts) (result : Result (Unit {0}) Refusal) (served : Served)
+pub handled : (Handles : Handling) (sizes : Sizes) (nodes : List MemberParts) (who : NodeId) (at : ℕ) → Some at ≡ place_in sizes who
+    → length nodes ≡ node_count sizes → (was node : MemberParts) (result : Result (Unit {0}) Refusal) (served : Served)
     → was ≡ get_or nodes at was → Handles was node result → served ≡ answer_served (restart_answer result)
     → HandlesIn Handles (place_in sizes who) nodes (set nodes at node) served
 handled Handles sizes nodes who at is count was node result served read handles answered =
@@ -107,14 +108,14 @@ is_unspelled bytes none = sym (ap is_some (none_by bytes (message_at bytes) refl
 
 module _ {P : Type 0} (Sent : Sending P) (sizes : Sizes) (who : NodeId) (at : ℕ) (is : Some at ≡ place_in sizes who) (bytes : List ℕ)
     (before after : P) (served : Served) where
-  pub noise_forged : spells_message bytes ≡ true → after ≡ before → served ≡ answer_served (Refused Forged)
+  pub noise_forged : is_forged bytes ≡ true → after ≡ before → served ≡ answer_served (Refused Forged)
       → SendsNoise Sent (place_in sizes who) who bytes before after served
   noise_forged spelled same answered =
       subst (λ (o : Option ℕ). SendsNoise Sent o who bytes before after served) is
       (subst (λ (b : Bool). MatchBool b ((after ≡ before) × (served ≡ answer_served (Refused Forged)))
       (IsSentBy Sent who bytes before after served)) (sym spelled) (same, answered))
 
-  pub noise_sent : spells_message bytes ≡ false → (result : Result (Unit {0}) Refusal) → Sent before after who bytes result
+  pub noise_sent : is_forged bytes ≡ false → (result : Result (Unit {0}) Refusal) → Sent before after who bytes result
       → served ≡ answer_served (restart_answer result) → SendsNoise Sent (place_in sizes who) who bytes before after served
   noise_sent spelled result sent answered =
       subst (λ (o : Option ℕ). SendsNoise Sent o who bytes before after served) is

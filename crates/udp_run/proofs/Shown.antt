@@ -15,22 +15,26 @@ use Rattle.protocol.specs.declared.rows.Row.{Row}
 use Rattle.protocol.specs.Effects.{Config}
 use Rattle.protocol.specs.Nodes.{NodeState}
 use Rattle.stable_record.specs.declared.fact.FactKind.{FactKind as Fact}
-use Rattle.node_core.specs.Nodes.{NodeParts, NodeStands, IsSound}
-use Rattle.node_core.specs.Viewing.{TablesAs, SaysTable, IsUnread}
-use Rattle.udp_run.specs.Tables.{is_manager, IsTableOf, ShowsTable, AreTablesOf, IsUnshown, StopsAtTable}
+use Rattle.node_core.specs.declared.config.Sizes.{Sizes}
+use Rattle.node_core.specs.Viewing.{SaysTable, IsUnread}
+use Rattle.floors.specs.Worlds.{is_manager}
+use Rattle.floored.specs.Nodes.{FlooredParts, FlooredStands, FlooredTables}
+use Rattle.port.specs.Members.{IsMember, MemberParts}
+use Rattle.udp_run.specs.Tables.{IsTableOf, ShowsTable, AreTablesOf, IsUnshown, StopsAtTable}
 
 -- ---- one node
 
 -- what a call of a node's table says
-abbrev pub Tabled : (old new : NodeParts) → Result (List Row) Refusal → Type 0
-Tabled old new result = (config : Config) (m : NodeState) → NodeStands config old m → TablesAs config m old new result
+abbrev pub Tabled : (old new : MemberParts) → Result (List Row) Refusal → Type 0
+Tabled old new result =
+    (config : Config) (m : NodeState) → FlooredStands config old.floored m → FlooredTables config m old.floored new.floored result
 
 -- why a node's table isn't told
-abbrev pub IsUntold : NodeParts → Refusal → Type 0
+abbrev pub IsUntold : MemberParts → Refusal → Type 0
 IsUntold node e = (e ≡ refusals.NoMemory) ⊎ ((e ≡ refusals.RecordFault) × IsUnshown node)
 
-unread_refusal : (node : NodeParts) (new : Held) (e : Refusal) → is_manager node.who ≡ true
-    → IsUnread {X = List Row} node.held new node.role (Err e) → IsUntold node e
+unread_refusal : (node : MemberParts) (new : Held) (e : Refusal) → is_manager node.floored.node.who ≡ true
+    → IsUnread {X = List Row} node.floored.node.held new node.floored.node.role (Err e) → IsUntold node e
 unread_refusal node new e manages (down, inl (is, fault)) =
     let same : e ≡ refusals.RecordFault = cc (is) in
     inr (
@@ -38,28 +42,29 @@ unread_refusal node new e manages (down, inl (is, fault)) =
       record {
         manages = manages;
         left = new;
-        unread = subst (λ (x : Refusal). IsUnread {X = List Row} node.held new node.role (Err x)) same (down, inl (is, fault));
+        unread = subst (λ (x : Refusal). IsUnread {X = List Row} node.floored.node.held new node.floored.node.role (Err x)) same
+            (down, inl (is, fault));
       },
     )
 unread_refusal node new e manages (down, inr (is, same)) = inl (cc (is))
 
 -- what a call of a node's table can say
-abbrev Said : (config : Config) → NodeId → List Fact → (old : NodeParts) → (new : Held) → Result (List Row) Refusal → Type 0
+abbrev Said : (config : Config) → NodeId → List Fact → (old new : FlooredParts) → Result (List Row) Refusal → Type 0
 Said config who facts old new result =
-    ((new ≡ old.held) × SaysTable config who facts result) ⊎ IsUnread old.held new old.role result
+    ((new ≡ old) × SaysTable config who facts result) ⊎ IsUnread old.node.held new.node.held old.node.role result
 
-told : (config : Config) (rm : ℕ) (facts : List Fact) (old : NodeParts) (new : Held) (e : Refusal) → is_manager old.who ≡ true
-    → Said config (nodes.R rm) facts old new (Err e) → IsUntold old e
+told : (config : Config) (rm : ℕ) (facts : List Fact) (old new : MemberParts) (e : Refusal) → is_manager old.floored.node.who ≡ true
+    → Said config (nodes.R rm) facts old.floored new.floored (Err e) → IsUntold old e
 told config rm facts old new e manages (inl (same, says)) = inl says
-told config rm facts old new e manages (inr unread) = unread_refusal old new e manages unread
+told config rm facts old new e manages (inr unread) = unread_refusal old new.floored.node.held e manages unread
 
 -- a resource manager's table is refused for want of memory or a record that fails
-pub table_untold : (rm : ℕ) (old new : NodeParts) (e : Refusal) → old.who ≡ nodes.R rm → IsSound old → Tabled old new (Err e)
-    → IsUntold old e
-table_untold rm old new e is sound tabled =
-    told sound.config rm sound.state.facts old new.held e (ap is_manager is)
-    (subst (λ (who : NodeId). Said sound.config who sound.state.facts old new.held (Err e)) is
-    (tabled sound.config sound.state sound.is).tables.says)
+pub table_untold : (rm : ℕ) (sizes : Sizes) (old new : MemberParts) (e : Refusal) → old.floored.node.who ≡ nodes.R rm
+    → IsMember sizes old.floored old.told → Tabled old new (Err e) → IsUntold old e
+table_untold rm sizes old new e is sound tabled =
+    told sound.config rm sound.state.facts old new e (ap is_manager is)
+    (subst (λ (who : NodeId). Said sound.config who sound.state.facts old.floored new.floored (Err e)) is
+    (tabled sound.config sound.state sound.is).says)
 
 -- ---- one after another
 
@@ -74,36 +79,36 @@ filter_one : {X : Type 0} (p : X → Bool) (x : X) (t : Bool) → p x ≡ t → 
 filter_one p x t e = ap (λ (b : Bool). cond b (x ∷ []) []) e
 
 -- tables of the nodes so far, and nodes that are as they were from there on
-pub record HaveShownTables (at : ℕ) (start now : List NodeParts) (tables : List (List Row)) : Type 0 where
+pub record HaveShownTables (at : ℕ) (start now : List MemberParts) (tables : List (List Row)) : Type 0 where
   pub shown : AreTablesOf (take at start) tables
   pub rest : drop at now ≡ drop at start
   pub long : length now ≡ length start
 
-pub none_shown : (nodes : List NodeParts) → HaveShownTables 0 nodes nodes []
+pub none_shown : (nodes : List MemberParts) → HaveShownTables 0 nodes nodes []
 none_shown nodes = record { shown = tt; rest = refl; long = refl }
 
-abbrev managing : NodeParts → Bool
-managing node = is_manager node.who
+abbrev managing : MemberParts → Bool
+managing node = is_manager node.floored.node.who
 
-at_front : (n : ℕ) (xs : List NodeParts) (d : NodeParts) → get_or (drop n xs) 0 d ≡ get_or xs n d
+at_front : (n : ℕ) (xs : List MemberParts) (d : MemberParts) → get_or (drop n xs) 0 d ≡ get_or xs n d
 at_front n xs d = let e : n + 0 ≡ n = omega arith in get_or-drop n xs 0 d ∙ ap (λ (k : ℕ). get_or xs k d) e
 
-module _ (at : ℕ) (start now : List NodeParts) (tables : List (List Row)) (was new : NodeParts) (lt : at < length now)
+module _ (at : ℕ) (start now : List MemberParts) (tables : List (List Row)) (was new : MemberParts) (lt : at < length now)
     (read : was ≡ get_or now at was) (so : HaveShownTables at start now tables) where
   within : at < length start
   within = let long : length now ≡ length start = so.long in omega (arith, lt, long)
 
   here : was ≡ get_or start at was
   here =
-      read ∙ sym (at_front at now was) ∙ ap (λ (xs : List NodeParts). get_or xs 0 was) so.rest ∙ at_front at start was
+      read ∙ sym (at_front at now was) ∙ ap (λ (xs : List MemberParts). get_or xs 0 was) so.rest ∙ at_front at start was
 
   longer : take (at + 1) start ≡ take at start ++ was ∷ []
-  longer = take_more start at was within ∙ ap (λ (n : NodeParts). take at start ++ n ∷ []) (sym here)
+  longer = take_more start at was within ∙ ap (λ (n : MemberParts). take at start ++ n ∷ []) (sym here)
 
   picked : (t : Bool) → managing was ≡ t → filter managing (take (at + 1) start) ≡ filter managing (take at start) ++ cond t (was ∷ []) []
   picked t e =
       ap (filter managing) longer ∙ filter-append managing (take at start) (was ∷ [])
-      ∙ ap (λ (ns : List NodeParts). filter managing (take at start) ++ ns) (filter_one managing was t e)
+      ∙ ap (λ (ns : List MemberParts). filter managing (take at start) ++ ns) (filter_one managing was t e)
 
   behind : drop (at + 1) now ≡ drop (at + 1) start
   behind = ap (drop 1) (sym (drop_more now at was lt) ∙ so.rest ∙ drop_more start at was within)
@@ -112,21 +117,21 @@ module _ (at : ℕ) (start now : List NodeParts) (tables : List (List Row)) (was
   left = drop-set-lt (at + 1) now at new (omega arith) ∙ behind
 
   -- the node is no resource manager
-  shown_without : is_manager was.who ≡ false → HaveShownTables (at + 1) start (set now at new) tables
+  shown_without : is_manager was.floored.node.who ≡ false → HaveShownTables (at + 1) start (set now at new) tables
   shown_without e = record {
     shown =
-        subst (λ (ns : List NodeParts). AllZip IsTableOf ns tables)
+        subst (λ (ns : List MemberParts). AllZip IsTableOf ns tables)
         (sym (picked false e ∙ append-nil (filter managing (take at start)))) so.shown;
     rest = left;
     long = length-set now at new ∙ so.long;
   }
 
   -- it is one, with a table
-  shown_with : (rows : List Row) → is_manager was.who ≡ true → IsTableOf was rows
+  shown_with : (rows : List Row) → is_manager was.floored.node.who ≡ true → IsTableOf was rows
       → HaveShownTables (at + 1) start (set now at new) (tables ++ rows ∷ [])
   shown_with rows e is = record {
     shown =
-        subst (λ (ns : List NodeParts). AllZip IsTableOf ns (tables ++ rows ∷ [])) (sym (picked true e))
+        subst (λ (ns : List MemberParts). AllZip IsTableOf ns (tables ++ rows ∷ [])) (sym (picked true e))
         (zip_last IsTableOf (filter managing (take at start)) tables was rows so.shown is);
     rest = left;
     long = length-set now at new ∙ so.long;
@@ -157,8 +162,8 @@ module _ (at : ℕ) (start now : List NodeParts) (tables : List (List Row)) (was
   )
 
 -- all were shown
-pub all_shown : (at : ℕ) (start now : List NodeParts) (tables : List (List Row)) → length now ≤ at → HaveShownTables at start now tables
+pub all_shown : (at : ℕ) (start now : List MemberParts) (tables : List (List Row)) → length now ≤ at → HaveShownTables at start now tables
     → AreTablesOf start tables
 all_shown at start now tables end so =
     let long : length now ≡ length start = so.long in
-    subst (λ (ns : List NodeParts). AreTablesOf ns tables) (take_all at start (omega (arith, end, long))) so.shown
+    subst (λ (ns : List MemberParts). AreTablesOf ns tables) (take_all at start (omega (arith, end, long))) so.shown

@@ -14,10 +14,13 @@ use Rattle.protocol.specs.declared.nodes.NodeId.TheVariants.{A, L, R}
 use Rattle.protocol.specs.Effects.{Config}
 use Rattle.node_core.specs.declared.config.Sizes.{Sizes}
 use Rattle.node_core.specs.Configs.{is_among}
-use Rattle.node_core.specs.Nodes.{NodeParts, AreSizes}
-use Rattle.node_core.specs.Opening.{IsOpened, IsUnopened, HasFaulted}
+use Rattle.node_core.specs.Nodes.{AreSizes}
+use Rattle.node_core.specs.Opening.{IsUnopened, HasFaulted}
+use Rattle.floored.specs.Nodes.{IsFlooredUnopened}
+use Rattle.port.specs.Members.{MemberParts}
 use Rattle.udp_run.specs.Sites.{node_count, place_in}
-use Rattle.udp_run.specs.Runs.{IsOpenedOver, IsOpenedAt, AreOpened, IsRefusedOver, RefusesNode, RefusesNext, RefusesSite}
+use Rattle.udp_run.specs.Runs.{IsOpenedOver, IsOpenedAt, AreOpened, IsRefusedOver, IsTakenUp, RefusesNode, RefusesNext, RefusesSite}
+use Rattle.udp_run.specs.Runs.{behind_floor}
 
 -- ---- names
 
@@ -40,12 +43,12 @@ place_among config sizes are (R rm) at h =
 
 -- ---- one after another
 
-pub one_opened : (config : Config) (sizes : Sizes) (made : ℕ) (old new : List NodeParts) (node : NodeParts) (who : NodeId)
+pub one_opened : (config : Config) (sizes : Sizes) (made : ℕ) (old new : List MemberParts) (node : MemberParts) (who : NodeId)
     → AreOpened config sizes made old → new ≡ old ++ node ∷ [] → place_in sizes who ≡ Some made → IsOpenedOver config who node
     → AreOpened config sizes (made + 1) new
 one_opened config sizes made old new node who so pushed place_is over = record {
   number = ap length pushed ∙ length_push old node ∙ ap (λ (n : ℕ). n + 1) so.number;
-  each = λ at d lt. subst (λ (ns : List NodeParts). IsOpenedAt config sizes at (get_or ns at d)) (sym pushed)
+  each = λ at d lt. subst (λ (ns : List MemberParts). IsOpenedAt config sizes at (get_or ns at d)) (sym pushed)
       (elim (cases_lt at made) [
         | inl less ↦
             subst (IsOpenedAt config sizes at)
@@ -60,21 +63,25 @@ one_opened config sizes made old new node who so pushed place_is over = record {
 -- ---- refused
 
 module _ (config : Config) (who : NodeId) (held : Held) (opened : held ≡ just_opened held.bytes) where
-  pub taken_over : (node : NodeParts) → IsOpened config who held node → IsOpenedOver config who node
-  taken_over node is = record { bytes = held.bytes; opened = subst (λ (h : Held). IsOpened config who h node) opened is }
+  pub taken_over : (node : MemberParts) → IsTakenUp config who held node → IsOpenedOver config who node
+  taken_over node is = record { bytes = held.bytes; taken = subst (λ (h : Held). IsTakenUp config who h node) opened is }
 
-  why_unopened : is_among config who ≡ true → (left : Held) (e : Refusal) → IsUnopened config who held left e
-      → (e ≡ NoMemory) ⊎ RefusesNode config who e
+  why_unopened : is_among config who ≡ true → (left : Held) (e : Refusal)
+      → IsUnopened config who (behind_floor held held.bytes) (behind_floor left held.bytes) e → (e ≡ NoMemory) ⊎ RefusesNode config who e
   why_unopened among left NoSuch why = let both : true ≡ false = sym among ∙ why.1 in absurd (cc (both))
   why_unopened among left Damaged why = inr (record { bytes = held.bytes; bad = why.2 })
   why_unopened among left RecordFault why =
-      inr (record { bytes = held.bytes; left = left; faulted = subst (λ (h : Held). HasFaulted h left) opened why.1 })
+      inr (record {
+        bytes = held.bytes;
+        left = left;
+        faulted = subst (λ (h : Held). HasFaulted (behind_floor h held.bytes) (behind_floor left held.bytes)) opened why.1;
+      })
   why_unopened among left NoMemory why = inl refl
   why_unopened among left other why = absurd why
 
   pub not_taken_over : is_among config who ≡ true → (e : Refusal) → IsRefusedOver config who held e
       → (e ≡ NoMemory) ⊎ RefusesNode config who e
-  not_taken_over among e why = why_unopened among why.0 e why.1
+  not_taken_over among e why = let un : IsFlooredUnopened config who held why.0 e = why.1 in why_unopened among why.0 e un.unopened
 
 -- its file isn't opened
 pub file_refused : (config : Config) (who : NodeId) (e : Refusal) → (e ≡ NoMemory) ⊎ (e ≡ FileFault)
@@ -82,7 +89,7 @@ pub file_refused : (config : Config) (who : NodeId) (e : Refusal) → (e ≡ NoM
 file_refused config who e (inl memory) = inl memory
 file_refused config who e (inr fault) = inr (subst (RefusesNode config who) (sym fault) tt)
 
-module _ (config : Config) (sizes : Sizes) (nodes : List NodeParts) where
+module _ (config : Config) (sizes : Sizes) (nodes : List MemberParts) where
   -- the node of the next place
   pub next_refused : (at : ℕ) (who : NodeId) → AreOpened config sizes at nodes → place_in sizes who ≡ Some at → (e : Refusal)
       → (e ≡ NoMemory) ⊎ RefusesNode config who e → (e ≡ NoMemory) ⊎ RefusesNext config sizes e

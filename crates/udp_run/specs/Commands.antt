@@ -3,14 +3,14 @@ use Rattle.std.specs.Prelude.{◌≡◌, ℕ, zero, suc, Bool, true, false, List
 use Rattle.xid.specs.declared.refusals.Refusal.{Refusal}
 use Rattle.protocol.specs.declared.answers.Answer.TheVariants.{Refused}
 use Rattle.protocol.specs.declared.events.Event.{Event}
-use Rattle.protocol.specs.declared.events.Event.TheVariants.{Ask, Noise, Restart, Compact}
+use Rattle.protocol.specs.declared.events.Event.TheVariants.{Ask, Noise, Restart, Compact, Raise}
 use Rattle.protocol.specs.declared.events.Step.{Step}
 use Rattle.protocol.specs.declared.nodes.NodeId.{NodeId}
 use Rattle.net_script.specs.declared.values.Command.{Command}
 use Rattle.net_script.specs.declared.values.Command.TheVariants.{Do, Flow}
 use Rattle.net_script.specs.declared.values.Entry.{Entry}
-use Rattle.node_core.specs.Nodes.{NodeParts}
 use Rattle.port.specs.declared.calling.Served.{Served}
+use Rattle.port.specs.Members.{MemberParts}
 use Rattle.port.specs.Calls.{Receiving, Sending, Serves}
 use Rattle.udp_run.specs.Sites.{SiteParts, ChangesAt, Happens}
 
@@ -20,6 +20,7 @@ is_served_event (Ask who request) = true
 is_served_event (Noise who bytes) = true
 is_served_event (Restart who) = true
 is_served_event (Compact who) = true
+is_served_event (Raise rm floor) = true
 is_served_event event = false
 
 -- whether a command does
@@ -35,21 +36,21 @@ pub record Joins {S : Type 0} (Makes : S → S → List Entry → Type 0) (old n
 
 -- ---- rounds
 
--- what is listed of a serve: a datagram that was taken, with what came of it, or that the socket failed
+-- what is listed of a serve: a datagram that was taken, a notice too, with what came of it, or that the socket failed
 abbrev pub listed : NodeId → Result (Option Served) Refusal → List Entry
 listed who (Ok None) = []
 listed who (Ok (Some served)) = Entry.Serve who served.reply served.now [] ∷ []
 listed who (Err refusal) = Entry.Serve who (Refused refusal) None [] ∷ []
 
 -- a node took a datagram at its port, or none, and this is listed
-pub record ServesListed {P : Type 0} (Received : Receiving P) (Sent : Sending P) (entries : List Entry) (old new : NodeParts)
+pub record ServesListed {P : Type 0} (Received : Receiving P) (Sent : Sending P) (entries : List Entry) (old new : MemberParts)
     (before after : P) : Type 0 where
   pub result : Result (Option Served) Refusal
   pub serves : Serves Received Sent old new before after result
-  pub entries_are : entries ≡ listed old.who result
+  pub entries_are : entries ≡ listed old.floored.node.who result
 
 -- what is listed of it was put after other entries
-pub record JoinsServed {P : Type 0} (Received : Receiving P) (Sent : Sending P) (old new : NodeParts) (before after : P)
+pub record JoinsServed {P : Type 0} (Received : Receiving P) (Sent : Sending P) (old new : MemberParts) (before after : P)
     (earlier later : List Entry) : Type 0 where
   pub more : List Entry
   pub serves : ServesListed Received Sent more old new before after

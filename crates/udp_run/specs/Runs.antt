@@ -1,16 +1,20 @@
 -- What a run over sockets gives, and why one is refused.
-use Rattle.std.specs.Prelude.{◌≡◌, ◌⊎◌, ℕ, ◌+◌, ◌<◌, true, false, List, length, take, slice_index_or, Some}
+use Rattle.std.specs.Prelude.{◌≡◌, ◌⊎◌, ℕ, ◌+◌, ◌<◌, true, false, List, length, replicate, take, slice_index_or, Some, None}
 use Rattle.std.specs.List.{list_all}
 use Rattle.xid.specs.declared.refusals.Refusal.{Refusal}
 use Rattle.xid.specs.declared.refusals.Refusal.TheVariants.{Damaged, RecordFault, BadScript, NoMemory, PortFault, BadConfig, FileFault}
+use Rattle.stable_record.specs.Behind.{behind}
+use Rattle.stable_record.specs.Floors.{floor_of, front_of}
 use Rattle.stable_record.specs.Held.{Held}
 use Rattle.stable_record.specs.Records.{just_opened}
 use Rattle.protocol.specs.declared.nodes.NodeId.{NodeId}
 use Rattle.protocol.specs.declared.rows.Row.{Row}
 use Rattle.protocol.specs.Effects.{Config}
 use Rattle.node_core.specs.declared.config.Sizes.{Sizes}
-use Rattle.node_core.specs.Nodes.{NodeParts, AreSizes}
-use Rattle.node_core.specs.Opening.{IsOpened, IsUnopened, IsBad, HasFaulted}
+use Rattle.node_core.specs.Nodes.{AreSizes}
+use Rattle.node_core.specs.Opening.{IsBad, HasFaulted}
+use Rattle.floored.specs.Nodes.{IsFlooredOpened, IsFlooredUnopened}
+use Rattle.port.specs.Members.{MemberParts}
 use Rattle.port.specs.declared.addresses.Addresses.{Addresses}
 use Rattle.port.specs.declared.udp.UdpPort.{UdpPort}
 use Rattle.port.specs.Addresses.{address_of}
@@ -28,21 +32,26 @@ use Rattle.udp_run.specs.Tables.{AreTablesOf, StopsAtTable}
 
 -- ---- at first
 
+-- a node was taken up from a record, and was told nothing
+pub record IsTakenUp (config : Config) (who : NodeId) (held : Held) (node : MemberParts) : Type 0 where
+  pub opened : IsFlooredOpened config who held node.floored
+  pub told_is : node.told ≡ replicate config.managers None
+
 -- a node was opened over the bytes of a file
-pub record IsOpenedOver (config : Config) (who : NodeId) (node : NodeParts) : Type 0 where
+pub record IsOpenedOver (config : Config) (who : NodeId) (node : MemberParts) : Type 0 where
   pub bytes : List ℕ
-  pub opened : IsOpened config who (just_opened bytes) node
+  pub taken : IsTakenUp config who (just_opened bytes) node
 
 -- the node of a place was
-pub record IsOpenedAt (config : Config) (sizes : Sizes) (at : ℕ) (node : NodeParts) : Type 0 where
+pub record IsOpenedAt (config : Config) (sizes : Sizes) (at : ℕ) (node : MemberParts) : Type 0 where
   pub who : NodeId
   pub place_is : place_in sizes who ≡ Some at
   pub over : IsOpenedOver config who node
 
 -- the nodes of the first so many places were
-pub record AreOpened (config : Config) (sizes : Sizes) (count : ℕ) (nodes : List NodeParts) : Type 0 where
+pub record AreOpened (config : Config) (sizes : Sizes) (count : ℕ) (nodes : List MemberParts) : Type 0 where
   pub number : length nodes ≡ count
-  pub each : (at : ℕ) (d : NodeParts) → at < count → IsOpenedAt config sizes at (slice_index_or nodes at d)
+  pub each : (at : ℕ) (d : MemberParts) → at < count → IsOpenedAt config sizes at (slice_index_or nodes at d)
 
 -- each node of a cluster is found at the number of the port that stands in its place
 abbrev pub FindsEach : Sizes → List UdpPort → Addresses → Type 0
@@ -109,18 +118,22 @@ pub record IsRefusedLine (bytes : List ℕ) (script : Script) (line : ℕ) : Typ
 
 -- a node's record, as it was before, wasn't taken up
 abbrev pub IsRefusedOver : Config → NodeId → Held → Refusal → Type 0
-IsRefusedOver config who held e = (left : Held) × IsUnopened config who held left e
+IsRefusedOver config who held e = (left : Held) × IsFlooredUnopened config who held left e
 
--- the record over a node's file was opened, and its bytes hold nothing that plays
+-- what stands behind the floor that bytes begin with, if they begin with one
+abbrev pub behind_floor : Held → List ℕ → Held
+behind_floor held bytes = behind (front_of (floor_of bytes)) held
+
+-- the record over a node's file was opened, and its bytes hold nothing that plays behind their floor
 pub record IsDamagedOver (config : Config) (who : NodeId) : Type 0 where
   pub bytes : List ℕ
-  pub bad : IsBad config who bytes
+  pub bad : IsBad config who (behind_floor (just_opened bytes) bytes).bytes
 
 -- the record over a node's file was opened, and failed as it was read, cut or written anew, which it counted
 pub record HasFaultedOver : Type 0 where
   pub bytes : List ℕ
   pub left : Held
-  pub faulted : HasFaulted (just_opened bytes) left
+  pub faulted : HasFaulted (behind_floor (just_opened bytes) bytes) (behind_floor left bytes)
 
 -- why a node isn't opened: its file can't be opened and read, of which no contract says more; or its record
 abbrev pub RefusesNode : Config → NodeId → Refusal → Type 0
@@ -132,7 +145,7 @@ RefusesNode config who other = ⊥
 -- the nodes of all places before one were opened, and the node of this one was refused
 pub record RefusesNext (config : Config) (sizes : Sizes) (e : Refusal) : Type 0 where
   pub at : ℕ
-  pub before : List NodeParts
+  pub before : List MemberParts
   pub opened : AreOpened config sizes at before
   pub who : NodeId
   pub place_is : place_in sizes who ≡ Some at
@@ -140,7 +153,7 @@ pub record RefusesNext (config : Config) (sizes : Sizes) (e : Refusal) : Type 0 
 
 -- all nodes were opened, and then a socket couldn't be made, of which no contract says more
 pub record RefusesPorts (config : Config) (sizes : Sizes) (e : Refusal) : Type 0 where
-  pub nodes : List NodeParts
+  pub nodes : List MemberParts
   pub opened : AreOpened config sizes (node_count sizes) nodes
   pub refusal_is : e ≡ PortFault
 

@@ -5,14 +5,13 @@ ghost use Rattle.xid.specs.declared.refusals.Refusal.TheVariants.{FileFault, NoM
 ghost use Rattle.stable_record.specs.Records.{file_held, just_opened};
 ghost use Rattle.node_core.specs.Configs.{are_sizes, is_among};
 ghost use Rattle.node_core.specs.Nodes.{AreSizes};
-ghost use Rattle.node_core.specs.Opening.{IsOpened};
 ghost use Rattle.udp_run.specs.Sites.{node_count, place_in};
 ghost use Rattle.udp_run.specs.Runs.{AreOpened, ArePorts, AreStanding, IsOpenedOver, IsOpenedSite, finding};
-ghost use Rattle.udp_run.specs.Runs.{IsRefusedOver, RefusesNext, RefusesNode, RefusesSite};
+ghost use Rattle.udp_run.specs.Runs.{IsRefusedOver, IsTakenUp, RefusesNext, RefusesNode, RefusesSite};
 
 use crate::site::Site;
-use node_core::{Config, Node, Sizes};
-use port::{Addresses, UdpPort};
+use node_core::{Config, Sizes};
+use port::{Addresses, Member, UdpPort};
 use protocol::NodeId;
 use stable_record::{FileRecord, RecordError};
 use std::alloc::Global;
@@ -67,17 +66,17 @@ fn open_record(rt: HostRuntime, folder: &str, who: NodeId) -> Result<FileRecord,
     }
 }
 
-/// The node over its record. Refused as `Node::open` refuses it; the record is closed.
+/// The node over its record. Refused as `Member::open` refuses it; the record is closed.
 fn take_up(
     alloc: Global,
     config: &Config,
     who: NodeId,
     device: FileRecord,
-) -> Result<Node<FileRecord>, Refusal>
-    ensures ok { IfOk result (IsOpened config.now who (file_held device)) }
+) -> Result<Member<FileRecord>, Refusal>
+    ensures ok { IfOk result (IsTakenUp config.now who (file_held device)) }
     ensures err { IfErr result (IsRefusedOver config.now who (file_held device)) }
 {
-    match Node::open(alloc, config, who, device) {
+    match Member::open(alloc, config, who, device) {
         Ok(node) => Ok(node),
         Err((_, refusal)) => Err(refusal),
     }
@@ -90,7 +89,7 @@ fn open_node(
     folder: &str,
     config: &Config,
     who: NodeId,
-) -> Result<Node<FileRecord>, Refusal>
+) -> Result<Member<FileRecord>, Refusal>
     requires { is_among config.now who ≡ true }
     ensures ok { IfOk result (IsOpenedOver config.now who) }
     ensures err { IfErr result (λ e. (e ≡ NoMemory) ⊎ RefusesNode config.now who e) }
@@ -105,7 +104,7 @@ fn open_nodes(
     folder: &str,
     config: &Config,
     sizes: Sizes,
-) -> Result<Vec<Node<FileRecord>>, Refusal>
+) -> Result<Vec<Member<FileRecord>>, Refusal>
     requires { AreSizes config.now sizes }
     ensures ok { IfOk result (λ nodes. AreOpened config.now sizes (node_count sizes) nodes.items) }
     ensures err { IfErr result (λ e. (e ≡ NoMemory) ⊎ RefusesNext config.now sizes e) }

@@ -7,8 +7,7 @@ ghost use Rattle.udp_run.specs.Sites.{site_of};
 ghost use Rattle.udp_run.specs.Commands.{Joins, JoinsServed, ServesFirst, listed};
 
 use net_script::Entry;
-use node_core::Node;
-use port::{Port, Served, serve_once};
+use port::{Member, Port, Served, serve_once};
 use protocol::{Answer, NodeId};
 use stable_record::Record;
 use std::alloc::Global;
@@ -44,7 +43,7 @@ fn list(
 /// A node takes a datagram at its port, if one has come, and this is listed. Refused: `NoMemory` alone.
 fn serve<R: Record, P: Port>(
     alloc: Global,
-    node: &mut Node<R>,
+    node: &mut Member<R>,
     port: &mut P,
     entries: &mut Vec<Entry>,
 ) -> Result<(), Refusal>
@@ -59,7 +58,7 @@ fn serve<R: Record, P: Port>(
 /// Each node, in order, takes a datagram, if one has come. Refused: `NoMemory` alone.
 pub(crate) fn serve_each<R: Record, P: Port>(
     alloc: Global,
-    nodes: &mut Vec<Node<R>>,
+    nodes: &mut Vec<Member<R>>,
     ports: &mut Vec<P>,
     entries: &mut Vec<Entry>,
 ) -> Result<(), Refusal>

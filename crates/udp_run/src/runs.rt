@@ -16,11 +16,11 @@ use xid::{Refusal, Sequence};
 
 /// Runs a script over sockets and gives the text of its trace: its nodes are taken up from the records in a folder, each takes datagrams
 /// at a socket of its own on 127.0.0.1, and `flow` is so many rounds in which each takes one. Refused: `BadScript` with the first line
-/// at fault; `BadConfig` for sizes outside the limits; `BadScript` with the first event that can't happen over sockets (a datagram's
-/// number or a tear); then, node by node, a file that can't be opened and read (`FileFault`), bytes that hold nothing that plays
-/// (`Damaged`) or a record that fails (`RecordFault`); then a socket that can't be made (`PortFault`); at the end the record of a
-/// resource manager that is down and whose table can't be read, as the record fails (`RecordFault`); and `NoMemory` anywhere. What was
-/// stored stays stored.
+/// at fault; `BadConfig` for sizes outside the limits; `BadScript` with the first event that can't happen over sockets (the number of a
+/// datagram or a notice, a tear or a replacement); then, node by node, a file that can't be opened and read (`FileFault`), bytes that hold
+/// nothing that plays (`Damaged`) or a record that fails (`RecordFault`); then a socket that can't be made (`PortFault`); at the end the
+/// record of a resource manager that is down and whose table can't be read, as the record fails (`RecordFault`); and `NoMemory` anywhere.
+/// What was stored stays stored.
 pub fn udp(rt: HostRuntime, script: &[u8], folder: &str) -> Result<Vec<u8>, Refusal>
     ensures ok { IfOk result (λ output. IsUdpRun script.now output.items) }
     ensures err { IfErr result (RefusesUdp script.now) }
@@ -66,14 +66,18 @@ fn serve(rt: HostRuntime, script: Script, folder: &str, config: &Config) -> Resu
     write_trace(rt.alloc(), &trace)
 }
 
-/// Whether a command happens over sockets: datagrams there have no numbers, and files can't be torn.
+/// Whether a command happens over sockets: datagrams and notices there have no numbers, and files can't be torn or lost.
 fn is_served(command: &Command) -> bool
     ensures { result ≡ is_served_lem command.now }
 {
     matches!(
         command,
         Command::Do(
-            Event::Ask { .. } | Event::Noise { .. } | Event::Restart { .. } | Event::Compact { .. }
+            Event::Ask { .. }
+                | Event::Noise { .. }
+                | Event::Restart { .. }
+                | Event::Compact { .. }
+                | Event::Raise { .. }
         ) | Command::Flow(_)
     )
 }

@@ -5,12 +5,12 @@ ghost use Rattle.udp_run.specs.Sites.{Comes, Happens, IsSite, site_of};
 ghost use Rattle.udp_run.specs.Commands.{CarriesAll, CarriesOut, Flows, Joins, ServesFirst, is_served_event, is_served};
 ghost use Rattle.udp_run.specs.Tables.{AreTablesOf, StopsAtTable};
 
-use crate::happenings::{ask, compact, noise, restart};
+use crate::happenings::{ask, compact, noise, raise, restart};
 use crate::rounds::serve_each;
 use crate::tables::tables_of;
 use net_script::{Command, Entry};
-use node_core::{Node, Sizes};
-use port::{Port, Served};
+use node_core::Sizes;
+use port::{Member, Port, Served};
 use protocol::{Event, Row, Step};
 use stable_record::Record;
 use std::alloc::Global;
@@ -22,7 +22,7 @@ use xid::{Refusal, Sequence};
 pub struct Site<R: Record, P: Port> {
     alloc: Global,
     sizes: Sizes,
-    nodes: Vec<Node<R>>,
+    nodes: Vec<Member<R>>,
     ports: Vec<P>,
     noise: P,
 }
@@ -42,7 +42,7 @@ impl<R: Record, P: Port> Site<R, P> {
     pub fn new(
         alloc: Global,
         sizes: Sizes,
-        nodes: Vec<Node<R>>,
+        nodes: Vec<Member<R>>,
         ports: Vec<P>,
         noise: P,
     ) -> Site<R, P>
@@ -58,7 +58,7 @@ impl<R: Record, P: Port> Site<R, P> {
         }
     }
 
-    /// What comes of an event: a request, a restart, a compaction or noise. What a node sends goes out by its port.
+    /// What comes of an event: a request, a restart, a compaction, a rise of a floor or noise. What a node sends goes out by its port.
     fn come(&mut self, event: &Event) -> Served
         requires { is_served_event event.now ≡ true }
         ensures { Comes P.sent event.now self.old self.new result }
@@ -69,6 +69,9 @@ impl<R: Record, P: Port> Site<R, P> {
             }
             Event::Restart { node } => restart(self.sizes, &mut self.nodes, *node),
             Event::Compact { node } => compact(self.sizes, &mut self.nodes, *node),
+            Event::Raise { rm, floor } => {
+                raise(self.sizes, &mut self.nodes, &mut self.ports, *rm, floor)
+            }
             Event::Noise { node, bytes } => {
                 noise(self.sizes, &mut self.noise, *node, bytes.as_slice())
             }
@@ -87,6 +90,7 @@ impl<R: Record, P: Port> Site<R, P> {
             answer: served.reply,
             now: served.now,
             sent: Sequence::new(Vec::new(self.alloc)),
+            told: Sequence::new(Vec::new(self.alloc)),
         }
     }
 

@@ -4,14 +4,14 @@ ghost use Rattle.std.specs.Prelude.{◌≡◌, ◌⊎◌, IfOk, IfErr, OnOk};
 ghost use Rattle.xid.specs.declared.refusals.Refusal.TheVariants.{NoMemory, RecordFault};
 ghost use Rattle.udp_run.specs.Tables.{AreTablesOf, HasTable, IsUnshown, ShowsTable, StopsAtTable};
 
-use node_core::Node;
+use port::Member;
 use protocol::{NodeId, Row};
 use stable_record::Record;
 use std::alloc::Global;
 use xid::{Refusal, Sequence};
 
 /// The rows of a node's table, if it is a resource manager. Refused: `NoMemory`; it is down, and its record fails (`RecordFault`).
-fn table_of<R: Record>(node: &mut Node<R>) -> Result<Option<Sequence<Row>>, Refusal>
+fn table_of<R: Record>(node: &mut Member<R>) -> Result<Option<Sequence<Row>>, Refusal>
     ensures ok { IfOk result (HasTable node.old) }
     ensures err { IfErr result (λ e. (e ≡ NoMemory) ⊎ ((e ≡ RecordFault) × IsUnshown node.old)) }
 {
@@ -27,7 +27,7 @@ fn table_of<R: Record>(node: &mut Node<R>) -> Result<Option<Sequence<Row>>, Refu
 }
 
 /// Puts the rows of a node's table after others, if it is a resource manager. Refused as `table_of` is.
-fn show<R: Record>(node: &mut Node<R>, tables: &mut Vec<Sequence<Row>>) -> Result<(), Refusal>
+fn show<R: Record>(node: &mut Member<R>, tables: &mut Vec<Sequence<Row>>) -> Result<(), Refusal>
     ensures ok { OnOk result (ShowsTable node.old tables.old.items tables.new.items) }
     ensures err { IfErr result (λ e. (e ≡ NoMemory) ⊎ ((e ≡ RecordFault) × IsUnshown node.old)) }
 {
@@ -43,7 +43,7 @@ fn show<R: Record>(node: &mut Node<R>, tables: &mut Vec<Sequence<Row>>) -> Resul
 /// The rows of each resource manager's table, in order. Refused: `NoMemory`; the record of one that is down fails (`RecordFault`).
 pub(crate) fn tables_of<R: Record>(
     alloc: Global,
-    nodes: &mut Vec<Node<R>>,
+    nodes: &mut Vec<Member<R>>,
 ) -> Result<Vec<Sequence<Row>>, Refusal>
     ensures ok { IfOk result (λ tables. AreTablesOf nodes.old.items tables.items) }
     ensures err { IfErr result (λ e. (e ≡ NoMemory) ⊎ ((e ≡ RecordFault) × StopsAtTable nodes.old.items)) }

@@ -7,8 +7,8 @@ use crate::posts::Post;
 use crate::starts::take_table;
 use anyhow::{Result, bail};
 use hmac::Key;
-use node_core::{Config, Input, Node, Output, Sizes};
-use port::{FakePort, MAX_TAKEN, Port, call_all};
+use node_core::{Config, Input, Output, Sizes};
+use port::{FakePort, MAX_TAKEN, Member, Port, call_all};
 use protocol::{Action, Answer, Boxed, Change, NodeId, Request, Row, View};
 use signed_port::{DIGEST, PlainPort, SignedPort};
 use stable_record::MemRecord;
@@ -50,7 +50,7 @@ const MANAGER: usize = 4;
 #[derive(Drop)]
 pub struct Processes {
     alloc: Global,
-    nodes: Vec<Node<MemRecord>>,
+    nodes: Vec<Member<MemRecord>>,
     post: Post,
     outs: Vec<Output>,
     payments: Payments,
@@ -149,7 +149,7 @@ fn receive<P: Port>(alloc: Global, port: &mut P, count: usize) -> Result<Vec<Vec
 /// Hands a group to a node, which sends by a port what comes of it.
 fn hand_over<P: Port>(
     alloc: Global,
-    node: &mut Node<MemRecord>,
+    node: &mut Member<MemRecord>,
     port: &mut P,
     count: usize,
     requests: &[Request],
@@ -200,7 +200,7 @@ impl Processes {
         let config = Config::new(3, 1, 2, Sequence::new(tables))?;
         let mut nodes = Vec::new(alloc);
         for who in NODES {
-            match Node::open(alloc, &config, who, MemRecord::new(alloc, Vec::new(alloc))) {
+            match Member::open(alloc, &config, who, MemRecord::new(alloc, Vec::new(alloc))) {
                 Ok(node) => nodes.push(node)?,
                 Err((_, refusal)) => bail!("the node is refused: {refusal}"),
             }

@@ -111,6 +111,7 @@ fn take_audit(found: Result<Option<Fault>, Refusal>, digest: &mut Digest) {
                 Question::Gets => 2,
                 Question::Tables => 3,
                 Question::Order => 4,
+                Question::Floors => 6,
             });
             digest.number(u64::try_from(fault.line).unwrap_or(0));
         }

@@ -3,7 +3,8 @@ use crate::digest::Digest;
 use crate::frames::{BRANCHES, FrameVersion, acceptor_record, leader_record, manager_record};
 use crate::numbers::{Numbers, rounds};
 use anyhow::{Result, bail};
-use node_core::{Config, Node};
+use node_core::Config;
+use port::Member;
 use protocol::{NodeId, Row};
 use stable_record::MemRecord;
 use std::alloc::Global;
@@ -25,7 +26,7 @@ fn cluster(alloc: Global) -> Result<Config> {
 }
 
 /// Takes the table of a resource manager, or that there is none.
-pub fn take_table(node: &mut Node<MemRecord>, digest: &mut Digest) {
+pub fn take_table(node: &mut Member<MemRecord>, digest: &mut Digest) {
     match node.table() {
         Ok(rows) => {
             digest.number(u64::try_from(rows.as_slice().len()).unwrap_or(0));
@@ -49,7 +50,7 @@ fn take_result(done: Result<(), Refusal>, digest: &mut Digest) {
 /// A node starts over a record, makes it shorter, and starts over that.
 fn start_one(alloc: Global, who: NodeId, bytes: Vec<u8>, digest: &mut Digest) -> Result<()> {
     let config = cluster(alloc)?;
-    let mut node = match Node::open(alloc, &config, who, MemRecord::new(alloc, bytes)) {
+    let mut node = match Member::open(alloc, &config, who, MemRecord::new(alloc, bytes)) {
         Ok(node) => node,
         Err((_, refusal)) => bail!("the record is refused: {refusal}"),
     };

@@ -197,6 +197,7 @@ module _ (config : Config) (sized : IsSized config) (world : World) (safe : IsSa
       (λ node at. kept_well config sized world order well who node (restart_outcome config who node fault) at
       (restarted_is config world safe who node fault))
   does_well (Compact who) fault is = compacts_well who fault
+  does_well event fault is = well
 
   happens_well : (event : Event) (fault : Fault) → IsEvent event → IsWellWorld config (world_step config world event fault).world
   happens_well event NoMemoryBefore is = well

@@ -324,6 +324,7 @@ dispatch_says config world (Noise who bytes) fault = noise_says config world who
 dispatch_says config world (Tear who n) fault = tear_says config world who n fault
 dispatch_says config world (Restart who) fault = restart_says config world who fault
 dispatch_says config world (Compact who) fault = compact_says config world who fault
+dispatch_says config world event fault = unchanged config world (Refused NoSuch)
 
 pub says_its_change : (config : Config) (world : World) (event : Event) (fault : Fault)
     → SaysItsChange config world (world_step config world event fault)

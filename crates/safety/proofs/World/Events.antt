@@ -201,6 +201,7 @@ module _ (config : Config) (world : World) (safe : IsSafe config world) where
   does_next (Tear who n) fault = tears_next config world safe who n fault
   does_next (Restart who) fault = restarts_next config world safe who fault
   does_next (Compact who) fault = compacts_next config world safe who fault
+  does_next event fault = same config world safe
 
   -- every event
   pub happens_next : (event : Event) (fault : Fault) → IsSafeStep config world (world_step config world event fault).world

@@ -37,7 +37,7 @@ loop-judge-preserved c =
       on.bytes ∙ so.0,
       Some on.longer,
       on.read,
-      c.in_ok-hear.ensures.ok c.hear.new.self.known got.0 c.args.bytes.now c.loop-judge.lines so.1 on.longer got.1 so.3 on.grown refl
+      c.in_ok-hear.ensures.ok got.0 c.args.bytes.now c.loop-judge.lines so.1 on.longer got.1 so.3 on.grown refl
           told,
     )
 

@@ -1,10 +1,10 @@
-use Rattle.std.proofs.Common.{◌≡◌, ◌∙◌, ◌<◌, ◌≤◌, length, get_or, take, true, ap, subst, arith}
+use Rattle.std.proofs.Common.{◌≡◌, ◌∙◌, ◌<◌, ◌≤◌, length, get_or, take, true, sym, ap, subst, arith}
 use Rattle.std.proofs.lemmas.List.{take_all}
 use Rattle.audit.specs.Books.{rows_of}
 use Rattle.audit.specs.Following.{Follows}
 use Rattle.audit.specs.Tables.{are_tables, first_tables}
 use Rattle.audit.specs.Told.{history_of, each_step}
-use Rattle.audit.proofs.AuditLemmas.{is_right, wrong_step, next_follows, next_right, wrong_tables, by_result}
+use Rattle.audit.proofs.AuditLemmas.{is_right, wrong_step, next_follows, next_right, wrong_floors, wrong_tables, by_result}
 use Rattle.audit.proofs.auditing.audit_with_hash_key.Goals as goal
 
 pub returns-then-not-branch-clause-ok : goal.returns-then-not-branch-clause-ok
@@ -43,6 +43,9 @@ returns-then-not-are-clause-ok c =
     (subst (λ es. Follows (first_tables t.tables) (history_of es) c.loop-entry.ledger) whole c.loop-entry.invariant.follows)
     (c.if-not-are.ensures ∙ ap (are_tables (rows_of c.loop-entry.ledger.tables) 0) c.as_slice-finals.ensures)
 
+pub returns-then-not-branch-2-clause-ok : goal.returns-then-not-branch-2-clause-ok
+returns-then-not-branch-2-clause-ok c = wrong_floors c.args.trace.now (sym c.if-not-branch-2.true ∙ c.in_ok-are_above.ensures.ok)
+
 pub returns-clause-ok : goal.returns-clause-ok
 returns-clause-ok c =
     let t = c.args.trace.now in
@@ -54,5 +57,6 @@ returns-clause-ok c =
     (subst (λ es. Follows (first_tables t.tables) (history_of es) c.loop-entry.ledger) whole c.loop-entry.invariant.follows)
     (subst (λ es. each_step (is_right (first_tables t.tables)) (history_of es) ≡ true) whole c.loop-entry.invariant.right)
     (c.if-not-are.ensures ∙ ap (are_tables (rows_of c.loop-entry.ledger.tables) 0) c.as_slice-finals.ensures)
+    (sym c.if-not-branch-2.false ∙ c.in_ok-are_above.ensures.ok)
     c.as_slice-tables.result.now c.as_slice-tables.ensures c.as_slice-finals.result.now c.as_slice-finals.ensures c.is_serial.result
     c.is_serial.ensures.ok

@@ -1,7 +1,8 @@
-use Rattle.std.proofs.Common.{◌∙◌, List, None, refl, ap}
+use Rattle.std.proofs.Common.{◌∙◌, List, [], None, refl, ap}
 use Rattle.xid.specs.declared.refusals.Refusal.TheVariants.{NoMemory}
 use Rattle.protocol.specs.declared.answers.Answer.TheVariants.{Refused}
 use Rattle.protocol.specs.declared.events.Sent.{Sent}
+use Rattle.protocol.specs.declared.events.Told.{Told}
 use Rattle.protocol.specs.Nodes.{NoMemoryBefore}
 use Rattle.cluster.specs.Clusters.{place_reached}
 use Rattle.cluster.proofs.Occurring.{step_made}
@@ -14,6 +15,8 @@ returns c = λ cluster config world stands. record {
   others = all_stay (place_reached config world c.args.event) cluster.nodes cluster.nodes refl;
   fault = NoMemoryBefore;
   befalls = refl;
-  step_is = ap (λ (sent : List Sent). step_made c.args.event (Refused NoMemory) None sent) (c.new-2.ensures ∙ c.new.ensures.items);
+  step_is =
+      ap (λ (sent : List Sent). step_made c.args.event (Refused NoMemory) None sent c.new-4.result) (c.new-2.ensures ∙ c.new.ensures.items)
+      ∙ ap (λ (told : List Told). step_made c.args.event (Refused NoMemory) None [] told) (c.new-4.ensures ∙ c.new-3.ensures.items);
   stands = stands;
 }

@@ -6,7 +6,7 @@ use Rattle.cluster.proofs.handing.cut.Goals as goal
 pub hand_noise-requires-clause-noise : goal.hand_noise-requires-clause-noise
 hand_noise-requires-clause-noise g c =
     cut_none c.args.network.now c.args.number c.args.bytes (shown c.in-Some.kept) c.in-Some.ensures (omega (arith, c.if-len-kept.false))
-    c.requires.sound.world.net c.requires.sound.is.net_is
+    c.requires.sound.1.world.machine.net c.requires.sound.1.is.net_is
 
 pub returns : goal.returns
 returns g c =
@@ -14,9 +14,9 @@ returns g c =
     c.args.sizes c.args.nodes.now.items c.hand_noise.new.nodes.items c.hand_noise.new.answered c.hand_noise.ensures
 
 pub returns-in_default : goal.returns-in_default
-returns-in_default g c = λ config world s.
+returns-in_default g c = λ notices config world s.
     cut_absent c.args.sizes c.args.nodes.now.items c.args.network.now c.args.number c.in_default.ensures c.answers.new.self
-    c.answers.ensures.answer c.answers.ensures.now config world s c.args.bytes
+    c.answers.ensures.answer c.answers.ensures.now notices config world s c.args.bytes
 
 pub returns-then-len-kept : goal.returns-then-len-kept
 returns-then-len-kept g c =

@@ -10,7 +10,7 @@ put_out-requires g c =
     c.make_room.ensures.same c.mark-2.ensures.stands (shown c.in-Some.kept) c.in-Some.ensures (shown c.in-Some-get.kept)
     c.in-Some-get.ensures c.in-Some-place_of.at c.in-Some-place_of.ensures c.index_mut-node.result.now c.step_into.new.self
     c.step_into.new.out
-    c.index_mut-node.ensures.value c.step_into.ensures c.requires c.most_heard.result
+    c.index_mut-node.ensures.value c.step_into.ensures c.requires.0 c.requires.1 c.most_heard.result
     c.most_heard.ensures.bound c.mark-2.ensures.spare c.mark-2.ensures.spare_bytes c.in-Ok.ensures.room
 
 pub returns : goal.returns
@@ -29,8 +29,8 @@ returns-in-None g c =
     c.answers.ensures.answer c.answers.ensures.now
 
 pub returns-in-Err : goal.returns-in-Err
-returns-in-Err g c =
-    no_room (Deliver c.args.number) c.args.sizes c.args.nodes.now.items c.args.network.now c.make_room.new.network
+returns-in-Err g c = λ notices.
+    no_room (Deliver c.args.number) c.args.sizes c.args.nodes.now.items c.args.network.now c.make_room.new.network notices
     c.make_room.ensures.same c.answers-in-Err.new.self c.answers-in-Err.ensures.answer c.answers-in-Err.ensures.now
 
 pub returns-in_default : goal.returns-in_default

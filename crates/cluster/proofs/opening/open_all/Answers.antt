@@ -3,7 +3,8 @@ use Rattle.std.proofs.lemmas.Iterator.Adapters.{YieldsList-from_vec}
 use Rattle.std.proofs.lemmas.Iterator.Consumers.{YieldsList-turn}
 use Rattle.cluster.specs.Clusters.{sized}
 use Rattle.cluster.specs.Opening.{name_of}
-use Rattle.cluster.proofs.Opened.{count_here, next_among, begun_next, unmade_next}
+use Rattle.cluster.proofs.Names.{next_among}
+use Rattle.cluster.proofs.Opened.{count_here, begun_next, unmade_next}
 use Rattle.cluster.proofs.opening.open_all.Goals as goal
 
 pub name_at-who-requires : goal.name_at-who-requires

@@ -68,6 +68,20 @@ returns-in_err-timing-clause-err c =
     (sym c.are_shared.ensures ∙ c.if-are_shared.false))
     (refused_bind _ c.in_err-timing.ensures.err))))))
 
+pub returns-in_err-naming-clause-err : goal.returns-in_err-naming-clause-err
+unfolding cluster_behind
+returns-in_err-naming-clause-err c =
+    let path : List ℕ = c.args.root.now.path.now in
+    handed_on _ c.from_residual-in_err-naming.result c.in_err-naming.field-0.0 (search rules)
+    (refused_after _ c.in_ok-check_keys.ensures.ok
+    (refused_after _ (ok_at path (codes "bundled") _ c.in_ok-bundled.bundled c.in_ok-bundled.ensures.ok)
+    (refused_after _ c.in_ok-key.ensures.ok
+    (refused_after _ c.in_ok-client_key.ensures.ok
+    (refused_after _
+    (shared_right path (name_bytes c.in_ok-key.key) (name_bytes c.in_ok-client_key.client_key)
+    (sym c.are_shared.ensures ∙ c.if-are_shared.false))
+    (refused_after _ c.in_ok-timing.ensures.ok (refused_bind _ c.in_err-naming.ensures.err)))))))
+
 pub returns-in_err-plain-clause-err : goal.returns-in_err-plain-clause-err
 unfolding cluster_behind
 returns-in_err-plain-clause-err c =
@@ -86,7 +100,8 @@ returns-in_err-plain-clause-err c =
     (refused_after _
     (shared_right path (name_bytes c.in_ok-key.key) (name_bytes c.in_ok-client_key.client_key)
     (sym c.are_shared.ensures ∙ c.if-are_shared.false))
-    (refused_after _ c.in_ok-timing.ensures.ok (refused_bind _ (subst Q clients (subst P nodes c.in_err-plain.ensures.err)))))))))
+    (refused_after _ c.in_ok-timing.ensures.ok
+    (refused_after _ c.in_ok-naming.ensures.ok (refused_bind _ (subst Q clients (subst P nodes c.in_err-plain.ensures.err))))))))))
 
 pub returns-clause-ok : goal.returns-clause-ok
 unfolding cluster_behind
@@ -111,6 +126,7 @@ returns-clause-ok c =
       key = name_bytes c.in_ok-key.key;
       client_key = name_bytes c.in_ok-client_key.client_key;
       timing = c.in_ok-timing.timing;
+      naming = c.in_ok-naming.naming;
     } in
     ok_after _ c.in_ok-check_keys.ensures.ok
     (ok_after _ (ok_at path (codes "bundled") _ c.in_ok-bundled.bundled c.in_ok-bundled.ensures.ok)
@@ -120,4 +136,5 @@ returns-clause-ok c =
     (shared_right path (name_bytes c.in_ok-key.key) (name_bytes c.in_ok-client_key.client_key)
     (sym c.are_shared.ensures ∙ c.if-are_shared.false))
     (ok_after _ c.in_ok-timing.ensures.ok
-    (ok_after _ (subst Q clients (subst P nodes c.in_ok-plain.ensures.ok)) (ap (λ (k : Config). Ok (said k)) (sym kind))))))))
+    (ok_after _ c.in_ok-naming.ensures.ok
+    (ok_after _ (subst Q clients (subst P nodes c.in_ok-plain.ensures.ok)) (ap (λ (k : Config). Ok (said k)) (sym kind)))))))))

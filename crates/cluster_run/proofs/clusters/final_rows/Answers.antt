@@ -18,7 +18,7 @@ loop-rm-preserved c = λ config world running.
     let so = c.loop-rm.invariant config world running in
     let is = c.table.ensures config world so.0.stands in (
       still_running config world c.loop-rm.cluster c.table.new.self c.loop-rm.rm so.0 c.table.result is,
-      one_more (table_at config world) c.loop-rm.rm c.loop-rm.finals.items c.push.new.self.items c.in_ok-table.field-0 so.1
+      one_more (table_at config world.machine) c.loop-rm.rm c.loop-rm.finals.items c.push.new.self.items c.in_ok-table.field-0 so.1
           (shown config world c.loop-rm.cluster c.table.new.self c.loop-rm.rm so.0 c.table.result is c.in_ok-table.field-0
           c.in_ok-table.was)
           c.in_ok-push.ensures.items,

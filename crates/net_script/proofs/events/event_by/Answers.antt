@@ -1,6 +1,6 @@
 use Rattle.net_script.proofs.Arms.{stops}
 use Rattle.net_script.proofs.EventLemmas.{deliver_arm, lose_arm, cut_arm, noise_arm, tear_arm}
-use Rattle.net_script.proofs.EventLemmas.{restart_arm, compact_arm, start_arm, put_arm, del_arm}
+use Rattle.net_script.proofs.EventLemmas.{restart_arm, compact_arm, floor_arm, hear_arm, replace_arm, start_arm, put_arm, del_arm}
 use Rattle.net_script.proofs.EventLemmas.{get_arm, end_arm, rollback_arm, recover_arm, view_arm, commit_arm, status_arm, timeout_arm}
 use Rattle.net_script.proofs.events.event_by.Goals as goal
 
@@ -58,3 +58,12 @@ returns-in_err-node-4 c = stops restart_arm _ _ _ _ c.if-is_word-17.ensures c.fr
 
 pub returns-in_err-node-5 : goal.returns-in_err-node-5
 returns-in_err-node-5 c = stops compact_arm _ _ _ _ c.if-is_word-18.ensures c.from_residual-in_err-node-5.ensures c.in_err-node-5.ensures
+
+pub returns-in_err-rm-9 : goal.returns-in_err-rm-9
+returns-in_err-rm-9 c = stops floor_arm _ _ _ _ c.if-is_word-19.ensures c.from_residual-in_err-rm-9.ensures c.in_err-rm-9.ensures
+
+pub returns-in_err-number-4 : goal.returns-in_err-number-4
+returns-in_err-number-4 c = stops hear_arm _ _ _ _ c.if-is_word-20.ensures c.from_residual-in_err-number-4.ensures c.in_err-number-4.ensures
+
+pub returns-in_err-node-6 : goal.returns-in_err-node-6
+returns-in_err-node-6 c = stops replace_arm _ _ _ _ c.if-is_word-21.ensures c.from_residual-in_err-node-6.ensures c.in_err-node-6.ensures

@@ -6,6 +6,7 @@ use Rattle.protocol.specs.declared.decisions.Address.{Address}
 use Rattle.protocol.specs.declared.decisions.Outgoing.{Outgoing}
 use Rattle.node_core.specs.Configs.{config_by}
 use Rattle.port.specs.Calls.{SendsAll, acceptors_below, datagram_for, leaders_below}
+use Rattle.port.proofs.Sending.{sends_to}
 use Rattle.port.proofs.calling.send_all.Goals as goal
 
 pub returns-in-Some-Leaders-default : goal.returns-in-Some-Leaders-default
@@ -20,7 +21,8 @@ returns-in-Some-Leaders-default g c =
     ∙ ap (λ (address : Address). flat_map all (to address ∷ [])) (sym c.in-Some-Leaders-default.field-0-0-is)
     ∙ ap (flat_map all) (sym reply.2) in
     subst (λ (ds : List Datagram). SendsAll g.P.Port.sent c.args.port.now c.send_to_leaders.new.port ds) is
-    (c.send_to_leaders.ensures sender message reply.1)
+    (sends_to g.P.Port.sent sender message _ reply.1.spelled
+    (leaders_below c.args.sizes.leaders) c.args.port.now c.send_to_leaders.new.port c.send_to_leaders.ensures)
 
 pub returns-in-Some-Acceptors-default : goal.returns-in-Some-Acceptors-default
 returns-in-Some-Acceptors-default g c =
@@ -34,4 +36,5 @@ returns-in-Some-Acceptors-default g c =
     ∙ ap (λ (address : Address). flat_map all (to address ∷ [])) (sym c.in-Some-Acceptors-default.field-0-0-is)
     ∙ ap (flat_map all) (sym reply.2) in
     subst (λ (ds : List Datagram). SendsAll g.P.Port.sent c.args.port.now c.send_to_acceptors.new.port ds) is
-    (c.send_to_acceptors.ensures sender message reply.1)
+    (sends_to g.P.Port.sent sender message _ reply.1.spelled
+    (acceptors_below c.args.sizes.acceptors) c.args.port.now c.send_to_acceptors.new.port c.send_to_acceptors.ensures)

@@ -1,11 +1,6 @@
-use Rattle.std.proofs.Common.{map}
-use Rattle.wire.specs.declared.message.Kind.{Kind}
-use Rattle.wire.specs.Grammar.{Spells}
-use Rattle.protocol.specs.declared.nodes.NodeId.{NodeId}
-use Rattle.port.specs.Calls.{SendsAll, datagram_for, leaders_below}
+use Rattle.port.specs.Calls.{SendsTo, leaders_below}
 use Rattle.port.proofs.calling.send_to_leaders.Given as goal
 
 -- they were sent to so many leaders
 abbrev pub invariant-loop-number : goal.invariant-loop-number
-invariant-loop-number g l = (sender : NodeId) (message : Kind) → Spells message l.fn.bytes → SendsAll g.P.Port.sent l.fn.port l.port
-    (map (datagram_for sender message) (leaders_below l.number))
+invariant-loop-number g l = SendsTo g.P.Port.sent l.fn.port l.port l.fn.bytes (leaders_below l.number)

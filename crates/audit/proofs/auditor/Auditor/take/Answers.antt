@@ -1,7 +1,8 @@
 use Rattle.std.proofs.Common.{◌∙◌, ap, sym}
 use Rattle.net_script.specs.TraceReaders.{begun_with}
 use Rattle.net_script.specs.declared.trace_lines.TraceLine.TheVariants.{Changed}
-use Rattle.audit.proofs.HearingLemmas.{on_ok, cluster_line, table_line, event_line, serve_line, change_line, sent_line, rows_line}
+use Rattle.audit.proofs.HearingLemmas.{on_ok, cluster_line, table_line, event_line, serve_line, change_line, sent_line, notice_line}
+use Rattle.audit.proofs.HearingLemmas.{rows_line}
 use Rattle.audit.proofs.auditor.Auditor.take.Goals as goal
 
 pub returns-in-Cluster-clause-ok : goal.returns-in-Cluster-clause-ok
@@ -34,6 +35,10 @@ returns-in-Changed-clause-ok c =
 pub returns-in-Datagram-clause-ok : goal.returns-in-Datagram-clause-ok
 returns-in-Datagram-clause-ok c = λ before after heard e.
     sent_line c.args.self.now c.in-Datagram.field-0 before after heard (e ∙ ap (begun_with before) c.in-Datagram.is)
+
+pub returns-in-Notice-clause-ok : goal.returns-in-Notice-clause-ok
+returns-in-Notice-clause-ok c = λ before after heard e.
+    notice_line c.args.self.now c.in-Notice.field-0 before after heard (e ∙ ap (begun_with before) c.in-Notice.is)
 
 pub returns-clause-ok : goal.returns-clause-ok
 returns-clause-ok c =

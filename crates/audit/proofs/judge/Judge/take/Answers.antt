@@ -1,22 +1,24 @@
-use Rattle.std.proofs.Common.{Some, refl, sym, subst}
-use Rattle.audit.specs.Noting.{HasNoted}
-use Rattle.audit.proofs.NotedLemmas.{fault_noted, kept_noted, none_is, some_not_none}
-use Rattle.audit.proofs.judge.Judge.take.Goals.{else-is_none-via-then-is_none+else-not-self, else-is_none-via-else-is_none}
+use Rattle.std.proofs.Common.{◌∙◌, Some, refl, sym, ap, subst}
+use Rattle.audit.specs.Noting.{or_fault, HasNoted}
+use Rattle.audit.specs.declared.faults.Question.{Question}
+use Rattle.audit.specs.declared.judge.Judge.{Judge}
+use Rattle.audit.proofs.NotedLemmas.{same_judge, noted_on}
 use Rattle.audit.proofs.judge.Judge.take.Goals as goal
 
-pub returns-then-not-self-clause-ok : goal.returns-then-not-self-clause-ok
-returns-then-not-self-clause-ok c = λ bytes count before after noted e next told.
-    subst (λ question. HasNoted bytes
-    (record { auditor = c.take.new.self; fault = Some (record { question = question; line = c.args.line }) }) c.args.line
-    (Some after)) (sym c.question_of-question.ensures)
-    (fault_noted bytes c.args.self.now count c.args.line before c.args.said after noted e next told c.take.new.self
-    (c.in_ok-take.ensures.ok before after noted.heard e) (none_is c.args.self.now.fault c.if-is_none.ensures) c.if-not-self.true)
-
-pub returns-else-is_none-clause-ok : goal.returns-else-is_none-clause-ok
-returns-else-is_none-clause-ok c = λ bytes count before after noted e next told.
-    kept_noted bytes c.args.self.now count c.args.line before c.args.said after noted e next told c.take.new.self
-    (c.in_ok-take.ensures.ok before after noted.heard e) c.args.self.now.fault refl c.in_ok-take.ensures.wrong
-    (λ none. elim c.else-is_none.branch [
-      | else-is_none-via-then-is_none+else-not-self w ↦ w.if-not-self.false
-      | else-is_none-via-else-is_none w ↦ absurd (some_not_none c.args.self.now.fault w.if-is_none.ensures none)
-    ])
+pub returns-clause-ok : goal.returns-clause-ok
+returns-clause-ok c = λ bytes count before after noted e next told.
+    let old = c.args.self.now in
+    let line = c.args.line in
+    let above = c.in_ok-above.above in
+    let right = c.take.new.self.is_right in
+    let both = c.in_ok-above.ensures.ok before after noted.floors e in
+    let fault =
+    c.note-2.ensures.fault
+    ∙ ap (λ f. or_fault f above (record { question = Question.Floors; line = line }))
+    (c.note.ensures.fault ∙ ap (λ q. or_fault old.fault right (record { question = q; line = line })) c.question_of-question.ensures) in
+    subst (λ (j : Judge). HasNoted bytes j line (Some after))
+    (same_judge _ c.note-2.new.self (sym (c.note-2.ensures.rest.0 ∙ c.note.ensures.rest.0))
+    (sym (c.note-2.ensures.rest.1 ∙ c.note.ensures.rest.1)) (sym fault))
+    (noted_on bytes old count line before c.args.said after noted e next told c.take.new.self
+    (c.in_ok-take.ensures.ok before after noted.heard e) c.take_line.new.self both.0 above both.1 old.fault refl c.in_ok-take.ensures.wrong
+    right refl above refl)

@@ -24,7 +24,8 @@ invariant_of-self g c =
     let place = c.args.floor.now in
     sound_raise inside.floor inside.node c.raise.new.self place c.self.invariant
     (lower_now inside.floor inside.node c.args.self.now place c.is_down.result c.is_higher_than.result true c.self.view_is
-    c.self.invariant c.is_down.ensures c.if-is_down.false c.is_higher_than.ensures c.if-not-is_higher_than.false) (Ok tt) c.in-Ok.ensures
+    c.self.invariant c.is_down.ensures c.if-is_down.false c.is_higher_than.ensures c.if-not-is_higher_than.false) (Ok tt)
+    c.in-Ok.ensures.machine
 
 pub invariant_of-self-in-Err : goal.invariant_of-self-in-Err
 invariant_of-self-in-Err g c =
@@ -33,7 +34,7 @@ invariant_of-self-in-Err g c =
     sound_raise inside.floor inside.node c.raise.new.self place c.self.invariant
     (lower_now inside.floor inside.node c.args.self.now place c.is_down.result c.is_higher_than.result true c.self.view_is
     c.self.invariant c.is_down.ensures c.if-is_down.false c.is_higher_than.ensures c.if-not-is_higher_than.false) (Err c.in-Err.refusal)
-    c.in-Err.ensures
+    c.in-Err.ensures.machine
 
 pub returns-in-Ok-clause-machine : goal.returns-in-Ok-clause-machine
 returns-in-Ok-clause-machine g c =
@@ -41,7 +42,7 @@ returns-in-Ok-clause-machine g c =
     let place = c.args.floor.now in
     raises_seen inside.node c.args.self.now c.self.view_is c.raise.new.self place (Ok tt)
     (lower_now inside.floor inside.node c.args.self.now place c.is_down.result c.is_higher_than.result true c.self.view_is
-    c.self.invariant c.is_down.ensures c.if-is_down.false c.is_higher_than.ensures c.if-not-is_higher_than.false) c.in-Ok.ensures
+    c.self.invariant c.is_down.ensures c.if-is_down.false c.is_higher_than.ensures c.if-not-is_higher_than.false) c.in-Ok.ensures.machine
 
 pub returns-in-Ok-clause-node : goal.returns-in-Ok-clause-node
 returns-in-Ok-clause-node g c =
@@ -51,7 +52,7 @@ returns-in-Ok-clause-node g c =
     node_rises inside.node now c.self.view_is c.raise.new.self place (Ok tt)
     (up_now inside.node now c.is_down.result c.self.view_is c.is_down.ensures c.if-is_down.false)
     (lower_now inside.floor inside.node now place c.is_down.result c.is_higher_than.result true c.self.view_is c.self.invariant
-    c.is_down.ensures c.if-is_down.false c.is_higher_than.ensures c.if-not-is_higher_than.false) c.in-Ok.ensures
+    c.is_down.ensures c.if-is_down.false c.is_higher_than.ensures c.if-not-is_higher_than.false) c.in-Ok.ensures.machine
 
 pub returns-in-Err-clause-machine : goal.returns-in-Err-clause-machine
 returns-in-Err-clause-machine g c =
@@ -59,7 +60,7 @@ returns-in-Err-clause-machine g c =
     let place = c.args.floor.now in
     raises_seen inside.node c.args.self.now c.self.view_is c.raise.new.self place (Err c.in-Err.refusal)
     (lower_now inside.floor inside.node c.args.self.now place c.is_down.result c.is_higher_than.result true c.self.view_is
-    c.self.invariant c.is_down.ensures c.if-is_down.false c.is_higher_than.ensures c.if-not-is_higher_than.false) c.in-Err.ensures
+    c.self.invariant c.is_down.ensures c.if-is_down.false c.is_higher_than.ensures c.if-not-is_higher_than.false) c.in-Err.ensures.machine
 
 pub returns-in-Err-clause-node : goal.returns-in-Err-clause-node
 returns-in-Err-clause-node g c =
@@ -69,4 +70,4 @@ returns-in-Err-clause-node g c =
     node_rises inside.node now c.self.view_is c.raise.new.self place (Err c.in-Err.refusal)
     (up_now inside.node now c.is_down.result c.self.view_is c.is_down.ensures c.if-is_down.false)
     (lower_now inside.floor inside.node now place c.is_down.result c.is_higher_than.result true c.self.view_is c.self.invariant
-    c.is_down.ensures c.if-is_down.false c.is_higher_than.ensures c.if-not-is_higher_than.false) c.in-Err.ensures
+    c.is_down.ensures c.if-is_down.false c.is_higher_than.ensures c.if-not-is_higher_than.false) c.in-Err.ensures.machine

@@ -7,4 +7,4 @@ invariant_of-self g c =
     let sound = c.self.invariant in
     let inside = c.self.inside in
     raised_sound _ sound c.args.floor.now inside.device c.raise.new.device refl c.raise.new.role c.raise.result
-    (c.raise.ensures sound.config inside.who inside.rows.items sound.state sound.is.stands)
+    (c.raise.ensures.machine sound.config inside.who inside.rows.items sound.state sound.is.stands)

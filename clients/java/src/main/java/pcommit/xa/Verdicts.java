@@ -1,6 +1,5 @@
 package pcommit.xa;
 
-import java.security.SecureRandom;
 import java.util.Arrays;
 import java.util.List;
 import java.util.Optional;
@@ -29,7 +28,6 @@ final class Verdicts {
     private final Cluster cluster;
     private final Names names;
     private final int manager;
-    private final SecureRandom random = new SecureRandom();
 
     Verdicts(final Cluster cluster, final Names names, final int manager) {
         this.cluster = cluster;
@@ -78,9 +76,7 @@ final class Verdicts {
     }
 
     private Look look(final PaxosXid xid, final TransactionName alone) throws NodeGoneException, RefusedException {
-        final byte[] reading = new byte[xid.getGlobalTransactionId().length];
-        random.nextBytes(reading);
-        return cluster.look(manager, alone, new BranchName(PaxosXid.FORMAT, reading, names.bqual(manager)), xid.rowKey());
+        return cluster.look(manager, alone, new BranchName(PaxosXid.FORMAT, names.newGtrid(), names.bqual(manager)), xid.rowKey());
     }
 
     /** Asks the manager about a branch that nobody has, which changes nothing, and connects to a leader. */
