@@ -30,10 +30,10 @@ use Rattle.node_core.specs.declared.config.Sizes.{Sizes}
 use Rattle.node_core.specs.Nodes.{AreSizes}
 use Rattle.floors.specs.Nodes.{Rise, forgotten_answer, is_unread, may_replace, on_least, on_raise}
 use Rattle.floors.specs.Worlds as floored
-use Rattle.floors.specs.Worlds.{FlooredEvent, FlooredWorld, FlooredResult, Notice, Machine, floored_answer, floored_dispatch}
+use Rattle.floors.specs.Worlds.{FlooredWorld, FlooredResult, Notice, Machine, floored_answer, floored_dispatch}
 use Rattle.floors.specs.Worlds.{floored_if_found, floored_step}
-use Rattle.floors.specs.Worlds.{hear_at, hear_result, is_done, is_manager, least_told, machine_part, notices_of, on_machine, raise_result}
-use Rattle.floors.specs.Worlds.{replace_at, replace_result, step_with_floors, told_from, told_nodes, told_with, with_floors, with_rise}
+use Rattle.floors.specs.Worlds.{hear_at, hear_result, is_done, is_manager, least_told, machine_part, notices_of, raise_result}
+use Rattle.floors.specs.Worlds.{replace_at, replace_result, step_with_floors, told_from, told_nodes, told_with, with_rise}
 use Rattle.floors.specs.Worlds.{with_entry, with_told_lost}
 use Rattle.floors.specs.Runs.{is_lost, passes_over}
 use Rattle.floors.proofs.Steps.{lost_event, same_event, unasked_event}

@@ -1,5 +1,5 @@
 -- A floor rises, and a notice is heard: what comes of it is what comes of it in a world with floors.
-use Rattle.std.proofs.Common.{◌≡◌, ◌∙◌, ℕ, zero, suc, ◌<◌, Bool, true, false, not, if◌then◌else◌, List, [], ◌++◌, length, map}
+use Rattle.std.proofs.Common.{◌≡◌, ◌∙◌, ℕ, zero, suc, ◌<◌, Bool, true, false, if◌then◌else◌, List, [], ◌++◌, length, map}
 use Rattle.std.proofs.Common.{get_or, set}
 use Rattle.std.proofs.Common.{Option, Some, None, refl, sym, ap, subst, arith}
 use Rattle.std.specs.Prelude.{is_none, is_some, slice_get, Result, Ok, Err, OnOk, OnErr}
@@ -7,7 +7,7 @@ use Rattle.std.specs.List.{range_with_len}
 use Rattle.std.specs.Option.{option_and_then, option_map}
 use Rattle.std.proofs.lemmas.List.{append-nil, get_or_default}
 use Rattle.std.proofs.lemmas.List.FromFn.{fill_by_all}
-use Rattle.xid.specs.Places.{Place, is_lower}
+use Rattle.xid.specs.Places.{Place}
 use Rattle.xid.specs.declared.refusals.Refusal.{Refusal}
 use Rattle.xid.specs.declared.refusals.Refusal.TheVariants as refusals
 use Rattle.protocol.specs.declared.answers.Answer.{Answer}
@@ -16,14 +16,14 @@ use Rattle.protocol.specs.declared.events.Event.TheVariants.{Raise, Hear}
 use Rattle.protocol.specs.declared.nodes.NodeId.{NodeId}
 use Rattle.protocol.specs.declared.nodes.NodeId.TheVariants.{A, L, R}
 use Rattle.protocol.specs.Effects.{Config}
-use Rattle.protocol.specs.Nodes.{NodeState, Fault, NoFault, NoMemoryBefore, NoMemoryAt, RecordFails}
+use Rattle.protocol.specs.Nodes.{NodeState, Fault, NoFault, NoMemoryBefore}
 use Rattle.protocol.specs.Worlds.{World, node_at}
 use Rattle.protocol.specs.Worlds.{place as place_of}
 use Rattle.node_core.specs.declared.config.Sizes.{Sizes}
 use Rattle.node_core.specs.Nodes.{AreSizes}
 use Rattle.node_core.specs.Opening.{restart_answer}
 use Rattle.node_core.specs.declared.role.Role.{Role}
-use Rattle.floors.specs.Nodes.{Rise, is_free_below, kept_rise, on_least, on_raise, risen}
+use Rattle.floors.specs.Nodes.{Rise, kept_rise, on_least, on_raise}
 use Rattle.floors.specs.Worlds.{FlooredResult, FlooredWorld, Notice, floored_answer, floored_dispatch, floored_if_found, hear_at}
 use Rattle.floors.specs.Worlds.{hear_result, is_done, is_manager, least_of, least_told, notices_of, raise_result, told_nodes}
 use Rattle.floors.specs.Worlds.{told_with, with_entry, with_floors, with_rise}
@@ -39,30 +39,6 @@ use Rattle.cluster.proofs.Standing.{all_stay, entry_apart, entry_here, none_ther
 use Rattle.cluster.proofs.Occurring.{occurs, no_fault, refused_before, comes_quiet}
 
 -- ---- what a rise leaves in the machine
-
--- a resource manager whose rise is done is up
-module _ (floor : Option Place) (m : NodeState) (place : Place) (fault : Fault) where
-  risen_up : (fault : Fault) → m.up ≡ true → (risen floor m place fault).answer ≡ Done → (risen floor m place fault).node.up ≡ true
-  risen_up NoFault up done = up
-  risen_up NoMemoryBefore up done = up
-  risen_up NoMemoryAt up done = absurd (cc (done))
-  risen_up (RecordFails whole) up done = absurd (cc (done))
-
-  abbrev rise_by : Bool → Bool → Bool → Rise
-  rise_by up lower free =
-      if not up then kept_rise floor m (Refused refusals.Down)
-      else if not lower then kept_rise floor m Done
-      else if not free then kept_rise floor m (Refused refusals.Busy)
-      else risen floor m place fault
-
-  up_by : (up lower free : Bool) → m.up ≡ up → (rise_by up lower free).answer ≡ Done → (rise_by up lower free).node.up ≡ true
-  up_by true true true up done = risen_up fault up done
-  up_by true true false up done = absurd (cc (done))
-  up_by true false free up done = up
-  up_by false lower free up done = absurd (cc (done))
-
-  done_up : (on_raise floor m place fault).answer ≡ Done → (on_raise floor m place fault).node.up ≡ true
-  done_up done = up_by m.up (is_lower floor (Some place)) (is_free_below place m) refl done
 
 -- an acceptor's or a leader's rises to a place as to the least that it was told
 rise_as : (who : NodeId) → is_manager who ≡ false → (floor : Option Place) (m : NodeState) (place : Place) (fault : Fault) → m.up ≡ true

@@ -10,7 +10,7 @@ use Rattle.protocol.specs.declared.answers.Answer.TheVariants.{Done, Refused}
 use Rattle.protocol.specs.declared.events.Event.TheVariants.{Replace}
 use Rattle.protocol.specs.declared.nodes.NodeId.{NodeId}
 use Rattle.protocol.specs.Effects.{Config}
-use Rattle.protocol.specs.Nodes.{NodeState, Fault, Outcome, NoFault, NoMemoryBefore, NoMemoryAt, RecordFails, restart_outcome, down_node}
+use Rattle.protocol.specs.Nodes.{NodeState, Fault, Outcome, NoFault, NoMemoryAt, RecordFails, restart_outcome, down_node}
 use Rattle.protocol.specs.Nodes.{all_play, answer_outcome, empty_memory}
 use Rattle.protocol.specs.Worlds.{World, node_at}
 use Rattle.protocol.specs.Worlds.{place as place_of}
@@ -22,7 +22,7 @@ use Rattle.floors.specs.Worlds.{nothing_told, replace_result, with_entry, with_f
 use Rattle.floored.specs.Nodes.{BefallsReplace, FlooredParts, FlooredReplaces, FlooredStands}
 use Rattle.network.specs.Networks.{NetworkParts}
 use Rattle.cluster.specs.declared.handing.Answered.{Answered}
-use Rattle.cluster.specs.Clusters.{ClusterParts, NoticesParts, sized, cluster_of, AreTold, ClusterStands, ComesTo, BefallsReplaced}
+use Rattle.cluster.specs.Clusters.{ClusterParts, NoticesParts, sized, cluster_of, ClusterStands, ComesTo, BefallsReplaced}
 use Rattle.cluster.specs.Clusters.{IsSameFloored, StayBut, HappensAs, place_reached}
 use Rattle.cluster.specs.Notices.{forgotten_at, is_in_use, replaced_at}
 use Rattle.cluster.proofs.Standing.{there, placed, found, named, floor_there, node_kept, nodes_put, at_place, same_but, others_stay}

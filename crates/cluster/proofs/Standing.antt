@@ -2,7 +2,7 @@
 use Rattle.std.proofs.Common.{◌≡◌, ◌∙◌, inl, inr, ℕ, zero, suc, ◌+◌, ◌<◌, Bool, true, false, List, [], ◌∷◌, ◌++◌, length, map}
 use Rattle.std.proofs.Common.{get_or, set}
 use Rattle.std.proofs.Common.{Option, Some, None, refl, sym, ap, subst, nat_lt, arith}
-use Rattle.std.specs.Prelude.{slice_get, if◌then◌else◌, is_some}
+use Rattle.std.specs.Prelude.{slice_get, if◌then◌else◌}
 use Rattle.std.specs.List.{AllZip, flat_map, range_with_len, slice_set}
 use Rattle.std.specs.Option.{option_and_then, option_map_or}
 use Rattle.std.proofs.lemmas.Bool.{cases_eq, ltb-true}
@@ -26,7 +26,6 @@ use Rattle.floors.specs.Worlds.{FlooredWorld, with_entry}
 use Rattle.floors.proofs.Rising.{entry_by, entry_own}
 use Rattle.floored.specs.Nodes.{FlooredParts, FlooredStands}
 use Rattle.floored.specs.Told.{told_at}
-use Rattle.floored.proofs.Standing.{stands_up}
 use Rattle.network.specs.Networks.{NetworkParts, StandsFor, datagram_to}
 use Rattle.cluster.specs.declared.receivers.Receivers.{Receivers}
 use Rattle.cluster.specs.Sending.{receivers_in}
@@ -103,13 +102,6 @@ unchanged old new sizes_are nodes_are = record {
   sizes_are = sizes_are;
   nodes_are = subst (λ (nodes : List FlooredParts). AllZip IsSameFloored old.nodes nodes) (sym nodes_are) (same_all old.nodes);
 }
-
--- a node is up where the one is for which it stands
-pub up_as : (config : Config) (floored : FlooredParts) (m : NodeState) → FlooredStands config floored m
-    → is_some floored.node.role ≡ m.up
-up_as config floored m s =
-    stands_up s.from floored.node.who floored.node.rows floored.node.held floored.node.role s.few s.is.stands
-    ∙ ap (λ (node : NodeState). node.up) s.above.node_is
 
 -- ---- sizes
 

@@ -7,7 +7,6 @@ use Rattle.protocol.specs.declared.events.Step.{Step}
 use Rattle.protocol.specs.declared.states.Standing.{Standing}
 use Rattle.protocol.specs.declared.states.Standing.TheVariants as standings
 use Rattle.protocol.specs.Effects.{Config}
-use Rattle.protocol.specs.Worlds.{World}
 use Rattle.answers.specs.Answers.{Tells, HavePrepared, NoneIs}
 use Rattle.answers.proofs.Runs.{never_both, prepared_ever, uncommitted_ever}
 use Rattle.floors.specs.Worlds.{FlooredWorld}

@@ -1,12 +1,10 @@
 -- What a leader told in a world with floors, it told in the machine, by one of the events that came of those of the world.
 use Rattle.std.proofs.Common.{◌≡◌, ◌∙◌, inl, inr, ℕ, Bool, true, false, if◌then◌else◌, List, [], ◌∷◌, ◌++◌, refl, sym, ap, subst}
-use Rattle.std.proofs.lemmas.Bool.{cond-false}
 use Rattle.xid.specs.Transactions.{TxParts}
 use Rattle.xid.specs.declared.refusals.Refusal.TheVariants.{Forgotten}
 use Rattle.ballot.specs.Greatest.{IsIn}
 use Rattle.safety.specs.Words.{Answer, Ask, Event, L, Refused, Request, Stands as answers}
 use Rattle.protocol.specs.declared.events.Step.{Step}
-use Rattle.protocol.specs.declared.requests.Request.TheVariants as requests
 use Rattle.protocol.specs.declared.states.Standing.{Standing}
 use Rattle.protocol.specs.Effects.{Config}
 use Rattle.protocol.specs.Nodes.{Asked, Fault, NoFault, NoMemoryBefore, NoMemoryAt, RecordFails}
@@ -14,7 +12,7 @@ use Rattle.protocol.specs.Worlds.{Occurrence, StepResult, World, step_of, trace,
 use Rattle.protocol.proofs.Lists.{IsIn-after, IsIn-before}
 use Rattle.answers.specs.Answers.{IsQuestion, Tells}
 use Rattle.floors.specs.Nodes.{forgotten_answer}
-use Rattle.floors.specs.Worlds.{FlooredResult, FlooredWorld, Machine, floored_step, floored_step_of, floored_trace, machine_part}
+use Rattle.floors.specs.Worlds.{FlooredResult, FlooredWorld, floored_trace}
 use Rattle.floors.specs.Worlds.{on_machine, step_with_floors, with_floors}
 use Rattle.floors.specs.Runs.{events_from, events_in_machine, machine_events, passes_over, with_fault}
 use Rattle.floors.proofs.Steps.{in_machine, same_event, unasked_event}

@@ -1,5 +1,5 @@
 -- What an error says of a reading in several steps.
-use Rattle.std.proofs.Common.{◌≡◌, List, ℕ, Ok, Err, Result, refl, sym, ap, subst}
+use Rattle.std.proofs.Common.{◌≡◌, List, ℕ, Ok, Err, Result, sym, ap, subst}
 use Rattle.std.specs.Prelude.{IfErr}
 use Rattle.cluster_file.specs.declared.error.ClusterError.{ClusterError}
 use Rattle.cluster_file.specs.declared.error.ClusterError.TheVariants.{Syntax, Wrong, Memory}

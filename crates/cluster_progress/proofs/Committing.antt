@@ -1,15 +1,13 @@
 -- A transaction that no node which takes part has forgotten can commit in a world with floors.
-use Rattle.std.proofs.Common.{◌≡◌, ◌∙◌, ℕ, ◌<◌, Bool, true, false, if◌then◌else◌, List, Option, Some, None, refl, sym, ap, subst, IsTrue}
+use Rattle.std.proofs.Common.{◌≡◌, ◌∙◌, ℕ, ◌<◌, Bool, true, List, refl, sym, ap, IsTrue}
 use Rattle.std.specs.Prelude.{slice_get}
 use Rattle.std.specs.Option.{option_and_then}
 use Rattle.std.proofs.lemmas.Bool.{eq-eqb}
-use Rattle.xid.specs.Places.{Place, is_below}
 use Rattle.xid.specs.Transactions.{TxParts, is_participant}
 use Rattle.ballot.specs.Majority.{is_majority}
 use Rattle.protocol.specs.declared.requests.Request.TheVariants as requests
-use Rattle.safety.specs.Words.{NodeId, A, L, R, View}
+use Rattle.safety.specs.Words.{NodeId, L, R}
 use Rattle.safety.specs.CommitSteps.{committed}
-use Rattle.safety.specs.Runs.{views_in}
 use Rattle.safety.specs.Standing.{facts_of}
 use Rattle.protocol.specs.Effects.{Config, is_inside}
 use Rattle.protocol.specs.Facts.{view}

@@ -4,7 +4,6 @@ use Rattle.std.specs.Prelude.{Result, Ok, Err}
 use Rattle.xid.specs.Places.{Place, is_below}
 use Rattle.xid.specs.Transactions.{TxParts}
 use Rattle.xid.specs.declared.refusals.Refusal.{Refusal}
-use Rattle.stable_record.specs.declared.fact.FactKind.{FactKind as Fact}
 use Rattle.stable_record.specs.declared.record.RecordError.{RecordError}
 use Rattle.stable_record.specs.declared.record.RecordError.TheVariants as errors
 use Rattle.stable_record.specs.Held.{HasFailed, HasRead, Held, refusal_of}

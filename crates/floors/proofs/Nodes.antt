@@ -9,7 +9,6 @@ use Rattle.std.proofs.lemmas.List.{append-nil}
 use Rattle.std.proofs.lemmas.List.Folds.{list_any-append}
 use Rattle.xid.specs.Names.{XidParts, xid_eq}
 use Rattle.xid.specs.Transactions.{TxParts, tx_eq, xid_at}
-use Rattle.xid.specs.declared.transaction.Vote.{Vote}
 use Rattle.xid.specs.declared.transaction.Vote.TheVariants as votes
 use Rattle.xid.specs.declared.refusals.Refusal.TheVariants.{NoSuch}
 use Rattle.xid.proofs.Deciding.{tx_decides}
@@ -18,7 +17,6 @@ use Rattle.wire.specs.declared.message.Kind.{Kind}
 use Rattle.wire.specs.declared.message.Kind.TheVariants as kinds
 use Rattle.stable_record.specs.Facts.{fact_tx}
 use Rattle.stable_record.specs.declared.fact.Touched.{Touched}
-use Rattle.stable_record.specs.declared.fact.FactKind.TheVariants as stored
 use Rattle.ballot.specs.Greatest.{IsIn}
 use Rattle.protocol.specs.declared.requests.Request.TheVariants as requests
 use Rattle.protocol.specs.declared.states.View.TheVariants as views

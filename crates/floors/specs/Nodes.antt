@@ -1,5 +1,5 @@
 -- One node with a floor: what it makes of an input, how its floor rises, and what it keeps.
-use Rattle.std.specs.Prelude.{Bool, false, not, ◌&&◌, if◌then◌else◌, List, filter, Option, Some, None}
+use Rattle.std.specs.Prelude.{Bool, false, not, ◌&&◌, if◌then◌else◌, Option, Some, None}
 use Rattle.std.specs.List.{list_all}
 use Rattle.xid.specs.declared.codes.XaCode.TheVariants.{DupId, Nota}
 use Rattle.xid.specs.declared.refusals.Refusal.TheVariants.{NoSuch, Down, Busy, Forgotten, InUse}
@@ -7,7 +7,7 @@ use Rattle.wire.specs.Messages.{message_tx}
 use Rattle.stable_record.specs.Facts.{fact_tx}
 use Rattle.protocol.specs.declared.requests.Request.{Request}
 use Rattle.protocol.specs.declared.requests.Request.TheVariants as requests
-use Rattle.safety.specs.Words.{Fact, NodeId, Start, Answer, Done, Code, Refused}
+use Rattle.safety.specs.Words.{NodeId, Start, Answer, Done, Code, Refused}
 use Rattle.protocol.specs.Effects.{Config}
 use Rattle.protocol.specs.Kept.{are_free_below}
 use Rattle.protocol.specs.Nodes.{NodeState, Input, Asked, Received, ReceivedNoise, Fault, NoMemoryAt, RecordFails, Outcome}

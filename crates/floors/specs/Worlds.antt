@@ -23,7 +23,7 @@ pub record Notice : Type 0 where
   pub place : Place
 
 -- a world of the machine; and beside it the floor of each node, which is stored, what each acceptor and leader was told of each
--- resource manager's since it was last restarted, whether a node stands in for a lost one, and every message that told a floor
+-- resource manager's since it was last restarted or replaced, whether a node stands in for a lost one, and every message that told a floor
 pub record FlooredWorld : Type 0 where
   pub machine : World
   pub floor : NodeId → Option Place

@@ -1,16 +1,15 @@
 -- What comes of a node by few facts and by all.
-use Rattle.std.proofs.Common.{◌≡◌, ◌∙◌, ℕ, Bool, true, false, not, ◌&&◌, ◌==◌, if◌then◌else◌, nat_le, List, [], ◌∷◌, ◌++◌}
+use Rattle.std.proofs.Common.{◌≡◌, ◌∙◌, ℕ, Bool, true, false, not, ◌==◌, if◌then◌else◌, nat_le, List, [], ◌∷◌, ◌++◌}
 use Rattle.std.proofs.Common.{Option, Some, None}
 use Rattle.std.proofs.Common.{refl, sym, ap, subst, arith, append-nil, append_assoc}
-use Rattle.std.specs.Prelude.{IfSome, slice_get, length}
+use Rattle.std.specs.Prelude.{IfSome, length}
 use Rattle.std.specs.Option.{option_and_then}
 use Rattle.std.proofs.lemmas.Bool.{and_parts, cond-true}
 use Rattle.std.proofs.lemmas.Option.{slice_get_past}
 use Rattle.xid.specs.declared.refusals.Refusal.TheVariants.{NoSuch, Damaged}
 use Rattle.stable_record.specs.Facts.{fact_tx}
 use Rattle.stable_record.specs.Frames.{frame_length}
-use Rattle.safety.specs.Words.{Fact, NodeId, A, L, R, View, Change, Done, Refused, Outgoing, Answer}
-use Rattle.protocol.specs.declared.requests.Request.TheVariants as requests
+use Rattle.safety.specs.Words.{Fact, NodeId, A, L, R, Change, Done, Refused}
 use Rattle.protocol.specs.Effects.{Config, Effect}
 use Rattle.protocol.specs.Facts.{view, with_fact}
 use Rattle.protocol.specs.Nodes.{NodeState, Memory, empty_memory, Input, Fault, NoFault, NoMemoryBefore, NoMemoryAt, RecordFails}
@@ -25,7 +24,6 @@ use Rattle.floors.proofs.About.{IsOn, effect_about, on_above}
 use Rattle.floors.proofs.Nodes.{above_is}
 use Rattle.resource_manager.specs.Left.{rows_of}
 use Rattle.forgetting.specs.Above.{CameAlike, Says, StandsAbove}
-use Rattle.resource_manager.specs.Left.{AreAlike}
 use Rattle.forgetting.proofs.Effects.{effect_above}
 use Rattle.forgetting.proofs.Growing.{plays_alike, rows_more, says_more}
 use Rattle.forgetting.proofs.Lists.{last_is}

@@ -1,5 +1,5 @@
 -- What a node does on an input that isn't below its floor, by few facts and by all.
-use Rattle.std.proofs.Common.{◌≡◌, ◌∙◌, ℕ, Bool, true, false, if◌then◌else◌, ◌&&◌, List, [], Option, Some, None, refl, sym, ap}
+use Rattle.std.proofs.Common.{◌≡◌, ◌∙◌, ℕ, Bool, true, false, if◌then◌else◌, ◌&&◌, List, [], Option, None, refl, sym, ap}
 use Rattle.xid.specs.Names.{XidParts}
 use Rattle.xid.specs.Transactions.{xid_at}
 use Rattle.wire.specs.Messages.{message_tx}
@@ -9,10 +9,9 @@ use Rattle.ballot.specs.declared.slot.Slot.{Slot}
 use Rattle.protocol.specs.declared.requests.Request.TheVariants as requests
 use Rattle.protocol.specs.declared.states.View.TheVariants as views
 use Rattle.safety.specs.Words.{Fact, NodeId, A, L, R, Action}
-use Rattle.protocol.specs.Acceptors.{Slots, on_acceptor_message}
+use Rattle.protocol.specs.Acceptors.{on_acceptor_message}
 use Rattle.protocol.specs.Effects.{Config, Effect, no_effect, is_inside}
 use Rattle.protocol.specs.Facts.{slot, last_ballot}
-use Rattle.protocol.specs.LeaderMemory.{LeaderMemory, StoredBallots}
 use Rattle.protocol.specs.Leaders.{on_leader_message, on_commit_call, on_status_call, on_leader_timeout}
 use Rattle.protocol.specs.Managers.{Branch, StoredVotes, stored_votes, on_manager_message, on_manager_timeout, on_view_call, on_call}
 use Rattle.protocol.specs.Managers.{on_recover}

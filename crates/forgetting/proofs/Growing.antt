@@ -1,5 +1,5 @@
 -- What few facts say of names that aren't below a floor they go on to say with one more fact of such a name.
-use Rattle.std.proofs.Common.{◌≡◌, ◌∙◌, inl, inr, ℕ, max, Bool, true, false, not, ◌&&◌, ◌||◌, List, [], ◌∷◌, ◌++◌, Option, Some, None}
+use Rattle.std.proofs.Common.{◌≡◌, ◌∙◌, ℕ, max, Bool, true, false, not, ◌&&◌, ◌||◌, List, [], ◌∷◌, ◌++◌, Option, Some, None}
 use Rattle.std.proofs.Common.{refl, sym, ap, subst, append-nil, is_none}
 use Rattle.std.specs.Prelude.{filter, filter_map}
 use Rattle.std.specs.List.{list_any, last_or, cons_option}
@@ -17,11 +17,10 @@ use Rattle.ballot.specs.declared.slot.Slot.{Slot}
 use Rattle.stable_record.specs.Facts.{fact_tx}
 use Rattle.stable_record.specs.declared.fact.FactKind.TheVariants as stored
 use Rattle.safety.specs.Words.{Fact, NodeId, A, L, R, Row}
-use Rattle.protocol.specs.Acceptors.{Slots, plays_at_acceptor}
+use Rattle.protocol.specs.Acceptors.{plays_at_acceptor}
 use Rattle.protocol.specs.Effects.{Config}
 use Rattle.protocol.specs.Facts.{Bound, ballot_joined, accept_of, slot, ballot_begun, last_ballot, is_prepared_view, is_open_view, is_spent}
 use Rattle.protocol.specs.Facts.{view, branch_bound_by, bound_branches}
-use Rattle.protocol.specs.LeaderMemory.{StoredBallots}
 use Rattle.protocol.specs.Leaders.{plays_at_leader}
 use Rattle.protocol.specs.Managers.{stored_votes, is_some_held, plays_at_manager}
 use Rattle.protocol.specs.Nodes.{plays, all_play, first_rows}
@@ -38,12 +37,12 @@ use Rattle.resource_manager.proofs.Kept.{commits_voted}
 use Rattle.resource_manager.proofs.More.{keys_stay, stored_other, table_more}
 use Rattle.resource_manager.proofs.Pieces.{either, stored_append}
 use Rattle.resource_manager.proofs.Standing.{keys_of_vote}
-use Rattle.xid.specs.Places.{Place, is_below, is_xid_below}
+use Rattle.xid.specs.Places.{Place, is_below}
 use Rattle.resource_manager.specs.Left.{rows_of}
 use Rattle.forgetting.specs.Above.{ManagerSays, Says}
 use Rattle.resource_manager.specs.Left.{AreAlike}
 use Rattle.forgetting.proofs.Lists.{filter_among, filter_under, last_after}
-use Rattle.forgetting.proofs.Saying.{view_same, name_same}
+use Rattle.forgetting.proofs.Saying.{name_same}
 
 -- ---- slots and ballots
 

@@ -1,42 +1,26 @@
 -- What is left of a node where its floor rises stands above that place for the node.
-use Rattle.std.proofs.Common.{◌≡◌, ◌∙◌, ℕ, Bool, true, false, not, ◌&&◌, List, [], ◌∷◌, ◌++◌, Option, Some, None, refl, sym, ap, subst}
-use Rattle.std.specs.Prelude.{filter, map}
-use Rattle.std.specs.List.{list_any, list_all}
-use Rattle.std.proofs.lemmas.Bool.{and_parts, not-true, not_from_false}
-use Rattle.xid.specs.Transactions.{TxParts, tx_eq}
-use Rattle.xid.specs.declared.transaction.Vote.{Vote}
-use Rattle.xid.specs.declared.transaction.Vote.TheVariants as votes
+use Rattle.std.proofs.Common.{◌≡◌, ◌∙◌, ℕ, true, false, not, ◌&&◌, List, [], Option, Some, None, refl, sym, ap, subst}
+use Rattle.std.specs.List.{list_all}
+use Rattle.std.proofs.lemmas.Bool.{not-true, not_from_false}
+use Rattle.xid.specs.Transactions.{TxParts}
 use Rattle.wire.specs.Messages.{message_tx}
-use Rattle.stable_record.specs.Facts.{fact_tx}
-use Rattle.stable_record.specs.declared.fact.Touched.{Touched}
-use Rattle.stable_record.specs.declared.fact.FactKind.TheVariants as stored
-use Rattle.ballot.specs.Greatest.{IsIn}
 use Rattle.protocol.specs.declared.states.View.TheVariants as views
-use Rattle.safety.specs.Words.{Fact, NodeId, A, L, R, Row}
+use Rattle.safety.specs.Words.{Fact, NodeId, A, L, R}
 use Rattle.protocol.specs.Effects.{Config}
-use Rattle.protocol.specs.Facts.{Bound, is_vote_of, is_commit_of, is_abort_of, is_prepared_view, view, bound_branches}
-use Rattle.protocol.specs.LeaderMemory.{LeaderMemory}
-use Rattle.protocol.specs.Managers.{Branch, stored_votes, plays_at_manager}
-use Rattle.protocol.specs.Nodes.{NodeState, Memory, plays, all_play, first_rows}
-use Rattle.protocol.specs.Tables.{table}
-use Rattle.protocol.proofs.Lists.{filter_kept}
-use Rattle.resource_manager.specs.Courses.{stored_in}
-use Rattle.resource_manager.proofs.Ascending.{put_again, table_ascends}
+use Rattle.protocol.specs.Facts.{view}
+use Rattle.protocol.specs.Nodes.{NodeState, Memory, all_play}
 use Rattle.xid.specs.Places.{Place, tx_place, is_lower, is_below, is_xid_below, xid_place}
-use Rattle.protocol.specs.Kept.{is_kept, kept_facts}
+use Rattle.protocol.specs.Kept.{kept_facts}
 use Rattle.floors.specs.Nodes.{is_free_below}
-use Rattle.protocol.specs.Kept.{kept_leader, kept_memory}
-use Rattle.protocol.proofs.Kept.Facts.{other_vote, other_commit, other_abort}
-use Rattle.xid.proofs.Places.{not_below_none, not_lower}
+use Rattle.protocol.specs.Kept.{kept_memory}
+use Rattle.xid.proofs.Places.{not_lower}
 use Rattle.protocol.proofs.Kept.Playing.{all_play_kept}
-use Rattle.protocol.proofs.Kept.Facts.{free_prepared, apart, bound_kept, last_ballot_kept, slot_kept, spent_kept, view_kept}
-use Rattle.resource_manager.specs.Left.{without_writes}
+use Rattle.protocol.proofs.Kept.Facts.{free_prepared, last_ballot_kept, slot_kept, spent_kept}
 use Rattle.resource_manager.specs.Left.{HasFirstRows, left_facts, left_node, manager_left, rows_of}
 use Rattle.forgetting.specs.Above.{ManagerSays, Says, StandsAbove}
 use Rattle.resource_manager.specs.Left.{AreAlike}
 use Rattle.resource_manager.proofs.Above.{bound_same, rows_same, stored_kept}
-use Rattle.resource_manager.proofs.Leaving.{all_play_left, bound_left, spent_left, stored_left, table_left, uncommitted}
-use Rattle.protocol.proofs.Kept.Leaders.{any_filter}
+use Rattle.resource_manager.proofs.Leaving.{all_play_left, spent_left, stored_left}
 use Rattle.forgetting.proofs.Lists.{filter_all, filter_under}
 
 -- ---- without a floor

@@ -1,12 +1,10 @@
 -- What is asked of a resource manager's facts of one transaction, its name, and what is prepared, by few facts and by all.
-use Rattle.std.proofs.Common.{◌≡◌, ℕ, Bool, false, List, Option, Some, None, refl}
+use Rattle.std.proofs.Common.{◌≡◌, ℕ, false, List, Option, Some, None, refl}
 use Rattle.std.specs.Prelude.{find, option_map}
 use Rattle.std.specs.Option.{option_map_or}
-use Rattle.xid.specs.Names.{XidParts}
 use Rattle.xid.specs.Transactions.{TxParts, BranchParts, is_at, xid_of, xid_at}
-use Rattle.xid.specs.declared.transaction.Vote.{Vote}
-use Rattle.safety.specs.Words.{Fact, View}
-use Rattle.protocol.specs.Facts.{Bound, is_spent, view}
+use Rattle.safety.specs.Words.{Fact}
+use Rattle.protocol.specs.Facts.{is_spent, view}
 use Rattle.protocol.specs.Managers.{stored_votes}
 use Rattle.protocol.proofs.Local.{votes_at, votes_on}
 use Rattle.resource_manager.specs.Courses.{vote_among, is_ended_among, view_among}

@@ -1,6 +1,6 @@
 -- Whether nothing is stored about a name at or above a place, an acceptor or a leader knows by what it has: of each transaction at or above
 -- its floor it has a fact where there is one.
-use Rattle.std.proofs.Common.{◌≡◌, ◌∙◌, ℕ, ◌<◌, Bool, true, false, ◌&&◌, ◌||◌, List, [], ◌∷◌, Option, Some, refl, sym, ap, subst, arith}
+use Rattle.std.proofs.Common.{◌≡◌, ◌∙◌, ℕ, ◌<◌, Bool, true, false, ◌&&◌, ◌||◌, List, [], ◌∷◌, Option, Some, refl, sym, subst, arith}
 use Rattle.std.specs.List.{list_all, list_any}
 use Rattle.std.proofs.lemmas.Bool.{both_ways, or_left, or_right, true≢false}
 use Rattle.xid.specs.Places.{Place, tx_place, is_below, is_lower}

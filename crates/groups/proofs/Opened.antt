@@ -1,12 +1,11 @@
 -- What is opened over a record goes on from the node of the machine that stood there before.
-use Rattle.std.proofs.Common.{◌≡◌, ◌∙◌, ℕ, true, false, List, [], ◌∷◌, ◌++◌, Option, Some, None, refl, sym, ap, subst, append-nil}
+use Rattle.std.proofs.Common.{◌≡◌, ◌∙◌, ℕ, true, List, [], ◌++◌, Option, Some, None, refl, sym, ap, subst, append-nil}
 use Rattle.std.specs.Prelude.{if◌then◌else◌, is_some}
 use Rattle.xid.specs.declared.refusals.Refusal.{Refusal}
 use Rattle.stable_record.specs.declared.entry.EntryKind.{EntryKind as Entry}
 use Rattle.stable_record.specs.declared.fact.FactKind.{FactKind as Fact}
 use Rattle.stable_record.specs.Grammar.{IsStored}
 use Rattle.stable_record.specs.Held.{Held}
-use Rattle.stable_record.proofs.Framed.{stored_same}
 use Rattle.protocol.specs.declared.answers.Answer.TheVariants.{Done, Refused}
 use Rattle.protocol.specs.declared.nodes.NodeId.{NodeId}
 use Rattle.protocol.specs.declared.nodes.NodeId.TheVariants.{A, L, R}
@@ -17,7 +16,7 @@ use Rattle.node_core.specs.declared.config.Sizes.{Sizes}
 use Rattle.node_core.specs.declared.role.Role.{Role}
 use Rattle.node_core.specs.Roles.{RoleStands}
 use Rattle.node_core.specs.Nodes.{AreSizes, HasRows, Holds, Keeps, Kept, MeansFrom, NodeParts, NodeStands, RoleIs, SameState, Stands, begun}
-use Rattle.node_core.specs.Opening.{IsOpened, IsUnopened, cluster_of, frames_of}
+use Rattle.node_core.specs.Opening.{IsOpened, IsUnopened, cluster_of}
 use Rattle.node_core.specs.Shorter.{shorter_record}
 use Rattle.node_core.proofs.Loading.{frames_stored, holds_again, same_holds}
 use Rattle.node_core.proofs.Restarting.{down_stands, same_contents, shorter_begun}

@@ -59,7 +59,7 @@ taken_among p (y ∷ ys) x h =
     (subst (λ (zs : List _). IsIn zs x) (take_while-cons p y ys) h)
 
 -- the names that were called at rm
-abbrev names_called : ℕ → List Step → List XidParts
+abbrev pub names_called : ℕ → List Step → List XidParts
 names_called rm before = filter_map (λ (step : Step). called_name rm step.event) before
 
 action_called : (rm : ℕ) (y : XidParts) (before : List Step) (action : Action) → IsIn (actions_since rm y before) action
@@ -107,7 +107,7 @@ module _ (action : Action) where
   some_voted [] e = absurd (both_ways _ (nothing_hinders BranchState.Prepared).1 e)
   some_voted (a ∷ actions) e = (a, inl refl)
 
-  hinderer_called : (rm : ℕ) (y : XidParts) (before : List Step) → hinders action (branch_back rm before y) ≡ true
+  pub hinderer_called : (rm : ℕ) (y : XidParts) (before : List Step) → hinders action (branch_back rm before y) ≡ true
       → IsIn (names_called rm before) y
   hinderer_called rm y before e = by_bound (prepared_in rm before y) e
     where
@@ -122,7 +122,7 @@ module _ (action : Action) where
 
 -- ---- the answer of a call
 
-same_tests : (a b : Bool) → (a ≡ true → b ≡ true) → (b ≡ true → a ≡ true) → a ≡ b
+pub same_tests : (a b : Bool) → (a ≡ true → b ≡ true) → (b ≡ true → a ≡ true) → a ≡ b
 same_tests true b there back = sym (there refl)
 same_tests false true there back = back refl
 same_tests false false there back = refl

@@ -36,10 +36,10 @@ use Rattle.protocol.proofs.Manager.Effects.{IsManagerFact, manager_effect_is}
 use Rattle.safety.proofs.World.Growth.{same_node}
 use Rattle.safety.proofs.World.NodePlaces.{node_there, node_elsewhere}
 use Rattle.history.specs.Words.{Fact, Touched, Change, NodeId, A, L, R, Answer, Done, Code, Refused, Event, Ask, Deliver, Lose, Cut, Noise}
-use Rattle.history.specs.Words.{Tear, Restart, Compact, Request, Call, Recover, Timeout, Action, Start, Put, Del, Get, End, EndFail}
-use Rattle.history.specs.Words.{Rollback}
+use Rattle.history.specs.Words.{Tear, Restart, Compact, Request, Call, Recover, Timeout, Action}
 use Rattle.history.specs.Lines.{change_here, change_stored}
 use Rattle.history.specs.Calls.{call_done, is_restart}
+use Rattle.history.proofs.Undone.{no_call_by, no_call_refused, no_restart_refused, undone_down}
 use Rattle.history.proofs.Changes.{changes_view, change_said, none_said}
 
 -- a resource manager as it stands in a world; outside the cluster it is as a new one
@@ -112,45 +112,6 @@ pub data IsMove (config : Config) (rm : ℕ) (old new : NodeState) (event : Even
 -- ---- events that are refused
 
 -- a refusal, and the code of a node that is down, do nothing
-pub undone : (action : Action) (e : Refusal) → is_done action (Refused e) ≡ false
-undone Start e = refl
-undone (Put key value) e = refl
-undone (Del key) e = refl
-undone (Get key) e = refl
-undone End e = refl
-undone EndFail e = refl
-undone Rollback e = refl
-
-undone_down : (action : Action) → is_done action (Code codes.RmFail) ≡ false
-undone_down Start = refl
-undone_down (Put key value) = refl
-undone_down (Del key) = refl
-undone_down (Get key) = refl
-undone_down End = refl
-undone_down EndFail = refl
-undone_down Rollback = refl
-
-no_call_by : (rm q : ℕ) (x y : XidParts) (action : Action) (answer : Answer) → is_done action answer ≡ false
-    → call_done rm x (Ask (R q) (Call y action)) answer ≡ None
-no_call_by rm q x y action answer e = ap (λ (b : Bool). if b then if (q == rm) && xid_eq y x then Some action else None else None) e
-
-no_call_refused : (rm : ℕ) (x : XidParts) (event : Event) (e : Refusal) → call_done rm x event (Refused e) ≡ None
-no_call_refused rm x (Ask (R q) (Call y action)) e = no_call_by rm q x y action (Refused e) (undone action e)
-no_call_refused rm x (Ask (R q) Recover) e = refl
-no_call_refused rm x (Ask (R q) (Timeout tx)) e = refl
-no_call_refused rm x (Ask (R q) (Request.View tx)) e = refl
-no_call_refused rm x (Ask (R q) (Request.Commit tx)) e = refl
-no_call_refused rm x (Ask (R q) (Request.Status tx)) e = refl
-no_call_refused rm x (Ask (A a) request) e = refl
-no_call_refused rm x (Ask (L l) request) e = refl
-no_call_refused rm x event e = refl
-
-pub no_restart_refused : (rm : ℕ) (event : Event) (e : Refusal) → is_restart rm event (Refused e) ≡ false
-no_restart_refused rm (Restart (R q)) e = refl
-no_restart_refused rm (Restart (A a)) e = refl
-no_restart_refused rm (Restart (L l)) e = refl
-no_restart_refused rm event e = refl
-
 silent_refused : (rm : ℕ) (event : Event) (e : Refusal) → IsSilent rm event (Refused e) None
 silent_refused rm event e = record {
   change = refl;

@@ -34,7 +34,8 @@ use Rattle.history.specs.Words.{Rollback}
 use Rattle.history.specs.Words.{Row, Sent, Step, BranchState}
 use Rattle.history.specs.Calls.{is_restart}
 use Rattle.history.specs.Outages.{is_manager, is_sent_to, is_event_at, is_record_fault, is_outage, is_out}
-use Rattle.history.proofs.Moves.{manager_in, no_restart_refused}
+use Rattle.history.proofs.Moves.{manager_in}
+use Rattle.history.proofs.Undone.{no_restart_refused}
 use Rattle.history.proofs.Runs.{IsRun, AtFirst, Then, new_manager, reached}
 use Rattle.history.proofs.Datagrams.{line_of, sent_is}
 

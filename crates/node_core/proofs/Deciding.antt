@@ -38,7 +38,7 @@ use Rattle.leader.specs.Leaders.{LeaderParts, StandsForBallots, Follows, Follows
 use Rattle.leader.specs.Decisions as leader_decisions
 use Rattle.leader.specs.declared.decision.LeaderDecision.{LeaderDecision}
 use Rattle.resource_manager.specs.Managers as manager_specs
-use Rattle.resource_manager.specs.Managers.{ManagerParts, IsCall, call_effect}
+use Rattle.resource_manager.specs.Managers.{ManagerParts, IsCall}
 use Rattle.resource_manager.proofs.More.{unspent_all}
 use Rattle.node_core.specs.declared.role.Role.{Role}
 use Rattle.node_core.specs.Roles.{RoleStands, IsLeft, IsDecided, Decides, answering}

@@ -1,6 +1,6 @@
 -- What a member stands for, and that it stays one of its cluster.
-use Rattle.std.proofs.Common.{◌≡◌, ◌∙◌, ◌⊎◌, inl, inr, ℕ, Bool, true, false, List, length, Option, Some, None, refl, sym, ap, subst}
-use Rattle.std.specs.Prelude.{is_none, is_some, replicate, MatchBool, Result, Ok, Err}
+use Rattle.std.proofs.Common.{◌≡◌, ◌∙◌, ◌⊎◌, inl, inr, Bool, true, false, List, length, Option, Some, None, refl, sym, ap, subst}
+use Rattle.std.specs.Prelude.{is_none, replicate, MatchBool, Result, Ok, Err}
 use Rattle.std.specs.Option.{option_map_or}
 use Rattle.std.proofs.lemmas.List.{length-replicate}
 use Rattle.xid.specs.Places.{Place}

@@ -1,56 +1,22 @@
 -- A resource manager that was asked at its port to raise its floor.
-use Rattle.std.proofs.Common.{◌≡◌, ◌∙◌, ℕ, Bool, true, false, List, [], Option, Some, None, refl, sym, ap, subst}
-use Rattle.std.specs.Prelude.{not, if◌then◌else◌, is_some, Result, Ok, Err}
-use Rattle.xid.specs.Places.{Place, is_lower}
+use Rattle.std.proofs.Common.{◌≡◌, ◌∙◌, ℕ, true, [], Option, refl, sym, ap, subst}
+use Rattle.std.specs.Prelude.{is_some, Result, Ok, Err}
+use Rattle.xid.specs.Places.{Place}
 use Rattle.xid.specs.declared.refusals.Refusal.{Refusal}
-use Rattle.xid.specs.declared.refusals.Refusal.TheVariants as refusals
-use Rattle.protocol.specs.declared.answers.Answer.TheVariants.{Done, Refused}
+use Rattle.protocol.specs.declared.answers.Answer.TheVariants.{Done}
 use Rattle.protocol.specs.declared.nodes.NodeId.{NodeId}
 use Rattle.protocol.specs.declared.nodes.NodeId.TheVariants.{R}
 use Rattle.protocol.specs.Effects.{Config}
-use Rattle.protocol.specs.Nodes.{NodeState, Fault, NoFault, NoMemoryBefore, NoMemoryAt, RecordFails}
+use Rattle.protocol.specs.Nodes.{NodeState, Fault}
 use Rattle.node_core.specs.declared.config.Sizes.{Sizes}
 use Rattle.node_core.specs.Configs.{config_by}
-use Rattle.floors.specs.Nodes.{Rise, is_free_below, kept_rise, on_raise, risen}
-use Rattle.floors.specs.Worlds.{Notice, notices_of}
-use Rattle.floored.specs.Nodes.{FlooredParts, FlooredRaises, FlooredStands, on_rise}
-use Rattle.floored.proofs.Standing.{stands_up}
+use Rattle.floors.specs.Worlds.{notices_of}
+use Rattle.floored.specs.Nodes.{FlooredRaises, FlooredStands, on_rise}
+use Rattle.floored.proofs.Raising.{done_up, up_as}
 use Rattle.port.specs.Calls.{Raises, RaisesAs, Sending, TellsAll}
 use Rattle.port.specs.Members.{IsMember, MemberParts, RaisesMember}
 use Rattle.port.proofs.Members.{member_sizes}
 use Rattle.port.proofs.Sending.{notices_as}
-
--- ---- a rise that is done leaves a node that is up
-
-module _ (floor : Option Place) (m : NodeState) (place : Place) (fault : Fault) where
-  risen_up : (fault : Fault) → m.up ≡ true → (risen floor m place fault).answer ≡ Done → (risen floor m place fault).node.up ≡ true
-  risen_up NoFault up done = up
-  risen_up NoMemoryBefore up done = up
-  risen_up NoMemoryAt up done = absurd (cc (done))
-  risen_up (RecordFails whole) up done = absurd (cc (done))
-
-  abbrev rise_by : Bool → Bool → Bool → Rise
-  rise_by up lower free =
-      if not up then kept_rise floor m (Refused refusals.Down)
-      else if not lower then kept_rise floor m Done
-      else if not free then kept_rise floor m (Refused refusals.Busy)
-      else risen floor m place fault
-
-  up_by : (up lower free : Bool) → m.up ≡ up → (rise_by up lower free).answer ≡ Done → (rise_by up lower free).node.up ≡ true
-  up_by true true true up done = risen_up fault up done
-  up_by true true false up done = absurd (cc (done))
-  up_by true false free up done = up
-  up_by false lower free up done = absurd (cc (done))
-
-  done_up : (on_raise floor m place fault).answer ≡ Done → (on_raise floor m place fault).node.up ≡ true
-  done_up done = up_by m.up (is_lower floor (Some place)) (is_free_below place m) refl done
-
--- a node with a floor is up where the machine's is
-pub floored_up : (config : Config) (floored : FlooredParts) (m : NodeState) → FlooredStands config floored m
-    → is_some floored.node.role ≡ m.up
-floored_up config floored m s =
-    stands_up s.from floored.node.who floored.node.rows floored.node.held floored.node.role s.few s.is.stands
-    ∙ ap (λ (n : NodeState). n.up) s.above.node_is
 
 -- of a resource manager that is named so
 raised_up : (who : NodeId) (rm : ℕ) → who ≡ R rm → (floor : Option Place) (m : NodeState) (place : Place) (fault : Fault)
@@ -81,7 +47,7 @@ module _ {P : Type 0} (Sent : Sending P) (place : Place) (who : NodeId) (rm : �
       as_manager old new before after (Ok tt) (λ config m s.
       let r : FlooredRaises config m place old.floored new.floored (Ok tt) = raises.machine config m s in
       let up : is_some new.floored.node.role ≡ true =
-      floored_up config new.floored (on_rise old.floored.node.who old.floored.floor m place r.fault).node r.stands
+      up_as config new.floored (on_rise old.floored.node.who old.floored.floor m place r.fault).node r.stands
       ∙ raised_up old.floored.node.who rm (named ∙ sym is) old.floored.floor m place r.fault r.answer_is in
       let notices : notices_of (config_by sizes []) rm floor ≡ notices_of config rm new.floored.floor =
       ap (notices_of (config_by sizes []) rm) (own up)

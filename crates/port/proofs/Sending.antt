@@ -26,7 +26,7 @@ use Rattle.protocol.specs.Nodes.{Input}
 use Rattle.node_core.specs.declared.output.Output.{Output}
 use Rattle.node_core.specs.Sends.{sent}
 use Rattle.node_core.specs.Storing.{output_of}
-use Rattle.floors.specs.Worlds.{Notice, notices_of, told_nodes}
+use Rattle.floors.specs.Worlds.{notices_of, told_nodes}
 use Rattle.port.specs.Calls.{Sending, SendsAll, SendsTo, TellsAll, datagrams_from, datagram_for}
 
 module _ {P : Type 0} (Sent : Sending P) where

@@ -1,6 +1,6 @@
 -- How what a member is handed is set aside, grouped, and taken.
 use Rattle.std.proofs.Common.{◌≡◌, ◌∙◌, ℕ, ◌+◌, ◌<◌, ◌≤◌, Bool, true, false, ◌&&◌, not, List, [], ◌∷◌, ◌++◌, length, map, take, drop}
-use Rattle.std.proofs.Common.{zero, suc, get_or, set, inl, inr, Option, Some, None, refl, sym, ap, subst, arith}
+use Rattle.std.proofs.Common.{zero, suc, get_or, set, inl, Option, Some, None, refl, sym, ap, subst, arith}
 use Rattle.std.specs.Prelude.{◌||◌, if◌then◌else◌, is_some, MatchBool, Result, Ok, Err}
 use Rattle.std.specs.List.{list_any}
 use Rattle.std.specs.Option.{option_map_or}
@@ -119,13 +119,6 @@ module _ (items : List Item) (old new : MemberParts) (before outs : List Output)
       subst (λ (b : Bool). MatchBool b (TakesApart items old new outs)
       (TakesThose (map (λ item. true) items) items old new before outs)) (sym up)
       (record { between = between; middle = middle; group = group; asides = asides })
-
--- each alone
-pub taken_each : (items : List Item) (old new : MemberParts) (before outs : List Output) → is_some old.floored.node.role ≡ false
-    → TakesThose (map (λ item. true) items) items old new before outs → TakesAll items old new before outs (Ok tt)
-taken_each items old new before outs down taken =
-    subst (λ (b : Bool). MatchBool b (TakesApart items old new outs)
-    (TakesThose (map (λ item. true) items) items old new before outs)) (sym down) taken
 
 -- ---- one after another
 

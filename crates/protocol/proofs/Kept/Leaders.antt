@@ -24,10 +24,9 @@ use Rattle.ballot.specs.Choice.{pick}
 use Rattle.ballot.specs.Majority.{is_majority}
 use Rattle.protocol.specs.declared.states.Status.{Status}
 use Rattle.protocol.specs.declared.states.Status.TheVariants as statuses
-use Rattle.protocol.specs.Basics.{Fact}
-use Rattle.protocol.specs.Words.{L, R, Node, Acceptors, Managers, Refused, Stands}
+use Rattle.protocol.specs.Words.{R, Node, Acceptors, Managers, Refused, Stands}
 use Rattle.protocol.specs.Effects.{Config, Effect, is_inside, no_effect, answer_only, sends_only, stores, to, status_standing}
-use Rattle.protocol.specs.Facts.{instance_eq, vote_eq, last_ballot}
+use Rattle.protocol.specs.Facts.{instance_eq, vote_eq}
 use Rattle.protocol.specs.LeaderMemory.{LeaderMemory, StoredBallots, Begun, message_report, is_report_of, has_reported, is_reported}
 use Rattle.protocol.specs.LeaderMemory.{value_to_propose, is_proposed, is_accept_of, ballot_told, is_decided, status_of, with_met}
 use Rattle.protocol.specs.LeaderMemory.{with_heard, is_counted, with_all_heard, is_phase_1b, with_begun, with_proposed}

@@ -12,7 +12,7 @@ use Rattle.protocol.specs.Words.{BranchState, Action, Put, Del, Get, End, EndFai
 use Rattle.stable_record.specs.Facts.{AreAscending, fact_tx}
 use Rattle.protocol.specs.Branches.{key_of, is_write, hinders_use, hinders}
 use Rattle.protocol.specs.Facts.{is_spent}
-use Rattle.protocol.specs.Holds.{OwnsWrites, AreDisjoint}
+use Rattle.protocol.specs.Holds.{AreDisjoint}
 use Rattle.protocol.specs.Managers.{Branch, last_act, with_touched, has_key, act_on, view_by, branch_after}
 use Rattle.xid.proofs.Deciding.{xid_decides}
 use Rattle.protocol.proofs.TouchedKeys.{absent, tail_ascends, has_touched, acts_touched}

@@ -1,5 +1,5 @@
-use Rattle.std.proofs.Common.{◌≡◌, ◌∙◌, sym, codes, Some, None}
-use Rattle.clap.specs.Words.{first_of, found_of, rows_of}
+use Rattle.std.proofs.Common.{◌∙◌, sym, codes}
+use Rattle.clap.specs.Words.{found_of, rows_of}
 use Rattle.clap.proofs.WalkLemmas.{first_value-rows}
 use Rattle.udp_edge.proofs.CommandLineLemmas.{no_file, no_folder, none_holds}
 use Rattle.udp_edge.proofs.command.asked.Goals as goal

@@ -1,10 +1,9 @@
-use Rattle.std.proofs.Common.{◌≡◌, ◌∙◌, Some, ap, sym, subst}
+use Rattle.std.proofs.Common.{◌∙◌, Some, ap, sym, subst}
 use Rattle.std.specs.List.{list_all}
 use Rattle.xid.specs.Places.{is_below}
 use Rattle.stable_record.specs.Facts.{fact_tx}
 use Rattle.transactions.proofs.First.{first_all}
 use Rattle.acceptor.specs.Acceptors.{AcceptorParts, StandsFor}
-use Rattle.acceptor.specs.contracts.acceptor.Acceptor.{the_view}
 use Rattle.acceptor.proofs.acceptor.Acceptor.is_unused_above.Goals as goal
 
 pub returns : goal.returns

@@ -4,7 +4,6 @@ use Rattle.xid.specs.Transactions.{participants}
 use Rattle.protocol.specs.declared.answers.Answer.TheVariants.{Stands}
 use Rattle.protocol.specs.Effects.{status_standing}
 use Rattle.protocol.specs.Leaders as rules
-use Rattle.protocol.specs.Leaders.{outcome_messages}
 use Rattle.leader.specs.contracts.leader.Leader.{the_view}
 use Rattle.leader.specs.Courses.{after_meeting, status_in}
 use Rattle.leader.specs.Leaders.{are_below, course_of, commit_messages}

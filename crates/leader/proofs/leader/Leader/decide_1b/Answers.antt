@@ -1,6 +1,5 @@
 use Rattle.std.proofs.Common.{◌∙◌, sym, ap}
 use Rattle.protocol.specs.Leaders as rules
-use Rattle.protocol.specs.Leaders.{outcome_messages}
 use Rattle.leader.specs.contracts.leader.Leader.{the_view}
 use Rattle.leader.specs.Courses.{after_1b, proposals_after_1b}
 use Rattle.leader.specs.Orders.{proposal_messages}

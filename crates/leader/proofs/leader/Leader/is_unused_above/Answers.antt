@@ -1,10 +1,9 @@
-use Rattle.std.proofs.Common.{◌≡◌, ◌∙◌, Some, ap, sym, subst}
+use Rattle.std.proofs.Common.{◌∙◌, Some, ap, sym, subst}
 use Rattle.std.specs.List.{list_all}
 use Rattle.xid.specs.Places.{is_below}
 use Rattle.stable_record.specs.Facts.{fact_tx}
 use Rattle.transactions.proofs.First.{first_all}
 use Rattle.leader.specs.Leaders.{LeaderParts, StandsFor}
-use Rattle.leader.specs.contracts.leader.Leader.{the_view}
 use Rattle.leader.proofs.leader.Leader.is_unused_above.Goals as goal
 
 pub returns : goal.returns

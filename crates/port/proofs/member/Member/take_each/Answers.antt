@@ -1,4 +1,4 @@
-use Rattle.std.proofs.Common.{◌≡◌, ◌<◌, List, length, map, true, arith, sym, ap, subst}
+use Rattle.std.proofs.Common.{◌≡◌, ◌<◌, List, length, map, true, arith, subst}
 use Rattle.std.proofs.lemmas.List.{length-map}
 use Rattle.protocol.specs.declared.nodes.NodeId.{NodeId}
 use Rattle.port.specs.Members.{Item, TakesIf, item_of}

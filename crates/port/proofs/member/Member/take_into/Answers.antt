@@ -1,4 +1,4 @@
-use Rattle.std.proofs.Common.{◌∙◌, refl, ap, sym}
+use Rattle.std.proofs.Common.{◌∙◌, refl, ap}
 use Rattle.port.specs.Members.{MemberParts, notice_in}
 use Rattle.port.proofs.Members.{acted_seen, heard_item, member_still}
 use Rattle.port.proofs.member.Member.take_into.Goals as goal

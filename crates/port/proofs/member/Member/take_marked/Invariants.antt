@@ -1,4 +1,4 @@
-use Rattle.std.proofs.Common.{map, true}
+use Rattle.std.proofs.Common.{map}
 use Rattle.port.specs.Members.{item_of}
 use Rattle.port.proofs.Taking.{HaveTaken}
 use Rattle.port.proofs.member.Member.take_marked.Given as goal

@@ -1,6 +1,5 @@
-use Rattle.std.proofs.Common.{◌≡◌, ◌∙◌, ap, length, map, sym, arith}
+use Rattle.std.proofs.Common.{◌∙◌, ap, length, map, sym}
 use Rattle.std.proofs.lemmas.List.{length-map}
-use Rattle.node_core.specs.Nodes.{input_of}
 use Rattle.floored.specs.Nodes.{are_above}
 use Rattle.port.specs.Members.{item_of}
 use Rattle.port.proofs.Taking.{all_high, taken_whole, whole_grouped}

@@ -1,8 +1,7 @@
-use Rattle.std.proofs.Common.{◌≡◌, ◌∙◌, ◌&&◌, Bool, true, false, not, Some, refl, sym, ap, arith, get_or, length}
-use Rattle.std.proofs.lemmas.List.{length-map, take_all}
+use Rattle.std.proofs.Common.{◌≡◌, ◌∙◌, ◌&&◌, true, false, not, Some, sym, ap, arith, get_or, length}
+use Rattle.std.proofs.lemmas.List.{length-map}
 use Rattle.std.proofs.lemmas.List.Folds.{list_all_at, list_all_more}
 use Rattle.std.proofs.lemmas.Option.{get_or_from_slice_get}
-use Rattle.std.specs.List.{list_all}
 use Rattle.xid.specs.Places.{is_below}
 use Rattle.transactions.specs.Seen.{at_places, no_transaction}
 use Rattle.transactions.proofs.numbers.Transactions.are_below.Goals as goal
