@@ -1,4 +1,4 @@
-ghost use Rattle.std.specs.Prelude.{◌≡◌, ℕ, ◌<◌, [], List, Some, IfOk, IfErr};
+ghost use Rattle.std.specs.Prelude.{◌≡◌, ℕ, ◌<◌, [], List, length, Some, IfOk, IfErr};
 ghost use Rattle.std.specs.List.{list_all};
 ghost use Rattle.xid.specs.Limits.{most_acceptors};
 ghost use Rattle.xid.specs.Places.{is_below};
@@ -314,6 +314,13 @@ impl Acceptor {
             → result ≡ list_all (λ fact. is_below (Some floor.now) (fact_tx fact)) facts }
     {
         self.table.are_below(&self.begun, floor)
+    }
+
+    /// Of how many transactions it keeps something in memory.
+    pub fn transaction_count(&self) -> usize
+        ensures { result ≡ length self.now.table.transactions }
+    {
+        self.table.len()
     }
 
     /// What is left of it where it forgets what is below a floor: the slots of the transactions that aren't below, in the order of their

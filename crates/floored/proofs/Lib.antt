@@ -3,6 +3,7 @@ pub mod Standing
 pub mod Handling
 pub mod Grouping
 pub mod Restarting
+pub mod Raising
 pub mod Rising
 pub mod Seen
 pub mod Taking

@@ -265,6 +265,11 @@ impl<R: Record> Floored<R> {
         self.node.table()
     }
 
+    /// Of how many transactions it keeps something in memory, as by `Node::transaction_count`.
+    pub fn transaction_count(&self) -> usize {
+        self.node.transaction_count()
+    }
+
     /// The transactions that the resource manager has prepared and not ended, as by `Node::open_transactions`; none of them is below its
     /// floor. Refused as that is.
     pub fn open_transactions(&self) -> Result<Sequence<Tx>, Refusal>

@@ -1,4 +1,5 @@
 pub mod Changes
+pub mod Undone
 pub mod Moves
 pub mod Runs
 pub mod Actions

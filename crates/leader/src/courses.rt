@@ -73,6 +73,13 @@ impl Courses {
         }
     }
 
+    /// How many transactions there are.
+    pub fn len(&self) -> usize
+        ensures { result ≡ length self.now.transactions }
+    {
+        self.transactions.len()
+    }
+
     /// The place of a transaction, where it has one.
     pub fn place_of(&self, tx: &SpelledTx<'_>) -> Option<usize>
         ensures { IsPlaceOf self.now tx.now result }

@@ -127,6 +127,13 @@ impl Leader {
         self.courses.are_below(floor)
     }
 
+    /// Of how many transactions it keeps something in memory.
+    pub fn transaction_count(&self) -> usize
+        ensures { result ≡ length self.now.courses.transactions }
+    {
+        self.courses.len()
+    }
+
     /// What is left of it where it forgets what is below a floor: of stored ballots and memory what is about the transactions that aren't
     /// below. Refused: `NoMemory` alone.
     pub fn above(self, key: HashKey, floor: &Floor) -> Result<Leader, Refusal>

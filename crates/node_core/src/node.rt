@@ -196,6 +196,14 @@ impl<R: Record> Node<R> {
         )
     }
 
+    /// Of how many transactions it keeps something in memory: none while it is down.
+    pub fn transaction_count(&self) -> usize {
+        match &self.role {
+            Some(role) => role.transaction_count(),
+            None => 0,
+        }
+    }
+
     /// The transactions that the resource manager's record has prepared and not ended, in the order of their first facts. Refused: it is no
     /// resource manager (`NoSuch`), it is down (`Down`), or `NoMemory`. The node stays as it is.
     pub fn open_transactions(&self) -> Result<Sequence<Tx>, Refusal>

@@ -145,6 +145,15 @@ impl Role {
         }
     }
 
+    /// Of how many transactions it keeps something in memory.
+    pub fn transaction_count(&self) -> usize {
+        match self {
+            Role::Acceptor(acceptor) => acceptor.transaction_count(),
+            Role::Leader(leader) => leader.transaction_count(),
+            Role::Manager(manager) => manager.transaction_count(),
+        }
+    }
+
     /// What is left of it where it forgets what is below a floor. Refused: `NoMemory` alone.
     pub fn above(self, alloc: Global, key: HashKey, floor: &Floor) -> Result<Role, Refusal>
         ensures ok { IfOk result (λ left. Leaves floor.now self left) }

@@ -213,6 +213,11 @@ impl<R: Record> Member<R> {
         self.node.table()
     }
 
+    /// Of how many transactions it keeps something in memory, as by `Floored::transaction_count`.
+    pub fn transaction_count(&self) -> usize {
+        self.node.transaction_count()
+    }
+
     /// The transactions that the resource manager has prepared and not ended, as by `Floored::open_transactions`. Refused as that is.
     pub fn open_transactions(&self) -> Result<Sequence<Tx>, Refusal>
         ensures { (config : ConfigParts) (m : NodeState) → NodeStands config self.now.floored.node m

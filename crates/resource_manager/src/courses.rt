@@ -59,6 +59,13 @@ impl Courses {
         }
     }
 
+    /// How many transactions are seen.
+    pub fn len(&self) -> usize
+        ensures { result ≡ length self.now.transactions }
+    {
+        self.transactions.len()
+    }
+
     /// The number of a transaction, where it was seen. It takes no memory.
     pub fn number_of(&self, tx: &SpelledTx<'_>) -> Option<usize>
         ensures { MatchOption result (course_in self.now tx.now ≡ courses.Working)

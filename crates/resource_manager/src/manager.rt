@@ -1,4 +1,4 @@
-ghost use Rattle.std.specs.Prelude.{◌≡◌, ◌++◌, ℕ, true, List, [], filter_map, IfOk, IfErr, OnOk};
+ghost use Rattle.std.specs.Prelude.{◌≡◌, ◌++◌, ℕ, true, List, [], filter_map, length, IfOk, IfErr, OnOk};
 ghost use Rattle.std.specs.List.{cons_option};
 ghost use Rattle.xid.specs.declared.refusals.Refusal.TheVariants.{NoMemory};
 ghost use Rattle.stable_record.specs.declared.fact.FactKind.{FactKind as Fact};
@@ -172,6 +172,13 @@ impl ResourceManager {
             return Err(Refusal::BadTx);
         }
         Ok(self.courses.of_tx(tx).view())
+    }
+
+    /// Of how many transactions it keeps something in memory.
+    pub fn transaction_count(&self) -> usize
+        ensures { result ≡ length self.now.courses.transactions }
+    {
+        self.courses.len()
     }
 
     /// The transactions that are prepared and not ended, in the order of their first facts. Refused: `NoMemory` alone.
