@@ -29,13 +29,14 @@ use Rattle.floors.specs.Worlds.{hear_result, is_done, is_manager, least_of, leas
 use Rattle.floors.specs.Worlds.{told_with, with_entry, with_floors, with_rise}
 use Rattle.floored.specs.Nodes.{BefallsRise, FlooredParts, FlooredRaises, FlooredStands, on_rise}
 use Rattle.floored.specs.Told.{told_at}
+use Rattle.floored.proofs.Raising.{done_up, up_as}
 use Rattle.network.specs.Networks.{NetworkParts}
 use Rattle.cluster.specs.declared.handing.Answered.{Answered}
 use Rattle.cluster.specs.Clusters.{ClusterParts, NoticesParts, sized, cluster_of, AreTold, ClusterStands, BefallsHeard}
 use Rattle.cluster.specs.Clusters.{BefallsRaised, IsSameFloored, StayBut, HappensAs, notice_at, place_reached}
 use Rattle.cluster.specs.Notices.{HasHeardAt, HasToldOwn, RaisesTo, RaisesToLeast, told_in}
 use Rattle.cluster.proofs.Standing.{there, placed, found, named, floor_there, nodes_put, told_put, at_place, same_but, others_stay}
-use Rattle.cluster.proofs.Standing.{all_stay, entry_apart, entry_here, none_there, told_within, unchanged, up_as, within}
+use Rattle.cluster.proofs.Standing.{all_stay, entry_apart, entry_here, none_there, told_within, unchanged, within}
 use Rattle.cluster.proofs.Occurring.{occurs, no_fault, refused_before, comes_quiet}
 
 -- ---- what a rise leaves in the machine
