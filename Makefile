@@ -81,7 +81,7 @@ bench-xa: xa-tools $(NODE)
 xa-tools:
 	@clients/java/needs.sh
 
-# a cluster of processes on this host for an hour: a thousand kills, a network that fails, strangers
+# a cluster of processes on this host for two hours: a thousand kills, a network that fails, strangers, what is lost, years of transactions
 soak: test-tools bin/pcommit_node
 	tests/cluster/soak.sh bin/pcommit_node
 

@@ -3,8 +3,9 @@
  *
  *     clients KIND SECONDS MOST SERIAL WORDS CLIENT...
  *
- * KIND is `nodes`, `servers`, `logged` (the servers, and a log of decisions with a sync for each) or `ended` (the servers, ended by the
- * nodes). WORDS are the two servers' connection strings and the log's name, parted by `|`, or `-`. A CLIENT is its number, and with nodes
+ * KIND is `nodes`, `servers`, `logged` (the servers, and a log of decisions with a sync for each), `ended` (the servers, ended by the nodes)
+ * or `timed` (as `nodes`, with names that begin with their time; whatever is answered, it goes on until a node is gone, and then prints how
+ * many were committed and how many not, and nothing else). WORDS are the two servers' connection strings and the log's name, parted by `|`, or `-`. A CLIENT is its number, and with nodes
  * the open sockets of r0, r1 and l0, as 7=4,5,6: connected, and let in where that wants a proof. The program says `ready` once the servers
  * are connected, begins at the first byte of its input, and goes on for so many seconds or until each client has made MOST transactions.
  * Then it prints a line for each, its microseconds to the outcome and to both managers' end, and last the seconds that it ran, and those of
@@ -38,8 +39,8 @@ struct client {
     double begun, outcome;
     unsigned long long serial;
     unsigned number;
-    int phase, log;
-    char gtrid[17], tx[64];
+    int phase, log, is_committed;
+    char gtrid[33], tx[64];
 };
 
 struct times {
@@ -51,6 +52,8 @@ static struct times *times;
 static size_t count, room;
 static double until;
 static unsigned long long last_serial;
+static int is_timed;
+static size_t committed;
 
 static void fail(const char *what, const char *why)
 {
@@ -63,6 +66,14 @@ static double now(void)
     struct timespec at;
     clock_gettime(CLOCK_MONOTONIC, &at);
     return at.tv_sec + at.tv_nsec / 1e9;
+}
+
+/* Says what came of timed names, and ends. */
+static void finish_timed(void)
+{
+    printf("%zu %zu\n", committed, count - committed);
+    fflush(stdout);
+    _exit(0);
 }
 
 /* The seconds of a processor that this process took. */
@@ -79,7 +90,9 @@ static void tell(struct end *end, const char *text, int lines)
 {
     size_t length = strlen(text);
     while (length) {
-        ssize_t sent = send(end->socket, text, length, 0);
+        ssize_t sent = send(end->socket, text, length, MSG_NOSIGNAL);
+        if (sent < 0 && errno != EINTR && is_timed)
+            finish_timed();
         if (sent < 0 && errno != EINTR)
             fail("a node takes no lines", strerror(errno));
         if (sent > 0)
@@ -157,7 +170,15 @@ static void begin(struct client *client)
     client->serial++;
     client->begun = now();
     client->phase = 0;
-    snprintf(client->gtrid, sizeof client->gtrid, "%04x%012llx", client->number & 0xffff, client->serial & 0xffffffffffffull);
+    client->is_committed = 0;
+    if (is_timed) {
+        struct timespec at;
+        clock_gettime(CLOCK_REALTIME, &at);
+        snprintf(client->gtrid, sizeof client->gtrid, "%012llx%04x%016llx", at.tv_sec * 1000ull + at.tv_nsec / 1000000,
+                 client->number & 0xffff, client->serial);
+    } else {
+        snprintf(client->gtrid, sizeof client->gtrid, "%04x%012llx", client->number & 0xffff, client->serial & 0xffffffffffffull);
+    }
     snprintf(client->tx, sizeof client->tx, kind == NODES ? "1:%s/0=61,1=62" : "1:%s/0=00,1=01", client->gtrid);
     if (kind == NODES)
         ask_managers(client);
@@ -182,12 +203,16 @@ static int is_idle(const struct client *client)
 static void take_lines(struct end *end)
 {
     ssize_t came = recv(end->socket, end->left + end->held, sizeof end->left - end->held, 0);
+    if (came <= 0 && is_timed)
+        finish_timed();
     if (came <= 0)
         fail("a node has gone", came ? strerror(errno) : "it closed the connection");
     char *line = end->left, *limit = end->left + end->held + came;
     for (char *lf; (lf = memchr(line, '\n', limit - line)); line = lf + 1) {
         *lf = 0;
-        if (strcmp(line, "0") && strcmp(line, "undecided") && strcmp(line, "committed"))
+        if (end == &end->client->nodes[LEADER] && !strcmp(line, "committed"))
+            end->client->is_committed = 1;
+        if (!is_timed && strcmp(line, "0") && strcmp(line, "undecided") && strcmp(line, "committed"))
             fail(end->client->tx, line);
         end->wanted--;
     }
@@ -216,6 +241,11 @@ static void take_results(struct end *end)
 
 static void keep(const struct client *client)
 {
+    if (is_timed) {
+        count++;
+        committed += client->is_committed;
+        return;
+    }
     if (count == room) {
         room = room ? 2 * room : 65536;
         times = realloc(times, room * sizeof *times);
@@ -321,17 +351,18 @@ static void read_client(struct client *client, const char *word)
 
 int main(int argc, char **argv)
 {
-    static const char *const KINDS[] = {"nodes", "servers", "logged", "ended"};
-    enum { FIRST = 6 };
+    static const char *const KINDS[] = {"nodes", "servers", "logged", "ended", "timed"};
+    enum { FIRST = 6, TIMED = 4 };
     char *words[MANAGERS + 1] = {0}, go;
     int named = 0;
     if (argc <= FIRST)
         fail("usage", "clients KIND SECONDS MOST SERIAL WORDS CLIENT...");
-    while (named < 4 && strcmp(argv[1], KINDS[named]))
+    while (named <= TIMED && strcmp(argv[1], KINDS[named]))
         named++;
-    if (named == 4)
+    if (named > TIMED)
         fail("no kind", argv[1]);
-    kind = named;
+    is_timed = named == TIMED;
+    kind = is_timed ? NODES : named;
     unsigned long long serial = strtoull(argv[4], 0, 10);
     last_serial = serial + strtoull(argv[3], 0, 10);
     for (int at = 0; at <= MANAGERS && kind != NODES; at++)
@@ -353,6 +384,8 @@ int main(int argc, char **argv)
     run(clients, so_many);
     double took = now() - begun;
     used = processor() - used;
+    if (is_timed)
+        finish_timed();
     for (size_t at = 0; at < count; at++)
         printf("%u %u\n", times[at].outcome, times[at].both);
     printf("%.6f %.6f\n", took, used);

@@ -215,7 +215,7 @@ def totals(cluster):
     """By kind of node, what `info` counts, and seconds of the processors."""
     client, found = Cluster(cluster.file), collections.defaultdict(collections.Counter)
     for name in cluster.names:
-        found[name[0]].update({word: count for word, count in client.info(name).items() if word != 'floor'})
+        found[name[0]].update({word: count for word, count in client.info(name).items() if isinstance(count, int)})
         found[name[0]]['cpu'] += cluster.cpu(name)
     client.close()
     return found

@@ -1,42 +1,32 @@
-/* Loaded before the C library: the clock that somebody can set jumps a day forward or back, every so many looks at it. Clocks that
-   nobody can set stay as they are. */
+/* Loaded before the C library: the time of day of a process is off by as many seconds as the file PCOMMIT_CLOCK says, which is read anew each
+ * time. */
 #define _GNU_SOURCE
-#include <sys/syscall.h>
-#include <sys/time.h>
+#include <dlfcn.h>
+#include <fcntl.h>
+#include <stdlib.h>
 #include <time.h>
 #include <unistd.h>
 
-static long looks;
-
 static long shift(void)
 {
-    static const long days[] = {0, 1, -1};
-    return 86400 * days[++looks / 20 % 3];
+    char text[32];
+    const char *file = getenv("PCOMMIT_CLOCK");
+    int at = file ? open(file, O_RDONLY | O_CLOEXEC) : -1;
+    if (at < 0)
+        return 0;
+    ssize_t came = read(at, text, sizeof text - 1);
+    close(at);
+    text[came > 0 ? came : 0] = 0;
+    return strtol(text, 0, 10);
 }
 
-int clock_gettime(clockid_t clock, struct timespec *now)
+int clock_gettime(clockid_t clock, struct timespec *at)
 {
-    int status = (int)syscall(SYS_clock_gettime, clock, now);
-    if (status == 0 && (clock == CLOCK_REALTIME || clock == CLOCK_REALTIME_COARSE))
-        now->tv_sec += shift();
-    return status;
-}
-
-int gettimeofday(struct timeval *restrict now, void *restrict zone)
-{
-    struct timespec at;
-    (void)zone;
-    clock_gettime(CLOCK_REALTIME, &at);
-    now->tv_sec = at.tv_sec;
-    now->tv_usec = at.tv_nsec / 1000;
-    return 0;
-}
-
-time_t time(time_t *now)
-{
-    struct timespec at;
-    clock_gettime(CLOCK_REALTIME, &at);
-    if (now)
-        *now = at.tv_sec;
-    return at.tv_sec;
+    static int (*real)(clockid_t, struct timespec *);
+    if (!real)
+        real = (int (*)(clockid_t, struct timespec *))dlsym(RTLD_NEXT, "clock_gettime");
+    int answer = real(clock, at);
+    if (!answer && clock == CLOCK_REALTIME)
+        at->tv_sec += shift();
+    return answer;
 }

@@ -55,6 +55,9 @@ def manager(data, rows):
         if kind == 9:
             rows.clear()
             continue
+        # a floor, in front of all
+        if kind == 13:
+            continue
         if kind == 10:
             key = reader.take(reader.number(1))
             rows[key] = reader.take(reader.number(2))

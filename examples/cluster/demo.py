@@ -1,6 +1,7 @@
 #!/usr/bin/env python3
 """Shows a cluster of seven processes on this host: demo.py PROGRAM [FOLDER]. First a transaction over two managers, and that everything is
-there after all were stopped and started again; then a leader that is killed between the votes and the outcome."""
+there after all were stopped and started again; then a leader that is killed between the votes and the outcome; then that what is over is
+forgotten; and last an acceptor whose disk is lost, and which is replaced."""
 import os
 import shutil
 import signal
@@ -10,10 +11,12 @@ import tempfile
 import threading
 import time
 
-from pcommit_client import Cluster, Conflict
+from pcommit_client import Cluster, Conflict, Forgotten
 
 HERE = os.path.dirname(os.path.abspath(__file__))
 NAMES = ('a0', 'a1', 'a2', 'l0', 'l1', 'r0', 'r1')
+# for how many milliseconds names are kept here, and how many they may be ahead: in one-host.toml ten minutes and one
+KEEP, AHEAD = 2000, 1000
 
 
 def say(words=''):
@@ -26,7 +29,8 @@ class Host:
     def __init__(self, program, folder):
         self.program, self.folder, self.running = program, folder, {}
         self.file = os.path.join(folder, 'one-host.toml')
-        shutil.copy(os.path.join(HERE, 'one-host.toml'), self.file)
+        with open(os.path.join(HERE, 'one-host.toml')) as example, open(self.file, 'w') as own:
+            own.write(example.read().replace('keep = 600000', 'keep = %d' % KEEP).replace('ahead = 60000', 'ahead = %d' % AHEAD))
         subprocess.run([os.path.join(HERE, 'keys.sh'), folder], check=True, stdout=subprocess.DEVNULL)
 
     def start(self, name):
@@ -53,6 +57,14 @@ class Host:
         self.running[name].send_signal(number)
         if number == signal.SIGKILL:
             self.running.pop(name).wait()
+
+    def record(self, name):
+        return os.path.join(self.folder, name + '.rec')
+
+    def replace(self, name):
+        """Makes a blank record of a node whose record is lost. What the program says."""
+        words = [self.program, '--replace', self.file, name, self.folder]
+        return subprocess.run(words, check=True, capture_output=True, text=True).stdout.strip()
 
     def stop(self):
         for name in list(self.running):
@@ -136,13 +148,73 @@ def second(host):
     say()
 
 
+def go_on(cluster, seconds):
+    """Transactions for a while, whose names' times floors follow; how many."""
+    count, end = 0, time.monotonic() + seconds
+    while time.monotonic() < end:
+        cluster.run(lambda tx: move(tx, 1 if count % 2 else -1))
+        count += 1
+    return count
+
+
+def third(host):
+    say('3. What is over is forgotten')
+    say('   so that nobody runs full, a transaction is kept for a while only: ten minutes by one-host.toml, two seconds here')
+    cluster = Cluster(host.file)
+    with cluster.begin() as tx:
+        move(tx, 2)
+    say('   a transaction begins with its time: %s' % tx.name)
+    say('   its outcome is known as long as it is kept: %s' % cluster.settle(tx.name))
+    count = go_on(cluster, 2)
+    size = os.path.getsize(host.record('r0'))
+    say('   %d more transactions: the record of r0 has %d bytes, and of %d transactions something is kept'
+        % (count, size, cluster.info('r0')['kept']))
+    floor, end = cluster.info('a0').get('floor', ''), time.monotonic() + 30
+    while floor < tx.name.split('/')[0] and time.monotonic() < end:
+        count += go_on(cluster, 0.5)
+        floor = cluster.info('a0').get('floor', '')
+    say('   %d now: it has %d bytes, and keeps %d. The floor of a0 is %s: what stands below is over'
+        % (count, os.path.getsize(host.record('r0')), cluster.info('r0')['kept'], floor))
+    try:
+        say('   (its outcome was known still: %s)' % cluster.settle(tx.name))
+    except Forgotten as error:
+        say('   a client that asks for that first one now is told so: %s' % error)
+    cluster.close()
+    say()
+
+
+def fourth(host):
+    say('4. The disk of an acceptor is lost, and it is replaced')
+    cluster = Cluster(host.file)
+    host.signal('a1', signal.SIGKILL)
+    for ending in ('rec', 'cluster'):
+        os.remove(os.path.join(host.folder, 'a1.' + ending))
+    say('   a1 is killed, and its record is deleted: it has forgotten what it promised, and may not simply be started again')
+    say('   pcommit_node --replace one-host.toml a1 DIR says:')
+    said = host.replace('a1')
+    say('   | ' + said)
+    host.start('a1')
+    floor = said.split(' from ')[1].split()[0]
+    while '1:%012x' % int(time.time() * 1000) <= floor:
+        go_on(cluster, 0.1)
+    say('   until names have come so far, it took no part, and a0 and a2 decided alone')
+    host.signal('a0', signal.SIGKILL)
+    cluster.forget('a0')
+    go_on(cluster, 0.2)
+    say('   now a0 is killed too: a1 and a2 are a majority, and transactions go on')
+    say_balances(cluster)
+    host.start('a0')
+    cluster.close()
+    say()
+
+
 def main(program, folder=None):
     mine = folder or tempfile.mkdtemp(prefix='pcommit-cluster-')
     os.makedirs(mine, exist_ok=True)
     host = Host(os.path.abspath(program), mine)
     try:
-        first(host)
-        second(host)
+        for part in (first, second, third, fourth):
+            part(host)
     finally:
         host.stop()
     say('The processes are stopped. What they were started with: examples/cluster/one-host.toml')

@@ -29,6 +29,8 @@ import tomllib
 KINDS = (('acceptor', 'a'), ('leader', 'l'), ('rm', 'r'))
 FINAL = ('committed', 'aborted')
 FORGOTTEN = 'refused 17'
+# the words of `info` behind which a place in the order of names stands
+PLACES = ('floor', 'rise')
 
 
 class Aborted(Exception):
@@ -155,9 +157,10 @@ class Cluster:
             raise
 
     def info(self, name):
-        """What a node counts, by its words, as `appends` or `dropped`; and its `floor`, if it has one."""
+        """What a node counts, by its words, as `appends` or `dropped`; its `floor`, if it has one; and, of a manager that speaks for a
+        database, to where its floor may `rise`."""
         words = self.ask(name, 'info')[0].split()
-        return {word: count if word == 'floor' else int(count) for word, count in zip(words[2::2], words[3::2])}
+        return {word: count if word in PLACES else int(count) for word, count in zip(words[2::2], words[3::2])}
 
     def raise_floor(self, rm, name):
         """Has a manager's floor rise to a name, FORMAT:GTRID: what stands below is over, and forgotten. Refused where a branch is there."""
@@ -332,6 +335,12 @@ class Transaction:
         self.outcome = outcome
         if self.outcome == 'aborted':
             raise Aborted('%s is aborted' % self.name)
+
+
+def place(name):
+    """Where a place, FORMAT:GTRID, or a transaction stands in the order of names: what compares so."""
+    number, gtrid = name.split('/')[0].split(':')[:2]
+    return int(number), bytes.fromhex(gtrid)
 
 
 def text(data):

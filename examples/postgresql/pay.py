@@ -2,14 +2,16 @@
 stands a resource manager of pcommit, whose branch says that the server has prepared.
 
     application      server 0, 1            manager 0, 1        leader
+    start -------------------------------------->| "may prepare"   |
     BEGIN, UPDATE -->|                          |                  |
     PREPARE -------->| stored, rows locked      |                  |
-    start, end --------------------------------->| "has prepared"  |
+    end ---------------------------------------->| "has prepared"  |
     commit, await -------------------------------------------------->| asks both to vote; decides
     COMMIT PREPARED->| rows free                |                  |
 
-The branch is ended after the server has prepared, and not before: a manager that votes prepared speaks for its server. Whoever dies after
-PREPARE leaves the rest to the resolvers."""
+The branch is begun before the server prepares: where it stands, the manager forgets nothing of the transaction. It is ended after the
+server has prepared, and not before: a manager that votes prepared speaks for its server. Whoever dies after PREPARE leaves the rest to the
+resolvers."""
 import os
 import re
 import sys
@@ -66,16 +68,27 @@ class Payer:
         tx = Transaction(self.cluster)
         tx.branches = [0, 1]
         try:
+            for rm in (0, 1):
+                self.ask(tx, rm, 'start')
             for rm, account, change in ((0, source, -amount), (1, target, amount)):
                 self.work(rm, account, change)
                 self.step('worked at %d' % rm)
             for rm in (0, 1):
                 self.cursor(rm).execute('PREPARE TRANSACTION %s', (gid_of(rm, tx.name),))
                 self.step('prepared at %d' % rm)
+        except (Gone, Aborted) as error:
+            self.give_up(tx)
+            raise Aborted(str(error)) from error
         except psycopg2.Error as error:
             self.give_up(tx)
             raise (Conflict if isinstance(error, psycopg2.errors.LockNotAvailable) else Aborted)(str(error).strip()) from error
         return self.decide(tx)
+
+    def ask(self, tx, rm, verb):
+        """Begins or ends the branch at a manager."""
+        answer = self.cluster.ask('r%d' % rm, '%s r%d %s' % (verb, rm, tx.xid(rm)))[0]
+        if answer != '0':
+            raise Aborted('r%d: %s' % (rm, answer))
 
     def work(self, rm, account, change):
         cursor = self.cursor(rm)
@@ -85,10 +98,7 @@ class Payer:
     def decide(self, tx):
         try:
             for rm in (0, 1):
-                node, xid = 'r%d' % rm, tx.xid(rm)
-                answers = self.cluster.ask(node, 'start %s %s' % (node, xid), 'end %s %s' % (node, xid))
-                if answers != ['0', '0']:
-                    raise Aborted('%s: %s' % (node, answers))
+                self.ask(tx, rm, 'end')
                 self.step('said at %d' % rm)
         except (Gone, Aborted) as error:
             self.give_up(tx)

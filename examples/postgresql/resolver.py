@@ -8,6 +8,8 @@ Every while it lists what is prepared at the server under our names, and asks th
     working    nothing at first; once it has been prepared for longer than GRACE, its application is taken for gone, and a leader is
                asked to decide (`timeout`): committed if all have voted so after all, else aborted
     refused 17 it says so, and nothing else: the manager's floor was raised above it, and its outcome is gone there
+Where names are timed it also raises the floor of a manager with `beside = true`: to where that may rise by its clock and its branches, but
+not above the oldest name that is prepared here.
 It keeps nothing, so it may be started and killed at any time. It ends nothing whose outcome it wasn't told, and touches no other names."""
 import os
 import sys
@@ -16,7 +18,7 @@ import time
 import psycopg2
 
 from pay import PREFIX, end_prepared, tx_of
-from pcommit_client import FINAL, FORGOTTEN, Cluster, Gone
+from pcommit_client import FINAL, FORGOTTEN, Cluster, Gone, Refused, place
 
 EVERY = float(os.environ.get('PCOMMIT_EVERY', '0.1'))
 GRACE = float(os.environ.get('PCOMMIT_GRACE', '5'))
@@ -28,6 +30,10 @@ class Resolver:
     def __init__(self, file, rm, dsn):
         self.cluster, self.rm, self.dsn = Cluster(file), int(rm), dsn
         self.node, self.connection, self.said = 'r%d' % self.rm, None, None
+        names, own = self.cluster.file.get('names', {}), self.cluster.file['rm'][self.rm]
+        # how often the floor is raised, in seconds: twice in the time for which names are kept. None where it isn't for a resolver to do
+        self.rises = names.get('keep', 600000) / 2000 if names.get('timed') and own.get('beside') else None
+        self.next_rise = time.monotonic()
 
     def say(self, words):
         """Says what is wrong, once."""
@@ -42,15 +48,33 @@ class Resolver:
             self.connection.autocommit = True
         return self.connection.cursor()
 
+    def may_rise(self):
+        """To where the manager's floor may rise, if it is time to raise it. It begins no branch below that any more."""
+        if self.rises is None or time.monotonic() < self.next_rise:
+            return None
+        self.next_rise = time.monotonic() + self.rises
+        return self.cluster.info(self.node).get('rise')
+
+    def raise_floor(self, to, names):
+        """Raises the manager's floor to a place, but not above what is prepared here. Who prepares here has begun a branch at the manager
+        before, and ends it after, so what is below the place and was prepared is among these names, which were listed after the place
+        was said; or its branch is there, and the manager refuses."""
+        try:
+            self.cluster.raise_floor(self.rm, min([to, *(name.split('/')[0] for name in names)], key=place))
+        except Refused as error:
+            self.say(str(error))
+
     def round(self):
         """Looks at each prepared transaction once. How many were ended."""
+        to = self.may_rise()
         cursor = self.cursor()
         cursor.execute(LIST, (PREFIX,))
-        ended, forgotten = 0, []
+        ended, forgotten, names = 0, [], []
         for gid, age in cursor.fetchall():
             tx = tx_of(self.rm, gid)
             if tx is None:
                 continue
+            names.append(tx)
             view = self.cluster.ask(self.node, 'view %s %s' % (self.node, tx))[0]
             if view in FINAL:
                 end_prepared(cursor, gid, view)
@@ -61,6 +85,8 @@ class Resolver:
                 forgotten.append(tx)
         self.say('prepared here and forgotten by their manager; see how they ended elsewhere, and end them by hand: ' + ' '.join(forgotten)
                  if forgotten else None)
+        if to:
+            self.raise_floor(to, names)
         return ended
 
     def ask_leaders(self, tx):

@@ -318,7 +318,7 @@ class Votes:
             data = record.read()
         for body in frames(data):
             self.at += 4 + len(body)
-            if body[1] in (9, 10):
+            if body[1] in (9, 10, 13):
                 continue
             name = body[2:2 + spelled(body[2:])]
             if body[1] == 4:

@@ -2,6 +2,7 @@
 """Clusters of processes that forget: by an operator's floors, and by floors that follow the times of names; what is told of them, and what
 is left: floors.py PROGRAM [TRANSACTIONS]."""
 import shutil
+import subprocess
 import sys
 import tempfile
 import time
@@ -182,15 +183,60 @@ def all_rows_are_there(own):
     return own.client.table(0) == own.client.table(1) == rows
 
 
+def ends_of(own, name, *words):
+    """How the program ends that is to make a blank record, and what it says."""
+    command = [own.cluster.program, *words, *own.cluster.command(name)[1:]]
+    try:
+        run = subprocess.run(command, capture_output=True, text=True, timeout=SOON)
+    except subprocess.TimeoutExpired:
+        return None, ''
+    return run.returncode, run.stdout + run.stderr
+
+
+def what_cant_be_replaced_stays(own):
+    before = own.sizes()
+    asked = (('r0', '--replace-from', '1:75'), ('a0', '--replace-from', '1:75'), ('a0', '--replace-from', '1:7'), ('a0', '--replace'),
+             ('a0', '--replace', '--replace-from', '1:75'), ('a9', '--replace-from', '1:75'))
+    return all(ends_of(own, *words)[0] == 2 for words in asked) and own.sizes() == before
+
+
+def is_back_in_part(own, name, others):
+    """Whether transactions are committed with a node that was replaced, while others are away."""
+    floor = own.floors()[name]
+    until(lambda: '1:' + named(0) > floor)
+    for other in others:
+        own.cluster.kill(other)
+        own.client.forget(other)
+    names = own.commit(10)
+    own.cluster.start(*others)
+    return len(names) == 10
+
+
+def a_lost_acceptor_is_replaced(own):
+    own.cluster.kill('a1')
+    own.client.forget('a1')
+    own.cluster.lose('a1', endings=('rec',))
+    # what stands beside its record says that it has had one
+    is_missed = ends_of(own, 'a1')[0] == 2
+    from_here = '1:' + named(500)
+    said = [ends_of(own, 'a1', '--replace-from', from_here) for _ in range(2)]
+    own.cluster.start('a1')
+    # what it took no part in is asked of the others
+    return (is_missed and [status for status, _words in said] == [0, 2] and from_here in said[0][1] and own.floors()['a1'] == from_here
+            and own.outcome(own.commit(1)[0]) == 'committed' and is_back_in_part(own, 'a1', ['a0']))
+
+
 TESTS = (nobody_has_a_floor_at_first, one_manager_raises_its_own_alone, all_follow_the_least_of_both, what_is_below_is_over,
          what_is_below_is_not_begun, a_transaction_of_a_slow_clock_is_aborted, no_floor_passes_a_branch, a_lower_floor_changes_nothing,
-         what_is_no_floor_is_no_command, a_process_goes_on_from_its_floor, who_was_away_is_told_again, all_rows_are_there)
+         what_is_no_floor_is_no_command, a_process_goes_on_from_its_floor, who_was_away_is_told_again, all_rows_are_there,
+         what_cant_be_replaced_stays, a_lost_acceptor_is_replaced)
 
 
 # ---- floors that follow the times of names
 
-# for how many milliseconds names are kept
+# for how many milliseconds names are kept, and how many they may be ahead
 KEEP = 2000
+AHEAD = 1000
 
 
 def named(ahead):
@@ -274,6 +320,21 @@ def a_name_of_another_time_is_refused(own):
     return own.client.ask('r0', *lines) == ['refused 19'] * 3 + ['0']
 
 
+def a_lost_leader_is_replaced_by_the_clock(own):
+    own.cluster.kill('l0')
+    own.client.forget('l0')
+    own.cluster.lose('l0')
+    earliest, (status, _said), latest = named(AHEAD), ends_of(own, 'l0', '--replace'), named(AHEAD + 1)
+    own.cluster.start('l0')
+    floor = own.floors()['l0']
+    return status == 0 and '1:' + earliest[:12] <= floor <= '1:' + latest and is_back_in_part(own, 'l0', ['l1'])
+
+
+def info_says_what_is_kept(own):
+    counts = {name: own.client.info(name) for name in own.cluster.names}
+    return all(0 < count['kept'] < 100000 and count['memory'] > 1 << 20 and count['record'] > 0 for count in counts.values())
+
+
 def a_manager_beside_a_database_waits(own):
     end = time.monotonic() + 3 * KEEP / 1000
     while time.monotonic() < end:
@@ -285,9 +346,24 @@ def a_manager_beside_a_database_waits(own):
     return own.rise(1, alone) and own.followed()
 
 
+def it_begins_nothing_below_where_it_said_it_may_rise(own):
+    begun = named(0)
+    own.commit(5)
+    before = own.client.ask('r1', 'start r1 1:%s:61' % begun)
+
+    def is_below():
+        own.commit(5)
+        return own.client.info('r1')['rise'] > '1:' + begun
+    # the branch that is there holds it back
+    is_held = not until(is_below, 3 * KEEP / 1000)
+    own.client.ask('r1', 'end r1 1:%s:61' % begun, 'rollback r1 1:%s:61' % begun)
+    return before == ['0'] and is_held and until(is_below) and own.client.ask('r1', 'start r1 1:%s:62' % begun) == ['refused 19']
+
+
 TIMED = (floors_follow_the_clock, an_old_outcome_is_forgotten, an_open_branch_holds_floors_back, one_that_is_late_at_a_manager_is_aborted,
-         a_name_of_another_time_is_refused, no_floor_is_raised_above_the_clock, a_manager_goes_on_after_a_restart)
-BESIDE = (a_manager_beside_a_database_waits,)
+         a_name_of_another_time_is_refused, no_floor_is_raised_above_the_clock, a_manager_goes_on_after_a_restart,
+         info_says_what_is_kept, a_lost_leader_is_replaced_by_the_clock)
+BESIDE = (a_manager_beside_a_database_waits, it_begins_nothing_below_where_it_said_it_may_rise)
 
 
 def run(tests, program, count, **words):
@@ -307,8 +383,8 @@ def run(tests, program, count, **words):
 
 def main(program, count=300):
     begun, count = time.time(), int(count)
-    failed = run(TESTS, program, count) + run(TIMED, program, count, names={'keep': KEEP})
-    failed += run(BESIDE, program, count, names={'keep': KEEP}, beside=(1,))
+    failed = run(TESTS, program, count) + run(TIMED, program, count, names={'keep': KEEP, 'ahead': AHEAD})
+    failed += run(BESIDE, program, count, names={'keep': KEEP, 'ahead': AHEAD}, beside=(1,))
     total = len(TESTS + TIMED + BESIDE)
     print('floors: %d passed, %d failed (%.0f s)' % (total - failed, failed, time.time() - begun))
     sys.exit(failed > 0)

@@ -1,7 +1,8 @@
 #!/usr/bin/python3
 """A transaction over two PostgreSQL servers, with one process killed at one step of it and started again: each of those below, at each step
-below. Both servers end the same, as the application was told, nothing is left prepared, and a prepared transaction of others is left alone:
-postgresql.py PROGRAM. Needs Debian's postgresql and python3-psycopg2; without them nothing is run, and that is said."""
+below. Both servers end the same, as the application was told, nothing is left prepared, and a prepared transaction of others is left alone.
+And where names are timed, resolvers that are down for ten times as long as names are kept: postgresql.py PROGRAM. Needs Debian's postgresql
+and python3-psycopg2; without them nothing is run, and that is said."""
 import os
 import shutil
 import subprocess
@@ -22,15 +23,17 @@ sys.path.append(EXAMPLES)
 STEPS = ('worked at 0', 'worked at 1', 'prepared at 0', 'prepared at 1', 'said at 0', 'said at 1', 'decided', 'ended at 0', 'ended at 1')
 KILLED = ('resolvers', 'l0', 'l0 l1', 'r0', 'a0', 'server 0', 'application')
 OTHERS = 'another:1'
+# for how many milliseconds names are kept, where they are timed
+KEEP = 1000
 
 
 class Place:
     """Two servers, a cluster, and a resolver for each server."""
 
-    def __init__(self, program, folder):
+    def __init__(self, program, folder, **words):
         from servers import Servers
-        self.cluster = Processes(program, os.path.join(folder, 'cluster'))
-        self.servers = Servers(folder, accounts=2)
+        self.cluster = Processes(program, os.path.join(folder, 'cluster'), **words)
+        self.servers = Servers(folder, accounts=4)
         self.dsns = [self.servers[0].dsn, self.servers[1].dsn]
         self.resolvers = []
         self.cluster.start()
@@ -114,6 +117,94 @@ def cell(place, killed, step):
     return told if back else 'the step was never reached'
 
 
+def until(holds, most=20.0):
+    """Whether something holds before long."""
+    end = time.monotonic() + most
+    while not holds():
+        if time.monotonic() > end:
+            return False
+        time.sleep(0.05)
+    return True
+
+
+class Timed:
+    """A place where names are timed and resolvers raise floors, and an application that is gone once its transaction is decided."""
+
+    def __init__(self, place):
+        from pcommit_client import Cluster
+        self.place, self.client = place, Cluster(place.cluster.file, patience=10)
+
+    def pay(self, account, step=lambda name: None):
+        """A payment between accounts of this number; its transaction."""
+        from pay import Payer
+        from pcommit_client import Aborted, Cluster
+        while True:
+            payer = Payer(Cluster(self.place.cluster.file, patience=10), self.place.dsns, step)
+            try:
+                return payer.pay(account, account, 5)
+            except Aborted:
+                time.sleep(0.05)
+            finally:
+                payer.close()
+
+    def floors(self):
+        return [self.client.info(name).get('floor', '') for name in self.place.cluster.names]
+
+    def rises_above(self, tx):
+        """Whether all floors come to stand above a transaction, while others are paid."""
+        def is_so():
+            self.pay(2)
+            return min(self.floors()) > tx.split('/')[0]
+        return until(is_so)
+
+    def is_kept(self, tx):
+        return [self.client.ask('r%d' % rm, 'view r%d %s' % (rm, tx))[0] for rm in (0, 1)] == ['committed'] * 2
+
+    def lose(self):
+        """A transaction that is decided, and whose application is gone then."""
+        def at(name):
+            if name == 'decided':
+                raise Gone
+        try:
+            self.pay(0, at)
+        except Gone:
+            return next(gid for gid in self.place.servers.prepared()[0] if gid.startswith('pcommit:0:'))[len('pcommit:0:'):]
+
+    def run(self):
+        """What is wrong, or None."""
+        first = self.pay(2).name
+        if not self.rises_above(first):
+            return 'no floors rise: %s' % self.floors()
+        self.place.stop_resolvers()
+        before = self.place.servers[0].balances()[0]
+        tx = self.lose()
+        end = time.monotonic() + 10 * KEEP / 1000
+        while time.monotonic() < end:
+            self.pay(2)
+        if not self.is_kept(tx) or 'pcommit:0:' + tx not in self.place.servers.prepared()[0]:
+            return 'the outcome was forgotten, or was known to nobody'
+        self.place.start_resolvers()
+        if not until(lambda: self.place.servers.prepared() == [[OTHERS], []]):
+            return 'prepared are %s' % self.place.servers.prepared()
+        if self.place.servers[0].balances()[0] != before - 5:
+            return 'it was committed, and the server has %s' % self.place.servers[0].balances()
+        if not self.rises_above(tx):
+            return 'floors stay: %s' % self.floors()
+        return None if not self.is_kept(tx) else 'nothing was forgotten'
+
+
+def timed(program):
+    """What is wrong where resolvers raise floors, or None."""
+    folder = tempfile.mkdtemp(prefix='pcommit-postgresql-')
+    os.chmod(folder, 0o755)
+    place = Place(program, folder, names={'keep': KEEP}, beside=(0, 1))
+    try:
+        return Timed(place).run()
+    finally:
+        place.stop()
+        shutil.rmtree(folder)
+
+
 def lane(program, cells, found):
     folder = tempfile.mkdtemp(prefix='pcommit-postgresql-')
     os.chmod(folder, 0o755)
@@ -144,9 +235,11 @@ def main(program):
     for one in cells:
         if found.get(one) not in right:
             print('postgresql: FAILED: %s killed, %s: %s' % (*one, found.get(one, 'not run')))
-    passed = sum(found.get(one) in right for one in cells)
-    print('postgresql: %d passed, %d failed (%.0f s)' % (passed, len(cells) - passed, time.monotonic() - begun))
-    sys.exit(passed < len(cells))
+    wrong = timed(program)
+    print('postgresql: resolvers down for ten times as long as names are kept: %s' % (wrong or 'all was ended, and then forgotten'))
+    passed, total = sum(found.get(one) in right for one in cells) + (wrong is None), len(cells) + 1
+    print('postgresql: %d passed, %d failed (%.0f s)' % (passed, total - passed, time.monotonic() - begun))
+    sys.exit(passed < total)
 
 
 if __name__ == '__main__':

@@ -205,6 +205,14 @@ class Processes:
         with open(os.path.join(self.records, name + '.rec'), 'rb') as record:
             return record.read()
 
+    def lose(self, name, endings=('rec', 'cluster')):
+        """A node's disk is lost: its record is gone, and what stood beside it."""
+        for ending in endings:
+            try:
+                os.remove(os.path.join(self.records, '%s.%s' % (name, ending)))
+            except FileNotFoundError:
+                pass
+
     def stop(self):
         """Stops all."""
         self.is_watched = False

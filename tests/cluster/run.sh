@@ -21,15 +21,15 @@ lane() { # TESTS..
         cat "$scratch/$test"
     done
 }
-lane bank killed lost_writes postgresql &
+lane bank killed lost_writes postgresql replaced &
 lanes=$!
-lane client lines devices network strangers floors &
+lane client lines devices network strangers floors clocks &
 lanes="$lanes $!"
 wait
 
 passed=0
 failed=0
-for test in bank killed lost_writes postgresql client lines devices network strangers floors; do
+for test in bank killed lost_writes postgresql replaced client lines devices network strangers floors clocks; do
     count=$(sed -n "s/^$test: \([0-9]*\) passed, \([0-9]*\) failed.*/\1 \2/p" "$scratch/$test" | tail -n 1)
     # one that didn't come to its end has failed
     [ -n "$count" ] || { echo "FAILED $test: $(tail -n 3 "$scratch/$test")"; count='0 1'; }

@@ -4,7 +4,7 @@ use crate::client::Stage;
 use crate::desk::Desk;
 use crate::failure::Failure;
 use crate::group::{Item, Origin, Work};
-use crate::life::standing;
+use crate::life::{rise_of, standing};
 use crate::socket::Counting;
 use node_core::{Input, Output};
 use port::{Member, Port};
@@ -12,6 +12,7 @@ use protocol::{Action, Answer, Boxed, Change, NodeId, Request, Standing, View};
 use serving::{Counts, Wish, put_info, put_open, put_reply, put_table, time_of};
 use stable_record::FileRecord;
 use std::alloc::Global;
+use std::fs;
 use std::time::{Duration, Instant};
 use wire::{Kind, decode};
 use xid::{Floor, Refusal, Tx, XaCode, Xid};
@@ -20,6 +21,8 @@ use xid::{Floor, Refusal, Tx, XaCode, Xid};
 const MOST_AWAITED: u64 = 60;
 /// How a start is answered whose name isn't of its time, and a floor above the clock's.
 const UNTIMELY: &[u8] = b"refused 19\n";
+/// How many bytes a page of memory has.
+const PAGE: u64 = 4096;
 /// From which turn on a leader asks after a transaction that it was asked about: that somebody waits for it is known.
 const ASKED: usize = 2;
 
@@ -135,10 +138,23 @@ fn answer_input(desk: &mut Desk, item: &Item, out: &Output, now: Instant) -> Res
     }
 }
 
+/// How many bytes of memory the process has, as the system says; 0 where it doesn't say.
+fn resident(rt: &HostRuntime) -> u64 {
+    let Ok(text) = fs::read_to_string(rt, "/proc/self/statm") else {
+        return 0;
+    };
+    match text.as_str().split(' ').nth(1) {
+        Some(pages) => pages.parse::<u64>().unwrap_or(0).saturating_mul(PAGE),
+        None => 0,
+    }
+}
+
 /// The counts as they are now.
-fn counts_now<P: Port + Counting>(desk: &Desk, port: &P) -> Counts {
+fn counts_now<P: Port + Counting>(node: &Member<FileRecord>, desk: &Desk, port: &P) -> Counts {
     let port_counts = port.counts();
     Counts {
+        memory: resident(&desk.rt),
+        kept: node.transaction_count() as u64,
         taken: port_counts.taken,
         sent: port_counts.sent,
         dropped: port_counts.dropped,
@@ -205,6 +221,21 @@ fn raise_for<P: Port>(
     reply(desk, origin, &answer)
 }
 
+/// To where the floor may rise of a resource manager that speaks for a database: that is said to who knows what the database has prepared,
+/// and no branch is begun below that place any more.
+fn say_rise(node: &Member<FileRecord>, desk: &mut Desk) -> Result<Option<Floor>, Failure> {
+    if !desk.is_beside {
+        return Ok(None);
+    }
+    let Some((_, floor)) = rise_of(node, desk)? else {
+        return Ok(None);
+    };
+    if floor.is_higher_than(&desk.said_rise) {
+        desk.said_rise = Some(floor);
+    }
+    Ok(Some(floor))
+}
+
 /// What is wished beside inputs is answered.
 fn say<P: Port + Counting>(
     node: &mut Member<FileRecord>,
@@ -225,8 +256,15 @@ fn say<P: Port + Counting>(
             Err(refusal) => Err(refusal),
         },
         Wish::Info => {
-            let counts = counts_now(desk, port);
-            put_info(desk.alloc, &mut out, desk.who, &counts, &node.floor())
+            let (counts, rise) = (counts_now(node, desk, port), say_rise(node, desk)?);
+            put_info(
+                desk.alloc,
+                &mut out,
+                desk.who,
+                &counts,
+                &node.floor(),
+                &rise,
+            )
         }
         Wish::Raise(floor) => return raise_for(node, port, desk, origin, floor),
         Wish::Await(tx) => return begin_await(desk, origin, tx, now),

@@ -1,9 +1,18 @@
 use crate::failure::Failure;
 use clap::error::ErrorKind;
-use clap::{Arg, ArgAction, Command};
+use clap::{Arg, ArgAction, ArgMatches, Command};
 use log::LevelFilter;
 use std::alloc::{AllocError, Global};
 use std::convert::AsStr;
+
+/// From which place on in the order of names a blank node takes part that stands in for a lost one.
+#[derive(Clone, Copy, Debug)]
+pub(crate) enum Replacement<'a> {
+    /// From this one on, FORMAT:GTRID.
+    From(&'a str),
+    /// From the first one on that is too far ahead of the clock to be begun now.
+    Ahead,
+}
 
 /// What the command line says.
 #[derive(Clone, Copy, Debug)]
@@ -16,6 +25,8 @@ pub(crate) struct Options<'a> {
     pub(crate) folder: &'a str,
     /// What is logged.
     pub(crate) level: LevelFilter,
+    /// Where a blank record is to begin that stands in for a lost one, if it is to be made.
+    pub(crate) replacement: Option<Replacement<'a>>,
 }
 
 /// A position that must be given.
@@ -26,8 +37,15 @@ fn position<'a>(alloc: Global, name: &'a str) -> Arg<'a> {
 /// The program's command lines.
 fn program_command<'a>(alloc: Global) -> Result<Command<'a>, AllocError> {
     let level = Arg::new(alloc, "log").long("log").action(ArgAction::Set);
+    let ahead = Arg::new(alloc, "replace")
+        .long("replace")
+        .action(ArgAction::SetTrue);
+    let from = Arg::new(alloc, "replace-from")
+        .long("replace-from")
+        .action(ArgAction::Set);
     let named = Command::new(alloc, "pcommit_node").arg(level)?;
-    let with_file = named.arg(position(alloc, "CLUSTER"))?;
+    let replacing = named.arg(ahead)?.arg(from)?;
+    let with_file = replacing.arg(position(alloc, "CLUSTER"))?;
     let with_name = with_file.arg(position(alloc, "NAME"))?;
     with_name.arg(position(alloc, "DIR"))
 }
@@ -40,6 +58,16 @@ fn level_named(word: &str) -> Option<LevelFilter> {
         "info" => Some(LevelFilter::Info),
         "debug" => Some(LevelFilter::Debug),
         _ => None,
+    }
+}
+
+/// The replacement that is asked for, if one is.
+fn replacement_of<'a>(matches: &ArgMatches<'a>) -> Result<Option<Replacement<'a>>, Failure> {
+    match (matches.get_str("replace-from"), matches.get_flag("replace")) {
+        (None, false) => Ok(None),
+        (Some(place), false) => Ok(Some(Replacement::From(place))),
+        (None, true) => Ok(Some(Replacement::Ahead)),
+        (Some(_), true) => Err(Failure::Usage),
     }
 }
 
@@ -67,10 +95,15 @@ pub(crate) fn read_options<'a, S: AsStr>(
     let Some(level) = level_named(matches.get_str("log").unwrap_or("info")) else {
         return Err(Failure::Usage);
     };
+    let replacement = match replacement_of(&matches) {
+        Ok(replacement) => replacement,
+        Err(failure) => return Err(failure),
+    };
     Ok(Options {
         file,
         name,
         folder,
         level,
+        replacement,
     })
 }

@@ -10,7 +10,7 @@ use serving::{Branches, Counts, Schedule, Shortening, Times, Watches, Wish, read
 use std::alloc::{AllocError, Global};
 use std::collections::VecDeque;
 use std::time::{Duration, Instant};
-use xid::Xid;
+use xid::{Floor, Xid};
 
 /// How often the branches that nobody touches are looked for, in milliseconds.
 const IDLE_LOOKS: u64 = 1000;
@@ -22,6 +22,7 @@ const TELLS: u64 = 60;
 /// What the process keeps beside its node and its port.
 #[derive(Drop)]
 pub(crate) struct Desk {
+    pub(crate) rt: HostRuntime,
     pub(crate) alloc: Global,
     pub(crate) who: NodeId,
     pub(crate) door: Door,
@@ -40,6 +41,10 @@ pub(crate) struct Desk {
     pub(crate) clock: u64,
     /// The latest time of a name that was begun here since the process began, 0 for none.
     pub(crate) latest: u64,
+    /// Whether it speaks for a database beside it, and so raises no floor by itself.
+    pub(crate) is_beside: bool,
+    /// Below which place no branch is begun any more: it was said that the floor may rise to there.
+    pub(crate) said_rise: Option<Floor>,
     /// When its floor may rise by itself next.
     pub(crate) next_rise: Instant,
     /// When a resource manager tells its floor next.
@@ -124,7 +129,7 @@ impl Desk {
             let Some(work) = hear(self.alloc, self.who, &self.door.lock, client, line)? else {
                 continue;
             };
-            let work = timely(&self.times, self.clock, work);
+            let work = timely(&self.times, self.clock, &self.said_rise, work);
             let is_last = holds_up(&work);
             let number = client.number;
             items.push(Item {
@@ -171,6 +176,9 @@ impl Desk {
     /// Whether its floor may rise by itself: half of the time has passed for which names are kept, or the record is to be made shorter. If
     /// so, it may not before as long has passed again.
     pub(crate) fn may_rise(&mut self, now: Instant) -> bool {
+        if self.is_beside {
+            return false;
+        }
         let Some(
             Times {
                 keep: Some(keep),
@@ -228,8 +236,16 @@ fn holds_up(work: &Work) -> bool {
     }
 }
 
-/// What is to be done, but that no branch is started whose name isn't of its time.
-fn timely(times: &Option<Times>, clock: u64, work: Work) -> Work {
+/// Whether a name stands below a place, if there is one.
+fn is_below(place: &Option<Floor>, xid: &Xid) -> bool {
+    match place {
+        Some(place) => place.is_above_xid(xid),
+        None => false,
+    }
+}
+
+/// What is to be done, but that no branch is started whose name isn't of its time, or stands below the place to which the floor may rise.
+fn timely(times: &Option<Times>, clock: u64, said_rise: &Option<Floor>, work: Work) -> Work {
     let Some(times) = times else {
         return work;
     };
@@ -239,7 +255,7 @@ fn timely(times: &Option<Times>, clock: u64, work: Work) -> Work {
                 xid,
                 action: Action::Start,
             },
-        ) if !times.is_timely(xid, clock) => Work::Untimely,
+        ) if !times.is_timely(xid, clock) || is_below(said_rise, xid) => Work::Untimely,
         _ => work,
     }
 }

@@ -13,7 +13,7 @@ const REFUSED: u8 = 3;
 #[derive(Debug, Drop, Error)]
 pub(crate) enum Failure {
     /// The command line is none of the program's.
-    #[error("usage: pcommit_node [--log error|warn|info|debug] CLUSTER.toml NAME DIR")]
+    #[error("usage: pcommit_node [--log error|warn|info|debug] [--replace | --replace-from PLACE] CLUSTER.toml NAME DIR")]
     Usage,
     /// The cluster's file can't be read.
     #[error("{file}: {error}: give the path of the cluster's file")]
@@ -56,6 +56,29 @@ pub(crate) enum Failure {
         found: String,
         wanted: String,
     },
+    /// What a blank node is to take part from is no place.
+    #[error("{place}: no place in the order of names: give FORMAT:GTRID, as 1:018f")]
+    Place {
+        place: String,
+    },
+    /// A blank node is to follow the clock, and names don't.
+    #[error("names are not timed in the cluster's file: give a place above all names in use, as --replace-from PLACE")]
+    Untimed,
+    /// A blank node is to stand in for a resource manager.
+    #[error("{name}: nothing stands in for a resource manager, whose record is its data: see 'A record is gone' in docs/DEPLOY.md")]
+    IsManager {
+        name: String,
+    },
+    /// The record is gone that the folder's node has had.
+    #[error("{file}: the record is gone, which this folder's node has had: do not start it with none: see 'A record is gone' in docs/DEPLOY.md")]
+    NoRecord {
+        file: String,
+    },
+    /// A blank node is to stand in for one whose record is there.
+    #[error("{file}: a record is there, and a blank one stands in for a lost one alone: start the node without --replace")]
+    HasRecord {
+        file: String,
+    },
     /// A device failed.
     #[error("{refusal}: {what}: {todo}")]
     Device {
@@ -87,7 +110,12 @@ impl Failure {
             | Failure::UnreadKey { .. }
             | Failure::OpenKey { .. }
             | Failure::Key { .. }
-            | Failure::Digest { .. } => MISUSED,
+            | Failure::Digest { .. }
+            | Failure::Place { .. }
+            | Failure::Untimed
+            | Failure::IsManager { .. }
+            | Failure::NoRecord { .. }
+            | Failure::HasRecord { .. } => MISUSED,
             Failure::Device { .. } | Failure::Down { .. } | Failure::Memory | Failure::System(_) =>
                 REFUSED,
         }

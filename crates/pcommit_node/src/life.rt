@@ -7,19 +7,20 @@ use crate::answering::{answer_all, answer_awaited, raise};
 use crate::desk::Desk;
 use crate::failure::Failure;
 use crate::group::{Item, MOST_DATAGRAMS, MOST_ITEMS, Origin, Work, inputs_of};
+use crate::replacing::place_text;
 use crate::socket::Counting;
-use log::info;
+use log::{info, warn};
 use mio::Events;
 use node_core::{Input, Output};
 use port::{MAX_TAKEN, Member, Port, call_all};
 use protocol::{Answer, Boxed, NodeId, Request, Standing, View};
-use serving::{Due, Turn};
+use serving::{Due, Turn, held_back};
 use stable_record::{FileRecord, RecordError};
 use std::alloc::{AllocError, Global};
 use std::fs;
 use std::io::ErrorKind;
 use std::time::{Duration, Instant, SystemTime};
-use xid::{Bytes, Refusal, Tx};
+use xid::{Bytes, Floor, Refusal, Tx};
 
 /// Datagrams that wait come into a group. Those that the port refuses come to nothing.
 fn take_datagrams<P: Port>(
@@ -208,6 +209,24 @@ fn do_group<P: Port + Counting>(
     answer_all(node, port, desk, &items, outs, now)
 }
 
+/// To which place the floor of a resource manager whose names stand in time would rise by the clock, and to which its branches let it.
+pub(crate) fn rise_of(
+    node: &Member<FileRecord>,
+    desk: &Desk,
+) -> Result<Option<(Floor, Floor)>, Refusal> {
+    let Some(times) = desk.times else {
+        return Ok(None);
+    };
+    let Some(wanted) = times.floor(desk.clock, desk.latest) else {
+        return Ok(None);
+    };
+    let prepared = node.open_transactions()?;
+    Ok(Some((
+        wanted,
+        held_back(wanted, &desk.branches, prepared.as_slice()),
+    )))
+}
+
 /// The floor of a resource manager whose names stand in time rises by itself, if it is time.
 fn rise<P: Port>(
     rt: &HostRuntime,
@@ -220,14 +239,13 @@ fn rise<P: Port>(
     if !desk.may_rise(now) {
         return Ok(());
     }
-    let Some(times) = desk.times else {
+    let Some((wanted, floor)) = rise_of(node, desk)? else {
         return Ok(());
     };
-    let prepared = node.open_transactions()?;
-    let Some(floor) = times.floor(desk.clock, desk.latest, &desk.branches, prepared.as_slice())
-    else {
-        return Ok(());
-    };
+    if wanted.is_higher_than(&Some(floor)) {
+        let place = place_text(desk.alloc, &floor)?;
+        warn!(desk.door.log; "the floor stays at or below {place}: a branch of that name is there");
+    }
     if !floor.is_higher_than(&node.floor()) {
         return Ok(());
     }
@@ -241,7 +259,7 @@ fn rise<P: Port>(
 }
 
 /// The milliseconds since 1970 by the system's clock, none where that is set before.
-fn clock(rt: &HostRuntime) -> Result<u64, Failure> {
+pub(crate) fn clock(rt: &HostRuntime) -> Result<u64, Failure> {
     match SystemTime::now(rt)?.duration_since(SystemTime::UNIX_EPOCH) {
         Ok(since) => Ok(u64::try_from(since.as_millis()).unwrap_or(u64::MAX)),
         Err(_) => Ok(0),

@@ -15,6 +15,7 @@ mod group;
 mod life;
 mod logging;
 mod proving;
+mod replacing;
 mod setup;
 mod socket;
 
@@ -25,7 +26,8 @@ use crate::failure::Failure;
 use crate::life::live;
 use crate::logging::logger;
 use crate::proving::{Lock, make_lock};
-use crate::setup::{Setup, claim, open_node, owned, record_path, set_up};
+use crate::replacing::replace;
+use crate::setup::{Setup, claim, is_claimed, len_if_there, open_node, owned, record_path, set_up};
 use crate::socket::NodeSocket;
 use cluster_file::KEY;
 use hmac::Key;
@@ -147,7 +149,7 @@ fn idle_of(setup: &Setup) -> Option<Duration> {
     }
 }
 
-/// How names stand in time, at a resource manager where they do. One that speaks for a database beside it raises no floor by itself.
+/// How names stand in time, at a resource manager where they do.
 fn times_of(setup: &Setup) -> Option<Times> {
     let NodeId::R(_) = setup.who else {
         return None;
@@ -159,11 +161,7 @@ fn times_of(setup: &Setup) -> Option<Times> {
     Some(Times {
         format: naming.format,
         ahead: u64::from(naming.ahead),
-        keep: if setup.place.beside {
-            None
-        } else {
-            Some(u64::from(naming.keep))
-        },
+        keep: Some(u64::from(naming.keep)),
     })
 }
 
@@ -172,6 +170,7 @@ fn make_desk(rt: HostRuntime, setup: &Setup, door: Door) -> Result<Desk, Failure
     let alloc = rt.alloc();
     let schedule = schedule_of(setup);
     Ok(Desk {
+        rt,
         alloc,
         who: setup.who,
         door,
@@ -183,6 +182,8 @@ fn make_desk(rt: HostRuntime, setup: &Setup, door: Door) -> Result<Desk, Failure
         idle: idle_of(setup),
         next_look: Instant::now(&rt)?,
         times: times_of(setup),
+        is_beside: setup.place.beside,
+        said_rise: None,
         clock: 0,
         latest: 0,
         next_rise: Instant::now(&rt)?,
@@ -246,17 +247,37 @@ fn lead(
     lead_signed(&rt, node, socket, &mut desk, setup, path)
 }
 
+/// That the record is there which the folder's node has had.
+fn require_record(rt: HostRuntime, path: &str) -> Result<(), Failure> {
+    match len_if_there(rt, path) {
+        Ok(Some(_)) => Ok(()),
+        Ok(None) => Err(Failure::NoRecord {
+            file: owned(rt.alloc(), path)?,
+        }),
+        Err(failure) => Err(failure),
+    }
+}
+
 /// A node of a cluster lives.
 fn run(rt: HostRuntime, options: Options) -> Result<(), Failure> {
     let setup = match set_up(rt, options) {
         Ok(setup) => setup,
         Err(failure) => return Err(failure),
     };
-    claim(rt, &setup, options)?;
     let path = record_path(rt.alloc(), options)?;
+    if let Some(replacement) = options.replacement {
+        return replace(rt, &setup, options, path.as_str(), replacement);
+    }
+    let is_claimed = is_claimed(rt, &setup, options)?;
+    if is_claimed {
+        require_record(rt, path.as_str())?;
+    }
     match open_node(rt, &setup.cluster.config, setup.who, path.as_str()) {
         Ok(node) => {
             let mut node = node;
+            if !is_claimed {
+                claim(rt, &setup, options)?;
+            }
             lead(rt, &mut node, &setup, options, path.as_str())
         }
         Err(failure) => Err(failure),

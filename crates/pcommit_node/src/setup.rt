@@ -220,27 +220,55 @@ fn shown(alloc: Global, text: &[u8]) -> Result<String, AllocError> {
     Ok(shown)
 }
 
-/// That the folder's record is this node's, of this cluster: so says what stands beside it, from the first start on.
-pub(crate) fn claim(rt: HostRuntime, setup: &Setup, options: Options) -> Result<(), Failure> {
-    let alloc = rt.alloc();
+/// The file that says whose the folder's record is.
+fn owner_path(alloc: Global, options: Options) -> Result<String, AllocError> {
     let (folder, name) = (options.folder, options.name);
-    let path = format!(in alloc; "{folder}/{name}.cluster")?;
-    let owner = Owner {
+    format!(in alloc; "{folder}/{name}.cluster")
+}
+
+/// Who has the record.
+fn owner_of(setup: &Setup) -> Owner {
+    Owner {
         who: setup.who,
         digest: setup.digest,
-    };
+    }
+}
+
+/// Whether it is known whose the folder's record is: this node's, of this cluster. Refused: it is another's.
+pub(crate) fn is_claimed(
+    rt: HostRuntime,
+    setup: &Setup,
+    options: Options,
+) -> Result<bool, Failure> {
+    let alloc = rt.alloc();
+    let (path, owner) = (owner_path(alloc, options)?, owner_of(setup));
     match read_if_there(rt, path.as_str()) {
-        Ok(Some(text)) if owner.is_named_by(&text) => Ok(()),
+        Ok(Some(text)) if owner.is_named_by(&text) => Ok(true),
         Ok(Some(text)) => Err(Failure::Digest {
             file: path,
             found: shown(alloc, &text)?,
             wanted: shown(alloc, owner.text().as_slice())?,
         }),
-        Ok(None) => match write_whole(rt, path.as_str(), owner.text().as_slice()) {
-            Ok(()) => Ok(()),
-            Err(error) => Err(folder_fault(path, error)),
-        },
+        Ok(None) => Ok(false),
         Err(error) => Err(folder_fault(path, error)),
+    }
+}
+
+/// From now on it is known whose the folder's record is.
+pub(crate) fn claim(rt: HostRuntime, setup: &Setup, options: Options) -> Result<(), Failure> {
+    let path = owner_path(rt.alloc(), options)?;
+    match write_whole(rt, path.as_str(), owner_of(setup).text().as_slice()) {
+        Ok(()) => Ok(()),
+        Err(error) => Err(folder_fault(path, error)),
+    }
+}
+
+/// How many bytes a file has, if it is there.
+pub(crate) fn len_if_there(rt: HostRuntime, path: &str) -> Result<Option<u64>, Failure> {
+    match fs::metadata(&rt, path) {
+        Ok(found) => Ok(Some(found.len())),
+        Err(error) if error.kind() == ErrorKind::NotFound => Ok(None),
+        Err(error) => Err(folder_fault(owned(rt.alloc(), path)?, error)),
     }
 }
 
@@ -251,7 +279,7 @@ pub(crate) fn record_path(alloc: Global, options: Options) -> Result<String, All
 }
 
 /// What is to be done where a record can't be opened for this reason.
-fn todo_of(refusal: Refusal) -> &'static str {
+pub(crate) fn todo_of(refusal: Refusal) -> &'static str {
     match refusal {
         Refusal::Damaged =>
             "do not start it again, nor with an older record: see 'A record is gone' in docs/DEPLOY.md",
@@ -260,7 +288,7 @@ fn todo_of(refusal: Refusal) -> &'static str {
 }
 
 /// The record of this path.
-fn open_record(rt: HostRuntime, path: &str) -> Result<FileRecord, Failure> {
+pub(crate) fn open_record(rt: HostRuntime, path: &str) -> Result<FileRecord, Failure> {
     match FileRecord::open(rt, path) {
         Ok(record) => Ok(record),
         Err(RecordError::Memory) => Err(Failure::Memory),

@@ -1,3 +1,4 @@
+pub mod FloorLemmas
 pub mod NameLemmas
 pub mod QueueLemmas
 pub mod WaitLemmas

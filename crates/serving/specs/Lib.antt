@@ -3,4 +3,5 @@ pub mod Named
 pub mod Noted
 pub mod Queues
 pub mod Shortenings
+pub mod Times
 pub mod Watching

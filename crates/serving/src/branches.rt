@@ -1,16 +1,19 @@
-ghost use Rattle.std.specs.Prelude.{◌≡◌, true, None, Some, IfOk, OnOk};
+ghost use Rattle.std.specs.Prelude.{◌≡◌, ◌⊎◌, true, false, is_some, None, Some, IfOk, OnOk};
 ghost use Rattle.std.specs.Option.{option_map};
 ghost use Rattle.xid.specs.Names.{XidParts};
+ghost use Rattle.xid.specs.Places.{is_lower, is_xid_below};
 ghost use Rattle.serving.specs.Noted.{after_touch, is_active_of, is_nota, is_ok, is_rolled_back, is_untouched, known, names_of, noted};
 ghost use Rattle.serving.specs.Noted.{NotesOnly};
+ghost use Rattle.serving.specs.Times.{IsOfBranch};
 
 use crate::queue::is_by;
+use crate::times::lower;
 use hashing::{HashKey, WordKey};
 use indexmap::IndexMap;
 use protocol::{Action, Answer};
 use std::alloc::{AllocError, Global};
 use std::time::Instant;
-use xid::{XaCode, Xid};
+use xid::{Floor, XaCode, Xid};
 
 /// What is known of a branch.
 #[derive(Clone, Copy, Debug)]
@@ -159,14 +162,15 @@ impl Branches {
         Ok(found)
     }
 
-    /// The name of the branch that stands lowest, if there is one.
-    pub fn lowest(&self) -> Option<Xid> {
-        let mut lowest: Option<Xid> = None;
+    /// How far a floor may rise that is to rise to a place: not above one of these branches.
+    pub fn held_back(&self, floor: Floor) -> Floor
+        ensures wanted { is_lower (Some floor) (Some result) ≡ false }
+        ensures begun { (x : XidParts) → is_some (known self.now x) ≡ true → is_xid_below (Some result) x ≡ false }
+        ensures is_one { (result ≡ floor) ⊎ IsOfBranch self.now result }
+    {
+        let mut lowest = floor;
         for (xid, _) in self.named.iter() {
-            lowest = match lowest {
-                Some(found) if found < *xid => Some(found),
-                _ => Some(*xid),
-            };
+            lowest = lower(lowest, xid.format(), xid.gtrid());
         }
         lowest
     }

@@ -20,6 +20,6 @@ pub use lines::{Front, MAX_LINE, front_of};
 pub use replies::{Counts, put_info, put_open, put_reply, put_table};
 pub use schedule::{MOST_DELAY, Schedule, Turn};
 pub use shortening::{LEAST_RECORD, Shortening};
-pub use times::{Times, time_of};
+pub use times::{Times, held_back, time_of};
 pub use watches::{Due, Watches};
 pub use words::{Wish, read_wish};

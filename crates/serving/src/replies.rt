@@ -9,6 +9,10 @@ use xid::{Floor, Refusal, Tx};
 pub struct Counts {
     /// How many bytes the record has.
     pub record: u64,
+    /// How many bytes of memory the process has.
+    pub memory: u64,
+    /// Of how many transactions something is kept.
+    pub kept: u64,
     /// How many groups of inputs were handled.
     pub groups: u64,
     /// How many of these changed the record: as many appends there were.
@@ -73,18 +77,31 @@ fn put_count(out: &mut Vec<u8>, name: &[u8], count: u64) -> Result<(), Refusal> 
     put_number(out, count)
 }
 
-/// Puts the line that says how a node is: `info`, its name, each count under its name, and `floor` with its floor, if it has one. The only
-/// refusal is `NoMemory`.
+/// A place in the order of names under its name, after a space, if there is one.
+fn put_place(out: &mut Vec<u8>, name: &[u8], place: &Option<Floor>) -> Result<(), Refusal> {
+    let Some(place) = place else {
+        return Ok(());
+    };
+    out.push(b' ')?;
+    out.extend_from_slice(name)?;
+    put_floor(out, place)
+}
+
+/// Puts the line that says how a node is: `info`, its name, each count under its name, `floor` with its floor, if it has one, and `rise`
+/// with the place to which that may rise, if it is said. The only refusal is `NoMemory`.
 pub fn put_info(
     alloc: Global,
     out: &mut Vec<u8>,
     who: NodeId,
     counts: &Counts,
     floor: &Option<Floor>,
+    rise: &Option<Floor>,
 ) -> Result<(), Refusal> {
     let mut words = Vec::from_slice(alloc, b" info")?;
     put_node(&mut words, who)?;
     put_count(&mut words, b"record", counts.record)?;
+    put_count(&mut words, b"memory", counts.memory)?;
+    put_count(&mut words, b"kept", counts.kept)?;
     put_count(&mut words, b"groups", counts.groups)?;
     put_count(&mut words, b"appends", counts.appends)?;
     put_count(&mut words, b"in", counts.taken)?;
@@ -93,9 +110,7 @@ pub fn put_info(
     put_count(&mut words, b"port-faults", counts.port_faults)?;
     put_count(&mut words, b"record-faults", counts.record_faults)?;
     put_count(&mut words, b"clients", counts.clients)?;
-    if let Some(floor) = floor {
-        words.extend_from_slice(b" floor")?;
-        put_floor(&mut words, floor)?;
-    }
+    put_place(&mut words, b"floor", floor)?;
+    put_place(&mut words, b"rise", rise)?;
     put_words(out, &words)
 }
