@@ -3,13 +3,13 @@
  *
  *     clients KIND SECONDS MOST SERIAL WORDS CLIENT...
  *
- * KIND is `nodes`, `servers`, `logged` (the servers, and a log of decisions with a sync for each), `ended` (the servers, ended by the nodes)
- * or `timed` (as `nodes`, with names that begin with their time; whatever is answered, it goes on until a node is gone, and then prints how
- * many were committed and how many not, and nothing else). WORDS are the two servers' connection strings and the log's name, parted by `|`, or `-`. A CLIENT is its number, and with nodes
- * the open sockets of r0, r1 and l0, as 7=4,5,6: connected, and let in where that wants a proof. The program says `ready` once the servers
- * are connected, begins at the first byte of its input, and goes on for so many seconds or until each client has made MOST transactions.
- * Then it prints a line for each, its microseconds to the outcome and to both managers' end, and last the seconds that it ran, and those of
- * a processor that it took meanwhile. */
+ * KIND is `nodes`, `servers`, `logged` (the servers, and a log of decisions with a sync for each), `ended` (the servers, ended by the
+ * nodes) or `timed` (as `nodes`, with names that begin with their time; whatever is answered, it goes on until a node is gone, and then
+ * prints how many were committed and how many not, and nothing else). WORDS are the two servers' connection strings and the log's name,
+ * parted by `|`, or `-`. A CLIENT is its number, and with nodes the open sockets of r0, r1 and l0, as 7=4,5,6: connected, and let in where
+ * that wants a proof. The program says `ready` once the servers are connected, begins at the first byte of its input, and goes on for so
+ * many seconds or until each client has made MOST transactions. Then it prints a line for each, its microseconds to the outcome and to both
+ * managers' end, and last the seconds that it ran, and those of a processor that it took meanwhile. */
 #include <errno.h>
 #include <fcntl.h>
 #include <libpq-fe.h>

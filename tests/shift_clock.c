@@ -1,5 +1,5 @@
-/* Loaded before the C library: the time of day of a process is off by as many seconds as the file PCOMMIT_CLOCK says, which is read anew each
- * time. */
+/* Loaded before the C library: the time of day of a process is off by as many seconds as the file PCOMMIT_CLOCK says, which is read anew
+ * each time. */
 #define _GNU_SOURCE
 #include <dlfcn.h>
 #include <fcntl.h>

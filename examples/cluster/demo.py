@@ -24,13 +24,14 @@ def say(words=''):
 
 
 class Host:
-    """The seven processes of one-host.toml, over a folder."""
+    """The seven processes of one-host.toml, over a folder; `beside` has its managers speak for databases."""
 
-    def __init__(self, program, folder):
+    def __init__(self, program, folder, beside=False):
         self.program, self.folder, self.running = program, folder, {}
         self.file = os.path.join(folder, 'one-host.toml')
         with open(os.path.join(HERE, 'one-host.toml')) as example, open(self.file, 'w') as own:
-            own.write(example.read().replace('keep = 600000', 'keep = %d' % KEEP).replace('ahead = 60000', 'ahead = %d' % AHEAD))
+            said = example.read().replace('keep = 600000', 'keep = %d' % KEEP).replace('ahead = 60000', 'ahead = %d' % AHEAD)
+            own.write(said.replace('# beside = true', 'beside = true') if beside else said)
         subprocess.run([os.path.join(HERE, 'keys.sh'), folder], check=True, stdout=subprocess.DEVNULL)
 
     def start(self, name):
@@ -161,8 +162,7 @@ def third(host):
     say('3. What is over is forgotten')
     say('   so that nobody runs full, a transaction is kept for a while only: ten minutes by one-host.toml, two seconds here')
     cluster = Cluster(host.file)
-    with cluster.begin() as tx:
-        move(tx, 2)
+    tx = cluster.run(lambda tx: move(tx, 2) or tx)
     say('   a transaction begins with its time: %s' % tx.name)
     say('   its outcome is known as long as it is kept: %s' % cluster.settle(tx.name))
     count = go_on(cluster, 2)

@@ -189,10 +189,16 @@ class Cluster:
                     raise
             time.sleep(min(0.001 * 2 ** attempt, 0.25) * (0.5 + os.urandom(1)[0] / 256))
 
+    def is_recent(self, tx):
+        """Whether a transaction is so young, by the time in its name, that its outcome is kept still."""
+        names = self.file.get('names', {})
+        time_of = int.from_bytes(rank(tx)[1][:6], 'big')
+        return bool(names.get('timed')) and time_of > time.time() * 1000 - names.get('keep', 600000)
+
     def settle(self, tx, most=None):
         """The outcome of a transaction that a leader is asked to commit, and another where one doesn't answer. Gone where no leader
         could be reached at all, so that none was asked; Unknown where none answered an outcome in time; Forgotten where all that answered
-        have forgotten it."""
+        have forgotten it: of one that is kept still all leaders have to say so, since one that was replaced just now says so of all."""
         until = time.monotonic() + (self.most if most is None else most)
         was_asked, reason = False, 'the file names no leader with a place for clients'
         while True:
@@ -212,7 +218,7 @@ class Cluster:
                     return answer
                 said.append(answer)
             # one leader may have forgotten what another still knows
-            if said and set(said) == {FORGOTTEN}:
+            if said and set(said) == {FORGOTTEN} and (len(said) == len(self.leaders) or not self.is_recent(tx)):
                 raise Forgotten(tx)
             if time.monotonic() > until:
                 break
@@ -337,8 +343,8 @@ class Transaction:
             raise Aborted('%s is aborted' % self.name)
 
 
-def place(name):
-    """Where a place, FORMAT:GTRID, or a transaction stands in the order of names: what compares so."""
+def rank(name):
+    """What compares as a transaction, or a place FORMAT:GTRID, stands in the order of names."""
     number, gtrid = name.split('/')[0].split(':')[:2]
     return int(number), bytes.fromhex(gtrid)
 

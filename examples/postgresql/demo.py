@@ -31,7 +31,7 @@ def host_of(program, folder):
     spec = importlib.util.spec_from_file_location('cluster_demo', path)
     module = importlib.util.module_from_spec(spec)
     spec.loader.exec_module(module)
-    return module.Host(program, folder)
+    return module.Host(program, folder, beside=True)
 
 
 def say(words=''):

@@ -7,7 +7,7 @@ Every while it lists what is prepared at the server under our names, and asks th
     prepared   nothing: the manager asks leaders by itself
     working    nothing at first; once it has been prepared for longer than GRACE, its application is taken for gone, and a leader is
                asked to decide (`timeout`): committed if all have voted so after all, else aborted
-    refused 17 it says so, and nothing else: the manager's floor was raised above it, and its outcome is gone there
+    refused 17 it says so, and nothing else: its name stands below the manager's floor
 Where names are timed it also raises the floor of a manager with `beside = true`: to where that may rise by its clock and its branches, but
 not above the oldest name that is prepared here.
 It keeps nothing, so it may be started and killed at any time. It ends nothing whose outcome it wasn't told, and touches no other names."""
@@ -18,7 +18,7 @@ import time
 import psycopg2
 
 from pay import PREFIX, end_prepared, tx_of
-from pcommit_client import FINAL, FORGOTTEN, Cluster, Gone, Refused, place
+from pcommit_client import FINAL, FORGOTTEN, Cluster, Gone, Refused, rank
 
 EVERY = float(os.environ.get('PCOMMIT_EVERY', '0.1'))
 GRACE = float(os.environ.get('PCOMMIT_GRACE', '5'))
@@ -52,15 +52,15 @@ class Resolver:
         """To where the manager's floor may rise, if it is time to raise it. It begins no branch below that any more."""
         if self.rises is None or time.monotonic() < self.next_rise:
             return None
-        self.next_rise = time.monotonic() + self.rises
         return self.cluster.info(self.node).get('rise')
 
     def raise_floor(self, to, names):
-        """Raises the manager's floor to a place, but not above what is prepared here. Who prepares here has begun a branch at the manager
-        before, and ends it after, so what is below the place and was prepared is among these names, which were listed after the place
-        was said; or its branch is there, and the manager refuses."""
+        """Raises the manager's floor to a place, but not above what is prepared here, over the connection over which the place was said.
+        Who prepares here has begun a branch at the manager before, and ends it after, so what has voted below the place and is prepared is
+        among these names, which were listed after the place was said."""
         try:
-            self.cluster.raise_floor(self.rm, min([to, *(name.split('/')[0] for name in names)], key=place))
+            self.cluster.raise_floor(self.rm, min([to, *(name.split('/')[0] for name in names)], key=rank))
+            self.next_rise = time.monotonic() + self.rises
         except Refused as error:
             self.say(str(error))
 
@@ -74,7 +74,6 @@ class Resolver:
             tx = tx_of(self.rm, gid)
             if tx is None:
                 continue
-            names.append(tx)
             view = self.cluster.ask(self.node, 'view %s %s' % (self.node, tx))[0]
             if view in FINAL:
                 end_prepared(cursor, gid, view)
@@ -83,6 +82,8 @@ class Resolver:
                 self.ask_leaders(tx)
             elif view == FORGOTTEN:
                 forgotten.append(tx)
+            if view != FORGOTTEN:
+                names.append(tx)
         self.say('prepared here and forgotten by their manager; see how they ended elsewhere, and end them by hand: ' + ' '.join(forgotten)
                  if forgotten else None)
         if to:

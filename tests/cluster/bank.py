@@ -22,7 +22,7 @@ import time
 
 from processes import Processes
 sys.path.append(os.path.join(os.path.dirname(os.path.abspath(__file__)), '..'))
-from pcommit_client import Aborted, Cluster, Conflict, Gone, Refused, Unknown
+from pcommit_client import Aborted, Cluster, Conflict, Forgotten, Gone, Refused, Unknown
 from soak_check import frames, manager
 
 # at each manager: a sum reads all of them in one branch, which touches 64 keys at most
@@ -70,7 +70,7 @@ class Busy:
                 continue
             except Conflict:
                 self.conflicts += 1
-            except Unknown:
+            except (Unknown, Forgotten):
                 self.note('unknown')
             except Aborted:
                 self.note('aborted')
@@ -220,7 +220,7 @@ class Bank:
             if one.outcome == 'unknown':
                 try:
                     self.settled[one.tx] = client.settle(one.tx)
-                except (Gone, Unknown) as error:
+                except (Gone, Unknown, Forgotten) as error:
                     self.fault('%s: %s' % (one.tx, error))
         self.last = {}
         try:

@@ -7,8 +7,8 @@ import sys
 import tempfile
 import time
 
-from floors import KEEP, Floors, named, until
-from processes import Processes, preload
+from floors import KEEP, Floors, named
+from processes import Processes, preload, until
 
 from pcommit_client import Refused
 
@@ -25,8 +25,10 @@ class Shifted(Processes):
         super().__init__(program, folder, env={'LD_PRELOAD': preload(folder, 'shift_clock')}, **words)
 
     def shift(self, name, seconds):
-        with open(os.path.join(self.folder, name + '.clock'), 'w') as clock:
+        path = os.path.join(self.folder, name + '.clock')
+        with open(path + '.new', 'w') as clock:
             clock.write('%d' % seconds)
+        os.rename(path + '.new', path)
 
     def spawn(self, name):
         self.env['PCOMMIT_CLOCK'] = os.path.join(self.folder, name + '.clock')
@@ -43,7 +45,7 @@ def go_on(own, seconds):
 
 def floors_follow_the_clock_that_is_behind(own):
     is_behind = go_on(own, 3 * KEEP / 1000) > 0
-    floors = own.floors()
+    floors = {name: floor or '' for name, floor in own.floors().items()}
     late = '1:' + named(-HOUR * 1000)
     # what a manager whose clock is ahead forgets it tells by the latest name
     return is_behind and late < floors['r0'] < '1:' + named(0) and all(floors[name] < late for name in floors if name != 'r0')
@@ -54,7 +56,7 @@ def they_catch_up_once_it_is_right(own):
 
     def is_so():
         own.commit(5)
-        return min(own.floors().values()) > '1:' + named(-4 * KEEP)
+        return min(floor or '' for floor in own.floors().values()) > '1:' + named(-4 * KEEP)
     return until(is_so)
 
 

@@ -7,31 +7,21 @@ import sys
 import tempfile
 import time
 
-from processes import Processes
+from processes import Processes, until
 
 import pcommit_client
 from pcommit_client import Aborted, Forgotten, Refused
 
-# how many seconds a notice takes to be heard, or a branch to end, at most
-SOON = 10.0
+# for how many seconds a node is waited for, or for a notice to be heard, or a branch to end
+SOON = 20.0
 # a manager tells its floor again after a minute
 AGAIN = 75.0
 # the order of names among these
 FORMAT = '1:%032x'
 
 
-def until(holds, most=SOON):
-    """Whether something holds before long."""
-    end = time.monotonic() + most
-    while not holds():
-        if time.monotonic() > end:
-            return False
-        time.sleep(0.05)
-    return True
-
-
-def place(tx):
-    """Where a transaction stands in the order of names, as a floor is said."""
+def floor_at(tx):
+    """The floor at which a transaction stands, as it is said."""
     return tx.split('/')[0]
 
 
@@ -96,7 +86,7 @@ def nobody_has_a_floor_at_first(own):
 
 
 def one_manager_raises_its_own_alone(own):
-    own.between = place(own.names[own.count // 2])
+    own.between = floor_at(own.names[own.count // 2])
     is_done = own.rise(0, own.between)
     time.sleep(1)
     floors = own.floors()
@@ -105,7 +95,7 @@ def one_manager_raises_its_own_alone(own):
 
 
 def all_follow_the_least_of_both(own):
-    higher = place(own.names[-1])
+    higher = floor_at(own.names[-1])
     is_done = own.rise(1, higher) and own.followed()
     floors, sizes = own.floors(), own.sizes()
     are_shorter = all(3 * sizes[name] < 2 * size for name, size in own.full.items() if size > 9000)
@@ -119,7 +109,7 @@ def what_is_below_is_over(own):
 
 
 def what_is_below_is_not_begun(own):
-    xid, first = place(own.names[0]) + ':00', own.names[0]
+    xid, first = floor_at(own.names[0]) + ':00', own.names[0]
     answers = own.client.ask('r0', 'start r0 ' + xid, 'put r0 %s 6b 31' % xid, 'end r0 ' + xid, 'rollback r0 ' + xid)
     asked = own.client.ask('l0', 'commit l0 ' + first, 'await l0 ' + first, 'open l0')
     return answers == ['-8', '-4', '-4', '-4'] and asked == ['refused 17', 'refused 17', 'open']
@@ -172,7 +162,7 @@ def a_process_goes_on_from_its_floor(own):
 def who_was_away_is_told_again(own):
     own.cluster.kill('a0')
     own.client.forget('a0')
-    floor = place(own.commit(1)[0])
+    floor = floor_at(own.commit(1)[0])
     are_done = [own.rise(rm, floor) for rm in range(2)]
     own.cluster.start('a0')
     return all(are_done) and own.followed(AGAIN) and own.floors()['a0'] == floor
@@ -357,7 +347,7 @@ def it_begins_nothing_below_where_it_said_it_may_rise(own):
     # the branch that is there holds it back
     is_held = not until(is_below, 3 * KEEP / 1000)
     own.client.ask('r1', 'end r1 1:%s:61' % begun, 'rollback r1 1:%s:61' % begun)
-    return before == ['0'] and is_held and until(is_below) and own.client.ask('r1', 'start r1 1:%s:62' % begun) == ['refused 19']
+    return before == ['0'] and is_held and until(is_below) and own.client.ask('r1', 'start r1 1:%s:62' % begun) == ['-8']
 
 
 TIMED = (floors_follow_the_clock, an_old_outcome_is_forgotten, an_open_branch_holds_floors_back, one_that_is_late_at_a_manager_is_aborted,
@@ -375,7 +365,7 @@ def run(tests, program, count, **words):
         for test in tests:
             if not test(own):
                 failed += 1
-                print('floors: FAILED %s: floors %s, records %s' % (test.__name__.replace('_', ' '), own.floors(), own.sizes()))
+                print('floors: FAILED %s: floors %s, records %s' % (test.__name__.refloor_at('_', ' '), own.floors(), own.sizes()))
         own.client.close()
     shutil.rmtree(folder)
     return failed

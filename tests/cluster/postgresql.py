@@ -16,7 +16,7 @@ try:
 except ImportError:
     psycopg2 = None
 
-from processes import HERE, Processes
+from processes import HERE, Processes, until
 
 EXAMPLES = os.path.join(HERE, '..', '..', 'examples', 'postgresql')
 sys.path.append(EXAMPLES)
@@ -33,9 +33,15 @@ class Place:
     def __init__(self, program, folder, **words):
         from servers import Servers
         self.cluster = Processes(program, os.path.join(folder, 'cluster'), **words)
-        self.servers = Servers(folder, accounts=4)
+        self.servers, self.resolvers = Servers(folder, accounts=4), []
         self.dsns = [self.servers[0].dsn, self.servers[1].dsn]
-        self.resolvers = []
+        try:
+            self.begin()
+        except BaseException:
+            self.stop()
+            raise
+
+    def begin(self):
         self.cluster.start()
         self.cluster.watch()
         self.start_resolvers()
@@ -117,16 +123,6 @@ def cell(place, killed, step):
     return told if back else 'the step was never reached'
 
 
-def until(holds, most=20.0):
-    """Whether something holds before long."""
-    end = time.monotonic() + most
-    while not holds():
-        if time.monotonic() > end:
-            return False
-        time.sleep(0.05)
-    return True
-
-
 class Timed:
     """A place where names are timed and resolvers raise floors, and an application that is gone once its transaction is decided."""
 
@@ -137,12 +133,12 @@ class Timed:
     def pay(self, account, step=lambda name: None):
         """A payment between accounts of this number; its transaction."""
         from pay import Payer
-        from pcommit_client import Aborted, Cluster
+        from pcommit_client import Aborted, Cluster, Unknown
         while True:
             payer = Payer(Cluster(self.place.cluster.file, patience=10), self.place.dsns, step)
             try:
                 return payer.pay(account, account, 5)
-            except Aborted:
+            except (Aborted, Unknown):
                 time.sleep(0.05)
             finally:
                 payer.close()

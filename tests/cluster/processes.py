@@ -50,6 +50,16 @@ def preload(folder, name='fail_writes'):
     return library
 
 
+def until(holds, most=20.0):
+    """Whether something holds before long, in seconds."""
+    end = time.monotonic() + most
+    while not holds():
+        if time.monotonic() > end:
+            return False
+        time.sleep(0.05)
+    return True
+
+
 class Processes:
     """A cluster in a folder: its files, its processes, and who starts them again when they go down with status 3.
 

@@ -8,19 +8,22 @@ import sys
 import time
 
 from bank import finish, over
-from floors import named, until
+from floors import SOON, named
+from processes import until
 
 from pcommit_client import Cluster
 
 # how many milliseconds names may be ahead of the clock: so long a node that was replaced takes no part
 AHEAD = 1000
+# for how many seconds nothing from before was seen, when nothing comes of it any more
+QUIET = 3.0
 
 
 def replace(cluster, client, name):
     """Has a blank node stand in for one that was killed, whose disk is emptied. Whether that was done, and it takes part then."""
     cluster.lose(name)
     words = [cluster.program, '--replace', *cluster.command(name)[1:]]
-    if subprocess.run(words, stdout=subprocess.DEVNULL).returncode:
+    if subprocess.run(words, stdout=subprocess.DEVNULL, timeout=60).returncode:
         return False
     client.forget(name)
     cluster.start(name)
@@ -28,15 +31,31 @@ def replace(cluster, client, name):
     return until(lambda: '1:' + named(0) > floor)
 
 
+def wait_for_names_before(bank):
+    """Waits until nothing is open whose name is from before: only then may a second one be lost, since both know nothing of it."""
+    before, end = int(time.time() * 1000), time.monotonic() + 60
+    quiet = time.monotonic() + QUIET
+    while time.monotonic() < min(quiet, end):
+        if any(time_of(name) < before for _rm, name in bank.open_votes()):
+            quiet = time.monotonic() + QUIET
+        time.sleep(0.05)
+
+
+def time_of(name):
+    """The time of a transaction, as a record spells that: behind four bytes of a format and one of a length."""
+    return int.from_bytes(name[5:11], 'big')
+
+
 def main(program, times=2, seed=1):
     times, chance, found = int(times), random.Random(int(seed)), {'replaced': 0, 'went on': 0, 'leaders': 0}
 
     def drive(cluster, bank, _others):
-        client, lost = Cluster(cluster.file), None
+        client, lost = Cluster(cluster.file, patience=SOON), None
         for number in range(times):
             lost = lost or chance.choice(('a0', 'a1', 'a2'))
             cluster.kill(lost)
             found['replaced'] += replace(cluster, client, lost)
+            wait_for_names_before(bank)
             lost = chance.choice([name for name in ('a0', 'a1', 'a2') if name != lost])
             cluster.kill(lost)
             before = bank.counts['move'].value
@@ -45,6 +64,7 @@ def main(program, times=2, seed=1):
                 leader = chance.choice(('l0', 'l1'))
                 cluster.kill(leader)
                 found['leaders'] += replace(cluster, client, leader)
+                wait_for_names_before(bank)
             bank.open_votes()
         replace(cluster, client, lost)
         bank.until(20 * times, 1)

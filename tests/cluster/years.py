@@ -3,7 +3,8 @@
 PROGRAM [TRANSACTIONS [SEED]]. Clients of bench/clients.c do most of them, as fast as they can; others move money between accounts at both
 managers, and read the sum. What is checked:
   - each sum that was read, and the sum of the last tables, is the first sum
-  - what each process has in memory, and its record, is level after the first tenth: the mean of each tenth is within a fifth of that of all
+  - what each process has in memory, and its record, is level after the first tenth: the mean of each tenth is within a fifth of
+    that of all, and a megabyte
   - at the end each process listens within 0.2 s of its start
 Needs Debian's libpq-dev, which the clients are built with; without it nothing is run, and that is said."""
 import collections
@@ -147,8 +148,8 @@ class Levels:
             self.found[tenth][name, 'record'].append(record)
 
     def means(self, *what):
-        """Of the tenths after the first."""
-        return [sum(tenth[what]) / max(len(tenth[what]), 1) for tenth in self.found[1:]]
+        """Of the tenths after the first, of which any was seen."""
+        return [sum(tenth[what]) / len(tenth[what]) for tenth in self.found[1:] if tenth[what]] or [0]
 
     def most(self, *what):
         return max(max(tenth[what], default=0) for tenth in self.found)
@@ -181,7 +182,7 @@ def live(cluster, hasty, movers, count, chance):
     killer = threading.Thread(target=kill_along, args=(cluster, chance, killed, stopping), daemon=True)
     for one in (*movers, killer):
         one.start()
-    while hasty.count < count:
+    while hasty.count < count and killer.is_alive():
         hasty.run(2)
         levels.note(min(9, 10 * hasty.count // count))
     stopping.set()
@@ -236,9 +237,9 @@ def main(program, count=100000, seed=1):
         print('years: WRONG: %s' % (one,))
     shutil.rmtree(folder)
     finish('years', [('nothing is wrong', not wrong), ('the sum is right', last == 2 * ACCOUNTS * FIRST),
-                     ('most were committed', 10 * hasty.committed > 9 * hasty.count), ('money was moved', moves > 100 and sums > 3),
-                     ('processes were killed', sum(killed.values()) > count // 200000), ('levels stay', not levels.apart()),
-                     ('starts are quick', max(took.values()) < SOON)])
+                     ('it came to its end', hasty.count >= count), ('most were committed', 10 * hasty.committed > 9 * hasty.count),
+                     ('money was moved', moves > 100 and sums > 3), ('processes were killed', sum(killed.values()) > count // 200000),
+                     ('levels stay', not levels.apart()), ('starts are quick', max(took.values()) < SOON)])
 
 
 if __name__ == '__main__':

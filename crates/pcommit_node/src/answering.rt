@@ -4,7 +4,7 @@ use crate::client::Stage;
 use crate::desk::Desk;
 use crate::failure::Failure;
 use crate::group::{Item, Origin, Work};
-use crate::life::{rise_of, standing};
+use crate::life::{let_by_branches, standing};
 use crate::socket::Counting;
 use node_core::{Input, Output};
 use port::{Member, Port};
@@ -134,7 +134,7 @@ fn answer_input(desk: &mut Desk, item: &Item, out: &Output, now: Instant) -> Res
             note_request(desk, item.origin, request, &out.reply, now)?;
             reply(desk, item.origin, &out.reply)
         }
-        Work::Say(_) | Work::Untimely => Ok(()),
+        Work::Say(_) | Work::Untimely | Work::Late => Ok(()),
     }
 }
 
@@ -221,19 +221,13 @@ fn raise_for<P: Port>(
     reply(desk, origin, &answer)
 }
 
-/// To where the floor may rise of a resource manager that speaks for a database: that is said to who knows what the database has prepared,
-/// and no branch is begun below that place any more.
-fn say_rise(node: &Member<FileRecord>, desk: &mut Desk) -> Result<Option<Floor>, Failure> {
-    if !desk.is_beside {
-        return Ok(None);
+/// To where the floor may rise of a resource manager that speaks for a database: that is said to who knows what the database has prepared.
+/// It isn't above the place below which no branch is begun any more, nor above the branches that are there.
+fn say_rise(node: &Member<FileRecord>, desk: &Desk) -> Result<Option<Floor>, Failure> {
+    match desk.promised {
+        Some(promised) => Ok(Some(let_by_branches(node, desk, promised)?)),
+        None => Ok(None),
     }
-    let Some((_, floor)) = rise_of(node, desk)? else {
-        return Ok(None);
-    };
-    if floor.is_higher_than(&desk.said_rise) {
-        desk.said_rise = Some(floor);
-    }
-    Ok(Some(floor))
 }
 
 /// What is wished beside inputs is answered.
@@ -329,6 +323,7 @@ pub(crate) fn answer_all<P: Port + Counting>(
         match &item.work {
             Work::Say(wish) => say(node, port, desk, item.origin, wish, now)?,
             Work::Untimely => put_text(desk, item.origin, UNTIMELY)?,
+            Work::Late => reply(desk, item.origin, &Answer::Code(XaCode::DupId))?,
             _ => {
                 if let Some(out) = outs.get(place) {
                     answer_input(desk, item, out, now)?;

@@ -43,8 +43,8 @@ pub(crate) struct Desk {
     pub(crate) latest: u64,
     /// Whether it speaks for a database beside it, and so raises no floor by itself.
     pub(crate) is_beside: bool,
-    /// Below which place no branch is begun any more: it was said that the floor may rise to there.
-    pub(crate) said_rise: Option<Floor>,
+    /// Below which place no branch is begun any more, where it was asked to where the floor may rise: not above that.
+    pub(crate) promised: Option<Floor>,
     /// When its floor may rise by itself next.
     pub(crate) next_rise: Instant,
     /// When a resource manager tells its floor next.
@@ -129,7 +129,12 @@ impl Desk {
             let Some(work) = hear(self.alloc, self.who, &self.door.lock, client, line)? else {
                 continue;
             };
-            let work = timely(&self.times, self.clock, &self.said_rise, work);
+            let work = timely(&self.times, self.clock, &self.promised, work);
+            if self.is_beside && matches!(&work, Work::Say(Wish::Info)) {
+                // at once: what comes behind it in this group is held to it
+                let wanted = wanted_floor(&self.times, self.clock, self.latest);
+                self.promised = higher(self.promised, wanted);
+            }
             let is_last = holds_up(&work);
             let number = client.number;
             items.push(Item {
@@ -236,6 +241,22 @@ fn holds_up(work: &Work) -> bool {
     }
 }
 
+/// To where a floor is to rise by the clock and the latest name, where names stand in time.
+pub(crate) fn wanted_floor(times: &Option<Times>, clock: u64, latest: u64) -> Option<Floor> {
+    match times {
+        Some(times) => times.floor(clock, latest),
+        None => None,
+    }
+}
+
+/// The higher of two places; none is the lowest.
+fn higher(one: Option<Floor>, other: Option<Floor>) -> Option<Floor> {
+    match other {
+        Some(place) if place.is_higher_than(&one) => other,
+        _ => one,
+    }
+}
+
 /// Whether a name stands below a place, if there is one.
 fn is_below(place: &Option<Floor>, xid: &Xid) -> bool {
     match place {
@@ -244,20 +265,27 @@ fn is_below(place: &Option<Floor>, xid: &Xid) -> bool {
     }
 }
 
-/// What is to be done, but that no branch is started whose name isn't of its time, or stands below the place to which the floor may rise.
-fn timely(times: &Option<Times>, clock: u64, said_rise: &Option<Floor>, work: Work) -> Work {
-    let Some(times) = times else {
-        return work;
-    };
-    match &work {
+/// What is to be done, but that no branch is started whose name isn't of its time, or stands below the place that was promised.
+fn timely(times: &Option<Times>, clock: u64, promised: &Option<Floor>, work: Work) -> Work {
+    let (
+        Some(times),
         Work::Ask(
             Request::Call {
                 xid,
                 action: Action::Start,
             },
-        ) if !times.is_timely(xid, clock) || is_below(said_rise, xid) => Work::Untimely,
-        _ => work,
+        ),
+    ) = (times, &work)
+    else {
+        return work;
+    };
+    if !times.is_timely(xid, clock) {
+        return Work::Untimely;
     }
+    if is_below(promised, xid) {
+        return Work::Late;
+    }
+    work
 }
 
 /// What is to be done for a line of a client, if anything is.

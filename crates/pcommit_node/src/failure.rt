@@ -70,7 +70,7 @@ pub(crate) enum Failure {
         name: String,
     },
     /// The record is gone that the folder's node has had.
-    #[error("{file}: the record is gone, which this folder's node has had: do not start it with none: see 'A record is gone' in docs/DEPLOY.md")]
+    #[error("{file}: the record is gone that stood here: do not start with none: see 'A record is gone' in docs/DEPLOY.md")]
     NoRecord {
         file: String,
     },

@@ -31,6 +31,8 @@ pub(crate) enum Work {
     Say(Wish),
     /// A start is refused, of a name that isn't of its time.
     Untimely,
+    /// A start is answered as below the floor, which may rise above its name.
+    Late,
 }
 
 /// A piece of work, and for whom.
@@ -50,7 +52,7 @@ pub(crate) fn inputs_of<'a>(
         match &item.work {
             Work::Take(bytes) => inputs.push(Input::Received(bytes.as_slice()))?,
             Work::Ask(request) => inputs.push(Input::Asked(request))?,
-            Work::Say(_) | Work::Untimely => {}
+            Work::Say(_) | Work::Untimely | Work::Late => {}
         }
     }
     Ok(inputs)

@@ -4,7 +4,7 @@ ghost use Rattle.std.specs.Prelude.{◌≡◌, OnOk};
 ghost use Rattle.serving.specs.Shortenings.{IsDue, IsMarked};
 
 use crate::answering::{answer_all, answer_awaited, raise};
-use crate::desk::Desk;
+use crate::desk::{Desk, wanted_floor};
 use crate::failure::Failure;
 use crate::group::{Item, MOST_DATAGRAMS, MOST_ITEMS, Origin, Work, inputs_of};
 use crate::replacing::place_text;
@@ -209,22 +209,14 @@ fn do_group<P: Port + Counting>(
     answer_all(node, port, desk, &items, outs, now)
 }
 
-/// To which place the floor of a resource manager whose names stand in time would rise by the clock, and to which its branches let it.
-pub(crate) fn rise_of(
+/// How far a resource manager's branches let its floor rise that is to rise to a place.
+pub(crate) fn let_by_branches(
     node: &Member<FileRecord>,
     desk: &Desk,
-) -> Result<Option<(Floor, Floor)>, Refusal> {
-    let Some(times) = desk.times else {
-        return Ok(None);
-    };
-    let Some(wanted) = times.floor(desk.clock, desk.latest) else {
-        return Ok(None);
-    };
+    wanted: Floor,
+) -> Result<Floor, Refusal> {
     let prepared = node.open_transactions()?;
-    Ok(Some((
-        wanted,
-        held_back(wanted, &desk.branches, prepared.as_slice()),
-    )))
+    Ok(held_back(wanted, &desk.branches, prepared.as_slice()))
 }
 
 /// The floor of a resource manager whose names stand in time rises by itself, if it is time.
@@ -239,9 +231,10 @@ fn rise<P: Port>(
     if !desk.may_rise(now) {
         return Ok(());
     }
-    let Some((wanted, floor)) = rise_of(node, desk)? else {
+    let Some(wanted) = wanted_floor(&desk.times, desk.clock, desk.latest) else {
         return Ok(());
     };
+    let floor = let_by_branches(node, desk, wanted)?;
     if wanted.is_higher_than(&Some(floor)) {
         let place = place_text(desk.alloc, &floor)?;
         warn!(desk.door.log; "the floor stays at or below {place}: a branch of that name is there");

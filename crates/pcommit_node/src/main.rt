@@ -27,7 +27,7 @@ use crate::life::live;
 use crate::logging::logger;
 use crate::proving::{Lock, make_lock};
 use crate::replacing::replace;
-use crate::setup::{Setup, claim, is_claimed, len_if_there, open_node, owned, record_path, set_up};
+use crate::setup::{Setup, claim, is_claimed, is_there, open_node, owned, record_path, set_up};
 use crate::socket::NodeSocket;
 use cluster_file::KEY;
 use hmac::Key;
@@ -183,7 +183,7 @@ fn make_desk(rt: HostRuntime, setup: &Setup, door: Door) -> Result<Desk, Failure
         next_look: Instant::now(&rt)?,
         times: times_of(setup),
         is_beside: setup.place.beside,
-        said_rise: None,
+        promised: None,
         clock: 0,
         latest: 0,
         next_rise: Instant::now(&rt)?,
@@ -249,13 +249,12 @@ fn lead(
 
 /// That the record is there which the folder's node has had.
 fn require_record(rt: HostRuntime, path: &str) -> Result<(), Failure> {
-    match len_if_there(rt, path) {
-        Ok(Some(_)) => Ok(()),
-        Ok(None) => Err(Failure::NoRecord {
+    if !is_there(rt, path)? {
+        return Err(Failure::NoRecord {
             file: owned(rt.alloc(), path)?,
-        }),
-        Err(failure) => Err(failure),
+        });
     }
+    Ok(())
 }
 
 /// A node of a cluster lives.

@@ -3,13 +3,15 @@
 use crate::command::{Options, Replacement};
 use crate::failure::Failure;
 use crate::life::clock;
-use crate::setup::{Setup, claim, is_claimed, len_if_there, open_record, owned, todo_of};
+use crate::setup::{Setup, claim, folder_fault, is_claimed, is_there, open_record, owned, todo_of};
 use floored::Floored;
 use net_script::{Command, put_floor, read_command};
 use protocol::{Event, NodeId};
 use serving::Times;
 use stable_record::FileRecord;
 use std::alloc::Global;
+use std::fs;
+use std::io::{self, ErrorKind};
 use xid::{Floor, Refusal};
 
 /// A place in the order of names, as it is written.
@@ -62,14 +64,21 @@ fn place_wanted(
     }
 }
 
-/// That no record stands at a path. One in which nothing is stored is none.
+/// That no record stands at a path.
 fn refuse_record(rt: HostRuntime, path: &str) -> Result<(), Failure> {
-    match len_if_there(rt, path) {
-        Ok(None | Some(0)) => Ok(()),
-        Ok(Some(_)) => Err(Failure::HasRecord {
+    if is_there(rt, path)? {
+        return Err(Failure::HasRecord {
             file: owned(rt.alloc(), path)?,
-        }),
-        Err(failure) => Err(failure),
+        });
+    }
+    Ok(())
+}
+
+/// Takes away what another try has left at a path.
+fn remove_if_there(rt: HostRuntime, path: &str) -> io::Result<()> {
+    match fs::remove_file(&rt, path) {
+        Err(error) if error.kind() != ErrorKind::NotFound => Err(error),
+        _ => Ok(()),
     }
 }
 
@@ -97,6 +106,20 @@ fn stand_in(rt: HostRuntime, setup: &Setup, path: &str, floor: &Floor) -> Result
     }
 }
 
+/// The blank record is made beside its path, and then put there, so that none is ever there without its place. Until then the node doesn't
+/// start, and another try begins anew.
+fn make_whole(rt: HostRuntime, setup: &Setup, path: &str, floor: &Floor) -> Result<(), Failure> {
+    let aside = format!(in rt.alloc(); "{path}.blank")?;
+    if let Err(error) = remove_if_there(rt, aside.as_str()) {
+        return Err(folder_fault(aside, error));
+    }
+    stand_in(rt, setup, aside.as_str(), floor)?;
+    match fs::rename(&rt, aside.as_str(), path) {
+        Ok(()) => Ok(()),
+        Err(error) => Err(folder_fault(aside, error)),
+    }
+}
+
 /// A blank record is made, of an acceptor or a leader that stands in for a lost one and takes part from a place on in the order of names.
 /// Refused, and nothing is made: a resource manager; a record that is there; names that stand in no time, where the place is to follow the
 /// clock.
@@ -115,11 +138,10 @@ pub(crate) fn replace(
     }
     let floor = place_wanted(rt, setup, options, replacement)?;
     refuse_record(rt, path)?;
-    let is_claimed = is_claimed(rt, setup, options)?;
-    stand_in(rt, setup, path, &floor)?;
-    if !is_claimed {
+    if !is_claimed(rt, setup, options)? {
         claim(rt, setup, options)?;
     }
+    make_whole(rt, setup, path, &floor)?;
     let place = place_text(rt.alloc(), &floor)?;
     println!(rt;
         "pcommit_node {name}: a blank record, which takes part from {place} on: start it now"

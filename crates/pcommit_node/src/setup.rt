@@ -178,7 +178,7 @@ pub(crate) fn set_up(rt: HostRuntime, options: Options) -> Result<Setup, Failure
 }
 
 /// Why a file in the folder can't be used.
-fn folder_fault(path: String, error: io::Error) -> Failure {
+pub(crate) fn folder_fault(path: String, error: io::Error) -> Failure {
     if error.kind() == ErrorKind::OutOfMemory {
         return Failure::Memory;
     }
@@ -263,11 +263,11 @@ pub(crate) fn claim(rt: HostRuntime, setup: &Setup, options: Options) -> Result<
     }
 }
 
-/// How many bytes a file has, if it is there.
-pub(crate) fn len_if_there(rt: HostRuntime, path: &str) -> Result<Option<u64>, Failure> {
+/// Whether a file is there.
+pub(crate) fn is_there(rt: HostRuntime, path: &str) -> Result<bool, Failure> {
     match fs::metadata(&rt, path) {
-        Ok(found) => Ok(Some(found.len())),
-        Err(error) if error.kind() == ErrorKind::NotFound => Ok(None),
+        Ok(_) => Ok(true),
+        Err(error) if error.kind() == ErrorKind::NotFound => Ok(false),
         Err(error) => Err(folder_fault(owned(rt.alloc(), path)?, error)),
     }
 }
