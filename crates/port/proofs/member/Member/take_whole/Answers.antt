@@ -1,4 +1,4 @@
-use Rattle.std.proofs.Common.{◌∙◌, ap, length, map, sym}
+use Rattle.std.proofs.Common.{◌∙◌, ap, map, sym}
 use Rattle.std.proofs.lemmas.List.{length-map}
 use Rattle.floored.specs.Nodes.{are_above}
 use Rattle.port.specs.Members.{item_of}
