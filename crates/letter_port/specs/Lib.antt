@@ -1,0 +1,5 @@
+pub mod Places
+pub mod Mails
+pub mod Outboxes
+pub mod LetterPorts
+pub mod Runs
