@@ -11,7 +11,7 @@ if [ "$1" != one ]; then
     cc -shared -fPIC -o "$scratch/refuse.so" "$(dirname "$0")/refuse_memory.c" -ldl || exit 1
     mkdir "$scratch/cases" "$scratch/told" || exit 1
     grep -v '^#' "$2" | awk -v to="$scratch/cases/" 'NF==0 {open=0; next} !open {open=1; count++} {print > (to sprintf("%03d", count))}'
-    grep -lE '^(port|signed|cluster [0-9]+|record failing|node .* failing) ' "$scratch"/cases/* | xargs rm
+    grep -lE '^(port|letters|signed|cluster [0-9]+|record failing|node .* failing) ' "$scratch"/cases/* | xargs rm
     ls "$scratch/cases" | xargs -P "$(nproc)" -n 1 sh "$0" one "$program" "$scratch"
     cat "$scratch"/told/*.why
     cat "$scratch"/told/*.count | awk '{p+=$1; e+=$2; f+=$3; if ($1+$2 < 3) few++} END {

@@ -11,6 +11,7 @@ mod files;
 mod groups;
 mod hmacs;
 mod leaders;
+mod letter_ports;
 mod managers;
 mod nodes;
 mod numbers;

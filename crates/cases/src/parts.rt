@@ -3,8 +3,8 @@
 use crate::page::Page;
 use crate::stop::Stop;
 use crate::{
-    acceptors, ballots, clusters, codec, files, hmacs, leaders, managers, nodes, numbers, ports,
-    records, signed, tables, texts, values, words,
+    acceptors, ballots, clusters, codec, files, hmacs, leaders, letter_ports, managers, nodes,
+    numbers, ports, records, signed, tables, texts, values, words,
 };
 
 /// Runs the calls of a case of the part that its head names.
@@ -30,6 +30,7 @@ pub fn run(rt: HostRuntime, head: &[u8], calls: &[String], page: &mut Page) -> R
         b"cluster_file" => files::run_clusters(alloc, rest, calls, page),
         b"key_file" => files::run_keys(alloc, calls, page),
         b"owner" => files::run_owners(alloc, calls, page),
+        b"letters" => letter_ports::run(alloc, rest, calls, page),
         b"port" => ports::run(alloc, rest, calls, page),
         b"cluster" => clusters::run(alloc, rest, calls, page),
         _ => Err(Stop::Unread),

@@ -20,7 +20,7 @@ struct Station {
 }
 
 /// Opens a node. A record that has failed, or that wanted memory, comes back, and the node is opened over it again.
-fn open(
+pub fn open(
     place: &Place,
     record: MemRecord,
     alloc: Global,
@@ -84,6 +84,11 @@ fn group(station: &mut Station, alloc: Global, line: &[u8], page: &mut Page) -> 
         Ok(()) => page.finished(Ok(()))?,
         Err(error) => page.finished(Err(error.into()))?,
     }
+    say_came(outs, page)
+}
+
+/// What came of the inputs of a group.
+pub fn say_came(outs: Vec<Output>, page: &mut Page) -> Result<(), Stop> {
     for output in outs {
         let Output {
             reply,

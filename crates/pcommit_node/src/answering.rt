@@ -1,11 +1,14 @@
 //! What came of a group: what clients are answered, and what is noted of transactions and branches.
 
 use crate::client::Stage;
-use crate::desk::Desk;
+use crate::desk::{CLIENT_LOOKS, Desk};
 use crate::failure::Failure;
 use crate::group::{Item, Origin, Work};
 use crate::life::{let_by_branches, standing};
 use crate::socket::Counting;
+use hashing::WordKey;
+use indexmap::IndexMap;
+use letter_port::LetterPort;
 use node_core::{Input, Output};
 use port::{Member, Port};
 use protocol::{Action, Answer, Boxed, Change, NodeId, Request, Standing, View};
@@ -14,7 +17,7 @@ use stable_record::FileRecord;
 use std::alloc::Global;
 use std::fs;
 use std::time::{Duration, Instant};
-use wire::{Kind, decode};
+use wire::{Kind, Rest, view_of};
 use xid::{Floor, Refusal, Tx, XaCode, Xid};
 
 /// How many seconds the end of a transaction is awaited at most.
@@ -26,12 +29,23 @@ const PAGE: u64 = 4096;
 /// From which turn on a leader asks after a transaction that it was asked about: that somebody waits for it is known.
 const ASKED: usize = 2;
 
+/// A transaction's outcome came to be known, for which a client may wait.
+fn note_ended(desk: &mut Desk, tx: &Tx) -> Result<(), Failure> {
+    if !desk.door.clients.is_empty() {
+        desk.ended.insert(*tx, ())?;
+    }
+    Ok(())
+}
+
 /// A view has changed at this resource manager.
 fn note_change(desk: &mut Desk, change: &Change, now: Instant) -> Result<(), Failure> {
     match change.view {
         View::Prepared => desk.watches.add(&change.tx, 0, now)?,
         View::Working => {}
-        View::Committed | View::Aborted => desk.watches.settle(&change.tx),
+        View::Committed | View::Aborted => {
+            desk.watches.settle(&change.tx);
+            note_ended(desk, &change.tx)?;
+        }
     }
     if let Some(xid) = change.tx.branch(u16::from(change.rm)) {
         desk.branches.forget(&xid);
@@ -44,10 +58,24 @@ fn note_question(desk: &mut Desk, bytes: &[u8], now: Instant) -> Result<(), Fail
     let NodeId::L(_) = desk.who else {
         return Ok(());
     };
-    if let Ok(message) = decode(bytes) {
-        if let Kind::Ask { tx, .. } = message.kind() {
-            desk.watches.add(tx, ASKED, now)?;
+    if let Ok(message) = view_of(bytes) {
+        if let Rest::Ask { .. } = message.rest() {
+            desk.watches.add(&message.tx().to_tx(), ASKED, now)?;
         }
+    }
+    Ok(())
+}
+
+/// A leader that tells an outcome knows it.
+fn note_outcome(desk: &mut Desk, out: &Output) -> Result<(), Failure> {
+    let NodeId::L(_) = desk.who else {
+        return Ok(());
+    };
+    if out.sends.count() == 0 || desk.door.clients.is_empty() {
+        return Ok(());
+    }
+    if let Kind::Commit(tx) | Kind::Abort(tx) = out.sends.at(0).message.kind() {
+        note_ended(desk, tx)?;
     }
     Ok(())
 }
@@ -122,6 +150,7 @@ fn answer_input(desk: &mut Desk, item: &Item, out: &Output, now: Instant) -> Res
     if let Some(change) = &out.now {
         note_change(desk, change, now)?;
     }
+    note_outcome(desk, out)?;
     match &item.work {
         Work::Take(bytes) => {
             if let Answer::Refused(Refusal::RecordFault) = out.reply {
@@ -150,8 +179,12 @@ fn resident(rt: &HostRuntime) -> u64 {
 }
 
 /// The counts as they are now.
-fn counts_now<P: Port + Counting>(node: &Member<FileRecord>, desk: &Desk, port: &P) -> Counts {
-    let port_counts = port.counts();
+fn counts_now<P: Port + Counting>(
+    node: &Member<FileRecord>,
+    desk: &Desk,
+    port: &LetterPort<P>,
+) -> Counts {
+    let port_counts = port.port().counts();
     Counts {
         memory: resident(&desk.rt),
         kept: node.transaction_count() as u64,
@@ -192,10 +225,10 @@ fn open_here(
 /// A node's floor is to rise to a place; what that is answered. A node that is down then ends.
 pub(crate) fn raise<P: Port>(
     node: &mut Member<FileRecord>,
-    port: &mut P,
+    port: &mut LetterPort<P>,
     floor: &Floor,
 ) -> Result<Answer, Failure> {
-    match port::raise(node, port, floor) {
+    match port.raise(node, floor) {
         Ok(()) => Ok(Answer::Done),
         Err(refusal) => match refusal {
             Refusal::NoMemory | Refusal::RecordFault => Err(refusal.into()),
@@ -207,7 +240,7 @@ pub(crate) fn raise<P: Port>(
 /// A client has a node's floor rise. Where names stand in time, it doesn't rise above the clock's.
 fn raise_for<P: Port>(
     node: &mut Member<FileRecord>,
-    port: &mut P,
+    port: &mut LetterPort<P>,
     desk: &mut Desk,
     origin: Origin,
     floor: &Floor,
@@ -233,7 +266,7 @@ fn say_rise(node: &Member<FileRecord>, desk: &Desk) -> Result<Option<Floor>, Fai
 /// What is wished beside inputs is answered.
 fn say<P: Port + Counting>(
     node: &mut Member<FileRecord>,
-    port: &mut P,
+    port: &mut LetterPort<P>,
     desk: &mut Desk,
     origin: Origin,
     wish: &Wish,
@@ -304,6 +337,7 @@ fn begin_await(
             until: now
                 .checked_add(Duration::from_secs(MOST_AWAITED))
                 .unwrap_or(now),
+            is_asked: false,
         };
     }
     Ok(())
@@ -312,7 +346,7 @@ fn begin_await(
 /// What came of the items of a group is noted, and answered, in order.
 pub(crate) fn answer_all<P: Port + Counting>(
     node: &mut Member<FileRecord>,
-    port: &mut P,
+    port: &mut LetterPort<P>,
     desk: &mut Desk,
     items: &[Item],
     outs: &[Output],
@@ -347,7 +381,7 @@ fn is_last_word(answer: &Answer) -> bool {
 
 /// What an await is answered now, if it is.
 fn awaited(node: &mut Member<FileRecord>, stage: &Stage, now: Instant) -> Option<Answer> {
-    let Stage::Awaiting { request, until } = stage else {
+    let Stage::Awaiting { request, until, .. } = stage else {
         return None;
     };
     let answer = node.take(Input::Asked(request)).reply;
@@ -357,20 +391,64 @@ fn awaited(node: &mut Member<FileRecord>, stage: &Stage, now: Instant) -> Option
     None
 }
 
-/// The awaits whose time has come are answered, and the lines behind them are looked at again.
+/// The transaction whose end is awaited.
+fn awaited_tx(request: &Request) -> Option<&Tx> {
+    match request {
+        Request::Status { tx } | Request::View { tx } => Some(tx.get()),
+        _ => None,
+    }
+}
+
+/// Whether what is awaited is to be asked now: for the first time, when its time has come, or when the outcome came to be known.
+fn is_to_ask(stage: &Stage, ended: &IndexMap<Tx, (), WordKey>, now: Instant) -> bool {
+    let Stage::Awaiting {
+        request,
+        until,
+        is_asked,
+    } = stage
+    else {
+        return false;
+    };
+    if !*is_asked || now >= *until {
+        return true;
+    }
+    match awaited_tx(request) {
+        Some(tx) => ended.contains_key(tx),
+        None => false,
+    }
+}
+
+/// It isn't asked for the first time any more.
+fn note_asked(stage: &mut Stage) {
+    if let Stage::Awaiting { is_asked, .. } = stage {
+        *is_asked = true;
+    }
+}
+
+/// The awaits whose time has come are answered, and the lines behind them are looked at again. All are asked from time to time, since a
+/// floor that rises ends some too.
 pub(crate) fn answer_awaited(
     node: &mut Member<FileRecord>,
     desk: &mut Desk,
     now: Instant,
 ) -> Result<(), Failure> {
     let alloc: Global = desk.alloc;
+    let are_all = now >= desk.next_ask;
+    if are_all {
+        let looks = Duration::from_millis(CLIENT_LOOKS);
+        desk.next_ask = now.checked_add(looks).unwrap_or(now);
+    }
     for key in 0..desk.door.clients.capacity() {
         if let Some(client) = desk.door.clients.get_mut(key) {
-            if let Some(answer) = awaited(node, &client.stage, now) {
-                client.stage = Stage::Open;
-                put_reply(alloc, client.output_mut(), &answer)?;
+            if are_all || is_to_ask(&client.stage, &desk.ended, now) {
+                if let Some(answer) = awaited(node, &client.stage, now) {
+                    client.stage = Stage::Open;
+                    put_reply(alloc, client.output_mut(), &answer)?;
+                }
+                note_asked(&mut client.stage);
             }
         }
     }
+    desk.ended.clear();
     Ok(())
 }

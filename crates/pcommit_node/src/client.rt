@@ -29,6 +29,8 @@ pub(crate) enum Stage {
         request: Request,
         /// Until when.
         until: Instant,
+        /// Whether it was asked already.
+        is_asked: bool,
     },
 }
 
@@ -48,6 +50,7 @@ pub(crate) struct Client {
     begun: Option<Instant>,
     is_readable: bool,
     is_writable: bool,
+    is_closing: bool,
     has_ended: bool,
 }
 
@@ -72,14 +75,16 @@ impl Client {
             begun: if is_proving { Some(now) } else { None },
             is_readable: true,
             is_writable: true,
+            is_closing: false,
             has_ended: false,
         }
     }
 
-    /// Its stream has something to read, or can be written to.
-    pub(crate) fn wake(&mut self, is_readable: bool, is_writable: bool) {
-        self.is_readable = self.is_readable || is_readable;
+    /// Its stream has something to read, or can be written to, or its end has come and is to be read.
+    pub(crate) fn wake(&mut self, is_readable: bool, is_writable: bool, is_closing: bool) {
+        self.is_readable = self.is_readable || is_readable || is_closing;
         self.is_writable = self.is_writable || is_writable;
+        self.is_closing = self.is_closing || is_closing;
     }
 
     /// Takes what has come, as much as there is room for.
@@ -95,7 +100,8 @@ impl Client {
         }
     }
 
-    /// Takes some of what has come.
+    /// Takes some of what has come. Where that was less than there was room for, nothing more is there, but the end where that has come:
+    /// the system tells of what comes later.
     fn read_some(&mut self) -> io::Result<()> {
         let mut buffer = [0; 4096];
         match self.stream.read(&mut buffer) {
@@ -103,7 +109,10 @@ impl Client {
                 self.has_ended = true;
                 self.is_readable = false;
             }
-            Ok(n) => self.input.extend_from_slice(&buffer[..n])?,
+            Ok(n) => {
+                self.input.extend_from_slice(&buffer[..n])?;
+                self.is_readable = n == buffer.len() || self.is_closing;
+            }
             Err(e) if e.kind() == ErrorKind::WouldBlock => self.is_readable = false,
             Err(e) if e.kind() == ErrorKind::Interrupted => {}
             Err(e) => return Err(e),

@@ -4,18 +4,20 @@ use crate::client::{Client, Stage};
 use crate::door::Door;
 use crate::group::{Item, MOST_ITEMS, Origin, Work};
 use crate::proving::{Lock, is_proof};
+use hashing::WordKey;
+use indexmap::IndexMap;
 use log::debug;
 use protocol::{Action, NodeId, Request};
 use serving::{Branches, Counts, Schedule, Shortening, Times, Watches, Wish, read_wish};
 use std::alloc::{AllocError, Global};
 use std::collections::VecDeque;
 use std::time::{Duration, Instant};
-use xid::{Floor, Xid};
+use xid::{Floor, Tx, Xid};
 
 /// How often the branches that nobody touches are looked for, in milliseconds.
 const IDLE_LOOKS: u64 = 1000;
 /// How many milliseconds are waited at most where there are clients: lines that were begun and ends that are awaited have their times too.
-const CLIENT_LOOKS: u64 = 250;
+pub(crate) const CLIENT_LOOKS: u64 = 250;
 /// How often a resource manager tells its floor again, in seconds.
 const TELLS: u64 = 60;
 
@@ -53,6 +55,10 @@ pub(crate) struct Desk {
     pub(crate) pending: VecDeque<Request>,
     /// The client whose lines are looked at first.
     pub(crate) first: usize,
+    /// The transactions whose outcome came to be known here in this round.
+    pub(crate) ended: IndexMap<Tx, (), WordKey>,
+    /// When all ends that are awaited are asked after next, whatever came to be known.
+    pub(crate) next_ask: Instant,
 }
 
 impl Desk {

@@ -48,7 +48,11 @@ impl Door {
             } else if token == LISTENER.0 {
                 self.has_clients = true;
             } else if let Some(client) = self.clients.get_mut(token.saturating_sub(CLIENTS)) {
-                client.wake(event.is_readable(), event.is_writable());
+                client.wake(
+                    event.is_readable(),
+                    event.is_writable(),
+                    event.is_read_closed(),
+                );
             }
         }
     }

@@ -8,8 +8,8 @@ use xid::Bytes;
 
 /// How many inputs a group has at most.
 pub(crate) const MOST_ITEMS: usize = 256;
-/// How many of them are datagrams at most, so that clients have their turn.
-pub(crate) const MOST_DATAGRAMS: usize = 192;
+/// How many of them are messages at most, so that clients have their turn. What is left of a letter then comes into the next group.
+pub(crate) const MOST_MESSAGES: usize = 192;
 
 /// Who is answered.
 #[derive(Clone, Copy, Debug)]
@@ -23,7 +23,7 @@ pub(crate) enum Origin {
 /// What is to be done.
 #[derive(Debug, Drop)]
 pub(crate) enum Work {
-    /// A datagram's bytes are handed to the node.
+    /// A message's bytes are handed to the node.
     Take(Bytes),
     /// A request is.
     Ask(Request),

@@ -6,13 +6,14 @@ ghost use Rattle.serving.specs.Shortenings.{IsDue, IsMarked};
 use crate::answering::{answer_all, answer_awaited, raise};
 use crate::desk::{Desk, wanted_floor};
 use crate::failure::Failure;
-use crate::group::{Item, MOST_DATAGRAMS, MOST_ITEMS, Origin, Work, inputs_of};
+use crate::group::{Item, MOST_ITEMS, MOST_MESSAGES, Origin, Work, inputs_of};
 use crate::replacing::place_text;
 use crate::socket::Counting;
+use letter_port::LetterPort;
 use log::{info, warn};
 use mio::Events;
 use node_core::{Input, Output};
-use port::{MAX_TAKEN, Member, Port, call_all};
+use port::{MAX_TAKEN, Member, Port};
 use protocol::{Answer, Boxed, NodeId, Request, Standing, View};
 use serving::{Due, Turn, held_back};
 use stable_record::{FileRecord, RecordError};
@@ -22,14 +23,14 @@ use std::io::ErrorKind;
 use std::time::{Duration, Instant, SystemTime};
 use xid::{Bytes, Floor, Refusal, Tx};
 
-/// Datagrams that wait come into a group. Those that the port refuses come to nothing.
-fn take_datagrams<P: Port>(
+/// Messages of letters that wait come into a group. What the port refuses comes to nothing.
+fn take_messages<P: Port>(
     desk: &mut Desk,
-    port: &mut P,
+    port: &mut LetterPort<P>,
     items: &mut Vec<Item>,
 ) -> Result<(), AllocError> {
     let mut buffer = [0; MAX_TAKEN];
-    for _ in 0..MOST_DATAGRAMS {
+    for _ in 0..MOST_MESSAGES {
         if !desk.door.has_datagrams || items.len() >= MOST_ITEMS {
             return Ok(());
         }
@@ -121,11 +122,11 @@ fn down(error: RecordError) -> Failure {
     }
 }
 
-/// The items are handed to the node as one group: one append for all that they store. Then what came of them is sent.
+/// The items are handed to the node as one group: one append for all that they store. Then what came of them is sent, in letters.
 fn hand<P: Port>(
     alloc: Global,
     node: &mut Member<FileRecord>,
-    port: &mut P,
+    port: &mut LetterPort<P>,
     items: &[Item],
     outs: &mut Vec<Output>,
 ) -> Result<(), Failure> {
@@ -137,7 +138,7 @@ fn hand<P: Port>(
     if count > outs.len() {
         return Err(Failure::Memory);
     }
-    match call_all(node, port, &inputs, &mut outs[..count]) {
+    match port.call_all(node, &inputs, &mut outs[..count]) {
         Ok(()) => Ok(()),
         Err(error) => Err(down(error)),
     }
@@ -181,7 +182,7 @@ fn shorten(
 fn do_group<P: Port + Counting>(
     rt: &HostRuntime,
     node: &mut Member<FileRecord>,
-    port: &mut P,
+    port: &mut LetterPort<P>,
     desk: &mut Desk,
     outs: &mut Vec<Output>,
     path: &str,
@@ -190,7 +191,7 @@ fn do_group<P: Port + Counting>(
     let mut items = Vec::new(desk.alloc);
     desk.take_pending(&mut items)?;
     take_due(node, desk, &mut items, now)?;
-    take_datagrams(desk, port, &mut items)?;
+    take_messages(desk, port, &mut items)?;
     desk.take_lines(&mut items, now)?;
     if items.is_empty() {
         return Ok(());
@@ -223,7 +224,7 @@ pub(crate) fn let_by_branches(
 fn rise<P: Port>(
     rt: &HostRuntime,
     node: &mut Member<FileRecord>,
-    port: &mut P,
+    port: &mut LetterPort<P>,
     desk: &mut Desk,
     path: &str,
     now: Instant,
@@ -262,7 +263,7 @@ pub(crate) fn clock(rt: &HostRuntime) -> Result<u64, Failure> {
 /// A resource manager that has a floor tells it again, if it is time: who was told may have been started anew since.
 fn tell_again<P: Port>(
     node: &mut Member<FileRecord>,
-    port: &mut P,
+    port: &mut LetterPort<P>,
     desk: &mut Desk,
     now: Instant,
 ) -> Result<(), Failure> {
@@ -282,7 +283,7 @@ fn tell_again<P: Port>(
 fn go_round<P: Port + Counting>(
     rt: &HostRuntime,
     node: &mut Member<FileRecord>,
-    port: &mut P,
+    port: &mut LetterPort<P>,
     desk: &mut Desk,
     outs: &mut Vec<Output>,
     path: &str,
@@ -336,7 +337,7 @@ fn wait(
 pub(crate) fn live<P: Port + Counting>(
     rt: &HostRuntime,
     node: &mut Member<FileRecord>,
-    port: &mut P,
+    port: &mut LetterPort<P>,
     desk: &mut Desk,
     path: &str,
 ) -> Result<(), Failure> {

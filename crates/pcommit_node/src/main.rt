@@ -31,6 +31,8 @@ use crate::setup::{Setup, claim, is_claimed, is_there, open_node, owned, record_
 use crate::socket::NodeSocket;
 use cluster_file::KEY;
 use hmac::Key;
+use indexmap::IndexMap;
+use letter_port::LetterPort;
 use log::LevelFilter;
 use mio::net::TcpListener;
 use mio::{Interest, Poll};
@@ -190,6 +192,8 @@ fn make_desk(rt: HostRuntime, setup: &Setup, door: Door) -> Result<Desk, Failure
         next_tell: Instant::now(&rt)?,
         pending: VecDeque::new(alloc),
         first: 0,
+        ended: IndexMap::with_hasher(alloc, setup.hash_key.words()),
+        next_ask: Instant::now(&rt)?,
     })
 }
 
@@ -221,11 +225,13 @@ fn lead_signed(
 ) -> Result<(), Failure> {
     match &setup.key {
         Some(key) => {
-            let mut port = SignedPort::new(socket, signing_key(key), setup.digest, setup.who);
+            let port = SignedPort::new(socket, signing_key(key), setup.digest, setup.who);
+            let mut port = LetterPort::new(rt.alloc(), port, setup.cluster.config.sizes())?;
             live(rt, node, &mut port, desk, path)
         }
         None => {
-            let mut port = PlainPort::new(socket);
+            let port = PlainPort::new(socket);
+            let mut port = LetterPort::new(rt.alloc(), port, setup.cluster.config.sizes())?;
             live(rt, node, &mut port, desk, path)
         }
     }
