@@ -78,6 +78,19 @@ fn take(port: &mut LetterPort<FakePort>, page: &mut Page) -> Result<(), Stop> {
     }
 }
 
+/// How many messages a port gives, until it gives none or fails.
+fn count_messages(port: &mut LetterPort<FakePort>) -> u64 {
+    let mut buffer = [0; MAX_TAKEN];
+    let mut count: u64 = 0;
+    for _ in 0..MAX_TAKEN {
+        match port.recv(&mut buffer) {
+            Ok(Some(_)) => count = count.saturating_add(1),
+            _ => return count,
+        }
+    }
+    count
+}
+
 /// How many messages are taken of all beginnings of a letter together.
 fn taken_cuts(sizes: Sizes, alloc: Global, letter: &[u8]) -> Result<u64, Stop> {
     let mut taken: u64 = 0;
@@ -85,10 +98,7 @@ fn taken_cuts(sizes: Sizes, alloc: Global, letter: &[u8]) -> Result<u64, Stop> {
         let mut port = FakePort::new(alloc, 0);
         wanted(port.put(&letter[..len]))?;
         let mut port = LetterPort::new(alloc, port, sizes)?;
-        let mut buffer = [0; MAX_TAKEN];
-        while let Ok(Some(_)) = port.recv(&mut buffer) {
-            taken = taken.saturating_add(1);
-        }
+        taken = taken.saturating_add(count_messages(&mut port));
     }
     Ok(taken)
 }
