@@ -9,7 +9,8 @@ use Rattle.std.proofs.Math.Seq.{take-suc}
 use Rattle.std.proofs.lemmas.List.{get_or-map, length-map}
 use Rattle.std.proofs.lemmas.List.Sums.{fold-append}
 use Rattle.std.proofs.lemmas.List.Elements.{filter-append}
-use Rattle.audit.proofs.ListLemmas.{all_next, all_fails}
+use Rattle.xid.proofs.Texts.{list_all_get}
+use Rattle.audit.proofs.ListLemmas.{all_next, all_fails, participant_at, participants_many}
 use Rattle.std.proofs.lemmas.List.Sums.{passes_at_first, prefix_len-le-length}
 use Rattle.std.specs.Cmp.{unsigned_Decides}
 use Rattle.xid.specs.Transactions.{BranchParts, is_at, rm_numbers, xid_of}
@@ -23,7 +24,7 @@ use Rattle.audit.specs.Told.{views_back}
 use Rattle.audit.specs.Stretches.{Stretches, stretches_back, branch_at, gets_in, writes_in, writes_at}
 use Rattle.audit.specs.Tables.{are_tables}
 use Rattle.audit.specs.Consistent.{serial_table, are_shown, read_after, committed_back, is_order_kept, reads_are_serial}
-use Rattle.audit.specs.Books.{stretch_of, views_in, has_committed, place_at}
+use Rattle.audit.specs.Books.{ViewsParts, stretch_of, rows_of, views_in, has_committed, has_committed_everywhere, place_at, IsReplayed}
 use Rattle.audit.specs.Following.{Follows}
 use Rattle.audit.specs.declared.ledger.Ledger.{Ledger}
 
@@ -70,6 +71,19 @@ none_found p (x ∷ xs) e = by (p x) e (none_found p xs)
     by true q rest = absurd (omega (arith, q))
     by false q rest = rest (omega (arith, q))
 
+-- a resource manager that has no part in a transaction writes nothing of it
+no_part : (done : Stretches) (rm : ℕ) (tx : TxParts) → ltb (place_at rm tx) (length tx.branches) ≡ false → writes_at done rm tx ≡ []
+no_part done rm tx e =
+    let full : place_at rm tx ≡ length tx.branches =
+    omega (arith, ltb-false _ _ e, prefix_len-le-length (λ b. not (is_at rm b)) tx.branches) in
+    ap (λ o. writes_in (option_and_then (done rm) (option_map (xid_of tx) o))) (none_found (is_at rm) tx.branches full)
+
+-- the number of the participant of a place, that of the first branch of a resource manager
+own_number : (rm : ℕ) (tx : TxParts) → place_at rm tx < length tx.branches → get_or (participants tx) (place_at rm tx) 0 ≡ rm
+own_number rm tx lt =
+    participant_at tx (place_at rm tx) lt
+    ∙ (unsigned_Decides _ rm).0 (passes_at_first (is_at rm) tx.branches (record { rm = 0; bqual = [] }) lt)
+
 module _ (history : List Step) (ledger : Ledger) (views : (tx : TxParts) → views_in ledger.views tx ≡ views_back history tx) where
   -- what is kept of commits is what is looked back at, where that matters
   committed_so : (done : Stretches) (rm : ℕ) (tx : TxParts)
@@ -88,10 +102,7 @@ module _ (history : List Step) (ledger : Ledger) (views : (tx : TxParts) → vie
           inl (ap is_committed_view (ap (λ vs. get_or vs (place_at rm tx) View.Working) (views tx)
           ∙ get_or-map (λ r. view_back r history tx) (rm_numbers tx.branches) (place_at rm tx) 0 View.Working long
           ∙ ap (λ r. view_back r history tx) (get_or-map (λ (b : BranchParts). b.rm) tx.branches (place_at rm tx) nobody 0 lt ∙ same)))
-      by false e =
-          let full : place_at rm tx ≡ length tx.branches =
-          omega (arith, ltb-false _ _ e, prefix_len-le-length (λ b. not (is_at rm b)) tx.branches) in
-          inr (ap (λ o. writes_in (option_and_then (done rm) (option_map (xid_of tx) o))) (none_found (is_at rm) tx.branches full))
+      by false e = inr (no_part done rm tx e)
 
 module _ (done : Stretches) (rm : ℕ) where
   abbrev pub with_tx : List Row → TxParts → List Row
@@ -122,6 +133,53 @@ module _ (done : Stretches) (rm : ℕ) where
       by (inl e) rest = ap (λ b. fold with_tx rows (cond b (tx ∷ filter c txs) (filter c txs))) e ∙ left rest (d tx)
       by (inr none) rest = right rest (c tx) (d tx) none
 
+-- ---- where all participants have committed all transactions
+
+module _ (done : Stretches) (views : ViewsParts) where
+  committed_or_none : (rm : ℕ) (tx : TxParts) → has_committed_everywhere views tx ≡ true
+      → (has_committed views rm tx ≡ true) ⊎ (writes_at done rm tx ≡ [])
+  committed_or_none rm tx all = by (ltb (place_at rm tx) (length tx.branches)) refl
+    where
+      by : (t : Bool) → ltb (place_at rm tx) (length tx.branches) ≡ t
+          → (has_committed views rm tx ≡ true) ⊎ (writes_at done rm tx ≡ [])
+      by true e =
+          let lt : place_at rm tx < length tx.branches = ltb-true _ _ e in
+          let many = participants_many tx in
+          inl (ap (λ r. has_committed views r tx) (sym (own_number rm tx lt))
+          ∙ list_all_get (λ r. has_committed views r tx) (participants tx) (place_at rm tx) 0 (omega (arith, lt, many)) all)
+      by false e = inr (no_part done rm tx e)
+
+  -- those that pass, or that another test lets by
+  abbrev let_by : ℕ → TxParts → Bool
+  let_by rm tx = cond (has_committed_everywhere views tx) true (has_committed views rm tx)
+
+  same_test : (rm : ℕ) (tx : TxParts) → (has_committed views rm tx ≡ let_by rm tx) ⊎ (writes_at done rm tx ≡ [])
+  same_test rm tx = by (has_committed_everywhere views tx) refl
+    where
+      by : (b : Bool) → has_committed_everywhere views tx ≡ b
+          → (has_committed views rm tx ≡ cond b true (has_committed views rm tx)) ⊎ (writes_at done rm tx ≡ [])
+      by true e = committed_or_none rm tx e
+      by false e = inl refl
+
+  all_let_by : (rm : ℕ) (order : List TxParts) → list_all (has_committed_everywhere views) order ≡ true → filter (let_by rm) order ≡ order
+  all_let_by rm [] all = refl
+  all_let_by rm (tx ∷ txs) all = by (has_committed_everywhere views tx) all (all_let_by rm txs)
+    where
+      by : (b : Bool) → (b && list_all (has_committed_everywhere views) txs) ≡ true
+          → (list_all (has_committed_everywhere views) txs ≡ true → filter (let_by rm) txs ≡ txs)
+          → cond (cond b true (has_committed views rm tx)) (tx ∷ filter (let_by rm) txs) (filter (let_by rm) txs) ≡ tx ∷ txs
+      by true q rest = ap (λ more. tx ∷ more) (rest q)
+      by false q rest = absurd (cc (q))
+
+  -- the tables after all transactions are those of what is committed
+  pub all_replayed : (first : ℕ → List Row) (order : List TxParts) → list_all (has_committed_everywhere views) order ≡ true
+      → (last : List (List Row)) → ((rm : ℕ) → rows_of last rm ≡ serial_table first done rm order)
+      → IsReplayed first done (has_committed views) order last
+  all_replayed first order all last is = λ rm.
+      is rm
+      ∙ sym (same_serial done rm (has_committed views rm) (let_by rm) (same_test rm) order (first rm)
+      ∙ ap (fold (with_tx done rm) (first rm)) (all_let_by rm order all))
+
 -- an order is kept by a ledger, where it is by the history
 pub order_so : (first : ℕ → List Row) (history : List Step) (ledger : Ledger) (finals : List (List Row)) → Follows first history ledger
     → is_order_kept first (stretch_of ledger.branches) (has_committed ledger.views) ledger.firsts finals
@@ -138,6 +196,12 @@ nth_found : {X : Type 0} (xs : List X) (n : ℕ) (x : X) → Some x ≡ slice_ge
 nth_found {X} [] n x e = absurd (cc (e))
 nth_found {X} (y ∷ ys) zero x e = (omega arith, ap (λ (o : Option X). unwrap_or o y) (sym e))
 nth_found {X} (y ∷ ys) (suc n) x e = let rest = nth_found ys n x e in (omega (arith, rest.0), rest.1)
+
+-- what holds of those before holds of this one too
+pub holds_next : (p : TxParts → Bool) (order : List TxParts) (n : ℕ) (tx : TxParts) → Some tx ≡ slice_get order n
+    → list_all p (take n order) ≡ true → p tx ≡ true → list_all p (take (n + 1) order) ≡ true
+holds_next p order n tx found before here =
+    let at = nth_found order n tx found in all_next p order n tx at.0 before (ap p at.1 ∙ here)
 
 module _ (first : ℕ → List Row) (done : Stretches) (order : List TxParts) (n : ℕ) (tx : TxParts) (found : Some tx ≡ slice_get order n) where
   under : n < length order
@@ -184,7 +248,7 @@ module _ (first : ℕ → List Row) (done : Stretches) (order : List TxParts) (n
       (sym (ap (λ t. those_before t order) (sym nth) ∙ before_is_first order n tx distinct under))
 
   pub read_more : list_all reads (take n order) ≡ true → reads tx ≡ true → list_all reads (take (n + 1) order) ≡ true
-  read_more before here = all_next reads order n tx under before (ap reads nth ∙ here)
+  read_more before here = holds_next reads order n tx found before here
 
   pub read_fails : reads tx ≡ false → list_all reads order ≡ false
   read_fails wrong = all_fails reads order n tx under (ap reads nth ∙ wrong)

@@ -1,7 +1,7 @@
 -- What the parts of an audit hold, question by question.
 use Rattle.std.specs.Prelude.{◌≡◌, ℕ, ◌+◌, ◌<◌, ◌≤◌, Bool, true, false, ◌&&◌, ◌==◌, if◌then◌else◌, List, [], map, length, slice_set}
 use Rattle.std.specs.Prelude.{filter, position, take, Option, Some, None}
-use Rattle.std.specs.List.{slice_index_or, position_or_len}
+use Rattle.std.specs.List.{slice_index_or, position_or_len, list_all}
 use Rattle.std.specs.Map.{lookup}
 use Rattle.std.specs.Cmp.Lexicographic.{slice_cmp}
 use Rattle.std.specs.Option.{IfSome, option_eq, option_map_or}
@@ -98,6 +98,10 @@ views_moved parts change tx =
 -- whether a resource manager has committed a transaction
 abbrev pub has_committed : ViewsParts → ℕ → TxParts → Bool
 has_committed parts rm tx = is_committed_view (view_in parts tx (place_at rm tx))
+
+-- whether all participants of a transaction have committed it
+abbrev pub has_committed_everywhere : ViewsParts → TxParts → Bool
+has_committed_everywhere parts tx = list_all (λ rm. has_committed parts rm tx) (participants tx)
 
 -- each branch after a call on branch x of rm that was answered so
 abbrev pub Called : (old new : List (Name × StretchParts)) → ℕ → XidParts → Action → Answer → Type 0

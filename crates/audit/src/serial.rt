@@ -1,6 +1,6 @@
 //! One serial order: committed transactions one after another, in the order of their first commits.
 
-ghost use Rattle.std.specs.Prelude.{◌≡◌, ℕ, ◌<◌, ◌&&◌, ◌==◌, length, true, false, if◌then◌else◌, MatchOption, IfOk, IfErr, OnOk};
+ghost use Rattle.std.specs.Prelude.{◌≡◌, ℕ, ◌<◌, ◌&&◌, ◌==◌, length, true, false, if◌then◌else◌, MatchOption, IfOk, IfErr, IsTrue, OnOk};
 ghost use Rattle.std.specs.List.{list_all};
 ghost use Rattle.std.specs.Option.{option_copied};
 ghost use Rattle.xid.specs.Transactions.{nth_branch};
@@ -10,8 +10,8 @@ ghost use Rattle.history.specs.Writes.{is_committed_view};
 ghost use Rattle.audit.specs.Words.{participants};
 ghost use Rattle.audit.specs.Stretches.{branch_at, gets_in, writes_at};
 ghost use Rattle.audit.specs.Tables.{first_tables, shows};
-ghost use Rattle.audit.specs.Consistent.{are_shown, is_order_kept, reads_are_serial};
-ghost use Rattle.audit.specs.Books.{rows_of, stretch_of, has_committed, view_in, IsReplayed};
+ghost use Rattle.audit.specs.Consistent.{are_shown, is_order_kept, reads_are_serial, serial_table};
+ghost use Rattle.audit.specs.Books.{rows_of, stretch_of, has_committed, has_committed_everywhere, view_in, IsReplayed};
 
 use crate::branches::Branches;
 use crate::ledger::Ledger;
@@ -82,62 +82,138 @@ fn reads_serially(tables: &Tables, branches: &Branches, tx: &Tx) -> bool
     true
 }
 
-/// Tables in the course of an order of transactions.
-#[derive(Debug, Drop)]
-struct Replay {
-    /// After all transactions so far.
-    all: Tables,
-    /// After those of them that the table's resource manager has committed.
-    committed: Tables,
+/// Makes the writes of a participant of a transaction, by its place. Refused: `NoMemory` alone.
+fn write_at(
+    tables: &mut Tables,
+    alloc: Global,
+    branches: &Branches,
+    tx: &Tx,
+    place: usize,
+) -> Result<(), Refusal>
+    requires { place < length tx.now.branches }
+    ensures ok { OnOk result (let rm = (nth_branch tx.now place).rm in (other : ℕ) → rows_of tables.new other
+        ≡ (if rm == other then with_writes (rows_of tables.old rm) (writes_at (stretch_of branches.now) rm tx.now)
+        else rows_of tables.old other)) }
+    ensures err { IfErr result (λ e. e ≡ NoMemory) }
+{
+    let Some(stretch) = stretch_at(branches, tx, place) else {
+        return Ok(());
+    };
+    let rm = tx.rm(place) as u8;
+    tables.write_all(alloc, rm, stretch.writes())
 }
 
-impl Replay {
-    /// The writes of a participant, by its place. Refused: `NoMemory` alone.
-    fn add_at(
-        &mut self,
-        alloc: Global,
-        ledger: &Ledger,
-        tx: &Tx,
-        place: usize,
-    ) -> Result<(), Refusal>
-        requires { place < length tx.now.branches }
-        ensures all { OnOk result (let rm = (nth_branch tx.now place).rm in (other : ℕ) → rows_of self.new.all other
-            ≡ (if rm == other then with_writes (rows_of self.old.all rm) (writes_at (stretch_of ledger.now.branches) rm tx.now)
-            else rows_of self.old.all other)) }
-        ensures committed { OnOk result (let rm = (nth_branch tx.now place).rm in (other : ℕ) → rows_of self.new.committed other
-            ≡ (if (rm == other) && is_committed_view (view_in ledger.now.views tx.now place)
-            then with_writes (rows_of self.old.committed rm) (writes_at (stretch_of ledger.now.branches) rm tx.now)
-            else rows_of self.old.committed other)) }
-        ensures err { IfErr result (λ e. e ≡ NoMemory) }
-    {
-        let Some(stretch) = stretch_at(&ledger.branches, tx, place) else {
-            return Ok(());
+/// Makes the writes of all participants of a transaction. Refused: `NoMemory` alone.
+fn write_all(
+    tables: &mut Tables,
+    alloc: Global,
+    branches: &Branches,
+    tx: &Tx,
+) -> Result<(), Refusal>
+    ensures ok { OnOk result ((rm : ℕ)
+        → rows_of tables.new rm ≡ with_writes (rows_of tables.old rm) (writes_at (stretch_of branches.now) rm tx.now)) }
+    ensures err { IfErr result (λ e. e ≡ NoMemory) }
+{
+    for place in 0..tx.count() {
+        write_at(tables, alloc, branches, tx, place)?;
+    }
+    Ok(())
+}
+
+/// Makes the writes of a participant, by its place, where it has committed the transaction. Refused: `NoMemory` alone.
+fn write_committed_at(
+    tables: &mut Tables,
+    alloc: Global,
+    ledger: &Ledger,
+    tx: &Tx,
+    place: usize,
+) -> Result<(), Refusal>
+    requires { place < length tx.now.branches }
+    ensures ok { OnOk result (let rm = (nth_branch tx.now place).rm in (other : ℕ) → rows_of tables.new other
+        ≡ (if (rm == other) && is_committed_view (view_in ledger.now.views tx.now place)
+        then with_writes (rows_of tables.old rm) (writes_at (stretch_of ledger.now.branches) rm tx.now)
+        else rows_of tables.old other)) }
+    ensures err { IfErr result (λ e. e ≡ NoMemory) }
+{
+    if !ledger.views.has_committed(tx, place) {
+        return Ok(());
+    }
+    write_at(tables, alloc, &ledger.branches, tx, place)
+}
+
+/// Makes the writes of those participants of a transaction that have committed it. Refused: `NoMemory` alone.
+fn write_committed(
+    tables: &mut Tables,
+    alloc: Global,
+    ledger: &Ledger,
+    tx: &Tx,
+) -> Result<(), Refusal>
+    ensures ok { OnOk result ((rm : ℕ) → rows_of tables.new rm ≡ (if has_committed ledger.now.views rm tx.now
+        then with_writes (rows_of tables.old rm) (writes_at (stretch_of ledger.now.branches) rm tx.now)
+        else rows_of tables.old rm)) }
+    ensures err { IfErr result (λ e. e ≡ NoMemory) }
+{
+    for place in 0..tx.count() {
+        write_committed_at(tables, alloc, ledger, tx, place)?;
+    }
+    Ok(())
+}
+
+/// The tables after all transactions of the order of first commits, where it explains the gets. Refused: `NoMemory` alone.
+fn replayed_all(alloc: Global, ledger: &Ledger, tables: &[Table]) -> Result<Option<Tables>, Refusal>
+    ensures ok { IfOk result (λ last. let first = first_tables tables.now in let done = stretch_of ledger.now.branches in
+        MatchOption last (reads_are_serial first done ledger.now.firsts ≡ false)
+        (λ last. (reads_are_serial first done ledger.now.firsts ≡ true)
+        × ((rm : ℕ) → rows_of last rm ≡ serial_table first done rm ledger.now.firsts))) }
+    ensures err { IfErr result (λ e. e ≡ NoMemory) }
+{
+    let mut all = Tables::first(alloc, tables)?;
+    for number in 0..ledger.firsts.len() {
+        let Some(tx) = ledger.firsts.get(number) else {
+            return Ok(None);
         };
-        let rm = tx.rm(place) as u8;
-        self.all.write_all(alloc, rm, stretch.writes())?;
-        if ledger.views.has_committed(tx, place) {
-            self.committed.write_all(alloc, rm, stretch.writes())?;
+        if !reads_serially(&all, &ledger.branches, &tx) {
+            return Ok(None);
         }
-        Ok(())
+        write_all(&mut all, alloc, &ledger.branches, &tx)?;
     }
-
-    /// Makes the writes of a transaction. Refused: `NoMemory` alone.
-    fn add(&mut self, alloc: Global, ledger: &Ledger, tx: &Tx) -> Result<(), Refusal>
-        ensures all { OnOk result ((rm : ℕ)
-            → rows_of self.new.all rm ≡ with_writes (rows_of self.old.all rm) (writes_at (stretch_of ledger.now.branches) rm tx.now)) }
-        ensures committed { OnOk result ((rm : ℕ) → rows_of self.new.committed rm ≡ (if has_committed ledger.now.views rm tx.now
-            then with_writes (rows_of self.old.committed rm) (writes_at (stretch_of ledger.now.branches) rm tx.now)
-            else rows_of self.old.committed rm)) }
-        ensures err { IfErr result (λ e. e ≡ NoMemory) }
-    {
-        for place in 0..tx.count() {
-            self.add_at(alloc, ledger, tx, place)?;
-        }
-        Ok(())
-    }
+    Ok(Some(all))
 }
 
-/// The tables after the order of first commits, where it explains the gets. Refused: `NoMemory` alone.
+/// The tables after the order of first commits, each by the transactions that its resource manager has committed. Refused: `NoMemory`
+/// alone.
+fn replayed_committed(alloc: Global, ledger: &Ledger, tables: &[Table]) -> Result<Tables, Refusal>
+    ensures ok { IfOk result (λ last. IsReplayed (first_tables tables.now) (stretch_of ledger.now.branches)
+        (has_committed ledger.now.views) ledger.now.firsts last) }
+    ensures err { IfErr result (λ e. e ≡ NoMemory) }
+{
+    let mut committed = Tables::first(alloc, tables)?;
+    for number in 0..ledger.firsts.len() {
+        let Some(tx) = ledger.firsts.get(number) else {
+            unreachable!();
+        };
+        write_committed(&mut committed, alloc, ledger, &tx)?;
+    }
+    Ok(committed)
+}
+
+/// Whether each transaction of the order of first commits is committed by all its participants.
+fn are_all_committed(ledger: &Ledger) -> bool
+    ensures { IsTrue result → list_all (has_committed_everywhere ledger.now.views) ledger.now.firsts ≡ true }
+{
+    for number in 0..ledger.firsts.len() {
+        let Some(tx) = ledger.firsts.get(number) else {
+            return false;
+        };
+        if !ledger.views.has_committed_everywhere(&tx) {
+            return false;
+        }
+    }
+    true
+}
+
+/// The tables after the order of first commits, where it explains the gets. While no participant lags behind, the tables after all
+/// transactions are these; else the order is gone through once more. Refused: `NoMemory` alone.
 pub fn replayed(alloc: Global, ledger: &Ledger, tables: &[Table]) -> Result<Option<Tables>, Refusal>
     ensures ok { IfOk result (λ last. let first = first_tables tables.now in let done = stretch_of ledger.now.branches in
         MatchOption last (reads_are_serial first done ledger.now.firsts ≡ false)
@@ -145,20 +221,14 @@ pub fn replayed(alloc: Global, ledger: &Ledger, tables: &[Table]) -> Result<Opti
         × IsReplayed first done (has_committed ledger.now.views) ledger.now.firsts last)) }
     ensures err { IfErr result (λ e. e ≡ NoMemory) }
 {
-    let mut replay = Replay {
-        all: Tables::first(alloc, tables)?,
-        committed: Tables::first(alloc, tables)?,
+    let Some(all) = replayed_all(alloc, ledger, tables)? else {
+        return Ok(None);
     };
-    for number in 0..ledger.firsts.len() {
-        let Some(tx) = ledger.firsts.get(number) else {
-            return Ok(None);
-        };
-        if !reads_serially(&replay.all, &ledger.branches, &tx) {
-            return Ok(None);
-        }
-        replay.add(alloc, ledger, &tx)?;
+    if are_all_committed(ledger) {
+        return Ok(Some(all));
     }
-    Ok(Some(replay.committed))
+    let committed = replayed_committed(alloc, ledger, tables)?;
+    Ok(Some(committed))
 }
 
 /// Whether the order of first commits explains the last rows and the gets. Refused: `NoMemory` alone.

@@ -1,12 +1,12 @@
 //! The views of each transaction's participants.
 
-ghost use Rattle.std.specs.Prelude.{◌≡◌, true, not, if◌then◌else◌, IfOk, IfErr, position, slice_index_or, slice_set};
+ghost use Rattle.std.specs.Prelude.{◌≡◌, true, not, if◌then◌else◌, IfOk, IfErr, IsTrue, position, slice_index_or, slice_set};
 ghost use Rattle.std.specs.List.{list_all};
 ghost use Rattle.xid.specs.declared.refusals.Refusal.TheVariants.{NoMemory};
 ghost use Rattle.xid.specs.Transactions.{TxParts, IsTx, tx_eq, is_at};
 ghost use Rattle.history.specs.Writes.{is_committed_view as is_committed_lem};
 ghost use Rattle.audit.specs.Told.{may_move as may_move_lem, is_ready_view as is_ready_lem};
-ghost use Rattle.audit.specs.Books.{all_working, views_in, view_in, views_moved, is_move_from, IsNumberOf};
+ghost use Rattle.audit.specs.Books.{all_working, views_in, view_in, views_moved, is_move_from, has_committed_everywhere, IsNumberOf};
 
 use hashing::HashKey;
 use protocol::{Change, View};
@@ -166,6 +166,21 @@ impl Views {
             Some(number) => is_committed(&self.courses[number].at(place)),
             None => false,
         }
+    }
+
+    /// Whether all participants of a transaction have committed it.
+    pub fn has_committed_everywhere(&self, tx: &Tx) -> bool
+        ensures { IsTrue result → has_committed_everywhere self.now tx.now ≡ true }
+    {
+        let Some(number) = self.transactions.number_of(tx) else {
+            return false;
+        };
+        for place in 0..tx.count() {
+            if !is_committed(&self.courses[number].at(place)) {
+                return false;
+            }
+        }
+        true
     }
 
     /// Notes a transaction, whose participants are all working unless it was noted, and answers its number. Refused: `NoMemory` alone.

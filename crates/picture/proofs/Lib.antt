@@ -1,3 +1,4 @@
+mod Escaped
 pub mod Firsts
 pub mod Joins
 pub mod Lines

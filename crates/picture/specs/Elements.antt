@@ -66,6 +66,10 @@ escaped words = flat_map escaped_byte words
 abbrev pub is_harmless : ℕ → Bool
 is_harmless byte = nat_le 32 byte && nat_le byte 126 && not (byte == 60) && not (byte == 62) && not (byte == 39)
 
+-- whether a byte stands in words as it is
+abbrev pub is_plain : ℕ → Bool
+is_plain byte = is_harmless byte && not (byte == 38)
+
 -- what follows an ampersand in a reference to a character
 abbrev pub references : List (List ℕ)
 references = codes "amp;" ∷ codes "lt;" ∷ codes "gt;" ∷ codes "#39;" ∷ []

@@ -1,11 +1,11 @@
 //! The text of a picture.
 
-ghost use Rattle.std.specs.Prelude.{◌≡◌, ◌++◌, ℕ, List, true, decimal, IfOk, IfErr, OnOk};
+ghost use Rattle.std.specs.Prelude.{◌≡◌, ◌++◌, ◌≤◌, ℕ, List, true, decimal, length, take, IfOk, IfErr, OnOk};
 ghost use Rattle.std.specs.List.{flat_map, list_all};
 ghost use Rattle.xid.specs.declared.refusals.Refusal.TheVariants.{NoMemory};
-ghost use Rattle.picture.specs.Elements.{attribute, element_text, escaped, escaped_byte, head_text, is_harmless, lettering_name, refers};
+ghost use Rattle.picture.specs.Elements.{attribute, element_text, escaped, escaped_byte, head_text, is_harmless, is_plain, lettering_name};
 ghost use Rattle.picture.specs.Elements.{link_text, mark_name, opened, pen_name, view_name, band_text, stamp_text, stroke_text, words_text};
-ghost use Rattle.picture.specs.Elements.{place, size_text, title_text, two_numbers, view_box};
+ghost use Rattle.picture.specs.Elements.{place, refers, size_text, title_text, two_numbers, view_box};
 
 use crate::elements::{Element, Lettering, Mark, Pen, Point};
 use crate::style::{FURNITURE, OPENING, ROLE, TITLE, VIEW_BOX};
@@ -90,13 +90,42 @@ fn put_escaped_byte(out: &mut Vec<u8>, byte: u8) -> Result<(), Refusal>
     Ok(())
 }
 
+/// Whether a byte stands in words as it is.
+fn is_plain(byte: u8) -> bool
+    ensures { result ≡ is_plain byte }
+{
+    byte >= 32 && byte <= 126 && byte != b'<' && byte != b'>' && byte != b'\'' && byte != b'&'
+}
+
+/// How many bytes at the front of words stand there as they are.
+fn plain_len(words: &[u8]) -> usize
+    ensures within { result ≤ length words.now }
+    ensures plain { list_all is_plain (take result words.now) ≡ true }
+{
+    let mut count = 0usize;
+    for byte in words {
+        if !is_plain(*byte) {
+            return count;
+        }
+        count += 1;
+    }
+    count
+}
+
 /// Words, as markup can't misread them.
 fn put_escaped(out: &mut Vec<u8>, words: &[u8]) -> Result<(), Refusal>
     ensures ok { OnOk result (out.new.items ≡ out.old.items ++ escaped words.now) }
     ensures err { IfErr result (λ e. e ≡ NoMemory) }
 {
-    for byte in words {
+    let mut rest = words;
+    while !rest.is_empty() {
+        let (plain, behind) = rest.split_at(plain_len(rest));
+        out.extend_from_slice(plain)?;
+        let Some((byte, after)) = behind.split_first() else {
+            return Ok(());
+        };
         put_escaped_byte(out, *byte)?;
+        rest = after;
     }
     Ok(())
 }

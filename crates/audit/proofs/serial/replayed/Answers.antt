@@ -1,38 +1,20 @@
-use Rattle.std.proofs.Common.{◌∙◌, sym}
-use Rattle.audit.specs.Books.{rows_of, stretch_of, has_committed}
+use Rattle.std.proofs.Common.{◌≡◌, ℕ, true, false, subst}
+use Rattle.std.specs.Option.{MatchOption}
+use Rattle.audit.specs.Books.{rows_of, stretch_of}
+use Rattle.audit.specs.Consistent.{reads_are_serial, serial_table}
 use Rattle.audit.specs.Tables.{first_tables}
-use Rattle.audit.proofs.SerialLemmas.{all_more, committed_more, read_so, read_more, read_fails}
+use Rattle.audit.proofs.SerialLemmas.{all_replayed}
 use Rattle.audit.proofs.serial.replayed.Goals as goal
 
-pub returns-then-not-reads_serially-clause-ok : goal.returns-then-not-reads_serially-clause-ok
-returns-then-not-reads_serially-clause-ok c =
+pub returns-then-are_all_committed-clause-ok : goal.returns-then-are_all_committed-clause-ok
+returns-then-are_all_committed-clause-ok c =
     let first = first_tables c.args.tables.now in
     let done = stretch_of c.args.ledger.now.branches in
     let order = c.args.ledger.now.firsts in
-    let n = c.loop-number.number in
-    let tx = c.in-Some.tx in
-    let found = c.in-Some.ensures in
-    read_fails first done order n tx found
-    (sym (read_so first done order n tx found c.len-number-end.ensures.distinct (rows_of c.loop-number.replay.all)
-    c.loop-number.invariant.all)
-    ∙ sym c.if-not-reads_serially.ensures)
-
-pub loop-number-preserved : goal.loop-number-preserved
-loop-number-preserved c =
-    let first = first_tables c.args.tables.now in
-    let done = stretch_of c.args.ledger.now.branches in
-    let order = c.args.ledger.now.firsts in
-    let n = c.loop-number.number in
-    let tx = c.in-Some.tx in
-    let found = c.in-Some.ensures in
-    let old = c.loop-number.replay in
-    let new = c.add.new.self in
-    record {
-      all = λ rm. all_more first done order n tx found rm (rows_of old.all rm) (rows_of new.all rm) (c.loop-number.invariant.all rm)
-          (c.in_ok-add.ensures.all rm);
-      committed = λ rm. committed_more first done order n tx found (has_committed c.args.ledger.now.views rm) rm (rows_of old.committed rm)
-          (rows_of new.committed rm) (c.loop-number.invariant.committed rm) (c.in_ok-add.ensures.committed rm);
-      read = read_more first done order n tx found c.loop-number.invariant.read
-          (sym (read_so first done order n tx found c.len-number-end.ensures.distinct (rows_of old.all) c.loop-number.invariant.all)
-          ∙ sym c.if-not-reads_serially.ensures);
-    }
+    let last =
+    subst (λ o. MatchOption o (reads_are_serial first done order ≡ false)
+    (λ all. (reads_are_serial first done order ≡ true) × ((rm : ℕ) → rows_of all rm ≡ serial_table first done rm order)))
+    c.in-Some.is c.in_ok-all.ensures.ok in (
+      last.0,
+      all_replayed done c.args.ledger.now.views first order (c.if-are_all_committed.ensures (search)) c.in-Some.all last.1,
+    )
