@@ -7,7 +7,7 @@ use Rattle.node_core.specs.declared.config.Sizes.{Sizes}
 use Rattle.floors.specs.Worlds.{is_node}
 use Rattle.port.specs.Calls.{Sending}
 use Rattle.letters.specs.Letters.{IsEnclosable}
-use Rattle.letter_port.specs.Mails.{IsPosted, IsWhole, Mail, Posted, SendsLetters, can_go, mail_to, posted_to}
+use Rattle.letter_port.specs.Mails.{MayBePosted, IsReadAsPosted, Mail, Posted, SendsLetters, can_go, mail_to, posted_to}
 use Rattle.letter_port.proofs.Places.{same_as_itself}
 
 -- more mails after some
@@ -26,8 +26,8 @@ posted_then who (letter ∷ some) more =
     ap (λ xs. here ++ xs) (posted_then who some more) ∙ sym (append_assoc here (posted_to who some) (posted_to who more))
 
 -- each of both
-pub each_then : (some more : List Posted) → AllByRecursion IsPosted some → AllByRecursion IsPosted more
-    → AllByRecursion IsPosted (some ++ more)
+pub each_then : (some more : List Posted) → AllByRecursion MayBePosted some → AllByRecursion MayBePosted more
+    → AllByRecursion MayBePosted (some ++ more)
 each_then [] more some_are more_are = more_are
 each_then (letter ∷ some) more some_are more_are = (some_are.0, each_then some more some_are.1 more_are)
 
@@ -60,8 +60,8 @@ mail_is sizes who (mail ∷ more) are =
     (mail_is sizes who more are.1)
 
 -- letters are whole where what is in them for each node are messages and notices
-pub letters_are : (letters : List Posted) → AllByRecursion IsPosted letters
-    → ((who : NodeId) → AllByRecursion IsEnclosable (posted_to who letters)) → AllByRecursion IsWhole letters
+pub letters_are : (letters : List Posted) → AllByRecursion MayBePosted letters
+    → ((who : NodeId) → AllByRecursion IsEnclosable (posted_to who letters)) → AllByRecursion IsReadAsPosted letters
 letters_are [] each all = tt
 letters_are (letter ∷ more) each all =
     let rest : List (List ℕ) = posted_to letter.receiver more in

@@ -3,29 +3,29 @@
 use Rattle.std.proofs.Common.{◌≡◌, ◌∙◌, ◌⊎◌, ℕ, List, [], ◌∷◌, ◌++◌, Some, None, Ok, Err, inl, inr, refl, sym, ap, subst}
 use Rattle.std.specs.List.{flat_map, AllByRecursion}
 use Rattle.std.proofs.lemmas.List.{append-nil}
-use Rattle.letters.specs.Letters.{BeginsWith, IsEnclosable, enclosed}
+use Rattle.letters.specs.Letters.{HasFirstMessage, IsEnclosable, enclosed}
 use Rattle.letters.proofs.Firsts.{firsts_are_one}
 use Rattle.port.specs.Calls.{Receiving}
 use Rattle.letter_port.specs.LetterPorts.{DropsAll, LetterParts, Opens, OpensLetter, TakesLeft, TakesNext}
-use Rattle.letter_port.specs.Runs.{AreOf, Comes, Given, TakesLettersWhole, TakesWhole, messages_of}
+use Rattle.letter_port.specs.Runs.{AreOf, ReceivesBeneath, Given, TakesLettersWhole, TakesWhole, messages_of}
 
 -- messages behind their lengths begin with the first of them
 first_of : (message : List ℕ) (others : List (List ℕ)) (left : List ℕ) → AllByRecursion IsEnclosable (message ∷ others)
-    → left ≡ flat_map enclosed (message ∷ others) → BeginsWith message (flat_map enclosed others) left
+    → left ≡ flat_map enclosed (message ∷ others) → HasFirstMessage message (flat_map enclosed others) left
 first_of message others left each is = record { short = each.0.short; is = is }
 
 -- nothing is left where no message begins
 none_left : (left : List (List ℕ)) (bytes : List ℕ) → AllByRecursion IsEnclosable left → bytes ≡ flat_map enclosed left
-    → ((message more : List ℕ) → BeginsWith message more bytes → ⊥) → left ≡ []
+    → ((message more : List ℕ) → HasFirstMessage message more bytes → ⊥) → left ≡ []
 none_left [] bytes each is none = refl
 none_left (message ∷ others) bytes each is none = absurd (none message (flat_map enclosed others) (first_of message others bytes each is))
 
 -- bytes that begin with a message aren't none
-begins_some : (message more bytes : List ℕ) → BeginsWith message more bytes → bytes ≡ [] → ⊥
+begins_some : (message more bytes : List ℕ) → HasFirstMessage message more bytes → bytes ≡ [] → ⊥
 begins_some message more bytes first none = let e : [] ≡ enclosed message ++ more = sym none ∙ first.is in absurd (cc)
 
 one_taken : {P : Type 0} (Received : Receiving P) (old next new : LetterParts P) (more : List Given) (left : List (List ℕ))
-    (message : List ℕ) → AllByRecursion IsEnclosable left → old.left ≡ flat_map enclosed left → BeginsWith message next.left old.left
+    (message : List ℕ) → AllByRecursion IsEnclosable left → old.left ≡ flat_map enclosed left → HasFirstMessage message next.left old.left
     → next.port ≡ old.port
     → ((others : List (List ℕ)) → AllByRecursion IsEnclosable others → next.left ≡ flat_map enclosed others
     → TakesWhole Received next new more others)
@@ -35,7 +35,7 @@ one_taken Received old next new more (here ∷ others) message each is first por
     let same = firsts_are_one message next.left here (flat_map enclosed others) old.left first (first_of here others old.left each is) in
     let rest = go others each.1 same.1 in record {
       came = rest.came;
-      comes = subst (λ p. Comes Received p new.port rest.came) port rest.comes;
+      comes = subst (λ p. ReceivesBeneath Received p new.port rest.came) port rest.comes;
       messages = rest.messages;
       are = rest.are;
       rest = rest.rest;

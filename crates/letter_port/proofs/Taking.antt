@@ -1,12 +1,12 @@
 -- What a receive gives: what is left of a letter, and then the next one.
 use Rattle.std.proofs.Common.{◌≡◌, ◌∙◌, ℕ, ◌+◌, ◌-◌, ◌≤◌, min, List, [], ◌∷◌, ◌++◌, length, take, drop, Option, Some, None, Result, Ok, Err}
-use Rattle.std.proofs.Common.{IfNone, IfSome, inl, inr, refl, sym, ap, subst, arith, length-append}
+use Rattle.std.proofs.Common.{IfNone, IfSome, inr, refl, sym, ap, subst, arith, length-append}
 use Rattle.std.specs.List.{flat_map}
 use Rattle.std.proofs.lemmas.List.{drop-drop, drop-take, drop_at, length-drop, length-take}
 use Rattle.xid.specs.declared.refusals.Refusal.{Refusal}
 use Rattle.xid.specs.declared.refusals.Refusal.TheVariants.{PortFault}
 use Rattle.stable_record.specs.Held.{most_faults}
-use Rattle.letters.specs.Letters.{BeginsWith, IsLetterOf, enclosed}
+use Rattle.letters.specs.Letters.{HasFirstMessage, IsLetterOf, enclosed}
 use Rattle.letters.proofs.Firsts.{firsts_are_one}
 use Rattle.port.specs.Calls.{Receiving}
 use Rattle.port.specs.Ports.{taken_from}
@@ -40,20 +40,10 @@ pub from_next : {P : Type 0} (Received : Receiving P) (inside old new : LetterPa
 from_next Received inside old new taken same sizes next =
     subst (λ (o : LetterParts _). LetterReceived Received o new taken) same (record { sizes = sizes; takes = inr next })
 
--- what was left is given
-pub from_left : {P : Type 0} (Received : Receiving P) (inside old new : LetterParts P) (message : List ℕ) → inside ≡ old
-    → new.sizes ≡ inside.sizes → new.port ≡ inside.port → new.dropped ≡ inside.dropped → BeginsWith message new.left inside.left
-    → LetterReceived Received old new (Ok (Some message))
-from_left Received inside old new message same sizes port dropped first =
-    subst (λ (o : LetterParts _). LetterReceived Received o new (Ok (Some message))) same (record {
-      sizes = sizes;
-      takes = inl (record { message = message; first = first; is = refl; port = port; dropped = dropped });
-    })
-
 -- nothing of what is no letter is taken
 pub all_dropped : {P : Type 0} (Received : Receiving P) (inside old middle new : LetterParts P) (bytes : List ℕ) (refusal : Refusal)
     → inside ≡ old → middle.sizes ≡ inside.sizes → middle.left ≡ [] → middle.dropped ≡ inside.dropped
-    → ((message more : List ℕ) → BeginsWith message more inside.left → ⊥) → Received inside.port middle.port (Ok (Some bytes))
+    → ((message more : List ℕ) → HasFirstMessage message more inside.left → ⊥) → Received inside.port middle.port (Ok (Some bytes))
     → ((messages : List (List ℕ)) → IsLetterOf messages bytes → ⊥) → refusal ≡ PortFault
     → new ≡ record middle { dropped = min (middle.dropped + 1) most_faults } → LetterReceived Received old new (Err refusal)
 all_dropped Received inside old middle new bytes refusal same sizes left dropped none received other fault is =
@@ -73,7 +63,7 @@ all_dropped Received inside old middle new bytes refusal same sizes left dropped
 -- a letter begins with the first of its messages
 letter_begins : (messages : List (List ℕ)) (bytes : List ℕ) → IsLetterOf messages bytes
     → (message : List ℕ) × (others : List (List ℕ)) × (messages ≡ message ∷ others)
-    × BeginsWith message (flat_map enclosed others) (drop 1 bytes)
+    × HasFirstMessage message (flat_map enclosed others) (drop 1 bytes)
 letter_begins [] bytes letter = absurd (letter.some refl)
 letter_begins (message ∷ others) bytes letter =
     (message, others, refl, record { short = letter.each.0.short; is = ap (drop 1) letter.is })
@@ -81,17 +71,17 @@ letter_begins (message ∷ others) bytes letter =
 -- of one that is whole the first message is given
 pub opened : {P : Type 0} (old new : LetterParts P) (messages : List (List ℕ)) (bytes left buffer : List ℕ) (result : Option ℕ)
     → IsLetterOf messages bytes → left ≡ drop 1 bytes → new.dropped ≡ old.dropped
-    → IfNone result ((message more : List ℕ) → BeginsWith message more left → ⊥)
-    → IfSome result (λ len. BeginsWith (take len buffer) new.left left)
+    → IfNone result ((message more : List ℕ) → HasFirstMessage message more left → ⊥)
+    → IfSome result (λ len. HasFirstMessage (take len buffer) new.left left)
     → OpensLetter bytes old new (taken_from buffer (Ok result))
 opened old new messages bytes left buffer None letter is dropped none some =
     let begins = letter_begins messages bytes letter in
     absurd (none begins.0 (flat_map enclosed begins.1)
-    (subst (λ (xs : List ℕ). BeginsWith begins.0 (flat_map enclosed begins.1) xs) (sym is) begins.3))
+    (subst (λ (xs : List ℕ). HasFirstMessage begins.0 (flat_map enclosed begins.1) xs) (sym is) begins.3))
 opened old new messages bytes left buffer (Some len) letter is dropped none some =
     let begins = letter_begins messages bytes letter in
     let same = firsts_are_one (take len buffer) new.left begins.0 (flat_map enclosed begins.1) left some
-    (subst (λ (xs : List ℕ). BeginsWith begins.0 (flat_map enclosed begins.1) xs) (sym is) begins.3) in record {
+    (subst (λ (xs : List ℕ). HasFirstMessage begins.0 (flat_map enclosed begins.1) xs) (sym is) begins.3) in record {
       message = begins.0;
       others = begins.1;
       letter = subst (λ (ms : List (List ℕ)). IsLetterOf ms bytes) begins.2 letter;

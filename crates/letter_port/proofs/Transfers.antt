@@ -21,7 +21,7 @@ use Rattle.floors.specs.Worlds.{Notice, is_node}
 use Rattle.letters.specs.Letters.{IsEnclosable, enclosed, letter_spelling, letter_version}
 use Rattle.port.specs.Calls.{Sending, SendsAll, TellsAll}
 use Rattle.letter_port.specs.declared.outbox.Outbox.{Outbox}
-use Rattle.letter_port.specs.Mails.{GoesInLetters, IsPosted, Mail, Posted, SendsLetters, can_go, mail_of, mail_of_notice, mail_to}
+use Rattle.letter_port.specs.Mails.{GoesInLetters, MayBePosted, Mail, Posted, SendsLetters, can_go, mail_of, mail_of_notice, mail_to}
 use Rattle.letter_port.specs.Mails.{posted_to}
 use Rattle.letter_port.specs.Outboxes.{AllGo, Dispatched, Encloses, Loses, MakesRoom, OutboxSent, Puts, letter_in}
 use Rattle.letter_port.specs.Places.{node_count, node_in}
@@ -104,7 +104,7 @@ module _ {P : Type 0} (Sent : Sending P) (sizes : Sizes) where
     where
       pub letters : List Posted
       pub sends : SendsLetters Sent old new letters
-      pub each : AllByRecursion IsPosted letters
+      pub each : AllByRecursion MayBePosted letters
       pub exact : (who : NodeId) → posted_to who letters ++ after who ≡ begun who ++ mail_to sizes who mails
 
   -- one after another

@@ -13,7 +13,7 @@ use Rattle.node_core.specs.declared.config.Sizes.{Sizes}
 use Rattle.node_core.specs.Opening.{restart_answer}
 use Rattle.floors.specs.Worlds.{is_done, notices_of}
 use Rattle.floored.specs.Nodes.{FlooredStands}
-use Rattle.letters.specs.Letters.{BeginsWith, IsLetterOf, enclosed}
+use Rattle.letters.specs.Letters.{HasFirstMessage, IsLetterOf, enclosed}
 use Rattle.port.specs.Calls.{Receiving, Sending}
 use Rattle.port.specs.Members.{MemberParts, RaisesMember}
 use Rattle.letter_port.specs.Mails.{GoesInLetters, Mail, mail_of_notice}
@@ -33,7 +33,7 @@ pub record SendsOut {P : Type 0} (Sent : Sending P) (old new : LetterParts P) (m
 -- the first message that was left was taken
 pub record TakesLeft {P : Type 0} (old new : LetterParts P) (taken : Result (Option (List ℕ)) Refusal) : Type 0 where
   pub message : List ℕ
-  pub first : BeginsWith message new.left old.left
+  pub first : HasFirstMessage message new.left old.left
   pub is : taken ≡ Ok (Some message)
   pub port : new.port ≡ old.port
   pub dropped : new.dropped ≡ old.dropped
@@ -69,7 +69,7 @@ Opens (Err refusal) old new taken = (taken ≡ Err PortFault) × TakesNothing ol
 -- nothing was left, and the port was asked
 pub record TakesNext {P : Type 0} (Received : Receiving P) (old new : LetterParts P) (taken : Result (Option (List ℕ)) Refusal) : Type 0
   where
-    pub none : (message more : List ℕ) → BeginsWith message more old.left → ⊥
+    pub none : (message more : List ℕ) → HasFirstMessage message more old.left → ⊥
     pub came : Result (Option (List ℕ)) Refusal
     pub received : Received old.port new.port came
     pub opens : Opens came old new taken

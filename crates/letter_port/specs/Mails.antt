@@ -34,7 +34,7 @@ pub record Posted : Type 0 where
   pub messages : List (List ℕ)
 
 -- one is sent with something in it, and is short
-pub record IsPosted (letter : Posted) : Type 0 where
+pub record MayBePosted (letter : Posted) : Type 0 where
   pub some : letter.messages ≢ []
   pub short : length (letter_spelling letter.messages) ≤ MAX_LETTER
 
@@ -61,14 +61,14 @@ SendsLetters {P} Sent old new (letter ∷ more) =
     × SendsLetters Sent next new more
 
 -- what is sent as one is a letter of what is in it
-abbrev pub IsWhole : Posted → Type 0
-IsWhole letter = IsLetterOf letter.messages (letter_spelling letter.messages)
+abbrev pub IsReadAsPosted : Posted → Type 0
+IsReadAsPosted letter = IsLetterOf letter.messages (letter_spelling letter.messages)
 
 -- all that was to go went, in letters: to each node exactly what was for it, once each and in order. Where all of it are messages and
 -- notices, each receiver takes what is sent to it for a letter of these
 pub record GoesInLetters {P : Type 0} (Sent : Sending P) (sizes : Sizes) (old new : P) (mails : List Mail) : Type 0 where
   pub letters : List Posted
   pub sends : SendsLetters Sent old new letters
-  pub each : AllByRecursion IsPosted letters
+  pub each : AllByRecursion MayBePosted letters
   pub exact : (who : NodeId) → posted_to who letters ≡ mail_to sizes who mails
-  pub whole : AllByRecursion (λ mail. IsEnclosable mail.bytes) mails → AllByRecursion IsWhole letters
+  pub whole : AllByRecursion (λ mail. IsEnclosable mail.bytes) mails → AllByRecursion IsReadAsPosted letters

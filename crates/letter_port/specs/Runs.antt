@@ -17,9 +17,9 @@ ReceivesAll {P} Received old new (given ∷ more) =
     (next : LetterParts P) × LetterReceived Received old next given × ReceivesAll Received next new more
 
 -- one receive of the port beneath after another
-abbrev pub Comes : {P : Type 0} → Receiving P → (old new : P) → List Given → Type 0
-Comes Received old new [] = new ≡ old
-Comes {P} Received old new (came ∷ more) = (next : P) × Received old next came × Comes Received next new more
+abbrev pub ReceivesBeneath : {P : Type 0} → Receiving P → (old new : P) → List Given → Type 0
+ReceivesBeneath Received old new [] = new ≡ old
+ReceivesBeneath {P} Received old new (came ∷ more) = (next : P) × Received old next came × ReceivesBeneath Received next new more
 
 -- the messages that were given
 abbrev pub messages_of : List Given → List (List ℕ)
@@ -45,7 +45,7 @@ AreOf (Err refusal ∷ more) messages = AreOf more messages
 pub record TakesWhole {P : Type 0} (Received : Receiving P) (old new : LetterParts P) (given : List Given) (left : List (List ℕ)) : Type 0
   where
     pub came : List Given
-    pub comes : Comes Received old.port new.port came
+    pub comes : ReceivesBeneath Received old.port new.port came
     pub messages : List (List ℕ)
     pub are : AreOf came messages
     pub rest : List (List ℕ)

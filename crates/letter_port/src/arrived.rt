@@ -1,5 +1,5 @@
 ghost use Rattle.std.specs.Prelude.{◌≡◌, ◌≤◌, ℕ, List, [], length, take, IfNone, IfSome};
-ghost use Rattle.letters.specs.Letters.{BeginsWith};
+ghost use Rattle.letters.specs.Letters.{HasFirstMessage};
 
 use letters::take_message;
 use port::MAX_TAKEN;
@@ -49,9 +49,9 @@ impl Arrived {
 
     /// Takes the first message that is left, to the front of a buffer, and answers how many bytes it has. Where none is, nothing is left.
     pub(crate) fn take(&mut self, buffer: &mut [u8; MAX_TAKEN]) -> Option<usize>
-        ensures none { IfNone result ((message more : List ℕ) → BeginsWith message more self.old → ⊥) }
+        ensures none { IfNone result ((message more : List ℕ) → HasFirstMessage message more self.old → ⊥) }
         ensures over { IfNone result (self.new ≡ []) }
-        ensures some { IfSome result (λ len. BeginsWith (take len buffer.new) self.new self.old) }
+        ensures some { IfSome result (λ len. HasFirstMessage (take len buffer.new) self.new self.old) }
         ensures within { IfSome result (λ len. len ≤ MAX_TAKEN) }
     {
         let (at, end) = (self.at, self.end);

@@ -1,33 +1,23 @@
 -- The first message of what is left of a letter: where one begins, and that it is one alone. What takes letters apart rests on it.
 use Rattle.std.proofs.Common.{◌≡◌, ◌∙◌, ℕ, ◌+◌, ◌/◌, ◌%◌, ◌<◌, ◌≤◌, ◌^◌, List, [], ◌∷◌, ◌++◌, length, take, drop, sym, ap, arith}
-use Rattle.std.proofs.Common.{length-append}
 use Rattle.std.proofs.Common.{append_assoc}
 use Rattle.std.proofs.lemmas.List.{take-append-drop, length-take, drop_at}
 use Rattle.std.proofs.Math.Seq.{take-append_seam, drop-append_seam}
 use Rattle.byteorder.specs.Endian.{big_number, big_bytes}
 use Rattle.byteorder.specs.Numbers.{big_number-reads_back, length-bytes_high_first}
 use Rattle.xid.specs.Names.{IsBytes}
-use Rattle.letters.specs.Letters.{enclosed, BeginsWith}
+use Rattle.letters.specs.Letters.{HasFirstMessage}
 
 -- what a message's length and its bytes read as
-pub length_read : (message more rest : List ℕ) → BeginsWith message more rest → big_number 2 rest ≡ length message
+pub length_read : (message more rest : List ℕ) → HasFirstMessage message more rest → big_number 2 rest ≡ length message
 length_read message more rest first =
     ap (big_number 2) (first.is ∙ append_assoc (big_bytes 2 (length message)) message more)
     ∙ big_number-reads_back 2 (length message) (message ++ more) (omega (arith, first.short))
 
-pub behind_length : (message more rest : List ℕ) → BeginsWith message more rest → drop 2 rest ≡ message ++ more
+pub behind_length : (message more rest : List ℕ) → HasFirstMessage message more rest → drop 2 rest ≡ message ++ more
 behind_length message more rest first =
     ap (drop 2) (first.is ∙ append_assoc (big_bytes 2 (length message)) message more)
     ∙ drop_at (big_bytes 2 (length message)) (message ++ more) 2 (length-bytes_high_first 2 (length message))
-
-pub length_first : (message more rest : List ℕ) → BeginsWith message more rest → length rest ≡ 2 + (length message + length more)
-length_first message more rest first =
-    let whole : length rest ≡ length (enclosed message ++ more) = ap length first.is in
-    let parts : length (enclosed message ++ more) ≡ length (enclosed message) + length more = length-append (enclosed message) more in
-    let front : length (enclosed message) ≡ length (big_bytes 2 (length message)) + length message =
-    length-append (big_bytes 2 (length message)) message in
-    let two : length (big_bytes 2 (length message)) ≡ 2 = length-bytes_high_first 2 (length message) in
-    omega (arith, whole, parts, front, two)
 
 -- two bytes are those of the number that they read as
 two : (bytes : List ℕ) → IsBytes bytes → 2 ≤ length bytes → bytes ≡ big_bytes 2 (big_number 2 bytes) ++ drop 2 bytes
@@ -41,7 +31,7 @@ two (a ∷ b ∷ rest) is le =
 
 -- where as many bytes follow as a length says, they are the first message
 pub first_of : (rest : List ℕ) → IsBytes rest → 2 ≤ length rest → big_number 2 rest < 2 ^ 16 → big_number 2 rest ≤ length (drop 2 rest)
-    → BeginsWith (take (big_number 2 rest) (drop 2 rest)) (drop (big_number 2 rest) (drop 2 rest)) rest
+    → HasFirstMessage (take (big_number 2 rest) (drop 2 rest)) (drop (big_number 2 rest) (drop 2 rest)) rest
 first_of rest bytes long short le =
     let n : ℕ = big_number 2 rest in
     let behind : List ℕ = drop 2 rest in
@@ -55,7 +45,7 @@ first_of rest bytes long short le =
     }
 
 -- one message is first, and one text follows it
-pub firsts_are_one : (message more message' more' rest : List ℕ) → BeginsWith message more rest → BeginsWith message' more' rest
+pub firsts_are_one : (message more message' more' rest : List ℕ) → HasFirstMessage message more rest → HasFirstMessage message' more' rest
     → (message ≡ message') × (more ≡ more')
 firsts_are_one message more message' more' rest first other =
     let same : length message ≡ length message' = sym (length_read message more rest first) ∙ length_read message' more' rest other in

@@ -6,8 +6,7 @@ use Rattle.std.specs.List.{flat_map}
 use Rattle.byteorder.specs.Endian.{big_bytes}
 use Rattle.byteorder.specs.Numbers.{length-bytes_high_first}
 use Rattle.wire.specs.Reading.{byte_at}
-use Rattle.letters.specs.declared.letter.TheConstants.{MAX_LETTER}
-use Rattle.letters.specs.Letters.{AreEnclosed, BeginsWith, IsLetterOf, IsMessageOrNotice, enclosed, letter_version}
+use Rattle.letters.specs.Letters.{AreEnclosed, HasFirstMessage, IsLetterOf, IsMessageOrNotice, enclosed, letter_version}
 use Rattle.wire.proofs.Spelled.{some_same}
 use Rattle.letters.proofs.Firsts.{firsts_are_one}
 
@@ -20,11 +19,8 @@ some_by bytes test is holds =
 abbrev pub AreSome : List ℕ → Type 0
 AreSome bytes = (messages : List (List ℕ)) × AreEnclosed messages bytes
 
-pub none_enclosed : AreSome []
-none_enclosed = ([], record { each = tt; is = refl })
-
 -- one more in front
-pub one_more : (message more rest : List ℕ) → BeginsWith message more rest → IsMessageOrNotice message → AreSome more → AreSome rest
+pub one_more : (message more rest : List ℕ) → HasFirstMessage message more rest → IsMessageOrNotice message → AreSome more → AreSome rest
 one_more message more rest first one (messages, are) = (
   message ∷ messages,
   record {
@@ -35,7 +31,7 @@ one_more message more rest first one (messages, are) = (
 
 -- bytes that aren't empty begin with the first of their messages
 pub first_is : (messages : List (List ℕ)) (bytes : List ℕ) → AreEnclosed messages bytes → bytes ≢ []
-    → (message : List ℕ) × (more : List ℕ) × BeginsWith message more bytes × IsMessageOrNotice message × AreSome more
+    → (message : List ℕ) × (more : List ℕ) × HasFirstMessage message more bytes × IsMessageOrNotice message × AreSome more
 first_is [] bytes are some = absurd (some are.is)
 first_is (message ∷ messages) bytes are some = (
   message,
@@ -46,7 +42,7 @@ first_is (message ∷ messages) bytes are some = (
 )
 
 -- and without the first
-pub one_less : (message more rest : List ℕ) → BeginsWith message more rest → rest ≢ [] → AreSome rest
+pub one_less : (message more rest : List ℕ) → HasFirstMessage message more rest → rest ≢ [] → AreSome rest
     → IsMessageOrNotice message × AreSome more
 one_less message more rest first some (messages, are) =
     let found = first_is messages rest are some in
@@ -62,19 +58,6 @@ enclosed_long message =
     length-append (big_bytes 2 (length message)) message in
     let two : length (big_bytes 2 (length message)) ≡ 2 = length-bytes_high_first 2 (length message) in
     omega (arith, parts, two)
-
--- a letter is its version, and then messages of which there is one at least
-pub letter_of : (bytes rest : List ℕ) → length bytes ≤ MAX_LETTER → bytes ≡ letter_version ∷ rest → rest ≢ [] → AreSome rest
-    → (messages : List (List ℕ)) × IsLetterOf messages bytes
-letter_of bytes rest few begins some (messages, are) = (
-  messages,
-  record {
-    few = few;
-    some = λ none. some (are.is ∙ ap (flat_map enclosed) none);
-    each = are.each;
-    is = begins ∙ ap (λ (xs : List ℕ). letter_version ∷ xs) are.is;
-  },
-)
 
 tails_are_one : (a b : ℕ) (xs ys : List ℕ) → a ∷ xs ≡ b ∷ ys → (a ≡ b) × (xs ≡ ys)
 tails_are_one a b xs ys e = (cc, cc)
@@ -95,15 +78,6 @@ pub nothing_is_none : (messages : List (List ℕ)) (bytes : List ℕ) → None �
 nothing_is_none messages bytes e letter =
     let none : ◌≡◌ {A = Option (ℕ × List ℕ)} None (Some (letter_version, flat_map enclosed messages)) = e ∙ ap byte_at letter.is in
     absurd (cc (none))
-
-pub of_letter : (messages : List (List ℕ)) (bytes rest : List ℕ) → bytes ≡ letter_version ∷ rest → IsLetterOf messages bytes → AreSome rest
-of_letter messages bytes rest begins letter = (
-  messages,
-  record {
-    each = letter.each;
-    is = (tails_are_one letter_version letter_version rest (flat_map enclosed messages) (sym begins ∙ letter.is)).1;
-  },
-)
 
 -- one with nothing behind its version has no message
 pub empty_is_none : (messages : List (List ℕ)) (bytes rest : List ℕ) → bytes ≡ letter_version ∷ rest → length rest ≡ 0

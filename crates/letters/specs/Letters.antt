@@ -21,7 +21,7 @@ abbrev pub letter_spelling : List (List ℕ) → List ℕ
 letter_spelling messages = letter_version ∷ flat_map enclosed messages
 
 -- what is left of a letter begins with a message, whose length fits two bytes, and goes on with what follows it
-pub record BeginsWith (message more rest : List ℕ) : Type 0 where
+pub record HasFirstMessage (message more rest : List ℕ) : Type 0 where
   pub short : length message < 2 ^ 16
   pub is : rest ≡ enclosed message ++ more
 

@@ -1,5 +1,5 @@
-ghost use Rattle.std.specs.Prelude.{◌≡◌, ◌↔◌, IsTrue, IfNone, IfSome, ℕ, List};
-ghost use Rattle.letters.specs.Letters.{AreEnclosed, BeginsWith, IsLetterOf, IsMessageOrNotice};
+ghost use Rattle.std.specs.Prelude.{◌↔◌, IsTrue, IfNone, IfSome, ℕ, List};
+ghost use Rattle.letters.specs.Letters.{AreEnclosed, HasFirstMessage, IsLetterOf, IsMessageOrNotice};
 
 use crate::letter::{LENGTH_BYTES, LETTER_VERSION, MAX_LETTER};
 use byteorder::{BigEndian, ByteOrder};
@@ -7,8 +7,8 @@ use wire::{Notice, take_byte, view_of};
 
 /// The first message of what is left of a letter, and what is left behind it. None where no message begins, or one that isn't whole.
 pub fn take_message(rest: &[u8]) -> Option<(&[u8], &[u8])>
-    ensures none { IfNone result ((message more : List ℕ) → BeginsWith message more rest.now → ⊥) }
-    ensures some { IfSome result (λ taken. BeginsWith taken.0.now taken.1.now rest.now) }
+    ensures none { IfNone result ((message more : List ℕ) → HasFirstMessage message more rest.now → ⊥) }
+    ensures some { IfSome result (λ taken. HasFirstMessage taken.0.now taken.1.now rest.now) }
 {
     if rest.len() < LENGTH_BYTES {
         return None;

@@ -1,13 +1,13 @@
 use Rattle.std.proofs.Common.{◌≡◌, ◌≤◌, ◌∙◌, ◌<◌, ◌^◌, ◌++◌, length, take, sym, ap, subst, arith}
 use Rattle.std.proofs.lemmas.List.{take_at}
-use Rattle.letters.specs.Letters.{BeginsWith, enclosed}
+use Rattle.letters.specs.Letters.{HasFirstMessage, enclosed}
 use Rattle.letter_port.proofs.Taking.{behind_front}
 use Rattle.letter_port.proofs.arrived.Arrived.take.Goals as goal
 
 pub returns-in_default-clause-none : goal.returns-in_default-clause-none
 returns-in_default-clause-none c =
     λ message more first.
-    c.in_default.ensures.none message more (subst (λ rest. BeginsWith message more rest) (sym c.self.view_is) first)
+    c.in_default.ensures.none message more (subst (λ rest. HasFirstMessage message more rest) (sym c.self.view_is) first)
 
 pub returns-clause-some : goal.returns-clause-some
 returns-clause-some c =
