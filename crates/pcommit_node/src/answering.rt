@@ -1,9 +1,8 @@
 //! What came of a group: what clients are answered, and what is noted of transactions and branches.
 
-use crate::client::Stage;
 use crate::desk::{CLIENT_LOOKS, Desk};
 use crate::failure::Failure;
-use crate::group::{Item, Origin, Work};
+use crate::group::replies_of;
 use crate::life::{let_by_branches, standing};
 use crate::socket::Counting;
 use hashing::WordKey;
@@ -12,9 +11,11 @@ use letter_port::LetterPort;
 use node_core::{Input, Output};
 use port::{Member, Port};
 use protocol::{Action, Answer, Boxed, Change, NodeId, Request, Standing, View};
-use serving::{Counts, Wish, put_info, put_open, put_reply, put_table, time_of};
+use serving::{
+    Client, Counts, Item, Origin, Stage, UNTIMELY, Wish, Work, put_info, put_open, put_reply,
+    put_table, time_of,
+};
 use stable_record::FileRecord;
-use std::alloc::Global;
 use std::fs;
 use std::time::{Duration, Instant};
 use wire::{Kind, Rest, view_of};
@@ -22,8 +23,6 @@ use xid::{Floor, Refusal, Tx, XaCode, Xid};
 
 /// How many seconds the end of a transaction is awaited at most.
 const MOST_AWAITED: u64 = 60;
-/// How a start is answered whose name isn't of its time, and a floor above the clock's.
-const UNTIMELY: &[u8] = b"refused 19\n";
 /// How many bytes a page of memory has.
 const PAGE: u64 = 4096;
 /// From which turn on a leader asks after a transaction that it was asked about: that somebody waits for it is known.
@@ -31,7 +30,7 @@ const ASKED: usize = 2;
 
 /// A transaction's outcome came to be known, for which a client may wait.
 fn note_ended(desk: &mut Desk, tx: &Tx) -> Result<(), Failure> {
-    if !desk.door.clients.is_empty() {
+    if !desk.door.clients.seats.is_empty() {
         desk.ended.insert(*tx, ())?;
     }
     Ok(())
@@ -55,7 +54,7 @@ fn note_change(desk: &mut Desk, change: &Change, now: Instant) -> Result<(), Fai
 
 /// A leader that was asked about a transaction asks after it.
 fn note_question(desk: &mut Desk, bytes: &[u8], now: Instant) -> Result<(), Failure> {
-    let NodeId::L(_) = desk.who else {
+    let NodeId::L(_) = desk.terms.who else {
         return Ok(());
     };
     if let Ok(message) = view_of(bytes) {
@@ -68,10 +67,10 @@ fn note_question(desk: &mut Desk, bytes: &[u8], now: Instant) -> Result<(), Fail
 
 /// A leader that tells an outcome knows it.
 fn note_outcome(desk: &mut Desk, out: &Output) -> Result<(), Failure> {
-    let NodeId::L(_) = desk.who else {
+    let NodeId::L(_) = desk.terms.who else {
         return Ok(());
     };
-    if out.sends.count() == 0 || desk.door.clients.is_empty() {
+    if out.sends.count() == 0 || desk.door.clients.seats.is_empty() {
         return Ok(());
     }
     if let Kind::Commit(tx) | Kind::Abort(tx) = out.sends.at(0).message.kind() {
@@ -100,7 +99,7 @@ fn watch(
 fn note_time(desk: &mut Desk, xid: &Xid, action: &Action, answer: &Answer) {
     if let (Action::Start, Answer::Code(XaCode::Ok)) = (action, answer) {
         if let Some(time) = time_of(xid.gtrid()) {
-            desk.latest = desk.latest.max(time);
+            desk.terms.latest = desk.terms.latest.max(time);
         }
     }
 }
@@ -124,7 +123,7 @@ fn note_request(
         }
         Request::Commit { tx } => watch(desk, tx.get(), 0, answer, now)?,
         Request::Timeout { tx } => {
-            if let NodeId::L(_) = desk.who {
+            if let NodeId::L(_) = desk.terms.who {
                 watch(desk, tx.get(), ASKED, answer, now)?;
             }
         }
@@ -133,20 +132,8 @@ fn note_request(
     Ok(())
 }
 
-/// A client is answered, if it is still there.
-fn reply(desk: &mut Desk, origin: Origin, answer: &Answer) -> Result<(), Failure> {
-    let Origin::Client { key, number } = origin else {
-        return Ok(());
-    };
-    let alloc = desk.alloc;
-    if let Some(client) = desk.door.client_mut(key, number) {
-        put_reply(alloc, client.output_mut(), answer)?;
-    }
-    Ok(())
-}
-
-/// What came of an input is noted, and answered.
-fn answer_input(desk: &mut Desk, item: &Item, out: &Output, now: Instant) -> Result<(), Failure> {
+/// What came of an input is noted.
+fn note_input(desk: &mut Desk, item: &Item, out: &Output, now: Instant) -> Result<(), Failure> {
     if let Some(change) = &out.now {
         note_change(desk, change, now)?;
     }
@@ -159,10 +146,7 @@ fn answer_input(desk: &mut Desk, item: &Item, out: &Output, now: Instant) -> Res
             }
             note_question(desk, bytes.as_slice(), now)
         }
-        Work::Ask(request) => {
-            note_request(desk, item.origin, request, &out.reply, now)?;
-            reply(desk, item.origin, &out.reply)
-        }
+        Work::Ask(request) => note_request(desk, item.origin, request, &out.reply, now),
         Work::Say(_) | Work::Untimely | Work::Late => Ok(()),
     }
 }
@@ -192,7 +176,7 @@ fn counts_now<P: Port + Counting>(
         sent: port_counts.sent,
         dropped: port_counts.dropped,
         port_faults: port.faults(),
-        clients: desk.door.clients.len() as u64,
+        clients: desk.door.clients.seats.len() as u64,
         ..desk.counts
     }
 }
@@ -204,7 +188,7 @@ fn open_here(
     now: Instant,
 ) -> Result<Vec<(Tx, u64)>, Refusal> {
     let mut open = Vec::new(desk.alloc);
-    if let NodeId::R(_) = desk.who {
+    if let NodeId::R(_) = desk.terms.who {
         for tx in node.open_transactions()?.as_slice() {
             open.push((*tx, desk.watches.age(tx, now)))?;
         }
@@ -241,17 +225,19 @@ pub(crate) fn raise<P: Port>(
 fn raise_for<P: Port>(
     node: &mut Member<FileRecord>,
     port: &mut LetterPort<P>,
-    desk: &mut Desk,
-    origin: Origin,
+    desk: &Desk,
     floor: &Floor,
+    text: &mut Vec<u8>,
 ) -> Result<(), Failure> {
-    if let Some(times) = desk.times {
-        if times.is_ahead(floor, desk.clock) {
-            return put_text(desk, origin, UNTIMELY);
+    if let Some(times) = desk.terms.times {
+        if times.is_ahead(floor, desk.terms.clock) {
+            text.extend_from_slice(UNTIMELY)?;
+            return Ok(());
         }
     }
     let answer = raise(node, port, floor)?;
-    reply(desk, origin, &answer)
+    put_reply(desk.alloc, text, &answer)?;
+    Ok(())
 }
 
 /// To where the floor may rise of a resource manager that speaks for a database: that is said to who knows what the database has prepared.
@@ -263,57 +249,48 @@ fn say_rise(node: &Member<FileRecord>, desk: &Desk) -> Result<Option<Floor>, Fai
     }
 }
 
-/// What is wished beside inputs is answered.
+/// Puts what a wish is answered that is no input of the node. An await is answered later.
 fn say<P: Port + Counting>(
     node: &mut Member<FileRecord>,
     port: &mut LetterPort<P>,
-    desk: &mut Desk,
-    origin: Origin,
+    desk: &Desk,
     wish: &Wish,
+    text: &mut Vec<u8>,
     now: Instant,
 ) -> Result<(), Failure> {
-    let mut out = Vec::new(desk.alloc);
     let refused = match wish {
         Wish::Table => match node.table() {
-            Ok(rows) => put_table(desk.alloc, &mut out, rows.as_slice()),
+            Ok(rows) => put_table(desk.alloc, text, rows.as_slice()),
             Err(refusal) => Err(refusal),
         },
         Wish::Open => match open_here(node, desk, now) {
-            Ok(open) => put_open(desk.alloc, &mut out, &open),
+            Ok(open) => put_open(desk.alloc, text, &open),
             Err(refusal) => Err(refusal),
         },
         Wish::Info => {
             let (counts, rise) = (counts_now(node, desk, port), say_rise(node, desk)?);
             put_info(
                 desk.alloc,
-                &mut out,
-                desk.who,
+                text,
+                desk.terms.who,
                 &counts,
                 &node.floor(),
                 &rise,
             )
         }
-        Wish::Raise(floor) => return raise_for(node, port, desk, origin, floor),
-        Wish::Await(tx) => return begin_await(desk, origin, tx, now),
+        Wish::Raise(floor) => return raise_for(node, port, desk, floor, text),
+        Wish::Await(_) => return Ok(()),
         Wish::Elsewhere => Err(Refusal::NoSuch),
         _ => Err(Refusal::BadScript { line: 1 }),
     };
     match refused {
-        Ok(()) => put_text(desk, origin, &out),
+        Ok(()) => Ok(()),
         Err(Refusal::NoMemory) => Err(Failure::Memory),
-        Err(refusal) => reply(desk, origin, &Answer::Refused(refusal)),
+        Err(refusal) => {
+            put_reply(desk.alloc, text, &Answer::Refused(refusal))?;
+            Ok(())
+        }
     }
-}
-
-/// A client is answered a text, if it is still there.
-fn put_text(desk: &mut Desk, origin: Origin, text: &[u8]) -> Result<(), Failure> {
-    let Origin::Client { key, number } = origin else {
-        return Ok(());
-    };
-    if let Some(client) = desk.door.client_mut(key, number) {
-        client.output_mut().extend_from_slice(text)?;
-    }
-    Ok(())
 }
 
 /// A client's lines wait for the end of a transaction.
@@ -327,23 +304,54 @@ fn begin_await(
         return Ok(());
     };
     let tx = Boxed::new(desk.alloc, *tx.get())?;
-    let request = match desk.who {
+    let request = match desk.terms.who {
         NodeId::L(_) => Request::Status { tx },
         _ => Request::View { tx },
     };
-    if let Some(client) = desk.door.client_mut(key, number) {
-        client.stage = Stage::Awaiting {
-            request,
-            until: now
-                .checked_add(Duration::from_secs(MOST_AWAITED))
-                .unwrap_or(now),
-            is_asked: false,
-        };
+    let until = now
+        .checked_add(Duration::from_secs(MOST_AWAITED))
+        .unwrap_or(now);
+    match desk.door.clients.seats.get_mut(key) {
+        Some(client) if client.number() == number => client.begin_await(request, until),
+        _ => {}
     }
     Ok(())
 }
 
-/// What came of the items of a group is noted, and answered, in order.
+/// What came of the items of a group is noted, in order.
+fn note_all(desk: &mut Desk, items: &[Item], outs: &[Output], now: Instant) -> Result<(), Failure> {
+    let mut place = 0usize;
+    for item in items {
+        if item.work.is_handed() {
+            if let Some(out) = outs.get(place) {
+                note_input(desk, item, out, now)?;
+                place = place.saturating_add(1);
+            }
+        }
+    }
+    Ok(())
+}
+
+/// What the wishes of a group are answered, in order.
+fn say_all<P: Port + Counting>(
+    node: &mut Member<FileRecord>,
+    port: &mut LetterPort<P>,
+    desk: &Desk,
+    items: &[Item],
+    now: Instant,
+) -> Result<Vec<Vec<u8>>, Failure> {
+    let mut said = Vec::new(desk.alloc);
+    for item in items {
+        if let Work::Say(wish) = &item.work {
+            let mut text = Vec::new(desk.alloc);
+            say(node, port, desk, wish, &mut text, now)?;
+            said.push(text)?;
+        }
+    }
+    Ok(said)
+}
+
+/// What came of the items of a group is noted, and each client is told what its own are answered, in order.
 pub(crate) fn answer_all<P: Port + Counting>(
     node: &mut Member<FileRecord>,
     port: &mut LetterPort<P>,
@@ -352,43 +360,16 @@ pub(crate) fn answer_all<P: Port + Counting>(
     outs: &[Output],
     now: Instant,
 ) -> Result<(), Failure> {
-    let mut place = 0usize;
+    note_all(desk, items, outs, now)?;
+    let said = say_all(node, port, desk, items, now)?;
+    let replies = replies_of(desk.alloc, outs)?;
+    desk.door.clients.tell_all(items, &replies, &said)?;
     for item in items {
-        match &item.work {
-            Work::Say(wish) => say(node, port, desk, item.origin, wish, now)?,
-            Work::Untimely => put_text(desk, item.origin, UNTIMELY)?,
-            Work::Late => reply(desk, item.origin, &Answer::Code(XaCode::DupId))?,
-            _ => {
-                if let Some(out) = outs.get(place) {
-                    answer_input(desk, item, out, now)?;
-                    place = place.saturating_add(1);
-                }
-            }
+        if let Work::Say(Wish::Await(tx)) = &item.work {
+            begin_await(desk, item.origin, tx, now)?;
         }
     }
     Ok(())
-}
-
-/// Whether an answer to an await is the last word.
-fn is_last_word(answer: &Answer) -> bool {
-    !matches!(
-        answer,
-        Answer::Stands(
-            Standing::Unknown | Standing::Undecided | Standing::Working | Standing::Prepared
-        )
-    )
-}
-
-/// What an await is answered now, if it is.
-fn awaited(node: &mut Member<FileRecord>, stage: &Stage, now: Instant) -> Option<Answer> {
-    let Stage::Awaiting { request, until, .. } = stage else {
-        return None;
-    };
-    let answer = node.take(Input::Asked(request)).reply;
-    if is_last_word(&answer) || now >= *until {
-        return Some(answer);
-    }
-    None
 }
 
 /// The transaction whose end is awaited.
@@ -418,11 +399,17 @@ fn is_to_ask(stage: &Stage, ended: &IndexMap<Tx, (), WordKey>, now: Instant) -> 
     }
 }
 
-/// It isn't asked for the first time any more.
-fn note_asked(stage: &mut Stage) {
-    if let Stage::Awaiting { is_asked, .. } = stage {
-        *is_asked = true;
-    }
+/// A client that waits hears how its transaction stands now.
+fn answer_await(
+    node: &mut Member<FileRecord>,
+    client: &mut Client,
+    now: Instant,
+) -> Result<(), Refusal> {
+    let Stage::Awaiting { request, .. } = client.stage() else {
+        return Ok(());
+    };
+    let answer = node.take(Input::Asked(request)).reply;
+    client.hear_standing(&answer, now)
 }
 
 /// The awaits whose time has come are answered, and the lines behind them are looked at again. All are asked from time to time, since a
@@ -432,20 +419,15 @@ pub(crate) fn answer_awaited(
     desk: &mut Desk,
     now: Instant,
 ) -> Result<(), Failure> {
-    let alloc: Global = desk.alloc;
     let are_all = now >= desk.next_ask;
     if are_all {
         let looks = Duration::from_millis(CLIENT_LOOKS);
         desk.next_ask = now.checked_add(looks).unwrap_or(now);
     }
-    for key in 0..desk.door.clients.capacity() {
-        if let Some(client) = desk.door.clients.get_mut(key) {
-            if are_all || is_to_ask(&client.stage, &desk.ended, now) {
-                if let Some(answer) = awaited(node, &client.stage, now) {
-                    client.stage = Stage::Open;
-                    put_reply(alloc, client.output_mut(), &answer)?;
-                }
-                note_asked(&mut client.stage);
+    for key in 0..desk.door.clients.seats.capacity() {
+        if let Some(client) = desk.door.clients.seats.get_mut(key) {
+            if are_all || is_to_ask(client.stage(), &desk.ended, now) {
+                answer_await(node, client, now)?;
             }
         }
     }

@@ -1,18 +1,17 @@
 //! What the process keeps beside its node and its port.
 
-use crate::client::{Client, Stage};
 use crate::door::Door;
-use crate::group::{Item, MOST_ITEMS, Origin, Work};
-use crate::proving::{Lock, is_proof};
 use hashing::WordKey;
 use indexmap::IndexMap;
 use log::debug;
-use protocol::{Action, NodeId, Request};
-use serving::{Branches, Counts, Schedule, Shortening, Times, Watches, Wish, read_wish};
+use protocol::{Action, Request};
+use serving::{
+    Branches, Counts, Item, MOST_ITEMS, Origin, Schedule, Shortening, Terms, Times, Watches, Work,
+};
 use std::alloc::{AllocError, Global};
 use std::collections::VecDeque;
 use std::time::{Duration, Instant};
-use xid::{Floor, Tx, Xid};
+use xid::{Floor, Refusal, Tx, Xid};
 
 /// How often the branches that nobody touches are looked for, in milliseconds.
 const IDLE_LOOKS: u64 = 1000;
@@ -26,7 +25,8 @@ const TELLS: u64 = 60;
 pub(crate) struct Desk {
     pub(crate) rt: HostRuntime,
     pub(crate) alloc: Global,
-    pub(crate) who: NodeId,
+    /// On what terms the lines of clients are taken.
+    pub(crate) terms: Terms,
     pub(crate) door: Door,
     pub(crate) schedule: Schedule,
     pub(crate) watches: Watches,
@@ -37,14 +37,6 @@ pub(crate) struct Desk {
     pub(crate) idle: Option<Duration>,
     /// When such branches are looked for next.
     pub(crate) next_look: Instant,
-    /// How names stand in time, at a resource manager where they do.
-    pub(crate) times: Option<Times>,
-    /// Milliseconds since 1970 by the system's clock, where names stand in time.
-    pub(crate) clock: u64,
-    /// The latest time of a name that was begun here since the process began, 0 for none.
-    pub(crate) latest: u64,
-    /// Whether it speaks for a database beside it, and so raises no floor by itself.
-    pub(crate) is_beside: bool,
     /// Below which place no branch is begun any more, where it was asked to where the floor may rise: not above that.
     pub(crate) promised: Option<Floor>,
     /// When its floor may rise by itself next.
@@ -53,8 +45,6 @@ pub(crate) struct Desk {
     pub(crate) next_tell: Instant,
     /// Requests that nobody is answered for, which come into the next group.
     pub(crate) pending: VecDeque<Request>,
-    /// The client whose lines are looked at first.
-    pub(crate) first: usize,
     /// The transactions whose outcome came to be known here in this round.
     pub(crate) ended: IndexMap<Tx, (), WordKey>,
     /// When all ends that are awaited are asked after next, whatever came to be known.
@@ -67,7 +57,7 @@ impl Desk {
         if self.door.has_datagrams || !self.pending.is_empty() || self.door.is_waiting() {
             return Some(Duration::ZERO);
         }
-        let most = Duration::from_millis(if self.door.clients.is_empty() {
+        let most = Duration::from_millis(if self.door.clients.seats.is_empty() {
             IDLE_LOOKS
         } else {
             CLIENT_LOOKS
@@ -97,61 +87,10 @@ impl Desk {
         &mut self,
         items: &mut Vec<Item>,
         now: Instant,
-    ) -> Result<(), AllocError> {
-        let places = self.door.clients.capacity();
-        self.first = if self.first < places { self.first } else { 0 };
-        for key in self.first..places {
-            self.take_lines_of(key, items, now)?;
-        }
-        for key in 0..self.first {
-            self.take_lines_of(key, items, now)?;
-        }
-        self.first = self.first.saturating_add(1);
-        Ok(())
-    }
-
-    /// The lines of a client come into a group.
-    fn take_lines_of(
-        &mut self,
-        key: usize,
-        items: &mut Vec<Item>,
-        now: Instant,
-    ) -> Result<(), AllocError> {
-        let Some(client) = self.door.clients.get_mut(key) else {
-            return Ok(());
-        };
-        if !client.has_input() || !client.may_ask() {
-            return Ok(());
-        }
-        let input = client.take_input();
-        let mut rest = input.as_slice();
-        let mut has_taken = false;
-        for _ in items.len()..MOST_ITEMS {
-            let Some((line, after)) = client.next_line(rest) else {
-                break;
-            };
-            rest = after;
-            has_taken = true;
-            let Some(work) = hear(self.alloc, self.who, &self.door.lock, client, line)? else {
-                continue;
-            };
-            let work = timely(&self.times, self.clock, &self.promised, work);
-            if self.is_beside && matches!(&work, Work::Say(Wish::Info)) {
-                // at once: what comes behind it in this group is held to it
-                let wanted = wanted_floor(&self.times, self.clock, self.latest);
-                self.promised = higher(self.promised, wanted);
-            }
-            let is_last = holds_up(&work);
-            let number = client.number;
-            items.push(Item {
-                origin: Origin::Client { key, number },
-                work,
-            })?;
-            if is_last {
-                break;
-            }
-        }
-        client.put_back(rest, has_taken, now)
+    ) -> Result<(), Refusal> {
+        self.door
+            .clients
+            .take_lines(&self.terms, &mut self.promised, items, now)
     }
 
     /// The branches that a client started and left active are rolled back.
@@ -172,13 +111,13 @@ impl Desk {
 
     /// Clients that are gone, or too slow, are let go.
     pub(crate) fn sweep(&mut self, now: Instant) -> Result<(), AllocError> {
-        for key in 0..self.door.clients.capacity() {
-            let number = match self.door.clients.get(key) {
-                Some(client) if client.is_over() || client.is_slow(now) => client.number,
+        for key in 0..self.door.clients.seats.capacity() {
+            let number = match self.door.clients.seats.get(key) {
+                Some(client) if client.is_over() || client.is_slow(now) => client.number(),
                 _ => continue,
             };
             debug!(self.door.log; "client {number} went");
-            let _ = self.door.clients.try_remove(key);
+            self.door.let_go(key);
             self.roll_back_of(number)?;
         }
         Ok(())
@@ -187,7 +126,7 @@ impl Desk {
     /// Whether its floor may rise by itself: half of the time has passed for which names are kept, or the record is to be made shorter. If
     /// so, it may not before as long has passed again.
     pub(crate) fn may_rise(&mut self, now: Instant) -> bool {
-        if self.is_beside {
+        if self.terms.is_beside {
             return false;
         }
         let Some(
@@ -195,7 +134,7 @@ impl Desk {
                 keep: Some(keep),
                 ..
             },
-        ) = self.times
+        ) = self.terms.times
         else {
             return false;
         };
@@ -235,88 +174,5 @@ impl Desk {
             self.roll_back(xid)?;
         }
         Ok(())
-    }
-}
-
-/// Whether no line of a client is looked at before this work of it is answered.
-fn holds_up(work: &Work) -> bool {
-    match work {
-        Work::Say(Wish::Unknown | Wish::Elsewhere | Wish::Info) => false,
-        Work::Say(_) => true,
-        _ => false,
-    }
-}
-
-/// To where a floor is to rise by the clock and the latest name, where names stand in time.
-pub(crate) fn wanted_floor(times: &Option<Times>, clock: u64, latest: u64) -> Option<Floor> {
-    match times {
-        Some(times) => times.floor(clock, latest),
-        None => None,
-    }
-}
-
-/// The higher of two places; none is the lowest.
-fn higher(one: Option<Floor>, other: Option<Floor>) -> Option<Floor> {
-    match other {
-        Some(place) if place.is_higher_than(&one) => other,
-        _ => one,
-    }
-}
-
-/// Whether a name stands below a place, if there is one.
-fn is_below(place: &Option<Floor>, xid: &Xid) -> bool {
-    match place {
-        Some(place) => place.is_above_xid(xid),
-        None => false,
-    }
-}
-
-/// What is to be done, but that no branch is started whose name isn't of its time, or stands below the place that was promised.
-fn timely(times: &Option<Times>, clock: u64, promised: &Option<Floor>, work: Work) -> Work {
-    let (
-        Some(times),
-        Work::Ask(
-            Request::Call {
-                xid,
-                action: Action::Start,
-            },
-        ),
-    ) = (times, &work)
-    else {
-        return work;
-    };
-    if !times.is_timely(xid, clock) {
-        return Work::Untimely;
-    }
-    if is_below(promised, xid) {
-        return Work::Late;
-    }
-    work
-}
-
-/// What is to be done for a line of a client, if anything is.
-fn hear(
-    alloc: Global,
-    who: NodeId,
-    lock: &Option<Lock>,
-    client: &mut Client,
-    line: &[u8],
-) -> Result<Option<Work>, AllocError> {
-    if let Stage::Proving(challenge) = &client.stage {
-        let is_proved = match lock {
-            Some(lock) => is_proof(lock, challenge, line),
-            None => false,
-        };
-        if is_proved {
-            client.open();
-        } else {
-            client.is_broken = true;
-        }
-        return Ok(None);
-    }
-    match read_wish(alloc, who, line) {
-        Ok(Wish::Ask(request)) => Ok(Some(Work::Ask(request))),
-        Ok(wish) => Ok(Some(Work::Say(wish))),
-        Err(_) => Err(AllocError),
     }
 }

@@ -1,12 +1,11 @@
 //! Where clients come in, and who is there.
 
-use crate::client::{Challenge, Client, Stage};
 use crate::logging::Logger;
-use crate::proving::{Lock, put_challenge};
+use crate::stream::Stream;
 use log::{debug, warn};
 use mio::net::{TcpListener, TcpStream};
 use mio::{Events, Interest, Poll, Token};
-use slab::Slab;
+use serving::{Challenge, Client, Clients, Stage, put_challenge};
 use std::alloc::Global;
 use std::io::{self, ErrorKind};
 use std::random::RandomSource;
@@ -28,8 +27,11 @@ pub(crate) struct Door {
     pub(crate) log: Logger,
     pub(crate) poll: Poll,
     pub(crate) listener: Option<TcpListener>,
-    pub(crate) lock: Option<Lock>,
-    pub(crate) clients: Slab<Client>,
+    /// Whether clients have to prove that they have a key.
+    pub(crate) is_locked: bool,
+    pub(crate) clients: Clients,
+    /// The stream of each client, at the client's key.
+    pub(crate) streams: Vec<Option<Stream>>,
     /// How many clients have ever come in.
     pub(crate) count: u64,
     /// Whether datagrams may be there to be taken.
@@ -47,8 +49,8 @@ impl Door {
                 self.has_datagrams = true;
             } else if token == LISTENER.0 {
                 self.has_clients = true;
-            } else if let Some(client) = self.clients.get_mut(token.saturating_sub(CLIENTS)) {
-                client.wake(
+            } else if let Some(Some(stream)) = self.streams.get_mut(token.saturating_sub(CLIENTS)) {
+                stream.wake(
                     event.is_readable(),
                     event.is_writable(),
                     event.is_read_closed(),
@@ -83,63 +85,85 @@ impl Door {
 
     /// Takes in a client. One too many is closed.
     fn accept(&mut self, stream: TcpStream, now: Instant) -> io::Result<()> {
-        if self.clients.len() >= MAX_CLIENTS {
+        if self.clients.seats.len() >= MAX_CLIENTS {
             warn!(self.log; "a client was closed: there are {MAX_CLIENTS} already");
             return Ok(());
         }
         let mut stream = stream;
         let _ = stream.set_nodelay(true);
-        let token = Token(self.clients.vacant_key().saturating_add(CLIENTS));
+        let token = Token(self.clients.seats.vacant_key().saturating_add(CLIENTS));
         self.poll.registry().register(&mut stream, token, Interest::READABLE | Interest::WRITABLE)?;
         self.count = self.count.saturating_add(1);
-        let mut client = self.client(stream, now)?;
-        client.write();
+        let mut client = self.client(now)?;
+        let mut stream = Stream::new(stream);
+        stream.write(&mut client);
         debug!(self.log; "client {} came", self.count);
-        self.clients.insert(client)?;
+        self.seat(client, stream)
+    }
+
+    /// A new client and its stream stand at one key. Where memory runs out there is no such client.
+    fn seat(&mut self, client: Client, stream: Stream) -> io::Result<()> {
+        let places = self.clients.seats.vacant_key().saturating_add(1);
+        for _ in self.streams.len()..places {
+            self.streams.push(None)?;
+        }
+        let key = self.clients.seats.insert(client)?;
+        if let Some(place) = self.streams.get_mut(key) {
+            *place = Some(stream);
+        }
         Ok(())
     }
 
     /// A new client. One that has a key to prove is challenged.
-    fn client(&self, stream: TcpStream, now: Instant) -> io::Result<Client> {
+    fn client(&self, now: Instant) -> io::Result<Client> {
         let (alloc, number) = (self.alloc, self.count);
-        if self.lock.is_none() {
-            return Ok(Client::new(alloc, number, stream, Stage::Open, now));
+        if !self.is_locked {
+            return Ok(Client::new(alloc, number, Stage::Open, now));
         }
         let mut challenge: Challenge = [0; 16];
         self.log.fill_bytes(&mut challenge)?;
-        let mut client = Client::new(alloc, number, stream, Stage::Proving(challenge), now);
-        put_challenge(client.output_mut(), &challenge)?;
+        let mut greeting = Vec::new(alloc);
+        put_challenge(&mut greeting, &challenge)?;
+        let mut client = Client::new(alloc, number, Stage::Proving(challenge), now);
+        client.tell(&greeting)?;
         Ok(client)
+    }
+
+    /// A client is let go.
+    pub(crate) fn let_go(&mut self, key: usize) {
+        let _ = self.clients.seats.try_remove(key);
+        if let Some(place) = self.streams.get_mut(key) {
+            *place = None;
+        }
     }
 
     /// Takes what clients have written.
     pub(crate) fn read_all(&mut self) {
-        for key in 0..self.clients.capacity() {
-            if let Some(client) = self.clients.get_mut(key) {
-                client.read();
+        for key in 0..self.streams.len() {
+            if let Some(Some(stream)) = self.streams.get_mut(key) {
+                if let Some(client) = self.clients.seats.get_mut(key) {
+                    stream.read(client);
+                }
             }
         }
     }
 
     /// Writes what has to go out to clients.
     pub(crate) fn write_all(&mut self) {
-        for key in 0..self.clients.capacity() {
-            if let Some(client) = self.clients.get_mut(key) {
-                client.write();
+        for key in 0..self.streams.len() {
+            if let Some(Some(stream)) = self.streams.get_mut(key) {
+                if let Some(client) = self.clients.seats.get_mut(key) {
+                    stream.write(client);
+                }
             }
         }
     }
 
     /// Whether a line is waiting that would be looked at now.
     pub(crate) fn is_waiting(&self) -> bool {
-        self.clients.iter().any(|(_, client)| client.is_waiting())
-    }
-
-    /// The client of a number at a key, if it is still there.
-    pub(crate) fn client_mut(&mut self, key: usize, number: u64) -> Option<&mut Client> {
-        match self.clients.get_mut(key) {
-            Some(client) if client.number == number => Some(client),
-            _ => None,
-        }
+        self.clients
+            .seats
+            .iter()
+            .any(|(_, client)| client.is_waiting())
     }
 }

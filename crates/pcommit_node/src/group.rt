@@ -1,52 +1,17 @@
 //! Inputs that a node is handed at once.
 
-use node_core::Input;
-use protocol::Request;
-use serving::Wish;
+ghost use Rattle.std.specs.Prelude.{◌≡◌, map, IfOk};
+ghost use Rattle.pcommit_node.specs.Handing.{given_of, handed_of};
+
+use node_core::{Input, Output};
+use protocol::Answer;
+use serving::{Item, Work};
 use std::alloc::{AllocError, Global};
-use xid::Bytes;
 
-/// How many inputs a group has at most.
-pub(crate) const MOST_ITEMS: usize = 256;
-/// How many of them are messages at most, so that clients have their turn. What is left of a letter then comes into the next group.
-pub(crate) const MOST_MESSAGES: usize = 192;
-
-/// Who is answered.
-#[derive(Clone, Copy, Debug)]
-pub(crate) enum Origin {
-    /// A client, by its key and its number.
-    Client { key: usize, number: u64 },
-    /// Nobody.
-    Node,
-}
-
-/// What is to be done.
-#[derive(Debug, Drop)]
-pub(crate) enum Work {
-    /// A message's bytes are handed to the node.
-    Take(Bytes),
-    /// A request is.
-    Ask(Request),
-    /// A wish that is no input of the node is answered.
-    Say(Wish),
-    /// A start is refused, of a name that isn't of its time.
-    Untimely,
-    /// A start is answered as below the floor, which may rise above its name.
-    Late,
-}
-
-/// A piece of work, and for whom.
-#[derive(Debug, Drop)]
-pub(crate) struct Item {
-    pub(crate) origin: Origin,
-    pub(crate) work: Work,
-}
-
-/// What of the items the node is handed, in order.
-pub(crate) fn inputs_of<'a>(
-    alloc: Global,
-    items: &'a [Item],
-) -> Result<Vec<Input<'a>>, AllocError> {
+/// What of the items of a group the node is handed, in order.
+pub(crate) fn inputs_of<'a>(alloc: Global, items: &'a [Item]) -> Result<Vec<Input<'a>>, AllocError>
+    ensures { IfOk result (λ inputs. map given_of inputs.items ≡ handed_of items.now) }
+{
     let mut inputs = Vec::new(alloc);
     for item in items {
         match &item.work {
@@ -56,4 +21,18 @@ pub(crate) fn inputs_of<'a>(
         }
     }
     Ok(inputs)
+}
+
+/// What the node replied to each of its inputs, in order.
+pub(crate) fn replies_of<'a>(
+    alloc: Global,
+    outs: &'a [Output],
+) -> Result<Vec<&'a Answer>, AllocError>
+    ensures { IfOk result (λ replies. map (λ reply. reply.now) replies.items ≡ map (λ out. out.reply) outs.now) }
+{
+    let mut replies = Vec::new(alloc);
+    for out in outs {
+        replies.push(&out.reply)?;
+    }
+    Ok(replies)
 }

@@ -4,9 +4,9 @@ ghost use Rattle.std.specs.Prelude.{◌≡◌, OnOk};
 ghost use Rattle.serving.specs.Shortenings.{IsDue, IsMarked};
 
 use crate::answering::{answer_all, answer_awaited, raise};
-use crate::desk::{Desk, wanted_floor};
+use crate::desk::Desk;
 use crate::failure::Failure;
-use crate::group::{Item, MOST_ITEMS, MOST_MESSAGES, Origin, Work, inputs_of};
+use crate::group::inputs_of;
 use crate::replacing::place_text;
 use crate::socket::Counting;
 use letter_port::LetterPort;
@@ -15,13 +15,17 @@ use mio::Events;
 use node_core::{Input, Output};
 use port::{MAX_TAKEN, Member, Port};
 use protocol::{Answer, Boxed, NodeId, Request, Standing, View};
-use serving::{Due, Turn, held_back};
+use serving::{Due, Item, MOST_ITEMS, Origin, Turn, Work, held_back};
 use stable_record::{FileRecord, RecordError};
 use std::alloc::{AllocError, Global};
 use std::fs;
 use std::io::ErrorKind;
 use std::time::{Duration, Instant, SystemTime};
 use xid::{Bytes, Floor, Refusal, Tx};
+
+/// How many inputs of a group are messages at most, so that clients have their turn. What is left of a letter then comes into the next
+/// group.
+const MOST_MESSAGES: usize = 192;
 
 /// Messages of letters that wait come into a group. What the port refuses comes to nothing.
 fn take_messages<P: Port>(
@@ -75,7 +79,7 @@ pub(crate) fn standing(
 /// What is asked after a transaction that is due.
 fn question(alloc: Global, desk: &Desk, due: &Due) -> Result<Request, Refusal> {
     let tx = Boxed::new(alloc, due.tx)?;
-    match desk.who {
+    match desk.terms.who {
         NodeId::L(_) if desk.schedule.turn(due.turn) == Turn::Again => Ok(Request::Commit { tx }),
         _ => Ok(Request::Timeout { tx }),
     }
@@ -178,8 +182,36 @@ fn shorten(
     Ok(())
 }
 
-/// What waits is done: one group of inputs, and then its answers.
+/// One group of inputs is done, if there is any, and then its answers.
 fn do_group<P: Port + Counting>(
+    rt: &HostRuntime,
+    node: &mut Member<FileRecord>,
+    port: &mut LetterPort<P>,
+    desk: &mut Desk,
+    items: &[Item],
+    outs: &mut Vec<Output>,
+    path: &str,
+    now: Instant,
+) -> Result<(), Failure> {
+    if items.is_empty() {
+        return Ok(());
+    }
+    hand(desk.alloc, node, port, items, outs)?;
+    let len = record_len(rt, path)?;
+    desk.counts.groups = desk.counts.groups.saturating_add(1);
+    if len < desk.counts.record {
+        // its floor rose
+        desk.shortening.note(desk.counts.record, len);
+    }
+    if len != desk.counts.record {
+        desk.counts.appends = desk.counts.appends.saturating_add(1);
+        desk.counts.record = len;
+    }
+    answer_all(node, port, desk, items, outs, now)
+}
+
+/// What waits is done, in one group.
+fn do_rest<P: Port + Counting>(
     rt: &HostRuntime,
     node: &mut Member<FileRecord>,
     port: &mut LetterPort<P>,
@@ -193,21 +225,7 @@ fn do_group<P: Port + Counting>(
     take_due(node, desk, &mut items, now)?;
     take_messages(desk, port, &mut items)?;
     desk.take_lines(&mut items, now)?;
-    if items.is_empty() {
-        return Ok(());
-    }
-    hand(desk.alloc, node, port, &items, outs)?;
-    let len = record_len(rt, path)?;
-    desk.counts.groups = desk.counts.groups.saturating_add(1);
-    if len < desk.counts.record {
-        // its floor rose
-        desk.shortening.note(desk.counts.record, len);
-    }
-    if len != desk.counts.record {
-        desk.counts.appends = desk.counts.appends.saturating_add(1);
-        desk.counts.record = len;
-    }
-    answer_all(node, port, desk, &items, outs, now)
+    do_group(rt, node, port, desk, &items, outs, path, now)
 }
 
 /// How far a resource manager's branches let its floor rise that is to rise to a place.
@@ -232,7 +250,7 @@ fn rise<P: Port>(
     if !desk.may_rise(now) {
         return Ok(());
     }
-    let Some(wanted) = wanted_floor(&desk.times, desk.clock, desk.latest) else {
+    let Some(wanted) = desk.terms.wanted_floor() else {
         return Ok(());
     };
     let floor = let_by_branches(node, desk, wanted)?;
@@ -270,7 +288,7 @@ fn tell_again<P: Port>(
     if !desk.is_to_tell(now) {
         return Ok(());
     }
-    let NodeId::R(_) = desk.who else {
+    let NodeId::R(_) = desk.terms.who else {
         return Ok(());
     };
     if let Some(floor) = node.floor() {
@@ -289,12 +307,12 @@ fn go_round<P: Port + Counting>(
     path: &str,
     now: Instant,
 ) -> Result<(), Failure> {
-    if desk.times.is_some() {
-        desk.clock = clock(rt)?;
+    if desk.terms.times.is_some() {
+        desk.terms.clock = clock(rt)?;
     }
     desk.door.accept_all(now);
     desk.door.read_all();
-    do_group(rt, node, port, desk, outs, path, now)?;
+    do_rest(rt, node, port, desk, outs, path, now)?;
     answer_awaited(node, desk, now)?;
     desk.door.write_all();
     if node.is_down() {
@@ -309,7 +327,7 @@ fn go_round<P: Port + Counting>(
 
 /// After a start a resource manager asks after all that its record has prepared and not ended.
 fn watch_open(node: &Member<FileRecord>, desk: &mut Desk, now: Instant) -> Result<(), Failure> {
-    let NodeId::R(_) = desk.who else {
+    let NodeId::R(_) = desk.terms.who else {
         return Ok(());
     };
     let open = node.open_transactions()?;

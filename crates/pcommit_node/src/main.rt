@@ -6,7 +6,6 @@ ghost use Rattle.std.specs.Prelude.{◌≡◌, map, IfOk};
 ghost use Rattle.node_core.specs.Nodes.{AreSizes};
 
 mod answering;
-mod client;
 mod command;
 mod desk;
 mod door;
@@ -14,10 +13,10 @@ mod failure;
 mod group;
 mod life;
 mod logging;
-mod proving;
 mod replacing;
 mod setup;
 mod socket;
+mod stream;
 
 use crate::command::{Options, read_options};
 use crate::desk::Desk;
@@ -25,7 +24,6 @@ use crate::door::{DATAGRAMS, Door, LISTENER};
 use crate::failure::Failure;
 use crate::life::live;
 use crate::logging::logger;
-use crate::proving::{Lock, make_lock};
 use crate::replacing::replace;
 use crate::setup::{Setup, claim, is_claimed, is_there, open_node, owned, record_path, set_up};
 use crate::socket::NodeSocket;
@@ -38,9 +36,8 @@ use mio::net::TcpListener;
 use mio::{Interest, Poll};
 use port::Member;
 use protocol::NodeId;
-use serving::{Branches, Counts, Schedule, Shortening, Times, Watches};
+use serving::{Branches, Clients, Counts, Lock, Schedule, Shortening, Terms, Times, Watches};
 use signed_port::{PlainPort, SignedPort};
-use slab::Slab;
 use stable_record::FileRecord;
 use std::alloc::{AllocError, Global};
 use std::collections::VecDeque;
@@ -105,7 +102,7 @@ fn listen(rt: &HostRuntime, poll: &Poll, setup: &Setup) -> Result<Option<TcpList
 /// What clients have to prove, if they do.
 fn lock_of(alloc: Global, setup: &Setup, name: &str) -> Result<Option<Lock>, AllocError> {
     match setup.client_key {
-        Some(key) => Ok(Some(make_lock(alloc, key, name.as_bytes(), &setup.digest)?)),
+        Some(key) => Ok(Some(Lock::new(alloc, key, name.as_bytes(), &setup.digest)?)),
         None => Ok(None),
     }
 }
@@ -116,7 +113,6 @@ fn open_door(
     level: LevelFilter,
     poll: Poll,
     setup: &Setup,
-    name: &str,
 ) -> Result<Door, Failure> {
     let listener = listen(&rt, &poll, setup)?;
     Ok(Door {
@@ -124,8 +120,9 @@ fn open_door(
         log: logger(rt, level),
         poll,
         listener,
-        lock: lock_of(rt.alloc(), setup, name)?,
-        clients: Slab::new(rt.alloc()),
+        is_locked: setup.client_key.is_some(),
+        clients: Clients::new(rt.alloc()),
+        streams: Vec::new(rt.alloc()),
         count: 0,
         has_datagrams: true,
         has_clients: true,
@@ -167,14 +164,26 @@ fn times_of(setup: &Setup) -> Option<Times> {
     })
 }
 
+/// On what terms the lines of clients are taken.
+fn terms_of(alloc: Global, setup: &Setup, name: &str) -> Result<Terms, AllocError> {
+    Ok(Terms {
+        who: setup.who,
+        lock: lock_of(alloc, setup, name)?,
+        times: times_of(setup),
+        clock: 0,
+        latest: 0,
+        is_beside: setup.place.beside,
+    })
+}
+
 /// What the process keeps beside its node and its port.
-fn make_desk(rt: HostRuntime, setup: &Setup, door: Door) -> Result<Desk, Failure> {
+fn make_desk(rt: HostRuntime, setup: &Setup, name: &str, door: Door) -> Result<Desk, Failure> {
     let alloc = rt.alloc();
     let schedule = schedule_of(setup);
     Ok(Desk {
         rt,
         alloc,
-        who: setup.who,
+        terms: terms_of(alloc, setup, name)?,
         door,
         schedule,
         watches: Watches::with_hash_key(alloc, setup.hash_key, schedule)?,
@@ -183,15 +192,10 @@ fn make_desk(rt: HostRuntime, setup: &Setup, door: Door) -> Result<Desk, Failure
         counts: Counts::default(),
         idle: idle_of(setup),
         next_look: Instant::now(&rt)?,
-        times: times_of(setup),
-        is_beside: setup.place.beside,
         promised: None,
-        clock: 0,
-        latest: 0,
         next_rise: Instant::now(&rt)?,
         next_tell: Instant::now(&rt)?,
         pending: VecDeque::new(alloc),
-        first: 0,
         ended: IndexMap::with_hasher(alloc, setup.hash_key.words()),
         next_ask: Instant::now(&rt)?,
     })
@@ -247,8 +251,8 @@ fn lead(
 ) -> Result<(), Failure> {
     let poll = Poll::new(&rt)?;
     let socket = bind(&rt, &poll, setup)?;
-    let door = open_door(rt, options.level, poll, setup, options.name)?;
-    let mut desk = make_desk(rt, setup, door)?;
+    let door = open_door(rt, options.level, poll, setup)?;
+    let mut desk = make_desk(rt, setup, options.name, door)?;
     announce(&rt, options.name, setup)?;
     lead_signed(&rt, node, socket, &mut desk, setup, path)
 }

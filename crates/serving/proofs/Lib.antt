@@ -1,5 +1,11 @@
 pub mod FloorLemmas
+pub mod HearLemmas
 pub mod NameLemmas
 pub mod QueueLemmas
+pub mod RangeLemmas
+pub mod ServedLemmas
+pub mod TakeLemmas
+pub mod TellLemmas
 pub mod WaitLemmas
 pub mod WatchLemmas
+pub mod WishLemmas

@@ -1,7 +1,13 @@
+pub mod Clients
 pub mod Fronts
+pub mod Groups
 pub mod Named
 pub mod Noted
+pub mod Proving
 pub mod Queues
+pub mod Served
 pub mod Shortenings
+pub mod Taking
 pub mod Times
 pub mod Watching
+pub mod Wishes

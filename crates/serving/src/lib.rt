@@ -4,11 +4,19 @@
 #![tactic(auto)]
 
 mod branches;
+mod client;
+mod clients;
+mod group;
+pub mod laws;
 mod lines;
+mod proving;
 mod queue;
 mod replies;
 mod schedule;
 mod shortening;
+mod stage;
+mod taking;
+mod terms;
 mod times;
 mod waiting;
 mod watched;
@@ -16,10 +24,17 @@ mod watches;
 mod words;
 
 pub use branches::Branches;
-pub use lines::{Front, MAX_LINE, front_of};
+pub use client::Client;
+pub use clients::{Clients, UNTIMELY};
+pub use group::{Item, Origin, Work};
+pub use lines::{Front, MAX_LINE, MOST_BEGUN, MOST_OUTPUT, front_of};
+pub use proving::{Lock, put_challenge};
 pub use replies::{Counts, put_info, put_open, put_reply, put_table};
 pub use schedule::{MOST_DELAY, Schedule, Turn};
 pub use shortening::{LEAST_RECORD, Shortening};
+pub use stage::{Challenge, Stage};
+pub use taking::MOST_ITEMS;
+pub use terms::Terms;
 pub use times::{Times, held_back, time_of};
 pub use watches::{Due, Watches};
 pub use words::{Wish, read_wish};

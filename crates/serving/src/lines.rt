@@ -4,6 +4,10 @@ use xid::text;
 
 /// The longest line that a client may write, in bytes without its end.
 pub const MAX_LINE: usize = 65_536;
+/// How many bytes of answers may wait to be read before no more lines of a client are taken.
+pub const MOST_OUTPUT: usize = 65_536;
+/// How many seconds a line may be begun and not ended.
+pub const MOST_BEGUN: u64 = 10;
 
 /// What stands at the front of the bytes that a client has written.
 #[derive(Clone, Copy, Debug)]

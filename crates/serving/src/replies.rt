@@ -1,3 +1,7 @@
+ghost use Rattle.std.specs.Prelude.{◌≡◌, ℕ, ◌++◌, List, OnOk};
+ghost use Rattle.net_script.specs.Traces.{line_text, spaced_words};
+ghost use Rattle.serving.specs.Groups.{reply_line};
+
 use itoa::Buffer;
 use net_script::{put_answer, put_floor, put_node, put_rows, put_tx};
 use protocol::{Answer, NodeId, Row};
@@ -32,14 +36,18 @@ pub struct Counts {
 }
 
 /// Puts words, each of which has a space before it, as a line without the first space.
-fn put_words(out: &mut Vec<u8>, words: &[u8]) -> Result<(), Refusal> {
+fn put_words(out: &mut Vec<u8>, words: &[u8]) -> Result<(), Refusal>
+    ensures { OnOk result ((list : List (List ℕ)) → words.now ≡ spaced_words list → out.new.items ≡ out.old.items ++ line_text list) }
+{
     out.extend_from_slice(words.strip_prefix(b" ".as_slice()).unwrap_or(words))?;
     out.push(b'\n')?;
     Ok(())
 }
 
 /// Puts the line of an answer after what stands in `out`. The only refusal is `NoMemory`.
-pub fn put_reply(alloc: Global, out: &mut Vec<u8>, answer: &Answer) -> Result<(), Refusal> {
+pub fn put_reply(alloc: Global, out: &mut Vec<u8>, answer: &Answer) -> Result<(), Refusal>
+    ensures { OnOk result (out.new.items ≡ out.old.items ++ reply_line answer.now) }
+{
     let mut words = Vec::new(alloc);
     put_answer(&mut words, answer)?;
     put_words(out, &words)

@@ -1,3 +1,7 @@
+ghost use Rattle.std.specs.Prelude.{◌≡◌, ℕ, ◌∷◌, List, Some, IfOk, IfSome, codes};
+ghost use Rattle.net_script.specs.Lines.{words};
+ghost use Rattle.serving.specs.Wishes.{IsWish, SpellsFor};
+
 use net_script::{Command, is_over, last_node, last_tx, next_word, node, read_command};
 use protocol::{Boxed, Event, NodeId, Request};
 use std::alloc::Global;
@@ -25,7 +29,9 @@ pub enum Wish {
 }
 
 /// What is wished of this node, if it is the one that was named.
-fn of_node(me: NodeId, named: Option<NodeId>, wish: Wish) -> Wish {
+fn of_node(me: NodeId, named: Option<NodeId>, wish: Wish) -> Wish
+    ensures { (line : List ℕ) → SpellsFor named line wish → IsWish me line result }
+{
     match named {
         Some(who) if who == me => wish,
         Some(_) => Wish::Elsewhere,
@@ -34,7 +40,9 @@ fn of_node(me: NodeId, named: Option<NodeId>, wish: Wish) -> Wish {
 }
 
 /// That the end of a transaction is awaited, by the words after `await`.
-fn read_await(alloc: Global, me: NodeId, args: &[u8]) -> Result<Wish, Refusal> {
+fn read_await(alloc: Global, me: NodeId, args: &[u8]) -> Result<Wish, Refusal>
+    ensures { IfOk result (λ wish. (line : List ℕ) → words line ≡ codes "await" ∷ words args.now → IsWish me line wish) }
+{
     let Some((who, rest)) = node(args) else {
         return Ok(Wish::Unknown);
     };
@@ -44,19 +52,31 @@ fn read_await(alloc: Global, me: NodeId, args: &[u8]) -> Result<Wish, Refusal> {
     }
 }
 
+/// Whose floor is to rise, and to where, if a command says that.
+fn raised(command: &Option<Command>) -> Option<(u8, Floor)>
+    ensures { IfSome result (λ found. command.now ≡ Some (Command.Do (Event.Raise found.0 found.1))) }
+{
+    match command {
+        Some(Command::Do(Event::Raise { rm, floor })) => Some((*rm, *floor)),
+        _ => None,
+    }
+}
+
 /// That a floor is to rise, by the words of a script.
-fn read_floor(alloc: Global, me: NodeId, line: &[u8]) -> Result<Wish, Refusal> {
+fn read_floor(alloc: Global, me: NodeId, line: &[u8]) -> Result<Wish, Refusal>
+    ensures { IfOk result (IsWish me line.now) }
+{
     let command = read_command(alloc, line)?;
-    match &command {
-        Some(Command::Do(Event::Raise { rm, floor })) => {
-            Ok(of_node(me, Some(NodeId::R(*rm)), Wish::Raise(*floor)))
-        }
-        _ => Ok(Wish::Unknown),
+    match raised(&command) {
+        Some(found) => Ok(of_node(me, Some(NodeId::R(found.0)), Wish::Raise(found.1))),
+        None => Ok(Wish::Unknown),
     }
 }
 
 /// A request, by the words of a script.
-fn read_request(alloc: Global, me: NodeId, line: &[u8]) -> Result<Wish, Refusal> {
+fn read_request(alloc: Global, me: NodeId, line: &[u8]) -> Result<Wish, Refusal>
+    ensures { IfOk result (IsWish me line.now) }
+{
     match read_command(alloc, line)? {
         Some(Command::Do(Event::Ask { node, request })) => {
             Ok(of_node(me, Some(node), Wish::Ask(request)))
@@ -66,7 +86,9 @@ fn read_request(alloc: Global, me: NodeId, line: &[u8]) -> Result<Wish, Refusal>
 }
 
 /// What a line wishes of a node. The only refusal is `NoMemory`.
-pub fn read_wish(alloc: Global, me: NodeId, line: &[u8]) -> Result<Wish, Refusal> {
+pub fn read_wish(alloc: Global, me: NodeId, line: &[u8]) -> Result<Wish, Refusal>
+    ensures { IfOk result (IsWish me line.now) }
+{
     let Some((word, rest)) = next_word(line) else {
         return Ok(Wish::Unknown);
     };

@@ -1,0 +1,183 @@
+//! The clients of a node, and what each is told.
+
+ghost use Rattle.std.specs.Prelude.{◌≡◌, ◌≤◌, ◌+◌, ◌++◌, ◌∷◌, [], length, drop, slice_get, OnOk, OnErr};
+ghost use Rattle.std.specs.Option.{option_copied};
+ghost use Rattle.serving.specs.Taking.{HearsAll, HearsRange};
+ghost use Rattle.serving.specs.Groups.{after_one, answer_text, answers_to, AreTold};
+
+use crate::client::Client;
+use crate::group::{Item, Origin, Work};
+use crate::replies::put_reply;
+use crate::terms::Terms;
+use protocol::Answer;
+use slab::Slab;
+use std::alloc::{AllocError, Global};
+use std::time::Instant;
+use xid::{Floor, Refusal, XaCode};
+
+/// How a start is answered whose name isn't of its time, and a floor above the clock's.
+pub const UNTIMELY: &[u8] = b"refused 19\n";
+
+/// The clients of a node.
+#[derive(Drop)]
+pub struct Clients {
+    alloc: Global,
+    /// Each, at its key.
+    pub seats: Slab<Client>,
+    first: usize,
+}
+
+/// Puts what a piece of work is answered after what stands in a text.
+fn put_answer(
+    alloc: Global,
+    text: &mut Vec<u8>,
+    work: &Work,
+    reply: Option<&&Answer>,
+    said: Option<&Vec<u8>>,
+) -> Result<(), Refusal>
+    ensures { OnOk result (text.new.items ≡ text.old.items ++ answer_text work.now (option_copied reply.entry) (option_copied said.entry)) }
+{
+    match work {
+        Work::Take(_) => {}
+        Work::Ask(_) => {
+            if let Some(reply) = reply {
+                put_reply(alloc, text, reply)?;
+            }
+        }
+        Work::Say(_) => {
+            if let Some(said) = said {
+                text.extend_from_slice(said)?;
+            }
+        }
+        Work::Untimely => text.extend_from_slice(UNTIMELY)?,
+        Work::Late => put_reply(alloc, text, &Answer::Code(XaCode::DupId))?,
+    }
+    Ok(())
+}
+
+/// What is left of a list where the first of it was for a piece of work.
+fn after_one<T>(is_one: bool, list: &[T]) -> &[T]
+    ensures { result.now ≡ after_one is_one list.now }
+{
+    match list {
+        [_, rest @ ..] if is_one => rest,
+        _ => list,
+    }
+}
+
+/// A place, or the first one where there is none of that number.
+fn within(place: usize, places: usize) -> usize
+    ensures { result ≤ places }
+{
+    if place < places { place } else { 0 }
+}
+
+impl Clients {
+    /// None.
+    pub fn new(alloc: Global) -> Clients
+        ensures { result.seats.slots ≡ [] }
+    {
+        Clients {
+            alloc,
+            seats: Slab::new(alloc),
+            first: 0,
+        }
+    }
+
+    /// A client is told a text, if it is still there, and nobody else is told anything.
+    fn tell(&mut self, origin: Origin, text: &[u8]) -> Result<(), AllocError>
+        ensures { OnOk result (AreTold self.old.seats self.new.seats (record { origin = origin; text = text.now } ∷ [])) }
+    {
+        let Origin::Client { key, number } = origin else {
+            return Ok(());
+        };
+        match self.seats.get_mut(key) {
+            Some(client) if client.number() == number => client.tell(text),
+            _ => Ok(()),
+        }
+    }
+
+    /// What the client at a key wrote is looked at, if one is there.
+    fn take_at(
+        &mut self,
+        terms: &Terms,
+        promised: &mut Option<Floor>,
+        key: usize,
+        items: &mut Vec<Item>,
+        now: Instant,
+    ) -> Result<(), Refusal>
+        ensures { OnOk result (HearsRange terms.now key (key + 1) self.old.seats self.new.seats items.old.items items.new.items) }
+    {
+        match self.seats.get_mut(key) {
+            Some(client) => client.take_lines(terms, promised, key, items, now),
+            None => Ok(()),
+        }
+    }
+
+    /// What the clients at keys from one on and before another wrote is looked at.
+    fn take_range(
+        &mut self,
+        terms: &Terms,
+        promised: &mut Option<Floor>,
+        from: usize,
+        to: usize,
+        items: &mut Vec<Item>,
+        now: Instant,
+    ) -> Result<(), Refusal>
+        requires { from ≤ to }
+        ensures { OnOk result (HearsRange terms.now from to self.old.seats self.new.seats items.old.items items.new.items) }
+    {
+        for key in from..to {
+            self.take_at(terms, promised, key, items, now)?;
+        }
+        Ok(())
+    }
+
+    /// What clients wrote is looked at, of one after the other, and each time from the next one on; their lines come into a group. The only
+    /// refusal is `NoMemory`; lines may be lost then, and the process is to end.
+    pub fn take_lines(
+        &mut self,
+        terms: &Terms,
+        promised: &mut Option<Floor>,
+        items: &mut Vec<Item>,
+        now: Instant,
+    ) -> Result<(), Refusal>
+        ensures { OnOk result (HearsAll terms.now self.old.seats self.new.seats items.old.items items.new.items) }
+    {
+        let places = self.seats.capacity();
+        let first = within(self.first, places);
+        self.take_range(terms, promised, first, places, items, now)?;
+        self.take_range(terms, promised, 0, first, items, now)?;
+        self.first = first.saturating_add(1);
+        Ok(())
+    }
+
+    /// Each client is told what its items of a group are answered, in their order, and no other's: what the node replied to those that it
+    /// was handed, and what was said to wishes. The only refusal is `NoMemory`; some were told then, and the process is to end.
+    pub fn tell_all(
+        &mut self,
+        items: &[Item],
+        replies: &[&Answer],
+        said: &[Vec<u8>],
+    ) -> Result<(), Refusal>
+        ensures { OnOk result (AreTold self.old.seats self.new.seats (answers_to items.now replies.now said.now)) }
+    {
+        let mut text = Vec::new(self.alloc);
+        let mut given = replies;
+        let mut spoken = said;
+        for item in items {
+            text.clear();
+            put_answer(
+                self.alloc,
+                &mut text,
+                &item.work,
+                given.first(),
+                spoken.first(),
+            )?;
+            self.tell(item.origin, &text)?;
+            given = after_one(item.work.is_handed(), given);
+            spoken = after_one(item.work.is_said(), spoken);
+        }
+        Ok(())
+    }
+}
