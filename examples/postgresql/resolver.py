@@ -57,9 +57,12 @@ class Resolver:
     def raise_floor(self, to, names):
         """Raises the manager's floor to a place, but not above what is prepared here, over the connection over which the place was said.
         Who prepares here has begun a branch at the manager before, and ends it after, so what has voted below the place and is prepared is
-        among these names, which were listed after the place was said."""
+        among these names, which were listed after the place was said. Says which of them holds the floor back, if one does."""
+        place = min([to, *(name.split('/')[0] for name in names)], key=rank)
+        if place != to:
+            print('resolver %s: the floor stays at or below %s: that is prepared here' % (self.node, place), file=sys.stderr, flush=True)
         try:
-            self.cluster.raise_floor(self.rm, min([to, *(name.split('/')[0] for name in names)], key=rank))
+            self.cluster.raise_floor(self.rm, place)
             self.next_rise = time.monotonic() + self.rises
         except Refused as error:
             self.say(str(error))
