@@ -5,7 +5,7 @@ PREFIX ?= /usr/local
 NODE ?= bin/pcommit_node
 MINUTES ?= 20
 
-.PHONY: run build try test golden scripts pictures wrong-rules cluster demo-postgresql demo-xa test-xa bench-xa soak docs install clean proof-tools test-tools
+.PHONY: run build try test golden scripts pictures wrong-rules wrong-bodies cluster demo-postgresql demo-xa test-xa bench-xa soak docs install clean proof-tools test-tools
 
 # builds the program and runs it on a script
 run: build
@@ -30,6 +30,7 @@ try: proof-tools
 test: test-tools
 	tools/definitions.py --check
 	tools/pages.py --check
+	tests/wrong-bodies/run.py --check
 	tools/ci.py
 	@mkdir -p bin
 	@cp crates/pcommit/out/pcommit bin/pcommit
@@ -91,6 +92,10 @@ scripts:
 	[ ! -e crates/pcommit_picture/out/pcommit_picture ] || tests/pictures.py crates/pcommit_picture/out/pcommit_picture
 	tests/sweeps.py bin/pcommit
 	tests/memory.py bin/pcommit
+
+# tries the wrong bodies for which the gate has no time, for hours
+wrong-bodies: proof-tools
+	tests/wrong-bodies/run.py
 
 # tries each wrong rule of the protocol on a copy of the definitions, outside the gate: the six that are safe take minutes each
 wrong-rules: proof-tools

@@ -1,9 +1,9 @@
 #!/bin/sh
 # Refuses each allocation of the cases of single parts in turn, each case by itself: tests/refused.sh PROGRAM CASES, the built program
 # `cases` and its standard input. A part that is refused memory says so and is called again: it stood as before, so what is printed but
-# for that is what is printed with ample memory. A node that is refused memory is down from then on: what stands before is the same. Or
-# the program itself wants memory and ends with 3, and what stands before is the same. Ports and records that fail on purpose are left out:
-# a call that is refused memory counts there, so that another one fails. The last line is 'N passed, M ended, K failed'.
+# for that is what is printed with ample memory. A node that is refused memory, at a port too, is down from then on: what stands before is
+# the same. Or the program itself wants memory and ends with 3, and what stands before is the same. Ports and records that fail on purpose
+# are left out: a call that is refused memory counts there, so that another one fails. The last line is 'N passed, M ended, K failed'.
 if [ "$1" != one ]; then
     program=$(realpath "$1")
     scratch=$(mktemp -d)
@@ -11,7 +11,7 @@ if [ "$1" != one ]; then
     cc -shared -fPIC -o "$scratch/refuse.so" "$(dirname "$0")/refuse_memory.c" -ldl || exit 1
     mkdir "$scratch/cases" "$scratch/told" || exit 1
     grep -v '^#' "$2" | awk -v to="$scratch/cases/" 'NF==0 {open=0; next} !open {open=1; count++} {print > (to sprintf("%03d", count))}'
-    grep -lE '^(port|letters|signed|cluster [0-9]+|record failing|node .* failing) ' "$scratch"/cases/* | xargs rm
+    grep -lE '^(port [1-9][0-9]*|letters [1-9][0-9]*|signed|cluster [0-9]+|record failing|node .* failing) ' "$scratch"/cases/* | xargs rm
     ls "$scratch/cases" | xargs -P "$(nproc)" -n 1 sh "$0" one "$program" "$scratch"
     cat "$scratch"/told/*.why
     cat "$scratch"/told/*.count | awk '{p+=$1; e+=$2; f+=$3; if ($1+$2 < 3) few++} END {
@@ -50,7 +50,7 @@ before_refusal() {
 }
 
 passed=0 ended=0 failed=0 is_last=false
-grep -qE '^(node |trace$)' "$case" && is_last=true
+grep -qE '^(node |port |letters |trace$)' "$case" && is_last=true
 : >"$told.why"
 run 0
 [ $? = 0 ] || failed=1
