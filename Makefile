@@ -35,7 +35,7 @@ test: test-tools
 	@mkdir -p bin
 	@cp crates/pcommit/out/pcommit bin/pcommit
 	$(MAKE) scripts
-	tests/refused.sh crates/cases/out/cases crates/cases/stdin
+	tests/refused.py crates/cases/out/cases crates/cases/stdin
 	tests/many.py bin/pcommit crates/cases/out/cases
 	tests/collisions.py bin/pcommit crates/pcommit_node/out/pcommit_node
 
