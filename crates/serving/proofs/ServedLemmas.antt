@@ -1,7 +1,8 @@
 -- In each group who asked is who is told.
 use Rattle.std.proofs.Common.{◌≡◌, ◌++◌, ◌∷◌, ◌&&◌, ◌==◌, [], List, ℕ, Option, Some, None, Vec, Bool, true, false, cond, slice_get}
 use Rattle.std.proofs.Common.{IsSomeAnd, refl, sym, ap, ◌∙◌, subst, if◌then◌else◌, inl, inr}
-use Rattle.std.proofs.lemmas.Bool.{cases_Bool, eq-eqb}
+use Rattle.std.proofs.lemmas.Bool.{and_parts, cases_Bool, eq-eqb}
+use Rattle.std.proofs.lemmas.List.Elements.{filter-append}
 use Rattle.std.specs.Borrow.{Bor}
 use Rattle.std.specs.List.{flat_map, AllZip}
 use Rattle.std.specs.Option.{option_map}
@@ -14,11 +15,11 @@ use Rattle.serving.specs.declared.group.Origin.TheVariants.{Client, Node}
 use Rattle.protocol.specs.declared.answers.Answer.{Answer}
 use Rattle.serving.specs.Clients.{ClientParts}
 use Rattle.serving.specs.Groups.{Told, after_one, answer_text, answers_to, is_for, is_handed, is_said, texts_for, with_answers}
-use Rattle.serving.specs.Served.{served_at, served_of, told_text, IsServed, Served, WhoAskedIsTold}
+use Rattle.serving.specs.Served.{are_nobodys, is_nobody, served_at, served_of, told_text, IsServed, Served, WhoAskedIsTold}
 use Rattle.serving.specs.Taking.{is_at, is_from, items_at, HearsAt, HearsClient, IsItemOf}
 
 -- who is at no such key isn't told it
-not_for : (key number : ℕ) (origin : Origin) → is_from key origin ≡ false → is_for key number origin ≡ false
+pub not_for : (key number : ℕ) (origin : Origin) → is_from key origin ≡ false → is_for key number origin ≡ false
 not_for key number (Client its_key its_number) away = ap (λ (b : Bool). b && its_number == number) away
 not_for key number Node away = refl
 
@@ -27,21 +28,22 @@ its_own key number origin is =
     ap (is_for key number) is ∙ ap (λ (b : Bool). b && number == number) (eq-eqb key key refl) ∙ eq-eqb number number refl
 
 -- the first line's item is its own, and the others are those of the other lines
-more_at : (terms : Terms) (key number : ℕ) (lines : List (List ℕ)) (item : Item) (rest : List Item)
+pub more_at : (terms : Terms) (key number : ℕ) (lines : List (List ℕ)) (item : Item) (rest : List Item)
     → AllZip (IsItemOf terms (Client key number)) lines (item ∷ rest)
     → (more : List (List ℕ)) × ((is_for key number item.origin ≡ true) × AllZip (IsItemOf terms (Client key number)) more rest)
 more_at terms key number [] item rest each = absurd each
 more_at terms key number (line ∷ lines) item rest each = (lines, (its_own key number item.origin each.0.origin_is, each.1))
 
 -- the first of what is there, if it is there
-first_at : (key : ℕ) (item : Item) (rest : List Item) → is_at key item ≡ true → items_at key (item ∷ rest) ≡ item ∷ items_at key rest
+pub first_at : (key : ℕ) (item : Item) (rest : List Item) → is_at key item ≡ true → items_at key (item ∷ rest) ≡ item ∷ items_at key rest
 first_at key item rest here = ap (λ (b : Bool). cond b (item ∷ items_at key rest) (items_at key rest)) here
 
-none_at : (key : ℕ) (item : Item) (rest : List Item) → is_at key item ≡ false → items_at key (item ∷ rest) ≡ items_at key rest
+-- who isn't there is left out
+pub none_at : (key : ℕ) (item : Item) (rest : List Item) → is_at key item ≡ false → items_at key (item ∷ rest) ≡ items_at key rest
 none_at key item rest here = ap (λ (b : Bool). cond b (item ∷ items_at key rest) (items_at key rest)) here
 
 -- what is for the client of a number at a key, where all items there are of it, are the answers to those
-texts_at : (terms : Terms) (key number : ℕ) (items : List Item) (replies : List (Bor Answer)) (said : List (Vec ℕ Global)) (lines : List
+pub texts_at : (terms : Terms) (key number : ℕ) (items : List Item) (replies : List (Bor Answer)) (said : List (Vec ℕ Global)) (lines : List
     (List ℕ))
     → AllZip (IsItemOf terms (Client key number)) lines (items_at key items)
     → texts_for key number (answers_to items replies said) ≡ flat_map told_text (served_at key (served_of items replies said))
@@ -114,21 +116,37 @@ served_none key (item ∷ items) replies said none =
           ∙ served_none key items more_replies more_said (sym (none_at key item items away) ∙ none)
     ]
 
+nobody_there : (key : ℕ) (origin : Origin) → is_nobody origin ≡ true → is_from key origin ≡ false
+nobody_there key Node nobody = refl
+nobody_there key (Client its_key its_number) nobody = absurd (cc)
+
+no_items : (key : ℕ) (ahead : List Item) → are_nobodys ahead ≡ true → items_at key ahead ≡ []
+no_items key [] nobodys = refl
+no_items key (item ∷ rest) nobodys =
+    let both = and_parts (is_nobody item.origin) (are_nobodys rest) nobodys in
+    none_at key item rest (nobody_there key item.origin both.0) ∙ no_items key rest both.1
+
+-- of a group's items those for a client are among those that were taken of clients, where those ahead are for nobody
+pub items_taken : (key : ℕ) (ahead items taken : List Item) → are_nobodys ahead ≡ true → items ≡ ahead ++ taken
+    → items_at key items ≡ items_at key taken
+items_taken key ahead items taken nobodys is =
+    ap (items_at key) is ∙ filter-append (is_at key) ahead taken
+    ∙ ap (λ (first : List Item). first ++ items_at key taken) (no_items key ahead nobodys)
+
 served_client : (terms : Terms) (key : ℕ) (items taken : List Item) (replies : List (Bor Answer)) (said : List (Vec ℕ Global))
-    (client : ClientParts) (seat seen : Option ClientParts) → items ≡ taken
+    (client : ClientParts) (seat seen : Option ClientParts) → items_at key items ≡ items_at key taken
     → IsSomeAnd seat (λ now. HearsClient terms key client now (items_at key taken))
     → seen ≡ option_map (with_answers key (answers_to items replies said)) seat
     → (now : ClientParts) × (seen ≡ Some now) × IsServed terms key client now (served_of items replies said)
-served_client terms key items taken replies said client None seen same hears told = absurd hears
-served_client terms key items taken replies said client (Some now) seen same hears told =
+served_client terms key items taken replies said client None seen items_are hears told = absurd hears
+served_client terms key items taken replies said client (Some now) seen items_are hears told =
     let mid : ClientParts = hears.mid in
     let front = hears.lines.front in
     let answers : List Told = answers_to items replies said in
     let number : now.number ≡ mid.number = ap (λ (c : ClientParts). c.number) hears.lines.same in
     let output : now.output ≡ mid.output = ap (λ (c : ClientParts). c.output) hears.lines.same in
-    let items_are : items_at key items ≡ items_at key taken = ap (items_at key) same in
     let each : AllZip (IsItemOf terms (Client key mid.number)) front.lines (items_at key items) =
-    subst (λ (all : List Item). AllZip (IsItemOf terms (Client key mid.number)) front.lines (items_at key all)) (sym same) front.each in (
+    subst (AllZip (IsItemOf terms (Client key mid.number)) front.lines) (sym items_are) front.each in (
       with_answers key answers now,
       told,
       record {
@@ -146,6 +164,7 @@ served_client terms key items taken replies said client (Some now) seen same hea
     )
 
 pub who_asked_is_told : WhoAskedIsTold
-who_asked_is_told terms old mid new items replies said hears told key client was =
-    served_client terms key items hears.taken replies said client (get mid key) (get new key) hears.after_is
+who_asked_is_told terms old mid new ahead items replies said nobodys hears told key client was =
+    served_client terms key items hears.taken replies said client (get mid key) (get new key)
+    (items_taken key ahead items hears.taken nobodys hears.after_is)
     (subst (λ (seat : Option ClientParts). HearsAt terms key seat (get mid key) (items_at key hears.taken)) was (hears.each key)) (told key)

@@ -1,12 +1,13 @@
 -- What became of what each client wrote, in one group: who asked is who is told.
-use Rattle.std.specs.Prelude.{◌≡◌, ℕ, ◌++◌, ◌∷◌, List, [], filter, slice_get, Option, Some, Vec, true, false}
+use Rattle.std.specs.Prelude.{◌≡◌, ℕ, ◌++◌, ◌∷◌, Bool, List, [], filter, slice_get, Option, Some, Vec, true, false}
 use Rattle.std.specs.Borrow.{Bor}
-use Rattle.std.specs.List.{flat_map, AllZip}
+use Rattle.std.specs.List.{flat_map, list_all, AllZip}
 use Rattle.std.specs.declared.alloc.Global.{Global}
 use Rattle.slab.specs.Slab.{Slab, get}
 use Rattle.serving.specs.declared.terms.Terms.{Terms}
 use Rattle.serving.specs.declared.group.Item.{Item}
-use Rattle.serving.specs.declared.group.Origin.TheVariants.{Client}
+use Rattle.serving.specs.declared.group.Origin.{Origin}
+use Rattle.serving.specs.declared.group.Origin.TheVariants.{Client, Node}
 use Rattle.protocol.specs.declared.answers.Answer.{Answer}
 use Rattle.serving.specs.Clients.{ClientParts, is_proving, may_ask}
 use Rattle.serving.specs.Groups.{after_one, answer_text, answers_to, is_handed, is_said, AreTold}
@@ -46,11 +47,20 @@ pub record IsServed (terms : Terms) (key : ℕ) (old new : ClientParts) (served 
   pub each : AllZip (λ line one. IsItemOf terms (Client key mid.number) line one.item) lines (served_at key served)
   pub output : new.output ≡ mid.output ++ flat_map told_text (served_at key served)
 
--- in each group: where clients' lines became its items, and its answers were told, each client that is there is told the answers to its own
--- lines, one for each, in their order, and nothing else
+-- whether nobody is answered
+abbrev pub is_nobody : Origin → Bool
+is_nobody Node = true
+is_nobody (Client key number) = false
+
+-- whether these items are all the node's own, and for no client
+abbrev pub are_nobodys : List Item → Bool
+are_nobodys items = list_all (λ item. is_nobody item.origin) items
+
+-- in each group: where clients' lines became its items, behind items that are the node's own, and its answers were told, each client that
+-- is there is told the answers to its own lines, one for each, in their order, and nothing else
 abbrev pub WhoAskedIsTold : Type 0
 WhoAskedIsTold =
-    (terms : Terms) (old mid new : Slab ClientParts) (items : List Item) (replies : List (Bor Answer)) (said : List (Vec ℕ Global))
-    → HearsAll terms old mid [] items → AreTold mid new (answers_to items replies said)
+    (terms : Terms) (old mid new : Slab ClientParts) (ahead items : List Item) (replies : List (Bor Answer)) (said : List (Vec ℕ Global))
+    → are_nobodys ahead ≡ true → HearsAll terms old mid ahead items → AreTold mid new (answers_to items replies said)
     → (key : ℕ) (client : ClientParts) → get old key ≡ Some client
     → (now : ClientParts) × (get new key ≡ Some now) × IsServed terms key client now (served_of items replies said)
