@@ -1,5 +1,9 @@
 pub mod FloorLemmas
 pub mod HearLemmas
+pub mod LifeGroups
+pub mod LifeLemmas
+pub mod LifeLists
+pub mod LifeRuns
 pub mod NameLemmas
 pub mod QueueLemmas
 pub mod RangeLemmas

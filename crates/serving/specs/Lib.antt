@@ -1,6 +1,8 @@
 pub mod Clients
 pub mod Fronts
 pub mod Groups
+pub mod Happenings
+pub mod Lives
 pub mod Named
 pub mod Noted
 pub mod Proving
