@@ -1,3 +1,4 @@
+pub mod BranchLemmas
 pub mod FloorLemmas
 pub mod HearLemmas
 pub mod LifeGroups

@@ -9,6 +9,7 @@ pub mod Proving
 pub mod Queues
 pub mod Served
 pub mod Shortenings
+pub mod Started
 pub mod Taking
 pub mod Times
 pub mod Watching

@@ -1,7 +1,9 @@
 -- The branches that clients have started, and what is known of each.
 use Rattle.std.specs.Prelude.{◌≡◌, ℕ, Bool, true, false, not, ◌&&◌, ◌||◌, ◌==◌, nat_le, if◌then◌else◌, List, map, filter, Option, Some}
 use Rattle.std.specs.Prelude.{None}
-use Rattle.std.specs.Option.{option_map}
+use Rattle.std.specs.List.{IsDistinct}
+use Rattle.std.specs.Option.{option_map, option_map_or}
+use Rattle.std.specs.Set.{is_member}
 use Rattle.std.specs.Time.{instant_nanos}
 use Rattle.std.specs.declared.time.Instant.{Instant}
 use Rattle.indexmap.specs.IndexMap.{get}
@@ -65,3 +67,11 @@ is_untouched since entry = nat_le (instant_nanos entry.1.touched) (instant_nanos
 -- the names of the branches that pass a test, in the order in which they are kept
 abbrev pub names_of : (XidParts × Branch → Bool) → List (XidParts × Branch) → List XidParts
 names_of test entries = map (λ entry. entry.0) (filter test entries)
+
+-- whether the branch of a name is known, and passes a test
+abbrev pub is_known_as : (XidParts × Branch → Bool) → Branches → XidParts → Bool
+is_known_as test branches x = option_map_or (λ branch. test (x, branch)) (known branches x) false
+
+-- these are the names that pass a test, none twice
+abbrev pub AreNames : (XidParts → Bool) → List XidParts → Type 0
+AreNames test names = ((x : XidParts) → is_member xid_eq names x ≡ test x) × IsDistinct xid_eq names

@@ -1,190 +1,28 @@
-ghost use Rattle.std.specs.Prelude.{◌≡◌, ◌⊎◌, true, false, is_some, None, Some, IfOk, OnOk};
-ghost use Rattle.std.specs.Option.{option_map};
-ghost use Rattle.xid.specs.Names.{XidParts};
-ghost use Rattle.xid.specs.Places.{is_lower, is_xid_below};
-ghost use Rattle.serving.specs.Noted.{after_touch, is_active_of, is_nota, is_ok, is_rolled_back, is_untouched, known, names_of, noted};
-ghost use Rattle.serving.specs.Noted.{NotesOnly};
-ghost use Rattle.serving.specs.Times.{IsOfBranch};
+ghost use Rattle.serving.specs.Started.{AreFound};
 
-use crate::queue::is_by;
-use crate::times::lower;
-use hashing::{HashKey, WordKey};
+use crate::started::Started;
+use hashing::WordKey;
 use indexmap::IndexMap;
-use protocol::{Action, Answer};
-use std::alloc::{AllocError, Global};
+use std::alloc::Global;
 use std::time::Instant;
-use xid::{Floor, XaCode, Xid};
+use xid::Xid;
 
 /// What is known of a branch.
 #[derive(Clone, Copy, Debug)]
-struct Branch {
+pub(crate) struct Branch {
     /// Which client started it.
-    client: u64,
+    pub(crate) client: u64,
     /// Whether it is active: it was started, and not ended.
-    is_active: bool,
+    pub(crate) is_active: bool,
     /// When a client last touched it.
-    touched: Instant,
+    pub(crate) touched: Instant,
 }
 
 /// The branches that clients have started at a resource manager, and that are active or ended.
 #[derive(Debug, Drop)]
 pub struct Branches {
-    alloc: Global,
-    named: IndexMap<Xid, Branch, WordKey>,
-}
-
-impl Branch {
-    /// A client has touched it, and ended it if so it has.
-    fn touch(&mut self, has_ended: bool, now: Instant)
-        ensures { self.new ≡ after_touch has_ended now self.old }
-    {
-        self.touched = now;
-        if has_ended {
-            self.is_active = false;
-        }
-    }
-}
-
-/// Whether a call was answered with XA_OK.
-fn is_ok(answer: &Answer) -> bool
-    ensures { result ≡ is_ok answer.now }
-{
-    matches!(answer, Answer::Code(XaCode::Ok))
-}
-
-/// Whether there is no such branch.
-fn is_nota(answer: &Answer) -> bool
-    ensures { result ≡ is_nota answer.now }
-{
-    matches!(answer, Answer::Code(XaCode::Nota))
-}
-
-/// Whether the branch may only be rolled back.
-fn is_rolled_back(answer: &Answer) -> bool
-    ensures { result ≡ is_rolled_back answer.now }
-{
-    matches!(answer, Answer::Code(XaCode::RbRollback))
-}
-
-impl Branches {
-    /// None.
-    pub fn new(alloc: Global) -> Branches
-        ensures { (x : XidParts) → known result x ≡ None }
-    {
-        Branches::with_hash_key(alloc, HashKey::fixed())
-    }
-
-    /// None, and names are hashed under a key.
-    pub fn with_hash_key(alloc: Global, key: HashKey) -> Branches
-        ensures { (x : XidParts) → known result x ≡ None }
-    {
-        Branches {
-            alloc,
-            named: IndexMap::with_hasher(alloc, key.words()),
-        }
-    }
-
-    /// A client has made a call on a branch, and was answered: what is known of that branch changes, and nothing else. Where memory runs
-    /// out nothing changes.
-    pub fn note(
-        &mut self,
-        client: u64,
-        xid: &Xid,
-        action: &Action,
-        answer: &Answer,
-        now: Instant,
-    ) -> Result<(), AllocError>
-        ensures { OnOk result (NotesOnly self.old self.new xid.now (noted action.now answer.now client now (known self.old xid.now))) }
-    {
-        if is_nota(answer) {
-            self.forget(xid);
-            return Ok(());
-        }
-        let is_ok = is_ok(answer);
-        match action {
-            Action::Start if is_ok => self.begin(client, xid, now),
-            Action::Rollback if is_ok => {
-                self.forget(xid);
-                Ok(())
-            }
-            Action::End | Action::EndFail => {
-                self.touch(xid, is_ok || is_rolled_back(answer), now);
-                Ok(())
-            }
-            _ => {
-                self.touch(xid, false, now);
-                Ok(())
-            }
-        }
-    }
-
-    /// A client has started a branch.
-    fn begin(&mut self, client: u64, xid: &Xid, now: Instant) -> Result<(), AllocError>
-        ensures { OnOk result (NotesOnly self.old self.new xid.now (Some (record { client = client; is_active = true; touched = now }))) }
-    {
-        let _ = self.named.insert(
-            *xid,
-            Branch {
-                client,
-                is_active: true,
-                touched: now,
-            },
-        )?;
-        Ok(())
-    }
-
-    /// A branch was touched, and ended if so it is.
-    fn touch(&mut self, xid: &Xid, has_ended: bool, now: Instant)
-        ensures { NotesOnly self.old self.new xid.now (option_map (after_touch has_ended now) (known self.old xid.now)) }
-    {
-        if let Some(branch) = self.named.get_mut(xid) {
-            branch.touch(has_ended, now);
-        }
-    }
-
-    /// A branch is prepared, or is no more.
-    pub fn forget(&mut self, xid: &Xid)
-        ensures { NotesOnly self.old self.new xid.now None }
-    {
-        let _ = self.named.swap_remove(xid);
-    }
-
-    /// The active branches that a client has started: these, and no others.
-    pub fn active_of(&self, client: u64) -> Result<Vec<Xid>, AllocError>
-        ensures { IfOk result (λ found. found.items ≡ names_of (is_active_of client) self.now.named.entries) }
-    {
-        let mut found = Vec::new(self.alloc);
-        for (xid, branch) in self.named.iter() {
-            if branch.client == client && branch.is_active {
-                found.push(*xid)?;
-            }
-        }
-        Ok(found)
-    }
-
-    /// How far a floor may rise that is to rise to a place: not above one of these branches.
-    pub fn held_back(&self, floor: Floor) -> Floor
-        ensures wanted { is_lower (Some floor) (Some result) ≡ false }
-        ensures begun { (x : XidParts) → is_some (known self.now x) ≡ true → is_xid_below (Some result) x ≡ false }
-        ensures is_one { (result ≡ floor) ⊎ IsOfBranch self.now result }
-    {
-        let mut lowest = floor;
-        for (xid, _) in self.named.iter() {
-            lowest = lower(lowest, xid.format(), xid.gtrid());
-        }
-        lowest
-    }
-
-    /// The branches that nobody has touched since then: these, and no others.
-    pub fn untouched_since(&self, since: Instant) -> Result<Vec<Xid>, AllocError>
-        ensures { IfOk result (λ found. found.items ≡ names_of (is_untouched since) self.now.named.entries) }
-    {
-        let mut found = Vec::new(self.alloc);
-        for (xid, branch) in self.named.iter() {
-            if is_by(branch.touched, since) {
-                found.push(*xid)?;
-            }
-        }
-        Ok(found)
-    }
+    pub(crate) alloc: Global,
+    pub(crate) named: IndexMap<Xid, Branch, WordKey>,
+    pub(crate) started: Started,
+    ghost found: { AreFound named started },
 }
