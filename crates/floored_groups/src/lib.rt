@@ -5,3 +5,5 @@
 
 /// The claim.
 pub mod headline;
+/// What the contracts of processes come to.
+pub mod members;

@@ -1,0 +1,47 @@
+//! What the code's contracts say of a process is what its node does in a world of a cluster whose nodes have floors and work in groups.
+ghost use Rattle.std.specs.Prelude.{List, ℕ, [], ◌∷◌, Result, Ok, Err};
+ghost use Rattle.std.specs.List.{AllByRecursion};
+ghost use Rattle.xid.specs.Places.{Place};
+ghost use Rattle.xid.specs.declared.refusals.Refusal.{Refusal};
+ghost use Rattle.stable_record.specs.declared.record.RecordError.{RecordError};
+ghost use Rattle.protocol.specs.declared.events.Event.TheVariants.{Compact, Restart};
+ghost use Rattle.protocol.specs.declared.nodes.NodeId.{NodeId};
+ghost use Rattle.protocol.specs.declared.nodes.NodeId.TheVariants.{R};
+ghost use Rattle.protocol.specs.Effects.{Config};
+ghost use Rattle.node_core.specs.declared.output.Output.{Output};
+ghost use Rattle.node_core.specs.Opening.{restart_answer};
+ghost use Rattle.floors.specs.Worlds.{FlooredWorld, Machine, Raise};
+ghost use Rattle.port.specs.Members.{CompactsMember, Item, MemberParts, RaisesMember, RestartsMember, TakesAll};
+ghost use Rattle.floored_groups.specs.Runs.{IsFlooredReached, Underwent};
+ghost use Rattle.floored_groups.specs.Processes.{CanBeGiven, GoesOn, IsTaken, IsUnstored, StandsIn, told_by};
+
+/// A process that stands for its node in a world is handed any number of things at once: requests, datagrams that were sent to it, notices
+/// that were told it, and noise. Then the cluster goes on to a world in which it stands for its node again, each is answered as the machine
+/// with floors answers it, and all that it puts out is sent, in order. Where its append is stopped, or memory is refused, it is down and
+/// nothing is sent, or nothing happened.
+pub fn processes_take_all()
+    ensures stored { (config : Config) (world : FlooredWorld) (reach : IsFlooredReached config world) (who : NodeId) (items : List Item)
+        (old new : MemberParts) (before after : List Output) → StandsIn config world who old
+        → AllByRecursion (CanBeGiven world.machine.net world.notices who) items → TakesAll items old new before after (Ok tt)
+        → IsTaken config world reach who items old new after }
+    ensures stopped { (config : Config) (world : FlooredWorld) (reach : IsFlooredReached config world) (who : NodeId) (items : List Item)
+        (old new : MemberParts) (before after : List Output) → StandsIn config world who old
+        → AllByRecursion (CanBeGiven world.machine.net world.notices who) items → (error : RecordError)
+        → TakesAll items old new before after (Err error) → IsUnstored config world reach who items old new before after error }
+{}
+
+/// So it is where a resource manager's floor was to rise, which it then tells all acceptors and leaders; where a process is restarted over
+/// its record; and where its record is made shorter.
+pub fn processes_are_kept()
+    ensures raised { (config : Config) (world : FlooredWorld) (reach : IsFlooredReached config world) (rm : ℕ) (place : Place)
+        (old new : MemberParts) (result : Result (Unit {0}) Refusal) → StandsIn config world (R rm) old
+        → RaisesMember place old new result
+        → GoesOn config world reach (R rm) new [] (told_by config rm new result)
+        (Underwent (Raise (R rm) place) (restart_answer result) ∷ []) }
+    ensures restarted { (config : Config) (world : FlooredWorld) (reach : IsFlooredReached config world) (who : NodeId)
+        (old new : MemberParts) (result : Result (Unit {0}) Refusal) → StandsIn config world who old → RestartsMember old new result
+        → GoesOn config world reach who new [] [] (Underwent (Machine (Restart who)) (restart_answer result) ∷ []) }
+    ensures compacted { (config : Config) (world : FlooredWorld) (reach : IsFlooredReached config world) (who : NodeId)
+        (old new : MemberParts) (result : Result (Unit {0}) Refusal) → StandsIn config world who old → CompactsMember old new result
+        → GoesOn config world reach who new [] [] (Underwent (Machine (Compact who)) (restart_answer result) ∷ []) }
+{}
