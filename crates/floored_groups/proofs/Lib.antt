@@ -6,3 +6,5 @@ pub mod Handed
 pub mod Heard
 pub mod Taken
 pub mod Upkept
+pub mod Clusters
+pub mod Views

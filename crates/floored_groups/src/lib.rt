@@ -3,6 +3,8 @@
 //! what such a cluster does. The functions have empty bodies; their clauses are the theorems.
 #![tactic(auto)]
 
+/// All processes together.
+pub mod cluster;
 /// The claim.
 pub mod headline;
 /// What the contracts of processes come to.
