@@ -8,3 +8,4 @@ pub mod Taken
 pub mod Upkept
 pub mod Clusters
 pub mod Views
+pub mod Single

@@ -3,17 +3,18 @@
 use Rattle.std.specs.Prelude.{◌≡◌, Bool, true, if◌then◌else◌, List, [], ◌∷◌, ◌++◌, map, Option, Some}
 use Rattle.std.specs.List.{AllByRecursion, flat_map}
 use Rattle.xid.specs.Places.{Place}
+use Rattle.ballot.specs.Greatest.{IsIn}
 use Rattle.protocol.specs.declared.answers.Answer.{Answer}
 use Rattle.protocol.specs.declared.decisions.Outgoing.{Outgoing}
 use Rattle.protocol.specs.declared.events.Event.{Event}
 use Rattle.protocol.specs.declared.nodes.NodeId.{NodeId}
 use Rattle.protocol.specs.Effects.{Config}
 use Rattle.protocol.specs.Nodes.{NodeState, Input, Fault}
-use Rattle.protocol.specs.Worlds.{World, node_at, set_node, datagrams_of}
-use Rattle.groups.specs.Runs.{Handed, CanBeHanded, is_upkeep, Happening, Handled, Upkept}
+use Rattle.protocol.specs.Worlds.{World, Datagram, node_at, set_node, datagrams_of}
+use Rattle.groups.specs.Runs.{Handed, CanBeHanded, IsSent, is_upkeep, Happening, Handled, Upkept}
 use Rattle.floors.specs.Nodes.{floored_node_step, is_input_below}
 use Rattle.floors.specs.Worlds.{FlooredWorld, FlooredEvent, Machine, floored_step}
-use Rattle.floors.specs.Runs.{floored_opening, events_in_machine}
+use Rattle.floors.specs.Runs.{IsFlooredReachable, floored_opening, events_in_machine}
 
 -- a node after the inputs of a group, one after another, each under its floor, which stays meanwhile
 abbrev pub floored_node_after : Config → NodeId → Option Place → NodeState → List Handed → NodeState
@@ -109,3 +110,16 @@ all_taken config _ (Grouped world who node group is_stored reach is all) =
     all_taken config world reach ++ taken_in config who (world.floor who) node group
 all_taken config _ (Kept world event fault reach is) =
     all_taken config world reach ++ Underwent event (floored_step config world event fault).answer ∷ []
+
+-- ---- one event at a time
+
+-- a world with another net
+abbrev pub with_net : FlooredWorld → List Datagram → FlooredWorld
+with_net world net = record world { machine = record world.machine { net = net } }
+
+-- events with floors, one at a time, lead to the same nodes, floors and notices, with all that was sent; what else stands there is never
+-- delivered
+pub record IsOneByOne (config : Config) (world : FlooredWorld) : Type 0 where
+  pub net : List Datagram
+  pub reached : IsFlooredReachable config (with_net world net)
+  pub sent : (d : Datagram) → IsIn world.machine.net d → IsSent (with_net world net).machine d

@@ -1,9 +1,12 @@
 //! What becomes of a cluster whose nodes have floors and work in groups is what groups without floors make, and so what events of the
 //! machine make, one after another.
-ghost use Rattle.std.specs.Prelude.{◌≡◌, Bool, true, List, [], ◌∷◌, ◌++◌, Some};
+ghost use Rattle.std.specs.Prelude.{◌≡◌, ℕ, Bool, true, false, List, [], ◌∷◌, ◌++◌, Some};
 ghost use Rattle.std.specs.List.{AllByRecursion};
+ghost use Rattle.xid.specs.Places.{is_below};
 ghost use Rattle.xid.specs.Transactions.{TxParts, is_participant};
 ghost use Rattle.protocol.specs.declared.nodes.NodeId.{NodeId};
+ghost use Rattle.protocol.specs.declared.nodes.NodeId.TheVariants.{R};
+ghost use Rattle.protocol.specs.declared.states.View.TheVariants as views;
 ghost use Rattle.protocol.specs.Effects.{Config};
 ghost use Rattle.protocol.specs.Nodes.{NodeState, Fault};
 ghost use Rattle.protocol.specs.TCommit.{IsCommitStep};
@@ -11,8 +14,9 @@ ghost use Rattle.protocol.specs.Worlds.{node_at};
 ghost use Rattle.safety.specs.CommitSteps.{IsConsistent};
 ghost use Rattle.safety.specs.Runs.{views_in};
 ghost use Rattle.groups.specs.Runs.{CanBeHanded, Handed, IsMachines, IsReached, group_result};
-ghost use Rattle.floors.specs.Worlds.{FlooredWorld, FlooredEvent, floored_step};
-ghost use Rattle.floored_groups.specs.Runs.{IsFlooredReached, above_floor, floored_group_result, is_floored_upkeep, machine_happened};
+ghost use Rattle.floors.specs.Worlds.{FlooredWorld, FlooredEvent, floored_step, is_manager};
+ghost use Rattle.floored_groups.specs.Runs.{IsFlooredReached, IsOneByOne, above_floor, floored_group_result, is_floored_upkeep};
+ghost use Rattle.floored_groups.specs.Runs.{machine_happened};
 
 /// What a cluster comes to whose nodes have floors and work in groups, one without floors comes to as well: a group under a floor does what
 /// the group of those of its inputs does that aren't below the floor. So what holds of every cluster whose nodes work in groups holds of it.
@@ -49,4 +53,20 @@ pub fn each_step()
         → is_floored_upkeep event ≡ true → (tx : TxParts)
         → IsCommitStep (is_participant tx) (views_in config world.machine tx)
         (views_in config (floored_step config world event fault).world.machine tx) }
+{}
+
+/// So they lead to the same where events are handled one at a time, each under its node's floor: to the same nodes, floors and notices, with
+/// all that was sent.
+pub fn groups_are_floored_events()
+    ensures { (config : Config) (world : FlooredWorld) → IsFlooredReached config world → IsOneByOne config world }
+{}
+
+/// And no floor passes what is prepared: wherever a resource manager has a transaction prepared, it is at or above its own floor, and that
+/// of each acceptor and leader that wasn't replaced.
+pub fn prepared_is_above()
+    ensures own { (config : Config) (world : FlooredWorld) → IsFlooredReached config world → (tx : TxParts) (r : ℕ)
+        → views_in config world.machine tx r ≡ views.Prepared → is_below (world.floor (R r)) tx ≡ false }
+    ensures others { (config : Config) (world : FlooredWorld) → IsFlooredReached config world → (tx : TxParts) (r : ℕ)
+        → views_in config world.machine tx r ≡ views.Prepared → (who : NodeId) → is_manager who ≡ false → world.is_replaced who ≡ false
+        → is_below (world.floor who) tx ≡ false }
 {}
