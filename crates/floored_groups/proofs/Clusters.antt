@@ -36,9 +36,11 @@ use Rattle.port.specs.Members.{Acts, Hears, Item, MemberParts, grouped, is_aside
 use Rattle.floored_groups.specs.Runs.{FlooredHappening, IsFlooredReached, Opening, Took, Underwent, all_taken}
 use Rattle.floored_groups.specs.Processes.{AreAllAnswered, AreAnswered, AreAnsweredApart, AreGrouped, CanBeGiven, GoesOn, IsAnswered}
 use Rattle.floored_groups.specs.Processes.{IsGrouped, IsUnstored, OthersStay, StandsIn, notice_to, sent_of, told_by}
-use Rattle.floored_groups.specs.Clusters.{AllProcesses, Begun, Compacted, Failed, IsBegun, IsReplied, IsRun, Raised, Reply, Restarted}
+use Rattle.floored_groups.specs.Clusters.{AllProcesses, Begun, Compacted, Failed, IsBegun, IsReplied, IsRun, Raised, Reopened, Reply}
+use Rattle.floored_groups.specs.Clusters.{Restarted}
 use Rattle.floored_groups.specs.Clusters.{StandFor, TookAll, after_step, all_replies, replies_of}
 use Rattle.floored_groups.proofs.Going.{stays_on}
+use Rattle.floored_groups.proofs.Reopened.{reopened_on}
 use Rattle.floored_groups.proofs.Taken.{taken, unstored}
 use Rattle.floored_groups.proofs.Upkept.{compacted, none_told, raised, restarted}
 
@@ -321,3 +323,7 @@ stand_for config _ (Compacted all who new result run among compacts) =
     let f = stand_for config all run in
     stand_still config all (all_replies config all run) f who new [] [] _
     (compacted config f.world f.reached who (all.members who) new (f.stand who among) result compacts)
+stand_for config _ (Reopened all who new run among reopens) =
+    let f = stand_for config all run in
+    stand_still config all (all_replies config all run) f who new [] [] _
+    (reopened_on config f.world f.reached who (all.members who) new (f.stand who among) reopens)

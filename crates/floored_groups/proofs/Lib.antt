@@ -6,6 +6,7 @@ pub mod Handed
 pub mod Heard
 pub mod Taken
 pub mod Upkept
+pub mod Reopened
 pub mod Clusters
 pub mod Views
 pub mod Single

@@ -114,19 +114,19 @@ none_told (suc count) zero = refl
 none_told (suc count) (suc rm) = none_told count rm
 
 module _ (config : Config) (world : FlooredWorld) (reach : IsFlooredReached config world) (who : NodeId) (old new : MemberParts)
-    (s : StandsIn config world who old) (result : Result (Unit {0}) Refusal) where
+    (s : StandsIn config world who old) where
   -- after an outcome with nothing sent
-  after_it : (outcome : Outcome) → FlooredStands config new.floored outcome.node → IsSameNode old.floored.node new.floored.node
-      → new.floored.floor ≡ old.floored.floor → length new.told ≡ length old.told → (told : NodeId → ℕ → Option Place)
+  after_it : (outcome : Outcome) → FlooredStands config new.floored outcome.node → new.floored.node.who ≡ old.floored.node.who
+      → new.floored.floor ≡ old.floored.floor → length new.told ≡ config.managers → (told : NodeId → ℕ → Option Place)
       → ((rm : ℕ) → rm < config.managers → told_at new.told rm ≡ told who rm)
       → StandsIn config (as_floored world told (outcome_result config world.machine who s.state.facts outcome)).world who new
-  after_it outcome stands same floor_is count told told_are = record {
+  after_it outcome stands who_is floor_is count told told_are = record {
     state = outcome.node;
     there = node_there config world.machine who s.state outcome.node s.there;
     is = stands;
-    who_is = same.who_is ∙ s.who_is;
+    who_is = who_is ∙ s.who_is;
     floor_is = floor_is ∙ s.floor_is;
-    told_count = count ∙ s.told_count;
+    told_count = count;
     told_are = told_are;
   }
 
@@ -139,30 +139,39 @@ module _ (config : Config) (world : FlooredWorld) (reach : IsFlooredReached conf
     replaced_are = refl;
   }
 
-  pub restarted : RestartsMember old new result
-      → GoesOn config world reach who new [] [] (Underwent (Machine (Restart who)) (restart_answer result) ∷ [])
-  restarted restarts =
-      let r = restarts.machine config s.state s.is in
-      let outcome : Outcome = restart_outcome config who s.state r.fault in
-      let is : restart_outcome config old.floored.node.who s.state r.fault ≡ outcome =
-      ap (λ (n : NodeId). restart_outcome config n s.state r.fault) s.who_is in
+  -- restarted, and told nothing any more
+  pub restart_on : (fault : Fault) → IsMet fault → FlooredStands config new.floored (restart_outcome config who s.state fault).node
+      → new.floored.node.who ≡ old.floored.node.who → new.floored.floor ≡ old.floored.floor → length new.told ≡ config.managers
+      → ((rm : ℕ) → told_at new.told rm ≡ None)
+      → GoesOn config world reach who new [] []
+      (Underwent (Machine (Restart who)) (restart_outcome config who s.state fault).answer ∷ [])
+  restart_on fault met stands who_is floor_is count none =
+      let outcome : Outcome = restart_outcome config who s.state fault in
       let told : NodeId → ℕ → Option Place = with_entry world.told who nothing_told in
       let came : FlooredResult = as_floored world told (outcome_result config world.machine who s.state.facts outcome) in
-      let stands =
-      after_it outcome (subst (λ (o : Outcome). FlooredStands config new.floored o.node) is r.stands) r.same r.floor_is
-      (ap length restarts.told_is ∙ length-replicate (length old.told) None) told
-      (λ rm few.
-      ap (λ (t : List (Option Place)). told_at t rm) restarts.told_is ∙ none_told (length old.told) rm
-      ∙ sym (ap (λ (t : ℕ → Option Place). t rm) (entry_own world.told who nothing_told))) in
-      goes_as config who world reach new [] [] [] [] (Underwent (Machine (Restart who)) outcome.answer ∷ [])
+      goes_by config who world reach (Machine (Restart who)) fault refl came
+      (met_step config world (Machine (Restart who)) fault met
+      ∙ ap (λ (o : Option NodeState). as_floored world told (if_found world.machine (λ node.
+      outcome_result config world.machine who node.facts (restart_outcome config who node fault)) o)) s.there) new
+      (after_it outcome stands who_is floor_is count told
+      (λ rm few. none rm ∙ sym (ap (λ (t : ℕ → Option Place). t rm) (entry_own world.told who nothing_told))))
+      (others_after outcome told (λ other apart. entry_other world.told who nothing_told other apart))
+      (silent_net config world.machine who s.state outcome (restart_silent config who s.state fault)) [] (sym (append-nil world.notices))
+
+  pub restarted : (result : Result (Unit {0}) Refusal) → RestartsMember old new result
+      → GoesOn config world reach who new [] [] (Underwent (Machine (Restart who)) (restart_answer result) ∷ [])
+  restarted result restarts =
+      let r = restarts.machine config s.state s.is in
+      let is : restart_outcome config old.floored.node.who s.state r.fault ≡ restart_outcome config who s.state r.fault =
+      ap (λ (n : NodeId). restart_outcome config n s.state r.fault) s.who_is in
+      goes_as config who world reach new [] [] [] []
+      (Underwent (Machine (Restart who)) (restart_outcome config who s.state r.fault).answer ∷ [])
       (Underwent (Machine (Restart who)) (restart_answer result) ∷ []) refl refl
       (ap (λ (a : Answer). Underwent (Machine (Restart who)) a ∷ []) (sym (r.answer_is ∙ ap (λ (o : Outcome). o.answer) is)))
-      (goes_by config who world reach (Machine (Restart who)) r.fault refl came
-      (met_step config world (Machine (Restart who)) r.fault (met_restart old.floored.node.held new.floored.node.held r.fault r.befalls)
-      ∙ ap (λ (o : Option NodeState). as_floored world told (if_found world.machine (λ node.
-      outcome_result config world.machine who node.facts (restart_outcome config who node r.fault)) o)) s.there) new stands
-      (others_after outcome told (λ other apart. entry_other world.told who nothing_told other apart))
-      (silent_net config world.machine who s.state outcome (restart_silent config who s.state r.fault)) [] (sym (append-nil world.notices)))
+      (restart_on r.fault (met_restart old.floored.node.held new.floored.node.held r.fault r.befalls)
+      (subst (λ (o : Outcome). FlooredStands config new.floored o.node) is r.stands) r.same.who_is r.floor_is
+      (ap length restarts.told_is ∙ length-replicate (length old.told) None ∙ s.told_count)
+      (λ rm. ap (λ (t : List (Option Place)). told_at t rm) restarts.told_is ∙ none_told (length old.told) rm))
 
   -- ---- made shorter
 
@@ -176,10 +185,10 @@ module _ (config : Config) (world : FlooredWorld) (reach : IsFlooredReached conf
   compact_is fault =
       ap (λ (o : Option NodeState). as_floored world world.told (if_found world.machine (shortened fault) o)) s.there
 
-  compacted_up : IsSameNode old.floored.node new.floored.node → new.floored.floor ≡ old.floored.floor → new.told ≡ old.told
+  compacted_up : (result : Result (Unit {0}) Refusal) → IsSameNode old.floored.node new.floored.node → new.floored.floor ≡ old.floored.floor → new.told ≡ old.told
       → FlooredCompactsUp config s.state old.floored new.floored result
       → GoesOn config world reach who new [] [] (Underwent (Machine (Compact who)) (restart_answer result) ∷ [])
-  compacted_up same floor_is told_is c =
+  compacted_up result same floor_is told_is c =
       let outcome : Outcome = compact_outcome s.state c.fault in
       let came : FlooredResult = as_floored world world.told (outcome_result config world.machine who s.state.facts outcome) in
       goes_as config who world reach new [] [] [] [] (Underwent (Machine (Compact who)) outcome.answer ∷ [])
@@ -190,15 +199,15 @@ module _ (config : Config) (world : FlooredWorld) (reach : IsFlooredReached conf
       ∙ compact_is c.fault
       ∙ ap (as_floored world world.told) (cond-true s.state.up (outcome_result config world.machine who s.state.facts outcome)
       (answer_result world.machine (Refused refusals.Down)) c.up)) new
-      (after_it outcome c.stands same floor_is (ap length told_is) world.told
+      (after_it outcome c.stands same.who_is floor_is (ap length told_is ∙ s.told_count) world.told
       (λ rm few. ap (λ (t : List (Option Place)). told_at t rm) told_is ∙ s.told_are rm few))
       (others_after outcome world.told (λ other apart. refl))
       (silent_net config world.machine who s.state outcome (compact_silent s.state c.fault)) [] (sym (append-nil world.notices)))
 
-  compacted_down : IsSameNode old.floored.node new.floored.node → new.floored.floor ≡ old.floored.floor → new.told ≡ old.told
+  compacted_down : (result : Result (Unit {0}) Refusal) → IsSameNode old.floored.node new.floored.node → new.floored.floor ≡ old.floored.floor → new.told ≡ old.told
       → FlooredCompactsDown config s.state old.floored new.floored result
       → GoesOn config world reach who new [] [] (Underwent (Machine (Compact who)) (restart_answer result) ∷ [])
-  compacted_down same floor_is told_is c =
+  compacted_down result same floor_is told_is c =
       goes_as config who world reach new [] [] [] [] (Underwent (Machine (Compact who)) (Refused refusals.Down) ∷ [])
       (Underwent (Machine (Compact who)) (restart_answer result) ∷ []) refl refl
       (ap (λ (r : Result (Unit {0}) Refusal). Underwent (Machine (Compact who)) (restart_answer r) ∷ []) (sym c.result_is))
@@ -218,11 +227,11 @@ module _ (config : Config) (world : FlooredWorld) (reach : IsFlooredReached conf
         told_are = λ rm few. ap (λ (t : List (Option Place)). told_at t rm) told_is ∙ s.told_are rm few;
       }) (others_same config who world) refl [] (sym (append-nil world.notices)))
 
-  pub compacted : CompactsMember old new result
+  pub compacted : (result : Result (Unit {0}) Refusal) → CompactsMember old new result
       → GoesOn config world reach who new [] [] (Underwent (Machine (Compact who)) (restart_answer result) ∷ [])
-  compacted compacts =
+  compacted result compacts =
       let c = compacts.machine config s.state s.is in
       elim c.comes [
-        | inl up ↦ compacted_up c.same c.floor_is compacts.told_is up
-        | inr down ↦ compacted_down c.same c.floor_is compacts.told_is down
+        | inl up ↦ compacted_up result c.same c.floor_is compacts.told_is up
+        | inr down ↦ compacted_down result c.same c.floor_is compacts.told_is down
       ]

@@ -20,7 +20,7 @@ use Rattle.floors.specs.Worlds.{FlooredWorld, Hear, Notice, with_entry}
 use Rattle.floored.specs.Nodes.{FlooredStands, FlooredViews, IsFlooredOpened}
 use Rattle.port.specs.Members.{Acts, CompactsMember, Hears, Item, MemberParts, RaisesMember, RestartsMember, TakesAll}
 use Rattle.floored_groups.specs.Runs.{FlooredHappening, IsFlooredReached, Took, Underwent, all_taken}
-use Rattle.floored_groups.specs.Processes.{CanBeGiven, StandsIn, notice_to, sent_of, told_by}
+use Rattle.floored_groups.specs.Processes.{CanBeGiven, Reopens, StandsIn, notice_to, sent_of, told_by}
 
 -- the processes of a cluster by the nodes that they are, all datagrams that they sent, and all notices that they told
 pub record AllProcesses : Type 0 where
@@ -46,7 +46,7 @@ pub record IsBegun (config : Config) (who : NodeId) (member : MemberParts) : Typ
 
 -- what can become of the processes of a cluster, each step at one of them: they are begun; one takes what it is handed, all of which was
 -- sent to it or told it by processes of the cluster; its append fails there, or memory is wanted; a resource manager is asked to raise its
--- floor; one is restarted; and the record of one is made shorter
+-- floor; one is restarted; the record of one is made shorter; and one ends, at whatever moment, and is opened anew over its record
 pub data IsRun (config : Config) : AllProcesses → Type 0 where
   Begun : (members : NodeId → MemberParts) → ((who : NodeId) → is_among config who ≡ true → IsBegun config who (members who))
       → IsRun config (record { members = members; net = []; notices = [] })
@@ -64,6 +64,8 @@ pub data IsRun (config : Config) : AllProcesses → Type 0 where
       → is_among config who ≡ true → RestartsMember (all.members who) new result → IsRun config (after_step all who new [] [])
   Compacted : (all : AllProcesses) (who : NodeId) (new : MemberParts) (result : Result (Unit {0}) Refusal) → IsRun config all
       → is_among config who ≡ true → CompactsMember (all.members who) new result → IsRun config (after_step all who new [] [])
+  Reopened : (all : AllProcesses) (who : NodeId) (new : MemberParts) → IsRun config all → is_among config who ≡ true
+      → Reopens config who (all.members who) new → IsRun config (after_step all who new [] [])
 
 -- a reply that a process gave: which one, to what it was handed, and what it says
 pub record Reply : Type 0 where
@@ -86,6 +88,7 @@ all_replies config _ (Failed all who items new before after error run among can 
 all_replies config _ (Raised all rm place new result run among raises) = all_replies config all run
 all_replies config _ (Restarted all who new result run among restarts) = all_replies config all run
 all_replies config _ (Compacted all who new result run among compacts) = all_replies config all run
+all_replies config _ (Reopened all who new run among reopens) = all_replies config all run
 
 -- so it was answered in the machine with floors
 abbrev pub IsReplied : List Notice → List FlooredHappening → NodeId → Item → Answer → Type 0

@@ -1,5 +1,5 @@
 -- Processes of a cluster: for which node of a world each stands, and what comes in the world of what one is handed.
-use Rattle.std.specs.Prelude.{◌≡◌, ◌≢◌, ◌⊎◌, ℕ, ◌<◌, Bool, true, false, MatchBool, List, [], ◌∷◌, ◌++◌, length, map, slice_get}
+use Rattle.std.specs.Prelude.{◌≡◌, ◌≢◌, ◌⊎◌, ℕ, ◌<◌, Bool, true, false, MatchBool, List, [], ◌∷◌, ◌++◌, length, map, replicate, slice_get}
 use Rattle.std.specs.Prelude.{Option, Some, None, is_some, Result, Ok, Err}
 use Rattle.std.specs.List.{flat_map}
 use Rattle.xid.specs.declared.refusals.Refusal.{Refusal}
@@ -7,7 +7,9 @@ use Rattle.xid.specs.Places.{Place}
 use Rattle.ballot.specs.Greatest.{IsIn}
 use Rattle.wire.specs.declared.notice.Notice.{Notice as Heard}
 use Rattle.stable_record.specs.declared.record.RecordError.{RecordError}
-use Rattle.stable_record.specs.Held.{refusal_of}
+use Rattle.stable_record.specs.Behind.{behind}
+use Rattle.stable_record.specs.Floors.{floor_of, front_of}
+use Rattle.stable_record.specs.Held.{Held, refusal_of}
 use Rattle.protocol.specs.declared.answers.Answer.{Answer}
 use Rattle.protocol.specs.declared.answers.Answer.TheVariants.{Refused}
 use Rattle.protocol.specs.declared.decisions.Outgoing.{Outgoing}
@@ -16,10 +18,11 @@ use Rattle.protocol.specs.Effects.{Config}
 use Rattle.protocol.specs.Nodes.{NodeState, Input, Received, ReceivedNoise}
 use Rattle.protocol.specs.Worlds.{Datagram, node_at, datagrams_of}
 use Rattle.node_core.specs.declared.output.Output.{Output}
+use Rattle.node_core.specs.Nodes.{HasRows}
 use Rattle.node_core.specs.Sends.{sent}
 use Rattle.node_core.specs.Storing.{output_of}
 use Rattle.floors.specs.Worlds.{FlooredWorld, Notice, Hear, is_manager, notices_of}
-use Rattle.floored.specs.Nodes.{FlooredStands}
+use Rattle.floored.specs.Nodes.{FlooredStands, IsFlooredOpened}
 use Rattle.floored.specs.Told.{told_at}
 use Rattle.port.specs.Members.{MemberParts, Item, Acts, Hears, is_aside, grouped}
 use Rattle.floored_groups.specs.Runs.{IsFlooredReached, FlooredHappening, Took, Underwent, all_taken}
@@ -142,3 +145,14 @@ IsUnstored config world reach who items old new before after error =
 abbrev pub told_by : Config → (rm : ℕ) → (new : MemberParts) → Result (Unit {0}) Refusal → List Notice
 told_by config rm new (Ok done) = notices_of config rm new.floored.floor
 told_by config rm new (Err refusal) = []
+
+-- a process ended, at whatever moment, and one was opened anew over its record, and told nothing: this begins with the floor that it had,
+-- and holds behind that what its node held; and its table began with its rows in the cluster
+pub record Reopens (config : Config) (who : NodeId) (old new : MemberParts) : Type 0 where
+  pub rows_are : HasRows config who old.floored.node.rows
+  pub held : Held
+  pub floor_is : floor_of held.bytes ≡ old.floored.floor
+  pub bytes_are : (behind (front_of old.floored.floor) held).bytes ≡ old.floored.node.held.bytes
+  pub armed_is : held.armed ≡ old.floored.node.held.armed
+  pub opened : IsFlooredOpened config who held new.floored
+  pub told_is : new.told ≡ replicate config.managers None

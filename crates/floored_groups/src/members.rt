@@ -4,6 +4,7 @@ ghost use Rattle.std.specs.List.{AllByRecursion};
 ghost use Rattle.xid.specs.Places.{Place};
 ghost use Rattle.xid.specs.declared.refusals.Refusal.{Refusal};
 ghost use Rattle.stable_record.specs.declared.record.RecordError.{RecordError};
+ghost use Rattle.protocol.specs.declared.answers.Answer.TheVariants.{Done};
 ghost use Rattle.protocol.specs.declared.events.Event.TheVariants.{Compact, Restart};
 ghost use Rattle.protocol.specs.declared.nodes.NodeId.{NodeId};
 ghost use Rattle.protocol.specs.declared.nodes.NodeId.TheVariants.{R};
@@ -13,7 +14,7 @@ ghost use Rattle.node_core.specs.Opening.{restart_answer};
 ghost use Rattle.floors.specs.Worlds.{FlooredWorld, Machine, Raise};
 ghost use Rattle.port.specs.Members.{CompactsMember, Item, MemberParts, RaisesMember, RestartsMember, TakesAll};
 ghost use Rattle.floored_groups.specs.Runs.{IsFlooredReached, Underwent};
-ghost use Rattle.floored_groups.specs.Processes.{CanBeGiven, GoesOn, IsTaken, IsUnstored, StandsIn, told_by};
+ghost use Rattle.floored_groups.specs.Processes.{CanBeGiven, GoesOn, IsTaken, IsUnstored, Reopens, StandsIn, told_by};
 
 /// A process that stands for its node in a world is handed any number of things at once: requests, datagrams that were sent to it, notices
 /// that were told it, and noise. Then the cluster goes on to a world in which it stands for its node again, each is answered as the machine
@@ -31,7 +32,7 @@ pub fn processes_take_all()
 {}
 
 /// So it is where a resource manager's floor was to rise, which it then tells all acceptors and leaders; where a process is restarted over
-/// its record; and where its record is made shorter.
+/// its record; where its record is made shorter; and where it ended, at whatever moment, and one is opened anew over its record.
 pub fn processes_are_kept()
     ensures raised { (config : Config) (world : FlooredWorld) (reach : IsFlooredReached config world) (rm : ℕ) (place : Place)
         (old new : MemberParts) (result : Result (Unit {0}) Refusal) → StandsIn config world (R rm) old
@@ -44,4 +45,7 @@ pub fn processes_are_kept()
     ensures compacted { (config : Config) (world : FlooredWorld) (reach : IsFlooredReached config world) (who : NodeId)
         (old new : MemberParts) (result : Result (Unit {0}) Refusal) → StandsIn config world who old → CompactsMember old new result
         → GoesOn config world reach who new [] [] (Underwent (Machine (Compact who)) (restart_answer result) ∷ []) }
+    ensures reopened { (config : Config) (world : FlooredWorld) (reach : IsFlooredReached config world) (who : NodeId)
+        (old new : MemberParts) → StandsIn config world who old → Reopens config who old new
+        → GoesOn config world reach who new [] [] (Underwent (Machine (Restart who)) Done ∷ []) }
 {}

@@ -1,3 +1,4 @@
+use Rattle.floored_groups.proofs.Reopened.{reopened_on}
 use Rattle.floored_groups.proofs.Upkept.{compacted, raised, restarted}
 use Rattle.floored_groups.proofs.members.processes_are_kept.Goals as goal
 
@@ -9,3 +10,6 @@ returns-clause-restarted c config world reach who old new result s restarts = re
 
 pub returns-clause-compacted : goal.returns-clause-compacted
 returns-clause-compacted c config world reach who old new result s compacts = compacted config world reach who old new s result compacts
+
+pub returns-clause-reopened : goal.returns-clause-reopened
+returns-clause-reopened c = reopened_on
