@@ -25,6 +25,7 @@ use Rattle.forgetting.specs.Above.{StandsAbove}
 use Rattle.forgetting.proofs.Left.{stands_whole}
 use Rattle.node_core.specs.declared.output.Output.{Output}
 use Rattle.node_core.specs.Configs.{is_among}
+use Rattle.node_core.specs.Sends.{sent}
 use Rattle.node_core.specs.Nodes.{NodeStands}
 use Rattle.node_core.specs.Opening.{IsOpened}
 use Rattle.node_core.proofs.Restarting.{opened_empty}
@@ -36,13 +37,14 @@ use Rattle.port.specs.Members.{Acts, Hears, Item, MemberParts, grouped, is_aside
 use Rattle.floored_groups.specs.Runs.{FlooredHappening, IsFlooredReached, Opening, Took, Underwent, all_taken}
 use Rattle.floored_groups.specs.Processes.{AreAllAnswered, AreAnswered, AreAnsweredApart, AreGrouped, CanBeGiven, GoesOn, IsAnswered}
 use Rattle.floored_groups.specs.Processes.{IsGrouped, IsUnstored, OthersStay, StandsIn, notice_to, sent_of, told_by}
-use Rattle.floored_groups.specs.Clusters.{AllProcesses, Begun, Compacted, Failed, IsBegun, IsReplied, IsRun, Raised, Reopened, Reply}
+use Rattle.floored_groups.specs.Clusters.{AllProcesses, Armed, Begun, Compacted, Failed, IsBegun, IsReplied, IsRun, Raised, Reopened, Reply}
+use Rattle.floored_groups.specs.Clusters.{Tabled, TookOne, Viewed}
 use Rattle.floored_groups.specs.Clusters.{Restarted}
 use Rattle.floored_groups.specs.Clusters.{StandFor, TookAll, after_step, all_replies, replies_of}
 use Rattle.floored_groups.proofs.Going.{stays_on}
 use Rattle.floored_groups.proofs.Reopened.{reopened_on}
-use Rattle.floored_groups.proofs.Taken.{taken, unstored}
-use Rattle.floored_groups.proofs.Upkept.{compacted, none_told, raised, restarted}
+use Rattle.floored_groups.proofs.Taken.{taken, taken_alone, unstored}
+use Rattle.floored_groups.proofs.Upkept.{armed_on, asked_on, compacted, none_told, raised, restarted}
 
 -- ---- begun
 
@@ -281,6 +283,22 @@ can_be config world all who items net notices can =
     subst (λ (n : List Datagram). AllByRecursion (CanBeGiven n world.notices who) items) (sym net)
     (subst (λ (t : List Notice). AllByRecursion (CanBeGiven all.net t who) items) (sym notices) can)
 
+can_one : (config : Config) (world : FlooredWorld) (all : AllProcesses) (who : NodeId) (item : Item) → world.machine.net ≡ all.net
+    → world.notices ≡ all.notices → CanBeGiven all.net all.notices who item → CanBeGiven world.machine.net world.notices who item
+can_one config world all who item net notices can =
+    subst (λ (n : List Datagram). CanBeGiven n world.notices who item) (sym net)
+    (subst (λ (t : List Notice). CanBeGiven all.net t who item) (sym notices) can)
+
+-- the one reply of what was handed alone
+alone_replied : (notices : List Notice) (who : NodeId) (item : Item) (answer : Answer) (happened : FlooredHappening)
+    → IsAnswered notices who item answer happened → (reply : Reply)
+    → IsIn (record { who = who; item = item; answer = answer } ∷ []) reply
+    → IsReplied notices (happened ∷ []) reply.who reply.item reply.answer
+alone_replied notices who item answer happened is reply (inl same) =
+    subst (λ (r : Reply). IsReplied notices (happened ∷ []) r.who r.item r.answer) same
+    (replied_first notices who item answer happened [] is)
+alone_replied notices who item answer happened is reply (inr none) = absurd none
+
 -- one whose append failed
 failed_on : (config : Config) (world : FlooredWorld) (reach : IsFlooredReached config world) (who : NodeId) (items : List Item)
     (old new : MemberParts) (before outs : List Output) (error : RecordError) → StandsIn config world who old
@@ -311,6 +329,13 @@ stand_for config _ (Failed all who items new before after error run among can ta
     (unstored config f.world f.reached who items (all.members who) new before after (f.stand who among)
     (can_be config f.world all who items f.net_is f.notices_are can) error takes) in
     stand_still config all (all_replies config all run) f who new [] [] t.0 t.1
+stand_for config _ (TookOne all who item new out run among can takes) =
+    let f = stand_for config all run in
+    let t = taken_alone config f.world f.reached who item (all.members who) new out (f.stand who among)
+    (can_one config f.world all who item f.net_is f.notices_are can) takes in
+    stand_on config all (all_replies config all run) f who new (sent out.sends) [] (t.happened ∷ [])
+    (record { who = who; item = item; answer = out.reply } ∷ []) t.goes_on
+    (alone_replied f.world.notices who item out.reply t.happened t.answered)
 stand_for config _ (Raised all rm place new result run among raises) =
     let f = stand_for config all run in
     stand_still config all (all_replies config all run) f (R rm) new [] (told_by config rm new result) _
@@ -323,6 +348,20 @@ stand_for config _ (Compacted all who new result run among compacts) =
     let f = stand_for config all run in
     stand_still config all (all_replies config all run) f who new [] [] _
     (compacted config f.world f.reached who (all.members who) new (f.stand who among) result compacts)
+stand_for config _ (Viewed all who tx new result run among answers) =
+    let f = stand_for config all run in
+    let s = f.stand who among in
+    stand_still config all (all_replies config all run) f who new [] [] []
+    (asked_on config f.world f.reached who (all.members who) new s _ result (answers.machine config s.state s.is) answers.told_is)
+stand_for config _ (Tabled all who new result run among answers) =
+    let f = stand_for config all run in
+    let s = f.stand who among in
+    stand_still config all (all_replies config all run) f who new [] [] []
+    (asked_on config f.world f.reached who (all.members who) new s _ result (answers.machine config s.state s.is) answers.told_is)
+stand_for config _ (Armed all who n new run among arms) =
+    let f = stand_for config all run in
+    stand_still config all (all_replies config all run) f who new [] [] _
+    (armed_on config f.world f.reached who (all.members who) new (f.stand who among) n arms)
 stand_for config _ (Reopened all who new run among reopens) =
     let f = stand_for config all run in
     stand_still config all (all_replies config all run) f who new [] [] _

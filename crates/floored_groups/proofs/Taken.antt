@@ -34,7 +34,7 @@ use Rattle.port.specs.Members.{is_aside}
 use Rattle.port.proofs.Taking.{aside_grouped}
 use Rattle.floored_groups.specs.Runs.{IsFlooredReached, FlooredHappening, Took, Underwent, floored_node_after, floored_sends_after, taken_in}
 use Rattle.floored_groups.specs.Processes.{StandsIn, GoesOn, CanBeGiven, IsAnswered, AreAnswered, IsGrouped, AreGrouped, AreAnsweredApart}
-use Rattle.floored_groups.specs.Processes.{sent_of, IsTaken, IsStopped, IsUnstored}
+use Rattle.floored_groups.specs.Processes.{sent_of, IsTaken, IsTakenAlone, IsStopped, IsUnstored}
 use Rattle.floored_groups.proofs.Going.{goes_as, goes_group, goes_then, stays_on}
 use Rattle.floored_groups.proofs.Handed.{IsRunOf, run_of, replies, all_inputs, all_first, after_one}
 use Rattle.floored_groups.proofs.Heard.{numbered, one_heard}
@@ -137,6 +137,14 @@ module _ (config : Config) (world : FlooredWorld) (reach : IsFlooredReached conf
         risen = h.risen;
         silent = λ floor high below. h.silent;
       }
+
+-- what a process is handed alone
+pub taken_alone : (config : Config) (world : FlooredWorld) (reach : IsFlooredReached config world) (who : NodeId) (item : Item)
+    (old new : MemberParts) (out : Output) → StandsIn config world who old → CanBeGiven world.machine.net world.notices who item
+    → Takes item old new out → IsTakenAlone config world reach who item new out
+taken_alone config world reach who item old new out s can takes =
+    let d = done_one config world reach who world.notices old new s out item can refl takes in
+    record { happened = d.happened; answered = d.answered; goes_on = d.goes_on }
 
 -- ---- one after another
 

@@ -1,5 +1,6 @@
--- A process whose floor was to rise, that was restarted, or whose record was made shorter does what its node does in a world.
-use Rattle.std.proofs.Common.{◌≡◌, ◌≢◌, ◌∙◌, inl, inr, ℕ, zero, suc, ◌<◌, if◌then◌else◌, List, [], ◌∷◌, ◌++◌, length, Option, None}
+-- A process whose floor was to rise, that was restarted, whose record was made shorter, or that was asked for something does what its node
+-- does in a world. The laws of processes need it, and runs of all of them.
+use Rattle.std.proofs.Common.{◌≡◌, ◌≢◌, ◌∙◌, inl, inr, ℕ, zero, suc, ◌<◌, if◌then◌else◌, List, [], ◌∷◌, ◌++◌, length, Option, Some, None}
 use Rattle.std.proofs.Common.{refl, sym, ap, subst, append-nil}
 use Rattle.std.specs.Prelude.{replicate, Result, Ok, Err}
 use Rattle.std.specs.List.{flat_map}
@@ -10,29 +11,29 @@ use Rattle.xid.specs.declared.refusals.Refusal.{Refusal}
 use Rattle.xid.specs.declared.refusals.Refusal.TheVariants as refusals
 use Rattle.stable_record.specs.Held.{Held}
 use Rattle.protocol.specs.declared.answers.Answer.{Answer}
-use Rattle.protocol.specs.declared.answers.Answer.TheVariants.{Refused}
+use Rattle.protocol.specs.declared.answers.Answer.TheVariants.{Done, Refused}
 use Rattle.protocol.specs.declared.decisions.Outgoing.{Outgoing}
-use Rattle.protocol.specs.declared.events.Event.TheVariants.{Restart, Compact}
+use Rattle.protocol.specs.declared.events.Event.TheVariants.{Restart, Compact, Tear}
 use Rattle.protocol.specs.declared.nodes.NodeId.{NodeId}
 use Rattle.protocol.specs.declared.nodes.NodeId.TheVariants.{R}
 use Rattle.protocol.specs.Effects.{Config}
 use Rattle.protocol.specs.Nodes.{NodeState, Fault, NoFault, NoMemoryBefore, NoMemoryAt, RecordFails, Outcome, restart_outcome, compact_outcome}
-use Rattle.protocol.specs.Worlds.{World, StepResult, datagrams_of, if_found, outcome_result, answer_result}
+use Rattle.protocol.specs.Worlds.{World, StepResult, datagrams_of, if_found, outcome_result, answer_result, set_node}
 use Rattle.safety.proofs.World.NodePlaces.{node_there, node_elsewhere}
 use Rattle.node_core.specs.Compacting.{BefallsCompact}
-use Rattle.node_core.specs.Nodes.{IsSameNode}
+use Rattle.node_core.specs.Nodes.{IsSameNode, NodeParts}
 use Rattle.node_core.specs.Opening.{BefallsRestart, restart_answer}
 use Rattle.floors.specs.Nodes.{Rise, on_raise}
 use Rattle.floors.specs.Worlds.{FlooredWorld, FlooredResult, Machine, Raise, floored_dispatch, floored_if_found, is_done}
 use Rattle.floors.specs.Worlds.{notices_of, nothing_told, raise_result, with_entry}
 use Rattle.floors.proofs.Nodes.{restart_silent, compact_silent}
 use Rattle.floors.proofs.Rising.{entry_own}
-use Rattle.floored.specs.Nodes.{FlooredCompactsDown, FlooredCompactsUp, FlooredStands}
+use Rattle.floored.specs.Nodes.{FlooredCompactsDown, FlooredCompactsUp, FlooredSays, FlooredStands}
 use Rattle.floored.specs.Told.{told_at}
 use Rattle.port.specs.Members.{CompactsMember, MemberParts, RaisesMember, RestartsMember}
 use Rattle.floored_groups.specs.Runs.{IsFlooredReached, Underwent}
-use Rattle.floored_groups.specs.Processes.{StandsIn, OthersStay, GoesOn, told_by}
-use Rattle.floored_groups.proofs.Going.{goes_by, goes_as, met_step, IsMet, others_same}
+use Rattle.floored_groups.specs.Processes.{ArmsMember, StandsIn, OthersStay, GoesOn, told_by}
+use Rattle.floored_groups.proofs.Going.{goes_by, goes_as, met_step, IsMet, others_same, stays_on}
 use Rattle.floored_groups.proofs.Heard.{entry_other, risen_so}
 
 -- ---- raised
@@ -235,3 +236,45 @@ module _ (config : Config) (world : FlooredWorld) (reach : IsFlooredReached conf
         | inl up ↦ compacted_up result c.same c.floor_is compacts.told_is up
         | inr down ↦ compacted_down result c.same c.floor_is compacts.told_is down
       ]
+
+  -- ---- asked, and torn
+
+  -- a process that was asked for something is what it was
+  pub asked_on : {X : Type 0} (Says : Type 0) (result : Result X Refusal)
+      → FlooredSays config s.state old.floored new.floored Says result → new.told ≡ old.told
+      → GoesOn config world reach who new [] [] []
+  asked_on Says result says told_is =
+      stays_on config who world reach new (record {
+        state = s.state;
+        there = s.there;
+        is = says.stands;
+        who_is = says.same.who_is ∙ s.who_is;
+        floor_is = says.floor_is ∙ s.floor_is;
+        told_count = ap length told_is ∙ s.told_count;
+        told_are = λ rm few. ap (λ (t : List (Option Place)). told_at t rm) told_is ∙ s.told_are rm few;
+      })
+
+  pub armed_on : (n : ℕ) → ArmsMember n old new → GoesOn config world reach who new [] [] (Underwent (Machine (Tear who n)) Done ∷ [])
+  armed_on n arms =
+      let torn : NodeState = record s.state { tear = Some n } in
+      let came : FlooredResult =
+      as_floored world world.told (answer_result (set_node config world.machine who torn) Done) in
+      goes_by config who world reach (Machine (Tear who n)) NoFault refl came
+      (met_step config world (Machine (Tear who n)) NoFault tt
+      ∙ ap (λ (o : Option NodeState). as_floored world world.told (if_found world.machine (λ node.
+      answer_result (set_node config world.machine who (record node { tear = Some n })) Done) o)) s.there) new
+      (record {
+        state = torn;
+        there = node_there config world.machine who s.state torn s.there;
+        is = arms.machine config s.state s.is;
+        who_is = ap (λ (node : NodeParts). node.who) arms.node_is ∙ s.who_is;
+        floor_is = arms.floor_is ∙ s.floor_is;
+        told_count = ap length arms.told_is ∙ s.told_count;
+        told_are = λ rm few. ap (λ (t : List (Option Place)). told_at t rm) arms.told_is ∙ s.told_are rm few;
+      })
+      (record {
+        nodes_are = λ other apart. node_elsewhere config world.machine who other torn apart;
+        floors_are = λ other apart. refl;
+        told_are = λ other apart. refl;
+        replaced_are = refl;
+      }) refl [] (sym (append-nil world.notices))

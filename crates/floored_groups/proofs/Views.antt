@@ -19,8 +19,8 @@ use Rattle.node_core.specs.Configs.{is_among}
 use Rattle.floors.specs.Worlds.{FlooredWorld}
 use Rattle.floored.specs.Nodes.{SaysFlooredView}
 use Rattle.port.specs.Members.{MemberParts}
-use Rattle.floored_groups.specs.Processes.{StandsIn}
-use Rattle.floored_groups.specs.Clusters.{AllProcesses, AnswersView, IsRun}
+use Rattle.floored_groups.specs.Processes.{AnswersView, StandsIn}
+use Rattle.floored_groups.specs.Clusters.{AllProcesses, IsRun}
 use Rattle.floored_groups.proofs.Clusters.{stand_for}
 use Rattle.floored_groups.proofs.Reached.{consistent}
 
@@ -56,7 +56,7 @@ module _ (config : Config) (world : FlooredWorld) (rm : ℕ) (old new : MemberPa
     (v : View) (answers : AnswersView tx old new (Ok v)) where
   answered_view : Stands (view_standing v) ≡ Stands (view_standing (views_in config world.machine tx rm))
   answered_view =
-      elim (answers config s.state s.is).says [
+      elim (answers.machine config s.state s.is).says [
         | inl said ↦
             says_standing config rm (world.floor (R rm)) s.state.facts tx v
             (subst (λ (w : NodeId). SaysFlooredView config w (world.floor (R rm)) s.state.facts tx (Ok v)) s.who_is

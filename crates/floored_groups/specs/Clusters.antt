@@ -10,17 +10,19 @@ use Rattle.stable_record.specs.Held.{Held}
 use Rattle.protocol.specs.declared.answers.Answer.{Answer}
 use Rattle.protocol.specs.declared.nodes.NodeId.{NodeId}
 use Rattle.protocol.specs.declared.nodes.NodeId.TheVariants.{R}
+use Rattle.protocol.specs.declared.rows.Row.{Row}
 use Rattle.protocol.specs.declared.states.View.{View}
 use Rattle.protocol.specs.Effects.{Config}
-use Rattle.protocol.specs.Nodes.{NodeState}
 use Rattle.protocol.specs.Worlds.{Datagram, datagrams_of}
 use Rattle.node_core.specs.declared.output.Output.{Output}
 use Rattle.node_core.specs.Configs.{is_among}
+use Rattle.node_core.specs.Sends.{sent}
 use Rattle.floors.specs.Worlds.{FlooredWorld, Hear, Notice, with_entry}
-use Rattle.floored.specs.Nodes.{FlooredStands, FlooredViews, IsFlooredOpened}
-use Rattle.port.specs.Members.{Acts, CompactsMember, Hears, Item, MemberParts, RaisesMember, RestartsMember, TakesAll}
+use Rattle.floored.specs.Nodes.{IsFlooredOpened}
+use Rattle.port.specs.Members.{Acts, CompactsMember, Hears, Item, MemberParts, RaisesMember, RestartsMember, Takes, TakesAll}
 use Rattle.floored_groups.specs.Runs.{FlooredHappening, IsFlooredReached, Took, Underwent, all_taken}
-use Rattle.floored_groups.specs.Processes.{CanBeGiven, Reopens, StandsIn, notice_to, sent_of, told_by}
+use Rattle.floored_groups.specs.Processes.{AnswersTable, AnswersView, ArmsMember, CanBeGiven, Reopens, StandsIn}
+use Rattle.floored_groups.specs.Processes.{notice_to, sent_of, told_by}
 
 -- the processes of a cluster by the nodes that they are, all datagrams that they sent, and all notices that they told
 pub record AllProcesses : Type 0 where
@@ -44,9 +46,10 @@ pub record IsBegun (config : Config) (who : NodeId) (member : MemberParts) : Typ
   pub opened : IsFlooredOpened config who held member.floored
   pub told_is : member.told ≡ replicate config.managers None
 
--- what can become of the processes of a cluster, each step at one of them: they are begun; one takes what it is handed, all of which was
--- sent to it or told it by processes of the cluster; its append fails there, or memory is wanted; a resource manager is asked to raise its
--- floor; one is restarted; the record of one is made shorter; and one ends, at whatever moment, and is opened anew over its record
+-- what can become of the processes of a cluster, each step at one of them: they are begun; one takes what it is handed, many things at once
+-- or one, all of which was sent to it or told it by processes of the cluster; its append fails there, or memory is wanted; a resource
+-- manager is asked to raise its floor; one is asked for its view of a transaction or its table; one is restarted; the record of one is made
+-- shorter; a tear is armed on it; and one ends, at whatever moment, and is opened anew over its record
 pub data IsRun (config : Config) : AllProcesses → Type 0 where
   Begun : (members : NodeId → MemberParts) → ((who : NodeId) → is_among config who ≡ true → IsBegun config who (members who))
       → IsRun config (record { members = members; net = []; notices = [] })
@@ -57,6 +60,9 @@ pub data IsRun (config : Config) : AllProcesses → Type 0 where
   Failed : (all : AllProcesses) (who : NodeId) (items : List Item) (new : MemberParts) (before after : List Output) (error : RecordError)
       → IsRun config all → is_among config who ≡ true → AllByRecursion (CanBeGiven all.net all.notices who) items
       → TakesAll items (all.members who) new before after (Err error) → IsRun config (after_step all who new [] [])
+  TookOne : (all : AllProcesses) (who : NodeId) (item : Item) (new : MemberParts) (out : Output) → IsRun config all
+      → is_among config who ≡ true → CanBeGiven all.net all.notices who item → Takes item (all.members who) new out
+      → IsRun config (after_step all who new (flat_map (datagrams_of config who) (sent out.sends)) [])
   Raised : (all : AllProcesses) (rm : ℕ) (place : Place) (new : MemberParts) (result : Result (Unit {0}) Refusal) → IsRun config all
       → is_among config (R rm) ≡ true → RaisesMember place (all.members (R rm)) new result
       → IsRun config (after_step all (R rm) new [] (told_by config rm new result))
@@ -64,6 +70,12 @@ pub data IsRun (config : Config) : AllProcesses → Type 0 where
       → is_among config who ≡ true → RestartsMember (all.members who) new result → IsRun config (after_step all who new [] [])
   Compacted : (all : AllProcesses) (who : NodeId) (new : MemberParts) (result : Result (Unit {0}) Refusal) → IsRun config all
       → is_among config who ≡ true → CompactsMember (all.members who) new result → IsRun config (after_step all who new [] [])
+  Viewed : (all : AllProcesses) (who : NodeId) (tx : TxParts) (new : MemberParts) (result : Result View Refusal) → IsRun config all
+      → is_among config who ≡ true → AnswersView tx (all.members who) new result → IsRun config (after_step all who new [] [])
+  Tabled : (all : AllProcesses) (who : NodeId) (new : MemberParts) (result : Result (List Row) Refusal) → IsRun config all
+      → is_among config who ≡ true → AnswersTable (all.members who) new result → IsRun config (after_step all who new [] [])
+  Armed : (all : AllProcesses) (who : NodeId) (n : ℕ) (new : MemberParts) → IsRun config all → is_among config who ≡ true
+      → ArmsMember n (all.members who) new → IsRun config (after_step all who new [] [])
   Reopened : (all : AllProcesses) (who : NodeId) (new : MemberParts) → IsRun config all → is_among config who ≡ true
       → Reopens config who (all.members who) new → IsRun config (after_step all who new [] [])
 
@@ -85,9 +97,14 @@ all_replies config _ (Begun members begun) = []
 all_replies config _ (TookAll all who items new before after run among can takes) =
     all_replies config all run ++ replies_of who items after
 all_replies config _ (Failed all who items new before after error run among can takes) = all_replies config all run
+all_replies config _ (TookOne all who item new out run among can takes) =
+    all_replies config all run ++ record { who = who; item = item; answer = out.reply } ∷ []
 all_replies config _ (Raised all rm place new result run among raises) = all_replies config all run
 all_replies config _ (Restarted all who new result run among restarts) = all_replies config all run
 all_replies config _ (Compacted all who new result run among compacts) = all_replies config all run
+all_replies config _ (Viewed all who tx new result run among answers) = all_replies config all run
+all_replies config _ (Tabled all who new result run among answers) = all_replies config all run
+all_replies config _ (Armed all who n new run among arms) = all_replies config all run
 all_replies config _ (Reopened all who new run among reopens) = all_replies config all run
 
 -- so it was answered in the machine with floors
@@ -105,8 +122,3 @@ pub record StandFor (config : Config) (all : AllProcesses) (replies : List Reply
   pub notices_are : world.notices ≡ all.notices
   pub replied : (reply : Reply) → IsIn replies reply
       → IsReplied world.notices (all_taken config world reached) reply.who reply.item reply.answer
-
--- a process that was asked where it stands in a transaction answers so, as the contract of its view says
-abbrev pub AnswersView : TxParts → (old new : MemberParts) → Result View Refusal → Type 0
-AnswersView tx old new result =
-    (config : Config) (m : NodeState) → FlooredStands config old.floored m → FlooredViews config m old.floored new.floored tx result

@@ -4,16 +4,19 @@ use Rattle.std.specs.Prelude.{Option, Some, None, is_some, Result, Ok, Err}
 use Rattle.std.specs.List.{flat_map}
 use Rattle.xid.specs.declared.refusals.Refusal.{Refusal}
 use Rattle.xid.specs.Places.{Place}
+use Rattle.xid.specs.Transactions.{TxParts}
 use Rattle.ballot.specs.Greatest.{IsIn}
 use Rattle.wire.specs.declared.notice.Notice.{Notice as Heard}
 use Rattle.stable_record.specs.declared.record.RecordError.{RecordError}
 use Rattle.stable_record.specs.Behind.{behind}
 use Rattle.stable_record.specs.Floors.{floor_of, front_of}
-use Rattle.stable_record.specs.Held.{Held, refusal_of}
+use Rattle.stable_record.specs.Held.{Held, armed_with, refusal_of}
 use Rattle.protocol.specs.declared.answers.Answer.{Answer}
 use Rattle.protocol.specs.declared.answers.Answer.TheVariants.{Refused}
 use Rattle.protocol.specs.declared.decisions.Outgoing.{Outgoing}
 use Rattle.protocol.specs.declared.nodes.NodeId.{NodeId}
+use Rattle.protocol.specs.declared.rows.Row.{Row}
+use Rattle.protocol.specs.declared.states.View.{View}
 use Rattle.protocol.specs.Effects.{Config}
 use Rattle.protocol.specs.Nodes.{NodeState, Input, Received, ReceivedNoise}
 use Rattle.protocol.specs.Worlds.{Datagram, node_at, datagrams_of}
@@ -22,7 +25,7 @@ use Rattle.node_core.specs.Nodes.{HasRows}
 use Rattle.node_core.specs.Sends.{sent}
 use Rattle.node_core.specs.Storing.{output_of}
 use Rattle.floors.specs.Worlds.{FlooredWorld, Notice, Hear, is_manager, notices_of}
-use Rattle.floored.specs.Nodes.{FlooredStands, IsFlooredOpened}
+use Rattle.floored.specs.Nodes.{FlooredStands, FlooredTables, FlooredViews, IsFlooredOpened}
 use Rattle.floored.specs.Told.{told_at}
 use Rattle.port.specs.Members.{MemberParts, Item, Acts, Hears, is_aside, grouped}
 use Rattle.floored_groups.specs.Runs.{IsFlooredReached, FlooredHappening, Took, Underwent, all_taken}
@@ -127,6 +130,13 @@ pub record IsTaken (config : Config) (world : FlooredWorld) (reach : IsFlooredRe
   pub answered : AreAllAnswered world.notices who old items outs happened
   pub goes_on : GoesOn config world reach who new (sent_of outs) [] happened
 
+-- it took one thing that it was handed alone, and was answered as the machine with floors answers it
+pub record IsTakenAlone (config : Config) (world : FlooredWorld) (reach : IsFlooredReached config world) (who : NodeId) (item : Item)
+    (new : MemberParts) (out : Output) : Type 0 where
+  pub happened : FlooredHappening
+  pub answered : IsAnswered world.notices who item out.reply happened
+  pub goes_on : GoesOn config world reach who new (sent out.sends) [] (happened ∷ [])
+
 -- its append was stopped, or memory was refused for it: it is down, each is refused, and nothing is sent
 pub record IsStopped (config : Config) (world : FlooredWorld) (reach : IsFlooredReached config world) (who : NodeId) (items : List Item)
     (new : MemberParts) (outs : List Output) (error : RecordError) : Type 0 where
@@ -156,3 +166,23 @@ pub record Reopens (config : Config) (who : NodeId) (old new : MemberParts) : Ty
   pub armed_is : held.armed ≡ old.floored.node.held.armed
   pub opened : IsFlooredOpened config who held new.floored
   pub told_is : new.told ≡ replicate config.managers None
+
+-- a process that was asked where it stands in a transaction answered so, as the contract of its view says
+pub record AnswersView (tx : TxParts) (old new : MemberParts) (result : Result View Refusal) : Type 0 where
+  pub machine : (config : Config) (m : NodeState) → FlooredStands config old.floored m
+      → FlooredViews config m old.floored new.floored tx result
+  pub told_is : new.told ≡ old.told
+
+-- one that was asked for its table answered so, as that contract says
+pub record AnswersTable (old new : MemberParts) (result : Result (List Row) Refusal) : Type 0 where
+  pub machine : (config : Config) (m : NodeState) → FlooredStands config old.floored m
+      → FlooredTables config m old.floored new.floored result
+  pub told_is : new.told ≡ old.told
+
+-- a tear of so many bytes was armed on its record, as that contract says
+pub record ArmsMember (n : ℕ) (old new : MemberParts) : Type 0 where
+  pub machine : (config : Config) (m : NodeState) → FlooredStands config old.floored m
+      → FlooredStands config new.floored (record m { tear = Some n })
+  pub node_is : new.floored.node ≡ record old.floored.node { held = armed_with (Some n) old.floored.node.held }
+  pub floor_is : new.floored.floor ≡ old.floored.floor
+  pub told_is : new.told ≡ old.told

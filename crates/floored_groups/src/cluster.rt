@@ -6,7 +6,8 @@ ghost use Rattle.protocol.specs.declared.states.View.TheVariants as views;
 ghost use Rattle.protocol.specs.Effects.{Config};
 ghost use Rattle.node_core.specs.Configs.{is_among};
 ghost use Rattle.port.specs.Members.{MemberParts};
-ghost use Rattle.floored_groups.specs.Clusters.{AllProcesses, AnswersView, IsRun, StandFor, all_replies};
+ghost use Rattle.floored_groups.specs.Clusters.{AllProcesses, IsRun, StandFor, all_replies};
+ghost use Rattle.floored_groups.specs.Processes.{AnswersView};
 
 /// Whatever becomes of the processes of a cluster, each handed only what processes of it have sent it or told it, there is a world to which
 /// groups with floors lead in which each stands for its node, and in which all stands that was sent and told. Each reply but a refusal of

@@ -2,19 +2,22 @@
 ghost use Rattle.std.specs.Prelude.{List, ℕ, [], ◌∷◌, Result, Ok, Err};
 ghost use Rattle.std.specs.List.{AllByRecursion};
 ghost use Rattle.xid.specs.Places.{Place};
+ghost use Rattle.xid.specs.Transactions.{TxParts};
 ghost use Rattle.xid.specs.declared.refusals.Refusal.{Refusal};
 ghost use Rattle.stable_record.specs.declared.record.RecordError.{RecordError};
 ghost use Rattle.protocol.specs.declared.answers.Answer.TheVariants.{Done};
-ghost use Rattle.protocol.specs.declared.events.Event.TheVariants.{Compact, Restart};
+ghost use Rattle.protocol.specs.declared.events.Event.TheVariants.{Compact, Restart, Tear};
 ghost use Rattle.protocol.specs.declared.nodes.NodeId.{NodeId};
 ghost use Rattle.protocol.specs.declared.nodes.NodeId.TheVariants.{R};
+ghost use Rattle.protocol.specs.declared.rows.Row.{Row};
+ghost use Rattle.protocol.specs.declared.states.View.{View};
 ghost use Rattle.protocol.specs.Effects.{Config};
 ghost use Rattle.node_core.specs.declared.output.Output.{Output};
 ghost use Rattle.node_core.specs.Opening.{restart_answer};
 ghost use Rattle.floors.specs.Worlds.{FlooredWorld, Machine, Raise};
-ghost use Rattle.port.specs.Members.{CompactsMember, Item, MemberParts, RaisesMember, RestartsMember, TakesAll};
+ghost use Rattle.port.specs.Members.{CompactsMember, Item, MemberParts, RaisesMember, RestartsMember, Takes, TakesAll};
 ghost use Rattle.floored_groups.specs.Runs.{IsFlooredReached, Underwent};
-ghost use Rattle.floored_groups.specs.Processes.{CanBeGiven, GoesOn, IsTaken, IsUnstored, Reopens, StandsIn, told_by};
+ghost use Rattle.floored_groups.specs.Processes.{AnswersTable, AnswersView, ArmsMember, CanBeGiven, GoesOn, IsTaken, IsTakenAlone, IsUnstored, Reopens, StandsIn, told_by};
 
 /// A process that stands for its node in a world is handed any number of things at once: requests, datagrams that were sent to it, notices
 /// that were told it, and noise. Then the cluster goes on to a world in which it stands for its node again, each is answered as the machine
@@ -29,6 +32,14 @@ pub fn processes_take_all()
         (old new : MemberParts) (before after : List Output) → StandsIn config world who old
         → AllByRecursion (CanBeGiven world.machine.net world.notices who) items → (error : RecordError)
         → TakesAll items old new before after (Err error) → IsUnstored config world reach who items old new before after error }
+{}
+
+/// So it is where it is handed one thing alone.
+pub fn processes_take_one()
+    ensures { (config : Config) (world : FlooredWorld) (reach : IsFlooredReached config world) (who : NodeId) (item : Item)
+        (old new : MemberParts) (out : Output) → StandsIn config world who old
+        → CanBeGiven world.machine.net world.notices who item → Takes item old new out
+        → IsTakenAlone config world reach who item new out }
 {}
 
 /// So it is where a resource manager's floor was to rise, which it then tells all acceptors and leaders; where a process is restarted over
@@ -48,4 +59,18 @@ pub fn processes_are_kept()
     ensures reopened { (config : Config) (world : FlooredWorld) (reach : IsFlooredReached config world) (who : NodeId)
         (old new : MemberParts) → StandsIn config world who old → Reopens config who old new
         → GoesOn config world reach who new [] [] (Underwent (Machine (Restart who)) Done ∷ []) }
+{}
+
+/// And asked for its view of a transaction, or for its table, it is what it was, and nothing happens; a tear that is armed on its record is
+/// armed on its node's.
+pub fn processes_are_asked()
+    ensures viewed { (config : Config) (world : FlooredWorld) (reach : IsFlooredReached config world) (who : NodeId) (tx : TxParts)
+        (old new : MemberParts) (result : Result View Refusal) → StandsIn config world who old → AnswersView tx old new result
+        → GoesOn config world reach who new [] [] [] }
+    ensures tabled { (config : Config) (world : FlooredWorld) (reach : IsFlooredReached config world) (who : NodeId)
+        (old new : MemberParts) (result : Result (List Row) Refusal) → StandsIn config world who old → AnswersTable old new result
+        → GoesOn config world reach who new [] [] [] }
+    ensures armed { (config : Config) (world : FlooredWorld) (reach : IsFlooredReached config world) (who : NodeId) (n : ℕ)
+        (old new : MemberParts) → StandsIn config world who old → ArmsMember n old new
+        → GoesOn config world reach who new [] [] (Underwent (Machine (Tear who n)) Done ∷ []) }
 {}
