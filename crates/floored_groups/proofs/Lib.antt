@@ -10,3 +10,4 @@ pub mod Reopened
 pub mod Clusters
 pub mod Views
 pub mod Single
+pub mod Telling

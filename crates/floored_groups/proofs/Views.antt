@@ -25,13 +25,13 @@ use Rattle.floored_groups.proofs.Clusters.{stand_for}
 use Rattle.floored_groups.proofs.Reached.{consistent}
 
 -- an outcome is told by how it is answered
-committed_is : (v : View) → Stands (view_standing views.Committed) ≡ Stands (view_standing v) → v ≡ views.Committed
+pub committed_is : (v : View) → Stands (view_standing views.Committed) ≡ Stands (view_standing v) → v ≡ views.Committed
 committed_is views.Working e = absurd (cc (e))
 committed_is views.Prepared e = absurd (cc (e))
 committed_is views.Committed e = refl
 committed_is views.Aborted e = absurd (cc (e))
 
-aborted_is : (v : View) → Stands (view_standing views.Aborted) ≡ Stands (view_standing v) → v ≡ views.Aborted
+pub aborted_is : (v : View) → Stands (view_standing views.Aborted) ≡ Stands (view_standing v) → v ≡ views.Aborted
 aborted_is views.Working e = absurd (cc (e))
 aborted_is views.Prepared e = absurd (cc (e))
 aborted_is views.Committed e = absurd (cc (e))
@@ -54,7 +54,7 @@ module _ (config : Config) (rm : ℕ) (floor : Option Place) (facts : List Fact)
 
 module _ (config : Config) (world : FlooredWorld) (rm : ℕ) (old new : MemberParts) (s : StandsIn config world (R rm) old) (tx : TxParts)
     (v : View) (answers : AnswersView tx old new (Ok v)) where
-  answered_view : Stands (view_standing v) ≡ Stands (view_standing (views_in config world.machine tx rm))
+  pub answered_view : Stands (view_standing v) ≡ Stands (view_standing (views_in config world.machine tx rm))
   answered_view =
       elim (answers.machine config s.state s.is).says [
         | inl said ↦

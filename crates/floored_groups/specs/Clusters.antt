@@ -8,12 +8,17 @@ use Rattle.ballot.specs.Greatest.{IsIn}
 use Rattle.stable_record.specs.declared.record.RecordError.{RecordError}
 use Rattle.stable_record.specs.Held.{Held}
 use Rattle.protocol.specs.declared.answers.Answer.{Answer}
+use Rattle.protocol.specs.declared.answers.Answer.TheVariants.{Stands}
 use Rattle.protocol.specs.declared.nodes.NodeId.{NodeId}
-use Rattle.protocol.specs.declared.nodes.NodeId.TheVariants.{R}
+use Rattle.protocol.specs.declared.nodes.NodeId.TheVariants.{L, R}
+use Rattle.protocol.specs.declared.requests.Request.{Request}
+use Rattle.protocol.specs.declared.states.Standing.{Standing}
 use Rattle.protocol.specs.declared.rows.Row.{Row}
 use Rattle.protocol.specs.declared.states.View.{View}
 use Rattle.protocol.specs.Effects.{Config}
+use Rattle.protocol.specs.Nodes.{Asked}
 use Rattle.protocol.specs.Worlds.{Datagram, datagrams_of}
+use Rattle.answers.specs.Answers.{IsQuestion}
 use Rattle.node_core.specs.declared.output.Output.{Output}
 use Rattle.node_core.specs.Configs.{is_among}
 use Rattle.node_core.specs.Sends.{sent}
@@ -122,3 +127,9 @@ pub record StandFor (config : Config) (all : AllProcesses) (replies : List Reply
   pub notices_are : world.notices ≡ all.notices
   pub replied : (reply : Reply) → IsIn replies reply
       → IsReplied world.notices (all_taken config world reached) reply.who reply.item reply.answer
+
+-- a leader's process was asked to commit a transaction, or for its status, and replied so
+pub record TellsClient (l : ℕ) (tx : TxParts) (standing : Standing) (reply : Reply) : Type 0 where
+  pub request : Request
+  pub asks : IsQuestion tx request
+  pub is : reply ≡ record { who = L l; item = Acts (Asked request); answer = Stands standing }
