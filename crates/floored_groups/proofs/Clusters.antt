@@ -1,5 +1,6 @@
 -- Whatever becomes of all processes of a cluster, they stand for a world that groups with floors lead to.
-use Rattle.std.proofs.Common.{◌≡◌, ◌≢◌, ◌∙◌, ◌⊎◌, inl, inr, ℕ, zero, suc, ◌+◌, ◌<◌, Bool, true, false, if◌then◌else◌, List, [], ◌∷◌, ◌++◌, length, map}
+use Rattle.std.proofs.Common.{◌≡◌, ◌≢◌, ◌∙◌, ◌⊎◌, inl, inr, ℕ, zero, suc, ◌+◌, ◌<◌, Bool, true, false, if◌then◌else◌, List, [], ◌∷◌}
+use Rattle.std.proofs.Common.{◌++◌, length, map}
 use Rattle.std.proofs.Common.{Option, Some, None, refl, sym, ap, subst, append-nil, arith}
 use Rattle.std.specs.Prelude.{is_some, replicate, slice_get, MatchBool}
 use Rattle.std.specs.List.{AllByRecursion, flat_map}
@@ -308,6 +309,7 @@ failed_on config world reach who items old new before outs error s (inl stopped)
 failed_on config world reach who items old new before outs error s (inr none) =
     ([], stays_on config who world reach new (subst (StandsIn config world who) (sym none.0) s))
 
+-- the processes of a run stand for a world
 pub stand_for : (config : Config) (all : AllProcesses) (run : IsRun config all) → StandFor config all (all_replies config all run)
 stand_for config _ (Begun members begun) = record {
   world = floored_opening config;

@@ -23,6 +23,7 @@ use Rattle.floored_groups.specs.Processes.{StandsIn, OthersStay, GoesOn}
 -- ---- step after step
 
 module _ (config : Config) (who : NodeId) where
+  -- in the same world every other node is as it was
   pub others_same : (world : FlooredWorld) → OthersStay config world world who
   others_same world = record {
     nodes_are = λ other apart. refl;
@@ -89,6 +90,7 @@ module _ (config : Config) (who : NodeId) where
 
   -- ---- by an event that hands no input
 
+  -- by an event whose result is known
   pub goes_by : (world : FlooredWorld) (reach : IsFlooredReached config world) (event : FlooredEvent) (fault : Fault)
       → is_floored_upkeep event ≡ true → (result : FlooredResult) → floored_step config world event fault ≡ result → (new : MemberParts)
       → StandsIn config result.world who new → OthersStay config world result.world who
@@ -113,6 +115,7 @@ abbrev pub IsMet : Fault → Type 0
 IsMet NoMemoryBefore = ⊥
 IsMet fault = Unit {0}
 
+-- what comes of an event then
 pub met_step : (config : Config) (world : FlooredWorld) (event : FlooredEvent) (fault : Fault) → IsMet fault
     → floored_step config world event fault ≡ floored_dispatch config world event fault
 met_step config world event NoMemoryBefore met = absurd met
@@ -137,6 +140,7 @@ module _ (config : Config) (world : FlooredWorld) (reach : IsFlooredReached conf
   net_by true net sends = refl
   net_by false net sends = sym (append-nil net)
 
+  -- by a group after which a member stands for the node
   pub goes_group : FlooredStands config new.floored last → new.floored.node.who ≡ old.floored.node.who
       → new.floored.floor ≡ old.floored.floor → new.told ≡ old.told
       → GoesOn config world reach who new (if is_stored then floored_sends_after config who floor s.state group else []) []

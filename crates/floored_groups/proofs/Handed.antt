@@ -31,6 +31,7 @@ pub record IsRunOf (config : Config) (who : NodeId) (floor : Option Place) (m : 
   pub happened_is : taken_in config who floor m group ≡ replies who inputs outs
 
 module _ (config : Config) (who : NodeId) (floor : Option Place) where
+  -- inputs that a process handled one after another are a group of its node's
   pub run_of : (from : At) (inputs : List Input) (outs : List Output) (to : At) → FlooredRuns config who floor from inputs outs to
       → IsRunOf config who floor from.state inputs outs to.state
   run_of from [] [] to is = record {

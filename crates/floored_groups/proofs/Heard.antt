@@ -62,6 +62,7 @@ same_told told other from zero each = refl
 same_told told other from (suc count) each =
     λ k. each from (omega arith) k ∷ same_told told other (from + 1) count (λ rm few. each rm (omega (arith, few))) k
 
+-- the least that was told is the same where the same was told of each
 pub same_least : (config : Config) (told other : ℕ → Option Place) → ((rm : ℕ) → rm < config.managers → told rm ≡ other rm)
     → least_told config told ≡ least_told config other
 same_least config told other each =
@@ -69,6 +70,7 @@ same_least config told other each =
 
 -- ---- a floor that was to rise
 
+-- with a fault of a rise the node was reached
 pub met_rise : (old new : Held) (fault : Fault) → BefallsRise old new fault → IsMet fault
 met_rise old new NoMemoryBefore b = absurd b
 met_rise old new NoFault b = tt
@@ -89,6 +91,7 @@ module _ (config : Config) (world : FlooredWorld) (who : NodeId) (old new : Memb
   abbrev rises : Place → Fault → Rise
   rises place fault = on_rise who (world.floor who) s.state place fault
 
+  -- what a process comes to whose floor was to rise is what its node comes to
   pub risen_so : (place : Place) → FlooredRaises config s.state place old.floored new.floored result
       → HasRisen config old.floored new.floored (rises place) result
   risen_so place r =
@@ -112,6 +115,7 @@ module _ (config : Config) (world : FlooredWorld) (who : NodeId) (old new : Memb
       cond-true s.state.up (on_least floor s.state (Some place) fault) (kept_rise floor s.state (Refused refusals.Down)) up
   on_told (R rm) other up floor place fault = absurd (cc (other))
 
+  -- and so where it was to rise to the least that was told
   pub least_so : is_manager who ≡ false → s.state.up ≡ true → (least : Option Place)
       → RisesToLeast config s.state least old.floored new.floored result
       → HasRisen config old.floored new.floored (λ fault. on_least (world.floor who) s.state least fault) result
@@ -173,7 +177,8 @@ module _ (config : Config) (world : FlooredWorld) (reach : IsFlooredReached conf
   heard_down down (same, is) =
       let g : GoesOn config world reach who new [] [] (Underwent (Hear n) (Refused refusals.Down) ∷ []) =
       goes_by config who world reach (Hear n) NoFault refl (floored_answer world (Refused refusals.Down))
-      (met_step config world (Hear n) NoFault tt ∙ heard_is NoFault ∙ cond-false m.up (heard_up NoFault) (floored_answer world (Refused refusals.Down)) down) new
+      (met_step config world (Hear n) NoFault tt ∙ heard_is NoFault
+      ∙ cond-false m.up (heard_up NoFault) (floored_answer world (Refused refusals.Down)) down) new
       (subst (StandsIn config world who) (sym same) s) (others_same config who world) refl [] (sym (append-nil world.notices)) in
       record {
         goes_on = subst (λ (o : Output). GoesOn config world reach who new (sent o.sends) [] (Underwent (Hear n) o.reply ∷ [])) (sym is) g;

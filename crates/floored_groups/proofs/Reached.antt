@@ -102,7 +102,9 @@ module _ (config : Config) (world : FlooredWorld) (happened : List Happening) (l
       subst (λ (w : World). IsLed config w (happened ++ handled_above config who (world.floor who) node group))
       (sym (is_group config who (world.floor who) world.machine node group is_stored))
       (record {
-        reach = grouped.Grouped world.machine who node above is_stored l.reach is (all_above config who (world.floor who) world.machine group all);
+        reach =
+            grouped.Grouped world.machine who node above is_stored l.reach is
+            (all_above config who (world.floor who) world.machine group all);
         same =
             ap (λ (h : List Happening). h ++ grouped.handled_in config who node above) l.same
             ∙ ap (λ (h : List Happening). happened ++ h) (sym (is_handled config who (world.floor who) node group));
@@ -117,17 +119,20 @@ led config _ (Grouped world who node group is_stored reach is all) =
 led config _ (Kept world event fault reach is) =
     kept config world (machine_happened config world reach) (led config world reach) event fault is
 
+-- a world with floors is one of groups in the machine
 pub are_reached : (config : Config) (world : FlooredWorld) → IsFlooredReached config world → IsReached config world.machine
 are_reached config world reach = (led config world reach).reach
 
 -- ---- the laws
 
+-- events of the machine are what happened, and lead to its nodes
 pub are_machines : (config : Config) (world : FlooredWorld) (reach : IsFlooredReached config world)
     → IsMachines config world.machine (machine_happened config world reach)
 are_machines config world reach =
     let l = led config world reach in
     subst (IsMachines config world.machine) l.same (proved.are_machines config world.machine l.reach)
 
+-- none is committed there while another is aborted
 pub consistent : (config : Config) (world : FlooredWorld) → IsFlooredReached config world → (tx : TxParts)
     → IsConsistent (is_participant tx) (views_in config world.machine tx)
 consistent config world reach tx = proved.consistent config world.machine (are_reached config world reach) tx
@@ -154,6 +159,7 @@ module _ (config : Config) (world : FlooredWorld) (reach : IsFlooredReached conf
       step_if (does_rise config world (slice_get world.notices n)) (Compact (receiver_of (slice_get world.notices n))) fault refl
   step_by (Replace who place) fault is = step_if (is_put_in config world who place) (Restart who) fault refl
 
+  -- an event that hands no input moves a transaction by at most one step
   pub upkeep_step : (event : FlooredEvent) (fault : Fault) → is_floored_upkeep event ≡ true
       → IsStep world.machine (floored_step config world event fault).world.machine
   upkeep_step event fault is = subst (IsStep world.machine) (sym (in_machine config world event fault)) (step_by event fault is)
@@ -177,6 +183,7 @@ module _ (config : Config) (world : FlooredWorld) (reach : IsFlooredReached conf
         proved.input_step config world.machine (are_reached config world reach) who node is first
         (all_above config who floor world.machine before all) next can is_stored tx
 
+    -- and so does an input more of a group
     pub input_step : IsStep (floored_group_result config world who node before is_stored).machine
         (floored_group_result config world who node (before ++ next ∷ []) is_stored).machine
     input_step =

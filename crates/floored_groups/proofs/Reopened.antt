@@ -177,7 +177,8 @@ module _ (from config : Config) (who : NodeId) (before : NodeParts) (few : NodeS
           memory h);
       fits = says.fits;
       shorter = λ more play.
-          shorter_again from config who before.rows node.rows o.kept.rows o.held.all o.kept.facts alike o.held.means own found_says more play
+          shorter_again from config who before.rows node.rows o.kept.rows o.held.all o.kept.facts alike o.held.means own found_says more
+          play
           ∙ says.shorter more
           (begun_plays from who before.rows o.kept.rows [] (o.kept.facts ++ more)
           ∙ sym (begun_plays from who node.rows o.kept.rows [] (o.kept.facts ++ more)) ∙ play);
@@ -270,6 +271,7 @@ module _ (config : Config) (who : NodeId) (m : NodeState) (old new : MemberParts
     };
   }
 
+-- a process that is opened anew goes on as its node does after a restart that no fault meets
 pub reopened_on : (config : Config) (world : FlooredWorld) (reach : IsFlooredReached config world) (who : NodeId) (old new : MemberParts)
     → StandsIn config world who old → Reopens config who old new
     → GoesOn config world reach who new [] [] (Underwent (Machine (Restart who)) Done ∷ [])

@@ -1,5 +1,5 @@
--- What becomes of a cluster whose nodes have floors and work in groups is what events with floors make, one at a time. So its floors pass no
--- branch that is there.
+-- What becomes of a cluster whose nodes have floors and work in groups is what events with floors make, one at a time. So its floors pass
+-- nothing that is prepared.
 use Rattle.std.proofs.Common.{◌≡◌, ◌∙◌, inl, inr, ℕ, Bool, true, false, not, if◌then◌else◌, List, [], ◌∷◌, ◌++◌, Option, Some, None}
 use Rattle.std.proofs.Common.{refl, sym, ap, subst, append-nil}
 use Rattle.std.specs.Prelude.{slice_get}
@@ -17,7 +17,8 @@ use Rattle.progress.proofs.Backed.{AllAmong}
 use Rattle.safety.specs.Words.{NodeId, A, L, R, Outgoing, Done, Refused, Event, Ask, Deliver, Noise, Restart, Compact, Tear}
 use Rattle.safety.proofs.World.NodePlaces.{node_there}
 use Rattle.protocol.specs.Effects.{Config, Effect}
-use Rattle.protocol.specs.Nodes.{NodeState, Memory, Input, Asked, Received, ReceivedNoise, Fault, NoFault, NoMemoryBefore, NoMemoryAt, RecordFails}
+use Rattle.protocol.specs.Nodes.{NodeState, Memory, Input, Asked, Received, ReceivedNoise, Fault, NoFault, NoMemoryBefore, NoMemoryAt}
+use Rattle.protocol.specs.Nodes.{RecordFails}
 use Rattle.protocol.specs.Nodes.{Outcome, node_step, accepts_input, effect_of, effect_outcome, answer_outcome, down_answer, restart_outcome}
 use Rattle.protocol.specs.Nodes.{compact_outcome}
 use Rattle.protocol.specs.Worlds.{World, Datagram, node_at, set_node, datagrams_of, datagram_at, with_mark, mark_at, if_found}
@@ -121,13 +122,15 @@ module _ (config : Config) (world : FlooredWorld) (net : List Datagram) (who : N
     delivered : (fault : Fault)
         → record world {
           machine = (if_found (with_net world net).machine (λ x.
-              at_floored_node config (with_mark (with_net world net).machine n) (world.floor x.receiver) x.receiver (Received x.message) fault)
+              at_floored_node config (with_mark (with_net world net).machine n) (world.floor x.receiver) x.receiver (Received x.message)
+              fault)
               (datagram_at net n)).world;
         } ≡ record world { machine = came (mark_at net n) (Received message) fault }
     delivered fault =
         ap (λ (o : Option Datagram). record world {
           machine = (if_found (with_net world net).machine (λ x.
-              at_floored_node config (with_mark (with_net world net).machine n) (world.floor x.receiver) x.receiver (Received x.message) fault)
+              at_floored_node config (with_mark (with_net world net).machine n) (world.floor x.receiver) x.receiver (Received x.message)
+              fault)
               o).world;
         }) there
         ∙ ap (λ (l : Letter). record world {
@@ -201,13 +204,13 @@ module _ (config : Config) (world : FlooredWorld) (net : List Datagram) (who : N
 -- ---- a group
 
 -- a group was handled one input after another, and all of it was sent
-record HasLed (config : Config) (world : FlooredWorld) (net : List Datagram) (who : NodeId) (node : NodeState) (group : List Handed) : Type 0
-  where
-    pub more : List Datagram
-    pub reach : IsFlooredReachable config
-        (with_net (with_node config world who (floored_node_after config who (world.floor who) node group)) more)
-    pub kept : AllAmong (mail net) (mail more)
-    pub sent : AllAmong (letters config (floored_sends_after config who (world.floor who) node group)) (mail more)
+record HasLed (config : Config) (world : FlooredWorld) (net : List Datagram) (who : NodeId) (node : NodeState) (group : List Handed)
+    : Type 0 where
+  pub more : List Datagram
+  pub reach : IsFlooredReachable config
+      (with_net (with_node config world who (floored_node_after config who (world.floor who) node group)) more)
+  pub kept : AllAmong (mail net) (mail more)
+  pub sent : AllAmong (letters config (floored_sends_after config who (world.floor who) node group)) (mail more)
 
 module _ (config : Config) (who : NodeId) where
   mailed_in : (machine : World) (world : FlooredWorld) (net : List Datagram) (node : NodeState)
@@ -403,6 +406,7 @@ module _ (config : Config) (world : FlooredWorld) (net : List Datagram) where
   tear_kept who n NoMemoryBefore = refl
   tear_kept who n fault = torn_by who n (node_at config world.machine who)
 
+  -- an event that hands no input leads to the same world, whatever the net
   pub beside : (event : FlooredEvent) (fault : Fault) → is_floored_upkeep event ≡ true → IsKept event fault
   beside (Machine (Restart who)) fault is = restart_kept who fault
   beside (Machine (Compact who)) fault is = compact_kept who fault
@@ -467,6 +471,7 @@ backed config _ (Kept world event fault reach is) =
           b.some letter (subst (λ (ds : List Datagram). IsIn (mail ds) letter) (none_sent config world event fault is) h);
     }
 
+-- events with floors, one at a time, lead to each world that groups lead to
 pub one_by_one : (config : Config) (world : FlooredWorld) → IsFlooredReached config world → IsOneByOne config world
 one_by_one config world reach =
     let b = backed config world reach in

@@ -32,7 +32,8 @@ use Rattle.floored.specs.Nodes.{FlooredDoes, FlooredGroups, FlooredRuns, Floored
 use Rattle.port.specs.Members.{Acts, Hears, ActsAs, Item, MemberParts, Takes, TakesAll, TakesApart, TakesGroup, TakesThose, grouped}
 use Rattle.port.specs.Members.{is_aside}
 use Rattle.port.proofs.Taking.{aside_grouped}
-use Rattle.floored_groups.specs.Runs.{IsFlooredReached, FlooredHappening, Took, Underwent, floored_node_after, floored_sends_after, taken_in}
+use Rattle.floored_groups.specs.Runs.{IsFlooredReached, FlooredHappening, Took, Underwent, floored_node_after, floored_sends_after}
+use Rattle.floored_groups.specs.Runs.{taken_in}
 use Rattle.floored_groups.specs.Processes.{StandsIn, GoesOn, CanBeGiven, IsAnswered, AreAnswered, IsGrouped, AreGrouped, AreAnsweredApart}
 use Rattle.floored_groups.specs.Processes.{sent_of, IsTaken, IsTakenAlone, IsStopped, IsUnstored}
 use Rattle.floored_groups.proofs.Going.{goes_as, goes_group, goes_then, stays_on}
@@ -446,7 +447,7 @@ module _ (config : Config) (world : FlooredWorld) (reach : IsFlooredReached conf
             (ap sent_of (all_marked items before outs d.put_in)) refl refl d.goes_on;
       }
 
-  -- stored
+  -- all that a process takes its node takes
   pub taken : TakesAll items old new before outs (Ok tt) → IsTaken config world reach who items old new outs
   taken takes = by (is_some old.floored.node.role) refl takes
     where
@@ -491,6 +492,7 @@ module _ (config : Config) (world : FlooredWorld) (reach : IsFlooredReached conf
                 (subst (FlooredStands config new.floored) last p.stands) same.who_is floor_is t.told_is;
           }
 
+  -- stopped, or nothing happened
   pub unstored : (error : RecordError) → TakesAll items old new before outs (Err error)
       → IsUnstored config world reach who items old new before outs error
   unstored error (inl group) = inl (stopped_group error group)

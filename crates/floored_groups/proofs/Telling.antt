@@ -77,7 +77,8 @@ module _ (config : Config) (tx : TxParts) (request : Request) (asks : IsQuestion
   abbrev handled : Happening
   handled = Handled teller (Asked request) (answers standing)
 
-  later_if : (t : Bool) (first : Happening) (later : List Happening) → IsIn later handled → IsIn (if t then later else first ∷ later) handled
+  later_if : (t : Bool) (first : Happening) (later : List Happening) → IsIn later handled
+      → IsIn (if t then later else first ∷ later) handled
   later_if true first later h = h
   later_if false first later h = inr h
 
@@ -146,7 +147,8 @@ told_in config world (event ∷ events) (first ∷ happened) same l tx standing 
       tells = record { request = request; asks = asks; event_is = handled.0; answer_is = handled.1 };
     }
 told_in config world (event ∷ events) (first ∷ happened) same l tx standing request asks (inr h) =
-    let later = told_in config (world_step config world event.event event.fault).world events happened same.1 l tx standing request asks h in
+    let next = (world_step config world event.event event.fault).world in
+    let later = told_in config next events happened same.1 l tx standing request asks h in
     record { step = later.step; among = inr later.among; tells = later.tells }
 
 -- ---- replies of a run
@@ -167,6 +169,7 @@ module _ (config : Config) (all : AllProcesses) (run : IsRun config all) (tx : T
       (subst (λ (r : Reply). IsReplied so.world.notices (all_taken config so.world so.reached) r.who r.item r.answer) tells.is
       (so.replied reply h)))
 
+  -- no two replies tell different outcomes
   pub one_outcome : (l other : ℕ) (one two : Reply) → IsIn (all_replies config all run) one → TellsClient l tx standings.Committed one
       → IsIn (all_replies config all run) two → TellsClient other tx standings.Aborted two → ⊥
   one_outcome l other one two h commits k aborts =

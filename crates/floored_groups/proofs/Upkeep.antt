@@ -9,7 +9,8 @@ use Rattle.xid.specs.declared.refusals.Refusal.TheVariants.{NoSuch, Down, Busy}
 use Rattle.xid.proofs.Places.{not_below_none}
 use Rattle.safety.specs.Words.{NodeId, A, L, R, Answer, Done, Refused, Event, Restart, Compact}
 use Rattle.protocol.specs.Effects.{Config}
-use Rattle.protocol.specs.Nodes.{NodeState, Fault, NoFault, NoMemoryBefore, NoMemoryAt, RecordFails, Outcome, restart_outcome, compact_outcome}
+use Rattle.protocol.specs.Nodes.{NodeState, Fault, NoFault, NoMemoryBefore, NoMemoryAt, RecordFails, Outcome, restart_outcome}
+use Rattle.protocol.specs.Nodes.{compact_outcome}
 use Rattle.protocol.specs.Worlds.{StepResult, answer_result, if_found, node_at, outcome_result, dispatch, world_step}
 use Rattle.floors.specs.Nodes.{is_free_below, risen, on_least, kept_rise, may_replace, is_unread, not_put_in, floor_after}
 use Rattle.floors.specs.Worlds.{FlooredWorld, FlooredEvent, FlooredResult, Notice, Raise, Hear, Replace, raise_at, raise_result, hear_at}
@@ -77,7 +78,8 @@ module _ (config : Config) (world : FlooredWorld) (fault : Fault) where
     heard_by (Some node) e = by_test node.up e
       where
         by_test : (up : Bool) → (up && is_lower (world.floor receiver) (least_told config told)) ≡ true
-            → (if up then floored_answer (record (with_rise config world receiver (on_least (world.floor receiver) node (least_told config told) fault))
+            → (if up then floored_answer
+            (record (with_rise config world receiver (on_least (world.floor receiver) node (least_told config told) fault))
             { told = with_entry world.told receiver told }) (on_least (world.floor receiver) node (least_told config told) fault).answer
             else floored_answer world (Refused Down)).answer
             ≡ (if up then outcome_result config world.machine receiver node.facts (compact_outcome node fault)

@@ -17,7 +17,8 @@ use Rattle.protocol.specs.declared.events.Event.TheVariants.{Restart, Compact, T
 use Rattle.protocol.specs.declared.nodes.NodeId.{NodeId}
 use Rattle.protocol.specs.declared.nodes.NodeId.TheVariants.{R}
 use Rattle.protocol.specs.Effects.{Config}
-use Rattle.protocol.specs.Nodes.{NodeState, Fault, NoFault, NoMemoryBefore, NoMemoryAt, RecordFails, Outcome, restart_outcome, compact_outcome}
+use Rattle.protocol.specs.Nodes.{NodeState, Fault, NoFault, NoMemoryBefore, NoMemoryAt, RecordFails, Outcome, restart_outcome}
+use Rattle.protocol.specs.Nodes.{compact_outcome}
 use Rattle.protocol.specs.Worlds.{World, StepResult, datagrams_of, if_found, outcome_result, answer_result, set_node}
 use Rattle.safety.proofs.World.NodePlaces.{node_there, node_elsewhere}
 use Rattle.node_core.specs.Compacting.{BefallsCompact}
@@ -49,6 +50,7 @@ module _ (config : Config) (world : FlooredWorld) (reach : IsFlooredReached conf
   told_is (Err refusal) rise answer floor =
       ap (λ (a : Answer). if is_done a then notices_of config rm rise.floor else []) (sym answer)
 
+  -- a resource manager whose floor was to rise does what its node does, and tells it
   pub raised : RaisesMember place old new result
       → GoesOn config world reach (R rm) new [] (told_by config rm new result) (Underwent (Raise (R rm) place) (restart_answer result) ∷ [])
   raised raises =
@@ -109,6 +111,7 @@ silent_net : (config : Config) (world : World) (who : NodeId) (m : NodeState) (o
 silent_net config world who m outcome silent =
     ap (λ (sends : List Outgoing). world.net ++ flat_map (datagrams_of config who) sends) silent ∙ append-nil world.net
 
+-- of whom nothing was told, no place was
 pub none_told : (count rm : ℕ) → told_at (replicate count None) rm ≡ None
 none_told zero rm = refl
 none_told (suc count) zero = refl
@@ -159,6 +162,7 @@ module _ (config : Config) (world : FlooredWorld) (reach : IsFlooredReached conf
       (others_after outcome told (λ other apart. entry_other world.told who nothing_told other apart))
       (silent_net config world.machine who s.state outcome (restart_silent config who s.state fault)) [] (sym (append-nil world.notices))
 
+  -- a process that was restarted does what its node does
   pub restarted : (result : Result (Unit {0}) Refusal) → RestartsMember old new result
       → GoesOn config world reach who new [] [] (Underwent (Machine (Restart who)) (restart_answer result) ∷ [])
   restarted result restarts =
@@ -186,7 +190,8 @@ module _ (config : Config) (world : FlooredWorld) (reach : IsFlooredReached conf
   compact_is fault =
       ap (λ (o : Option NodeState). as_floored world world.told (if_found world.machine (shortened fault) o)) s.there
 
-  compacted_up : (result : Result (Unit {0}) Refusal) → IsSameNode old.floored.node new.floored.node → new.floored.floor ≡ old.floored.floor → new.told ≡ old.told
+  compacted_up : (result : Result (Unit {0}) Refusal) → IsSameNode old.floored.node new.floored.node
+      → new.floored.floor ≡ old.floored.floor → new.told ≡ old.told
       → FlooredCompactsUp config s.state old.floored new.floored result
       → GoesOn config world reach who new [] [] (Underwent (Machine (Compact who)) (restart_answer result) ∷ [])
   compacted_up result same floor_is told_is c =
@@ -205,7 +210,8 @@ module _ (config : Config) (world : FlooredWorld) (reach : IsFlooredReached conf
       (others_after outcome world.told (λ other apart. refl))
       (silent_net config world.machine who s.state outcome (compact_silent s.state c.fault)) [] (sym (append-nil world.notices)))
 
-  compacted_down : (result : Result (Unit {0}) Refusal) → IsSameNode old.floored.node new.floored.node → new.floored.floor ≡ old.floored.floor → new.told ≡ old.told
+  compacted_down : (result : Result (Unit {0}) Refusal) → IsSameNode old.floored.node new.floored.node
+      → new.floored.floor ≡ old.floored.floor → new.told ≡ old.told
       → FlooredCompactsDown config s.state old.floored new.floored result
       → GoesOn config world reach who new [] [] (Underwent (Machine (Compact who)) (restart_answer result) ∷ [])
   compacted_down result same floor_is told_is c =
@@ -228,6 +234,7 @@ module _ (config : Config) (world : FlooredWorld) (reach : IsFlooredReached conf
         told_are = λ rm few. ap (λ (t : List (Option Place)). told_at t rm) told_is ∙ s.told_are rm few;
       }) (others_same config who world) refl [] (sym (append-nil world.notices)))
 
+  -- and so does one whose record was made shorter
   pub compacted : (result : Result (Unit {0}) Refusal) → CompactsMember old new result
       → GoesOn config world reach who new [] [] (Underwent (Machine (Compact who)) (restart_answer result) ∷ [])
   compacted result compacts =
@@ -254,6 +261,7 @@ module _ (config : Config) (world : FlooredWorld) (reach : IsFlooredReached conf
         told_are = λ rm few. ap (λ (t : List (Option Place)). told_at t rm) told_is ∙ s.told_are rm few;
       })
 
+  -- a tear that is armed on its record is armed on its node's
   pub armed_on : (n : ℕ) → ArmsMember n old new → GoesOn config world reach who new [] [] (Underwent (Machine (Tear who n)) Done ∷ [])
   armed_on n arms =
       let torn : NodeState = record s.state { tear = Some n } in

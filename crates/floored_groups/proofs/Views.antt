@@ -31,6 +31,7 @@ committed_is views.Prepared e = absurd (cc (e))
 committed_is views.Committed e = refl
 committed_is views.Aborted e = absurd (cc (e))
 
+-- and the other by its own
 pub aborted_is : (v : View) → Stands (view_standing views.Aborted) ≡ Stands (view_standing v) → v ≡ views.Aborted
 aborted_is views.Working e = absurd (cc (e))
 aborted_is views.Prepared e = absurd (cc (e))
@@ -38,7 +39,8 @@ aborted_is views.Committed e = absurd (cc (e))
 aborted_is views.Aborted e = refl
 
 module _ (config : Config) (rm : ℕ) (floor : Option Place) (facts : List Fact) (tx : TxParts) (v : View) where
-  known_says : (known : Bool) → Stands (view_standing v) ≡ (if known then Stands (view_standing (view facts tx)) else Refused refusals.BadTx)
+  known_says : (known : Bool)
+      → Stands (view_standing v) ≡ (if known then Stands (view_standing (view facts tx)) else Refused refusals.BadTx)
       → Stands (view_standing v) ≡ Stands (view_standing (view facts tx))
   known_says true e = e
   known_says false e = absurd (cc (e))
@@ -54,6 +56,7 @@ module _ (config : Config) (rm : ℕ) (floor : Option Place) (facts : List Fact)
 
 module _ (config : Config) (world : FlooredWorld) (rm : ℕ) (old new : MemberParts) (s : StandsIn config world (R rm) old) (tx : TxParts)
     (v : View) (answers : AnswersView tx old new (Ok v)) where
+  -- what a process answers is where its node stands
   pub answered_view : Stands (view_standing v) ≡ Stands (view_standing (views_in config world.machine tx rm))
   answered_view =
       elim (answers.machine config s.state s.is).says [

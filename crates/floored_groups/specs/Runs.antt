@@ -117,8 +117,8 @@ all_taken config _ (Kept world event fault reach is) =
 abbrev pub with_net : FlooredWorld → List Datagram → FlooredWorld
 with_net world net = record world { machine = record world.machine { net = net } }
 
--- events with floors, one at a time, lead to the same nodes, floors and notices, with all that was sent; what else stands there is never
--- delivered
+-- events with floors, one at a time, lead to the same nodes, floors and notices; in their net stands all that was sent, and maybe more,
+-- which a stopped group would have sent
 pub record IsOneByOne (config : Config) (world : FlooredWorld) : Type 0 where
   pub net : List Datagram
   pub reached : IsFlooredReachable config (with_net world net)

@@ -18,8 +18,9 @@ ghost use Rattle.floors.specs.Worlds.{FlooredWorld, FlooredEvent, floored_step, 
 ghost use Rattle.floored_groups.specs.Runs.{IsFlooredReached, IsOneByOne, above_floor, floored_group_result, is_floored_upkeep};
 ghost use Rattle.floored_groups.specs.Runs.{machine_happened};
 
-/// What a cluster comes to whose nodes have floors and work in groups, one without floors comes to as well: a group under a floor does what
-/// the group of those of its inputs does that aren't below the floor. So what holds of every cluster whose nodes work in groups holds of it.
+/// What a cluster comes to whose nodes have floors and work in groups, one without floors comes to as well: a group under a floor does
+/// what the group of those of its inputs does that aren't below the floor. So what holds of every cluster whose nodes work in groups holds
+/// of it.
 pub fn groups_with_floors_are_groups()
     ensures reached { (config : Config) (world : FlooredWorld) → IsFlooredReached config world → IsReached config world.machine }
     ensures group { (config : Config) (world : FlooredWorld) (who : NodeId) (node : NodeState) (group : List Handed) (is_stored : Bool)
@@ -55,8 +56,8 @@ pub fn each_step()
         (views_in config (floored_step config world event fault).world.machine tx) }
 {}
 
-/// So they lead to the same where events are handled one at a time, each under its node's floor: to the same nodes, floors and notices, with
-/// all that was sent.
+/// So they lead to the same where events are handled one at a time, each under its node's floor: to the same nodes, floors and notices,
+/// with all that was sent.
 pub fn groups_are_floored_events()
     ensures { (config : Config) (world : FlooredWorld) → IsFlooredReached config world → IsOneByOne config world }
 {}

@@ -17,7 +17,8 @@ ghost use Rattle.node_core.specs.Opening.{restart_answer};
 ghost use Rattle.floors.specs.Worlds.{FlooredWorld, Machine, Raise};
 ghost use Rattle.port.specs.Members.{CompactsMember, Item, MemberParts, RaisesMember, RestartsMember, Takes, TakesAll};
 ghost use Rattle.floored_groups.specs.Runs.{IsFlooredReached, Underwent};
-ghost use Rattle.floored_groups.specs.Processes.{AnswersTable, AnswersView, ArmsMember, CanBeGiven, GoesOn, IsTaken, IsTakenAlone, IsUnstored, Reopens, StandsIn, told_by};
+ghost use Rattle.floored_groups.specs.Processes.{AnswersTable, AnswersView, ArmsMember, CanBeGiven, GoesOn, IsTaken, IsTakenAlone};
+ghost use Rattle.floored_groups.specs.Processes.{IsUnstored, Reopens, StandsIn, told_by};
 
 /// A process that stands for its node in a world is handed any number of things at once: requests, datagrams that were sent to it, notices
 /// that were told it, and noise. Then the cluster goes on to a world in which it stands for its node again, each is answered as the machine
