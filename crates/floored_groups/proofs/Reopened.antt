@@ -1,14 +1,17 @@
 -- A process that ended, at whatever moment, and was opened anew over its record goes on as its node does where it is restarted. Runs of all
 -- processes need it.
-use Rattle.std.proofs.Common.{◌≡◌, ◌∙◌, ℕ, true, List, [], ◌∷◌, ◌++◌, length, Option, Some, None, refl, sym, ap, subst, append-nil}
+use Rattle.std.proofs.Common.{◌≡◌, ◌∙◌, ℕ, true, List, [], ◌∷◌, ◌++◌, drop, length, Option, Some, None, refl, sym, ap, subst, append-nil}
 use Rattle.std.specs.Prelude.{if◌then◌else◌, is_some}
+use Rattle.std.proofs.Math.Seq.{drop-append_seam}
 use Rattle.std.proofs.lemmas.List.{length-replicate}
+use Rattle.xid.specs.Names.{IsBytes}
 use Rattle.xid.specs.Places.{Place}
 use Rattle.xid.specs.declared.refusals.Refusal.{Refusal}
 use Rattle.stable_record.specs.declared.entry.EntryKind.{EntryKind as Entry}
 use Rattle.stable_record.specs.declared.fact.FactKind.{FactKind as Fact}
 use Rattle.stable_record.specs.Behind.{behind}
-use Rattle.stable_record.specs.Floors.{front_of}
+use Rattle.stable_record.specs.Floors.{floor_of, front_of}
+use Rattle.stable_record.proofs.Floors.{floor_stays}
 use Rattle.stable_record.specs.Grammar.{IsStored}
 use Rattle.stable_record.specs.Held.{Held}
 use Rattle.protocol.specs.declared.answers.Answer.{Answer}
@@ -228,15 +231,24 @@ record IsRestarted (config : Config) (who : NodeId) (m : NodeState) (new : Floor
 
 module _ (config : Config) (who : NodeId) (m : NodeState) (old new : MemberParts) (s : FlooredStands config old.floored m)
     (who_is : old.floored.node.who ≡ who) (r : Reopens config who old new) where
+  -- its record begins with its floor
+  found_floor : floor_of r.held.bytes ≡ old.floored.floor
+  found_floor =
+      ap floor_of r.bytes_are
+      ∙ floor_stays old.floored.floor old.floored.node.held.bytes s.is.stands.keeps.holds.all s.is.stands.tail r.valid
+      (subst IsBytes r.bytes_are r.are_bytes) s.is.stands.keeps.holds.stored
+
   floor_is : new.floored.floor ≡ old.floored.floor
-  floor_is = r.opened.floor_is ∙ r.floor_is
+  floor_is = r.opened.floor_is ∙ found_floor
 
   abbrev within : Held
   within = behind (front_of new.floored.floor) r.held
 
   bytes_are : old.floored.node.held.bytes ≡ within.bytes
   bytes_are =
-      sym r.bytes_are ∙ sym (ap (λ (f : Option Place). (behind (front_of f) r.held).bytes) floor_is)
+      sym (drop-append_seam (front_of old.floored.floor) old.floored.node.held.bytes)
+      ∙ sym (ap (drop (length (front_of old.floored.floor))) r.bytes_are)
+      ∙ sym (ap (λ (f : Option Place). (behind (front_of f) r.held).bytes) floor_is)
 
   above : StandsAbove s.from config who old.floored.floor s.few m
   above = subst (λ (w : NodeId). StandsAbove s.from config w old.floored.floor s.few m) who_is s.above

@@ -3,13 +3,14 @@ use Rattle.std.specs.Prelude.{◌≡◌, ◌≢◌, ◌⊎◌, ℕ, ◌<◌, Boo
 use Rattle.std.specs.Prelude.{Option, Some, None, is_some, Result, Ok, Err}
 use Rattle.std.specs.List.{flat_map}
 use Rattle.xid.specs.declared.refusals.Refusal.{Refusal}
+use Rattle.xid.specs.Names.{IsBytes}
 use Rattle.xid.specs.Places.{Place}
 use Rattle.xid.specs.Transactions.{TxParts}
 use Rattle.ballot.specs.Greatest.{IsIn}
 use Rattle.wire.specs.declared.notice.Notice.{Notice as Heard}
 use Rattle.stable_record.specs.declared.record.RecordError.{RecordError}
-use Rattle.stable_record.specs.Behind.{behind}
-use Rattle.stable_record.specs.Floors.{floor_of, front_of}
+use Rattle.stable_record.specs.Behind.{IsFloor}
+use Rattle.stable_record.specs.Floors.{front_of}
 use Rattle.stable_record.specs.Held.{Held, armed_with, refusal_of}
 use Rattle.protocol.specs.declared.answers.Answer.{Answer}
 use Rattle.protocol.specs.declared.answers.Answer.TheVariants.{Refused}
@@ -156,13 +157,14 @@ abbrev pub told_by : Config → (rm : ℕ) → (new : MemberParts) → Result (U
 told_by config rm new (Ok done) = notices_of config rm new.floored.floor
 told_by config rm new (Err refusal) = []
 
--- a process ended, at whatever moment, and one was opened anew over its record, and told nothing: this begins with the floor that it had,
--- and holds behind that what its node held; and its table began with its rows in the cluster
+-- a process ended, and one was opened anew over its record, as it is given back when a member is let go: that begins with the floor that it
+-- had, and has behind it the bytes of its node; the new one was told nothing. The old one's table began with its rows in the cluster
 pub record Reopens (config : Config) (who : NodeId) (old new : MemberParts) : Type 0 where
   pub rows_are : HasRows config who old.floored.node.rows
   pub held : Held
-  pub floor_is : floor_of held.bytes ≡ old.floored.floor
-  pub bytes_are : (behind (front_of old.floored.floor) held).bytes ≡ old.floored.node.held.bytes
+  pub valid : IsFloor old.floored.floor
+  pub are_bytes : IsBytes held.bytes
+  pub bytes_are : held.bytes ≡ front_of old.floored.floor ++ old.floored.node.held.bytes
   pub armed_is : held.armed ≡ old.floored.node.held.armed
   pub opened : IsFlooredOpened config who held new.floored
   pub told_is : new.told ≡ replicate config.managers None

@@ -2,12 +2,14 @@
 //! machine make, one after another.
 ghost use Rattle.std.specs.Prelude.{◌≡◌, ℕ, Bool, true, false, List, [], ◌∷◌, ◌++◌, Some};
 ghost use Rattle.std.specs.List.{AllByRecursion};
-ghost use Rattle.xid.specs.Places.{is_below};
+ghost use Rattle.xid.specs.Places.{is_below, is_xid_below};
+ghost use Rattle.ballot.specs.Greatest.{IsIn};
 ghost use Rattle.xid.specs.Transactions.{TxParts, is_participant};
 ghost use Rattle.protocol.specs.declared.nodes.NodeId.{NodeId};
 ghost use Rattle.protocol.specs.declared.nodes.NodeId.TheVariants.{R};
 ghost use Rattle.protocol.specs.declared.states.View.TheVariants as views;
 ghost use Rattle.protocol.specs.Effects.{Config};
+ghost use Rattle.protocol.specs.Managers.{Branch};
 ghost use Rattle.protocol.specs.Nodes.{NodeState, Fault};
 ghost use Rattle.protocol.specs.TCommit.{IsCommitStep};
 ghost use Rattle.protocol.specs.Worlds.{node_at};
@@ -62,9 +64,12 @@ pub fn groups_are_floored_events()
     ensures { (config : Config) (world : FlooredWorld) → IsFlooredReached config world → IsOneByOne config world }
 {}
 
-/// And no floor passes what is prepared: wherever a resource manager has a transaction prepared, it is at or above its own floor, and that
-/// of each acceptor and leader that wasn't replaced.
-pub fn prepared_is_above()
+/// And no floor passes a branch that is there: no branch in the memory of a resource manager is below its floor; and wherever one has a
+/// transaction prepared, it is at or above its floor, and that of each acceptor and leader that wasn't replaced.
+pub fn nothing_is_below()
+    ensures branches { (config : Config) (world : FlooredWorld) → IsFlooredReached config world → (r : ℕ) (node : NodeState)
+        → node_at config world.machine (R r) ≡ Some node → (branch : Branch) → IsIn node.memory.branches branch
+        → is_xid_below (world.floor (R r)) branch.xid ≡ false }
     ensures own { (config : Config) (world : FlooredWorld) → IsFlooredReached config world → (tx : TxParts) (r : ℕ)
         → views_in config world.machine tx r ≡ views.Prepared → is_below (world.floor (R r)) tx ≡ false }
     ensures others { (config : Config) (world : FlooredWorld) → IsFlooredReached config world → (tx : TxParts) (r : ℕ)
