@@ -1,5 +1,5 @@
 //! What the code's contracts say of a process is what its node does in a world of a cluster whose nodes have floors and work in groups.
-ghost use Rattle.std.specs.Prelude.{List, ℕ, [], ◌∷◌, Result, Ok, Err};
+ghost use Rattle.std.specs.Prelude.{◌≡◌, List, ℕ, [], ◌∷◌, Result, Ok, Err};
 ghost use Rattle.std.specs.List.{AllByRecursion};
 ghost use Rattle.xid.specs.Places.{Place};
 ghost use Rattle.xid.specs.Transactions.{TxParts};
@@ -12,6 +12,8 @@ ghost use Rattle.protocol.specs.declared.nodes.NodeId.TheVariants.{R};
 ghost use Rattle.protocol.specs.declared.rows.Row.{Row};
 ghost use Rattle.protocol.specs.declared.states.View.{View};
 ghost use Rattle.protocol.specs.Effects.{Config};
+ghost use Rattle.protocol.specs.Worlds.{table_at};
+ghost use Rattle.safety.specs.Runs.{views_in};
 ghost use Rattle.node_core.specs.declared.output.Output.{Output};
 ghost use Rattle.node_core.specs.Opening.{restart_answer};
 ghost use Rattle.floors.specs.Worlds.{FlooredWorld, Machine, Raise};
@@ -62,8 +64,8 @@ pub fn processes_are_kept()
         → GoesOn config world reach who new [] [] (Underwent (Machine (Restart who)) Done ∷ []) }
 {}
 
-/// And asked for its view of a transaction, or for its table, it is what it was, and nothing happens; a tear that is armed on its record is
-/// armed on its node's.
+/// And asked for its view of a transaction, or for its table, it is what it was, and nothing happens; what a resource manager's process
+/// answers is what the world has there. A tear that is armed on its record is armed on its node's.
 pub fn processes_are_asked()
     ensures viewed { (config : Config) (world : FlooredWorld) (reach : IsFlooredReached config world) (who : NodeId) (tx : TxParts)
         (old new : MemberParts) (result : Result View Refusal) → StandsIn config world who old → AnswersView tx old new result
@@ -71,6 +73,10 @@ pub fn processes_are_asked()
     ensures tabled { (config : Config) (world : FlooredWorld) (reach : IsFlooredReached config world) (who : NodeId)
         (old new : MemberParts) (result : Result (List Row) Refusal) → StandsIn config world who old → AnswersTable old new result
         → GoesOn config world reach who new [] [] [] }
+    ensures view_is { (config : Config) (world : FlooredWorld) (rm : ℕ) (tx : TxParts) (old new : MemberParts) (view : View)
+        → StandsIn config world (R rm) old → AnswersView tx old new (Ok view) → view ≡ views_in config world.machine tx rm }
+    ensures table_is { (config : Config) (world : FlooredWorld) (rm : ℕ) (old new : MemberParts) (rows : List Row)
+        → StandsIn config world (R rm) old → AnswersTable old new (Ok rows) → rows ≡ table_at config world.machine rm }
     ensures armed { (config : Config) (world : FlooredWorld) (reach : IsFlooredReached config world) (who : NodeId) (n : ℕ)
         (old new : MemberParts) → StandsIn config world who old → ArmsMember n old new
         → GoesOn config world reach who new [] [] (Underwent (Machine (Tear who n)) Done ∷ []) }

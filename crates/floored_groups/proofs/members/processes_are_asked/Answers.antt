@@ -1,4 +1,5 @@
 use Rattle.floored_groups.proofs.Upkept.{armed_on, asked_on}
+use Rattle.floored_groups.proofs.Views.{table_is, view_is}
 use Rattle.floored_groups.proofs.members.processes_are_asked.Goals as goal
 
 pub returns-clause-viewed : goal.returns-clause-viewed
@@ -11,3 +12,9 @@ returns-clause-tabled c config world reach who old new result s answers =
 
 pub returns-clause-armed : goal.returns-clause-armed
 returns-clause-armed c config world reach who n old new s arms = armed_on config world reach who old new s n arms
+
+pub returns-clause-view_is : goal.returns-clause-view_is
+returns-clause-view_is c config world rm tx old new view s answers = view_is config world rm old new s tx view answers
+
+pub returns-clause-table_is : goal.returns-clause-table_is
+returns-clause-table_is c config world rm old new rows s answers = table_is config world rm old new s rows answers
