@@ -55,7 +55,7 @@ pub record IsBegun (config : Config) (who : NodeId) (member : MemberParts) : Typ
 -- or one, all of which was sent to it or told it by processes of the cluster; its append fails there, or memory is wanted; a resource
 -- manager is asked to raise its floor; one is asked for its view of a transaction or its table; one is restarted; the record of one is made
 -- shorter; a tear is armed on it; and one ends and is opened anew over its record. One that is killed while it takes something is one whose
--- append failed there, at whatever byte, and that was opened anew
+-- append failed there, at whatever byte, or that took it and whose sends were lost, and that was opened anew
 pub data IsRun (config : Config) : AllProcesses → Type 0 where
   Begun : (members : NodeId → MemberParts) → ((who : NodeId) → is_among config who ≡ true → IsBegun config who (members who))
       → IsRun config (record { members = members; net = []; notices = [] })
