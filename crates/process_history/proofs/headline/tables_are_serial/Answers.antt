@@ -1,0 +1,5 @@
+use Rattle.process_history.proofs.Tables.{are_serial}
+use Rattle.process_history.proofs.headline.tables_are_serial.Goals as goal
+
+pub returns : goal.returns
+returns c = are_serial
