@@ -5,21 +5,18 @@
 ghost use Rattle.std.specs.Prelude.{◌≡◌, map, IfOk};
 ghost use Rattle.node_core.specs.Nodes.{AreSizes};
 
-mod answering;
 mod command;
-mod desk;
 mod door;
 mod failure;
-mod group;
 mod life;
 mod logging;
 mod replacing;
 mod setup;
 mod socket;
 mod stream;
+mod system;
 
 use crate::command::{Options, read_options};
-use crate::desk::Desk;
 use crate::door::{DATAGRAMS, Door, LISTENER};
 use crate::failure::Failure;
 use crate::life::live;
@@ -27,20 +24,20 @@ use crate::logging::logger;
 use crate::replacing::replace;
 use crate::setup::{Setup, claim, is_claimed, is_there, open_node, owned, record_path, set_up};
 use crate::socket::NodeSocket;
+use crate::system::System;
 use cluster_file::KEY;
 use hmac::Key;
-use indexmap::IndexMap;
 use letter_port::LetterPort;
 use log::LevelFilter;
 use mio::net::TcpListener;
 use mio::{Interest, Poll};
+use node_process::{Desk, Process};
 use port::Member;
 use protocol::NodeId;
-use serving::{Branches, Clients, Counts, Lock, Schedule, Shortening, Terms, Times, Watches};
+use serving::{Lock, Schedule, Terms, Times};
 use signed_port::{PlainPort, SignedPort};
 use stable_record::FileRecord;
 use std::alloc::{AllocError, Global};
-use std::collections::VecDeque;
 use std::net::SocketAddr;
 use std::process::ExitCode;
 use std::time::{Duration, Instant};
@@ -121,10 +118,7 @@ fn open_door(
         poll,
         listener,
         is_locked: setup.client_key.is_some(),
-        clients: Clients::new(rt.alloc()),
         streams: Vec::new(rt.alloc()),
-        count: 0,
-        has_datagrams: true,
         has_clients: true,
     })
 }
@@ -177,28 +171,11 @@ fn terms_of(alloc: Global, setup: &Setup, name: &str) -> Result<Terms, AllocErro
 }
 
 /// What the process keeps beside its node and its port.
-fn make_desk(rt: HostRuntime, setup: &Setup, name: &str, door: Door) -> Result<Desk, Failure> {
-    let alloc = rt.alloc();
-    let schedule = schedule_of(setup);
-    Ok(Desk {
-        rt,
-        alloc,
-        terms: terms_of(alloc, setup, name)?,
-        door,
-        schedule,
-        watches: Watches::with_hash_key(alloc, setup.hash_key, schedule)?,
-        branches: Branches::with_hash_key(alloc, setup.hash_key),
-        shortening: Shortening::new(),
-        counts: Counts::default(),
-        idle: idle_of(setup),
-        next_look: Instant::now(&rt)?,
-        promised: None,
-        next_rise: Instant::now(&rt)?,
-        next_tell: Instant::now(&rt)?,
-        pending: VecDeque::new(alloc),
-        ended: IndexMap::with_hasher(alloc, setup.hash_key.words()),
-        next_ask: Instant::now(&rt)?,
-    })
+fn make_desk(rt: &HostRuntime, setup: &Setup, name: &str) -> Result<Desk, Failure> {
+    let terms = terms_of(rt.alloc(), setup, name)?;
+    let (schedule, idle) = (schedule_of(setup), idle_of(setup));
+    let now = Instant::now(rt)?;
+    Ok(Desk::new(rt.alloc(), setup.hash_key, terms, schedule, idle, now)?)
 }
 
 /// Says where the node is found.
@@ -221,22 +198,24 @@ fn signing_key(key: &[u8; KEY]) -> Key {
 /// The life of a node at a socket, whose datagrams are signed if there is a key.
 fn lead_signed(
     rt: &HostRuntime,
-    node: &mut Member<FileRecord>,
+    node: Member<FileRecord>,
     socket: NodeSocket,
-    desk: &mut Desk,
+    desk: Desk,
+    door: &mut Door,
     setup: &Setup,
     path: &str,
 ) -> Result<(), Failure> {
+    let sizes = setup.cluster.config.sizes();
+    let system = System { rt: *rt, path };
     match &setup.key {
         Some(key) => {
             let port = SignedPort::new(socket, signing_key(key), setup.digest, setup.who);
-            let mut port = LetterPort::new(rt.alloc(), port, setup.cluster.config.sizes())?;
-            live(rt, node, &mut port, desk, path)
+            let port = LetterPort::new(rt.alloc(), port, sizes)?;
+            live(rt, &mut Process::new(node, port, desk), door, &system)
         }
         None => {
-            let port = PlainPort::new(socket);
-            let mut port = LetterPort::new(rt.alloc(), port, setup.cluster.config.sizes())?;
-            live(rt, node, &mut port, desk, path)
+            let port = LetterPort::new(rt.alloc(), PlainPort::new(socket), sizes)?;
+            live(rt, &mut Process::new(node, port, desk), door, &system)
         }
     }
 }
@@ -244,17 +223,17 @@ fn lead_signed(
 /// The life of a node at its place.
 fn lead(
     rt: HostRuntime,
-    node: &mut Member<FileRecord>,
+    node: Member<FileRecord>,
     setup: &Setup,
     options: Options,
     path: &str,
 ) -> Result<(), Failure> {
     let poll = Poll::new(&rt)?;
     let socket = bind(&rt, &poll, setup)?;
-    let door = open_door(rt, options.level, poll, setup)?;
-    let mut desk = make_desk(rt, setup, options.name, door)?;
+    let mut door = open_door(rt, options.level, poll, setup)?;
+    let desk = make_desk(&rt, setup, options.name)?;
     announce(&rt, options.name, setup)?;
-    lead_signed(&rt, node, socket, &mut desk, setup, path)
+    lead_signed(&rt, node, socket, desk, &mut door, setup, path)
 }
 
 /// That the record is there which the folder's node has had.
@@ -283,11 +262,10 @@ fn run(rt: HostRuntime, options: Options) -> Result<(), Failure> {
     }
     match open_node(rt, &setup.cluster.config, setup.who, path.as_str()) {
         Ok(node) => {
-            let mut node = node;
             if !is_claimed {
                 claim(rt, &setup, options)?;
             }
-            lead(rt, &mut node, &setup, options, path.as_str())
+            lead(rt, node, &setup, options, path.as_str())
         }
         Err(failure) => Err(failure),
     }

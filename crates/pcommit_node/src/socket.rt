@@ -6,9 +6,9 @@ ghost use Rattle.pcommit_node.specs.Sockets.{place_for, socket_count, BoundTo};
 use mio::net::UdpSocket;
 use mio::{Interest, Registry, Token};
 use node_core::{Sizes, place_of};
-use port::Port;
+use node_process::PortCounts;
 use protocol::NodeId;
-use signed_port::{Carrier, MAX_CARRIED, PlainPort, SignedPort};
+use signed_port::{Carrier, MAX_CARRIED};
 use std::io::{self, ErrorKind};
 use std::net::{Net, SocketAddr};
 use xid::Refusal;
@@ -22,23 +22,6 @@ pub struct NodeSocket {
     taken: u64,
     sent: u64,
     faults: u64,
-}
-
-/// What a port has counted.
-#[derive(Clone, Copy, Debug, PartialEq, Eq)]
-pub struct PortCounts {
-    /// How many datagrams came.
-    pub taken: u64,
-    /// How many were sent.
-    pub sent: u64,
-    /// How many of those that came were dropped for their signature.
-    pub dropped: u64,
-}
-
-/// A port that counts.
-pub trait Counting {
-    /// What it has counted.
-    fn counts(&self) -> PortCounts;
 }
 
 impl NodeSocket {
@@ -63,6 +46,15 @@ impl NodeSocket {
             sent: 0,
             faults: 0,
         })
+    }
+
+    /// What it has counted, where so many of the datagrams that came were dropped for their signature.
+    pub fn counts(&self, dropped: u64) -> PortCounts {
+        PortCounts {
+            taken: self.taken,
+            sent: self.sent,
+            dropped,
+        }
     }
 
     /// Counts a fault, and answers it.
@@ -149,27 +141,5 @@ impl Carrier for NodeSocket {
 
     fn faults(&self) -> u64 {
         self.faults
-    }
-}
-
-impl Counting for SignedPort<NodeSocket> {
-    fn counts(&self) -> PortCounts {
-        let socket = self.carrier();
-        PortCounts {
-            taken: socket.taken,
-            sent: socket.sent,
-            dropped: self.dropped(),
-        }
-    }
-}
-
-impl Counting for PlainPort<NodeSocket> {
-    fn counts(&self) -> PortCounts {
-        let socket = self.carrier();
-        PortCounts {
-            taken: socket.taken,
-            sent: socket.sent,
-            dropped: 0,
-        }
     }
 }

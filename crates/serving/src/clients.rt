@@ -1,13 +1,16 @@
 //! The clients of a node, and what each is told.
 
-ghost use Rattle.std.specs.Prelude.{◌≡◌, ◌≤◌, ◌+◌, ◌++◌, ◌∷◌, [], length, drop, slice_get, OnOk, OnErr};
+ghost use Rattle.std.specs.Prelude.{◌≡◌, ◌≤◌, ◌+◌, ◌++◌, ◌∷◌, [], length, drop, slice_get, false, IfOk, OnOk, OnErr};
 ghost use Rattle.std.specs.Option.{option_copied};
 ghost use Rattle.serving.specs.Taking.{HearsAll, HearsRange};
 ghost use Rattle.serving.specs.Groups.{after_one, answer_text, answers_to, AreTold};
+ghost use Rattle.serving.specs.Clients.{is_awaiting};
+ghost use Rattle.serving.specs.Happenings.{ComesIn};
 
 use crate::client::Client;
 use crate::group::{Item, Origin, Work};
 use crate::replies::put_reply;
+use crate::stage::Stage;
 use crate::terms::Terms;
 use protocol::Answer;
 use slab::Slab;
@@ -24,6 +27,8 @@ pub struct Clients {
     alloc: Global,
     /// Each, at its key.
     pub seats: Slab<Client>,
+    /// How many have ever come in.
+    pub count: u64,
     first: usize,
 }
 
@@ -56,7 +61,7 @@ fn put_answer(
 }
 
 /// What is left of a list where the first of it was for a piece of work.
-fn after_one<T>(is_one: bool, list: &[T]) -> &[T]
+pub fn after_one<T>(is_one: bool, list: &[T]) -> &[T]
     ensures { result.now ≡ after_one is_one list.now }
 {
     match list {
@@ -80,8 +85,36 @@ impl Clients {
         Clients {
             alloc,
             seats: Slab::new(alloc),
+            count: 0,
             first: 0,
         }
+    }
+
+    /// A client comes in at a key at which nobody is, with the next number, and is told a greeting. Its key. Where memory runs out nobody
+    /// comes in.
+    pub fn come(
+        &mut self,
+        stage: Stage,
+        greeting: &[u8],
+        now: Instant,
+    ) -> Result<usize, AllocError>
+        requires { is_awaiting stage ≡ false }
+        ensures came { IfOk result (λ key. ComesIn key (self.old.count + 1) stage greeting.now now self.old.seats self.new.seats) }
+        ensures count { OnOk result (self.new.count ≡ self.old.count + 1) }
+    {
+        let Some(number) = self.count.checked_add(1) else {
+            return Err(AllocError);
+        };
+        let mut client = Client::new(self.alloc, number, stage, now);
+        client.tell(greeting)?;
+        let key = self.seats.insert(client)?;
+        self.count = number;
+        Ok(key)
+    }
+
+    /// Whether a line of one of them is waiting to be looked at, and would be.
+    pub fn are_waiting(&self) -> bool {
+        self.seats.iter().any(|(_, client)| client.is_waiting())
     }
 
     /// A client is told a text, if it is still there, and nobody else is told anything.

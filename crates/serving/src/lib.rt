@@ -27,7 +27,7 @@ mod words;
 
 pub use branches::Branches;
 pub use client::Client;
-pub use clients::{Clients, UNTIMELY};
+pub use clients::{Clients, UNTIMELY, after_one};
 pub use group::{Item, Origin, Work};
 pub use lines::{Front, MAX_LINE, MOST_BEGUN, MOST_OUTPUT, front_of};
 pub use proving::{Lock, put_challenge};

@@ -1,4 +1,5 @@
-ghost use Rattle.std.specs.Prelude.{◌≡◌, ℕ, ◌++◌, List, OnOk};
+ghost use Rattle.std.specs.Prelude.{◌≡◌, ℕ, ◌++◌, ◌∷◌, List, OnOk, codes};
+ghost use Rattle.net_script.specs.Items.{rows_words};
 ghost use Rattle.net_script.specs.Traces.{line_text, spaced_words};
 ghost use Rattle.serving.specs.Groups.{reply_line};
 
@@ -54,7 +55,9 @@ pub fn put_reply(alloc: Global, out: &mut Vec<u8>, answer: &Answer) -> Result<()
 }
 
 /// Puts the line of a table's rows: `rows`, and each row as in a trace's last lines. The only refusal is `NoMemory`.
-pub fn put_table(alloc: Global, out: &mut Vec<u8>, rows: &[Row]) -> Result<(), Refusal> {
+pub fn put_table(alloc: Global, out: &mut Vec<u8>, rows: &[Row]) -> Result<(), Refusal>
+    ensures { OnOk result (out.new.items ≡ out.old.items ++ line_text (codes "rows" ∷ rows_words rows.now)) }
+{
     let mut words = Vec::from_slice(alloc, b" rows")?;
     put_rows(&mut words, rows)?;
     put_words(out, &words)

@@ -1,10 +1,10 @@
 //! On what terms the lines of clients are taken.
 
 ghost use Rattle.std.specs.Prelude.{◌≡◌, ◌⊎◌, Option, Some, None, IsSomeAnd, false, true};
-ghost use Rattle.std.specs.Option.{option_and_then};
+ghost use Rattle.std.specs.Option.{option_and_then, option_map_or};
 ghost use Rattle.xid.specs.Names.{XidParts};
 ghost use Rattle.xid.specs.Places.{Place as PlaceParts, is_xid_below};
-ghost use Rattle.serving.specs.Times.{floor_of};
+ghost use Rattle.serving.specs.Times.{floor_of, is_ahead};
 ghost use Rattle.serving.specs.Taking.{IsLate, IsUntimely};
 
 use crate::proving::Lock;
@@ -37,6 +37,16 @@ impl Terms {
         match &self.times {
             Some(times) => times.floor(self.clock, self.latest),
             None => None,
+        }
+    }
+
+    /// Whether a floor is higher than the clock's place, where names stand in time.
+    pub fn is_ahead(&self, floor: &Floor) -> bool
+        ensures { result ≡ option_map_or (λ times. is_ahead times floor.now self.now.clock) self.now.times false }
+    {
+        match &self.times {
+            Some(times) => times.is_ahead(floor, self.clock),
+            None => false,
         }
     }
 

@@ -1,6 +1,6 @@
 use Rattle.std.proofs.Common.{◌≡◌, map, take}
-use Rattle.pcommit_node.specs.Handing.{given_of, handed_of}
-use Rattle.pcommit_node.proofs.group.inputs_of.Given as goal
+use Rattle.node_process.specs.Handing.{given_of, handed_of}
+use Rattle.node_process.proofs.handing.inputs_of.Given as goal
 
 -- what the items so far give to the node
 abbrev pub invariant-loop-item : goal.invariant-loop-item

@@ -1,7 +1,7 @@
 use Rattle.std.proofs.Common.{◌≡◌, Bor, map, take}
 use Rattle.protocol.specs.declared.answers.Answer.{Answer}
 use Rattle.node_core.specs.declared.output.Output.{Output}
-use Rattle.pcommit_node.proofs.group.replies_of.Given as goal
+use Rattle.node_process.proofs.handing.replies_of.Given as goal
 
 -- what the node replied to the inputs so far
 abbrev pub invariant-loop-out : goal.invariant-loop-out

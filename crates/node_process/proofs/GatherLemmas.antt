@@ -1,0 +1,59 @@
+-- What comes into a group, one thing after another: requests, and the messages that a port gives.
+use Rattle.std.proofs.Common.{◌≡◌, ◌++◌, ◌∷◌, [], List, ℕ, Option, Some, None, Result, Ok, Err, map, refl, sym, ap, ◌∙◌, subst, append_assoc}
+use Rattle.std.proofs.lemmas.List.{append-nil, map-append}
+use Rattle.xid.specs.declared.refusals.Refusal.{Refusal}
+use Rattle.port.specs.Calls.{Receiving}
+use Rattle.letter_port.specs.LetterPorts.{LetterParts, LetterReceived}
+use Rattle.letter_port.specs.Runs.{Given, ReceivesAll, messages_of}
+use Rattle.serving.specs.declared.group.Item.{Item}
+use Rattle.node_process.specs.Gathering.{taken_item, TakesMessages}
+
+-- nothing came
+pub takes_none : {P : Type 0} (Received : Receiving P) (port : LetterParts P) (items : List Item) → TakesMessages Received port port items items
+takes_none Received port items = record { given = []; receives = refl; taken = sym (append-nil items) }
+
+-- one receive gave no message
+pub takes_nothing : {P : Type 0} (Received : Receiving P) (given : Given) (before after : LetterParts P) (items : List Item)
+    → messages_of (given ∷ []) ≡ [] → LetterReceived Received before after given → TakesMessages Received before after items items
+takes_nothing Received given before after items none received = record {
+  given = given ∷ [];
+  receives = (after, received, refl);
+  taken = sym (ap (λ (messages : List (List ℕ)). items ++ map taken_item messages) none ∙ append-nil items);
+}
+
+-- one receive gave a message
+pub takes_one : {P : Type 0} (Received : Receiving P) (bytes : List ℕ) (before after : LetterParts P) (old new : List Item)
+    → LetterReceived Received before after (Ok (Some bytes)) → new ≡ old ++ taken_item bytes ∷ [] → TakesMessages Received before after old new
+takes_one Received bytes before after old new received taken = record {
+  given = Ok (Some bytes) ∷ [];
+  receives = (after, received, refl);
+  taken = taken;
+}
+
+messages_both : (a b : List Given) → messages_of (a ++ b) ≡ messages_of a ++ messages_of b
+messages_both [] b = refl
+messages_both (Ok None ∷ more) b = messages_both more b
+messages_both (Ok (Some message) ∷ more) b = ap (λ (rest : List (List ℕ)). message ∷ rest) (messages_both more b)
+messages_both (Err refusal ∷ more) b = messages_both more b
+
+receives_both : {P : Type 0} (Received : Receiving P) (a b : List Given) (before mid after : LetterParts P)
+    → ReceivesAll Received before mid a → ReceivesAll Received mid after b → ReceivesAll Received before after (a ++ b)
+receives_both Received [] b before mid after same more =
+    subst (λ (port : LetterParts _). ReceivesAll Received port after b) same more
+receives_both Received (given ∷ rest) b before mid after (next, received, each) more =
+    (next, received, receives_both Received rest b next mid after each more)
+
+-- some came, and then others
+pub takes_both : {P : Type 0} (Received : Receiving P) (before between after : LetterParts P) (old mid new : List Item)
+    → TakesMessages Received before between old mid → TakesMessages Received between after mid new
+    → TakesMessages Received before after old new
+takes_both Received before between after old mid new first second =
+    let a : List Item = map taken_item (messages_of first.given) in
+    let b : List Item = map taken_item (messages_of second.given) in
+    record {
+      given = first.given ++ second.given;
+      receives = receives_both Received first.given second.given before between after first.receives second.receives;
+      taken = second.taken ∙ ap (λ (items : List Item). items ++ b) first.taken ∙ append_assoc old a b
+          ∙ ap (λ (items : List Item). old ++ items) (sym (ap (map taken_item) (messages_both first.given second.given)
+          ∙ map-append taken_item (messages_of first.given) (messages_of second.given)));
+    }

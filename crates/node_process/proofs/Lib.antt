@@ -1,0 +1,7 @@
+pub mod AskLemmas
+pub mod AwaitLemmas
+pub mod GatherLemmas
+pub mod HandLemmas
+pub mod NoteLemmas
+pub mod SayLemmas
+pub mod WorkLemmas

@@ -1,0 +1,163 @@
+-- A round of work, put together: what came into the group, what the node made of it, and who was told. What `Process::work` says needs it.
+use Rattle.std.proofs.Common.{◌≡◌, ◌≤◌, ◌∷◌, ◌++◌, ◌&&◌, [], List, ℕ, Vec, Bool, true, length, map, filter, refl, sym, ap, ◌∙◌, subst, arith}
+use Rattle.std.proofs.lemmas.Bool.{and_parts}
+use Rattle.std.proofs.lemmas.List.{length-map}
+use Rattle.std.proofs.lemmas.List.Folds.{list_all-append}
+use Rattle.std.specs.Borrow.{Bor}
+use Rattle.std.specs.List.{list_all}
+use Rattle.std.specs.declared.alloc.Global.{Global}
+use Rattle.std.specs.declared.time.Instant.{Instant}
+use Rattle.slab.specs.Slab.{Slab}
+use Rattle.protocol.specs.declared.answers.Answer.{Answer}
+use Rattle.node_core.specs.declared.output.Output.{Output}
+use Rattle.port.specs.Calls.{Receiving, Sending}
+use Rattle.port.specs.Members.{MemberParts}
+use Rattle.letter_port.specs.LetterPorts.{LetterParts}
+use Rattle.letter_port.specs.Runs.{messages_of}
+use Rattle.serving.specs.declared.branches.Branches.{Branches}
+use Rattle.serving.specs.declared.group.Item.{Item}
+use Rattle.serving.specs.declared.terms.Terms.{Terms}
+use Rattle.serving.specs.Clients.{ClientParts}
+use Rattle.serving.specs.Groups.{is_handed}
+use Rattle.serving.specs.Happenings.{AwaitsBegin, WorksOn}
+use Rattle.serving.specs.Served.{are_nobodys, is_nobody}
+use Rattle.serving.specs.Taking.{HearsAll}
+use Rattle.serving.proofs.TellLemmas.{told_none}
+use Rattle.node_process.specs.declared.desk.Desk.{Desk}
+use Rattle.node_process.specs.Asking.{Asks}
+use Rattle.node_process.specs.Gathering.{are_asked, is_request, taken_item, AreGathered, GathersAhead}
+use Rattle.node_process.specs.Handing.{handed_of, Hands}
+use Rattle.node_process.specs.Noting.{NotesAll}
+use Rattle.node_process.specs.Saying.{SaysAll}
+use Rattle.node_process.specs.Working.{Answers, HandsSome, Works}
+use Rattle.node_process.proofs.AwaitLemmas.{begins_all}
+use Rattle.node_process.proofs.SayLemmas.{handed_many, silent, spoken}
+
+-- ---- what is nobody's
+
+asked_nobodys : (items : List Item) → are_asked items ≡ true → are_nobodys items ≡ true
+asked_nobodys [] asked = refl
+asked_nobodys (item ∷ rest) asked =
+    let both = and_parts (is_nobody item.origin && is_request item.work) (are_asked rest) asked in
+    let one = and_parts (is_nobody item.origin) (is_request item.work) both.0 in
+    ap (λ (b : Bool). b && are_nobodys rest) one.0 ∙ asked_nobodys rest both.1
+
+taken_nobodys : (messages : List (List ℕ)) → are_nobodys (map taken_item messages) ≡ true
+taken_nobodys [] = refl
+taken_nobodys (message ∷ rest) = taken_nobodys rest
+
+ahead_nobodys : {P : Type 0} (Received : Receiving P) (before after : LetterParts P) (ahead : List Item)
+    → GathersAhead Received before after ahead → are_nobodys ahead ≡ true
+ahead_nobodys Received before after ahead gathers =
+    let test : Item → Bool = λ item. is_nobody item.origin in
+    let messages : List (List ℕ) = messages_of gathers.messages.given in
+    let came : List Item = map taken_item messages in
+    ap (list_all test) gathers.messages.taken ∙ list_all-append test gathers.asked came
+    ∙ ap (λ (b : Bool). b && list_all test came) (asked_nobodys gathers.asked gathers.are) ∙ taken_nobodys messages
+
+-- ---- who is told
+
+as_many : (items : List Item) (outs : List Output) (replies : List (Bor Answer)) → length outs ≡ length (handed_of items)
+    → map (λ (reply : Bor Answer). reply.now) replies ≡ map (λ (out : Output). out.reply) outs
+    → length (filter (λ (item : Item). is_handed item.work) items) ≤ length replies
+as_many items outs replies count are =
+    let same : length replies ≡ length outs =
+    sym (length-map replies (λ (reply : Bor Answer). reply.now)) ∙ ap length are ∙ length-map outs (λ (out : Output). out.reply) in
+    let many : length (filter (λ (item : Item). is_handed item.work) items) ≡ length (handed_of items) = handed_many items in
+    omega arith
+
+-- clients' lines came into a group that was stored, and they were told
+pub works_on : {P : Type 0} (Received : Receiving P) (Sent : Sending P) (now : Instant) (old counted new : Desk) (heard : Slab ClientParts)
+    (handed is : MemberParts) (before got sent after : LetterParts P) (items : List Item) (outs : List Output)
+    (gathered : AreGathered Received old.terms old.clients.seats heard before got items) → length outs ≡ length (handed_of items)
+    → counted.terms ≡ old.terms → counted.clients.seats ≡ heard → (answers : Answers Sent now items outs counted new handed is sent after)
+    → WorksOn old.terms.who old.terms.lock old.terms gathered.ahead items answers.replies answers.said answers.until old.clients.seats
+    new.clients.seats
+works_on Received Sent now old counted new heard handed is before got sent after items outs gathered count terms seats answers =
+    let begins : AwaitsBegin old.terms.who answers.until items answers.told new.clients.seats =
+    subst (λ (t : Terms). AwaitsBegin t.who answers.until items answers.told new.clients.seats) terms answers.begins in record {
+      who_is = refl;
+      lock_is = refl;
+      nobodys = ahead_nobodys Received before got gathered.ahead gathered.gathered;
+      heard = counted.clients.seats;
+      hears = subst (λ (s : Slab ClientParts). HearsAll old.terms old.clients.seats s gathered.ahead items) (sym seats) gathered.hears;
+      replied = as_many items outs answers.replies count answers.replies_are;
+      spoken = spoken Sent counted.terms items handed is sent after answers.said answers.says;
+      silent = silent Sent counted.terms items answers.replies handed is sent after answers.said answers.says;
+      told = answers.told;
+      tells = answers.tells;
+      begins = begins;
+    }
+
+-- ---- the round
+
+hands_some : {P : Type 0} (Sent : Sending P) (items : List Item) (was is : MemberParts) (before after : LetterParts P) (outs : List Output)
+    → (items ≡ [] → ⊥) → Hands Sent items was is before after outs → HandsSome Sent items was is before after outs
+hands_some Sent [] was is before after outs some hands = absurd (some refl)
+hands_some Sent (item ∷ items) was is before after outs some hands = hands
+
+-- a group was gathered, handed to the node and answered
+pub works_some : {P : Type 0} (Received : Receiving P) (Sent : Sending P) (now : Instant) (old counted new : Desk) (heard : Slab ClientParts)
+    (was asked handed is : MemberParts) (before got sent after : LetterParts P) (items : List Item) (outs : List Output)
+    → Asks old.terms.who was asked → AreGathered Received old.terms old.clients.seats heard before got items → (items ≡ [] → ⊥)
+    → Hands Sent items asked handed got sent outs → counted.terms ≡ old.terms → counted.clients.seats ≡ heard
+    → counted.notes.branches ≡ old.notes.branches → Answers Sent now items outs counted new handed is sent after
+    → Works Received Sent now old new was is before after
+works_some Received Sent now old counted new heard was asked handed is before got sent after items outs asks gathered some hands terms seats
+    branches answers = record {
+      asked = asked;
+      asks = asks;
+      ahead = gathered.ahead;
+      got = got;
+      gathers = gathered.gathered;
+      items = items;
+      handed = handed;
+      sent = sent;
+      outs = outs;
+      hands = hands_some Sent items asked handed got sent outs some hands;
+      said = answers.said;
+      says = subst (λ (t : Terms). SaysAll Sent t items handed is sent after answers.said) terms answers.says;
+      replies = answers.replies;
+      replies_are = answers.replies_are;
+      until = answers.until;
+      clients = works_on Received Sent now old counted new heard handed is before got sent after items outs gathered hands.count terms seats
+          answers;
+      branches = subst (λ (known : Branches). NotesAll now items outs known new.notes.branches) branches answers.branches;
+    }
+
+-- nothing came into the group
+pub works_none : {P : Type 0} (Received : Receiving P) (Sent : Sending P) (now : Instant) (old new : Desk)
+    (was asked : MemberParts) (before got : LetterParts P) (items : List Item)
+    → Asks old.terms.who was asked → AreGathered Received old.terms old.clients.seats new.clients.seats before got items → items ≡ []
+    → new.notes.branches ≡ old.notes.branches → Works Received Sent now old new was asked before got
+works_none Received Sent now old new was asked before got items asks gathered none branches = record {
+  asked = asked;
+  asks = asks;
+  ahead = gathered.ahead;
+  got = got;
+  gathers = gathered.gathered;
+  items = [];
+  handed = asked;
+  sent = got;
+  outs = [];
+  hands = (record { node = refl; port = refl }, refl);
+  said = [];
+  says = (record { node = refl; port = refl }, refl);
+  replies = [];
+  replies_are = refl;
+  until = now;
+  clients = record {
+    who_is = refl;
+    lock_is = refl;
+    nobodys = ahead_nobodys Received before got gathered.ahead gathered.gathered;
+    heard = new.clients.seats;
+    hears = subst (λ (all : List Item). HearsAll old.terms old.clients.seats new.clients.seats gathered.ahead all) none gathered.hears;
+    replied = omega arith;
+    spoken = omega arith;
+    silent = tt;
+    told = new.clients.seats;
+    tells = told_none new.clients.seats;
+    begins = begins_all old.terms.who now [] 0 new.clients.seats (omega arith);
+  };
+  branches = branches;
+}

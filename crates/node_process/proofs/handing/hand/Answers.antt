@@ -1,0 +1,46 @@
+use Rattle.std.proofs.Common.{◌≡◌, ◌++◌, ◌∙◌, List, length, map, take, drop, ap, sym, subst, inr, Ok, Err, arith}
+use Rattle.node_core.specs.declared.output.Input.{Input}
+use Rattle.node_core.specs.declared.output.Output.{Output}
+use Rattle.port.specs.Members.{TakesAll, item_of}
+use Rattle.port.specs.Members.{Item as MemberItem}
+use Rattle.node_process.specs.Handing.{Hands, handed_of, handed_to}
+use Rattle.node_process.proofs.HandLemmas.{front_all, handed_count, handed_inputs, on_err_all}
+use Rattle.node_process.proofs.handing.hand.Goals as goal
+
+pub returns-clause-hands : goal.returns-clause-hands
+returns-clause-hands g c =
+    let who = c.args.node.now.floored.node.who in
+    let outs = c.call_all.new.outs in
+    let given = c.in_ok-inputs.inputs.items in
+    let same : map (item_of who) c.deref.result.now ≡ handed_to who c.args.items.now =
+    ap (map (item_of who)) c.deref.ensures.value ∙ handed_inputs who given c.args.items.now c.in_ok-inputs.ensures in
+    let many : length given ≡ length (handed_of c.args.items.now) = handed_count given c.args.items.now c.in_ok-inputs.ensures in
+    let all : length outs ≡ c.fit.new.outs.len = omega arith in
+    let front : take c.fit.new.outs.len (outs ++ drop (length outs) c.fit.new.outs.items) ≡ outs =
+    front_all outs (drop (length outs) c.fit.new.outs.items) c.fit.new.outs.len all in
+    subst (λ (places : List Output). Hands g.P.Port.sent c.args.items.now c.args.node.now c.call_all.new.member c.args.port.now
+    c.call_all.new.self places) (sym front)
+    (record {
+      room = c.deref_mut.result.now;
+      takes = subst (λ (items : List MemberItem). TakesAll items c.args.node.now c.call_all.new.member c.deref_mut.result.now outs (Ok tt))
+          same c.in_ok-call_all.ensures.takes;
+      count = omega arith;
+      sends = c.in_ok-call_all.ensures.sends;
+      left = c.in_ok-call_all.ensures.left;
+    })
+
+pub returns-in_err-call_all-clause-unhanded : goal.returns-in_err-call_all-clause-unhanded
+returns-in_err-call_all-clause-unhanded g c =
+    let who = c.args.node.now.floored.node.who in
+    let same : map (item_of who) c.deref.result.now ≡ handed_to who c.args.items.now =
+    ap (map (item_of who)) c.deref.ensures.value ∙ handed_inputs who c.in_ok-inputs.inputs.items c.args.items.now c.in_ok-inputs.ensures in
+    on_err_all c.from_residual-in_err-call_all.result _ (
+      inr (record {
+        room = c.deref_mut.result.now;
+        outs = c.call_all.new.outs;
+        error = c.in_err-call_all.field-0.0;
+        takes = subst (λ (items : List MemberItem). TakesAll items c.args.node.now c.call_all.new.member c.deref_mut.result.now
+            c.call_all.new.outs (Err c.in_err-call_all.field-0.0)) same c.in_err-call_all.ensures.takes;
+      }),
+      c.in_err-call_all.ensures.quiet,
+    )

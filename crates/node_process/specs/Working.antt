@@ -1,0 +1,98 @@
+-- One round of work of a process.
+use Rattle.std.specs.Prelude.{◌≡◌, ◌⊎◌, ℕ, List, [], map, Vec}
+use Rattle.std.specs.Borrow.{Bor}
+use Rattle.std.specs.declared.alloc.Global.{Global}
+use Rattle.std.specs.declared.time.Instant.{Instant}
+use Rattle.protocol.specs.declared.answers.Answer.{Answer}
+use Rattle.node_core.specs.declared.output.Output.{Output}
+use Rattle.port.specs.Calls.{Receiving, Sending}
+use Rattle.port.specs.Members.{MemberParts}
+use Rattle.letter_port.specs.LetterPorts.{LetterParts}
+use Rattle.serving.specs.declared.group.Item.{Item}
+use Rattle.slab.specs.Slab.{Slab}
+use Rattle.serving.specs.Clients.{ClientParts}
+use Rattle.serving.specs.Groups.{answers_to, AreTold}
+use Rattle.serving.specs.Happenings.{AwaitsBegin, WorksOn}
+use Rattle.serving.specs.Taking.{HearsAll}
+use Rattle.node_process.specs.declared.desk.Desk.{Desk}
+use Rattle.node_process.specs.Asking.{Asks}
+use Rattle.node_process.specs.Gathering.{GathersAhead}
+use Rattle.node_process.specs.Handing.{Hands, IsUnhanded}
+use Rattle.node_process.specs.Noting.{NotesAll}
+use Rattle.node_process.specs.Saying.{SaysAll, Stay}
+
+-- ---- a round of work
+
+-- a group is handed to a node, if there is one
+abbrev pub HandsSome : {P : Type 0} → Sending P → List Item → (was is : MemberParts) → (before after : LetterParts P) → List Output → Type 0
+HandsSome Sent [] was is before after outs = Stay was is before after × (outs ≡ [])
+HandsSome Sent items was is before after outs = Hands Sent items was is before after outs
+
+-- a group that was stored was answered: what came of it was noted, its wishes were answered, each client was told what its own items are
+-- answered, and who awaits an end waits for it from now on
+pub record Answers {P : Type 0} (Sent : Sending P) (now : Instant) (items : List Item) (outs : List Output) (old new : Desk)
+    (was is : MemberParts) (before after : LetterParts P) : Type 0 where
+  pub said : List (Vec ℕ Global)
+  pub says : SaysAll Sent old.terms items was is before after said
+  pub replies : List (Bor Answer)
+  pub replies_are : map (λ (reply : Bor Answer). reply.now) replies ≡ map (λ (out : Output). out.reply) outs
+  pub told : Slab ClientParts
+  pub tells : AreTold old.clients.seats told (answers_to items replies said)
+  pub until : Instant
+  pub begins : AwaitsBegin old.terms.who until items told new.clients.seats
+  pub branches : NotesAll now items outs old.notes.branches new.notes.branches
+
+-- a round of work: what waits came into a group, behind questions that were put to the node; it was handed to the node and stored; the
+-- wishes were answered; and who asked was told: clients' lines are items of the group, and each client is told what the node replied to its
+-- own requests, and what was said to its own wishes
+pub record Works {P : Type 0} (Received : Receiving P) (Sent : Sending P) (now : Instant) (old new : Desk) (was is : MemberParts)
+    (before after : LetterParts P) : Type 0 where
+  pub asked : MemberParts
+  pub asks : Asks old.terms.who was asked
+  pub ahead : List Item
+  pub got : LetterParts P
+  pub gathers : GathersAhead Received before got ahead
+  pub items : List Item
+  pub handed : MemberParts
+  pub sent : LetterParts P
+  pub outs : List Output
+  pub hands : HandsSome Sent items asked handed got sent outs
+  pub said : List (Vec ℕ Global)
+  pub says : SaysAll Sent old.terms items handed is sent after said
+  pub replies : List (Bor Answer)
+  pub replies_are : map (λ (reply : Bor Answer). reply.now) replies ≡ map (λ (out : Output). out.reply) outs
+  pub until : Instant
+  pub clients : WorksOn old.terms.who old.terms.lock old.terms ahead items replies said until old.clients.seats new.clients.seats
+  pub branches : NotesAll now items outs old.notes.branches new.notes.branches
+
+-- a round ended before a group was handed to the node: it was asked where transactions stand, at most
+pub record EndsBefore (old : Desk) (was is : MemberParts) : Type 0 where
+  pub asks : Asks old.terms.who was is
+
+-- a round ended with a group that wasn't stored: no client was told anything, and nothing was sent
+pub record EndsUnstored {P : Type 0} (Received : Receiving P) (old new : Desk) (was is : MemberParts) (before after : LetterParts P) : Type 0
+  where
+    pub asked : MemberParts
+    pub asks : Asks old.terms.who was asked
+    pub ahead : List Item
+    pub gathers : GathersAhead Received before after ahead
+    pub items : List Item
+    pub unhanded : IsUnhanded items asked is
+    pub hears : HearsAll old.terms old.clients.seats new.clients.seats ahead items
+
+-- a round ended with a group that was stored: who was told before it ended was told by what came of that
+pub record EndsStored {P : Type 0} (Sent : Sending P) (old : Desk) (was : MemberParts) : Type 0 where
+  pub asked : MemberParts
+  pub asks : Asks old.terms.who was asked
+  pub items : List Item
+  pub handed : MemberParts
+  pub got : LetterParts P
+  pub sent : LetterParts P
+  pub outs : List Output
+  pub hands : Hands Sent items asked handed got sent outs
+
+-- a round ended, and with it the process
+abbrev pub EndsWork : {P : Type 0} → Receiving P → Sending P → (old new : Desk) → (was is : MemberParts) → (before after : LetterParts P)
+    → Type 0
+EndsWork Received Sent old new was is before after =
+    EndsBefore old was is ⊎ (EndsUnstored Received old new was is before after ⊎ EndsStored Sent old was)
