@@ -92,12 +92,7 @@ impl Clients {
 
     /// A client comes in at a key at which nobody is, with the next number, and is told a greeting. Its key. Where memory runs out nobody
     /// comes in.
-    pub fn come(
-        &mut self,
-        stage: Stage,
-        greeting: &[u8],
-        now: Instant,
-    ) -> Result<usize, AllocError>
+    pub fn come(&mut self, stage: Stage, greeting: &[u8], now: Instant) -> Result<usize, AllocError>
         requires { is_awaiting stage ≡ false }
         ensures came { IfOk result (λ key. ComesIn key (self.old.count + 1) stage greeting.now now self.old.seats self.new.seats) }
         ensures count { OnOk result (self.new.count ≡ self.old.count + 1) }
