@@ -1,5 +1,8 @@
 //! Where clients come in, and their streams.
 
+ghost use Rattle.std.specs.Prelude.{◌≡◌, false, IfOk};
+ghost use Rattle.serving.specs.Clients.{is_awaiting};
+
 use crate::logging::Logger;
 use crate::stream::Stream;
 use log::{debug, warn};
@@ -117,7 +120,9 @@ impl Door {
     }
 
     /// What the next lines of a new client are, and how it is greeted: one that has a key to prove is challenged.
-    fn greet(&self, greeting: &mut Vec<u8>) -> io::Result<Stage> {
+    fn greet(&self, greeting: &mut Vec<u8>) -> io::Result<Stage>
+        ensures { IfOk result (λ stage. is_awaiting stage ≡ false) }
+    {
         if !self.is_locked {
             return Ok(Stage::Open);
         }
