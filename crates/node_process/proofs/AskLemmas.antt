@@ -1,5 +1,5 @@
 -- Questions that are put to a node, one after another: what a round of work, and the wishes of its clients, ask of it.
-use Rattle.std.proofs.Common.{◌≡◌, ◌++◌, ◌∷◌, [], List, refl, sym, subst}
+use Rattle.std.proofs.Common.{◌≡◌, ◌++◌, ◌∷◌, [], List, refl, subst}
 use Rattle.xid.specs.Transactions.{TxParts}
 use Rattle.protocol.specs.Nodes.{Asked}
 use Rattle.protocol.specs.declared.nodes.NodeId.{NodeId}
@@ -7,7 +7,7 @@ use Rattle.protocol.specs.declared.requests.Request.{Request}
 use Rattle.node_core.specs.declared.output.Output.{Output}
 use Rattle.port.specs.Members.{Acts, MemberParts, Takes}
 use Rattle.serving.specs.Happenings.{question}
-use Rattle.node_process.specs.Asking.{Asking, Asks, AsksEach}
+use Rattle.node_process.specs.Asking.{Asking, Asks, AsksEach, IsAnswered}
 
 -- nothing was asked
 pub asks_none : (who : NodeId) (node : MemberParts) → Asks who node node
@@ -19,6 +19,15 @@ pub asks_one : (who : NodeId) (tx : TxParts) (request : Request) (was is : Membe
 asks_one who tx request was is out same takes = record {
   asked = record { tx = tx; out = out } ∷ [];
   each = (is, subst (λ (r : Request). Takes (Acts (Asked r)) was is out) same takes, refl);
+}
+
+-- and answered
+pub answered_one : (who : NodeId) (tx : TxParts) (request : Request) (was is : MemberParts) (out : Output) → request ≡ question who tx
+    → Takes (Acts (Asked request)) was is out → IsAnswered who tx was is out.reply
+answered_one who tx request was is out same takes = record {
+  out = out;
+  takes = subst (λ (r : Request). Takes (Acts (Asked r)) was is out) same takes;
+  answer_is = refl;
 }
 
 each_both : (who : NodeId) (first second : List Asking) (was mid is : MemberParts) → AsksEach who first was mid → AsksEach who second mid is

@@ -18,7 +18,7 @@ use Rattle.serving.specs.declared.group.Work.{Work}
 use Rattle.serving.specs.declared.group.Work.TheVariants as works
 use Rattle.serving.specs.declared.stage.Stage.{Stage}
 use Rattle.serving.specs.declared.words.Wish.TheVariants as wishes
-use Rattle.serving.specs.Clients.{ClientParts}
+use Rattle.serving.specs.Clients.{told_so_far, AreUntold, ClientParts}
 use Rattle.serving.specs.Groups.{is_for}
 use Rattle.serving.specs.Happenings.{after_work, is_await, question, with_awaits, AwaitsBegin}
 use Rattle.node_process.specs.Awaiting.{once_waiting, AsksStanding, Hears, HearsAt, HearStandings, Waiting}
@@ -78,6 +78,17 @@ both_at who until key item rest (Some client) = refl
 none_at : (who : NodeId) (until : Instant) (key : ℕ) (seat : Option ClientParts) → seat ≡ option_map (with_awaits who until key []) seat
 none_at who until key None = refl
 none_at who until key (Some client) = refl
+
+untold_at : (origin : Origin) (request : Request) (until : Instant) (key : ℕ) (seat : Option ClientParts)
+    → option_map told_so_far (option_map (once_waiting origin request until key) seat) ≡ option_map told_so_far seat
+untold_at origin request until key None = refl
+untold_at origin request until key (Some client) = refl
+
+-- who waits from now on was told nothing
+pub untold_waiting : (origin : Origin) (request : Request) (until : Instant) (old new : Slab ClientParts)
+    → ((key : ℕ) → get new key ≡ option_map (once_waiting origin request until key) (get old key)) → AreUntold old new
+untold_waiting origin request until old new waits key =
+    ap (option_map told_so_far) (waits key) ∙ untold_at origin request until key (get old key)
 
 -- no item is left
 pub begins_all : (who : NodeId) (until : Instant) (items : List Item) (i : ℕ) (clients : Slab ClientParts) → length items ≤ i

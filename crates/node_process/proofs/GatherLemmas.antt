@@ -1,15 +1,43 @@
--- What comes into a group, one thing after another: requests, and the messages that a port gives.
-use Rattle.std.proofs.Common.{◌≡◌, ◌++◌, ◌∷◌, [], List, ℕ, Option, Some, None, Result, Ok, Err, map, refl, sym, ap, ◌∙◌, subst, append_assoc}
+-- What comes into a group, one thing after another: requests that are pending, and the messages that a port gives. What `take_pending` and
+-- `take_messages` say needs it.
+use Rattle.std.proofs.Common.{◌≡◌, ◌++◌, ◌∷◌, [], List, ℕ, Option, Some, None, Result, Ok, Err}
+use Rattle.std.proofs.Common.{length, drop, map, refl, sym, ap, ◌∙◌, subst, append_assoc, arith}
 use Rattle.std.proofs.lemmas.List.{append-nil, map-append}
 use Rattle.xid.specs.declared.refusals.Refusal.{Refusal}
+use Rattle.protocol.specs.declared.requests.Request.{Request}
 use Rattle.port.specs.Calls.{Receiving}
 use Rattle.letter_port.specs.LetterPorts.{LetterParts, LetterReceived}
 use Rattle.letter_port.specs.Runs.{Given, ReceivesAll, messages_of}
 use Rattle.serving.specs.declared.group.Item.{Item}
-use Rattle.node_process.specs.Gathering.{taken_item, TakesMessages}
+use Rattle.node_process.specs.Gathering.{asked_item, taken_item, Receives, TakesMessages, TakesPending}
+
+-- ---- requests that are pending
+
+-- none came
+pub pending_none : (pending : List Request) (items : List Item) → TakesPending pending pending items items
+pending_none pending items = record { taken = []; whole = refl; came = sym (append-nil items) }
+
+-- there was none
+pub pending_empty : (pending : List Request) → pending ≡ drop 1 pending → pending ≡ []
+pending_empty [] same = refl
+pending_empty (request ∷ rest) same = let longer : length (request ∷ rest) ≡ length rest = ap length same in absurd (omega arith)
+
+-- one more came
+pub pending_more : (pending left rest : List Request) (request : Request) (old items new : List Item) → TakesPending pending left old items
+    → left ≡ request ∷ rest → new ≡ items ++ asked_item request ∷ [] → TakesPending pending rest old new
+pending_more pending left rest request old items new takes next came = record {
+  taken = takes.taken ++ request ∷ [];
+  whole = takes.whole ∙ ap (λ (more : List Request). takes.taken ++ more) next ∙ sym (append_assoc takes.taken (request ∷ []) rest);
+  came = came ∙ ap (λ (some : List Item). some ++ asked_item request ∷ []) takes.came
+      ∙ append_assoc old (map asked_item takes.taken) (asked_item request ∷ [])
+      ∙ ap (λ (some : List Item). old ++ some) (sym (map-append asked_item takes.taken (request ∷ [])));
+}
+
+-- ---- messages
 
 -- nothing came
-pub takes_none : {P : Type 0} (Received : Receiving P) (port : LetterParts P) (items : List Item) → TakesMessages Received port port items items
+pub takes_none : {P : Type 0} (Received : Receiving P) (port : LetterParts P) (items : List Item)
+    → TakesMessages Received port port items items
 takes_none Received port items = record { given = []; receives = refl; taken = sym (append-nil items) }
 
 -- one receive gave no message
@@ -23,7 +51,8 @@ takes_nothing Received given before after items none received = record {
 
 -- one receive gave a message
 pub takes_one : {P : Type 0} (Received : Receiving P) (bytes : List ℕ) (before after : LetterParts P) (old new : List Item)
-    → LetterReceived Received before after (Ok (Some bytes)) → new ≡ old ++ taken_item bytes ∷ [] → TakesMessages Received before after old new
+    → LetterReceived Received before after (Ok (Some bytes)) → new ≡ old ++ taken_item bytes ∷ []
+    → TakesMessages Received before after old new
 takes_one Received bytes before after old new received taken = record {
   given = Ok (Some bytes) ∷ [];
   receives = (after, received, refl);
@@ -42,6 +71,23 @@ receives_both Received [] b before mid after same more =
     subst (λ (port : LetterParts _). ReceivesAll Received port after b) same more
 receives_both Received (given ∷ rest) b before mid after (next, received, each) more =
     (next, received, receives_both Received rest b next mid after each more)
+
+-- nothing was received
+pub receives_none : {P : Type 0} (Received : Receiving P) (port : LetterParts P) → Receives Received port port
+receives_none Received port = record { given = []; each = refl }
+
+-- one receive
+pub receives_one : {P : Type 0} (Received : Receiving P) (given : Given) (before after : LetterParts P)
+    → LetterReceived Received before after given → Receives Received before after
+receives_one Received given before after received = record { given = given ∷ []; each = (after, received, refl) }
+
+-- some receives, and then others
+pub receives_more : {P : Type 0} (Received : Receiving P) (before mid after : LetterParts P) → Receives Received before mid
+    → Receives Received mid after → Receives Received before after
+receives_more Received before mid after first second = record {
+  given = first.given ++ second.given;
+  each = receives_both Received first.given second.given before mid after first.each second.each;
+}
 
 -- some came, and then others
 pub takes_both : {P : Type 0} (Received : Receiving P) (before between after : LetterParts P) (old mid new : List Item)

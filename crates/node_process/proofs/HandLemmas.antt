@@ -1,7 +1,6 @@
 -- What a node is handed of a group is what the group's items give it.
-use Rattle.std.proofs.Common.{◌≡◌, ◌++◌, ◌∷◌, [], List, ℕ, length, map, take, Result, Ok, Err, refl, sym, ap, ◌∙◌, subst}
+use Rattle.std.proofs.Common.{◌≡◌, ◌++◌, ◌∷◌, [], List, ℕ, length, map, take, refl, sym, ap, ◌∙◌, subst}
 use Rattle.std.proofs.Math.Seq.{take-append_seam}
-use Rattle.std.specs.Result.{OnErr}
 use Rattle.std.proofs.lemmas.List.{length-map}
 use Rattle.protocol.specs.declared.nodes.NodeId.{NodeId}
 use Rattle.node_core.specs.declared.output.Input.{Input}
@@ -34,8 +33,3 @@ handed_count given items same = sym (length-map given given_of) ∙ ap length sa
 pub front_all : {X : Type 0} (front behind : List X) (len : ℕ) → length front ≡ len → take len (front ++ behind) ≡ front
 front_all {X} front behind len same =
     subst (λ (n : ℕ). take n (front ++ behind) ≡ front) same (take-append_seam front behind)
-
--- what holds holds where there is a refusal
-pub on_err_all : {A E : Type 0} (result : Result A E) (P : Type 0) → P → OnErr result P
-on_err_all (Ok value) P holds = tt
-on_err_all (Err error) P holds = holds

@@ -1,5 +1,6 @@
 pub mod AskLemmas
 pub mod AwaitLemmas
+pub mod DueLemmas
 pub mod GatherLemmas
 pub mod HandLemmas
 pub mod NoteLemmas

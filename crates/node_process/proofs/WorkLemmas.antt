@@ -1,14 +1,15 @@
 -- A round of work, put together: what came into the group, what the node made of it, and who was told. What `Process::work` says needs it.
-use Rattle.std.proofs.Common.{◌≡◌, ◌≤◌, ◌∷◌, ◌++◌, ◌&&◌, [], List, ℕ, Vec, Bool, true, length, map, filter, refl, sym, ap, ◌∙◌, subst, arith}
-use Rattle.std.proofs.lemmas.Bool.{and_parts}
+use Rattle.std.proofs.Common.{◌≡◌, ◌⊎◌, ◌≤◌, ◌∷◌, ◌++◌, ◌&&◌, [], List, ℕ, Vec, Bool, true, length, map, filter}
+use Rattle.std.proofs.Common.{refl, sym, ap, ◌∙◌, subst, arith}
 use Rattle.std.proofs.lemmas.List.{length-map}
 use Rattle.std.proofs.lemmas.List.Folds.{list_all-append}
 use Rattle.std.specs.Borrow.{Bor}
-use Rattle.std.specs.List.{list_all}
+use Rattle.std.specs.List.{flat_map, list_all}
 use Rattle.std.specs.declared.alloc.Global.{Global}
 use Rattle.std.specs.declared.time.Instant.{Instant}
 use Rattle.slab.specs.Slab.{Slab}
 use Rattle.protocol.specs.declared.answers.Answer.{Answer}
+use Rattle.protocol.specs.declared.requests.Request.{Request}
 use Rattle.node_core.specs.declared.output.Output.{Output}
 use Rattle.port.specs.Calls.{Receiving, Sending}
 use Rattle.port.specs.Members.{MemberParts}
@@ -17,7 +18,7 @@ use Rattle.letter_port.specs.Runs.{messages_of}
 use Rattle.serving.specs.declared.branches.Branches.{Branches}
 use Rattle.serving.specs.declared.group.Item.{Item}
 use Rattle.serving.specs.declared.terms.Terms.{Terms}
-use Rattle.serving.specs.Clients.{ClientParts}
+use Rattle.serving.specs.Clients.{AreUntold, ClientParts}
 use Rattle.serving.specs.Groups.{is_handed}
 use Rattle.serving.specs.Happenings.{AwaitsBegin, WorksOn}
 use Rattle.serving.specs.Served.{are_nobodys, is_nobody}
@@ -25,35 +26,41 @@ use Rattle.serving.specs.Taking.{HearsAll}
 use Rattle.serving.proofs.TellLemmas.{told_none}
 use Rattle.node_process.specs.declared.desk.Desk.{Desk}
 use Rattle.node_process.specs.Asking.{Asks}
-use Rattle.node_process.specs.Gathering.{are_asked, is_request, taken_item, AreGathered, GathersAhead}
+use Rattle.node_process.specs.Due.{asked_after}
+use Rattle.node_process.specs.Gathering.{asked_item, taken_item, AreGathered, GathersAhead}
 use Rattle.node_process.specs.Handing.{handed_of, Hands}
 use Rattle.node_process.specs.Noting.{NotesAll}
 use Rattle.node_process.specs.Saying.{SaysAll}
-use Rattle.node_process.specs.Working.{Answers, HandsSome, Works}
+use Rattle.node_process.specs.Working.{Answers, AnswersSome, HandsSome, Works}
 use Rattle.node_process.proofs.AwaitLemmas.{begins_all}
 use Rattle.node_process.proofs.SayLemmas.{handed_many, silent, spoken}
 
 -- ---- what is nobody's
 
-asked_nobodys : (items : List Item) → are_asked items ≡ true → are_nobodys items ≡ true
-asked_nobodys [] asked = refl
-asked_nobodys (item ∷ rest) asked =
-    let both = and_parts (is_nobody item.origin && is_request item.work) (are_asked rest) asked in
-    let one = and_parts (is_nobody item.origin) (is_request item.work) both.0 in
-    ap (λ (b : Bool). b && are_nobodys rest) one.0 ∙ asked_nobodys rest both.1
+asked_nobodys : (requests : List Request) → are_nobodys (map asked_item requests) ≡ true
+asked_nobodys [] = refl
+asked_nobodys (request ∷ rest) = asked_nobodys rest
 
 taken_nobodys : (messages : List (List ℕ)) → are_nobodys (map taken_item messages) ≡ true
 taken_nobodys [] = refl
 taken_nobodys (message ∷ rest) = taken_nobodys rest
 
-ahead_nobodys : {P : Type 0} (Received : Receiving P) (before after : LetterParts P) (ahead : List Item)
-    → GathersAhead Received before after ahead → are_nobodys ahead ≡ true
-ahead_nobodys Received before after ahead gathers =
+behind_nobodys : (old more new : List Item) → new ≡ old ++ more → are_nobodys old ≡ true → are_nobodys more ≡ true → are_nobodys new ≡ true
+behind_nobodys old more new came first second =
     let test : Item → Bool = λ item. is_nobody item.origin in
+    ap (list_all test) came ∙ list_all-append test old more ∙ ap (λ (b : Bool). b && list_all test more) first ∙ second
+
+ahead_nobodys : {P : Type 0} (Received : Receiving P) (now : Instant) (old new : Desk) (was is : MemberParts)
+    (before after : LetterParts P) (ahead : List Item) → GathersAhead Received now old new was is before after ahead
+    → are_nobodys ahead ≡ true
+ahead_nobodys Received now old new was is before after ahead gathers =
+    let taken : List Request = gathers.takes.taken in
+    let due : List Request = flat_map (asked_after old.terms.who) gathers.due.taken in
     let messages : List (List ℕ) = messages_of gathers.messages.given in
-    let came : List Item = map taken_item messages in
-    ap (list_all test) gathers.messages.taken ∙ list_all-append test gathers.asked came
-    ∙ ap (λ (b : Bool). b && list_all test came) (asked_nobodys gathers.asked gathers.are) ∙ taken_nobodys messages
+    behind_nobodys gathers.asked (map taken_item messages) ahead gathers.messages.taken
+    (behind_nobodys gathers.pending (map asked_item due) gathers.asked gathers.due.these.came
+    (behind_nobodys [] (map asked_item taken) gathers.pending gathers.takes.came refl (asked_nobodys taken)) (asked_nobodys due))
+    (taken_nobodys messages)
 
 -- ---- who is told
 
@@ -67,18 +74,19 @@ as_many items outs replies count are =
     omega arith
 
 -- clients' lines came into a group that was stored, and they were told
-pub works_on : {P : Type 0} (Received : Receiving P) (Sent : Sending P) (now : Instant) (old counted new : Desk) (heard : Slab ClientParts)
-    (handed is : MemberParts) (before got sent after : LetterParts P) (items : List Item) (outs : List Output)
-    (gathered : AreGathered Received old.terms old.clients.seats heard before got items) → length outs ≡ length (handed_of items)
-    → counted.terms ≡ old.terms → counted.clients.seats ≡ heard → (answers : Answers Sent now items outs counted new handed is sent after)
+pub works_on : {P : Type 0} (Received : Receiving P) (Sent : Sending P) (now : Instant) (old desk counted new : Desk)
+    (was asked handed is : MemberParts) (before got sent after : LetterParts P) (items : List Item) (outs : List Output)
+    (gathered : AreGathered Received now old desk was asked before got items) → length outs ≡ length (handed_of items)
+    → counted.terms ≡ old.terms → counted.clients.seats ≡ desk.clients.seats
+    → (answers : Answers Sent now items outs counted new handed is sent after)
     → WorksOn old.terms.who old.terms.lock old.terms gathered.ahead items answers.replies answers.said answers.until old.clients.seats
     new.clients.seats
-works_on Received Sent now old counted new heard handed is before got sent after items outs gathered count terms seats answers =
+works_on Received Sent now old desk counted new was asked handed is before got sent after items outs gathered count terms seats answers =
     let begins : AwaitsBegin old.terms.who answers.until items answers.told new.clients.seats =
     subst (λ (t : Terms). AwaitsBegin t.who answers.until items answers.told new.clients.seats) terms answers.begins in record {
       who_is = refl;
       lock_is = refl;
-      nobodys = ahead_nobodys Received before got gathered.ahead gathered.gathered;
+      nobodys = ahead_nobodys Received now old desk was asked before got gathered.ahead gathered.gathered;
       heard = counted.clients.seats;
       hears = subst (λ (s : Slab ClientParts). HearsAll old.terms old.clients.seats s gathered.ahead items) (sym seats) gathered.hears;
       replied = as_many items outs answers.replies count answers.replies_are;
@@ -97,19 +105,21 @@ hands_some Sent [] was is before after outs some hands = absurd (some refl)
 hands_some Sent (item ∷ items) was is before after outs some hands = hands
 
 -- a group was gathered, handed to the node and answered
-pub works_some : {P : Type 0} (Received : Receiving P) (Sent : Sending P) (now : Instant) (old counted new : Desk) (heard : Slab ClientParts)
+pub works_some : {P : Type 0} (Received : Receiving P) (Sent : Sending P) (now : Instant) (old desk counted new : Desk)
     (was asked handed is : MemberParts) (before got sent after : LetterParts P) (items : List Item) (outs : List Output)
-    → Asks old.terms.who was asked → AreGathered Received old.terms old.clients.seats heard before got items → (items ≡ [] → ⊥)
-    → Hands Sent items asked handed got sent outs → counted.terms ≡ old.terms → counted.clients.seats ≡ heard
-    → counted.notes.branches ≡ old.notes.branches → Answers Sent now items outs counted new handed is sent after
-    → Works Received Sent now old new was is before after
-works_some Received Sent now old counted new heard was asked handed is before got sent after items outs asks gathered some hands terms seats
-    branches answers = record {
+    → Asks old.terms.who was asked → AreGathered Received now old desk was asked before got items → (items ≡ [] → ⊥)
+    → Hands Sent items asked handed got sent outs → counted.terms ≡ old.terms → counted.clients.seats ≡ desk.clients.seats
+    → counted.notes.branches ≡ old.notes.branches → new.pending ≡ desk.pending
+    → Answers Sent now items outs counted new handed is sent after → Works Received Sent now old new was is before after
+works_some Received Sent now old desk counted new was asked handed is before got sent after items outs asks gathered some hands terms seats
+    branches left answers = record {
       asked = asked;
       asks = asks;
       ahead = gathered.ahead;
       got = got;
+      desk = desk;
       gathers = gathered.gathered;
+      left = left;
       items = items;
       handed = handed;
       sent = sent;
@@ -120,22 +130,24 @@ works_some Received Sent now old counted new heard was asked handed is before go
       replies = answers.replies;
       replies_are = answers.replies_are;
       until = answers.until;
-      clients = works_on Received Sent now old counted new heard handed is before got sent after items outs gathered hands.count terms seats
-          answers;
+      clients = works_on Received Sent now old desk counted new was asked handed is before got sent after items outs gathered hands.count
+          terms seats answers;
       branches = subst (λ (known : Branches). NotesAll now items outs known new.notes.branches) branches answers.branches;
     }
 
 -- nothing came into the group
 pub works_none : {P : Type 0} (Received : Receiving P) (Sent : Sending P) (now : Instant) (old new : Desk)
     (was asked : MemberParts) (before got : LetterParts P) (items : List Item)
-    → Asks old.terms.who was asked → AreGathered Received old.terms old.clients.seats new.clients.seats before got items → items ≡ []
+    → Asks old.terms.who was asked → AreGathered Received now old new was asked before got items → items ≡ []
     → new.notes.branches ≡ old.notes.branches → Works Received Sent now old new was asked before got
 works_none Received Sent now old new was asked before got items asks gathered none branches = record {
   asked = asked;
   asks = asks;
   ahead = gathered.ahead;
   got = got;
+  desk = new;
   gathers = gathered.gathered;
+  left = refl;
   items = [];
   handed = asked;
   sent = got;
@@ -149,7 +161,7 @@ works_none Received Sent now old new was asked before got items asks gathered no
   clients = record {
     who_is = refl;
     lock_is = refl;
-    nobodys = ahead_nobodys Received before got gathered.ahead gathered.gathered;
+    nobodys = ahead_nobodys Received now old new was asked before got gathered.ahead gathered.gathered;
     heard = new.clients.seats;
     hears = subst (λ (all : List Item). HearsAll old.terms old.clients.seats new.clients.seats gathered.ahead all) none gathered.hears;
     replied = omega arith;
@@ -161,3 +173,13 @@ works_none Received Sent now old new was asked before got items asks gathered no
   };
   branches = branches;
 }
+
+-- a round whose group was stored ended while that was answered
+pub ends_in : {P : Type 0} (Sent : Sending P) (given items : List Item) (outs : List Output) (counted terms : Terms)
+    (seats heard new : Slab ClientParts) (handed is : MemberParts) (sent after : LetterParts P) → given ≡ items → counted ≡ terms
+    → seats ≡ heard → AreUntold seats new ⊎ AnswersSome Sent counted given outs seats new handed is sent after
+    → AreUntold heard new ⊎ AnswersSome Sent terms items outs heard new handed is sent after
+ends_in Sent given items outs counted terms seats heard new handed is sent after items_are terms_are seats_are ends =
+    subst (λ (all : List Item). AreUntold heard new ⊎ AnswersSome Sent terms all outs heard new handed is sent after) items_are
+    (subst (λ (t : Terms). AreUntold heard new ⊎ AnswersSome Sent t given outs heard new handed is sent after) terms_are
+    (subst (λ (s : Slab ClientParts). AreUntold s new ⊎ AnswersSome Sent counted given outs s new handed is sent after) seats_are ends))

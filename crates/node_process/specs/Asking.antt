@@ -2,6 +2,7 @@
 use Rattle.std.specs.Prelude.{◌≡◌, List, [], ◌∷◌}
 use Rattle.xid.specs.Transactions.{TxParts}
 use Rattle.protocol.specs.Nodes.{Asked}
+use Rattle.protocol.specs.declared.answers.Answer.{Answer}
 use Rattle.protocol.specs.declared.nodes.NodeId.{NodeId}
 use Rattle.node_core.specs.declared.output.Output.{Output}
 use Rattle.port.specs.Members.{Acts, MemberParts, Takes}
@@ -22,3 +23,9 @@ AsksEach who (one ∷ more) was is =
 pub record Asks (who : NodeId) (was is : MemberParts) : Type 0 where
   pub asked : List Asking
   pub each : AsksEach who asked was is
+
+-- a node was asked where a transaction stands, and gave this answer
+pub record IsAnswered (who : NodeId) (tx : TxParts) (was is : MemberParts) (answer : Answer) : Type 0 where
+  pub out : Output
+  pub takes : Takes (Acts (Asked (question who tx))) was is out
+  pub answer_is : answer ≡ out.reply

@@ -1,5 +1,6 @@
 pub mod Asking
 pub mod Awaiting
+pub mod Due
 pub mod Gathering
 pub mod Going
 pub mod Handing

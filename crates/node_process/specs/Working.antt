@@ -9,14 +9,14 @@ use Rattle.port.specs.Calls.{Receiving, Sending}
 use Rattle.port.specs.Members.{MemberParts}
 use Rattle.letter_port.specs.LetterPorts.{LetterParts}
 use Rattle.serving.specs.declared.group.Item.{Item}
+use Rattle.serving.specs.declared.terms.Terms.{Terms}
 use Rattle.slab.specs.Slab.{Slab}
-use Rattle.serving.specs.Clients.{ClientParts}
-use Rattle.serving.specs.Groups.{answers_to, AreTold}
+use Rattle.serving.specs.Clients.{AreUntold, ClientParts}
+use Rattle.serving.specs.Groups.{answers_to, AreTold, AreToldSome}
 use Rattle.serving.specs.Happenings.{AwaitsBegin, WorksOn}
-use Rattle.serving.specs.Taking.{HearsAll}
 use Rattle.node_process.specs.declared.desk.Desk.{Desk}
 use Rattle.node_process.specs.Asking.{Asks}
-use Rattle.node_process.specs.Gathering.{GathersAhead}
+use Rattle.node_process.specs.Gathering.{AreGathered, GathersAhead, Receives}
 use Rattle.node_process.specs.Handing.{Hands, IsUnhanded}
 use Rattle.node_process.specs.Noting.{NotesAll}
 use Rattle.node_process.specs.Saying.{SaysAll, Stay}
@@ -51,7 +51,9 @@ pub record Works {P : Type 0} (Received : Receiving P) (Sent : Sending P) (now :
   pub asks : Asks old.terms.who was asked
   pub ahead : List Item
   pub got : LetterParts P
-  pub gathers : GathersAhead Received before got ahead
+  pub desk : Desk
+  pub gathers : GathersAhead Received now old desk was asked before got ahead
+  pub left : new.pending ≡ desk.pending
   pub items : List Item
   pub handed : MemberParts
   pub sent : LetterParts P
@@ -65,34 +67,58 @@ pub record Works {P : Type 0} (Received : Receiving P) (Sent : Sending P) (now :
   pub clients : WorksOn old.terms.who old.terms.lock old.terms ahead items replies said until old.clients.seats new.clients.seats
   pub branches : NotesAll now items outs old.notes.branches new.notes.branches
 
--- a round ended before a group was handed to the node: it was asked where transactions stand, at most
-pub record EndsBefore (old : Desk) (was is : MemberParts) : Type 0 where
-  pub asks : Asks old.terms.who was is
+-- ---- a round that ended, and with it the process
 
--- a round ended with a group that wasn't stored: no client was told anything, and nothing was sent
-pub record EndsUnstored {P : Type 0} (Received : Receiving P) (old new : Desk) (was is : MemberParts) (before after : LetterParts P) : Type 0
+-- a round ended before a group was handed to the node: it was asked where transactions stand, at most; the port gave what it gave, and
+-- nothing was sent; and nobody was told anything
+pub record EndsBefore {P : Type 0} (Received : Receiving P) (old new : Desk) (was is : MemberParts) (before after : LetterParts P) : Type 0
   where
-    pub asked : MemberParts
-    pub asks : Asks old.terms.who was asked
-    pub ahead : List Item
-    pub gathers : GathersAhead Received before after ahead
-    pub items : List Item
-    pub unhanded : IsUnhanded items asked is
-    pub hears : HearsAll old.terms old.clients.seats new.clients.seats ahead items
+    pub asks : Asks old.terms.who was is
+    pub receives : Receives Received before after
+    pub untold : AreUntold old.clients.seats new.clients.seats
 
--- a round ended with a group that was stored: who was told before it ended was told by what came of that
-pub record EndsStored {P : Type 0} (Sent : Sending P) (old : Desk) (was : MemberParts) : Type 0 where
+-- a round ended with a group that wasn't stored: it was gathered as in a round that ends well, nothing of it was sent, and nobody was told
+-- anything
+pub record EndsUnstored {P : Type 0} (Received : Receiving P) (now : Instant) (old new : Desk) (was is : MemberParts)
+    (before after : LetterParts P) : Type 0 where
   pub asked : MemberParts
   pub asks : Asks old.terms.who was asked
   pub items : List Item
-  pub handed : MemberParts
+  pub gathered : AreGathered Received now old new was asked before after items
+  pub unhanded : IsUnhanded items asked is
+  pub untold : AreUntold old.clients.seats new.clients.seats
+
+-- of a group that was stored, clients were told the first answers, and none behind them: what the node replied, and what was said to wishes
+pub record AnswersSome {P : Type 0} (Sent : Sending P) (terms : Terms) (items : List Item) (outs : List Output) (old new : Slab ClientParts)
+    (was is : MemberParts) (before after : LetterParts P) : Type 0 where
+  pub said : List (Vec ℕ Global)
+  pub says : SaysAll Sent terms items was is before after said
+  pub replies : List (Bor Answer)
+  pub replies_are : map (λ (reply : Bor Answer). reply.now) replies ≡ map (λ (out : Output). out.reply) outs
+  pub told : Slab ClientParts
+  pub tells : AreToldSome old told (answers_to items replies said)
+  pub no_more : AreUntold told new
+
+-- a round ended with a group that was stored: it was gathered, handed to the node and stored as in a round that ends well; and clients were
+-- told at most the first of what its items are answered. What had become of the node and the port where a wish couldn't be answered isn't said
+pub record EndsStored {P : Type 0} (Received : Receiving P) (Sent : Sending P) (now : Instant) (old new : Desk) (was is : MemberParts)
+    (before after : LetterParts P) : Type 0 where
+  pub asked : MemberParts
+  pub asks : Asks old.terms.who was asked
+  pub desk : Desk
   pub got : LetterParts P
+  pub items : List Item
+  pub gathered : AreGathered Received now old desk was asked before got items
+  pub handed : MemberParts
   pub sent : LetterParts P
   pub outs : List Output
   pub hands : Hands Sent items asked handed got sent outs
+  pub told : AreUntold desk.clients.seats new.clients.seats
+      ⊎ AnswersSome Sent old.terms items outs desk.clients.seats new.clients.seats handed is sent after
 
 -- a round ended, and with it the process
-abbrev pub EndsWork : {P : Type 0} → Receiving P → Sending P → (old new : Desk) → (was is : MemberParts) → (before after : LetterParts P)
-    → Type 0
-EndsWork Received Sent old new was is before after =
-    EndsBefore old was is ⊎ (EndsUnstored Received old new was is before after ⊎ EndsStored Sent old was)
+abbrev pub EndsWork : {P : Type 0} → Receiving P → Sending P → Instant → (old new : Desk) → (was is : MemberParts)
+    → (before after : LetterParts P) → Type 0
+EndsWork Received Sent now old new was is before after =
+    EndsBefore Received old new was is before after
+    ⊎ (EndsUnstored Received now old new was is before after ⊎ EndsStored Received Sent now old new was is before after)

@@ -4,6 +4,7 @@ ghost use Rattle.std.specs.Prelude.{◌≡◌, ℕ, ◌∷◌, [], List, false, 
 ghost use Rattle.std.specs.Prelude.{◌==◌};
 ghost use Rattle.std.specs.Option.{option_map, option_map_or};
 ghost use Rattle.slab.specs.Slab.{get};
+ghost use Rattle.serving.specs.Clients.{AreUntold};
 ghost use Rattle.serving.specs.Happenings.{AwaitsBegin, Changes, is_await};
 ghost use Rattle.serving.specs.declared.stage.Stage.TheVariants as stages;
 ghost use Rattle.serving.specs.declared.group.Work.TheVariants as works;
@@ -79,7 +80,8 @@ fn begin_one(
     item: &Item,
     until: Instant,
 ) -> Result<(), Refusal>
-    ensures { OnOk result (AwaitsBegin who until (item.now ∷ []) clients.old.seats clients.new.seats) }
+    ensures ok { OnOk result (AwaitsBegin who until (item.now ∷ []) clients.old.seats clients.new.seats) }
+    ensures untold { AreUntold clients.old.seats clients.new.seats }
 {
     let Some(tx) = awaited_by(&item.work) else {
         return Ok(());
@@ -89,7 +91,8 @@ fn begin_one(
     Ok(())
 }
 
-/// The clients of a group's items that await an end wait for it from now on, until then at most. Refused: memory ran out; some may wait then.
+/// The clients of a group's items that await an end wait for it from now on, until then at most. Nobody is told anything. Refused: memory
+/// ran out; some may wait then.
 pub(crate) fn begin_awaits(
     alloc: Global,
     who: NodeId,
@@ -97,7 +100,8 @@ pub(crate) fn begin_awaits(
     items: &[Item],
     until: Instant,
 ) -> Result<(), Refusal>
-    ensures { OnOk result (AwaitsBegin who until items.now clients.old.seats clients.new.seats) }
+    ensures ok { OnOk result (AwaitsBegin who until items.now clients.old.seats clients.new.seats) }
+    ensures untold { AreUntold clients.old.seats clients.new.seats }
 {
     for item in items {
         begin_one(alloc, who, clients, item, until)?;

@@ -100,7 +100,7 @@ impl Desk {
     ) -> Result<Desk, AllocError> {
         Ok(Desk {
             alloc,
-            notes: Notes::new(alloc, hash_key, terms.who, schedule)?,
+            notes: Notes::new(alloc, hash_key, terms.who, schedule, now)?,
             terms,
             clients: Clients::new(alloc),
             schedule,

@@ -1,14 +1,14 @@
 //! What waits comes into a group: requests that nobody is answered for, what is due, messages, and then the lines of clients.
 
-ghost use Rattle.std.specs.Prelude.{◌≡◌, ◌≤◌, ◌++◌, ◌∷◌, [], List, length, true, OnOk, IfOk, IfErr};
-ghost use Rattle.serving.specs.Served.{are_nobodys};
-ghost use Rattle.serving.specs.Taking.{HearsAll};
-ghost use Rattle.serving.specs.declared.group.Item.{Item as ItemParts};
+ghost use Rattle.std.specs.Prelude.{◌≡◌, ◌++◌, ◌∷◌, [], true, false, OnOk, IfOk};
+ghost use Rattle.serving.specs.Clients.{AreUntold};
 ghost use Rattle.node_process.specs.Asking.{Asks};
-ghost use Rattle.node_process.specs.Gathering.{AreGathered, GathersAhead, TakesMessages, are_asked, taken_item};
+ghost use Rattle.node_process.specs.Due.{question_due};
+ghost use Rattle.node_process.specs.Gathering.{AreAllTaken, AreGathered, GathersAhead, Receives, TakesDue, TakesMessages};
+ghost use Rattle.node_process.specs.Gathering.{TakesNext, TakesNone, TakesPending, asked_item, taken_item};
 
 use crate::desk::Desk;
-use crate::standing::{is_open, standing};
+use crate::standing::is_open_at;
 use letter_port::LetterPort;
 use port::{MAX_TAKEN, Member, Port};
 use protocol::{Boxed, NodeId, Request};
@@ -25,7 +25,7 @@ const MOST_MESSAGES: usize = 192;
 
 /// A request that nobody is answered for comes into a group.
 fn push_asked(items: &mut Vec<Item>, request: Request) -> Result<(), AllocError>
-    ensures { are_asked items.old.items ≡ true → OnOk result (are_asked items.new.items ≡ true) }
+    ensures { OnOk result (items.new.items ≡ items.old.items ++ asked_item request ∷ []) }
 {
     items.push(Item {
         origin: Origin::Node,
@@ -36,7 +36,8 @@ fn push_asked(items: &mut Vec<Item>, request: Request) -> Result<(), AllocError>
 
 /// The requests that nobody is answered for come into a group, as many as there is room for.
 fn take_pending(pending: &mut VecDeque<Request>, items: &mut Vec<Item>) -> Result<(), AllocError>
-    ensures { are_asked items.old.items ≡ true → OnOk result (are_asked items.new.items ≡ true) }
+    ensures takes { OnOk result (TakesPending pending.old.items pending.new.items items.old.items items.new.items) }
+    ensures all { OnOk result (AreAllTaken pending.new.items items.new.items) }
 {
     for _ in items.len()..MOST_ITEMS {
         let Some(request) = pending.pop_front() else {
@@ -53,7 +54,9 @@ fn question_due(
     who: NodeId,
     schedule: Schedule,
     due: &Due,
-) -> Result<Request, Refusal> {
+) -> Result<Request, Refusal>
+    ensures { IfOk result (λ request. request ≡ question_due who due.now.turn due.now.tx) }
+{
     let tx = Boxed::new(alloc, due.tx)?;
     match who {
         NodeId::L(_) if schedule.turn(due.turn) == Turn::Again => Ok(Request::Commit { tx }),
@@ -61,7 +64,7 @@ fn question_due(
     }
 }
 
-/// The next transaction that is due is asked after, if it isn't final. Whether one was due.
+/// The next transaction that is due is asked after, if it is open at the node. Whether one was due.
 fn take_next<R: Record>(
     alloc: Global,
     who: NodeId,
@@ -72,19 +75,22 @@ fn take_next<R: Record>(
     now: Instant,
 ) -> Result<bool, Refusal>
     ensures asks { Asks who node.old node.new }
-    ensures asked { are_asked items.old.items ≡ true → OnOk result (are_asked items.new.items ≡ true) }
+    ensures next { IfOk result (λ was_due. was_due ≡ true
+        → TakesNext who now node.old node.new watches.old watches.new items.old.items items.new.items) }
+    ensures none { IfOk result (λ was_due. was_due ≡ false
+        → TakesNone now node.old node.new watches.old watches.new items.old.items items.new.items) }
 {
     let Some(due) = watches.next_due(now) else {
         return Ok(false);
     };
-    match standing(alloc, who, node, &due.tx) {
-        Ok(standing) if is_open(standing) => {
-            push_asked(items, question_due(alloc, who, schedule, &due)?)?;
-            watches.again(&due, now)?;
-        }
-        Err(Refusal::NoMemory) => return Err(Refusal::NoMemory),
-        _ => watches.settle(&due.tx),
+    let is_open = is_open_at(alloc, who, node, &due.tx)?;
+    if is_open {
+        let request = question_due(alloc, who, schedule, &due)?;
+        push_asked(items, request)?;
+        watches.again(&due, now)?;
+        return Ok(true);
     }
+    watches.settle(&due.tx);
     Ok(true)
 }
 
@@ -99,7 +105,7 @@ fn take_due<R: Record>(
     now: Instant,
 ) -> Result<(), Refusal>
     ensures asks { Asks who node.old node.new }
-    ensures asked { are_asked items.old.items ≡ true → OnOk result (are_asked items.new.items ≡ true) }
+    ensures due { OnOk result (TakesDue who now node.old node.new watches.old watches.new items.old.items items.new.items) }
 {
     for _ in items.len()..MOST_ITEMS {
         if !take_next(alloc, who, schedule, node, watches, items, now)? {
@@ -127,7 +133,8 @@ fn take_from<P: Port>(
     port: &mut LetterPort<P>,
     items: &mut Vec<Item>,
 ) -> Result<bool, Refusal>
-    ensures { OnOk result (TakesMessages P.received port.old port.new items.old.items items.new.items) }
+    ensures ok { OnOk result (TakesMessages P.received port.old port.new items.old.items items.new.items) }
+    ensures receives { Receives P.received port.old port.new }
 {
     let mut buffer = [0; MAX_TAKEN];
     match port.recv(&mut buffer) {
@@ -145,7 +152,8 @@ fn take_messages<P: Port>(
     port: &mut LetterPort<P>,
     items: &mut Vec<Item>,
 ) -> Result<bool, Refusal>
-    ensures { OnOk result (TakesMessages P.received port.old port.new items.old.items items.new.items) }
+    ensures ok { OnOk result (TakesMessages P.received port.old port.new items.old.items items.new.items) }
+    ensures receives { Receives P.received port.old port.new }
 {
     if !may_wait {
         return Ok(false);
@@ -169,12 +177,14 @@ fn gather_ahead<R: Record, P: Port>(
     now: Instant,
 ) -> Result<Vec<Item>, Refusal>
     ensures asks { Asks desk.old.terms.who node.old node.new }
-    ensures ahead { IfOk result (λ items. GathersAhead P.received port.old port.new items.items) }
+    ensures ahead { IfOk result (λ items. GathersAhead P.received now desk.old desk.new node.old node.new port.old port.new items.items) }
     ensures same { OnOk result (desk.new ≡ record desk.old {
       notes = record desk.old.notes { watches = desk.new.notes.watches };
       pending = desk.new.pending;
       has_datagrams = desk.new.has_datagrams;
     }) }
+    ensures receives { Receives P.received port.old port.new }
+    ensures clients { desk.new.clients ≡ desk.old.clients }
 {
     let (alloc, who, schedule) = (desk.alloc, desk.terms.who, desk.schedule);
     let mut items = Vec::new(alloc);
@@ -192,7 +202,8 @@ fn gather_ahead<R: Record, P: Port>(
     Ok(items)
 }
 
-/// What waits comes into a group: what is nobody's, and behind it the lines of clients.
+/// What waits comes into a group: what is nobody's, and behind it the lines of clients. Nobody is told anything. Refused: memory ran out,
+/// and what waited may be lost.
 pub(crate) fn gather<R: Record, P: Port>(
     node: &mut Member<R>,
     port: &mut LetterPort<P>,
@@ -200,10 +211,11 @@ pub(crate) fn gather<R: Record, P: Port>(
     now: Instant,
 ) -> Result<Vec<Item>, Refusal>
     ensures asks { Asks desk.old.terms.who node.old node.new }
-    ensures gathered { IfOk result (λ items. AreGathered P.received desk.old.terms desk.old.clients.seats desk.new.clients.seats
-        port.old port.new items.items) }
+    ensures gathered { IfOk result (λ items. AreGathered P.received now desk.old desk.new node.old node.new port.old port.new items.items) }
     ensures terms { OnOk result (desk.new.terms ≡ desk.old.terms) }
     ensures branches { OnOk result (desk.new.notes.branches ≡ desk.old.notes.branches) }
+    ensures receives { Receives P.received port.old port.new }
+    ensures untold { AreUntold desk.old.clients.seats desk.new.clients.seats }
 {
     let mut items = gather_ahead(node, port, desk, now)?;
     desk.clients

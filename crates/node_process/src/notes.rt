@@ -53,11 +53,12 @@ impl Notes {
         hash_key: HashKey,
         who: NodeId,
         schedule: Schedule,
+        now: Instant,
     ) -> Result<Notes, AllocError> {
         Ok(Notes {
             who,
             watches: Watches::with_hash_key(alloc, hash_key, schedule)?,
-            branches: Branches::with_hash_key(alloc, hash_key),
+            branches: Branches::with_hash_key(alloc, hash_key, now),
             ended: IndexMap::with_hasher(alloc, hash_key.words()),
             has_clients: false,
             latest: 0,

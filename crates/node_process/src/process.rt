@@ -1,9 +1,10 @@
 //! The process of a node.
 
-ghost use Rattle.std.specs.Prelude.{◌≡◌, List, [], true, false, OnOk, OnErr};
+ghost use Rattle.std.specs.Prelude.{◌≡◌, ◌⊎◌, List, [], true, false, OnOk, OnErr};
+ghost use Rattle.serving.specs.Clients.{AreUntold};
 ghost use Rattle.serving.specs.Shortenings.{IsDue, IsMarked};
 ghost use Rattle.node_process.specs.Awaiting.{HearStandings, Waiting};
-ghost use Rattle.node_process.specs.Working.{Answers, EndsWork, Works};
+ghost use Rattle.node_process.specs.Working.{Answers, AnswersSome, EndsWork, Works};
 
 use crate::awaiting::{answer_awaited, awaited_until, begin_awaits};
 use crate::desk::Desk;
@@ -71,15 +72,20 @@ impl<R: Record, P: Port> Process<R, P> {
         Ok(())
     }
 
-    /// What came of the items of a group is noted, and each client is told what its own are answered, in order.
+    /// What came of the items of a group is noted, and each client is told what its own are answered, in order. Refused: memory ran out or
+    /// the record failed, and clients were told the first of these answers at most.
     fn answer_all<G: Gauges<P>>(
         &mut self,
         gauges: &G,
         items: &[Item],
         now: Instant,
     ) -> Result<(), Refusal>
-        ensures { OnOk result (Answers P.sent now items.now self.old.outs.items self.old.desk self.new.desk self.old.node self.new.node
-            self.old.port self.new.port) }
+        ensures answers { OnOk result (Answers P.sent now items.now self.old.outs.items self.old.desk self.new.desk self.old.node
+            self.new.node self.old.port self.new.port) }
+        ensures pending { self.new.desk.pending ≡ self.old.desk.pending }
+        ensures ends { OnErr result (AreUntold self.old.desk.clients.seats self.new.desk.clients.seats
+            ⊎ AnswersSome P.sent self.old.desk.terms items.now self.old.outs.items self.old.desk.clients.seats
+            self.new.desk.clients.seats self.old.node self.new.node self.old.port self.new.port) }
     {
         self.desk.notes.has_clients = !self.desk.clients.seats.is_empty();
         self.desk.notes.note_all(items, &self.outs, now)?;
@@ -104,11 +110,12 @@ impl<R: Record, P: Port> Process<R, P> {
         Ok(())
     }
 
-    /// What waits is done, in one group: requests that nobody is answered for, what is due, messages, and clients' lines.
+    /// What waits is done, in one group: requests that nobody is answered for, what is due, messages, and clients' lines. Refused: memory ran
+    /// out, the group wasn't stored, or what came of it could be answered in part alone. Nobody was told anything that wasn't stored.
     pub fn work<G: Gauges<P>>(&mut self, gauges: &G, now: Instant) -> Result<(), Refusal>
         ensures works { OnOk result (Works P.received P.sent now self.old.desk self.new.desk self.old.node self.new.node
             self.old.port self.new.port) }
-        ensures ends { OnErr result (EndsWork P.received P.sent self.old.desk self.new.desk self.old.node self.new.node
+        ensures ends { OnErr result (EndsWork P.received P.sent now self.old.desk self.new.desk self.old.node self.new.node
             self.old.port self.new.port) }
     {
         let items = gather(&mut self.node, &mut self.port, &mut self.desk, now)?;

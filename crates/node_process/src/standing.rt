@@ -2,7 +2,8 @@
 
 ghost use Rattle.std.specs.Prelude.{◌≡◌, IfOk};
 ghost use Rattle.serving.specs.Happenings.{question};
-ghost use Rattle.node_process.specs.Asking.{Asks};
+ghost use Rattle.node_process.specs.Asking.{Asks, IsAnswered};
+ghost use Rattle.node_process.specs.Due.{IsOpenAt, says_open};
 
 use node_core::Input;
 use port::Member;
@@ -22,7 +23,22 @@ pub(crate) fn question_of(alloc: Global, who: NodeId, tx: &Tx) -> Result<Request
     })
 }
 
-/// Where a transaction stands with a leader or a resource manager. A transaction is read, and nothing stored or sent.
+/// What a leader or a resource manager answers where a transaction stands. A transaction is read, and nothing stored or sent. Refused:
+/// memory ran out, and it wasn't asked.
+fn answer_of<R: Record>(
+    alloc: Global,
+    who: NodeId,
+    node: &mut Member<R>,
+    tx: &Tx,
+) -> Result<Answer, Refusal>
+    ensures asks { Asks who node.old node.new }
+    ensures answered { IfOk result (IsAnswered who tx.now node.old node.new) }
+{
+    let request = question_of(alloc, who, tx)?;
+    Ok(node.take(Input::Asked(&request)).reply)
+}
+
+/// Where a transaction stands with a leader or a resource manager.
 pub(crate) fn standing<R: Record>(
     alloc: Global,
     who: NodeId,
@@ -31,15 +47,37 @@ pub(crate) fn standing<R: Record>(
 ) -> Result<Standing, Refusal>
     ensures { Asks who node.old node.new }
 {
-    let request = question_of(alloc, who, tx)?;
-    match node.take(Input::Asked(&request)).reply {
+    let answer = answer_of(alloc, who, node, tx)?;
+    match answer {
         Answer::Stands(standing) => Ok(standing),
         Answer::Refused(refusal) => Err(refusal),
         _ => Err(Refusal::NoSuch),
     }
 }
 
-/// Whether a transaction that stands so is to be asked after.
-pub(crate) fn is_open(standing: Standing) -> bool {
-    matches!(standing, Standing::Undecided | Standing::Prepared)
+/// Whether an answer says that a transaction is open.
+fn says_open(answer: &Answer) -> bool
+    ensures { result ≡ says_open answer.now }
+{
+    matches!(
+        answer,
+        Answer::Stands(Standing::Undecided | Standing::Prepared)
+    )
+}
+
+/// Whether a transaction is open with a leader or a resource manager, and so to be asked after. Refused: memory ran out.
+pub(crate) fn is_open_at<R: Record>(
+    alloc: Global,
+    who: NodeId,
+    node: &mut Member<R>,
+    tx: &Tx,
+) -> Result<bool, Refusal>
+    ensures asks { Asks who node.old node.new }
+    ensures says { IfOk result (IsOpenAt who tx.now node.old node.new) }
+{
+    let answer = answer_of(alloc, who, node, tx)?;
+    if let Answer::Refused(Refusal::NoMemory) = answer {
+        return Err(Refusal::NoMemory);
+    }
+    Ok(says_open(&answer))
 }

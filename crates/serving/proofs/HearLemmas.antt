@@ -15,6 +15,8 @@ no_lines terms key client = record {
     last = record { front = []; last = []; whole = refl; free = refl; one = omega arith };
   };
   same = refl;
+  kept = λ broken. broken;
+  broken = λ broken. inl broken;
 }
 
 no_other : (client new : ClientParts) (taken : List Item) → may_ask client ≡ true → may_ask client ≡ false → (new ≡ client) × (taken ≡ [])

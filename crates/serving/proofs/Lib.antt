@@ -1,4 +1,5 @@
 pub mod BranchLemmas
+pub mod ByNumberLemmas
 pub mod FloorLemmas
 pub mod HearLemmas
 pub mod LifeGroups
@@ -11,6 +12,7 @@ pub mod RangeLemmas
 pub mod ServedLemmas
 pub mod TakeLemmas
 pub mod TellLemmas
+pub mod UntoldLemmas
 pub mod WaitLemmas
 pub mod WatchLemmas
 pub mod WishLemmas

@@ -194,7 +194,7 @@ given_idle client rest false idle = idle
 proof_idle : (terms : Terms) (client mid : ClientParts) → is_awaiting client.stage ≡ false → TakesProof terms client mid
     → is_awaiting mid.stage ≡ false
 proof_idle terms client mid idle (inl same) = ap (λ (c : ClientParts). is_awaiting c.stage) same ∙ idle
-proof_idle terms client mid idle (inr (inl broken)) = ap (λ (c : ClientParts). is_awaiting c.stage) broken ∙ idle
+proof_idle terms client mid idle (inr (inl long)) = ap (λ (c : ClientParts). is_awaiting c.stage) long.after ∙ idle
 proof_idle terms client mid idle (inr (inr gives)) =
     ap (λ (c : ClientParts). is_awaiting c.stage) gives.after ∙ given_idle client gives.rest gives.is_proved idle
 
@@ -258,8 +258,8 @@ module _ (who : NodeId) (lock : Option Lock) (key number : ℕ) (came : Stage) (
   proof_taken : (terms : Terms) (client mid : ClientParts) (served : List Served) → terms.lock ≡ lock → client.is_broken ≡ false
       → TakesProof terms client mid → Life served client → Life served mid
   proof_taken terms client mid served lock_is whole (inl same) life = subst (Life served) (sym same) life
-  proof_taken terms client mid served lock_is whole (inr (inl broken)) life =
-      subst (Life served) (sym broken) (life_breaks who lock key number came greeting (record past { served = served }) client life)
+  proof_taken terms client mid served lock_is whole (inr (inl long)) life =
+      subst (Life served) (sym long.after) (life_breaks who lock key number came greeting (record past { served = served }) client life)
   proof_taken terms client mid served lock_is whole (inr (inr gives)) life = proof_given terms client mid served lock_is whole gives life
 
   -- ---- its lines

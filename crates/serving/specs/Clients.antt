@@ -1,8 +1,9 @@
 -- A client of a node: the bytes of it that came and weren't taken, those that it is to be sent, and what its next lines are.
 use Rattle.std.specs.Prelude.{◌≡◌, ◌⊎◌, ◌≤◌, ◌*◌, ℕ, ◌-◌, ◌++◌, ◌&&◌, ◌||◌, ◌==◌, not, nat_le, nat_lt, Bool, true, false, List, [], length}
 use Rattle.std.specs.Prelude.{Option, Some, None, if◌then◌else◌}
-use Rattle.std.specs.Option.{unwrap_or}
+use Rattle.std.specs.Option.{option_map, unwrap_or}
 use Rattle.std.specs.Time.{instant_nanos}
+use Rattle.slab.specs.Slab.{Slab, get}
 use Rattle.xid.specs.Text.{lacks}
 use Rattle.std.specs.declared.time.Instant.{Instant}
 use Rattle.serving.specs.declared.lines.TheConstants.{MAX_LINE, MOST_BEGUN, MOST_OUTPUT}
@@ -69,6 +70,14 @@ begun_by has_taken bytes now begun = if is_begun bytes then (if has_taken then S
 -- a client that was told a text
 abbrev pub with_told : List ℕ → ClientParts → ClientParts
 with_told text client = record client { output = client.output ++ text }
+
+-- which client it is, and what it is to be sent
+abbrev pub told_so_far : ClientParts → ℕ × List ℕ
+told_so_far client = (client.number, client.output)
+
+-- nobody was told anything
+abbrev pub AreUntold : Slab ClientParts → Slab ClientParts → Type 0
+AreUntold old new = (key : ℕ) → option_map told_so_far (get new key) ≡ option_map told_so_far (get old key)
 
 -- ---- what may be done with it
 

@@ -95,3 +95,10 @@ with_answers key answers client = record client { output = client.output ++ text
 -- after these answers were told, each client has those for it, and all else of it is as it was
 abbrev pub AreTold : Slab ClientParts → Slab ClientParts → List Told → Type 0
 AreTold old new answers = (key : ℕ) → get new key ≡ option_map (with_answers key answers) (get old key)
+
+-- the first of these answers were told, and none behind them
+pub record AreToldSome (old new : Slab ClientParts) (answers : List Told) : Type 0 where
+  pub told : List Told
+  pub left : List Told
+  pub whole : answers ≡ told ++ left
+  pub tells : AreTold old new told

@@ -1,3 +1,4 @@
+pub mod ByNumber
 pub mod Clients
 pub mod Fronts
 pub mod Groups
@@ -9,7 +10,6 @@ pub mod Proving
 pub mod Queues
 pub mod Served
 pub mod Shortenings
-pub mod Started
 pub mod Taking
 pub mod Times
 pub mod Watching

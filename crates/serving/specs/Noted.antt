@@ -1,5 +1,5 @@
 -- The branches that clients have started, and what is known of each.
-use Rattle.std.specs.Prelude.{◌≡◌, ℕ, Bool, true, false, not, ◌&&◌, ◌||◌, ◌==◌, nat_le, if◌then◌else◌, List, map, filter, Option, Some}
+use Rattle.std.specs.Prelude.{◌≡◌, ℕ, Bool, true, false, not, ◌&&◌, ◌||◌, ◌==◌, nat_le, if◌then◌else◌, List, Option, Some}
 use Rattle.std.specs.Prelude.{None}
 use Rattle.std.specs.List.{IsDistinct}
 use Rattle.std.specs.Option.{option_map, option_map_or}
@@ -63,10 +63,6 @@ is_active_of client entry = entry.1.client == client && entry.1.is_active
 -- whether nobody has touched a branch since then
 abbrev pub is_untouched : Instant → XidParts × Branch → Bool
 is_untouched since entry = nat_le (instant_nanos entry.1.touched) (instant_nanos since)
-
--- the names of the branches that pass a test, in the order in which they are kept
-abbrev pub names_of : (XidParts × Branch → Bool) → List (XidParts × Branch) → List XidParts
-names_of test entries = map (λ entry. entry.0) (filter test entries)
 
 -- whether the branch of a name is known, and passes a test
 abbrev pub is_known_as : (XidParts × Branch → Bool) → Branches → XidParts → Bool

@@ -1,12 +1,14 @@
 -- How the lines that clients wrote come into a group.
-use Rattle.std.specs.Prelude.{◌≡◌, ◌⊎◌, ◌↔◌, ◌≤◌, ◌<◌, ◌==◌, ℕ, ◌++◌, ◌∷◌, not, Bool, true, false, List, [], length, filter}
-use Rattle.std.specs.Prelude.{Option, Some, None, IsSomeAnd}
+use Rattle.std.specs.Prelude.{◌≡◌, ◌⊎◌, ◌↔◌, ◌≤◌, ◌<◌, ◌==◌, ◌&&◌, ℕ, ◌++◌, ◌∷◌, not, Bool, true, false, List, [], length, filter}
+use Rattle.std.specs.Prelude.{Option, Some, None, is_some, IsSomeAnd}
 use Rattle.std.specs.List.{flat_map, list_all, AllZip}
+use Rattle.std.specs.Option.{option_map_or}
 use Rattle.slab.specs.Slab.{Slab, get}
 use Rattle.xid.specs.Names.{XidParts}
 use Rattle.xid.specs.Places.{Place, is_xid_below}
 use Rattle.xid.specs.Text.{lacks}
 use Rattle.protocol.specs.declared.requests.Action.TheVariants.{Start}
+use Rattle.protocol.specs.declared.requests.Request.{Request}
 use Rattle.protocol.specs.declared.requests.Request.TheVariants.{Call}
 use Rattle.serving.specs.declared.lines.TheConstants.{MAX_LINE}
 use Rattle.serving.specs.declared.stage.Stage.TheVariants as stages
@@ -21,26 +23,37 @@ use Rattle.serving.specs.declared.taking.Taken.{Taken}
 use Rattle.serving.specs.declared.taking.Taken.TheVariants as takens
 use Rattle.serving.specs.declared.terms.Terms.{Terms}
 use Rattle.serving.specs.Clients.{ClientParts, is_proving, may_ask}
-use Rattle.serving.specs.Fronts.{IsCut}
+use Rattle.serving.specs.Fronts.{IsCut, IsLong}
 use Rattle.serving.specs.Proving.{IsProof}
 use Rattle.serving.specs.Times.{is_timely}
 use Rattle.serving.specs.Wishes.{IsWish}
 
 -- ---- what is to be done for a line
 
--- a start is refused: names stand in time, and this one isn't of its time
-abbrev pub IsUntimely : Terms → XidParts → Type 0
-IsUntimely terms x = IsSomeAnd terms.times (λ times. is_timely times x terms.clock ≡ false)
+-- whether a name isn't of its time, where names stand in time
+abbrev pub is_untimely : Terms → XidParts → Bool
+is_untimely terms x = option_map_or (λ times. not (is_timely times x terms.clock)) terms.times false
 
--- a start is answered as below the floor: its name stands below a place to which that may rise
-abbrev pub IsLate : XidParts → Type 0
-IsLate x = (place : Place) × (is_xid_below (Some place) x ≡ true)
+-- whether a request is a start that is refused: its name isn't of its time
+abbrev pub is_refused : Terms → Request → Bool
+is_refused terms (Call x Start) = is_untimely terms x
+is_refused terms request = false
 
--- what is to be done for a wish: a request is handed to the node, unless it is a start that is refused, and another wish is answered
+-- whether a start is answered as below the floor: names stand in time, and its own is below a place to which that may rise
+abbrev pub is_late : Terms → (promised : Option Place) → XidParts → Bool
+is_late terms promised x = is_some terms.times && is_xid_below promised x
+
+-- a request is a start that is answered as below the floor
+abbrev pub IsLate : Terms → Request → Type 0
+IsLate terms (Call x Start) = (promised : Option Place) × (is_late terms promised x ≡ true)
+IsLate terms request = ⊥
+
+-- what is to be done for a wish: a request is handed to the node, unless it is a start that is refused or answered as below the floor, and
+-- one that is refused never is; another wish is answered
 abbrev pub IsWorkFor : Terms → Wish → Work → Type 0
-IsWorkFor terms (wishes.Ask request) (Ask handed) = handed ≡ request
-IsWorkFor terms (wishes.Ask (Call x Start)) Untimely = IsUntimely terms x
-IsWorkFor terms (wishes.Ask (Call x Start)) Late = IsLate x
+IsWorkFor terms (wishes.Ask request) (Ask handed) = (handed ≡ request) × (is_refused terms request ≡ false)
+IsWorkFor terms (wishes.Ask request) Untimely = is_refused terms request ≡ true
+IsWorkFor terms (wishes.Ask request) Late = (is_refused terms request ≡ false) × IsLate terms request
 IsWorkFor terms (wishes.Ask request) work = ⊥
 IsWorkFor terms wish (Say said) = said ≡ wish
 IsWorkFor terms wish work = ⊥
@@ -91,10 +104,13 @@ pub record TakesFront (terms : Terms) (origin : Origin) (bytes rest : List ℕ) 
   pub each : AllZip (IsItemOf terms origin) lines taken
   pub last : HoldsUpLast taken
 
--- lines of a client were taken; what it hears, and how it stands, is else as it was
+-- lines of a client were taken; what it hears, and how it stands, is else as it was, but that it is to be let go where a line that is too
+-- long comes next
 pub record TakesLines (terms : Terms) (key : ℕ) (old new : ClientParts) (taken : List Item) : Type 0 where
   pub front : TakesFront terms (Client (key) (old.number)) old.input new.input taken
   pub same : new ≡ record old { input = new.input; is_broken = new.is_broken; begun = new.begun }
+  pub kept : old.is_broken ≡ true → new.is_broken ≡ true
+  pub broken : new.is_broken ≡ true → (old.is_broken ≡ true) ⊎ IsLong new.input
 
 -- a client whose proof came
 abbrev pub after_proof : Bool → ClientParts → ClientParts
@@ -112,9 +128,15 @@ pub record GivesProof (terms : Terms) (old new : ClientParts) : Type 0 where
   pub proved : (is_proved ≡ true) ↔ IsProof terms.lock challenge line
   pub after : new ≡ after_proof is_proved (record old { input = rest })
 
+-- a client that is to prove that it has the key wrote a line that is too long for that
+pub record IsTooLong (old new : ClientParts) : Type 0 where
+  pub due : is_proving old.stage ≡ true
+  pub long : IsLong old.input
+  pub after : new ≡ record old { is_broken = true }
+
 -- nothing came of a client that is to prove that it has the key, or too much, or its proof
 abbrev pub TakesProof : Terms → ClientParts → ClientParts → Type 0
-TakesProof terms old new = (new ≡ old) ⊎ ((new ≡ record old { is_broken = true }) ⊎ GivesProof terms old new)
+TakesProof terms old new = (new ≡ old) ⊎ (IsTooLong old new ⊎ GivesProof terms old new)
 
 -- what a client wrote was looked at: first its proof, if that is due, and then lines, none before the proof; and nothing where it may not
 -- ask, as while it waits for an answer
@@ -148,7 +170,8 @@ pub record TakesFree (terms : Terms) (origin : Origin) (bytes rest : List ℕ) (
 abbrev pub TakesOne : (terms : Terms) → Origin → (bytes : List ℕ) → (before after : List Item) → Taken → Type 0
 TakesOne terms origin bytes before after (takens.More rest) = TakesFree terms origin bytes rest.now before after
 TakesOne terms origin bytes before after (takens.Last rest) = TakesLine terms origin bytes rest.now before after
-TakesOne terms origin bytes before after taken = after ≡ before
+TakesOne terms origin bytes before after takens.TooLong = (after ≡ before) × IsLong bytes
+TakesOne terms origin bytes before after takens.Nothing = after ≡ before
 
 -- ---- the lines of all clients
 

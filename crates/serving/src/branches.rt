@@ -1,6 +1,6 @@
-ghost use Rattle.serving.specs.Started.{AreFound};
+ghost use Rattle.serving.specs.ByNumber.{AreFound, AreTimed};
 
-use crate::started::Started;
+use crate::by_number::ByNumber;
 use hashing::WordKey;
 use indexmap::IndexMap;
 use std::alloc::Global;
@@ -23,6 +23,9 @@ pub(crate) struct Branch {
 pub struct Branches {
     pub(crate) alloc: Global,
     pub(crate) named: IndexMap<Xid, Branch, WordKey>,
-    pub(crate) started: Started,
+    pub(crate) began: Instant,
+    pub(crate) started: ByNumber,
+    pub(crate) touched: ByNumber,
     ghost found: { AreFound named started },
+    ghost timed: { AreTimed began named touched },
 }

@@ -3,7 +3,7 @@
 ghost use Rattle.std.specs.Prelude.{◌≡◌, ◌≤◌, ◌++◌, ◌&&◌, ◌||◌, ◌==◌, List, [], length, drop, not, nat_le, true, false, OnOk, OnErr};
 ghost use Rattle.serving.specs.Clients.{after_standing, begun_by, is_begun, is_last_word, once_asked, IsOver, IsSlow, IsWaiting};
 ghost use Rattle.serving.specs.Groups.{reply_line};
-ghost use Rattle.serving.specs.Clients.{fresh_client, is_awaiting, is_proving, may_ask, with_told};
+ghost use Rattle.serving.specs.Clients.{fresh_client, is_awaiting, is_proving, may_ask, told_so_far, with_told};
 ghost use Rattle.serving.specs.Taking.{HearsClient, TakesLines, TakesProof};
 ghost use Rattle.serving.specs.declared.group.Item.{Item as ItemParts};
 
@@ -214,7 +214,8 @@ impl Client {
 
     /// Puts back what wasn't taken. Where it begins a line, the time for that runs from now, unless it was there before.
     fn put_back(&mut self, rest: &[u8], has_taken: bool, now: Instant) -> Result<(), AllocError>
-        ensures { OnOk result (self.new ≡ record self.old { input = rest.now; begun = begun_by has_taken rest.now now self.old.begun }) }
+        ensures ok { OnOk result (self.new ≡ record self.old { input = rest.now; begun = begun_by has_taken rest.now now self.old.begun }) }
+        ensures untold { told_so_far self.new ≡ told_so_far self.old }
     {
         self.input = Vec::from_slice(self.alloc, rest)?;
         self.begun = if !is_begun(rest) {
@@ -229,7 +230,8 @@ impl Client {
 
     /// Takes its proof, where that is due and came.
     fn take_proof(&mut self, terms: &Terms) -> Result<(), AllocError>
-        ensures { OnOk result (TakesProof terms.now self.old self.new) }
+        ensures ok { OnOk result (TakesProof terms.now self.old self.new) }
+        ensures untold { told_so_far self.new ≡ told_so_far self.old }
     {
         let Stage::Proving(challenge) = &self.stage else {
             return Ok(());
@@ -265,8 +267,9 @@ impl Client {
         items: &mut Vec<Item>,
         now: Instant,
     ) -> Result<(), Refusal>
-        ensures { OnOk result ((taken : List ItemParts) × (items.new.items ≡ items.old.items ++ taken)
+        ensures ok { OnOk result ((taken : List ItemParts) × (items.new.items ≡ items.old.items ++ taken)
             × TakesLines terms.now key self.old self.new taken) }
+        ensures untold { told_so_far self.new ≡ told_so_far self.old }
     {
         let origin = Origin::Client {
             key,
@@ -281,7 +284,8 @@ impl Client {
         Ok(())
     }
 
-    /// What it wrote is looked at, where it may ask: first its proof, where that is due, and then its lines, which come into a group.
+    /// What it wrote is looked at, where it may ask: first its proof, where that is due, and then its lines, which come into a group. It is
+    /// told nothing. The only refusal is `NoMemory`; lines may be lost then.
     pub(crate) fn take_lines(
         &mut self,
         terms: &Terms,
@@ -290,8 +294,9 @@ impl Client {
         items: &mut Vec<Item>,
         now: Instant,
     ) -> Result<(), Refusal>
-        ensures { OnOk result ((taken : List ItemParts) × (items.new.items ≡ items.old.items ++ taken)
+        ensures ok { OnOk result ((taken : List ItemParts) × (items.new.items ≡ items.old.items ++ taken)
             × HearsClient terms.now key self.old self.new taken) }
+        ensures untold { told_so_far self.new ≡ told_so_far self.old }
     {
         if self.input.is_empty() || !self.may_ask() {
             return Ok(());

@@ -3,8 +3,8 @@
 ghost use Rattle.std.specs.Prelude.{◌≡◌, ◌≤◌, ◌+◌, ◌++◌, ◌∷◌, [], length, drop, slice_get, false, IfOk, OnOk, OnErr};
 ghost use Rattle.std.specs.Option.{option_copied};
 ghost use Rattle.serving.specs.Taking.{HearsAll, HearsRange};
-ghost use Rattle.serving.specs.Groups.{after_one, answer_text, answers_to, AreTold};
-ghost use Rattle.serving.specs.Clients.{is_awaiting};
+ghost use Rattle.serving.specs.Groups.{after_one, answer_text, answers_to, AreTold, AreToldSome};
+ghost use Rattle.serving.specs.Clients.{is_awaiting, AreUntold};
 ghost use Rattle.serving.specs.Happenings.{ComesIn};
 
 use crate::client::Client;
@@ -114,7 +114,8 @@ impl Clients {
 
     /// A client is told a text, if it is still there, and nobody else is told anything.
     fn tell(&mut self, origin: Origin, text: &[u8]) -> Result<(), AllocError>
-        ensures { OnOk result (AreTold self.old.seats self.new.seats (record { origin = origin; text = text.now } ∷ [])) }
+        ensures ok { OnOk result (AreTold self.old.seats self.new.seats (record { origin = origin; text = text.now } ∷ [])) }
+        ensures err { OnErr result (AreTold self.old.seats self.new.seats []) }
     {
         let Origin::Client { key, number } = origin else {
             return Ok(());
@@ -134,7 +135,8 @@ impl Clients {
         items: &mut Vec<Item>,
         now: Instant,
     ) -> Result<(), Refusal>
-        ensures { OnOk result (HearsRange terms.now key (key + 1) self.old.seats self.new.seats items.old.items items.new.items) }
+        ensures ok { OnOk result (HearsRange terms.now key (key + 1) self.old.seats self.new.seats items.old.items items.new.items) }
+        ensures untold { AreUntold self.old.seats self.new.seats }
     {
         match self.seats.get_mut(key) {
             Some(client) => client.take_lines(terms, promised, key, items, now),
@@ -153,7 +155,8 @@ impl Clients {
         now: Instant,
     ) -> Result<(), Refusal>
         requires { from ≤ to }
-        ensures { OnOk result (HearsRange terms.now from to self.old.seats self.new.seats items.old.items items.new.items) }
+        ensures ok { OnOk result (HearsRange terms.now from to self.old.seats self.new.seats items.old.items items.new.items) }
+        ensures untold { AreUntold self.old.seats self.new.seats }
     {
         for key in from..to {
             self.take_at(terms, promised, key, items, now)?;
@@ -161,8 +164,8 @@ impl Clients {
         Ok(())
     }
 
-    /// What clients wrote is looked at, of one after the other, and each time from the next one on; their lines come into a group. The only
-    /// refusal is `NoMemory`; lines may be lost then, and the process is to end.
+    /// What clients wrote is looked at, of one after the other, and each time from the next one on; their lines come into a group. Nobody is
+    /// told anything. The only refusal is `NoMemory`; lines may be lost then, and the process is to end.
     pub fn take_lines(
         &mut self,
         terms: &Terms,
@@ -170,7 +173,8 @@ impl Clients {
         items: &mut Vec<Item>,
         now: Instant,
     ) -> Result<(), Refusal>
-        ensures { OnOk result (HearsAll terms.now self.old.seats self.new.seats items.old.items items.new.items) }
+        ensures ok { OnOk result (HearsAll terms.now self.old.seats self.new.seats items.old.items items.new.items) }
+        ensures untold { AreUntold self.old.seats self.new.seats }
     {
         let places = self.seats.capacity();
         let first = within(self.first, places);
@@ -181,14 +185,16 @@ impl Clients {
     }
 
     /// Each client is told what its items of a group are answered, in their order, and no other's: what the node replied to those that it
-    /// was handed, and what was said to wishes. The only refusal is `NoMemory`; some were told then, and the process is to end.
+    /// was handed, and what was said to wishes. The only refusal is `NoMemory`; the first of these answers were told then, and the process is
+    /// to end.
     pub fn tell_all(
         &mut self,
         items: &[Item],
         replies: &[&Answer],
         said: &[Vec<u8>],
     ) -> Result<(), Refusal>
-        ensures { OnOk result (AreTold self.old.seats self.new.seats (answers_to items.now replies.now said.now)) }
+        ensures ok { OnOk result (AreTold self.old.seats self.new.seats (answers_to items.now replies.now said.now)) }
+        ensures err { OnErr result (AreToldSome self.old.seats self.new.seats (answers_to items.now replies.now said.now)) }
     {
         let mut text = Vec::new(self.alloc);
         let mut given = replies;

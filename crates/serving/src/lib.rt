@@ -4,6 +4,7 @@
 #![tactic(auto)]
 
 mod branches;
+mod by_number;
 mod client;
 mod clients;
 mod group;
@@ -16,7 +17,6 @@ mod replies;
 mod schedule;
 mod shortening;
 mod stage;
-mod started;
 mod taking;
 mod terms;
 mod times;

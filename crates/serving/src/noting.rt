@@ -4,13 +4,14 @@ ghost use Rattle.std.specs.Prelude.{◌≡◌, ◌⊎◌, true, false, is_some, 
 ghost use Rattle.std.specs.Option.{option_map};
 ghost use Rattle.xid.specs.Names.{XidParts};
 ghost use Rattle.xid.specs.Places.{is_lower, is_xid_below};
-ghost use Rattle.serving.specs.Noted.{after_touch, is_active_of, is_nota, is_ok, is_rolled_back, is_untouched, known, names_of, noted};
+ghost use Rattle.serving.specs.Noted.{after_touch, is_active_of, is_nota, is_ok, is_rolled_back, is_untouched, known, noted};
 ghost use Rattle.serving.specs.Noted.{is_known_as, AreNames, NotesOnly};
+ghost use Rattle.serving.specs.ByNumber.{second_of};
 ghost use Rattle.serving.specs.Times.{IsOfBranch};
 
 use crate::branches::{Branch, Branches};
+use crate::by_number::ByNumber;
 use crate::queue::is_by;
-use crate::started::Started;
 use crate::times::lower;
 use hashing::HashKey;
 use indexmap::IndexMap;
@@ -52,22 +53,31 @@ fn is_rolled_back(answer: &Answer) -> bool
     matches!(answer, Answer::Code(XaCode::RbRollback))
 }
 
+/// In which second of these a time is, the first for those before them.
+fn second_of(began: Instant, time: Instant) -> u64
+    ensures { result ≡ second_of began time }
+{
+    time.duration_since(began).as_secs()
+}
+
 impl Branches {
     /// None.
-    pub fn new(alloc: Global) -> Branches
+    pub fn new(alloc: Global, now: Instant) -> Branches
         ensures { (x : XidParts) → known result x ≡ None }
     {
-        Branches::with_hash_key(alloc, HashKey::fixed())
+        Branches::with_hash_key(alloc, HashKey::fixed(), now)
     }
 
     /// None, and names are hashed under a key.
-    pub fn with_hash_key(alloc: Global, key: HashKey) -> Branches
+    pub fn with_hash_key(alloc: Global, key: HashKey, now: Instant) -> Branches
         ensures { (x : XidParts) → known result x ≡ None }
     {
         Branches {
             alloc,
             named: IndexMap::with_hasher(alloc, key.words()),
-            started: Started::new(alloc, key.words()),
+            began: now,
+            started: ByNumber::new(alloc, key.words()),
+            touched: ByNumber::new(alloc, key.words()),
         }
     }
 
@@ -95,13 +105,9 @@ impl Branches {
                 Ok(())
             }
             Action::End | Action::EndFail => {
-                self.touch(xid, is_ok || is_rolled_back(answer), now);
-                Ok(())
+                self.touch(xid, is_ok || is_rolled_back(answer), now)
             }
-            _ => {
-                self.touch(xid, false, now);
-                Ok(())
-            }
+            _ => self.touch(xid, false, now),
         }
     }
 
@@ -109,32 +115,39 @@ impl Branches {
     fn begin(&mut self, client: u64, xid: &Xid, now: Instant) -> Result<(), AllocError>
         ensures { OnOk result (NotesOnly self.old self.new xid.now (Some (record { client = client; is_active = true; touched = now }))) }
     {
+        let second = second_of(self.began, now);
         self.started.add(client, xid)?;
+        self.touched.add(second, xid)?;
         let branch = Branch {
             client,
             is_active: true,
             touched: now,
         };
         let old = self.named.insert(*xid, branch)?;
-        match old {
-            Some(old) if old.client != client => self.started.remove(old.client, xid),
-            _ => {}
+        if let Some(old) = old {
+            self.started.leave(old.client, client, xid);
+            let before = second_of(self.began, old.touched);
+            self.touched.leave(before, second, xid);
         }
         Ok(())
     }
 
     /// A branch was touched, and ended if so it is.
-    fn touch(&mut self, xid: &Xid, has_ended: bool, now: Instant)
-        ensures { NotesOnly self.old self.new xid.now (option_map (after_touch has_ended now) (known self.old xid.now)) }
+    fn touch(&mut self, xid: &Xid, has_ended: bool, now: Instant) -> Result<(), AllocError>
+        ensures { OnOk result (NotesOnly self.old self.new xid.now (option_map (after_touch has_ended now) (known self.old xid.now))) }
     {
         let Some(branch) = self.named.get_mut(xid) else {
-            return;
+            return Ok(());
         };
+        let before = second_of(self.began, branch.touched);
+        let second = second_of(self.began, now);
+        self.touched.shift(before, second, xid)?;
         branch.touch(has_ended, now);
         if has_ended {
             let client = branch.client;
             self.started.remove(client, xid);
         }
+        Ok(())
     }
 
     /// A branch is prepared, or is no more.
@@ -143,6 +156,8 @@ impl Branches {
     {
         if let Some(branch) = self.named.swap_remove(xid) {
             self.started.remove(branch.client, xid);
+            let second = second_of(self.began, branch.touched);
+            self.touched.remove(second, xid);
         }
     }
 
@@ -161,7 +176,7 @@ impl Branches {
         ensures { IfOk result (λ found. AreNames (is_known_as (is_active_of client) self.now) found.items) }
     {
         let mut found = Vec::new(self.alloc);
-        let names = self.started.of(client);
+        let names = self.started.under(client);
         for xid in names {
             if self.is_active_of(client, xid) {
                 found.push(*xid)?;
@@ -183,13 +198,25 @@ impl Branches {
         lowest
     }
 
-    /// The branches that nobody has touched since then: these, and no others.
+    /// Whether a branch is known, and nobody has touched it since then.
+    fn is_untouched(&self, since: Instant, xid: &Xid) -> bool
+        ensures { result ≡ is_known_as (is_untouched since) self.now xid.now }
+    {
+        match self.named.get(xid) {
+            Some(branch) => is_by(branch.touched, since),
+            None => false,
+        }
+    }
+
+    /// The branches that nobody has touched since then: these, and no others, and none twice.
     pub fn untouched_since(&self, since: Instant) -> Result<Vec<Xid>, AllocError>
-        ensures { IfOk result (λ found. found.items ≡ names_of (is_untouched since) self.now.named.entries) }
+        ensures { IfOk result (λ found. AreNames (is_known_as (is_untouched since) self.now) found.items) }
     {
         let mut found = Vec::new(self.alloc);
-        for (xid, branch) in self.named.iter() {
-            if is_by(branch.touched, since) {
+        let reached = self.touched.up_to(second_of(self.began, since))?;
+        let names = reached.as_slice();
+        for xid in names {
+            if self.is_untouched(since, xid) {
                 found.push(*xid)?;
             }
         }

@@ -1,8 +1,9 @@
 //! How the lines that a client wrote come into a group.
 
-ghost use Rattle.std.specs.Prelude.{◌≡◌, ◌++◌, List, IfOk, IfSome};
+ghost use Rattle.std.specs.Prelude.{◌≡◌, ◌++◌, false, true, List, IfOk, MatchOption};
 ghost use Rattle.serving.specs.declared.group.Item.{Item as ItemParts};
-ghost use Rattle.serving.specs.Taking.{holds_up, IsWorkFor, IsWorkOf, TakesFront, TakesOne};
+ghost use Rattle.serving.specs.Fronts.{IsLong};
+ghost use Rattle.serving.specs.Taking.{holds_up, is_refused, IsWorkFor, IsWorkOf, TakesFront, TakesOne};
 
 use crate::group::{Item, Origin, Work};
 use crate::lines::{Front, front_of};
@@ -53,7 +54,7 @@ fn holds_up(work: &Work) -> bool
 /// Whether a request is a start, and what is to be done for it in place of handing it to the node: its name isn't of its time, or stands
 /// below the place that was promised.
 fn refused_start(terms: &Terms, promised: &Option<Floor>, request: &Request) -> Option<Work>
-    ensures { IfSome result (IsWorkFor terms.now (Wish.Ask request.now)) }
+    ensures { MatchOption result (is_refused terms.now request.now ≡ false) (IsWorkFor terms.now (Wish.Ask request.now)) }
 {
     let Request::Call {
         xid,
@@ -137,8 +138,9 @@ pub(crate) fn take_front<'a>(
     items: &mut Vec<Item>,
     bytes: &'a [u8],
 ) -> Result<Left<'a>, Refusal>
-    ensures { IfOk result (λ left. (taken : List ItemParts) × (items.new.items ≡ items.old.items ++ taken)
+    ensures front { IfOk result (λ left. (taken : List ItemParts) × (items.new.items ≡ items.old.items ++ taken)
         × TakesFront terms.now origin bytes.now left.rest.now taken) }
+    ensures long { IfOk result (λ left. left.is_too_long ≡ true → IsLong left.rest.now) }
 {
     let mut left = Left {
         rest: bytes,

@@ -1,11 +1,9 @@
 //! On what terms the lines of clients are taken.
 
-ghost use Rattle.std.specs.Prelude.{◌≡◌, ◌⊎◌, Option, Some, None, IsSomeAnd, false, true};
+ghost use Rattle.std.specs.Prelude.{◌≡◌, false};
 ghost use Rattle.std.specs.Option.{option_and_then, option_map_or};
-ghost use Rattle.xid.specs.Names.{XidParts};
-ghost use Rattle.xid.specs.Places.{Place as PlaceParts, is_xid_below};
 ghost use Rattle.serving.specs.Times.{floor_of, is_ahead};
-ghost use Rattle.serving.specs.Taking.{IsLate, IsUntimely};
+ghost use Rattle.serving.specs.Taking.{is_late, is_untimely};
 
 use crate::proving::Lock;
 use crate::times::Times;
@@ -52,7 +50,7 @@ impl Terms {
 
     /// Whether a start is refused, of a name that isn't of its time.
     pub(crate) fn is_untimely(&self, xid: &Xid) -> bool
-        ensures { result ≡ true → IsUntimely self.now xid.now }
+        ensures { result ≡ is_untimely self.now xid.now }
     {
         match &self.times {
             Some(times) => !times.is_timely(xid, self.clock),
@@ -62,7 +60,7 @@ impl Terms {
 
     /// Whether a start is answered as below the floor: names stand in time, and this one is below the place that was promised.
     pub(crate) fn is_late(&self, promised: &Option<Floor>, xid: &Xid) -> bool
-        ensures { result ≡ true → IsLate xid.now }
+        ensures { result ≡ is_late self.now promised.now xid.now }
     {
         match (&self.times, promised) {
             (Some(_), Some(place)) => place.is_above_xid(xid),

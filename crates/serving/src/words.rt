@@ -1,6 +1,8 @@
-ghost use Rattle.std.specs.Prelude.{◌≡◌, ℕ, ◌∷◌, List, Some, IfOk, IfSome, codes};
+ghost use Rattle.std.specs.Prelude.{◌≡◌, ◌≢◌, ℕ, ◌∷◌, List, Some, IfOk, MatchOption, codes};
+ghost use Rattle.xid.specs.Places.{Place};
+ghost use Rattle.protocol.specs.declared.nodes.NodeId.{NodeId as NodeIdParts};
 ghost use Rattle.net_script.specs.Lines.{words};
-ghost use Rattle.serving.specs.Wishes.{IsWish, SpellsFor};
+ghost use Rattle.serving.specs.Wishes.{BeginsAsRequest, IsWish, SpellsFor};
 
 use net_script::{Command, is_over, last_node, last_tx, next_word, node, read_command};
 use protocol::{Boxed, Event, NodeId, Request};
@@ -52,9 +54,20 @@ fn read_await(alloc: Global, me: NodeId, args: &[u8]) -> Result<Wish, Refusal>
     }
 }
 
+/// How the node is that is asked, where no word is after `info`.
+fn read_info(args: &[u8]) -> Wish
+    ensures { (me : NodeIdParts) (line : List ℕ) → words line ≡ codes "info" ∷ words args.now → IsWish me line result }
+{
+    if is_over(args) {
+        return Wish::Info;
+    }
+    Wish::Unknown
+}
+
 /// Whose floor is to rise, and to where, if a command says that.
 fn raised(command: &Option<Command>) -> Option<(u8, Floor)>
-    ensures { IfSome result (λ found. command.now ≡ Some (Command.Do (Event.Raise found.0 found.1))) }
+    ensures { MatchOption result ((rm : ℕ) (floor : Place) → command.now ≢ Some (Command.Do (Event.Raise rm floor)))
+        (λ found. command.now ≡ Some (Command.Do (Event.Raise found.0 found.1))) }
 {
     match command {
         Some(Command::Do(Event::Raise { rm, floor })) => Some((*rm, *floor)),
@@ -64,7 +77,7 @@ fn raised(command: &Option<Command>) -> Option<(u8, Floor)>
 
 /// That a floor is to rise, by the words of a script.
 fn read_floor(alloc: Global, me: NodeId, line: &[u8]) -> Result<Wish, Refusal>
-    ensures { IfOk result (IsWish me line.now) }
+    ensures { IfOk result (λ wish. (args : List (List ℕ)) → words line.now ≡ codes "floor" ∷ args → IsWish me line.now wish) }
 {
     let command = read_command(alloc, line)?;
     match raised(&command) {
@@ -75,14 +88,18 @@ fn read_floor(alloc: Global, me: NodeId, line: &[u8]) -> Result<Wish, Refusal>
 
 /// A request, by the words of a script.
 fn read_request(alloc: Global, me: NodeId, line: &[u8]) -> Result<Wish, Refusal>
-    ensures { IfOk result (IsWish me line.now) }
+    ensures { IfOk result (λ wish. BeginsAsRequest line.now → IsWish me line.now wish) }
 {
-    match read_command(alloc, line)? {
-        Some(Command::Do(Event::Ask { node, request })) => {
-            Ok(of_node(me, Some(node), Wish::Ask(request)))
-        }
-        _ => Ok(Wish::Unknown),
-    }
+    let Some(command) = read_command(alloc, line)? else {
+        return Ok(Wish::Unknown);
+    };
+    let Command::Do(event) = command else {
+        return Ok(Wish::Unknown);
+    };
+    let Event::Ask { node, request } = event else {
+        return Ok(Wish::Unknown);
+    };
+    Ok(of_node(me, Some(node), Wish::Ask(request)))
 }
 
 /// What a line wishes of a node. The only refusal is `NoMemory`.
@@ -105,11 +122,7 @@ pub fn read_wish(alloc: Global, me: NodeId, line: &[u8]) -> Result<Wish, Refusal
         return read_floor(alloc, me, line);
     }
     if word == b"info".as_slice() {
-        return Ok(if is_over(rest) {
-            Wish::Info
-        } else {
-            Wish::Unknown
-        });
+        return Ok(read_info(rest));
     }
     read_request(alloc, me, line)
 }

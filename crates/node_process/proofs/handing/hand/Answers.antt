@@ -4,7 +4,8 @@ use Rattle.node_core.specs.declared.output.Output.{Output}
 use Rattle.port.specs.Members.{TakesAll, item_of}
 use Rattle.port.specs.Members.{Item as MemberItem}
 use Rattle.node_process.specs.Handing.{Hands, handed_of, handed_to}
-use Rattle.node_process.proofs.HandLemmas.{front_all, handed_count, handed_inputs, on_err_all}
+use Rattle.serving.proofs.TellLemmas.{on_err_all}
+use Rattle.node_process.proofs.HandLemmas.{front_all, handed_count, handed_inputs}
 use Rattle.node_process.proofs.handing.hand.Goals as goal
 
 pub returns-clause-hands : goal.returns-clause-hands

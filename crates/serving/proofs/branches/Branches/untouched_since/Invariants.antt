@@ -1,8 +1,9 @@
-use Rattle.std.proofs.Common.{◌≡◌, ◌++◌}
-use Rattle.serving.specs.Noted.{is_untouched, names_of}
+use Rattle.std.proofs.Common.{◌≡◌, take}
+use Rattle.std.specs.Prelude.{filter}
+use Rattle.serving.specs.Noted.{is_known_as, is_untouched}
 use Rattle.serving.proofs.branches.Branches.untouched_since.Given as goal
 
--- the names so far, and those of the entries that are left
+-- those of the names so far
 abbrev pub invariant-loop-xid : goal.invariant-loop-xid
 invariant-loop-xid l =
-    l.found.items ++ names_of (is_untouched l.since) l.xid-iterator ≡ names_of (is_untouched l.since) l.self.named.entries
+    l.found.items ≡ filter (is_known_as (is_untouched l.since) l.self) (take l.xid-index l.names)
