@@ -1,12 +1,13 @@
 #!/usr/bin/env python3
-"""Figures of a cluster of seven processes: cluster.py [--program FILE] [--folder DIR] [--seconds N] [--memory] [--take-over N] [--start N]
-[--postgresql] [--python] [--syncs MS].
+"""Figures of a cluster of seven processes: cluster.py [--program FILE] [--folder DIR] [--seconds N] [--beside FILE] [--turns N] [--memory]
+[--take-over N] [--start N] [--postgresql] [--python] [--syncs MS].
 
 Each transaction writes a row at each of two managers: its client sends start, put and end to both at once, then commit and await to a
 leader and await to both managers. For 1, 8 and 32 clients: transactions a second, the time to the leader's outcome and to both views,
 and of 32 clients, over all nodes by `info`: appends, groups and datagrams for a transaction, and what each kind of node takes of a
 processor. The clients are those of bench/clients.c, so that they take little of it themselves, which is told too; --python has the ones
-in Python. --syncs has each sync of nodes, servers and logs take so many milliseconds at least.
+in Python. --syncs has each sync of nodes, servers and logs take so many milliseconds at least. --beside has another program do the same,
+and --postgresql PostgreSQL, turn and turn about: medians over the turns, each as long as --seconds says over their number.
 --memory tells what each node has in memory, and its record's size, --start N how long a start over N transactions takes,
 --take-over how long it is from a kill of the first leader until every prepared branch has its outcome."""
 import argparse
@@ -15,6 +16,7 @@ import multiprocessing
 import os
 import select
 import shutil
+import statistics
 import subprocess
 import sys
 import tempfile
@@ -204,11 +206,20 @@ def at(times, part):
     return 1000 * times[min(len(times) - 1, int(part * len(times)))]
 
 
-def rates(times, took, cpu):
+def figures(times, took, cpu):
+    """Of one turn: transactions a second, times to the outcome and to both views, and what clients took of processors, if that is known."""
     outcomes, views = sorted(one[0] for one in times), sorted(one[1] for one in times)
-    said = '%6.0f a second; to the outcome %.2f ms (99th percentile %.2f), to both views %.2f ms (%.2f)' % (
-        len(times) / took, at(outcomes, 0.5), at(outcomes, 0.99), at(views, 0.5), at(views, 0.99))
-    return said if cpu is None else '%s; clients %.0f microseconds of processors each' % (said, 1e6 * cpu / len(times))
+    return (len(times) / took, at(outcomes, 0.5), at(outcomes, 0.99), at(views, 0.5), at(views, 0.99),
+            float('nan') if cpu is None else 1e6 * cpu / len(times))
+
+
+def rates(turns):
+    """The medians over turns, and the least and the greatest rate where there are several."""
+    *told, cpu = (statistics.median(column) for column in zip(*turns))
+    said = '%6.0f a second; to the outcome %.2f ms (99th percentile %.2f), to both views %.2f ms (%.2f)' % tuple(told)
+    said = said if cpu != cpu else '%s; clients %.0f microseconds of processors each' % (said, cpu)
+    some = [turn[0] for turn in turns]
+    return said if len(turns) == 1 else '%s; from %.0f to %.0f a second' % (said, min(some), max(some))
 
 
 def totals(cluster):
@@ -226,13 +237,44 @@ def measure(cluster, load, seconds):
         before = totals(cluster)
         times, took, cpu = load.run(clients, seconds, serial=(number + 1) << 32)
         after = totals(cluster)
-        print('%2d clients: %s' % (clients, rates(times, took, cpu)), flush=True)
-    count = len(times)
-    for word in ('appends', 'groups', 'in', 'out', 'cpu'):
-        parts = {kind: (after[kind][word] - before[kind][word]) / count for kind in KINDS}
-        unit, name = WORDS.get(word, (1, word))
-        told = ', '.join('%s %.2f' % (KINDS[kind], unit * part) for kind, part in parts.items())
-        print('32 clients: %s for a transaction: %.2f (%s)' % (name, unit * sum(parts.values()), told), flush=True)
+        print('%2d clients: %s' % (clients, rates([figures(times, took, cpu)])), flush=True)
+    for word, parts in each(before, after, len(times)).items():
+        tell_parts('32 clients', word, parts)
+
+
+def each(before, after, count):
+    """What a transaction took of each kind of node, by `totals` before so many of them and after."""
+    return {word: {kind: (after[kind][word] - before[kind][word]) / count for kind in KINDS}
+            for word in ('appends', 'groups', 'in', 'out', 'cpu')}
+
+
+def tell_parts(who, word, parts):
+    unit, name = WORDS.get(word, (1, word))
+    told = ', '.join('%s %.2f' % (KINDS[kind], unit * part) for kind, part in parts.items())
+    print('%s: %s for a transaction: %.2f (%s)' % (who, name, unit * sum(parts.values()), told), flush=True)
+
+
+def by_turns(kinds, base, seconds, turns, clusters):
+    """Loads turn and turn about: medians, and how many times as many transactions a second each does as the one at `base` in the same turn.
+    What a transaction takes of the nodes of clusters, by the name of their load, of most clients."""
+    serial = 0
+    for clients in (1, 8, 32):
+        told, parts = collections.defaultdict(list), collections.defaultdict(list)
+        for _ in range(turns):
+            for kind, load in kinds.items():
+                serial += 1
+                before = totals(clusters[kind]) if kind in clusters else None
+                times, took, cpu = load.run(clients, seconds / turns, serial=serial << 32)
+                told[kind].append(figures(times, took, cpu))
+                if before:
+                    parts[kind].append(each(before, totals(clusters[kind]), len(times)))
+        for kind in kinds:
+            ratio = statistics.median(mine[0] / other[0] for mine, other in zip(told[kind], told[base]))
+            print('%2d clients, %-26s %s; %.2f times' % (clients, kind + ':', rates(told[kind]), ratio), flush=True)
+    for kind in clusters:
+        for word in parts[kind][0]:
+            middle = {node: statistics.median(turn[word][node] for turn in parts[kind]) for node in KINDS}
+            tell_parts('32 clients, %s' % kind, word, middle)
 
 
 def tell_memory(cluster):
@@ -311,9 +353,9 @@ def kinds_beside(cluster, program, dsns, log):
     }
 
 
-def beside_postgresql(cluster, program, folder, seconds, turns=3):
-    """pcommit's own managers, PostgreSQL's two-phase commit, and PostgreSQL ended by pcommit and by a coordinator that logs, turn and turn
-    about on the same disk."""
+def beside_postgresql(cluster, program, folder, seconds, turns):
+    """pcommit's own managers, PostgreSQL's two-phase commit, and PostgreSQL ended by pcommit and by a coordinator that logs, on the same
+    disk."""
     from postgresql_clients import make_tables
     from servers import Servers
     os.chmod(folder, 0o755)
@@ -321,21 +363,23 @@ def beside_postgresql(cluster, program, folder, seconds, turns=3):
     kinds = kinds_beside(cluster, program, [one.dsn for one in servers.all], os.path.join(folder, 'log'))
     try:
         make_tables(servers)
-        serial = 0
-        for clients in (1, 8, 32):
-            all_times, all_took, all_cpu = collections.defaultdict(list), collections.Counter(), collections.Counter()
-            for _ in range(turns):
-                for kind, load in kinds.items():
-                    serial += 1
-                    times, took, cpu = load.run(clients, seconds / turns, serial=serial << 32)
-                    all_times[kind] += times
-                    all_took[kind] += took
-                    all_cpu[kind] += cpu or 0
-            for kind in kinds:
-                cpu = all_cpu[kind] if program else None
-                print('%2d clients, %-26s %s' % (clients, kind + ':', rates(all_times[kind], all_took[kind], cpu)), flush=True)
+        by_turns(kinds, 'PostgreSQL, with a log', seconds, turns, {})
     finally:
         servers.stop()
+
+
+def nodes_load(cluster, program):
+    """The load of a cluster alone, in C where its program is given, else in Python."""
+    return Load(program, 'nodes', cluster.file) if program else PythonLoad(lambda n, serial: Client(n, serial, cluster.file))
+
+
+def beside_program(cluster, other, program, folder, seconds, turns):
+    """The same load over a cluster of another program, on the same disk."""
+    os.mkdir(folder)
+    with Processes(other, folder) as beside:
+        beside.start()
+        clusters = {'this': cluster, 'beside': beside}
+        by_turns({name: nodes_load(one, program) for name, one in clusters.items()}, 'beside', seconds, turns, clusters)
 
 
 def main():
@@ -343,6 +387,8 @@ def main():
     words.add_argument('--program', default='bin/pcommit_node')
     words.add_argument('--folder', help='where the records are (a new folder in it)')
     words.add_argument('--seconds', type=float, default=10)
+    words.add_argument('--beside', metavar='FILE', help='another program of a node')
+    words.add_argument('--turns', type=int, default=7)
     words.add_argument('--memory', action='store_true')
     words.add_argument('--start', type=int)
     words.add_argument('--take-over', type=int)
@@ -362,12 +408,13 @@ def main():
             if asked.start:
                 start(cluster, asked.start)
             elif asked.postgresql:
-                beside_postgresql(cluster, program, folder, asked.seconds)
+                beside_postgresql(cluster, program, folder, asked.seconds, asked.turns)
+            elif asked.beside:
+                beside_program(cluster, asked.beside, program, os.path.join(folder, 'beside'), asked.seconds, asked.turns)
             elif asked.take_over:
                 take_over(cluster, asked.take_over)
             else:
-                load = Load(program, 'nodes', cluster.file) if program else PythonLoad(lambda n, serial: Client(n, serial, cluster.file))
-                measure(cluster, load, asked.seconds)
+                measure(cluster, nodes_load(cluster, program), asked.seconds)
             if asked.memory:
                 tell_memory(cluster)
     finally:
