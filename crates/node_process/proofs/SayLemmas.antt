@@ -1,7 +1,7 @@
 -- What is said to the wishes of a group, one after another, and that there is a text for each: what the law of clients' lives asks of a
 -- round of work.
-use Rattle.std.proofs.Common.{◌≡◌, ◌<◌, ◌≤◌, ◌+◌, ◌++◌, ◌∷◌, [], List, ℕ, suc, Option, Some, None, Vec, Bool, true, false, cond, length, drop}
-use Rattle.std.proofs.Common.{filter, get_or, slice_get, refl, sym, ap, ◌∙◌, subst, arith}
+use Rattle.std.proofs.Common.{◌≡◌, ◌<◌, ◌≤◌, ◌+◌, ◌++◌, ◌∷◌, [], List, ℕ, suc, Option, Some, None, Vec, Bool, true, false, cond}
+use Rattle.std.proofs.Common.{length, drop, filter, get_or, slice_get, refl, sym, ap, ◌∙◌, subst, arith}
 use Rattle.std.proofs.Math.ListN.{drop_of_length-le}
 use Rattle.std.proofs.lemmas.List.{drop_more}
 use Rattle.std.specs.Borrow.{Bor}

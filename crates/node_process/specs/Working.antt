@@ -100,7 +100,8 @@ pub record AnswersSome {P : Type 0} (Sent : Sending P) (terms : Terms) (items : 
   pub no_more : AreUntold told new
 
 -- a round ended with a group that was stored: it was gathered, handed to the node and stored as in a round that ends well; and clients were
--- told at most the first of what its items are answered. What had become of the node and the port where a wish couldn't be answered isn't said
+-- told at most the first of what its items are answered. What had become of the node and the port where a wish couldn't be answered isn't
+-- said
 pub record EndsStored {P : Type 0} (Received : Receiving P) (Sent : Sending P) (now : Instant) (old new : Desk) (was is : MemberParts)
     (before after : LetterParts P) : Type 0 where
   pub asked : MemberParts

@@ -220,7 +220,8 @@ impl Notes {
 
     /// What came of an item is noted, if the node was handed it.
     fn note_one(&mut self, item: &Item, out: Option<&Output>, now: Instant) -> Result<(), Refusal>
-        ensures { OnOk result (NotesOne (is_handed item.now.work) now item.now (option_copied out.entry) self.old.branches self.new.branches) }
+        ensures { OnOk result (NotesOne (is_handed item.now.work) now item.now (option_copied out.entry) self.old.branches
+            self.new.branches) }
     {
         match out {
             Some(out) if item.work.is_handed() => self.note_input(item, out, now),

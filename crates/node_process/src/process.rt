@@ -110,8 +110,8 @@ impl<R: Record, P: Port> Process<R, P> {
         Ok(())
     }
 
-    /// What waits is done, in one group: requests that nobody is answered for, what is due, messages, and clients' lines. Refused: memory ran
-    /// out, the group wasn't stored, or what came of it could be answered in part alone. Nobody was told anything that wasn't stored.
+    /// What waits is done, in one group: requests that nobody is answered for, what is due, messages, and clients' lines. Refused: memory
+    /// ran out, the group wasn't stored, or what came of it could be answered in part alone. Nobody was told anything that wasn't stored.
     pub fn work<G: Gauges<P>>(&mut self, gauges: &G, now: Instant) -> Result<(), Refusal>
         ensures works { OnOk result (Works P.received P.sent now self.old.desk self.new.desk self.old.node self.new.node
             self.old.port self.new.port) }

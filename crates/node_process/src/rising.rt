@@ -57,8 +57,8 @@ const STAYS: Rising = Rising {
     has_risen: false,
 };
 
-/// The floor of a resource manager whose names stand in time rises by itself, if it is time. Where nothing was begun since the process began
-/// none does: no name says then that the clock is right.
+/// The floor of a resource manager whose names stand in time rises by itself, if it is time. Where nothing was begun since the process
+/// began none does: no name says then that the clock is right.
 pub(crate) fn rise<R: Record, P: Port>(
     node: &mut Member<R>,
     port: &mut LetterPort<P>,

@@ -1,7 +1,7 @@
 -- Each active branch is found among those that its client started, and each branch among those that were touched in its second, whatever a
 -- call changes. Needed where branches are noted.
-use Rattle.std.proofs.Common.{◌≡◌, ◌∙◌, ◌||◌, ◌∷◌, ◌≤◌, [], List, Bool, true, false, cond, Option, Some, None, refl, sym, ap, subst, inl, inr}
-use Rattle.std.proofs.Common.{◌+◌, ◌++◌, ◌<◌, append-nil, arith, get_or, length, take}
+use Rattle.std.proofs.Common.{◌≡◌, ◌∙◌, ◌||◌, ◌∷◌, ◌≤◌, [], List, Bool, true, false, cond, Option, Some, None, refl, sym, ap, subst}
+use Rattle.std.proofs.Common.{inl, inr, ◌+◌, ◌++◌, ◌<◌, append-nil, arith, get_or, length, take}
 use Rattle.std.proofs.lemmas.List.Elements.{filter_more}
 use Rattle.std.specs.Prelude.{◌==◌, filter, not, ℕ}
 use Rattle.std.specs.List.{IsDistinct, AllByRecursion}
@@ -38,7 +38,8 @@ module _ (test : Branch → Bool) (number_of : Branch → ℕ) where
   under_one old new names after x now all apart changes its y branch there passes =
       elim (cases_Bool (xid_eq x y)) [
         | inl same ↦
-            let is : Some now ≡ Some branch = sym (ap (λ (b : Bool). cond b (Some now) (get xid_eq old y)) same) ∙ sym (changes y) ∙ there in
+            let is : Some now ≡ Some branch =
+            sym (ap (λ (b : Bool). cond b (Some now) (get xid_eq old y)) same) ∙ sym (changes y) ∙ there in
             let one : now ≡ branch = some_branch now branch is in
             subst (λ (b : Branch). has after (number_of b) y ≡ true) one
             (subst (λ (z : XidParts). has after (number_of now) z ≡ true) ((xid_decides x y).0 same) (its (ap test one ∙ passes)))

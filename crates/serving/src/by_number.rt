@@ -22,7 +22,8 @@ pub(crate) struct ByNumber {
 
 /// Names go to others.
 fn add_all(found: &mut IndexSet<Xid, WordKey>, names: &[Xid]) -> Result<(), AllocError>
-    ensures { OnOk result ((x : XidParts) → is_member xid_eq found.new.keys x ≡ (is_member xid_eq found.old.keys x || is_member xid_eq names.now x)) }
+    ensures { OnOk result ((x : XidParts) → is_member xid_eq found.new.keys x
+        ≡ (is_member xid_eq found.old.keys x || is_member xid_eq names.now x)) }
 {
     for xid in names {
         found.insert(*xid)?;

@@ -164,8 +164,8 @@ impl Clients {
         Ok(())
     }
 
-    /// What clients wrote is looked at, of one after the other, and each time from the next one on; their lines come into a group. Nobody is
-    /// told anything. The only refusal is `NoMemory`; lines may be lost then, and the process is to end.
+    /// What clients wrote is looked at, of one after the other, and each time from the next one on; their lines come into a group. Nobody
+    /// is told anything. The only refusal is `NoMemory`; lines may be lost then, and the process is to end.
     pub fn take_lines(
         &mut self,
         terms: &Terms,
@@ -185,8 +185,8 @@ impl Clients {
     }
 
     /// Each client is told what its items of a group are answered, in their order, and no other's: what the node replied to those that it
-    /// was handed, and what was said to wishes. The only refusal is `NoMemory`; the first of these answers were told then, and the process is
-    /// to end.
+    /// was handed, and what was said to wishes. The only refusal is `NoMemory`; the first of these answers were told then, and the process
+    /// is to end.
     pub fn tell_all(
         &mut self,
         items: &[Item],

@@ -10,6 +10,6 @@ returns g c = c.loop-key.invariant [] c.loop-key.node c.loop-key.clients.seats (
 
 pub loop-key-preserved : goal.loop-key-preserved
 loop-key-preserved g c more is last heard =
-    let next = heard_next c.args.now more c.loop-key.node c.answer_due.new.node is c.loop-key.clients.seats c.answer_due.new.clients.seats last
-    c.in_ok-answer_due.ensures heard in
+    let next = heard_next c.args.now more c.loop-key.node c.answer_due.new.node is c.loop-key.clients.seats c.answer_due.new.clients.seats
+    last c.in_ok-answer_due.ensures heard in
     c.loop-key.invariant next.0 is last next.1

@@ -10,6 +10,7 @@ returns c =
     on_ok_weaker c.note_work.result (λ call. record {
       mid = c.note_now.new.self.branches;
       forgets = c.in_ok-note_now.ensures;
-      call = subst (λ (known : Branches). NotesCall item.origin item.work c.args.out.now.reply c.args.now known c.note_work.new.self.branches)
+      call = subst (λ (known : Branches).
+          NotesCall item.origin item.work c.args.out.now.reply c.args.now known c.note_work.new.self.branches)
           c.in_ok-note_outcome.ensures call;
     }) c.note_work.ensures

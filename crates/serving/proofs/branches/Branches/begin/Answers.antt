@@ -19,11 +19,13 @@ invariant_of-self-in-Some c =
           (λ active. left_there c.add.new.self c.leave.new.self c.args.client x c.leave.ensures c.in_ok-add.ensures.added);
       timed = under_one (λ (b : Branch). true) (λ (b : Branch). second_of old.began b.touched) old.named c.insert.new.self old.touched
           c.leave-in-Some.new.self x now old.timed
-          (apart_then old.touched c.add-2.new.self c.leave-in-Some.new.self x (apart_all old.touched c.add-2.new.self x c.add-2.ensures.kept)
+          (apart_then old.touched c.add-2.new.self c.leave-in-Some.new.self x
+          (apart_all old.touched c.add-2.new.self x c.add-2.ensures.kept)
           (apart_left c.add-2.new.self c.leave-in-Some.new.self c.second_of-second.result x c.leave-in-Some.ensures))
           (c.in_ok-old.ensures.updates).0
           (λ any. subst (λ (n : ℕ). has c.leave-in-Some.new.self n x ≡ true) c.second_of-second.ensures
-          (left_there c.add-2.new.self c.leave-in-Some.new.self c.second_of-second.result x c.leave-in-Some.ensures c.in_ok-add-2.ensures.added));
+          (left_there c.add-2.new.self c.leave-in-Some.new.self c.second_of-second.result x c.leave-in-Some.ensures
+          c.in_ok-add-2.ensures.added));
     }
 
 pub invariant_of-self-in_default : goal.invariant_of-self-in_default
