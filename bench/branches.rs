@@ -14,9 +14,9 @@ use anyhow::bail;
 use branch_table::Ending;
 use common::tx_of;
 use frames::count;
-use protocol::{Answer, Decision};
-use resource_manager::ResourceManager;
-use stable_record::{Entry, EntryKind, Fact, take_frame};
+use protocol::Answer;
+use resource_manager::{ManagerDecision, ResourceManager};
+use stable_record::{EntryView, FactView, view_frame};
 use std::alloc::Global;
 use std::env;
 use std::time::Instant;
@@ -148,37 +148,35 @@ fn write(manager: &mut ResourceManager, rows: u32, batch: u32, place: u32) -> Re
     Ok(())
 }
 
+/// A fact is made ready for and played.
+fn play_ready(manager: &mut ResourceManager, fact: &FactView<'_>) -> Result<(), Refusal> {
+    manager.ready(fact)?;
+    manager.play(fact)
+}
+
 /// The fact of a decision is made ready for and played. Answers how many there were.
-fn store(manager: &mut ResourceManager, decision: Decision) -> Result<u64, Refusal> {
-    let Decision { fact, .. } = decision;
-    match fact {
-        Some(fact) => play_ready(manager, fact),
+fn store(manager: &mut ResourceManager, decision: &ManagerDecision<'_>) -> Result<u64, Refusal> {
+    match &decision.fact {
+        Some(fact) => {
+            play_ready(manager, fact)?;
+            Ok(1)
+        }
         None => Ok(0),
     }
 }
 
-fn play_ready(manager: &mut ResourceManager, fact: Fact) -> Result<u64, Refusal> {
-    manager.ready(&fact)?;
-    manager.play(fact)?;
-    Ok(1)
-}
-
-/// What is decided on a Prepare.
-fn on_prepare(manager: &ResourceManager, tx: &Tx) -> Result<Decision, Refusal> {
-    let mut buffer = [0; MAX_TX_BYTES];
-    manager.on_prepare(&SpelledTx::of(tx, &mut buffer))
-}
-
-/// What is decided on a Commit.
-fn on_commit(manager: &ResourceManager, tx: &Tx) -> Decision {
-    let mut buffer = [0; MAX_TX_BYTES];
-    manager.on_commit(&SpelledTx::of(tx, &mut buffer))
-}
-
 /// Votes on a transaction.
 fn vote(manager: &mut ResourceManager, tx: &Tx) -> Result<u64, Refusal> {
-    let decision = on_prepare(manager, tx)?;
-    store(manager, decision)
+    let mut buffer = [0; MAX_TX_BYTES];
+    let decision = manager.on_prepare(&SpelledTx::of(tx, &mut buffer))?;
+    store(manager, &decision)
+}
+
+/// Commits a transaction.
+fn commit(manager: &mut ResourceManager, tx: &Tx) -> Result<u64, Refusal> {
+    let mut buffer = [0; MAX_TX_BYTES];
+    let decision = manager.on_commit(&SpelledTx::of(tx, &mut buffer));
+    store(manager, &decision)
 }
 
 /// Votes prepared for a batch of transactions.
@@ -204,8 +202,7 @@ fn fill_some(manager: &mut ResourceManager, first: u32, count: u32) -> Result<()
     let _ = manager.end(&xid, Ending::Success);
     let tx = tx_of(number, 1)?;
     let _ = vote(manager, &tx)?;
-    let decision = on_commit(manager, &tx);
-    let _ = store(manager, decision)?;
+    let _ = commit(manager, &tx)?;
     Ok(())
 }
 
@@ -223,8 +220,7 @@ fn fill(manager: &mut ResourceManager, count: u32) -> Result<(), Refusal> {
 fn commit_all(manager: &mut ResourceManager, txs: &[Tx], count: usize) -> Result<u64, Refusal> {
     let mut committed: u64 = 0;
     for tx in txs.iter().take(count) {
-        let decision = on_commit(manager, tx);
-        committed = committed.wrapping_add(store(manager, decision)?);
+        committed = committed.wrapping_add(commit(manager, tx)?);
     }
     Ok(committed)
 }
@@ -277,48 +273,43 @@ fn commits(rt: &HostRuntime, rows: u32, batches: u32, count: usize) -> anyhow::R
     commit_batches(rt, &mut manager, rows, batches, count)
 }
 
-/// Adds the frame of a fact, and plays it.
+/// Adds the frame of a decision's fact, and plays it.
 fn record(
-    alloc: Global,
     manager: &mut ResourceManager,
-    decision: Decision,
+    decision: &ManagerDecision<'_>,
     bytes: &mut Vec<u8>,
-) -> Result<u64, Refusal> {
-    let Decision { fact, .. } = decision;
-    match fact {
-        Some(fact) => {
-            fact.write(alloc, bytes)?;
-            play_ready(manager, fact)
-        }
-        None => Ok(0),
-    }
+) -> Result<(), Refusal> {
+    let Some(fact) = &decision.fact else {
+        return Ok(());
+    };
+    fact.write(bytes)?;
+    play_ready(manager, fact)
 }
 
 /// Adds the frames of the vote and the commit of a transaction, whose branch is open.
 fn record_tx(
-    alloc: Global,
     manager: &mut ResourceManager,
     number: u32,
     bytes: &mut Vec<u8>,
 ) -> Result<(), Refusal> {
     let _ = manager.end(&xid_of(number)?, Ending::Success);
     let tx = tx_of(number, 1)?;
-    let vote = on_prepare(manager, &tx)?;
-    let _ = record(alloc, manager, vote, bytes)?;
-    let commit = on_commit(manager, &tx);
-    let _ = record(alloc, manager, commit, bytes)?;
-    Ok(())
+    let mut buffer = [0; MAX_TX_BYTES];
+    let tx = SpelledTx::of(&tx, &mut buffer);
+    let vote = manager.on_prepare(&tx)?;
+    record(manager, &vote, bytes)?;
+    let commit = manager.on_commit(&tx);
+    record(manager, &commit, bytes)
 }
 
 fn record_all(
-    alloc: Global,
     manager: &mut ResourceManager,
     transactions: u32,
     bytes: &mut Vec<u8>,
 ) -> Result<(), Refusal> {
     for number in 0..transactions {
         let _ = open(manager, number)?;
-        record_tx(alloc, manager, number, bytes)?;
+        record_tx(manager, number, bytes)?;
     }
     Ok(())
 }
@@ -326,13 +317,13 @@ fn record_all(
 /// The record of so many transactions that were voted prepared and committed.
 fn record_of(alloc: Global, transactions: u32, bytes: &mut Vec<u8>) -> Result<(), Refusal> {
     let mut manager = ResourceManager::new(alloc, 0, 1, Vec::new(alloc))?;
-    record_all(alloc, &mut manager, transactions, bytes)
+    record_all(&mut manager, transactions, bytes)
 }
 
 /// Plays an entry that is a fact.
-fn play(manager: &mut ResourceManager, entry: Entry) -> Result<(), Refusal> {
-    match entry.into_kind() {
-        EntryKind::Fact(kind) => manager.play(Fact::new(kind)),
+fn play(manager: &mut ResourceManager, entry: &EntryView<'_>) -> Result<(), Refusal> {
+    match entry {
+        EntryView::Fact(fact) => manager.play(fact),
         _ => Err(Refusal::Damaged),
     }
 }
@@ -347,10 +338,10 @@ fn play_all(
     let mut found: u64 = 0;
     let mut rest = bytes;
     for _ in 0..most {
-        let Some((entry, after)) = take_frame(alloc, rest)? else {
+        let Some((entry, after)) = view_frame(alloc, rest)? else {
             break;
         };
-        play(manager, entry)?;
+        play(manager, &entry)?;
         found = found.wrapping_add(1);
         rest = after;
     }

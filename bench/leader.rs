@@ -10,9 +10,10 @@ mod common;
 use anyhow::bail;
 use common::{message_of, sum_of, tx_of};
 use leader::{Leader, LeaderDecision, LeaderSends};
+use stable_record::FactView;
 use std::alloc::Global;
 use std::env;
-use wire::{InstanceAccept, InstanceReport, Items, Kind, MAX_DATAGRAM, encode, view_of};
+use wire::{InstanceAccept, InstanceReport, Items, Kind, MAX_DATAGRAM, MAX_TX_BYTES, encode, view_of};
 use xid::{MAX_BRANCHES, ManagerNumber, Refusal, Tx, Vote};
 
 const USAGE: &str =
@@ -125,14 +126,16 @@ fn last_sum(sends: &LeaderSends) -> u64 {
 }
 
 /// A timeout, and its ballot.
-fn take_over(leader: &mut Leader, tx: &Tx, decision: &mut LeaderDecision) -> Result<(), Refusal> {
-    leader.decide_timeout(tx, decision);
-    if let Some(fact) = &decision.fact {
-        leader.ready(fact)?;
-        leader.play_by(fact)?;
-        leader.begin(tx, 1);
+fn take_over(leader: &mut Leader, tx: &Tx) -> Result<LeaderSends, Refusal> {
+    let LeaderDecision { fact, sends, .. } = leader.timeout(tx);
+    if let Some(fact) = fact {
+        let mut buffer = [0; MAX_TX_BYTES];
+        let fact = FactView::of(fact, &mut buffer);
+        leader.ready(&fact)?;
+        leader.play(&fact)?;
+        leader.begin(fact.tx(), 1);
     }
-    Ok(())
+    Ok(sends)
 }
 
 /// All events at one leader, what is decided on each in the place of what was decided before. Answers how many events there were, and
@@ -146,12 +149,12 @@ fn play_all(
     let mut events: u64 = 0;
     let mut sent: u64 = 0;
     for tx in timeouts {
-        take_over(leader, tx, decision)?;
+        decision.sends = take_over(leader, tx)?;
         sent = sent.wrapping_add(decision.sends.count() as u64);
         events = events.wrapping_add(1);
     }
     for bytes in messages {
-        leader.decide(&view_of(bytes)?, decision)?;
+        leader.on_message(&view_of(bytes)?, decision)?;
         sent = sent.wrapping_add(decision.sends.count() as u64);
         events = events.wrapping_add(1);
     }

@@ -6,15 +6,14 @@ ghost use Rattle.xid.specs.declared.refusals.Refusal.TheVariants.{NoMemory};
 ghost use Rattle.wire.specs.Messages.{IsMessage};
 ghost use Rattle.wire.specs.declared.message.Kind.TheVariants.{P1a, P2a, B1a};
 ghost use Rattle.stable_record.specs.declared.fact.FactKind.{FactKind};
-ghost use Rattle.stable_record.specs.Facts.{IsFact, fact_tx};
-ghost use Rattle.stable_record.specs.Spelled.{stated};
+ghost use Rattle.stable_record.specs.Facts.{fact_tx};
 ghost use Rattle.protocol.specs.Acceptors.{on_1a, on_b1a, on_2a, on_acceptor_message};
 ghost use Rattle.protocol.specs.Effects.{Config};
 ghost use Rattle.protocol.specs.Kept.{kept_facts};
 ghost use Rattle.stable_record.specs.Parts.{IsMadeReady, IsPlayed};
 ghost use Rattle.acceptor.specs.Acceptors.{acceptor_part, StandsFor, Decides};
 ghost use Rattle.acceptor.specs.Decisions.{shown};
-ghost use Rattle.acceptor.specs.Compaction.{AreShorterFrames, Compacts};
+ghost use Rattle.acceptor.specs.Compaction.{AreShorterFrames};
 
 use crate::bundles::Accepted;
 use crate::decision::AcceptorDecision;
@@ -22,12 +21,12 @@ use crate::rules::{Seat, on_1a, on_2a, on_b1a};
 use crate::slots::plays;
 use crate::table::{Table, begin};
 use hashing::HashKey;
-use stable_record::{AnyRest, Fact, FactKind, FactRest, FactView, SpelledFact};
+use stable_record::FactView;
 use std::alloc::Global;
 use std::marker::Model;
 use transactions::Order;
-use wire::{MAX_TX_BYTES, MessageView, Rest, SpelledTx};
-use xid::{Ballot, Floor, ManagerNumber, Refusal, Tx, Vote};
+use wire::{MessageView, Rest, SpelledTx};
+use xid::{Ballot, Floor, ManagerNumber, Refusal, Vote};
 
 /// An acceptor: its number, how many leaders there are, whether the cluster is bundled, a slot for each instance of each transaction that
 /// it has seen, and those of which a fact was played, in the order of their first facts.
@@ -165,9 +164,10 @@ impl Acceptor {
         }
     }
 
-    /// Plays a fact that is stored. Refused (`Damaged`) where its condition on the slots doesn't hold, and (`NoMemory`) where it wasn't
-    /// made ready for it; then it stands for what it stood for.
-    pub fn play(&mut self, fact: &SpelledFact<'_>) -> Result<(), Refusal>
+    /// Plays a fact that is stored: one that was decided, or one of a record. Refused (`Damaged`) where its condition on the slots doesn't
+    /// hold, as that of one that is no acceptor's, and (`NoMemory`) where it wasn't made ready for it; then it stands for what it stood
+    /// for.
+    pub fn play(&mut self, fact: &FactView<'_>) -> Result<(), Refusal>
         ensures { (config : Config) (number : ℕ) → IsPlayed (acceptor_part config number) self.old self.new fact.now result }
     {
         let tx = fact.tx();
@@ -185,7 +185,7 @@ impl Acceptor {
     }
 
     /// Plays a fact of a transaction that may not have been seen.
-    fn play_first(&mut self, tx: &SpelledTx<'_>, fact: &SpelledFact<'_>) -> Result<(), Refusal>
+    fn play_first(&mut self, tx: &SpelledTx<'_>, fact: &FactView<'_>) -> Result<(), Refusal>
         requires { tx.now ≡ fact_tx fact.now }
         ensures { (config : Config) (number : ℕ) → IsPlayed (acceptor_part config number) self.old self.new fact.now result }
     {
@@ -202,106 +202,11 @@ impl Acceptor {
         Ok(())
     }
 
-    /// Plays what a fact of a transaction says.
-    fn play_rest(&mut self, tx: &Tx, rest: FactRest) -> Result<(), Refusal>
-        requires { IsFact (stated tx.now rest) }
-        ensures { (config : Config) (number : ℕ)
-            → IsPlayed (acceptor_part config number) self.old self.new (stated tx.now rest) result }
-    {
-        let mut buffer = [0; MAX_TX_BYTES];
-        self.play_said(&SpelledTx::of(tx, &mut buffer), rest)
-    }
-
-    /// Plays what a fact of a transaction says, over the bytes of that.
-    fn play_said(&mut self, tx: &SpelledTx<'_>, rest: FactRest) -> Result<(), Refusal>
-        requires { IsFact (stated tx.now rest) }
-        ensures { (config : Config) (number : ℕ)
-            → IsPlayed (acceptor_part config number) self.old self.new (stated tx.now rest) result }
-    {
-        self.play(&SpelledFact::new(tx, rest))
-    }
-
-    /// Plays a fact of a record as `play` does. One that is no acceptor's never plays (`Damaged`).
-    pub fn replay(&mut self, fact: &Fact) -> Result<(), Refusal>
-        ensures { (config : Config) (number : ℕ) → IsPlayed (acceptor_part config number) self.old self.new fact.now result }
-    {
-        match fact.kind() {
-            FactKind::Promise {
-                tx,
-                instance,
-                ballot,
-            } => self.play_rest(
-                tx,
-                FactRest::Promise {
-                    instance: *instance,
-                    ballot: *ballot,
-                },
-            ),
-            FactKind::Accept {
-                tx,
-                instance,
-                ballot,
-                vote,
-            } => self.play_rest(
-                tx,
-                FactRest::Accept {
-                    instance: *instance,
-                    ballot: *ballot,
-                    vote: *vote,
-                },
-            ),
-            FactKind::PromiseAll { tx, ballot } => {
-                self.play_rest(tx, FactRest::PromiseAll { ballot: *ballot })
-            }
-            _ => Err(Refusal::Damaged),
-        }
-    }
-
-    /// Plays a fact of a record, seen over its bytes, as `replay` does.
-    pub fn replay_view(&mut self, fact: &FactView<'_>) -> Result<(), Refusal>
-        ensures { (config : Config) (number : ℕ) → IsPlayed (acceptor_part config number) self.old self.new fact.now result }
-    {
-        let tx = fact.tx();
-        match fact.rest() {
-            AnyRest::Promise { instance, ballot } => self.play_said(
-                tx,
-                FactRest::Promise {
-                    instance: *instance,
-                    ballot: *ballot,
-                },
-            ),
-            AnyRest::Accept {
-                instance,
-                ballot,
-                vote,
-            } => self.play_said(
-                tx,
-                FactRest::Accept {
-                    instance: *instance,
-                    ballot: *ballot,
-                    vote: *vote,
-                },
-            ),
-            AnyRest::PromiseAll { ballot } => {
-                self.play_said(tx, FactRest::PromiseAll { ballot: *ballot })
-            }
-            _ => Err(Refusal::Damaged),
-        }
-    }
-
-    /// The facts of a shorter record that says the same, and whose frames are together no longer: for each transaction in the order of
-    /// its first fact what each instance accepted last, ascending, then one promise for all, where an instance that took part in the
-    /// least ballot accepted only below it, and then a promise of each that took part in a greater one. `NoMemory` is the only refusal.
-    pub fn shorter(&self) -> Result<Vec<Fact>, Refusal>
-        ensures ok { IfOk result (λ kept. Compacts self.now kept.items) }
-        ensures err { IfErr result (λ e. e ≡ NoMemory) }
-    {
-        self.table.compacted(&self.begun)
-    }
-
-    /// The frames, in version 2, of the facts that `shorter` gives, one after the other: no `Fact` is built. `NoMemory` is the only
-    /// refusal.
-    pub fn shorter_frames(&self) -> Result<Vec<u8>, Refusal>
+    /// A shorter record that says the same, and whose frames are together no longer: the frames, in version 2, for each transaction in the
+    /// order of its first fact, of what each instance accepted last, ascending, then of one promise for all, where an instance that took
+    /// part in the least ballot accepted only below it, and then of a promise of each that took part in a greater one. `NoMemory` is the
+    /// only refusal.
+    pub fn shorter(&self) -> Result<Vec<u8>, Refusal>
         ensures ok { IfOk result (λ frames. AreShorterFrames self.now frames.items) }
         ensures err { IfErr result (λ e. e ≡ NoMemory) }
     {

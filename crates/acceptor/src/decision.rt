@@ -1,7 +1,7 @@
 ghost use Rattle.std.specs.Prelude.{◌≡◌, None};
 
 use protocol::Address;
-use stable_record::SpelledFact;
+use stable_record::FactView;
 use wire::Reply;
 
 /// What an acceptor sends, and whom it is for.
@@ -17,7 +17,7 @@ pub struct SentReply<'a> {
 #[derive(Debug, Drop)]
 pub struct AcceptorDecision<'a> {
     /// The fact to store, if there is one. Nothing is sent before it is stored.
-    pub fact: Option<SpelledFact<'a>>,
+    pub fact: Option<FactView<'a>>,
     /// What to send then, if there is anything.
     pub reply: Option<SentReply<'a>>,
 }

@@ -7,7 +7,7 @@ mod bundles;
 mod compaction;
 mod decision;
 mod rules;
-mod shorter_frames;
+mod shorter;
 mod slots;
 mod table;
 

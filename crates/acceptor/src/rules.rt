@@ -16,7 +16,7 @@ use crate::decision::{AcceptorDecision, SentReply};
 use crate::slots::{KeptSlot, is_accepted, slot_of};
 use ballot::{Slot, owner};
 use protocol::{Address, NodeId};
-use stable_record::{FactRest, SpelledFact};
+use stable_record::{FactRest, FactView};
 use wire::{Reply, ReplyRest, SpelledTx};
 use xid::{Ballot, ManagerNumber, Vote};
 
@@ -57,7 +57,7 @@ pub fn on_1a<'a>(
         acceptor: seat.number,
     };
     AcceptorDecision {
-        fact: Some(SpelledFact::new(tx, promise)),
+        fact: Some(FactView::new(tx.again(), promise)),
         reply: Some(SentReply {
             to: Address::Node(NodeId::L(owner(ballot, seat.leaders))),
             message: Reply::new(tx, report),
@@ -87,7 +87,7 @@ pub fn on_b1a<'a>(
         reports,
     };
     AcceptorDecision {
-        fact: Some(SpelledFact::new(tx, FactRest::PromiseAll { ballot })),
+        fact: Some(FactView::new(tx.again(), FactRest::PromiseAll { ballot })),
         reply: Some(SentReply {
             to: Address::Node(NodeId::L(owner(ballot, seat.leaders))),
             message: Reply::new(tx, report),
@@ -163,7 +163,7 @@ fn accept_messages<'a>(
 }
 
 /// The accept to be stored, where it isn't what stands.
-fn accept_fact<'a>(tx: &SpelledTx<'a>, slot: &Slot, accepted: Accepted) -> Option<SpelledFact<'a>>
+fn accept_fact<'a>(tx: &SpelledTx<'a>, slot: &Slot, accepted: Accepted) -> Option<FactView<'a>>
     requires { IsMessage (P2a tx.now accepted.instance accepted.ballot accepted.vote) }
     ensures { result ≡ if is_accepted_in slot.now accepted.ballot accepted.vote then None
         else Some (Accept tx.now accepted.instance accepted.ballot accepted.vote) }
@@ -176,7 +176,7 @@ fn accept_fact<'a>(tx: &SpelledTx<'a>, slot: &Slot, accepted: Accepted) -> Optio
         ballot: accepted.ballot,
         vote: accepted.vote,
     };
-    Some(SpelledFact::new(tx, accept))
+    Some(FactView::new(tx.again(), accept))
 }
 
 /// Phase 2a at the slots of its transaction.

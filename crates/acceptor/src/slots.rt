@@ -3,14 +3,14 @@ ghost use Rattle.wire.specs.Messages.{IsReportBelow};
 ghost use Rattle.ballot.specs.Slots.{empty_slot, promised, accepted_in};
 ghost use Rattle.stable_record.specs.declared.fact.FactKind.TheVariants.{Promise, Accept, PromiseAll};
 ghost use Rattle.stable_record.specs.Facts.{fact_tx};
-ghost use Rattle.stable_record.specs.Spelled.{stated};
+ghost use Rattle.stable_record.specs.Rests.{fact_of};
 ghost use Rattle.protocol.specs.Acceptors.{is_accepted as is_accepted_in, plays_at_acceptor};
 ghost use Rattle.acceptor.specs.Slots.{IsKept, slot_at as slot_at_place, slot_of as slot_of_instance, slots_of};
 ghost use Rattle.acceptor.specs.Slots.{slots_after};
 
 use crate::bundles::reports_below;
 use ballot::Slot;
-use stable_record::{FactRest, SpelledFact};
+use stable_record::{FactRest, FactView};
 use std::marker::Model;
 use wire::SpelledTx;
 use xid::{Ballot, ManagerNumber, Vote};
@@ -134,24 +134,25 @@ fn can_promise_all(tx: &SpelledTx<'_>, slots: &[KeptSlot], ballot: Ballot) -> bo
     reports_below(tx, slots, ballot).is_some()
 }
 
-/// Whether the condition of what a fact says of a transaction holds of the transaction's slots.
-fn can_play(tx: &SpelledTx<'_>, slots: &[KeptSlot], rest: FactRest) -> bool
-    ensures { result ≡ plays_at_acceptor (slots_of tx.now slots.now) (stated tx.now rest) }
+/// Whether the condition of what a fact says of a transaction holds of the transaction's slots. One that is no acceptor's never does.
+fn can_play(tx: &SpelledTx<'_>, slots: &[KeptSlot], rest: &FactRest) -> bool
+    ensures { result ≡ plays_at_acceptor (slots_of tx.now slots.now) (fact_of tx.now rest.now) }
 {
     match rest {
-        FactRest::Promise { instance, ballot } => can_promise(tx, slots, instance, ballot),
+        FactRest::Promise { instance, ballot } => can_promise(tx, slots, *instance, *ballot),
         FactRest::Accept {
             instance,
             ballot,
             vote,
-        } => can_accept(tx, slots, instance, ballot, vote),
-        FactRest::PromiseAll { ballot } => can_promise_all(tx, slots, ballot),
+        } => can_accept(tx, slots, *instance, *ballot, *vote),
+        FactRest::PromiseAll { ballot } => can_promise_all(tx, slots, *ballot),
+        _ => false,
     }
 }
 
 /// Whether the condition of a fact holds of its transaction's slots: a promise is above every ballot before, an accept no lower
 /// than any, and new, both of an instance of the transaction.
-pub fn plays(slots: &[KeptSlot], fact: &SpelledFact<'_>) -> bool
+pub fn plays(slots: &[KeptSlot], fact: &FactView<'_>) -> bool
     ensures { result ≡ plays_at_acceptor (slots_of (fact_tx fact.now) slots.now) fact.now }
 {
     can_play(fact.tx(), slots, fact.rest())
@@ -167,14 +168,14 @@ fn promise_all(slots: &mut [KeptSlot], ballot: Ballot)
 }
 
 /// Changes a transaction's slots by what a fact says of it.
-fn change_by(slots: &mut [KeptSlot], tx: &SpelledTx<'_>, rest: FactRest)
-    ensures { slots.new ≡ slots_after tx.now slots.old (stated tx.now rest) }
+fn change_by(slots: &mut [KeptSlot], tx: &SpelledTx<'_>, rest: &FactRest)
+    ensures { slots.new ≡ slots_after tx.now slots.old (fact_of tx.now rest.now) }
 {
     match rest {
         FactRest::Promise { instance, ballot } => {
-            let place = tx.place_of(instance);
+            let place = tx.place_of(*instance);
             if place < slots.len() {
-                slots[place].promise(ballot);
+                slots[place].promise(*ballot);
             }
         }
         FactRest::Accept {
@@ -182,17 +183,18 @@ fn change_by(slots: &mut [KeptSlot], tx: &SpelledTx<'_>, rest: FactRest)
             ballot,
             vote,
         } => {
-            let place = tx.place_of(instance);
+            let place = tx.place_of(*instance);
             if place < slots.len() {
-                slots[place].accept(ballot, vote);
+                slots[place].accept(*ballot, *vote);
             }
         }
-        FactRest::PromiseAll { ballot } => promise_all(slots, ballot),
+        FactRest::PromiseAll { ballot } => promise_all(slots, *ballot),
+        _ => {}
     }
 }
 
 /// Changes a transaction's slots by a fact of it.
-pub fn change(slots: &mut [KeptSlot], fact: &SpelledFact<'_>)
+pub fn change(slots: &mut [KeptSlot], fact: &FactView<'_>)
     ensures { slots.new ≡ slots_after (fact_tx fact.now) slots.old fact.now }
 {
     change_by(slots, fact.tx(), fact.rest());

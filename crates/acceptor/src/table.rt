@@ -13,16 +13,15 @@ ghost use Rattle.acceptor.specs.Slots.{after_fact};
 ghost use Rattle.acceptor.specs.Tables.{IsLeft, IsSeen, IsTable, slots_in, slot_in};
 ghost use Rattle.acceptor.specs.Compaction.{compacted};
 
-use crate::compaction::facts_of;
-use crate::shorter_frames::frames_of;
+use crate::shorter::frames_of;
 use crate::slots::{KeptSlot, change};
 use hashing::HashKey;
-use stable_record::{Fact, SpelledFact};
+use stable_record::FactView;
 use std::alloc::{AllocError, Global};
 use std::marker::Model;
 use transactions::{Order, Transactions};
 use wire::SpelledTx;
-use xid::{Floor, Refusal, Tx};
+use xid::{Floor, Refusal};
 
 /// The slots of all transactions that an acceptor has seen: for each one for each of its branches.
 #[derive(Debug, Drop)]
@@ -166,7 +165,7 @@ impl Table {
     }
 
     /// Changes the slots of the transaction of a number by a fact that plays.
-    pub fn change(&mut self, number: usize, fact: &SpelledFact<'_>)
+    pub fn change(&mut self, number: usize, fact: &FactView<'_>)
         requires number { number ≡ place_in self.old.transactions (fact_tx fact.now) }
         requires seen { IsSeen self.old (fact_tx fact.now) }
         requires plays { plays_at_acceptor (slot_in self.old) fact.now ≡ true }
@@ -192,18 +191,7 @@ impl Table {
         begun.len()
     }
 
-    /// The transaction at a place of an order, where there is one.
-    pub fn begun_at(&self, begun: &Order, i: usize) -> Option<Tx>
-        requires { AreInside (length self.now.transactions) begun.now.numbers }
-        ensures { result ≡ slice_get (at_places self.now.transactions begun.now.numbers) i }
-    {
-        match begun.get(i) {
-            Some(number) => self.transactions.get(number),
-            None => None,
-        }
-    }
-
-    /// The same over its spelled bytes.
+    /// The transaction at a place of an order, where there is one, over its spelled bytes.
     pub fn begun_view(&self, begun: &Order, i: usize) -> Option<SpelledTx<'_>>
         requires { AreInside (length self.now.transactions) begun.now.numbers }
         ensures { result ≡ slice_get (at_places self.now.transactions begun.now.numbers) i }
@@ -230,21 +218,8 @@ impl Table {
         }
     }
 
-    /// The facts that lead to its slots: for each transaction that has begun, in this order, what each instance accepted last, then one
-    /// promise for all, and then single ones above it. `NoMemory` is the only refusal.
-    pub fn compacted(&self, begun: &Order) -> Result<Vec<Fact>, Refusal>
-        requires { AreInside (length self.now.transactions) begun.now.numbers }
-        ensures ok { IfOk result (λ facts. facts.items
-            ≡ compacted (at_places self.now.transactions begun.now.numbers) (slot_in self.now)) }
-        ensures err { IfErr result (λ e. e ≡ NoMemory) }
-        ensures table { IsTable self.now }
-        ensures valid { All IsTx self.now.transactions }
-    {
-        let _ = self.transactions.len();
-        facts_of(self.alloc, self, begun)
-    }
-
-    /// The frames of those facts, one after the other. `NoMemory` is the only refusal.
+    /// The frames of the facts that lead to its slots, one after the other: for each transaction that has begun, in this order, what each
+    /// instance accepted last, then one promise for all, and then single ones above it. `NoMemory` is the only refusal.
     pub fn frames(&self, begun: &Order) -> Result<Vec<u8>, Refusal>
         requires { AreInside (length self.now.transactions) begun.now.numbers }
         ensures ok { IfOk result (λ frames. AreWritten frames.items

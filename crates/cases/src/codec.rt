@@ -5,7 +5,7 @@ ghost use Rattle.std.specs.Prelude.{◌≤◌, IfOk};
 use crate::calls::Part;
 use crate::page::Page;
 use crate::stop::Stop;
-use crate::ways::{ByValue, OverBytes, Way, run_both};
+use crate::ways::{ByValue, OverBytes, run_both};
 use crate::{seen, words};
 use net_script::{Entry, read_trace};
 use protocol::{Address, Outgoing};
@@ -84,12 +84,6 @@ impl Part for ByValue<Codec> {
     }
 }
 
-impl Way for ByValue<Codec> {
-    fn look(&self, _alloc: Global, _page: &mut Page) -> Result<(), Stop> {
-        Ok(())
-    }
-}
-
 /// The bytes of a message that is seen over bytes.
 fn say_again(bytes: &[u8], page: &mut Page) -> Result<(), Stop> {
     let Ok(message) = view_of(bytes) else {
@@ -116,11 +110,5 @@ impl Part for OverBytes<Codec> {
             _ => return Err(Stop::Unread),
         }
         page.end_line()
-    }
-}
-
-impl Way for OverBytes<Codec> {
-    fn look(&self, _alloc: Global, _page: &mut Page) -> Result<(), Stop> {
-        Ok(())
     }
 }

@@ -1,17 +1,15 @@
 //! A leader.
 
-use crate::calls::Part;
+use crate::calls::{Part, run_calls};
 use crate::page::Page;
-use crate::records::Found;
 use crate::stop::{Stop, wanted};
-use crate::ways::{ByValue, Way, run_both};
 use crate::{codec, records, words};
 use leader::{Leader, LeaderDecision, LeaderSends};
 use protocol::Answer;
-use stable_record::{Fact, FactKind};
+use stable_record::{FactRest, FactView};
 use std::alloc::Global;
 use std::mem;
-use wire::{MAX_DATAGRAM, view_of};
+use wire::{MAX_DATAGRAM, MAX_TX_BYTES, view_of};
 
 /// A leader that decides on messages where it decided before, as a node has it do.
 #[derive(Drop)]
@@ -33,101 +31,63 @@ pub fn run(alloc: Global, rest: &[u8], calls: &[String], page: &mut Page) -> Res
     }
     let bundled = kind == b"bundled".as_slice();
     let leader = Leader::new(alloc, number, acceptors, leaders, managers, bundled);
-    let other = InPlace {
-        leader: Leader::new(alloc, number, acceptors, leaders, managers, bundled),
+    let mut part = InPlace {
+        leader,
         led: LeaderDecision::nothing(),
     };
-    run_both(ByValue(leader), other, alloc, calls, page)
+    run_calls(&mut part, alloc, calls, page)
 }
 
-/// What was decided: its answer, the fact, and what is sent.
-fn say(
-    answer: Answer,
-    fact: &Option<Fact>,
-    sends: &LeaderSends,
-    page: &mut Page,
-) -> Result<(), Stop> {
+/// What is answered and sent, with nothing to store.
+fn say(answer: Answer, sends: &LeaderSends, page: &mut Page) -> Result<(), Stop> {
     page.finished_answer(answer)?;
-    if let Some(fact) = fact {
-        page.fact(fact)?;
-    }
+    say_sends(sends, page)
+}
+
+/// What is sent.
+fn say_sends(sends: &LeaderSends, page: &mut Page) -> Result<(), Stop> {
     for i in 0..sends.count() {
         page.sent(&sends.at(i))?;
     }
     Ok(())
 }
 
-/// A take-over: its ballot is made ready for and played, and it begins.
-fn time_out(leader: &mut Leader, tx: &[u8]) -> Result<LeaderDecision, Stop> {
-    let tx = words::tx(tx)?;
-    let decision = leader.timeout(&tx);
-    if let Some(fact) = &decision.fact {
-        wanted(leader.ready(fact))?;
-        leader.play_by(fact)?;
-        if let FactKind::Ballot { ballot, .. } = fact.kind() {
-            leader.begin(&tx, *ballot);
-        }
+/// A ballot is stored: it is made ready for and played, and it begins.
+fn store(leader: &mut Leader, fact: &FactView<'_>) -> Result<(), Stop> {
+    wanted(leader.ready(fact))?;
+    leader.play(fact)?;
+    if let FactRest::Ballot { ballot } = fact.rest() {
+        leader.begin(fact.tx(), *ballot);
     }
-    Ok(decision)
+    Ok(())
 }
 
-/// What a leader decides on a request, of which there is one way.
-fn asked(leader: &mut Leader, verb: &[u8], tx: &[u8]) -> Result<LeaderDecision, Stop> {
-    match verb {
-        b"commit" => wanted(leader.commit(&words::tx(tx)?)),
-        b"timeout" => time_out(leader, tx),
-        b"status" => Ok(leader.status(&words::tx(tx)?)),
-        _ => Err(Stop::Unread),
-    }
-}
-
-/// A message comes.
-fn hear(leader: &mut Leader, alloc: Global, words: &[u8], page: &mut Page) -> Result<(), Stop> {
-    let mut bytes = [0; MAX_DATAGRAM];
-    let len = codec::datagram(alloc, words, &mut bytes)?;
-    let Ok(message) = view_of(&bytes[..len]) else {
-        return Err(Stop::Unread);
-    };
+/// A take-over: its ballot is stored, and then its messages go.
+fn time_out(leader: &mut Leader, tx: &[u8], page: &mut Page) -> Result<LeaderSends, Stop> {
     let LeaderDecision {
         answer,
         fact,
         sends,
-    } = wanted(leader.on_message(&message))?;
-    say(answer, &fact, &sends, page)
+    } = leader.timeout(&words::tx(tx)?);
+    let Some(fact) = fact else {
+        say(answer, &sends, page)?;
+        return Ok(sends);
+    };
+    let mut buffer = [0; MAX_TX_BYTES];
+    let fact = FactView::of(fact, &mut buffer);
+    store(leader, &fact)?;
+    page.finished_answer(answer)?;
+    page.fact(&fact)?;
+    say_sends(&sends, page)?;
+    Ok(sends)
 }
 
-/// All that it is made of.
-fn say_parts(leader: &Leader, alloc: Global, page: &mut Page) -> Result<(), Stop> {
-    let parts = format!(in alloc; "{leader:?}")?;
-    page.word(parts.as_bytes())
-}
-
-impl Part for ByValue<Leader> {
-    fn call(&mut self, alloc: Global, line: &[u8], page: &mut Page) -> Result<(), Stop> {
-        let (verb, rest) = words::cut(line);
-        match verb {
-            b"hear" => hear(&mut self.0, alloc, rest, page),
-            b"play" => {
-                let played = self.0.play(records::fact(alloc, rest)?);
-                page.played(played)
-            }
-            b"shorter" => page.facts(&wanted(self.0.shorter())?),
-            _ => {
-                let LeaderDecision {
-                    answer,
-                    fact,
-                    sends,
-                } = asked(&mut self.0, verb, rest)?;
-                say(answer, &fact, &sends, page)
-            }
-        }
-    }
-}
-
-impl Way for ByValue<Leader> {
-    fn look(&self, alloc: Global, page: &mut Page) -> Result<(), Stop> {
-        say_parts(&self.0, alloc, page)?;
-        page.facts(&wanted(self.0.shorter())?)
+/// What a leader decides on a request that stores nothing.
+fn asked(leader: &mut Leader, verb: &[u8], tx: &[u8]) -> Result<LeaderDecision, Stop> {
+    match verb {
+        b"commit" => wanted(leader.commit(&words::tx(tx)?)),
+        b"status" => Ok(leader.status(&words::tx(tx)?)),
+        _ => Err(Stop::Unread),
     }
 }
 
@@ -139,20 +99,22 @@ impl InPlace {
         let Ok(message) = view_of(&bytes[..len]) else {
             return Err(Stop::Unread);
         };
-        wanted(self.leader.decide(&message, &mut self.led))?;
+        wanted(self.leader.on_message(&message, &mut self.led))?;
         let answer = mem::replace(&mut self.led.answer, Answer::Done);
-        say(answer, &self.led.fact, &self.led.sends, page)
+        say(answer, &self.led.sends, page)
     }
 
     /// A request comes: its messages take the place of others.
     fn ask(&mut self, verb: &[u8], tx: &[u8], page: &mut Page) -> Result<(), Stop> {
-        let LeaderDecision {
-            answer,
-            fact,
-            sends,
-        } = asked(&mut self.leader, verb, tx)?;
+        let LeaderDecision { answer, sends, .. } = asked(&mut self.leader, verb, tx)?;
         self.led.sends = sends;
-        say(answer, &fact, &self.led.sends, page)
+        say(answer, &self.led.sends, page)
+    }
+
+    /// A timeout comes: its messages take the place of others.
+    fn time_out(&mut self, tx: &[u8], page: &mut Page) -> Result<(), Stop> {
+        self.led.sends = time_out(&mut self.leader, tx, page)?;
+        Ok(())
     }
 }
 
@@ -163,22 +125,14 @@ impl Part for InPlace {
             b"hear" => self.hear(alloc, rest, page),
             b"play" => {
                 let frame = words::bytes(alloc, rest)?;
-                let played = match records::read(alloc, &frame) {
-                    Ok(Found::Seen(fact)) => self.leader.play_view(&fact),
-                    Ok(Found::Built(fact)) => self.leader.play(fact),
-                    Err(stop) => return Err(stop),
-                };
+                let mut buffer = [0; MAX_TX_BYTES];
+                let fact = records::read(alloc, &frame, &mut buffer)?;
+                let played = self.leader.play(&fact);
                 page.played(played)
             }
-            b"shorter" => page.frames(&wanted(self.leader.shorter_frames())?),
+            b"shorter" => page.frames(&wanted(self.leader.shorter())?),
+            b"timeout" => self.time_out(rest, page),
             _ => self.ask(verb, rest, page),
         }
-    }
-}
-
-impl Way for InPlace {
-    fn look(&self, alloc: Global, page: &mut Page) -> Result<(), Stop> {
-        say_parts(&self.leader, alloc, page)?;
-        page.frames(&wanted(self.leader.shorter_frames())?)
     }
 }

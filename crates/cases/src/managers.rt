@@ -1,15 +1,13 @@
 //! A resource manager.
 
-use crate::calls::Part;
+use crate::calls::{Part, run_calls};
 use crate::page::Page;
-use crate::records::Found;
 use crate::stop::{Stop, wanted};
-use crate::ways::{ByValue, OverBytes, Way, run_both};
 use crate::{codec, records, tables, words};
 use protocol::{Answer, View};
 use resource_manager::{ResourceManager, SentMessage};
 use std::alloc::Global;
-use wire::{MAX_DATAGRAM, view_of};
+use wire::{MAX_DATAGRAM, MAX_TX_BYTES, view_of};
 use xid::Xid;
 
 /// Runs the calls of a case: `NUMBER MANAGERS`, and the first rows.
@@ -18,10 +16,8 @@ pub fn run(alloc: Global, rest: &[u8], calls: &[String], page: &mut Page) -> Res
     let (managers, rows) = words::cut(rest);
     let (number, managers) = (words::small(number)?, words::small(managers)?);
     let own = tables::rows(alloc, rows)?;
-    let one = ResourceManager::new(alloc, number, managers, own)?;
-    let own = tables::rows(alloc, rows)?;
-    let other = ResourceManager::new(alloc, number, managers, own)?;
-    run_both(ByValue(one), OverBytes(other), alloc, calls, page)
+    let mut manager = ResourceManager::new(alloc, number, managers, own)?;
+    run_calls(&mut manager, alloc, calls, page)
 }
 
 /// A client call on a branch.
@@ -47,6 +43,16 @@ fn client_call(
     }
 }
 
+/// What is sent, as it is spelled.
+fn say_sent(sent: &Option<SentMessage<'_>>, page: &mut Page) -> Result<(), Stop> {
+    let Some(sent) = sent else {
+        return Ok(());
+    };
+    let mut bytes = [0; MAX_DATAGRAM];
+    let len = sent.message.encode(&mut bytes);
+    page.sent(&codec::outgoing(sent.to, &bytes[..len])?)
+}
+
 /// A message comes: a fact is decided on, made ready for and played, and then the messages go.
 fn hear(
     manager: &mut ResourceManager,
@@ -59,54 +65,17 @@ fn hear(
     let Ok(message) = view_of(&bytes[..len]) else {
         return Err(Stop::Unread);
     };
-    let decision = wanted(manager.on_message(&message))?;
-    if let Some(fact) = &decision.fact {
-        wanted(manager.ready(fact))?;
-        manager.play_by(fact)?;
-    }
-    page.finished_answer(decision.answer)?;
-    if let Some(fact) = &decision.fact {
-        page.fact(fact)?;
-    }
-    for outgoing in decision.sends.as_slice() {
-        page.sent(outgoing)?;
-    }
-    Ok(())
-}
-
-/// What is sent, as it is spelled.
-fn say_sent(sent: &Option<SentMessage<'_>>, page: &mut Page) -> Result<(), Stop> {
-    let Some(sent) = sent else {
-        return Ok(());
-    };
-    let mut bytes = [0; MAX_DATAGRAM];
-    let len = sent.message.encode(&mut bytes);
-    page.sent(&codec::outgoing(sent.to, &bytes[..len])?)
-}
-
-/// The same over bytes: no fact and no message is built.
-fn hear_over_bytes(
-    manager: &mut ResourceManager,
-    alloc: Global,
-    words: &[u8],
-    page: &mut Page,
-) -> Result<(), Stop> {
-    let mut bytes = [0; MAX_DATAGRAM];
-    let len = codec::datagram(alloc, words, &mut bytes)?;
-    let Ok(message) = view_of(&bytes[..len]) else {
-        return Err(Stop::Unread);
-    };
-    let decision = match manager.decide_view(&message) {
+    let decision = match manager.on_message(&message) {
         Ok(decision) => decision,
         Err(_) => return Err(Stop::Wanted),
     };
     if let Some(fact) = &decision.fact {
-        wanted(manager.ready_view(fact))?;
-        manager.play_view(fact)?;
+        wanted(manager.ready(fact))?;
+        manager.play(fact)?;
     }
     page.finished_answer(Answer::Done)?;
     if let Some(fact) = &decision.fact {
-        page.seen_fact(fact)?;
+        page.fact(fact)?;
     }
     say_sent(&decision.sent, page)
 }
@@ -144,20 +113,7 @@ fn say_view(manager: &ResourceManager, tx: &[u8], page: &mut Page) -> Result<(),
     page.end_line()
 }
 
-/// The entries of its shorter record.
-fn say_shorter(manager: &ResourceManager, alloc: Global, page: &mut Page) -> Result<(), Stop> {
-    let entries = wanted(manager.shorter(alloc))?;
-    page.number(entries.len() as u64)?;
-    page.end_line()?;
-    for entry in &entries {
-        page.bytes(b"stored")?;
-        page.entry(entry)?;
-        page.end_line()?;
-    }
-    Ok(())
-}
-
-/// A call of which there is one way.
+/// A call that decides on no fact.
 fn call_plain(
     manager: &mut ResourceManager,
     alloc: Global,
@@ -179,50 +135,19 @@ fn call_plain(
     page.end_line()
 }
 
-impl Part for ByValue<ResourceManager> {
+impl Part for ResourceManager {
     fn call(&mut self, alloc: Global, line: &[u8], page: &mut Page) -> Result<(), Stop> {
         let (verb, rest) = words::cut(line);
         match verb {
-            b"hear" => hear(&mut self.0, alloc, rest, page),
-            b"shorter" => say_shorter(&self.0, alloc, page),
-            b"play" => {
-                let played = self.0.play(records::fact(alloc, rest)?);
-                page.played(played)
-            }
-            _ => call_plain(&mut self.0, alloc, verb, rest, page),
-        }
-    }
-}
-
-// what it would print of itself counts looks, more of them where a call was refused memory and made again
-impl Way for ByValue<ResourceManager> {
-    fn look(&self, alloc: Global, page: &mut Page) -> Result<(), Stop> {
-        say_shorter(&self.0, alloc, page)
-    }
-}
-
-impl Part for OverBytes<ResourceManager> {
-    fn call(&mut self, alloc: Global, line: &[u8], page: &mut Page) -> Result<(), Stop> {
-        let (verb, rest) = words::cut(line);
-        match verb {
-            b"hear" => hear_over_bytes(&mut self.0, alloc, rest, page),
-            b"shorter" => page.frames(&wanted(self.0.shorter_frames(alloc))?),
+            b"hear" => hear(self, alloc, rest, page),
+            b"shorter" => page.frames(&wanted(self.shorter(alloc))?),
             b"play" => {
                 let frame = words::bytes(alloc, rest)?;
-                let played = match records::read(alloc, &frame) {
-                    Ok(Found::Seen(fact)) => self.0.play_view(&fact),
-                    Ok(Found::Built(fact)) => self.0.play(fact),
-                    Err(stop) => return Err(stop),
-                };
+                let mut buffer = [0; MAX_TX_BYTES];
+                let played = self.play(&records::read(alloc, &frame, &mut buffer)?);
                 page.played(played)
             }
-            _ => call_plain(&mut self.0, alloc, verb, rest, page),
+            _ => call_plain(self, alloc, verb, rest, page),
         }
-    }
-}
-
-impl Way for OverBytes<ResourceManager> {
-    fn look(&self, alloc: Global, page: &mut Page) -> Result<(), Stop> {
-        page.frames(&wanted(self.0.shorter_frames(alloc))?)
     }
 }

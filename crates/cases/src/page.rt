@@ -3,7 +3,7 @@
 use crate::stop::Stop;
 use net_script::{WrittenTx, write_step};
 use protocol::{Address, Answer, Change, Event, NodeId, Outgoing, Row, Sent, Step};
-use stable_record::{Act, Entry, Fact, FactView, SpelledFact, Touched};
+use stable_record::{Act, Entry, FactView, Touched};
 use std::alloc::Global;
 use std::io::{self, Write};
 use wire::{Message, take_number};
@@ -189,21 +189,7 @@ impl Page {
     }
 
     /// A line for a fact that is stored: its frame.
-    pub fn fact(&mut self, fact: &Fact) -> Result<(), Stop> {
-        let mut frame = Vec::new(self.alloc);
-        fact.write(self.alloc, &mut frame)?;
-        self.stored(&frame)
-    }
-
-    /// The same, of a fact over the bytes of its transaction.
-    pub fn spelled_fact(&mut self, fact: &SpelledFact<'_>) -> Result<(), Stop> {
-        let mut frame = Vec::new(self.alloc);
-        fact.write(&mut frame)?;
-        self.stored(&frame)
-    }
-
-    /// The same, of a fact of any kind over the bytes of its transaction.
-    pub fn seen_fact(&mut self, fact: &FactView<'_>) -> Result<(), Stop> {
+    pub fn fact(&mut self, fact: &FactView<'_>) -> Result<(), Stop> {
         let mut frame = Vec::new(self.alloc);
         fact.write(&mut frame)?;
         self.stored(&frame)
@@ -253,16 +239,6 @@ impl Page {
             return Err(Stop::Wanted);
         }
         self.finished(played)
-    }
-
-    /// The facts of a shorter record, a line for each.
-    pub fn facts(&mut self, facts: &[Fact]) -> Result<(), Stop> {
-        self.number(facts.len() as u64)?;
-        self.end_line()?;
-        for fact in facts {
-            self.fact(fact)?;
-        }
-        Ok(())
     }
 
     /// The frames of a shorter record, a line for each.

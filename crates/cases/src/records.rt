@@ -3,14 +3,14 @@
 use crate::calls::{Part, run_calls};
 use crate::page::Page;
 use crate::stop::Stop;
-use crate::ways::{ByValue, OverBytes, Way, run_both};
+use crate::ways::{ByValue, OverBytes, run_both};
 use crate::words;
 use stable_record::{
     Entry, EntryKind, EntryView, Fact, FactView, FailRecord, FileRecord, Leaves, MemRecord, Record,
     RecordError, Tear, entries, take_frame, view_frame,
 };
 use std::alloc::Global;
-use wire::VERSION;
+use wire::{MAX_TX_BYTES, VERSION};
 use xid::Refusal;
 
 /// Reads frames, each call by itself.
@@ -125,22 +125,10 @@ impl Part for ByValue<Frames> {
     }
 }
 
-impl Way for ByValue<Frames> {
-    fn look(&self, _alloc: Global, _page: &mut Page) -> Result<(), Stop> {
-        Ok(())
-    }
-}
-
 impl Part for OverBytes<Frames> {
     fn call(&mut self, alloc: Global, line: &[u8], page: &mut Page) -> Result<(), Stop> {
         let bytes = bytes_to_read(alloc, line)?;
         say_frames(frames_over_bytes(alloc, &bytes), page)
-    }
-}
-
-impl Way for OverBytes<Frames> {
-    fn look(&self, _alloc: Global, _page: &mut Page) -> Result<(), Stop> {
-        Ok(())
     }
 }
 
@@ -159,31 +147,21 @@ pub fn entry(alloc: Global, word: &[u8]) -> Result<Entry, Stop> {
 }
 
 /// The fact of a frame, built.
-pub fn built(alloc: Global, frame: &[u8]) -> Result<Fact, Stop> {
+fn built(alloc: Global, frame: &[u8]) -> Result<Fact, Stop> {
     match entry_of(alloc, frame)?.into_kind() {
         EntryKind::Fact(kind) => Ok(Fact::new(kind)),
         _ => Err(Stop::Unread),
     }
 }
 
-/// The fact whose frame a word is.
-pub fn fact(alloc: Global, word: &[u8]) -> Result<Fact, Stop> {
-    built(alloc, &words::bytes(alloc, word)?)
-}
-
-/// A fact of a record as a node reads it.
-#[derive(Drop)]
-pub enum Found<'a> {
-    /// It is seen over its frame.
-    Seen(FactView<'a>),
-    /// It is built, since its frame is of version 1.
-    Built(Fact),
-}
-
-/// The fact of a frame, as a node reads it.
-pub fn read(alloc: Global, frame: &[u8]) -> Result<Found<'_>, Stop> {
+/// The fact of a frame, as a node reads it: over its bytes, or built, where it is of version 1, and spelled into a buffer.
+pub fn read<'a>(
+    alloc: Global,
+    frame: &'a [u8],
+    buffer: &'a mut [u8; MAX_TX_BYTES],
+) -> Result<FactView<'a>, Stop> {
     match view_frame(alloc, frame) {
-        Ok(Some((EntryView::Fact(fact), _))) => return Ok(Found::Seen(fact)),
+        Ok(Some((EntryView::Fact(fact), _))) => return Ok(fact),
         Ok(Some(_)) => return Err(Stop::Unread),
         Ok(None) => {}
         Err(refusal) => return Err(refusal.into()),
@@ -191,7 +169,7 @@ pub fn read(alloc: Global, frame: &[u8]) -> Result<Found<'_>, Stop> {
     if is_seen(frame, &entry_of(alloc, frame)?) {
         return Err(Stop::Unread);
     }
-    Ok(Found::Built(built(alloc, frame)?))
+    Ok(FactView::of(built(alloc, frame)?, buffer))
 }
 
 /// What a failing record leaves.

@@ -5,12 +5,6 @@ use crate::page::Page;
 use crate::stop::Stop;
 use std::alloc::Global;
 
-/// A way to call a part.
-pub trait Way: Part {
-    /// Prints what can be seen of the part, which stays as it is.
-    fn look(&self, alloc: Global, page: &mut Page) -> Result<(), Stop>;
-}
-
 /// A part that is called by value: facts, messages and entries are built.
 #[derive(Drop)]
 pub struct ByValue<T>(pub T);
@@ -29,7 +23,7 @@ struct Both<P, Q> {
 }
 
 /// Makes each call in turn, in both ways.
-pub fn run_both<P: Way + Drop, Q: Way + Drop>(
+pub fn run_both<P: Part + Drop, Q: Part + Drop>(
     one: P,
     other: Q,
     alloc: Global,
@@ -83,19 +77,14 @@ pub fn agree(first: &Page, second: &Page, page: &mut Page) -> Result<(), Stop> {
     page.bytes(second.text())
 }
 
-impl<P: Way, Q: Way> Part for Both<P, Q> {
-    /// Makes the call in both ways, looks at both parts, and prints what came of the call by value.
+impl<P: Part, Q: Part> Part for Both<P, Q> {
+    /// Makes the call in both ways, and prints what came of the call by value.
     fn call(&mut self, alloc: Global, line: &[u8], page: &mut Page) -> Result<(), Stop> {
         self.first.clear();
         self.one.call(alloc, line, &mut self.first)?;
         self.second.clear();
         call_behind(&mut self.other, alloc, line, &mut self.second)?;
         page.bytes(self.first.text())?;
-        agree(&self.first, &self.second, page)?;
-        self.first.clear();
-        behind(self.one.look(alloc, &mut self.first))?;
-        self.second.clear();
-        behind(self.other.look(alloc, &mut self.second))?;
         agree(&self.first, &self.second, page)
     }
 }

@@ -15,18 +15,16 @@ ghost use Rattle.leader.specs.Places.{course_in, is_placed_in, is_ready_in, with
 ghost use Rattle.leader.specs.Places.{IsLeft};
 ghost use Rattle.leader.specs.Compaction.{compacted};
 
-use crate::compaction::facts_of;
 use crate::course::Course;
 use crate::proposals::Proposals;
-use crate::shorter_frames::frames_of;
+use crate::shorter::frames_of;
 use hashing::HashKey;
 use protocol::Status;
-use stable_record::Fact;
 use std::alloc::Global;
 use std::marker::Model;
 use transactions::{Order, Transactions};
 use wire::{InstanceAccept, InstanceReport, SpelledTx};
-use xid::{Ballot, Floor, Refusal, Tx};
+use xid::{Ballot, Floor, Refusal};
 
 /// The transactions that a leader has to do with, in the order of first sight, and the course of each. A transaction's place is its
 /// number in that order, and stays.
@@ -314,17 +312,7 @@ impl Courses {
         self.begun.len()
     }
 
-    /// The transaction at a place among those that begin, where there is one.
-    pub fn begun_at(&self, i: usize) -> Option<Tx>
-        ensures { result ≡ slice_get self.now.begun i }
-    {
-        match self.begun.get(i) {
-            Some(place) => self.transactions.get(place),
-            None => None,
-        }
-    }
-
-    /// The same over its spelled bytes.
+    /// The transaction at a place among those that begin, where there is one, over its spelled bytes.
     pub fn begun_view(&self, i: usize) -> Option<SpelledTx<'_>>
         ensures { result ≡ slice_get self.now.begun i }
     {
@@ -346,15 +334,8 @@ impl Courses {
         self.greatest_at(tx, self.transactions.number_of_view(tx, likely))
     }
 
-    /// The greatest ballot of each transaction that has one, in the order of those that begin. `NoMemory` is the only refusal.
-    pub fn compacted(&self) -> Result<Vec<Fact>, Refusal>
-        ensures ok { IfOk result (λ facts. facts.items ≡ compacted self.now.begun (λ tx. (course_in self.now tx).greatest)) }
-        ensures err { IfErr result (λ e. e ≡ NoMemory) }
-    {
-        facts_of(self.alloc, self)
-    }
-
-    /// The frames of those ballots, one after the other. `NoMemory` is the only refusal.
+    /// The frames of the greatest ballot of each transaction that has one, one after the other, in the order of those that begin.
+    /// `NoMemory` is the only refusal.
     pub fn frames(&self) -> Result<Vec<u8>, Refusal>
         ensures ok { IfOk result (λ frames. AreWritten frames.items
             (map kinds.Fact (compacted self.now.begun (λ tx. (course_in self.now tx).greatest)))) }

@@ -16,7 +16,7 @@ ghost use Rattle.stable_record.specs.Parts.{IsMadeReady, IsPlayed};
 ghost use Rattle.stable_record.specs.declared.fact.FactKind.TheVariants as facts;
 ghost use Rattle.leader.specs.Leaders.{are_below, commit_messages, decided, taken_over, StandsFor, StandsForBallots, Follows};
 ghost use Rattle.leader.specs.Leaders.{FollowsOrRefuses, leader_part};
-ghost use Rattle.leader.specs.Compaction.{AreShorterFrames, Compacts};
+ghost use Rattle.leader.specs.Compaction.{AreShorterFrames};
 ghost use Rattle.leader.specs.Decisions.{shown};
 ghost use Rattle.protocol.specs.declared.decisions.Address.TheVariants.{Managers};
 
@@ -27,7 +27,7 @@ use crate::orders::LeaderSends;
 use ballot::{next_owned, owner};
 use hashing::HashKey;
 use protocol::{Address, Answer, NodeId, Standing, Status};
-use stable_record::{AnyRest, Fact, FactKind, FactView};
+use stable_record::{FactRest, FactView};
 use std::alloc::Global;
 use std::marker::Model;
 use wire::{
@@ -206,7 +206,7 @@ impl Leader {
     }
 
     /// Decides as `timeout` does, in place of what was decided before.
-    pub fn decide_timeout(&mut self, tx: &Tx, decision: &mut LeaderDecision)
+    fn decide_timeout(&mut self, tx: &Tx, decision: &mut LeaderDecision)
         ensures decides { (config : Config) (number : ℕ) (stored : StoredBallots) (memory : LeaderMemory)
             → StandsForBallots config number self.old stored memory
             → shown decision.new ≡ decision_of (rules.on_leader_timeout config number stored memory tx.now) }
@@ -237,37 +237,19 @@ impl Leader {
     }
 
     /// Makes a ballot current, right after `play` of it: what was reported and proposed before doesn't count any more. It takes no memory.
-    pub fn begin(&mut self, tx: &Tx, ballot: Ballot)
+    pub fn begin(&mut self, tx: &SpelledTx<'_>, ballot: Ballot)
         ensures { (config : Config) (number : ℕ) (stored : StoredBallots) (memory : LeaderMemory)
             → StandsForBallots config number self.old stored memory → 0 < stored tx.now
             → StandsForBallots config number self.new stored (with_begun tx.now ballot (with_met tx.now memory))
             × (self.new.courses.begun ≡ self.old.courses.begun) }
     {
-        let mut buffer = [0; MAX_TX_BYTES];
-        self.courses.begin(&SpelledTx::of(tx, &mut buffer), ballot);
+        self.courses.begin(tx, ballot);
     }
 
     /// Phase 1b of an acceptor for some instances: it counts in the current ballot while undecided, all items at once; then each instance
-    /// of which a majority has reported, and nothing was proposed, is proposed. It takes no memory.
+    /// of which a majority has reported, and nothing was proposed, is proposed. It decides in place of what was decided before, and takes
+    /// no memory.
     pub fn on_1b(
-        &mut self,
-        tx: &SpelledTx<'_>,
-        ballot: Ballot,
-        acceptor: u8,
-        reports: &[InstanceReport],
-    ) -> LeaderDecision
-        requires message { IsMessage (B1b tx.now ballot acceptor reports.now) }
-        requires few { length reports.now ≤ most_branches }
-        ensures { (config : Config) (number : ℕ) → Follows config number self.old self.new result
-            (λ stored memory. rules.on_1b config stored memory tx.now ballot acceptor reports.now) }
-    {
-        let mut decision = LeaderDecision::nothing();
-        self.decide_1b(tx, ballot, acceptor, reports, &mut decision);
-        decision
-    }
-
-    /// Decides as `on_1b` does, in place of what was decided before.
-    fn decide_1b(
         &mut self,
         tx: &SpelledTx<'_>,
         ballot: Ballot,
@@ -289,26 +271,8 @@ impl Leader {
 
     /// Phase 2b of an acceptor for some instances, which makes the leader know the transaction: it counts while undecided, all items at
     /// once; where there is an outcome then, each resource manager is told. At `NoMemory`, the only refusal, it stands for what it stood
-    /// for.
+    /// for. It decides in place of what was decided before, which is no decision after a refusal.
     pub fn on_2b(
-        &mut self,
-        tx: &SpelledTx<'_>,
-        acceptor: u8,
-        accepts: &[InstanceAccept],
-    ) -> Result<LeaderDecision, Refusal>
-        requires { acceptor < most_acceptors }
-        ensures { (config : Config) (number : ℕ) → FollowsOrRefuses config number self.old self.new result
-            (λ stored memory. rules.on_2b config stored memory tx.now acceptor accepts.now) }
-    {
-        let mut decision = LeaderDecision::nothing();
-        match self.decide_2b(tx, acceptor, accepts, &mut decision) {
-            Ok(()) => Ok(decision),
-            Err(refusal) => Err(refusal),
-        }
-    }
-
-    /// Decides as `on_2b` does, in place of what was decided before. After a refusal what stands there is no decision.
-    fn decide_2b(
         &mut self,
         tx: &SpelledTx<'_>,
         acceptor: u8,
@@ -329,25 +293,9 @@ impl Leader {
     }
 
     /// A resource manager asks, which makes the leader know the transaction: it is told the outcome, where there is one. At `NoMemory`,
-    /// the only refusal, it stands for what it stood for.
+    /// the only refusal, it stands for what it stood for. It decides in place of what was decided before, which is no decision after a
+    /// refusal.
     pub fn on_ask(
-        &mut self,
-        tx: &SpelledTx<'_>,
-        rm: ManagerNumber,
-    ) -> Result<LeaderDecision, Refusal>
-        requires { rm < 256 }
-        ensures { (config : Config) (number : ℕ) → FollowsOrRefuses config number self.old self.new result
-            (λ stored memory. rules.on_ask config stored memory tx.now rm) }
-    {
-        let mut decision = LeaderDecision::nothing();
-        match self.decide_ask(tx, rm, &mut decision) {
-            Ok(()) => Ok(decision),
-            Err(refusal) => Err(refusal),
-        }
-    }
-
-    /// Decides as `on_ask` does, in place of what was decided before. After a refusal what stands there is no decision.
-    fn decide_ask(
         &mut self,
         tx: &SpelledTx<'_>,
         rm: ManagerNumber,
@@ -384,21 +332,9 @@ impl Leader {
 
     /// What it does on a message: on phase 1b and 2b, single or in bundles, and on a question, what `on_1b`, `on_2b` and `on_ask` say, on
     /// every other nothing. A single one is a bundle of one. That the message names none but nodes of the cluster, and has the form that
-    /// goes there, is asked before, by the node. At `NoMemory`, the only refusal, it stands for what it stood for.
-    pub fn on_message(&mut self, message: &MessageView<'_>) -> Result<LeaderDecision, Refusal>
-        ensures { (config : Config) (number : ℕ) → FollowsOrRefuses config number self.old self.new result
-            (λ stored memory. rules.on_leader_message config stored memory message.now) }
-    {
-        let mut decision = LeaderDecision::nothing();
-        match self.decide(message, &mut decision) {
-            Ok(()) => Ok(decision),
-            Err(refusal) => Err(refusal),
-        }
-    }
-
-    /// Decides as `on_message` does, in place of what was decided before, so that no transaction is copied but one that is sent. After a
-    /// refusal what stands there is no decision.
-    pub fn decide(
+    /// goes there, is asked before, by the node. It decides in place of what was decided before, so that no transaction is copied but one
+    /// that is sent. At `NoMemory`, the only refusal, it stands for what it stood for, and what stands there is no decision.
+    pub fn on_message(
         &mut self,
         message: &MessageView<'_>,
         decision: &mut LeaderDecision,
@@ -415,7 +351,7 @@ impl Leader {
                 acceptor,
             } => {
                 let item = InstanceReport { instance, report };
-                self.decide_1b(tx, ballot, acceptor, &[item], decision);
+                self.on_1b(tx, ballot, acceptor, &[item], decision);
                 Ok(())
             }
             Rest::B1b {
@@ -424,7 +360,7 @@ impl Leader {
                 reports,
             } => {
                 let reports = reports_of(reports);
-                self.decide_1b(tx, ballot, acceptor, reports.as_slice(), decision);
+                self.on_1b(tx, ballot, acceptor, reports.as_slice(), decision);
                 Ok(())
             }
             Rest::P2b {
@@ -438,13 +374,13 @@ impl Leader {
                     ballot,
                     vote,
                 };
-                self.decide_2b(tx, acceptor, &[item], decision)
+                self.on_2b(tx, acceptor, &[item], decision)
             }
             Rest::B2b { acceptor, accepts } => {
                 let accepts = accepts_of(accepts);
-                self.decide_2b(tx, acceptor, accepts.as_slice(), decision)
+                self.on_2b(tx, acceptor, accepts.as_slice(), decision)
             }
-            Rest::Ask { rm } => self.decide_ask(tx, rm, decision),
+            Rest::Ask { rm } => self.on_ask(tx, rm, decision),
             _ => {
                 decision.clear();
                 Ok(())
@@ -454,45 +390,24 @@ impl Leader {
 
     /// Makes a place for the transaction of a ballot, and room for it to begin, so that `play` of it right afterwards takes no memory. At
     /// `NoMemory`, the only refusal, and else too, it stands for what it stood for.
-    pub fn ready(&mut self, fact: &Fact) -> Result<(), Refusal>
+    pub fn ready(&mut self, fact: &FactView<'_>) -> Result<(), Refusal>
         ensures { (config : Config) (number : ℕ) (memory : LeaderMemory)
             → IsMadeReady (leader_part config number memory) self.old self.new fact.now result }
     {
-        let FactKind::Ballot { tx, .. } = fact.kind() else {
+        let FactRest::Ballot { .. } = fact.rest() else {
             return Ok(());
         };
-        let mut buffer = [0; MAX_TX_BYTES];
-        self.courses.make_ready(&SpelledTx::of(tx, &mut buffer))
+        self.courses.make_ready(fact.tx())
     }
 
     /// Plays a ballot that is stored: it is the transaction's greatest, but isn't current before `begin`. Refused (`Damaged`) where it
     /// isn't this leader's own, or no greater than one before, or is no ballot, and (`NoMemory`) where it wasn't made ready for it;
     /// then it stands for what it stood for.
-    pub fn play(&mut self, fact: Fact) -> Result<(), Refusal>
-        ensures { (config : Config) (number : ℕ) (memory : LeaderMemory)
-            → IsPlayed (leader_part config number memory) self.old self.new fact result }
-    {
-        self.play_by(&fact)
-    }
-
-    /// Plays a ballot as `play` does, which the caller keeps.
-    pub fn play_by(&mut self, fact: &Fact) -> Result<(), Refusal>
+    pub fn play(&mut self, fact: &FactView<'_>) -> Result<(), Refusal>
         ensures { (config : Config) (number : ℕ) (memory : LeaderMemory)
             → IsPlayed (leader_part config number memory) self.old self.new fact.now result }
     {
-        let FactKind::Ballot { tx, ballot } = fact.kind() else {
-            return Err(Refusal::Damaged);
-        };
-        let mut buffer = [0; MAX_TX_BYTES];
-        self.play_ballot(&SpelledTx::of(tx, &mut buffer), *ballot)
-    }
-
-    /// Plays a fact seen over its bytes as `play` does.
-    pub fn play_view(&mut self, fact: &FactView<'_>) -> Result<(), Refusal>
-        ensures { (config : Config) (number : ℕ) (memory : LeaderMemory)
-            → IsPlayed (leader_part config number memory) self.old self.new fact.now result }
-    {
-        let AnyRest::Ballot { ballot } = fact.rest() else {
+        let FactRest::Ballot { ballot } = fact.rest() else {
             return Err(Refusal::Damaged);
         };
         self.play_ballot(fact.tx(), *ballot)
@@ -513,18 +428,9 @@ impl Leader {
         self.courses.store(tx, place, ballot)
     }
 
-    /// The facts of a shorter record that says the same: the greatest ballot of each transaction that has one, in the order of the first
-    /// ballots. `NoMemory` is the only refusal.
-    pub fn shorter(&self) -> Result<Vec<Fact>, Refusal>
-        ensures ok { IfOk result (λ kept. Compacts self.now kept.items) }
-        ensures err { IfErr result (λ e. e ≡ NoMemory) }
-    {
-        self.courses.compacted()
-    }
-
-    /// The frames, in version 2, of the facts that `shorter` gives, one after the other: no `Fact` is built. `NoMemory` is the only
-    /// refusal.
-    pub fn shorter_frames(&self) -> Result<Vec<u8>, Refusal>
+    /// A shorter record that says the same: the frames, in version 2, of the greatest ballot of each transaction that has one, in the order
+    /// of the first ballots. `NoMemory` is the only refusal.
+    pub fn shorter(&self) -> Result<Vec<u8>, Refusal>
         ensures ok { IfOk result (λ frames. AreShorterFrames self.now frames.items) }
         ensures err { IfErr result (λ e. e ≡ NoMemory) }
     {

@@ -2,7 +2,6 @@
 //! the greatest stored ballot, the current one, and for each instance who reported and told what.
 #![tactic(auto)]
 
-mod compaction;
 mod course;
 mod courses;
 mod decision;
@@ -10,7 +9,7 @@ mod instance;
 mod leader;
 mod orders;
 mod proposals;
-mod shorter_frames;
+mod shorter;
 
 pub use decision::LeaderDecision;
 pub use leader::Leader;

@@ -13,7 +13,7 @@ use Rattle.leader.specs.Leaders as of_leader
 use Rattle.resource_manager.specs.Managers as of_manager
 use Rattle.node_core.specs.declared.role.Role.{Role}
 use Rattle.node_core.specs.declared.output.Output.{Output}
-use Rattle.resource_manager.specs.declared.messages.Reminder.{Reminder}
+use Rattle.resource_manager.specs.declared.reminding.Reminder.{Reminder}
 use Rattle.protocol.specs.declared.answers.Answer.{Answer}
 
 -- a role is the one of this node of a cluster, and stands for these facts and this memory

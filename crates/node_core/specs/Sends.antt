@@ -31,6 +31,6 @@ pub record IsReplied (len : ℕ) (bytes : List ℕ) : Type 0 where
 
 -- the messages that are sent stand in one place: an acceptor's reply or a resource manager's vote on a message, the vote that it sends
 -- again, what it asks, or a leader's
-pub record AreSends (replied decided question led : List Outgoing) : Type 0 where
-  pub by_leader : 0 < length led → length decided + length question ≡ 0
-  pub by_acceptor : 0 < length replied → length decided + length question + length led ≡ 0
+pub record AreSends (replied reminded question led : List Outgoing) : Type 0 where
+  pub by_leader : 0 < length led → length reminded + length question ≡ 0
+  pub by_acceptor : 0 < length replied → length reminded + length question + length led ≡ 0

@@ -20,7 +20,7 @@ use crate::managing::manage;
 use crate::output::{Input, Output};
 use crate::requests::accepts_request;
 use crate::role::Role;
-use crate::storing::{Workspace, carry_out};
+use crate::storing::{Workspace, carry_out_asked};
 use leader::Leader;
 use protocol::{Answer, NodeId, Request};
 use stable_record::Record;
@@ -118,7 +118,7 @@ fn serve<R: Record>(
         → (effect_of config who facts memory (Asked request.now)).fact ≡ None → result ≡ true }
 {
     match role.on_request(request, out, &mut work.fact) {
-        Ok(()) => carry_out(work, device, who, role, out),
+        Ok(()) => carry_out_asked(work, device, who, role, out),
         Err(refusal) => {
             out.refuse(refusal);
             false

@@ -21,9 +21,9 @@ pub(crate) fn shorter(alloc: Global, role: &Role) -> Result<Vec<u8>, Refusal>
     ensures err { IfErr result (λ e. e ≡ NoMemory) }
 {
     match role {
-        Role::Acceptor(acceptor) => acceptor.shorter_frames(),
-        Role::Leader(leader) => leader.shorter_frames(),
-        Role::Manager(manager) => manager.shorter_frames(alloc),
+        Role::Acceptor(acceptor) => acceptor.shorter(),
+        Role::Leader(leader) => leader.shorter(),
+        Role::Manager(manager) => manager.shorter(alloc),
     }
 }
 

@@ -22,6 +22,7 @@ mod role;
 mod sends;
 mod snapshots;
 mod storing;
+mod taking;
 mod viewing;
 
 pub use config::{Config, Sizes};

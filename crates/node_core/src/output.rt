@@ -11,8 +11,8 @@ use acceptor::SentReply;
 use leader::LeaderSends;
 use protocol::{Answer, Change, NodeId, Request, View};
 use resource_manager::{Reminder, SentMessage};
-use stable_record::{AnyRest, Fact, FactKind, FactView};
-use xid::{Refusal, Tx};
+use stable_record::{Fact, FactRest, FactView};
+use xid::Refusal;
 
 /// What a node is handed.
 #[derive(Clone, Copy, Debug)]
@@ -72,44 +72,9 @@ impl Output {
         self.now = None;
     }
 
-    /// The refusal of an append that was stopped, with the change that the fact makes where its whole frame was kept.
-    pub(crate) fn stop(&mut self, stopped: Stopped, who: NodeId, fact: &Fact)
-        ensures { self.new ≡ stopped_output stopped (change_made who fact.now) }
-    {
-        match stopped {
-            Stopped::Memory => self.refuse(Refusal::NoMemory),
-            Stopped::Fault { whole } => {
-                self.refuse(Refusal::RecordFault);
-                if whole {
-                    self.put_change_by(who, fact);
-                }
-            }
-        }
-    }
-
     /// The change of a view that a fact makes, once it is stored.
-    pub(crate) fn put_change_by(&mut self, who: NodeId, fact: &Fact)
-        ensures { self.new ≡ record { reply = self.old.reply; now = change_made who fact.now; sends = self.old.sends } }
-    {
-        let NodeId::R(rm) = who else {
-            self.keep_view();
-            return;
-        };
-        match fact.kind() {
-            FactKind::VotePrepared { tx, .. } => self.put_change(rm, tx, View::Prepared),
-            FactKind::VoteAborted(tx) => self.put_change(rm, tx, View::Aborted),
-            FactKind::Committed(tx) => self.put_change(rm, tx, View::Committed),
-            FactKind::Aborted(tx) => self.put_change(rm, tx, View::Aborted),
-            FactKind::Promise { .. }
-            | FactKind::PromiseAll { .. }
-            | FactKind::Accept { .. }
-            | FactKind::Ballot { .. } => self.keep_view(),
-        }
-    }
-
-    /// The change of a view that a fact makes, as `put_change_by` puts it.
     #[inline(never)]
-    pub(crate) fn put_change_by_view(&mut self, who: NodeId, fact: &FactView<'_>)
+    pub(crate) fn put_change_by(&mut self, who: NodeId, fact: &FactView<'_>)
         ensures { self.new ≡ record { reply = self.old.reply; now = change_made who fact.now; sends = self.old.sends } }
     {
         let NodeId::R(rm) = who else {
@@ -117,31 +82,20 @@ impl Output {
             return;
         };
         let view = match fact.rest() {
-            AnyRest::VotePrepared { .. } => View::Prepared,
-            AnyRest::VoteAborted => View::Aborted,
-            AnyRest::Committed => View::Committed,
-            AnyRest::Aborted => View::Aborted,
-            AnyRest::Promise { .. }
-            | AnyRest::PromiseAll { .. }
-            | AnyRest::Accept { .. }
-            | AnyRest::Ballot { .. } => {
+            FactRest::VotePrepared { .. } => View::Prepared,
+            FactRest::VoteAborted => View::Aborted,
+            FactRest::Committed => View::Committed,
+            FactRest::Aborted => View::Aborted,
+            FactRest::Promise { .. }
+            | FactRest::PromiseAll { .. }
+            | FactRest::Accept { .. }
+            | FactRest::Ballot { .. } => {
                 self.keep_view();
                 return;
             }
         };
         let tx = fact.tx().to_tx();
         self.now = Some(Change { rm, tx, view });
-    }
-
-    /// A view that is changed.
-    fn put_change(&mut self, rm: u8, tx: &Tx, view: View)
-        ensures { self.new ≡ record {
-          reply = self.old.reply;
-          now = Some (record { rm = rm; tx = tx.now; view = view });
-          sends = self.old.sends;
-        } }
-    {
-        self.now = Some(Change { rm, tx: *tx, view });
     }
 
     /// What an acceptor answers and sends.
@@ -160,8 +114,8 @@ impl Output {
         self.sends.send(sent);
     }
 
-    /// The refusal of an append that was stopped, as `stop` puts it.
-    pub(crate) fn stop_by_view(&mut self, stopped: Stopped, who: NodeId, fact: &FactView<'_>)
+    /// The refusal of an append that was stopped, with the change that the fact makes where its whole frame was kept.
+    pub(crate) fn stop(&mut self, stopped: Stopped, who: NodeId, fact: &FactView<'_>)
         ensures { self.new ≡ stopped_output stopped (change_made who fact.now) }
     {
         match stopped {
@@ -169,18 +123,8 @@ impl Output {
             Stopped::Fault { whole: false } => self.refuse(Refusal::RecordFault),
             Stopped::Fault { whole: true } => {
                 self.answer(Answer::Refused(Refusal::RecordFault));
-                self.put_change_by_view(who, fact);
+                self.put_change_by(who, fact);
             }
-        }
-    }
-
-    /// The refusal of an append that was stopped, with no change.
-    pub(crate) fn stop_unchanged(&mut self, stopped: Stopped)
-        ensures { self.new ≡ stopped_output stopped None }
-    {
-        match stopped {
-            Stopped::Memory => self.refuse(Refusal::NoMemory),
-            Stopped::Fault { .. } => self.refuse(Refusal::RecordFault),
         }
     }
 

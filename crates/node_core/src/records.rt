@@ -8,11 +8,13 @@ ghost use Rattle.stable_record.specs.Views.{entry_seen};
 ghost use Rattle.protocol.specs.Effects.{Config};
 ghost use Rattle.protocol.specs.Nodes.{empty_memory};
 ghost use Rattle.protocol.specs.declared.nodes.NodeId.{NodeId as Id};
-ghost use Rattle.node_core.specs.Roles.{RoleStands};
+ghost use Rattle.node_core.specs.Roles.{Replays, RoleStands};
 ghost use Rattle.node_core.specs.Opening.{ReplaysAll, PlaysEntry, PlaysFirst, IsPlayedWhole};
 
 use crate::role::Role;
-use stable_record::{AnyRest, Entry, EntryKind, EntryView, Fact, FactView, take_frame, view_frame};
+use stable_record::{
+    Entry, EntryKind, EntryView, Fact, FactRest, FactView, take_frame, view_frame,
+};
 use std::alloc::Global;
 use wire::{MAX_TX_BYTES, SpelledTx};
 use xid::{Refusal, Sequence, Tx};
@@ -23,19 +25,19 @@ fn play_past(
     alloc: Global,
     role: &mut Role,
     tx: &SpelledTx<'_>,
-    outcome: AnyRest,
+    outcome: FactRest,
 ) -> Result<(), Refusal>
     requires { IsFact (fact_of tx.now outcome) }
     ensures { ReplaysAll role.old role.new (facts.VotePrepared tx.now [] ∷ fact_of tx.now outcome ∷ []) result }
 {
     let keys = Sequence::new(Vec::new(alloc));
-    role.replay_view(&FactView::new(tx.again(), AnyRest::VotePrepared { keys }))?;
-    role.replay_view(&FactView::new(tx.again(), outcome))
+    role.replay(&FactView::new(tx.again(), FactRest::VotePrepared { keys }))?;
+    role.replay(&FactView::new(tx.again(), outcome))
 }
 
 /// Does as `play_past`, of a transaction with its parts in place. It stands apart, since the room for its spelling is cleared.
 #[inline(never)]
-fn play_built(alloc: Global, role: &mut Role, tx: &Tx, outcome: AnyRest) -> Result<(), Refusal>
+fn play_built(alloc: Global, role: &mut Role, tx: &Tx, outcome: FactRest) -> Result<(), Refusal>
     requires { IsFact (fact_of tx.now outcome) }
     ensures { ReplaysAll role.old role.new (facts.VotePrepared tx.now [] ∷ fact_of tx.now outcome ∷ []) result }
 {
@@ -53,20 +55,29 @@ fn play_view(
     ensures { PlaysEntry compacted role.old role.new (entry_seen entry.entry) result }
 {
     match entry {
-        EntryView::Fact(fact) => role.replay_view(&fact),
+        EntryView::Fact(fact) => role.replay(&fact),
         EntryView::PastCommitted(tx) => {
             if !compacted {
                 return Err(Refusal::Damaged);
             }
-            play_past(alloc, role, &tx, AnyRest::Committed)
+            play_past(alloc, role, &tx, FactRest::Committed)
         }
         EntryView::PastAborted(tx) => {
             if !compacted {
                 return Err(Refusal::Damaged);
             }
-            play_past(alloc, role, &tx, AnyRest::Aborted)
+            play_past(alloc, role, &tx, FactRest::Aborted)
         }
     }
+}
+
+/// Plays a fact that has its transaction in place, as `play_built` does.
+#[inline(never)]
+fn play_fact(role: &mut Role, fact: Fact) -> Result<(), Refusal>
+    ensures { Replays role.old role.new fact result }
+{
+    let mut buffer = [0; MAX_TX_BYTES];
+    role.replay(&FactView::of(fact, &mut buffer))
 }
 
 /// Plays an entry of a record, as `play_view` does.
@@ -74,20 +85,20 @@ fn play_entry(alloc: Global, role: &mut Role, compacted: bool, entry: Entry) -> 
     ensures { PlaysEntry compacted role.old role.new entry result }
 {
     match entry.into_kind() {
-        EntryKind::Fact(kind) => role.replay(Fact::new(kind)),
+        EntryKind::Fact(kind) => play_fact(role, Fact::new(kind)),
         EntryKind::Snapshot => Err(Refusal::Damaged),
         EntryKind::Row { .. } => Err(Refusal::Damaged),
         EntryKind::PastCommitted(tx) => {
             if !compacted {
                 return Err(Refusal::Damaged);
             }
-            play_built(alloc, role, &tx, AnyRest::Committed)
+            play_built(alloc, role, &tx, FactRest::Committed)
         }
         EntryKind::PastAborted(tx) => {
             if !compacted {
                 return Err(Refusal::Damaged);
             }
-            play_built(alloc, role, &tx, AnyRest::Aborted)
+            play_built(alloc, role, &tx, FactRest::Aborted)
         }
     }
 }

@@ -1,12 +1,8 @@
 ghost use Rattle.std.specs.Prelude.{◌≡◌, ℕ, true, not, IfErr, IfOk, IsOk, OnOk};
 ghost use Rattle.xid.specs.declared.refusals.Refusal.TheVariants.{NoMemory};
-ghost use Rattle.stable_record.specs.Parts.{IsMadeReady};
-ghost use Rattle.acceptor.specs.Acceptors.{acceptor_part};
-ghost use Rattle.protocol.specs.Effects.{Config};
 ghost use Rattle.protocol.specs.Nodes.{on_request as on_request_of};
-ghost use Rattle.node_core.specs.declared.role.Role.TheVariants as roles;
 ghost use Rattle.node_core.specs.Raising.{Leaves, TellsClear};
-ghost use Rattle.node_core.specs.Roles.{Decides, HasRoomFor, IsSame, Replays, Takes, decided};
+ghost use Rattle.node_core.specs.Roles.{Decides, Replays, decided};
 ghost use Rattle.node_core.specs.Sparing.{serves_freely};
 ghost use Rattle.node_core.specs.Viewing.{TellsUnused};
 
@@ -17,9 +13,8 @@ use hashing::HashKey;
 use leader::Leader;
 use protocol::Request;
 use resource_manager::ResourceManager;
-use stable_record::{Fact, FactKind, FactView};
+use stable_record::{Fact, FactView};
 use std::alloc::Global;
-use wire::{MAX_TX_BYTES, SpelledTx};
 use xid::{Floor, Refusal};
 
 /// What a node is: one part of the protocol. None of their rules stands here.
@@ -76,50 +71,15 @@ impl Role {
         }
     }
 
-    /// Makes itself ready for a fact that it decided, so that `take` of it takes no memory. Refused: `NoMemory` alone.
-    pub fn ready(&mut self, fact: &Fact) -> Result<(), Refusal>
-        ensures ok { OnOk result (IsSame self.old self.new × HasRoomFor self.new fact.now) }
-        ensures err { IfErr result (λ e. e ≡ NoMemory) }
-    {
-        match self {
-            Role::Acceptor(acceptor) => ready_of(acceptor, fact),
-            Role::Leader(leader) => leader.ready(fact),
-            Role::Manager(manager) => manager.ready(fact),
-        }
-    }
-
-    /// Plays a fact that it decided and for which it is ready, once it is stored; a leader begins its ballot. It takes no memory, and is
-    /// refused for no such fact.
-    pub fn take(&mut self, fact: &Fact) -> Result<(), Refusal>
-        ensures { Takes self.old self.new fact.now result }
-    {
-        match self {
-            Role::Acceptor(acceptor) => acceptor.replay(fact),
-            Role::Leader(leader) => begin_stored(leader, fact),
-            Role::Manager(manager) => manager.play_by(fact),
-        }
-    }
-
     /// Plays a fact of a record, after those before it. Refused: the fact doesn't play (`Damaged`), or `NoMemory`; then the role is of no
     /// use any more.
-    pub fn replay(&mut self, fact: Fact) -> Result<(), Refusal>
-        ensures { Replays self.old self.new fact result }
-    {
-        match self {
-            Role::Acceptor(acceptor) => acceptor.replay(&fact),
-            Role::Leader(leader) => leader.play(fact),
-            Role::Manager(manager) => manager.play(fact),
-        }
-    }
-
-    /// Plays a fact of a record, seen over its bytes, as `replay` does.
-    pub fn replay_view(&mut self, fact: &FactView<'_>) -> Result<(), Refusal>
+    pub fn replay(&mut self, fact: &FactView<'_>) -> Result<(), Refusal>
         ensures { Replays self.old self.new fact.now result }
     {
         match self {
-            Role::Acceptor(acceptor) => acceptor.replay_view(fact),
-            Role::Leader(leader) => leader.play_view(fact),
-            Role::Manager(manager) => manager.play_view(fact),
+            Role::Acceptor(acceptor) => acceptor.play(fact),
+            Role::Leader(leader) => leader.play(fact),
+            Role::Manager(manager) => manager.play(fact),
         }
     }
 
@@ -164,29 +124,5 @@ impl Role {
             Role::Leader(leader) => Ok(Role::Leader(leader.above(key, floor)?)),
             Role::Manager(manager) => Ok(Role::Manager(manager.above(alloc, key, floor)?)),
         }
-    }
-}
-
-/// Makes an acceptor ready for a fact.
-fn ready_of(acceptor: &mut Acceptor, fact: &Fact) -> Result<(), Refusal>
-    ensures { (config : Config) (number : ℕ) → IsMadeReady (acceptor_part config number) acceptor.old acceptor.new fact.now result }
-{
-    let mut buffer = [0; MAX_TX_BYTES];
-    acceptor.ready(&SpelledTx::of(fact.kind().tx(), &mut buffer))
-}
-
-/// Plays a ballot that is stored, and makes it current.
-fn begin_stored(leader: &mut Leader, fact: &Fact) -> Result<(), Refusal>
-    ensures { Takes (roles.Leader leader.old) (roles.Leader leader.new) fact.now result }
-{
-    let FactKind::Ballot { tx, ballot } = fact.kind() else {
-        return Err(Refusal::Damaged);
-    };
-    match leader.play_by(fact) {
-        Ok(()) => {
-            leader.begin(tx, *ballot);
-            Ok(())
-        }
-        Err(refusal) => Err(refusal),
     }
 }

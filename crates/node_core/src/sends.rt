@@ -139,7 +139,7 @@ impl NodeSends {
         self.replied.clear();
         self.reminded.clear();
         self.question.clear();
-        leader.decide(message, &mut self.led)?;
+        leader.on_message(message, &mut self.led)?;
         *reply = mem::replace(&mut self.led.answer, Answer::Done);
         Ok(())
     }

@@ -1,7 +1,7 @@
 -- What a resource manager decides is what the machine's rules say.
 use Rattle.std.proofs.Common.{◌≡◌, ◌∙◌, ℕ, Bool, true, false, ◌||◌, ◌&&◌, if◌then◌else◌, List, [], ◌∷◌, ◌++◌, Option}
 use Rattle.std.proofs.Common.{Some, None, Result, Ok, Err, is_some, refl, sym, ap, subst}
-use Rattle.std.specs.Prelude.{IfOk, OnOk}
+use Rattle.std.specs.Prelude.{IfOk}
 use Rattle.std.specs.List.{IsDistinct}
 use Rattle.std.proofs.lemmas.Bool.{both_ways, false_from_ne_true}
 use Rattle.xid.specs.Names.{XidParts, xid_eq}
@@ -38,8 +38,8 @@ use Rattle.protocol.proofs.Manager.Prepared.{names_held_once}
 use Rattle.protocol.proofs.Manager.Views.{prepared_shows, vote_in_stands}
 use Rattle.branch_table.specs.Tables.{AreTableBranches}
 use Rattle.resource_manager.specs.declared.course.Course.{Course}
-use Rattle.resource_manager.specs.declared.viewing.ManagerDecision.{ManagerDecision}
-use Rattle.resource_manager.specs.declared.messages.Reminder.{Reminder}
+use Rattle.resource_manager.specs.declared.messages.ManagerDecision.{ManagerDecision}
+use Rattle.resource_manager.specs.declared.reminding.Reminder.{Reminder}
 use Rattle.resource_manager.specs.Courses.{Stored, stored_by, vote_of, view_of, vote_among, is_ended_among, is_new_course, view_among}
 use Rattle.resource_manager.specs.Courses.{course_in}
 use Rattle.resource_manager.specs.SpentNames.{is_spent_in}
@@ -424,14 +424,6 @@ module _ (m : ManagerParts) (tx : TxParts) (config : Config) (number : ℕ) (fac
 pub course_of : (m old : ManagerParts) (tx : TxParts) (c : Course) → m ≡ old → c ≡ course_in m.courses tx → course_in old.courses tx ≡ c
 course_of m old tx c e f = sym (f ∙ ap (λ (o : ManagerParts). course_in o.courses tx) e)
 
-abbrev pub storing : Decision → Fact → Decision
-storing d f = record { answer = d.answer; fact = Some f; sends = d.sends }
-
--- a fact put where nothing was decided
-pub stored_is : (d : Decision) (f g : Fact) → d ≡ nothing → f ≡ g
-    → storing d f ≡ record { answer = Done; fact = Some g; sends = [] }
-stored_is d f g e same = λ i. record { answer = (e i).answer; fact = Some (same i); sends = (e i).sends }
-
 pub told_is : (d : Decision) (n o : ℕ) (tx : TxParts) (vote : Vote)
     → d ≡ record { answer = Done; fact = None; sends = vote_sent n tx (Some vote) } → n ≡ o
     → d ≡ record { answer = Done; fact = None; sends = vote_sent o tx (Some vote) }
@@ -445,17 +437,6 @@ ended_by Course.Prepared e f = absurd (cc (e))
 ended_by Course.VotedAborted e f = absurd (cc (e))
 ended_by Course.Committed e f = absurd (cc (e))
 ended_by Course.RolledBack e f = absurd (cc (e))
-
-pub first_ok : {A E : Type 0} (r : Result A E) (decision : Decision) (m : ManagerParts) (tx : TxParts) (x : XidParts)
-    → xid_at tx m.number ≡ Some x → course_in m.courses tx ≡ Course.Working
-    → (is_spent_in m.spent x ≡ false → AreTableBranches m.table.branches)
-    → OnOk r ((branches : List Branch) → decision
-    ≡ decision_of (first_vote m.number branches tx x (is_spent_in m.spent x) (idle_keys m.table.branches x)))
-    → OnOk r (Decides m decision
-    (λ config number stored branches. on_manager_message number stored branches (xid_at tx number) (kinds.Prepare tx)))
-first_ok (Ok done) decision m tx x name working are is =
-    λ config number facts branches stands. first_is m tx x name working config number facts branches stands decision are (is branches)
-first_ok (Err refusal) decision m tx x name working are is = tt
 
 pub first_shown : (r : Result ManagerDecision Refusal) (m : ManagerParts) (tx : TxParts) (x : XidParts)
     → xid_at tx m.number ≡ Some x → course_in m.courses tx ≡ Course.Working

@@ -163,11 +163,3 @@ module _ (config : Config) (number : ℕ) (m : ManagerParts) (facts : List Fact)
             ∙ ap (shorter_entries rows) (sym e))) (no_longer rows before);
         same = says_same config number rows told facts played (keys_at_first over config number told facts played course stands.stored_are);
       }
-
--- where there are entries, they are so
-pub all_shortened : {V E : Type 0} (r : Result V E) (items : V → List Entry) (m : ManagerParts) → IfOk r (λ v. items v ≡ entries_at m)
-    → IfOk r (λ v. (config : Config) (number : ℕ) (facts : List Fact) (branches : List Branch)
-    → StandsFor config number m facts branches → IsShortened config number facts (items v))
-all_shortened (Ok v) items m e = λ config number facts branches stands.
-    subst (IsShortened config number facts) (sym e) (shortened config number m facts branches stands)
-all_shortened (Err refusal) items m e = tt

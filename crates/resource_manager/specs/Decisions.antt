@@ -3,8 +3,8 @@ use Rattle.std.specs.Prelude.{List, [], ◌∷◌, Option, Some, None}
 use Rattle.protocol.specs.declared.answers.Answer.TheVariants.{Done}
 use Rattle.protocol.specs.declared.decisions.Decision.{Decision}
 use Rattle.protocol.specs.declared.decisions.Outgoing.{Outgoing}
-use Rattle.resource_manager.specs.declared.viewing.ManagerDecision.{ManagerDecision}
-use Rattle.resource_manager.specs.declared.viewing.SentMessage.{SentMessage}
+use Rattle.resource_manager.specs.declared.messages.ManagerDecision.{ManagerDecision}
+use Rattle.resource_manager.specs.declared.messages.SentMessage.{SentMessage}
 
 -- the messages that are sent: one, or none
 abbrev pub sent_message : Option SentMessage → List Outgoing

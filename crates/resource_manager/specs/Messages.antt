@@ -10,7 +10,7 @@ use Rattle.protocol.specs.Facts.{is_prepared_view}
 use Rattle.protocol.specs.Managers.{Branch}
 use Rattle.resource_manager.specs.Courses.{view_of}
 use Rattle.resource_manager.specs.declared.course.Course.{Course}
-use Rattle.resource_manager.specs.declared.messages.Reminder.{Reminder}
+use Rattle.resource_manager.specs.declared.reminding.Reminder.{Reminder}
 
 -- whether numbers are below one
 abbrev pub are_below : ℕ → List ℕ → Bool

@@ -8,11 +8,10 @@ mod forgetting;
 mod manager;
 mod messages;
 mod playing;
+mod reminding;
 mod shorter;
-mod shorter_frames;
 mod spent;
-mod viewing;
 
 pub use manager::ResourceManager;
-pub use messages::Reminder;
-pub use viewing::{ManagerDecision, SentMessage};
+pub use messages::{ManagerDecision, SentMessage};
+pub use reminding::Reminder;

@@ -1,5 +1,6 @@
 ghost use Rattle.std.specs.Prelude.{◌≡◌, ◌++◌, ℕ, true, List, [], filter_map, length, IfOk, IfErr, OnOk};
 ghost use Rattle.std.specs.List.{cons_option};
+ghost use Rattle.xid.specs.Transactions.{IsTx, xid_at};
 ghost use Rattle.xid.specs.declared.refusals.Refusal.TheVariants.{NoMemory};
 ghost use Rattle.stable_record.specs.declared.fact.FactKind.{FactKind as Fact};
 ghost use Rattle.protocol.specs.declared.requests.Action.TheVariants as actions;
@@ -13,14 +14,15 @@ ghost use Rattle.resource_manager.specs.Managers.{IsCall, StandsFor, view_answer
 ghost use Rattle.resource_manager.specs.Open.{open_at, open_in};
 
 use crate::courses::Courses;
-use crate::messages::is_inside;
+use crate::reminding::is_inside;
 use crate::spent::SpentNames;
 use branch_table::{BranchTable, Ending};
 use hashing::HashKey;
 use protocol::{Answer, Row, View};
 use std::alloc::Global;
 use std::marker::Model;
-use xid::{Refusal, Tx, XaCode, Xid};
+use wire::SpelledTx;
+use xid::{ManagerNumber, Refusal, Tx, XaCode, Xid};
 
 /// A resource manager: its number, how many there are, how far each transaction has come, the spent names, and the branches with the
 /// table.
@@ -172,6 +174,21 @@ impl ResourceManager {
             return Err(Refusal::BadTx);
         }
         Ok(self.courses.of_tx(tx).view())
+    }
+
+    /// Its number, as transactions have it.
+    pub(crate) fn number(&self) -> ManagerNumber
+        ensures { result ≡ self.now.number }
+    {
+        u16::from(self.number)
+    }
+
+    /// The name that a transaction has here, if it has one.
+    pub(crate) fn name_here(&self, tx: &SpelledTx<'_>) -> Option<Xid>
+        ensures value { result ≡ xid_at tx.now self.now.number }
+        ensures valid { IsTx tx.now }
+    {
+        tx.branch(self.number())
     }
 
     /// Of how many transactions it keeps something in memory.

@@ -14,36 +14,23 @@ ghost use Rattle.resource_manager.specs.Playing.{IsThere, MeansSame, Plays, Play
 
 use crate::course::Course;
 use crate::manager::ResourceManager;
-use stable_record::{AnyRest, Fact, FactKind, FactView, Touched};
-use wire::{MAX_TX_BYTES, SpelledTx};
-use xid::{Refusal, Tx, Xid};
+use stable_record::{FactRest, FactView, Touched};
+use wire::SpelledTx;
+use xid::{Refusal, Xid};
 
 impl ResourceManager {
     /// Makes itself ready for a fact that it decided, so that `play` of it takes no memory: its transaction is seen, and there is room for
     /// a spent name; a commit takes none. At `NoMemory`, the only refusal, and else too, it stands for what it stood for. A vote prepared
     /// of a branch that doesn't exist, which none that it decided is, takes memory when it is played.
-    pub fn ready(&mut self, fact: &Fact) -> Result<(), Refusal>
-        ensures { (config : Config) (number : ℕ) (branches : List Branch)
-            → IsMadeReady (placed_part config number branches) self.old self.new fact.now result }
-    {
-        match fact.kind() {
-            FactKind::VotePrepared { tx, .. } => self.spell_and_ready(tx),
-            FactKind::VoteAborted(tx) => self.spell_and_ready(tx),
-            FactKind::Aborted(tx) => self.spell_and_ready(tx),
-            _ => Ok(()),
-        }
-    }
-
-    /// Makes itself ready for a fact seen over its bytes as `ready` does.
-    pub fn ready_view(&mut self, fact: &FactView<'_>) -> Result<(), Refusal>
+    pub fn ready(&mut self, fact: &FactView<'_>) -> Result<(), Refusal>
         ensures { (config : Config) (number : ℕ) (branches : List Branch)
             → IsMadeReady (placed_part config number branches) self.old self.new fact.now result }
     {
         let tx = fact.tx();
         match fact.rest() {
-            AnyRest::VotePrepared { .. } => self.ready_places(tx),
-            AnyRest::VoteAborted => self.ready_places(tx),
-            AnyRest::Aborted => self.ready_places(tx),
+            FactRest::VotePrepared { .. } => self.ready_places(tx),
+            FactRest::VoteAborted => self.ready_places(tx),
+            FactRest::Aborted => self.ready_places(tx),
             _ => Ok(()),
         }
     }
@@ -51,16 +38,7 @@ impl ResourceManager {
     /// Plays a fact that is stored: one that was decided, or one of a record that is replayed, when there are none but prepared branches.
     /// Refused (`Damaged`) where its condition doesn't hold, and (`NoMemory`) where it wasn't made ready for it; then it stands for what
     /// it stood for.
-    pub fn play(&mut self, fact: Fact) -> Result<(), Refusal>
-        ensures plays { (config : Config) (number : ℕ) (branches : List Branch) → IsPlayable number branches fact
-            → IsPlayed (manager_part config number branches) self.old self.new fact result }
-        ensures refused { OnErr result (StandsForSame self.old self.new) }
-    {
-        self.play_by(&fact)
-    }
-
-    /// Plays a fact as `play` does, which the caller keeps.
-    pub fn play_by(&mut self, fact: &Fact) -> Result<(), Refusal>
+    pub fn play(&mut self, fact: &FactView<'_>) -> Result<(), Refusal>
         ensures plays { (config : Config) (number : ℕ) (branches : List Branch) → IsPlayable number branches fact.now
             → IsPlayed (manager_part config number branches) self.old self.new fact.now result }
         ensures refused { OnErr result (StandsForSame self.old self.new) }
@@ -68,48 +46,20 @@ impl ResourceManager {
         self.play_kind(fact)
     }
 
-    /// Plays a fact seen over its bytes as `play` does.
-    pub fn play_view(&mut self, fact: &FactView<'_>) -> Result<(), Refusal>
-        ensures plays { (config : Config) (number : ℕ) (branches : List Branch) → IsPlayable number branches fact.now
-            → IsPlayed (manager_part config number branches) self.old self.new fact.now result }
-        ensures refused { OnErr result (StandsForSame self.old self.new) }
-    {
-        self.play_seen(fact)
-    }
-
-    /// Plays a fact seen over its bytes, by its kind.
-    fn play_seen(&mut self, fact: &FactView<'_>) -> Result<(), Refusal>
+    /// Plays a fact by its kind.
+    fn play_kind(&mut self, fact: &FactView<'_>) -> Result<(), Refusal>
         ensures { Plays self.old self.new fact.now result }
     {
         let tx = fact.tx();
         match fact.rest() {
-            AnyRest::VotePrepared { keys } => self.play_prepared(tx, keys.as_slice()),
-            AnyRest::VoteAborted => self.play_refused(tx),
-            AnyRest::Committed => self.play_committed(tx),
-            AnyRest::Aborted => self.play_aborted(tx),
-            AnyRest::Promise { .. } => Err(Refusal::Damaged),
-            AnyRest::PromiseAll { .. } => Err(Refusal::Damaged),
-            AnyRest::Accept { .. } => Err(Refusal::Damaged),
-            AnyRest::Ballot { .. } => Err(Refusal::Damaged),
-        }
-    }
-
-    /// Plays a fact by its kind.
-    fn play_kind(&mut self, fact: &Fact) -> Result<(), Refusal>
-        ensures { Plays self.old self.new fact.now result }
-    {
-        let kind = fact.kind();
-        let mut buffer = [0; MAX_TX_BYTES];
-        let tx = SpelledTx::of(kind.tx(), &mut buffer);
-        match kind {
-            FactKind::VotePrepared { keys, .. } => self.play_prepared(&tx, keys.as_slice()),
-            FactKind::VoteAborted(_) => self.play_refused(&tx),
-            FactKind::Committed(_) => self.play_committed(&tx),
-            FactKind::Aborted(_) => self.play_aborted(&tx),
-            FactKind::Promise { .. } => Err(Refusal::Damaged),
-            FactKind::PromiseAll { .. } => Err(Refusal::Damaged),
-            FactKind::Accept { .. } => Err(Refusal::Damaged),
-            FactKind::Ballot { .. } => Err(Refusal::Damaged),
+            FactRest::VotePrepared { keys } => self.play_prepared(tx, keys.as_slice()),
+            FactRest::VoteAborted => self.play_refused(tx),
+            FactRest::Committed => self.play_committed(tx),
+            FactRest::Aborted => self.play_aborted(tx),
+            FactRest::Promise { .. } => Err(Refusal::Damaged),
+            FactRest::PromiseAll { .. } => Err(Refusal::Damaged),
+            FactRest::Accept { .. } => Err(Refusal::Damaged),
+            FactRest::Ballot { .. } => Err(Refusal::Damaged),
         }
     }
 
@@ -132,16 +82,6 @@ impl ResourceManager {
             Ok(()) => Ok(number),
             Err(refusal) => Err(refusal),
         }
-    }
-
-    /// Makes ready for a vote, or an abort, of a transaction that isn't spelled yet.
-    fn spell_and_ready(&mut self, tx: &Tx) -> Result<(), Refusal>
-        ensures ok { OnOk result (HasPlaces self.new tx.now) }
-        ensures same { MeansSame self.old self.new }
-        ensures err { IfErr result (λ e. e ≡ NoMemory) }
-    {
-        let mut buffer = [0; MAX_TX_BYTES];
-        self.ready_places(&SpelledTx::of(tx, &mut buffer))
     }
 
     /// Makes ready for a vote, or an abort.

@@ -1,87 +1,98 @@
-//! The entries of a shorter record, which says the same as all the facts that were played.
+//! The frames of a shorter record, written from the spelled bytes of its transactions.
 
-ghost use Rattle.std.specs.Prelude.{◌≡◌, ◌++◌, ℕ, true, List, [], map, IfOk, IfErr, OnOk};
+ghost use Rattle.std.specs.Prelude.{◌≡◌, ◌∷◌, [], true, map, IfOk, IfErr, OnOk};
 ghost use Rattle.std.specs.List.{cons_option};
+ghost use Rattle.std.specs.Option.{option_map};
 ghost use Rattle.xid.specs.Names.{IsBytes};
 ghost use Rattle.xid.specs.declared.refusals.Refusal.TheVariants.{NoMemory};
 ghost use Rattle.stable_record.specs.Facts.{AreKeys};
-ghost use Rattle.stable_record.specs.declared.fact.FactKind.{FactKind as Stored};
-ghost use Rattle.protocol.specs.Effects.{Config};
-ghost use Rattle.protocol.specs.Managers.{Branch};
+ghost use Rattle.stable_record.specs.Views.{entry_seen};
+ghost use Rattle.stable_record.specs.Written.{Adds, AreWritten};
 ghost use Rattle.branch_table.specs.Tables.{are_rows, is_row};
-ghost use Rattle.resource_manager.specs.Compacted.{IsShortened, entries_at, entry_at, keys_here, row_entry};
-ghost use Rattle.resource_manager.specs.Managers.{StandsFor};
+ghost use Rattle.resource_manager.specs.Compacted.{AreShorterFrames, entries_at, entry_at, keys_here, row_entry};
 
 use crate::course::Course;
 use crate::manager::ResourceManager;
 use protocol::Row;
-use stable_record::{Entry, EntryKind, FactKind, Touched};
+use stable_record::{Entry, EntryKind, EntryView, FactRest, FactView, Touched, write_row};
 use std::alloc::Global;
-use xid::{Refusal, Sequence, Tx};
+use wire::SpelledTx;
+use xid::{Refusal, Sequence};
 
 impl ResourceManager {
-    /// What its record may hold in place of all that it holds: a snapshot of its table, and then the outcome or the vote of each
-    /// transaction, in the order of their first facts. A resource manager that plays it stands for whatever this one stands for. Refused:
-    /// `NoMemory` alone.
-    pub fn shorter(&self, alloc: Global) -> Result<Vec<Entry>, Refusal>
-        ensures ok { IfOk result (λ entries. (config : Config) (number : ℕ) (facts : List Stored) (branches : List Branch)
-            → StandsFor config number self.now facts branches → IsShortened config number facts entries.items) }
+    /// What its record may hold in place of all that it holds: the frames, in version 2, of a snapshot of its table, and then of the
+    /// outcome or the vote of each transaction, in the order of their first facts. A resource manager that plays them stands for whatever
+    /// this one stands for. Refused: `NoMemory` alone.
+    pub fn shorter(&self, alloc: Global) -> Result<Vec<u8>, Refusal>
+        ensures ok { IfOk result (λ frames. AreShorterFrames self.now frames.items) }
         ensures err { IfErr result (λ e. e ≡ NoMemory) }
     {
-        self.entries(alloc)
+        self.frames(alloc)
     }
 
-    /// The entries of its shorter record. Refused: `NoMemory` alone.
-    fn entries(&self, alloc: Global) -> Result<Vec<Entry>, Refusal>
-        ensures ok { IfOk result (λ entries. entries.items ≡ entries_at self.now) }
+    /// The frames of the entries of its shorter record. Refused: `NoMemory` alone.
+    fn frames(&self, alloc: Global) -> Result<Vec<u8>, Refusal>
+        ensures ok { IfOk result (λ frames. AreWritten frames.items (entries_at self.now)) }
         ensures err { IfErr result (λ e. e ≡ NoMemory) }
     {
-        let mut entries = Vec::new(alloc);
-        entries.push(Entry::new(EntryKind::Snapshot))?;
-        push_rows(&mut entries, self.table.rows()?)?;
+        let mut frames = Vec::new(alloc);
+        Entry::new(EntryKind::Snapshot).write(alloc, &mut frames)?;
+        write_rows(&mut frames, &self.table.rows()?)?;
         for number in self.courses.begun() {
-            let Some(tx) = self.courses.get(*number) else {
+            let Some(tx) = self.courses.view(*number) else {
                 continue;
             };
-            self.push_entry(alloc, &mut entries, tx)?;
+            self.write_entry(alloc, &mut frames, tx, *number)?;
         }
-        Ok(entries)
+        Ok(frames)
     }
 
-    /// Pushes what is written of a transaction, if a fact of it is stored. Refused: `NoMemory` alone.
-    fn push_entry(&self, alloc: Global, entries: &mut Vec<Entry>, tx: Tx) -> Result<(), Refusal>
-        ensures ok { OnOk result (entries.new.items ≡ entries.old.items ++ cons_option (entry_at self.now tx) []) }
+    /// Writes the frame of what is written of a transaction, which is likely to have this number, if a fact of it is stored. Refused:
+    /// `NoMemory` alone.
+    fn write_entry(
+        &self,
+        alloc: Global,
+        frames: &mut Vec<u8>,
+        tx: SpelledTx<'_>,
+        likely: usize,
+    ) -> Result<(), Refusal>
+        ensures ok { OnOk result (Adds frames.old.items frames.new.items (cons_option (entry_at self.now tx.entry) [])) }
         ensures err { IfErr result (λ e. e ≡ NoMemory) }
     {
-        if let Some(entry) = self.entry_of(alloc, tx)? {
-            entries.push(entry)?;
+        match self.view_of(alloc, tx, likely)? {
+            Some(entry) => entry.write(frames),
+            None => Ok(()),
         }
-        Ok(())
     }
 
-    /// What is written of a transaction, if a fact of it is stored. Refused: `NoMemory` alone.
-    fn entry_of(&self, alloc: Global, tx: Tx) -> Result<Option<Entry>, Refusal>
-        ensures ok { IfOk result (λ entry. entry ≡ entry_at self.now tx) }
+    /// What is written of a transaction, which is likely to have this number, if a fact of it is stored. Refused: `NoMemory` alone.
+    fn view_of<'a>(
+        &self,
+        alloc: Global,
+        tx: SpelledTx<'a>,
+        likely: usize,
+    ) -> Result<Option<EntryView<'a>>, Refusal>
+        ensures ok { IfOk result (λ entry. option_map entry_seen entry ≡ entry_at self.now tx.entry) }
         ensures err { IfErr result (λ e. e ≡ NoMemory) }
     {
         // it has the parts of a transaction
         let _ = tx.count();
-        let kind = match self.courses.of_tx(&tx) {
+        let view = match self.courses.of_likely(&tx, likely) {
             Course::Working => return Ok(None),
             Course::Prepared => {
                 let keys = self.keys_here(alloc, &tx)?;
-                EntryKind::Fact(FactKind::VotePrepared { tx, keys })
+                EntryView::Fact(FactView::new(tx, FactRest::VotePrepared { keys }))
             }
-            Course::VotedAborted => EntryKind::Fact(FactKind::VoteAborted(tx)),
-            Course::Committed => EntryKind::PastCommitted(tx),
-            Course::RolledBack => EntryKind::PastAborted(tx),
-            Course::AbortedUnvoted => EntryKind::Fact(FactKind::Aborted(tx)),
+            Course::VotedAborted => EntryView::Fact(FactView::new(tx, FactRest::VoteAborted)),
+            Course::Committed => EntryView::PastCommitted(tx),
+            Course::RolledBack => EntryView::PastAborted(tx),
+            Course::AbortedUnvoted => EntryView::Fact(FactView::new(tx, FactRest::Aborted)),
         };
-        Ok(Some(Entry::new(kind)))
+        Ok(Some(view))
     }
 
     /// The touched keys of the branch that a transaction has here. Refused: `NoMemory` alone.
-    fn keys_here(&self, alloc: Global, tx: &Tx) -> Result<Sequence<Touched>, Refusal>
+    fn keys_here(&self, alloc: Global, tx: &SpelledTx<'_>) -> Result<Sequence<Touched>, Refusal>
         ensures ok { IfOk result (λ keys. keys ≡ keys_here self.now tx.now) }
         ensures valid { IfOk result AreKeys }
         ensures err { IfErr result (λ e. e ≡ NoMemory) }
@@ -93,31 +104,33 @@ impl ResourceManager {
     }
 }
 
-/// Pushes rows, which are within the limits. Refused: `NoMemory` alone.
-fn push_rows(entries: &mut Vec<Entry>, rows: Vec<Row>) -> Result<(), Refusal>
-    requires { are_rows rows.items ≡ true }
-    ensures ok { OnOk result (entries.new.items ≡ entries.old.items ++ map row_entry rows.items) }
+/// Writes the frames of rows, which are within the limits. Refused: `NoMemory` alone.
+fn write_rows(frames: &mut Vec<u8>, rows: &[Row]) -> Result<(), Refusal>
+    requires { are_rows rows.now ≡ true }
+    ensures ok { OnOk result (Adds frames.old.items frames.new.items (map row_entry rows.now)) }
     ensures err { IfErr result (λ e. e ≡ NoMemory) }
 {
     for row in rows {
-        entries.push(entry_of_row(row))?;
+        write_one(frames, row)?;
     }
     Ok(())
 }
 
-/// The entry of a row, which is within the limits.
-fn entry_of_row(row: Row) -> Entry
-    requires { is_row row ≡ true }
-    ensures { result ≡ row_entry row }
+/// Writes the frame of a row, which is within the limits. Refused: `NoMemory` alone.
+fn write_one(frames: &mut Vec<u8>, row: &Row) -> Result<(), Refusal>
+    requires { is_row row.now ≡ true }
+    ensures ok { OnOk result (Adds frames.old.items frames.new.items (row_entry row.now ∷ [])) }
+    ensures err { IfErr result (λ e. e ≡ NoMemory) }
 {
-    let Row { key, value } = row;
-    are_bytes(key.as_slice());
-    are_bytes(value.as_slice());
-    Entry::new(EntryKind::Row { key, value })
+    let key = row.key.as_slice();
+    let value = row.value.as_slice();
+    are_bytes(key);
+    are_bytes(value);
+    write_row(key, value, frames)
 }
 
 /// What a sequence of bytes is made of are bytes: a contract doesn't know it of a sequence.
-pub(crate) fn are_bytes(bytes: &[u8])
+fn are_bytes(bytes: &[u8])
     ensures { IsBytes bytes.now }
 {
     let _ = bytes;

@@ -5,45 +5,35 @@ use Rattle.xid.specs.Transactions.{TxParts}
 use Rattle.wire.specs.Grammar.{number_spelling, tx_spelling}
 use Rattle.wire.specs.Versions.{version_2}
 use Rattle.stable_record.specs.declared.entry.EntryKind.{EntryKind as Entry}
-use Rattle.stable_record.specs.declared.spelled_fact.FactRest.{FactRest}
-use Rattle.stable_record.specs.declared.spelled_fact.FactRest.TheVariants as rests
 use Rattle.stable_record.specs.declared.fact.FactKind.{FactKind as Fact}
-use Rattle.stable_record.specs.declared.view.AnyRest.{AnyRest}
-use Rattle.stable_record.specs.declared.view.AnyRest.TheVariants as any_rests
+use Rattle.stable_record.specs.declared.view.FactRest.{FactRest}
+use Rattle.stable_record.specs.declared.view.FactRest.TheVariants as rests
 use Rattle.stable_record.specs.Facts.{IsFact}
 use Rattle.stable_record.specs.Grammar.{frame, body_spelling}
 use Rattle.stable_record.specs.Rests.{fact_of, any_byte, any_spelling, HasVoteKeys}
-use Rattle.stable_record.specs.Spelled.{stated, stated_byte, stated_spelling}
 
-pub stated_body : (tx : TxParts) (rest : FactRest)
-    → body_spelling version_2 (Entry.Fact (stated tx rest)) ≡ version_2.byte ∷ stated_byte rest ∷
-    (tx_spelling version_2 tx ++ stated_spelling rest)
-stated_body tx (rests.Promise instance ballot) = refl
-stated_body tx (rests.Accept instance ballot vote) = refl
-stated_body tx (rests.PromiseAll ballot) = refl
-
-pub any_body : (tx : TxParts) (rest : AnyRest)
+pub any_body : (tx : TxParts) (rest : FactRest)
     → body_spelling version_2 (Entry.Fact (fact_of tx rest)) ≡ version_2.byte ∷ any_byte rest ∷
     (tx_spelling version_2 tx ++ any_spelling rest)
-any_body tx (any_rests.Promise instance ballot) = refl
-any_body tx (any_rests.Accept instance ballot vote) = refl
-any_body tx (any_rests.Ballot ballot) = refl
-any_body tx (any_rests.VotePrepared keys) = refl
-any_body tx any_rests.VoteAborted = refl
-any_body tx any_rests.Committed = refl
-any_body tx any_rests.Aborted = refl
-any_body tx (any_rests.PromiseAll ballot) = refl
+any_body tx (rests.Promise instance ballot) = refl
+any_body tx (rests.Accept instance ballot vote) = refl
+any_body tx (rests.Ballot ballot) = refl
+any_body tx (rests.VotePrepared keys) = refl
+any_body tx rests.VoteAborted = refl
+any_body tx rests.Committed = refl
+any_body tx rests.Aborted = refl
+any_body tx (rests.PromiseAll ballot) = refl
 
 -- a fact with keys has those of a vote
-pub vote_keys : (tx : TxParts) (rest : AnyRest) → IsFact (fact_of tx rest) → HasVoteKeys rest
-vote_keys tx (any_rests.VotePrepared keys) is = is.1
-vote_keys tx (any_rests.Promise instance ballot) is = tt
-vote_keys tx (any_rests.Accept instance ballot vote) is = tt
-vote_keys tx (any_rests.Ballot ballot) is = tt
-vote_keys tx any_rests.VoteAborted is = tt
-vote_keys tx any_rests.Committed is = tt
-vote_keys tx any_rests.Aborted is = tt
-vote_keys tx (any_rests.PromiseAll ballot) is = tt
+pub vote_keys : (tx : TxParts) (rest : FactRest) → IsFact (fact_of tx rest) → HasVoteKeys rest
+vote_keys tx (rests.VotePrepared keys) is = is.1
+vote_keys tx (rests.Promise instance ballot) is = tt
+vote_keys tx (rests.Accept instance ballot vote) is = tt
+vote_keys tx (rests.Ballot ballot) is = tt
+vote_keys tx rests.VoteAborted is = tt
+vote_keys tx rests.Committed is = tt
+vote_keys tx rests.Aborted is = tt
+vote_keys tx (rests.PromiseAll ballot) is = tt
 
 -- what was put at the end, one after the other, is the frame of a fact with this body
 pub framed_by : (old a b c d : List ℕ) (n : ℕ) (tx : TxParts) (spelled : List ℕ) (code : ℕ) (rest : List ℕ) (fact : Fact)
@@ -64,18 +54,10 @@ framed_by old a b c d n tx spelled code rest fact same is len ea eb ec ed =
     ∙ ap (λ (k : ℕ). old ++ (number_spelling k ++ version_2.byte ∷ code ∷ (spelled ++ rest))) all
     ∙ ap (λ (xs : List ℕ). old ++ (number_spelling (length xs) ++ xs)) body
 
--- the same of an acceptor's fact
-pub framed : (old a b c d : List ℕ) (n : ℕ) (tx : TxParts) (spelled : List ℕ) (rest : FactRest) → spelled ≡ tx_spelling version_2 tx
-    → n ≡ 2 + length spelled + length (stated_spelling rest)
-    → a ≡ old ++ number_spelling n → b ≡ a ++ version_2.byte ∷ stated_byte rest ∷ [] → c ≡ b ++ spelled → d ≡ c ++ stated_spelling rest
-    → d ≡ old ++ frame version_2 (Entry.Fact (stated tx rest))
-framed old a b c d n tx spelled rest =
-    framed_by old a b c d n tx spelled (stated_byte rest) (stated_spelling rest) (stated tx rest) (stated_body tx rest)
-
 -- the same of any fact
-pub any_framed : (old a b c d : List ℕ) (n : ℕ) (tx : TxParts) (spelled : List ℕ) (rest : AnyRest) → spelled ≡ tx_spelling version_2 tx
+pub framed : (old a b c d : List ℕ) (n : ℕ) (tx : TxParts) (spelled : List ℕ) (rest : FactRest) → spelled ≡ tx_spelling version_2 tx
     → n ≡ 2 + length spelled + length (any_spelling rest)
     → a ≡ old ++ number_spelling n → b ≡ a ++ version_2.byte ∷ any_byte rest ∷ [] → c ≡ b ++ spelled → d ≡ c ++ any_spelling rest
     → d ≡ old ++ frame version_2 (Entry.Fact (fact_of tx rest))
-any_framed old a b c d n tx spelled rest =
+framed old a b c d n tx spelled rest =
     framed_by old a b c d n tx spelled (any_byte rest) (any_spelling rest) (fact_of tx rest) (any_body tx rest)

@@ -6,7 +6,6 @@ pub mod Reading
 pub mod Held
 pub mod Records
 pub mod Parts
-pub mod Spelled
 pub mod Rests
 pub mod Views
 pub mod Written

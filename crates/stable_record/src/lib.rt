@@ -12,7 +12,6 @@ pub mod laws;
 mod memory;
 mod reading;
 mod record;
-mod spelled_fact;
 mod view;
 mod view_writing;
 mod writing;
@@ -26,8 +25,7 @@ pub use floor_frame::take_floor;
 pub use frames::{MAX_BODY, entries, take_frame, view_frame};
 pub use memory::MemRecord;
 pub use record::{Record, RecordError, Tear};
-pub use spelled_fact::{FactRest, SpelledFact};
-pub use view::{AnyRest, EntryView, FactView};
+pub use view::{EntryView, FactRest, FactView};
 pub use writing::write_row;
 
 #[cfg(test)]

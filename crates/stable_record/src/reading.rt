@@ -10,7 +10,7 @@ ghost use Rattle.stable_record.specs.Views.{IsReadAs, IsSeen, entry_seen};
 
 use crate::entry::EntryKind;
 use crate::fact::{Act, Touched};
-use crate::view::{AnyRest, EntryView, FactView};
+use crate::view::{EntryView, FactRest, FactView};
 use byteorder::{BigEndian, ByteOrder};
 use std::alloc::Global;
 use std::cmp::Ordering;
@@ -160,7 +160,7 @@ fn take_leader_ballot(bytes: &[u8]) -> Option<(u32, &[u8])>
 }
 
 #[tactic(auto, unfolding(crate::specs::Reading::promise_at, wire::specs::Reading::instance_at))]
-fn take_promise(version: VersionNumber, bytes: &[u8]) -> Result<(AnyRest, &[u8]), Refusal>
+fn take_promise(version: VersionNumber, bytes: &[u8]) -> Result<(FactRest, &[u8]), Refusal>
     ensures { (tx : TxParts) → IsReadAs (fact_of tx) (promise_at (version_of version) tx bytes.now) result }
 {
     let Some((instance, rest)) = take_rm(version, bytes) else {
@@ -169,11 +169,11 @@ fn take_promise(version: VersionNumber, bytes: &[u8]) -> Result<(AnyRest, &[u8])
     let Some((ballot, rest)) = take_number(rest) else {
         return Err(Refusal::Damaged);
     };
-    Ok((AnyRest::Promise { instance, ballot }, rest))
+    Ok((FactRest::Promise { instance, ballot }, rest))
 }
 
 #[tactic(auto, unfolding(crate::specs::Reading::accept_at, wire::specs::Reading::instance_at))]
-fn take_accept(version: VersionNumber, bytes: &[u8]) -> Result<(AnyRest, &[u8]), Refusal>
+fn take_accept(version: VersionNumber, bytes: &[u8]) -> Result<(FactRest, &[u8]), Refusal>
     ensures { (tx : TxParts) → IsReadAs (fact_of tx) (accept_at (version_of version) tx bytes.now) result }
 {
     let Some((instance, rest)) = take_rm(version, bytes) else {
@@ -186,7 +186,7 @@ fn take_accept(version: VersionNumber, bytes: &[u8]) -> Result<(AnyRest, &[u8]),
         return Err(Refusal::Damaged);
     };
     Ok((
-        AnyRest::Accept {
+        FactRest::Accept {
             instance,
             ballot,
             vote,
@@ -196,31 +196,31 @@ fn take_accept(version: VersionNumber, bytes: &[u8]) -> Result<(AnyRest, &[u8]),
 }
 
 #[tactic(auto, unfolding(crate::specs::Reading::ballot_at))]
-fn take_ballot(bytes: &[u8]) -> Result<(AnyRest, &[u8]), Refusal>
+fn take_ballot(bytes: &[u8]) -> Result<(FactRest, &[u8]), Refusal>
     ensures { (tx : TxParts) → IsReadAs (fact_of tx) (ballot_at tx bytes.now) result }
 {
     let Some((ballot, rest)) = take_leader_ballot(bytes) else {
         return Err(Refusal::Damaged);
     };
-    Ok((AnyRest::Ballot { ballot }, rest))
+    Ok((FactRest::Ballot { ballot }, rest))
 }
 
 #[tactic(auto, unfolding(crate::specs::Reading::promise_all_at))]
-fn take_promise_all(bytes: &[u8]) -> Result<(AnyRest, &[u8]), Refusal>
+fn take_promise_all(bytes: &[u8]) -> Result<(FactRest, &[u8]), Refusal>
     ensures { (tx : TxParts) → IsReadAs (fact_of tx) (promise_all_at tx bytes.now) result }
 {
     let Some((ballot, rest)) = take_leader_ballot(bytes) else {
         return Err(Refusal::Damaged);
     };
-    Ok((AnyRest::PromiseAll { ballot }, rest))
+    Ok((FactRest::PromiseAll { ballot }, rest))
 }
 
 #[tactic(auto, unfolding(crate::specs::Reading::vote_prepared_at))]
-fn take_vote_prepared(alloc: Global, bytes: &[u8]) -> Result<(AnyRest, &[u8]), Refusal>
+fn take_vote_prepared(alloc: Global, bytes: &[u8]) -> Result<(FactRest, &[u8]), Refusal>
     ensures { (tx : TxParts) → IsReadAs (fact_of tx) (vote_prepared_at tx bytes.now) result }
 {
     match take_keys(alloc, bytes) {
-        Ok((keys, rest)) => Ok((AnyRest::VotePrepared { keys }, rest)),
+        Ok((keys, rest)) => Ok((FactRest::VotePrepared { keys }, rest)),
         Err(e) => Err(e),
     }
 }
@@ -232,7 +232,7 @@ fn take_rest(
     version: VersionNumber,
     code: u8,
     bytes: &[u8],
-) -> Result<(AnyRest, &[u8]), Refusal>
+) -> Result<(FactRest, &[u8]), Refusal>
     ensures { (tx : TxParts) → IsReadAs (fact_of tx) (fact_at (version_of version) code tx bytes.now) result }
 {
     match code {
@@ -240,9 +240,9 @@ fn take_rest(
         2 => take_accept(version, bytes),
         3 => take_ballot(bytes),
         4 => take_vote_prepared(alloc, bytes),
-        5 => Ok((AnyRest::VoteAborted, bytes)),
-        6 => Ok((AnyRest::Committed, bytes)),
-        7 => Ok((AnyRest::Aborted, bytes)),
+        5 => Ok((FactRest::VoteAborted, bytes)),
+        6 => Ok((FactRest::Committed, bytes)),
+        7 => Ok((FactRest::Aborted, bytes)),
         8 => take_promise_all(bytes),
         _ => Err(Refusal::Damaged),
     }

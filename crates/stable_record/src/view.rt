@@ -10,16 +10,16 @@ ghost use Rattle.stable_record.specs.Grammar.{frame};
 ghost use Rattle.stable_record.specs.Rests.{fact_of};
 ghost use Rattle.stable_record.specs.Views.{entry_seen};
 
-use crate::fact::{FactKind, Touched};
+use crate::fact::{Fact, FactKind, Touched};
 use crate::view_writing::{code_of, len_of, put_rest};
 use crate::writing::put_number;
 use std::marker::Model;
-use wire::{SpelledTx, VERSION};
+use wire::{MAX_TX_BYTES, SpelledTx, VERSION};
 use xid::{Ballot, ManagerNumber, Refusal, Sequence, Tx, Vote};
 
 /// What a fact says beside its transaction: as `FactKind` has it.
 #[derive(Debug, Drop)]
-pub enum AnyRest {
+pub enum FactRest {
     /// An acceptor takes part in a ballot of an instance.
     Promise {
         instance: ManagerNumber,
@@ -51,18 +51,18 @@ pub enum AnyRest {
     },
 }
 
-impl AnyRest {
+impl FactRest {
     /// The fact of a transaction, as plain data.
     pub(crate) fn with(self, tx: Tx) -> FactKind
         ensures { result ≡ fact_of tx self }
     {
         match self {
-            AnyRest::Promise { instance, ballot } => FactKind::Promise {
+            FactRest::Promise { instance, ballot } => FactKind::Promise {
                 tx,
                 instance,
                 ballot,
             },
-            AnyRest::Accept {
+            FactRest::Accept {
                 instance,
                 ballot,
                 vote,
@@ -72,13 +72,45 @@ impl AnyRest {
                 ballot,
                 vote,
             },
-            AnyRest::Ballot { ballot } => FactKind::Ballot { tx, ballot },
-            AnyRest::VotePrepared { keys } => FactKind::VotePrepared { tx, keys },
-            AnyRest::VoteAborted => FactKind::VoteAborted(tx),
-            AnyRest::Committed => FactKind::Committed(tx),
-            AnyRest::Aborted => FactKind::Aborted(tx),
-            AnyRest::PromiseAll { ballot } => FactKind::PromiseAll { tx, ballot },
+            FactRest::Ballot { ballot } => FactKind::Ballot { tx, ballot },
+            FactRest::VotePrepared { keys } => FactKind::VotePrepared { tx, keys },
+            FactRest::VoteAborted => FactKind::VoteAborted(tx),
+            FactRest::Committed => FactKind::Committed(tx),
+            FactRest::Aborted => FactKind::Aborted(tx),
+            FactRest::PromiseAll { ballot } => FactKind::PromiseAll { tx, ballot },
         }
+    }
+}
+
+/// The transaction of a fact, and what it says beside that.
+fn parted(kind: FactKind) -> (Tx, FactRest)
+    ensures { fact_of result.0 result.1 ≡ kind }
+{
+    match kind {
+        FactKind::Promise {
+            tx,
+            instance,
+            ballot,
+        } => (tx, FactRest::Promise { instance, ballot }),
+        FactKind::Accept {
+            tx,
+            instance,
+            ballot,
+            vote,
+        } => (
+            tx,
+            FactRest::Accept {
+                instance,
+                ballot,
+                vote,
+            },
+        ),
+        FactKind::Ballot { tx, ballot } => (tx, FactRest::Ballot { ballot }),
+        FactKind::VotePrepared { tx, keys } => (tx, FactRest::VotePrepared { keys }),
+        FactKind::VoteAborted(tx) => (tx, FactRest::VoteAborted),
+        FactKind::Committed(tx) => (tx, FactRest::Committed),
+        FactKind::Aborted(tx) => (tx, FactRest::Aborted),
+        FactKind::PromiseAll { tx, ballot } => (tx, FactRest::PromiseAll { ballot }),
     }
 }
 
@@ -86,7 +118,7 @@ impl AnyRest {
 #[derive(Debug, Drop)]
 pub struct FactView<'a> {
     tx: SpelledTx<'a>,
-    rest: AnyRest,
+    rest: FactRest,
 }
 
 impl<'a> Model for FactView<'a> {
@@ -103,11 +135,22 @@ impl<'a> Model for FactView<'a> {
 
 impl<'a> FactView<'a> {
     /// The fact of a transaction.
-    pub fn new(tx: SpelledTx<'a>, rest: AnyRest) -> FactView<'a>
+    pub fn new(tx: SpelledTx<'a>, rest: FactRest) -> FactView<'a>
         requires { IsFact (fact_of tx rest) }
         ensures { result ≡ fact_of tx.entry rest }
     {
         FactView { tx, rest }
+    }
+
+    /// A fact that has its transaction in place, over a buffer, in which that is spelled.
+    pub fn of(fact: Fact, buffer: &'a mut [u8; MAX_TX_BYTES]) -> FactView<'a>
+        ensures { result ≡ fact }
+    {
+        let (tx, rest) = parted(fact.into_kind());
+        FactView {
+            tx: SpelledTx::of(&tx, buffer),
+            rest,
+        }
     }
 
     /// The transaction that it is about.
@@ -119,7 +162,7 @@ impl<'a> FactView<'a> {
     }
 
     /// What it says beside that.
-    pub fn rest(&self) -> &AnyRest
+    pub fn rest(&self) -> &FactRest
         ensures value { fact_of (fact_tx self.now) result.now ≡ self.now }
         ensures valid { IsFact self.now }
     {

@@ -6,23 +6,23 @@ ghost use Rattle.stable_record.specs.Grammar.{keys_spelling, touched_spelling};
 ghost use Rattle.stable_record.specs.Rests.{HasVoteKeys, any_byte, any_spelling};
 
 use crate::fact::{Act, Touched};
-use crate::view::AnyRest;
+use crate::view::FactRest;
 use crate::writing::{byte_of_vote, put_instance, put_keys, put_number};
 use std::alloc::AllocError;
 
 /// The number of a fact's kind.
-pub(crate) fn code_of(rest: &AnyRest) -> u8
+pub(crate) fn code_of(rest: &FactRest) -> u8
     ensures { result ≡ any_byte rest.now }
 {
     match rest {
-        AnyRest::Promise { .. } => 1,
-        AnyRest::Accept { .. } => 2,
-        AnyRest::Ballot { .. } => 3,
-        AnyRest::VotePrepared { .. } => 4,
-        AnyRest::VoteAborted => 5,
-        AnyRest::Committed => 6,
-        AnyRest::Aborted => 7,
-        AnyRest::PromiseAll { .. } => 8,
+        FactRest::Promise { .. } => 1,
+        FactRest::Accept { .. } => 2,
+        FactRest::Ballot { .. } => 3,
+        FactRest::VotePrepared { .. } => 4,
+        FactRest::VoteAborted => 5,
+        FactRest::Committed => 6,
+        FactRest::Aborted => 7,
+        FactRest::PromiseAll { .. } => 8,
     }
 }
 
@@ -54,31 +54,31 @@ fn len_of_keys(keys: &[Touched]) -> usize
 }
 
 /// How many bytes follow the transaction.
-pub(crate) fn len_of(rest: &AnyRest) -> usize
+pub(crate) fn len_of(rest: &FactRest) -> usize
     requires { HasVoteKeys rest.now }
     ensures len { result ≡ length (any_spelling rest.now) }
     ensures few { result ≤ 20737 }
 {
     match rest {
-        AnyRest::Promise { .. } => 6,
-        AnyRest::Accept { .. } => 7,
-        AnyRest::Ballot { .. } => 4,
-        AnyRest::VotePrepared { keys } => len_of_keys(keys.as_slice()),
-        AnyRest::VoteAborted => 0,
-        AnyRest::Committed => 0,
-        AnyRest::Aborted => 0,
-        AnyRest::PromiseAll { .. } => 4,
+        FactRest::Promise { .. } => 6,
+        FactRest::Accept { .. } => 7,
+        FactRest::Ballot { .. } => 4,
+        FactRest::VotePrepared { keys } => len_of_keys(keys.as_slice()),
+        FactRest::VoteAborted => 0,
+        FactRest::Committed => 0,
+        FactRest::Aborted => 0,
+        FactRest::PromiseAll { .. } => 4,
     }
 }
 
 /// Puts what follows the transaction at the end.
-pub(crate) fn put_rest(out: &mut Vec<u8>, rest: &AnyRest) -> Result<(), AllocError>
+pub(crate) fn put_rest(out: &mut Vec<u8>, rest: &FactRest) -> Result<(), AllocError>
     requires { HasVoteKeys rest.now }
     ensures { OnOk result (out.new.items ≡ out.old.items ++ any_spelling rest.now) }
 {
     match rest {
-        AnyRest::Promise { instance, ballot } => put_instance(out, *instance, *ballot),
-        AnyRest::Accept {
+        FactRest::Promise { instance, ballot } => put_instance(out, *instance, *ballot),
+        FactRest::Accept {
             instance,
             ballot,
             vote,
@@ -86,11 +86,11 @@ pub(crate) fn put_rest(out: &mut Vec<u8>, rest: &AnyRest) -> Result<(), AllocErr
             put_instance(out, *instance, *ballot)?;
             Ok(out.push(byte_of_vote(*vote))?)
         }
-        AnyRest::Ballot { ballot } => put_number(out, *ballot),
-        AnyRest::VotePrepared { keys } => put_keys(out, keys.as_slice()),
-        AnyRest::VoteAborted => Ok(()),
-        AnyRest::Committed => Ok(()),
-        AnyRest::Aborted => Ok(()),
-        AnyRest::PromiseAll { ballot } => put_number(out, *ballot),
+        FactRest::Ballot { ballot } => put_number(out, *ballot),
+        FactRest::VotePrepared { keys } => put_keys(out, keys.as_slice()),
+        FactRest::VoteAborted => Ok(()),
+        FactRest::Committed => Ok(()),
+        FactRest::Aborted => Ok(()),
+        FactRest::PromiseAll { ballot } => put_number(out, *ballot),
     }
 }

@@ -8,7 +8,7 @@ use Rattle.node_core.proofs.managing.manage.Goals as goal
 
 pub returns-in-Ok : goal.returns-in-Ok
 returns-in-Ok g c = λ config facts memory s.
-    c.carry_out.ensures config facts memory (on_message config c.args.who facts memory c.args.message.now)
+    c.carry_out.ensures.carries config facts memory (on_message config c.args.who facts memory c.args.message.now)
     (subst (λ d. IsDecided config c.args.who facts memory (roles.Manager c.args.manager.now) d
     (on_message config c.args.who facts memory c.args.message.now))
     (sym (ap (decided c.in-Ok.decision.fact) c.put_sent.ensures))

@@ -1,12 +1,16 @@
-use Rattle.std.proofs.Common.{subst}
+use Rattle.std.proofs.Common.{refl, subst}
 use Rattle.std.proofs.lemmas.Result.{IfOk-weaker}
-use Rattle.leader.specs.Compaction.{Compacts}
+use Rattle.leader.specs.Compaction.{AreShorterFrames, compacted}
+use Rattle.leader.specs.Places.{course_in}
 use Rattle.leader.specs.contracts.leader.Leader.{the_view}
 use Rattle.leader.proofs.Compacting.{is_compacted}
 use Rattle.leader.proofs.leader.Leader.shorter.Goals as goal
 
 pub returns-clause-ok : goal.returns-clause-ok
 returns-clause-ok c =
-    IfOk-weaker c.compacted.result _ _ (λ kept e.
-    subst (λ l. Compacts l kept.items) c.self.view_is (is_compacted (the_view c.self.inside) kept.items e))
-    c.compacted.ensures.ok
+    let courses = c.self.inside.courses in
+    let kept = compacted courses.begun (λ tx. (course_in courses tx).greatest) in
+    IfOk-weaker c.frames.result _ _ (λ frames written.
+    subst (λ l. AreShorterFrames l frames.items) c.self.view_is
+    (record { kept = kept; written = written; compacts = is_compacted (the_view c.self.inside) kept refl }))
+    c.frames.ensures.ok

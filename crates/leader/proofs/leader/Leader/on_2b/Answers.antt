@@ -1,0 +1,28 @@
+use Rattle.std.proofs.Common.{◌∙◌, ap, refl}
+use Rattle.std.specs.Prelude.{Err}
+use Rattle.protocol.specs.declared.decisions.Address.TheVariants.{Managers}
+use Rattle.protocol.specs.Leaders as rules
+use Rattle.protocol.specs.Leaders.{outcome_messages}
+use Rattle.leader.specs.contracts.leader.Leader.{the_view}
+use Rattle.leader.specs.Courses.{after_2b, status_after_2b}
+use Rattle.leader.specs.Leaders.{course_of}
+use Rattle.leader.proofs.Leading.{sending, follows, kept_same, err_same, accepts_agree, with_courses}
+use Rattle.leader.proofs.leader.Leader.on_2b.Goals as goal
+
+pub returns : goal.returns
+returns c = λ config number.
+    follows config number (the_view c.self.inside) c.args.self.now c.hear_2b.new.self c.args.tx.now
+    (after_2b c.self.inside.acceptors c.args.acceptor c.args.accepts.now (course_of (the_view c.self.inside) c.args.tx.now))
+    (sending (outcome_messages (status_after_2b c.self.inside.acceptors c.args.acceptor c.args.accepts.now
+    (course_of (the_view c.self.inside) c.args.tx.now)) c.args.tx.now Managers))
+    c.tell.new.self (λ stored memory. rules.on_2b config stored memory c.args.tx.now c.args.acceptor c.args.accepts.now) c.self.view_is
+    (c.tell.ensures ∙ ap (λ s. sending (outcome_messages s c.args.tx.now Managers)) c.in-Ok.ensures.status)
+    c.in-Ok.ensures.now
+    (accepts_agree config number (the_view c.self.inside) c.args.tx.now c.args.acceptor c.args.accepts.now c.requires)
+
+pub returns-in-Err : goal.returns-in-Err
+returns-in-Err c = λ config number.
+    err_same config number c.args.self.now (with_courses (the_view c.self.inside) c.hear_2b.new.self) (Err c.in-Err.refusal)
+    c.in-Err.refusal (λ stored memory. rules.on_2b config stored memory c.args.tx.now c.args.acceptor c.args.accepts.now) refl
+    c.in-Err.ensures.err
+    (kept_same config number (the_view c.self.inside) c.args.self.now c.hear_2b.new.self c.self.view_is c.in-Err.ensures.kept)

@@ -1,5 +1,0 @@
-use Rattle.node_core.proofs.Playing.{acceptor_takes}
-use Rattle.node_core.proofs.accepting.take.Goals as goal
-
-pub returns : goal.returns
-returns c = acceptor_takes c.args.acceptor.now c.play.new.self c.args.fact.now c.play.result c.play.ensures

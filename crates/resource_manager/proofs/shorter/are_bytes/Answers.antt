@@ -1,5 +1,0 @@
-use Rattle.std.proofs.Math.Facts.{Fits-lt-pow}
-use Rattle.resource_manager.proofs.shorter.are_bytes.Goals as goal
-
-pub returns : goal.returns
-returns c = λ i. Fits-lt-pow (c.type_inv.bytes i)
