@@ -3,16 +3,19 @@
  *
  *     clients KIND SECONDS MOST SERIAL WORDS CLIENT...
  *
- * KIND is `nodes`, `servers`, `logged` (the servers, and a log of decisions with a sync for each), `ended` (the servers, ended by the
- * nodes) or `timed` (as `nodes`, with names that begin with their time; whatever is answered, it goes on until a node is gone, and then
- * prints how many were committed and how many not, and nothing else). WORDS are the two servers' connection strings and the log's name,
- * parted by `|`, or `-`. A CLIENT is its number, and with nodes the open sockets of r0, r1 and l0, as 7=4,5,6: connected, and let in where
- * that wants a proof. The program says `ready` once the servers are connected, begins at the first byte of its input, and goes on for so
- * many seconds or until each client has made MOST transactions. Then it prints a line for each, its microseconds to the outcome and to both
- * managers' end, and last the seconds that it ran, and those of a processor that it took meanwhile. */
+ * KIND is `nodes`, `servers`, `logged` (the servers, and a log of decisions with a sync for each, one sync at a time in this process, in
+ * which nothing else happens meanwhile), `threaded` (the same with a thread for each client, so that none waits for another's sync),
+ * `ended` (the servers, ended by the nodes) or `timed` (as `nodes`, with names that begin with their time; whatever is answered, it goes on
+ * until a node is gone, and then prints how many were committed and how many not, and nothing else). WORDS are the two servers' connection
+ * strings and the log's name, before each client's number, parted by `|`, or `-`. A CLIENT is its number, and with nodes the open sockets
+ * of r0, r1 and l0, as 7=4,5,6: connected, and let in where that wants a proof. The program says `ready` once the servers are connected,
+ * begins at the first byte of its input, and goes on for so many seconds or until each client has made MOST transactions. Then it prints a
+ * line for each, its microseconds to the outcome and to both managers' end, and last the seconds that it ran, and those of a processor that
+ * it took meanwhile. */
 #include <errno.h>
 #include <fcntl.h>
 #include <libpq-fe.h>
+#include <pthread.h>
 #include <stdio.h>
 #include <stdlib.h>
 #include <string.h>
@@ -22,7 +25,7 @@
 #include <time.h>
 #include <unistd.h>
 
-enum kind { NODES, SERVERS, LOGGED, ENDED };
+enum kind { NODES, SERVERS, LOGGED, THREADED, ENDED };
 enum { MANAGERS = 2, LEADER = 2, ENDS = 3, KEYS = 64 };
 
 /* A connection to a node or to a server, what of a line came from it, and how many answers are still to come. */
@@ -34,6 +37,11 @@ struct end {
     int socket, wanted;
 };
 
+struct times {
+    unsigned outcome, both;
+};
+
+/* A client with its ends, and the times of the transactions that it has made. */
 struct client {
     struct end nodes[ENDS], servers[MANAGERS];
     double begun, outcome;
@@ -41,19 +49,15 @@ struct client {
     unsigned number;
     int phase, log, is_committed;
     char gtrid[33], tx[64];
-};
-
-struct times {
-    unsigned outcome, both;
+    struct times *times;
+    size_t count, room;
 };
 
 static enum kind kind;
-static struct times *times;
-static size_t count, room;
 static double until;
 static unsigned long long last_serial;
 static int is_timed;
-static size_t committed;
+static size_t committed, others;
 
 static void fail(const char *what, const char *why)
 {
@@ -71,7 +75,7 @@ static double now(void)
 /* Says what came of timed names, and ends. */
 static void finish_timed(void)
 {
-    printf("%zu %zu\n", committed, count - committed);
+    printf("%zu %zu\n", committed, others);
     fflush(stdout);
     _exit(0);
 }
@@ -82,6 +86,12 @@ static double processor(void)
     struct rusage used;
     getrusage(RUSAGE_SELF, &used);
     return used.ru_utime.tv_sec + used.ru_stime.tv_sec + (used.ru_utime.tv_usec + used.ru_stime.tv_usec) / 1e6;
+}
+
+/* Whether a client writes its decisions into a log of its own. */
+static int has_log(void)
+{
+    return kind == LOGGED || kind == THREADED;
 }
 
 /* ---- what is asked */
@@ -153,7 +163,7 @@ static void prepare(struct client *client)
 static void commit_prepared(struct client *client)
 {
     char text[256];
-    if (kind == LOGGED) {
+    if (has_log()) {
         int length = snprintf(text, sizeof text, "%s\n", client->tx);
         if (write(client->log, text, length) != length || fdatasync(client->log))
             fail("the log", strerror(errno));
@@ -239,21 +249,21 @@ static void take_results(struct end *end)
     }
 }
 
-static void keep(const struct client *client)
+static void keep(struct client *client)
 {
     if (is_timed) {
-        count++;
-        committed += client->is_committed;
+        *(client->is_committed ? &committed : &others) += 1;
         return;
     }
-    if (count == room) {
-        room = room ? 2 * room : 65536;
-        times = realloc(times, room * sizeof *times);
-        if (!times)
+    if (client->count == client->room) {
+        client->room = client->room ? 2 * client->room : 4096;
+        client->times = realloc(client->times, client->room * sizeof *client->times);
+        if (!client->times)
             fail("memory", "there is no more");
     }
-    times[count].outcome = 1e6 * client->outcome;
-    times[count++].both = 1e6 * (now() - client->begun);
+    struct times *times = &client->times[client->count++];
+    times->outcome = 1e6 * client->outcome;
+    times->both = 1e6 * (now() - client->begun);
 }
 
 /* The next step, when all answers of the last one are there. Whether a transaction has ended with it. */
@@ -267,7 +277,7 @@ static int go_on(struct client *client)
         ask_managers(client);
     } else if (kind == ENDED && client->phase == 2) {
         ask_leader(client);
-    } else if ((kind == SERVERS || kind == LOGGED) && client->phase == 1) {
+    } else if ((kind == SERVERS || has_log()) && client->phase == 1) {
         commit_prepared(client);
     } else if (kind == ENDED && client->phase == 3) {
         commit_prepared(client);
@@ -280,6 +290,7 @@ static int go_on(struct client *client)
 
 /* ---- the whole */
 
+/* Clients by turns in one thread: a step of each whose answers are there. */
 static void run(struct client *clients, int so_many)
 {
     int poll = epoll_create1(0), live = so_many;
@@ -315,6 +326,25 @@ static void run(struct client *clients, int so_many)
     }
 }
 
+static void *run_alone(void *client)
+{
+    run(client, 1);
+    return 0;
+}
+
+/* Each client in a thread of its own. */
+static void run_threads(struct client *clients, int so_many)
+{
+    pthread_t threads[so_many];
+    for (int at = 0; at < so_many; at++) {
+        int why = pthread_create(&threads[at], 0, run_alone, &clients[at]);
+        if (why)
+            fail("a thread", strerror(why));
+    }
+    for (int at = 0; at < so_many; at++)
+        pthread_join(threads[at], 0);
+}
+
 static void connect_servers(struct client *client, char *const words[])
 {
     char name[4096];
@@ -325,7 +355,7 @@ static void connect_servers(struct client *client, char *const words[])
             fail("a server doesn't answer", PQerrorMessage(end->server));
         end->socket = PQsocket(end->server);
     }
-    if (kind != LOGGED)
+    if (!has_log())
         return;
     snprintf(name, sizeof name, "%s%u", words[MANAGERS], client->number);
     client->log = open(name, O_WRONLY | O_CREAT | O_APPEND, 0600);
@@ -351,8 +381,8 @@ static void read_client(struct client *client, const char *word)
 
 int main(int argc, char **argv)
 {
-    static const char *const KINDS[] = {"nodes", "servers", "logged", "ended", "timed"};
-    enum { FIRST = 6, TIMED = 4 };
+    static const char *const KINDS[] = {"nodes", "servers", "logged", "threaded", "ended", "timed"};
+    enum { FIRST = 6, TIMED = 5 };
     char *words[MANAGERS + 1] = {0}, go;
     int named = 0;
     if (argc <= FIRST)
@@ -381,13 +411,14 @@ int main(int argc, char **argv)
         return 1;
     double begun = now(), used = processor();
     until = begun + strtod(argv[2], 0);
-    run(clients, so_many);
+    (kind == THREADED ? run_threads : run)(clients, so_many);
     double took = now() - begun;
     used = processor() - used;
     if (is_timed)
         finish_timed();
-    for (size_t at = 0; at < count; at++)
-        printf("%u %u\n", times[at].outcome, times[at].both);
+    for (int at = 0; at < so_many; at++)
+        for (const struct times *one = clients[at].times; one < clients[at].times + clients[at].count; one++)
+            printf("%u %u\n", one->outcome, one->both);
     printf("%.6f %.6f\n", took, used);
     return 0;
 }

@@ -30,6 +30,8 @@ from pcommit_client import Cluster, Connection
 KEYS = 64
 WORDS = {'cpu': (1e6, 'microseconds of processors'), 'in': (1, 'datagrams in'), 'out': (1, 'datagrams out')}
 KINDS = {'a': 'acceptors', 'l': 'leaders', 'r': 'managers'}
+# two-phase commit whose coordinators store their decisions
+LOGGED = ('PostgreSQL, with a log', 'PostgreSQL, with many logs')
 
 
 class Client:
@@ -142,13 +144,13 @@ def build_clients(folder):
         include = subprocess.run(['pg_config', '--includedir'], check=True, capture_output=True, text=True).stdout.strip()
     except FileNotFoundError:
         raise SystemExit('not installed: apt-get install libpq-dev; or --python, for slower clients')
-    subprocess.run(['cc', '-O2', '-I' + include, '-o', program, source, '-lpq'], check=True)
+    subprocess.run(['cc', '-O2', '-pthread', '-I' + include, '-o', program, source, '-lpq'], check=True)
     return program
 
 
 class Load:
-    """Clients of bench/clients.c of one kind: `nodes` of a cluster by its file, PostgreSQL `servers`, these `logged`, or `ended` by the
-    nodes. `words` are what the servers' connections and the log are."""
+    """Clients of bench/clients.c of one kind: `nodes` of a cluster by its file, PostgreSQL `servers`, these `logged`, `threaded` too, or
+    `ended` by the nodes. `words` are what the servers' connections and the log are."""
 
     def __init__(self, program, kind, file=None, words='-'):
         self.program, self.kind, self.file, self.words = program, kind, file, words
@@ -254,8 +256,8 @@ def tell_parts(who, word, parts):
     print('%s: %s for a transaction: %.2f (%s)' % (who, name, unit * sum(parts.values()), told), flush=True)
 
 
-def by_turns(kinds, base, seconds, turns, clusters):
-    """Loads turn and turn about: medians, and how many times as many transactions a second each does as the one at `base` in the same turn.
+def by_turns(kinds, bases, seconds, turns, clusters):
+    """Loads turn and turn about: medians, and how many times as many transactions a second each does as those at `bases` in the same turn.
     What a transaction takes of the nodes of clusters, by the name of their load, of most clients."""
     serial = 0
     for clients in (1, 8, 32):
@@ -269,8 +271,9 @@ def by_turns(kinds, base, seconds, turns, clusters):
                 if before:
                     parts[kind].append(each(before, totals(clusters[kind]), len(times)))
         for kind in kinds:
-            ratio = statistics.median(mine[0] / other[0] for mine, other in zip(told[kind], told[base]))
-            print('%2d clients, %-26s %s; %.2f times' % (clients, kind + ':', rates(told[kind]), ratio), flush=True)
+            ratios = ['%.2f times %s' % (statistics.median(mine[0] / other[0] for mine, other in zip(told[kind], told[base])), base)
+                      for base in bases]
+            print('%2d clients, %-27s %s; %s' % (clients, kind + ':', rates(told[kind]), '; '.join(ratios)), flush=True)
     for kind in clusters:
         for word in parts[kind][0]:
             middle = {node: statistics.median(turn[word][node] for turn in parts[kind]) for node in KINDS}
@@ -335,7 +338,8 @@ def take_over(cluster, rounds):
 
 
 def kinds_beside(cluster, program, dsns, log):
-    """The loads that are compared, in C where their program is given, else in Python."""
+    """The loads that are compared, in C where their program is given, else in Python. With a log the syncs of a process's clients come one
+    after another; with many logs each client's has a thread of its own, so that the clients limit neither side. Not so in Python."""
     from postgresql_clients import PostgresClient
     if program:
         words = '|'.join([*dsns, log])
@@ -343,6 +347,7 @@ def kinds_beside(cluster, program, dsns, log):
             'pcommit': Load(program, 'nodes', cluster.file),
             'PostgreSQL, without a log': Load(program, 'servers', words=words),
             'PostgreSQL, with a log': Load(program, 'logged', words=words),
+            'PostgreSQL, with many logs': Load(program, 'threaded', words=words),
             'PostgreSQL, by pcommit': Load(program, 'ended', cluster.file, words),
         }
     return {
@@ -363,7 +368,7 @@ def beside_postgresql(cluster, program, folder, seconds, turns):
     kinds = kinds_beside(cluster, program, [one.dsn for one in servers.all], os.path.join(folder, 'log'))
     try:
         make_tables(servers)
-        by_turns(kinds, 'PostgreSQL, with a log', seconds, turns, {})
+        by_turns(kinds, [kind for kind in kinds if kind in LOGGED], seconds, turns, {})
     finally:
         servers.stop()
 
@@ -379,7 +384,7 @@ def beside_program(cluster, other, program, folder, seconds, turns):
     with Processes(other, folder) as beside:
         beside.start()
         clusters = {'this': cluster, 'beside': beside}
-        by_turns({name: nodes_load(one, program) for name, one in clusters.items()}, 'beside', seconds, turns, clusters)
+        by_turns({name: nodes_load(one, program) for name, one in clusters.items()}, ['beside'], seconds, turns, clusters)
 
 
 def main():

@@ -1,4 +1,4 @@
-//! What a node is handed in the programs for `bench/nodes.sh` and `bench/groups.sh`, and a node that is ready for it.
+//! What a node is handed in the programs for `bench/nodes.sh`, `bench/groups.sh` and `bench/boundary.sh`, and a node that is ready for it.
 use crate::common::{message_of, tx_of};
 use node_core::{Config, Input, Node, Output};
 use protocol::{Action, NodeId, Request};
@@ -14,7 +14,7 @@ const FIRST: u8 = 0;
 const BRANCHES: usize = 2;
 
 /// A cluster of three acceptors, a leader and two resource managers, whose tables are empty.
-fn cluster(alloc: Global) -> Result<Config, Refusal> {
+pub fn cluster(alloc: Global) -> Result<Config, Refusal> {
     let mut tables = Vec::new(alloc);
     for _ in 0..BRANCHES {
         tables.push(Sequence::new(Vec::new(alloc)))?;
