@@ -1,7 +1,6 @@
 -- A change of each of a list, one place after the other.
 use Rattle.std.proofs.Common.{◌≡◌, ◌∙◌, ℕ, zero, suc, ◌+◌, ◌<◌, ◌≤◌, List, [], ◌∷◌, ◌++◌, length, get_or, take, drop, map, set, refl, ap}
 use Rattle.std.proofs.Common.{arith}
-use Rattle.std.proofs.lemmas.List.{append-nil, drop_all, take_all}
 
 module _ {X : Type 0} (f : X → X) where
   -- those before a place are changed
@@ -23,10 +22,6 @@ module _ {X : Type 0} (f : X → X) where
   changed_next xs i d lt =
       let next : suc i ≡ i + 1 = omega arith in
       ap (λ y. set (changed xs i) i (f y)) (here_before xs i d lt) ∙ changed_suc xs i d lt ∙ ap (changed xs) next
-
-  pub changed_all : (xs : List X) (i : ℕ) → length xs ≤ i → changed xs i ≡ map f xs
-  changed_all xs i le =
-      (λ j. map f (take_all i xs le j) ++ drop_all i xs le j) ∙ append-nil (map f xs)
 
   pub length-changed : (xs : List X) (i : ℕ) → length (changed xs i) ≡ length xs
   length-changed [] zero = refl

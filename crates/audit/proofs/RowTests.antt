@@ -75,14 +75,6 @@ module _ (table : ℕ → List Row) where
     next = λ _. row_at fs i d lt false (sym is) before;
   }
 
-  pub reaches_end : (fs : List (List Row)) (i n : ℕ) → n ≡ length fs → length fs ≤ i → are_tables table 0 (take i fs) ≡ true
-      → Reaches (are_tables table 0) fs n
-  reaches_end fs i n is le before = record {
-    within = omega (arith, is);
-    kept = λ _. ap (are_tables table 0) (take_all n fs (omega (arith, is)) ∙ sym (take_all i fs le)) ∙ before;
-    next = λ lt. absurd (omega (arith, is, lt));
-  }
-
   -- all rows are right where they are as many
   pub reaches_all : (fs : List (List Row)) (n : ℕ) → Reaches (are_tables table 0) fs n → (n == length fs) ≡ are_tables table 0 fs
   reaches_all fs n reaches = by (n == length fs) refl

@@ -1,10 +1,9 @@
 //! An acceptor.
 
-use crate::calls::{Part, run_calls};
-use crate::page::Page;
-use crate::stop::{Stop, wanted};
-use crate::{codec, records, words};
+use crate::ways::Alone;
+use crate::{codec, records};
 use acceptor::{Acceptor, SentReply};
+use case_lines::{Page, Part, Stop, run_calls, wanted, words};
 use protocol::Answer;
 use std::alloc::Global;
 use wire::{MAX_DATAGRAM, MAX_TX_BYTES, view_of};
@@ -18,8 +17,8 @@ pub fn run(alloc: Global, rest: &[u8], calls: &[String], page: &mut Page) -> Res
         return Err(Stop::Unread);
     }
     let bundled = kind == b"bundled".as_slice();
-    let mut acceptor = Acceptor::new(alloc, number, leaders, bundled);
-    run_calls(&mut acceptor, alloc, calls, page)
+    let acceptor = Acceptor::new(alloc, number, leaders, bundled);
+    run_calls(&mut Alone(acceptor), alloc, calls, page)
 }
 
 /// What is sent, as it is spelled.
@@ -35,7 +34,7 @@ fn say_reply(reply: &Option<SentReply<'_>>, page: &mut Page) -> Result<(), Stop>
 /// A message comes: a fact is decided on, made ready for and played, and then the messages go.
 fn hear(acceptor: &mut Acceptor, alloc: Global, words: &[u8], page: &mut Page) -> Result<(), Stop> {
     let mut bytes = [0; MAX_DATAGRAM];
-    let len = codec::datagram(alloc, words, &mut bytes)?;
+    let len = words::datagram(alloc, words, &mut bytes)?;
     let Ok(message) = view_of(&bytes[..len]) else {
         return Err(Stop::Unread);
     };
@@ -51,18 +50,18 @@ fn hear(acceptor: &mut Acceptor, alloc: Global, words: &[u8], page: &mut Page) -
     say_reply(&decision.reply, page)
 }
 
-impl Part for Acceptor {
+impl Part for Alone<Acceptor> {
     fn call(&mut self, alloc: Global, line: &[u8], page: &mut Page) -> Result<(), Stop> {
         let (verb, rest) = words::cut(line);
         match verb {
-            b"hear" => hear(self, alloc, rest, page),
+            b"hear" => hear(&mut self.0, alloc, rest, page),
             b"play" => {
                 let frame = words::bytes(alloc, rest)?;
                 let mut buffer = [0; MAX_TX_BYTES];
-                let played = self.play(&records::read(alloc, &frame, &mut buffer)?);
+                let played = self.0.play(&records::read(alloc, &frame, &mut buffer)?);
                 page.played(played)
             }
-            b"shorter" => page.frames(&wanted(self.shorter())?),
+            b"shorter" => page.frames(&wanted(self.0.shorter())?),
             _ => Err(Stop::Unread),
         }
     }

@@ -1,10 +1,7 @@
 //! Ballots, slots, quorums and the choice of a value.
 
-use crate::calls::{Part, run_calls};
-use crate::page::Page;
-use crate::stop::Stop;
-use crate::words;
 use ballot::{Quorum, Slot, choose, next_owned, owner};
+use case_lines::{Page, Part, Stop, run_calls, words};
 use std::alloc::Global;
 use xid::Vote;
 

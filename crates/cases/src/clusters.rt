@@ -1,9 +1,7 @@
 //! A whole cluster over records of which one fails.
 
-use crate::calls::{Part, run_calls};
-use crate::page::Page;
-use crate::stop::{Stop, wanted};
-use crate::{nodes, records, words};
+use crate::{nodes, records};
+use case_lines::{Page, Part, Stop, in_memory, run_calls, wanted, words};
 use cluster::Cluster;
 use net_script::{Command, WrittenTx, read_script, write_finals, write_step};
 use node_core::{Config, place_of};
@@ -30,7 +28,7 @@ fn empty_records(
     let mut all = Vec::new(alloc);
     for at in 0..count {
         let call = if at == place { call } else { 0 };
-        let inner = records::in_memory(alloc, b"-")?;
+        let inner = in_memory(alloc, b"-")?;
         all.push(FailRecord::new(inner, call, leaves))?;
     }
     Ok(all)
@@ -67,7 +65,7 @@ fn open(
 /// Runs the calls of a case: the sizes as of a node's, the node whose record fails, its call, and what that leaves. Each call is an event
 /// of a script, or a flow. Tells last the tables, and how often each record has failed.
 pub fn run(alloc: Global, rest: &[u8], calls: &[String], page: &mut Page) -> Result<(), Stop> {
-    let (config, rest) = nodes::cluster(alloc, rest)?;
+    let (config, rest) = words::cluster(alloc, rest)?;
     let mut whole = match open(alloc, &config, rest, page) {
         Ok(cluster) => Whole {
             cluster,

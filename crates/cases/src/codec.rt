@@ -1,17 +1,11 @@
 //! Messages and their bytes.
 
-ghost use Rattle.std.specs.Prelude.{◌≤◌, IfOk};
-
-use crate::calls::Part;
-use crate::page::Page;
-use crate::stop::Stop;
+use crate::seen;
 use crate::ways::{ByValue, OverBytes, run_both};
-use crate::{seen, words};
-use net_script::{Entry, read_trace};
+use case_lines::{Page, Part, Stop, words};
 use protocol::{Address, Outgoing};
 use std::alloc::Global;
-use wire::{MAX_DATAGRAM, MAX_MESSAGE_BYTES, Message, decode, encode, view_of};
-use xid::Refusal;
+use wire::{MAX_DATAGRAM, decode, view_of};
 
 /// The codec, each call by itself.
 #[derive(Drop)]
@@ -20,41 +14,6 @@ struct Codec;
 /// Runs the calls of a case.
 pub fn run(alloc: Global, calls: &[String], page: &mut Page) -> Result<(), Stop> {
     run_both(ByValue(Codec), OverBytes(Codec), alloc, calls, page)
-}
-
-/// The message that is sent in an entry of a trace.
-fn sent_message(entry: Entry) -> Result<Message, Stop> {
-    let Entry::Step(step) = entry else {
-        return Err(Stop::Unread);
-    };
-    match step.sent.as_slice() {
-        [sent] => Ok(sent.message),
-        _ => Err(Stop::Unread),
-    }
-}
-
-/// The message that words say, as a trace has them.
-pub fn message(alloc: Global, words: &[u8]) -> Result<Message, Stop> {
-    let mut text = Vec::new(alloc);
-    text.extend_from_slice(b"cluster acceptors 1 leaders 1 rms 1\ndeliver 1 -> ok\nsent 1 a0 a0 ")?;
-    text.extend_from_slice(words)?;
-    text.extend_from_slice(b"\nfinal r0\n")?;
-    let trace = match read_trace(alloc, &text) {
-        Ok(trace) => trace,
-        Err(Refusal::NoMemory) => return Err(Stop::Ended),
-        Err(_) => return Err(Stop::Unread),
-    };
-    for entry in trace.entries.into_vec() {
-        return sent_message(entry);
-    }
-    Err(Stop::Unread)
-}
-
-/// The bytes of the message that words say, in front, and how many they are.
-pub fn datagram(alloc: Global, words: &[u8], bytes: &mut [u8; MAX_DATAGRAM]) -> Result<usize, Stop>
-    ensures { IfOk result (λ len. len ≤ MAX_MESSAGE_BYTES) }
-{
-    Ok(encode(&message(alloc, words)?, bytes))
 }
 
 /// What is sent, by the bytes that spell it.
@@ -71,7 +30,7 @@ impl Part for ByValue<Codec> {
         match verb {
             b"encode" => {
                 let mut bytes = [0; MAX_DATAGRAM];
-                let len = datagram(alloc, rest, &mut bytes)?;
+                let len = words::datagram(alloc, rest, &mut bytes)?;
                 page.hex(&bytes[..len])?;
             }
             b"decode" => match decode(&words::bytes(alloc, rest)?) {
@@ -100,7 +59,7 @@ impl Part for OverBytes<Codec> {
         match verb {
             b"encode" => {
                 let mut bytes = [0; MAX_DATAGRAM];
-                let len = datagram(alloc, rest, &mut bytes)?;
+                let len = words::datagram(alloc, rest, &mut bytes)?;
                 say_again(&bytes[..len], page)?;
             }
             b"decode" => match view_of(&words::bytes(alloc, rest)?) {

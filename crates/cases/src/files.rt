@@ -1,10 +1,6 @@
 //! Files: a cluster's, its keys, and what stands beside a record. In a call `\0a` is the byte of these two hex digits.
 
-use crate::calls::{Part, run_calls};
-use crate::page::Page;
-use crate::stop::Stop;
-use crate::texts::unescaped;
-use crate::words;
+use case_lines::{Page, Part, Stop, run_calls, words};
 use cluster_file::{Cluster, ClusterError, Owner, Place, digest, key_of, read_cluster};
 use std::alloc::Global;
 
@@ -99,9 +95,9 @@ fn say(alloc: Global, cluster: &Cluster, page: &mut Page) -> Result<(), Stop> {
 impl Part for Clusters<'_> {
     fn call(&mut self, alloc: Global, line: &[u8], page: &mut Page) -> Result<(), Stop> {
         let mut text = Vec::new(alloc);
-        unescaped(alloc, self.head, &mut text)?;
+        words::unescaped(alloc, self.head, &mut text)?;
         text.push(b'\n')?;
-        unescaped(alloc, words::plain(line), &mut text)?;
+        words::unescaped(alloc, words::plain(line), &mut text)?;
         let Ok(text) = String::from_utf8(text) else {
             return Err(Stop::Unread);
         };
@@ -117,7 +113,7 @@ impl Part for Clusters<'_> {
 impl Part for Keys {
     fn call(&mut self, alloc: Global, line: &[u8], page: &mut Page) -> Result<(), Stop> {
         let mut text = Vec::new(alloc);
-        unescaped(alloc, words::plain(line), &mut text)?;
+        words::unescaped(alloc, words::plain(line), &mut text)?;
         match key_of(&text) {
             Ok(key) => page.hex(&key)?,
             Err(error) => page.word(format!(in alloc; "{error}")?.as_bytes())?,
@@ -140,7 +136,7 @@ impl Part for Owners {
         let who = words::node(name)?;
         let owner = Owner { who, digest };
         let mut found = Vec::new(alloc);
-        unescaped(alloc, words::plain(text), &mut found)?;
+        words::unescaped(alloc, words::plain(text), &mut found)?;
         page.truth(owner.is_named_by(&found))?;
         page.word(owner.text().as_slice())
     }

@@ -2,8 +2,8 @@
 
 ghost use Rattle.std.specs.Prelude.{◌≡◌, length, IfOk};
 
-use crate::stop::Stop;
-use crate::{codec, nodes, words};
+use crate::nodes;
+use case_lines::{Stop, words};
 use node_core::{Input, Output};
 use protocol::Request;
 use std::alloc::Global;
@@ -26,7 +26,7 @@ impl Item {
             b"ask" => Ok(Item::Asked(nodes::request(alloc, rest)?)),
             b"hear" => {
                 let mut bytes = [0; MAX_DATAGRAM];
-                let len = encode(&codec::message(alloc, rest)?, &mut bytes);
+                let len = encode(&words::message(alloc, rest)?, &mut bytes);
                 Ok(Item::Received(Vec::from_slice(alloc, &bytes[..len])?))
             }
             b"take" => Ok(Item::Received(words::bytes(alloc, rest)?)),

@@ -1,9 +1,6 @@
 //! Tags of messages.
 
-use crate::calls::{Part, run_calls};
-use crate::page::Page;
-use crate::stop::Stop;
-use crate::words;
+use case_lines::{Page, Part, Stop, run_calls, words};
 use hmac::{hmac, is_same};
 use std::alloc::Global;
 

@@ -1,9 +1,7 @@
 //! A leader.
 
-use crate::calls::{Part, run_calls};
-use crate::page::Page;
-use crate::stop::{Stop, wanted};
-use crate::{codec, records, words};
+use crate::records;
+use case_lines::{Page, Part, Stop, run_calls, wanted, words};
 use leader::{Leader, LeaderDecision, LeaderSends};
 use protocol::Answer;
 use stable_record::{FactRest, FactView};
@@ -95,7 +93,7 @@ impl InPlace {
     /// A message comes.
     fn hear(&mut self, alloc: Global, words: &[u8], page: &mut Page) -> Result<(), Stop> {
         let mut bytes = [0; MAX_DATAGRAM];
-        let len = codec::datagram(alloc, words, &mut bytes)?;
+        let len = words::datagram(alloc, words, &mut bytes)?;
         let Ok(message) = view_of(&bytes[..len]) else {
             return Err(Stop::Unread);
         };

@@ -1,11 +1,8 @@
 //! A node at a port whose datagrams are letters, over one in memory.
 
-use crate::calls::{Part, run_calls};
-use crate::nodes::{self, Place};
-use crate::page::Page;
-use crate::ports::{open, say_came, say_gone};
-use crate::stop::{Stop, wanted};
-use crate::{groups, records, words};
+use crate::ports::{say_came, say_gone};
+use crate::{groups, nodes};
+use case_lines::{Page, Part, Place, Stop, in_memory, run_calls, wanted, words};
 use letter_port::LetterPort;
 use net_script::Command;
 use node_core::Sizes;
@@ -46,11 +43,11 @@ pub fn run(alloc: Global, rest: &[u8], calls: &[String], page: &mut Page) -> Res
         page.bytes(b" -> ok\n")?;
         waiting = waiting.saturating_add(1);
     }
-    let (config, _rest) = nodes::cluster(alloc, rest)?;
+    let (config, _rest) = words::cluster(alloc, rest)?;
     let place = Place::new(config, words::node(name)?);
     let sizes = place.config.sizes();
-    let record = records::in_memory(alloc, b"-")?;
-    let node = match open(&place, record, alloc, page) {
+    let record = in_memory(alloc, b"-")?;
+    let node = match place.open(record, alloc, page) {
         Ok(node) => node,
         Err(stop) => return Err(stop),
     };
@@ -62,7 +59,7 @@ pub fn run(alloc: Global, rest: &[u8], calls: &[String], page: &mut Page) -> Res
         calls.get(waiting..).unwrap_or(&[]),
         page,
     )?;
-    nodes::say_record(&place, station.node.into_record(), alloc, page)
+    place.say_record(station.node.into_record(), alloc, page)
 }
 
 /// The next message of a port.

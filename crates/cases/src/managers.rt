@@ -1,9 +1,8 @@
 //! A resource manager.
 
-use crate::calls::{Part, run_calls};
-use crate::page::Page;
-use crate::stop::{Stop, wanted};
-use crate::{codec, records, tables, words};
+use crate::ways::Alone;
+use crate::{codec, records, tables};
+use case_lines::{Page, Part, Stop, run_calls, wanted, words};
 use protocol::{Answer, View};
 use resource_manager::{ResourceManager, SentMessage};
 use std::alloc::Global;
@@ -16,8 +15,8 @@ pub fn run(alloc: Global, rest: &[u8], calls: &[String], page: &mut Page) -> Res
     let (managers, rows) = words::cut(rest);
     let (number, managers) = (words::small(number)?, words::small(managers)?);
     let own = tables::rows(alloc, rows)?;
-    let mut manager = ResourceManager::new(alloc, number, managers, own)?;
-    run_calls(&mut manager, alloc, calls, page)
+    let manager = ResourceManager::new(alloc, number, managers, own)?;
+    run_calls(&mut Alone(manager), alloc, calls, page)
 }
 
 /// A client call on a branch.
@@ -61,7 +60,7 @@ fn hear(
     page: &mut Page,
 ) -> Result<(), Stop> {
     let mut bytes = [0; MAX_DATAGRAM];
-    let len = codec::datagram(alloc, words, &mut bytes)?;
+    let len = words::datagram(alloc, words, &mut bytes)?;
     let Ok(message) = view_of(&bytes[..len]) else {
         return Err(Stop::Unread);
     };
@@ -135,19 +134,19 @@ fn call_plain(
     page.end_line()
 }
 
-impl Part for ResourceManager {
+impl Part for Alone<ResourceManager> {
     fn call(&mut self, alloc: Global, line: &[u8], page: &mut Page) -> Result<(), Stop> {
         let (verb, rest) = words::cut(line);
         match verb {
-            b"hear" => hear(self, alloc, rest, page),
-            b"shorter" => page.frames(&wanted(self.shorter(alloc))?),
+            b"hear" => hear(&mut self.0, alloc, rest, page),
+            b"shorter" => page.frames(&wanted(self.0.shorter(alloc))?),
             b"play" => {
                 let frame = words::bytes(alloc, rest)?;
                 let mut buffer = [0; MAX_TX_BYTES];
-                let played = self.play(&records::read(alloc, &frame, &mut buffer)?);
+                let played = self.0.play(&records::read(alloc, &frame, &mut buffer)?);
                 page.played(played)
             }
-            _ => call_plain(self, alloc, verb, rest, page),
+            _ => call_plain(&mut self.0, alloc, verb, rest, page),
         }
     }
 }

@@ -1,38 +1,14 @@
 //! A node over a record of each kind.
 
-use crate::calls::{Part, run_calls};
-use crate::page::Page;
-use crate::stop::Stop;
-use crate::{codec, groups, managers, records, versions, words};
+use crate::{codec, groups, managers, records};
+use case_lines::{Page, Part, Place, Stop, in_memory, run_calls, words};
 use net_script::{Command, read_script};
-use node_core::{Config, Input, Node, NodeSends, Output};
+use node_core::{Input, Node, NodeSends, Output};
 use protocol::{Address, Event, NodeId, Outgoing, Request};
 use stable_record::{Record, Tear};
 use std::alloc::Global;
 use wire::{MAX_DATAGRAM, encode};
-use xid::{Refusal, Sequence};
-
-/// The cluster whose sizes stand in a line: acceptors, leaders and managers, whose tables are empty; and what follows them.
-pub fn cluster(alloc: Global, rest: &[u8]) -> Result<(Config, &[u8]), Stop> {
-    let (acceptors, rest) = words::cut(rest);
-    let (leaders, rest) = words::cut(rest);
-    let (managers, rest) = words::cut(rest);
-    let managers = words::small(managers)?;
-    let mut tables = Vec::new(alloc);
-    for _table in 0..managers {
-        tables.push(Sequence::new(Vec::new(alloc)))?;
-    }
-    let config = Config::new(
-        words::small(acceptors)?,
-        words::small(leaders)?,
-        managers,
-        Sequence::new(tables),
-    )?;
-    match rest.strip_prefix(b"bundled ") {
-        Some(rest) => Ok((config.bundled(), rest)),
-        None => Ok((config, rest)),
-    }
-}
+use xid::Refusal;
 
 /// The request that an event is.
 fn request_of(event: Event) -> Result<Request, Stop> {
@@ -72,42 +48,19 @@ pub fn run(rt: HostRuntime, rest: &[u8], calls: &[String], page: &mut Page) -> R
     let alloc = rt.alloc();
     let (name, rest) = words::cut(rest);
     let who = words::node(name)?;
-    let (config, rest) = cluster(alloc, rest)?;
+    let (config, rest) = words::cluster(alloc, rest)?;
     let (kind, rest) = words::cut(rest);
     let place = Place::new(config, who);
     match kind {
-        b"memory" => live_torn(&place, records::in_memory(alloc, rest)?, alloc, calls, page),
+        b"memory" => live_torn(&place, in_memory(alloc, rest)?, alloc, calls, page),
         b"failing" => live_torn(&place, records::failing(alloc, rest)?, alloc, calls, page),
         b"file" => live(&place, records::in_file(rt, rest)?, alloc, calls, page),
         _ => Err(Stop::Unread),
     }
 }
 
-/// A node's place in its cluster.
-#[derive(Drop)]
-pub struct Place {
-    /// The cluster.
-    pub config: Config,
-    /// The node.
-    pub who: NodeId,
-}
-
-impl Place {
-    /// The place of this node in this cluster.
-    pub fn new(config: Config, who: NodeId) -> Place {
-        Place { config, who }
-    }
-}
-
-/// Says what opening was refused with.
-pub fn say_refused(refusal: Refusal, page: &mut Page) -> Result<(), Stop> {
-    page.bytes(b"open ->")?;
-    page.refusal(refusal)?;
-    page.end_line()
-}
-
 /// Opens a node. A record that has failed, or that wanted memory, comes back, and the node is opened over it again.
-pub fn open<R: Record + Drop>(
+fn open<R: Record + Drop>(
     place: &Place,
     record: R,
     alloc: Global,
@@ -117,36 +70,14 @@ pub fn open<R: Record + Drop>(
         Ok(node) => return Ok(node),
         Err(back) => back,
     };
-    say_refused(refusal, page)?;
+    page.not_opened(refusal)?;
     match Node::open(alloc, &place.config, place.who, record) {
         Ok(node) => Ok(node),
         Err((record, _refusal)) => {
-            say_record(place, record, alloc, page)?;
+            place.say_record(record, alloc, page)?;
             Err(Stop::Refused)
         }
     }
-}
-
-/// What a record holds at last, and how often it has failed. A node that is opened over it in either version comes to the same.
-pub fn say_record<R: Record + Drop>(
-    place: &Place,
-    mut record: R,
-    alloc: Global,
-    page: &mut Page,
-) -> Result<(), Stop> {
-    page.bytes(b"record ->")?;
-    let bytes = match record.read(alloc) {
-        Ok(bytes) => bytes,
-        Err(error) => {
-            page.refusal(error.into())?;
-            page.number(record.faults())?;
-            return page.end_line();
-        }
-    };
-    page.hex(&bytes)?;
-    page.number(record.faults())?;
-    page.end_line()?;
-    versions::agree(place, alloc, &bytes, page)
 }
 
 /// A case over a record in which no tear can be armed.
@@ -163,7 +94,7 @@ fn live<R: Record + Drop>(
         Err(stop) => return Err(stop),
     };
     run_calls(&mut part, alloc, calls, page)?;
-    say_record(place, part.node.into_record(), alloc, page)
+    place.say_record(part.node.into_record(), alloc, page)
 }
 
 /// A case over a record in which a tear can be armed.
@@ -180,7 +111,7 @@ fn live_torn<R: Tear + Drop>(
         Err(stop) => return Err(stop),
     };
     run_calls(&mut part, alloc, calls, page)?;
-    say_record(place, part.node.into_record(), alloc, page)
+    place.say_record(part.node.into_record(), alloc, page)
 }
 
 /// A node over a record in which no tear can be armed.
@@ -317,7 +248,7 @@ fn call_node<R: Record + Drop>(
         }
         b"hear" => {
             let mut bytes = [0; MAX_DATAGRAM];
-            let len = encode(&codec::message(alloc, rest)?, &mut bytes);
+            let len = encode(&words::message(alloc, rest)?, &mut bytes);
             hand(node, Input::Received(&bytes[..len]), page)
         }
         b"take" => {

@@ -1,11 +1,10 @@
 //! The parts that cases are of.
 
-use crate::page::Page;
-use crate::stop::Stop;
 use crate::{
     acceptors, ballots, clusters, codec, files, hmacs, leaders, letter_ports, managers, nodes,
-    numbers, ports, records, signed, tables, texts, values, words,
+    numbers, ports, records, signed, tables, texts, values,
 };
+use case_lines::{Page, Stop, words};
 
 /// Runs the calls of a case of the part that its head names.
 pub fn run(rt: HostRuntime, head: &[u8], calls: &[String], page: &mut Page) -> Result<(), Stop> {

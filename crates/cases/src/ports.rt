@@ -1,10 +1,7 @@
 //! A node at a port in memory.
 
-use crate::calls::{Part, run_calls};
-use crate::nodes::{self, Place};
-use crate::page::Page;
-use crate::stop::{Stop, wanted};
-use crate::{groups, records, words};
+use crate::{groups, nodes};
+use case_lines::{Page, Part, Place, Stop, in_memory, run_calls, wanted, words};
 use net_script::Command;
 use node_core::{Input, Output};
 use port::{FakePort, Member, Port, Served, call, call_all, raise, serve_once};
@@ -19,41 +16,20 @@ struct Station {
     port: FakePort,
 }
 
-/// Opens a node. A record that has failed, or that wanted memory, comes back, and the node is opened over it again.
-pub fn open(
-    place: &Place,
-    record: MemRecord,
-    alloc: Global,
-    page: &mut Page,
-) -> Result<Member<MemRecord>, Stop> {
-    let (record, refusal) = match Member::open(alloc, &place.config, place.who, record) {
-        Ok(node) => return Ok(node),
-        Err(back) => back,
-    };
-    nodes::say_refused(refusal, page)?;
-    match Member::open(alloc, &place.config, place.who, record) {
-        Ok(node) => Ok(node),
-        Err((record, _refusal)) => {
-            nodes::say_record(place, record, alloc, page)?;
-            Err(Stop::Refused)
-        }
-    }
-}
-
 /// Runs the calls of a case: the call of the port that fails (0: none), and then as of a node over an empty record in memory.
 pub fn run(alloc: Global, rest: &[u8], calls: &[String], page: &mut Page) -> Result<(), Stop> {
     let (call, rest) = words::cut(rest);
     let (name, rest) = words::cut(rest);
     let port = FakePort::new(alloc, u64::from(words::number(call)?));
-    let (config, _rest) = nodes::cluster(alloc, rest)?;
+    let (config, _rest) = words::cluster(alloc, rest)?;
     let place = Place::new(config, words::node(name)?);
-    let record = records::in_memory(alloc, b"-")?;
-    let mut station = match open(&place, record, alloc, page) {
+    let record = in_memory(alloc, b"-")?;
+    let mut station = match place.open(record, alloc, page) {
         Ok(node) => Station { node, port },
         Err(stop) => return Err(stop),
     };
     run_calls(&mut station, alloc, calls, page)?;
-    nodes::say_record(&place, station.node.into_record(), alloc, page)
+    place.say_record(station.node.into_record(), alloc, page)
 }
 
 /// What was answered, and the view that changed.

@@ -1,10 +1,7 @@
 //! Frames, and records of each kind.
 
-use crate::calls::{Part, run_calls};
-use crate::page::Page;
-use crate::stop::Stop;
 use crate::ways::{ByValue, OverBytes, run_both};
-use crate::words;
+use case_lines::{Page, Part, Stop, in_memory, run_calls, words};
 use stable_record::{
     Entry, EntryKind, EntryView, Fact, FactView, FailRecord, FileRecord, Leaves, MemRecord, Record,
     RecordError, Tear, entries, take_frame, view_frame,
@@ -179,11 +176,6 @@ pub fn leaves(word: &[u8]) -> Result<Leaves, Stop> {
         b"new" => Ok(Leaves::New),
         _ => Err(Stop::Unread),
     }
-}
-
-/// A record in memory that holds bytes.
-pub fn in_memory(alloc: Global, word: &[u8]) -> Result<MemRecord, Stop> {
-    Ok(MemRecord::new(alloc, words::bytes(alloc, word)?))
 }
 
 /// A record that fails, as `2 old HEX`: its second call, which leaves the old content.

@@ -1,7 +1,6 @@
 //! What is seen of a message over its bytes, in the words of a trace.
 
-use crate::page::Page;
-use crate::stop::Stop;
+use case_lines::{Page, Stop};
 use protocol::NodeId;
 use wire::{MessageView, Rest, SpelledTx, VersionNumber, take_byte, take_number, take_rm};
 use xid::{Ballot, ManagerNumber, Vote};

@@ -1,9 +1,7 @@
 //! A port whose datagrams are signed, over a carrier in memory, and one that signs nothing.
 
-use crate::calls::{Part, run_calls};
-use crate::page::Page;
-use crate::stop::{Stop, wanted};
-use crate::{ports, words};
+use crate::ports;
+use case_lines::{Page, Part, Stop, run_calls, wanted, words};
 use hmac::Key;
 use port::{FakePort, MAX_TAKEN, Port};
 use protocol::NodeId;

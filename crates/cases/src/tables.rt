@@ -3,11 +3,10 @@
 ghost use Rattle.std.specs.Prelude.{◌≡◌, true, IfOk, IfSome};
 ghost use Rattle.branch_table.specs.Tables.{is_row, are_rows};
 
-use crate::calls::{Part, run_calls};
-use crate::page::Page;
-use crate::stop::{Stop, wanted};
-use crate::{records, words};
+use crate::records;
+use crate::ways::Alone;
 use branch_table::{BranchTable, Ending};
+use case_lines::{Page, Part, Stop, run_calls, wanted, words};
 use protocol::{Answer, Row};
 use stable_record::{EntryKind, FactKind, Touched};
 use std::alloc::Global;
@@ -42,8 +41,8 @@ pub fn rows(alloc: Global, list: &[u8]) -> Result<Vec<Row>, Stop>
 
 /// Runs the calls of a case over a table with these rows.
 pub fn run(alloc: Global, rest: &[u8], calls: &[String], page: &mut Page) -> Result<(), Stop> {
-    let mut table = BranchTable::new(alloc, rows(alloc, rest)?)?;
-    run_calls(&mut table, alloc, calls, page)
+    let table = BranchTable::new(alloc, rows(alloc, rest)?)?;
+    run_calls(&mut Alone(table), alloc, calls, page)
 }
 
 /// How a branch ends: `fail`, or nothing.
@@ -138,28 +137,28 @@ fn call_from_above(
     }
 }
 
-impl Part for BranchTable {
+impl Part for Alone<BranchTable> {
     fn call(&mut self, alloc: Global, line: &[u8], page: &mut Page) -> Result<(), Stop> {
         let (verb, rest) = words::cut(line);
         match verb {
             b"looks" => {
-                page.number(self.looks())?;
+                page.number(self.0.looks())?;
                 return page.end_line();
             }
             b"rows" => {
-                page.rows(&wanted(self.rows())?)?;
+                page.rows(&wanted(self.0.rows())?)?;
                 return page.end_line();
             }
             b"recover" => {
-                page.answer(wanted(self.recover())?)?;
+                page.answer(wanted(self.0.recover())?)?;
                 return page.end_line();
             }
             _ => {}
         }
         let (name, rest) = words::cut(rest);
         let xid = words::xid(name)?;
-        match client_call(self, alloc, verb, &xid, rest) {
-            Err(Stop::Unread) => call_from_above(self, alloc, verb, &xid, rest, page),
+        match client_call(&mut self.0, alloc, verb, &xid, rest) {
+            Err(Stop::Unread) => call_from_above(&mut self.0, alloc, verb, &xid, rest, page),
             answered => {
                 page.answer(answered?)?;
                 page.end_line()

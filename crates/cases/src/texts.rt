@@ -1,9 +1,6 @@
 //! Scripts and traces as texts. In a call `\0a` is the byte of these two hex digits.
 
-use crate::calls::{Part, run_calls};
-use crate::page::Page;
-use crate::stop::{Stop, wanted};
-use crate::words;
+use case_lines::{Page, Part, Stop, run_calls, wanted, words};
 use net_script::{read_script, read_trace, write_trace};
 use std::alloc::Global;
 use xid::Refusal;
@@ -24,21 +21,6 @@ pub fn run_scripts(
     run_calls(&mut Behind { head }, alloc, calls, page)
 }
 
-/// The bytes that a text says.
-pub fn unescaped(alloc: Global, text: &[u8], out: &mut Vec<u8>) -> Result<(), Stop> {
-    for (i, piece) in text.split(|byte| *byte == b'\\').enumerate() {
-        match piece {
-            [first, second, rest @ ..] if i > 0 => {
-                out.extend_from_slice(&words::bytes(alloc, &[*first, *second])?)?;
-                out.extend_from_slice(rest)?;
-            }
-            _ if i > 0 => return Err(Stop::Unread),
-            plain => out.extend_from_slice(plain)?,
-        }
-    }
-    Ok(())
-}
-
 impl Part for Behind<'_> {
     /// How many tables and commands there are, or the refusal.
     fn call(&mut self, alloc: Global, line: &[u8], page: &mut Page) -> Result<(), Stop> {
@@ -47,7 +29,7 @@ impl Part for Behind<'_> {
         if !self.head.is_empty() {
             text.push(b'\n')?;
         }
-        unescaped(alloc, words::plain(line), &mut text)?;
+        words::unescaped(alloc, words::plain(line), &mut text)?;
         match read_script(alloc, &text) {
             Ok(script) => {
                 page.number(script.tables.as_slice().len() as u64)?;
@@ -64,7 +46,7 @@ impl Part for Behind<'_> {
 pub fn run_trace(alloc: Global, calls: &[String], page: &mut Page) -> Result<(), Stop> {
     let mut text = Vec::new(alloc);
     for line in calls {
-        unescaped(alloc, line.as_bytes(), &mut text)?;
+        words::unescaped(alloc, line.as_bytes(), &mut text)?;
         text.push(b'\n')?;
     }
     match read_trace(alloc, &text) {

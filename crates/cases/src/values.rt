@@ -1,9 +1,6 @@
 //! Names of branches and of transactions. The parts of a name are read as they stand in the line, and printed as hex digits.
 
-use crate::calls::{Part, run_calls};
-use crate::page::Page;
-use crate::stop::Stop;
-use crate::words;
+use case_lines::{Page, Part, Stop, run_calls, words};
 use std::alloc::Global;
 use xid::{ManagerNumber, Refusal, Tx, Xid};
 

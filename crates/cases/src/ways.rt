@@ -1,9 +1,11 @@
 //! Parts that each line calls in two ways: by value, and over bytes as nodes do. Both have to come to the same.
 
-use crate::calls::{Part, run_calls};
-use crate::page::Page;
-use crate::stop::Stop;
+use case_lines::{Page, Part, Stop, run_calls};
 use std::alloc::Global;
+
+/// A part that is called in one way.
+#[derive(Drop)]
+pub struct Alone<T>(pub T);
 
 /// A part that is called by value: facts, messages and entries are built.
 #[derive(Drop)]
@@ -66,17 +68,6 @@ fn call_behind<P: Part>(
     }
 }
 
-/// Where two ways print different things, prints a line that is never right, and both.
-pub fn agree(first: &Page, second: &Page, page: &mut Page) -> Result<(), Stop> {
-    if first.text() == second.text() {
-        return Ok(());
-    }
-    page.bytes(b"the two ways differ:\n")?;
-    page.bytes(first.text())?;
-    page.bytes(b"and\n")?;
-    page.bytes(second.text())
-}
-
 impl<P: Part, Q: Part> Part for Both<P, Q> {
     /// Makes the call in both ways, and prints what came of the call by value.
     fn call(&mut self, alloc: Global, line: &[u8], page: &mut Page) -> Result<(), Stop> {
@@ -85,6 +76,6 @@ impl<P: Part, Q: Part> Part for Both<P, Q> {
         self.second.clear();
         call_behind(&mut self.other, alloc, line, &mut self.second)?;
         page.bytes(self.first.text())?;
-        agree(&self.first, &self.second, page)
+        page.compare(&self.first, &self.second)
     }
 }

@@ -1,5 +1,5 @@
 -- What an event adds to the datagrams and to the notices of a world with floors, and how those are read off a cluster.
-use Rattle.std.proofs.Common.{◌≡◌, ◌⊎◌, inl, inr, ◌∙◌, ℕ, zero, suc, ◌+◌, ◌-◌, ◌<◌, ◌≤◌, Bool, true, false, if◌then◌else◌, List, []}
+use Rattle.std.proofs.Common.{◌≡◌, ◌⊎◌, ◌∙◌, ℕ, zero, suc, ◌+◌, ◌-◌, ◌<◌, ◌≤◌, Bool, true, false, if◌then◌else◌, List, []}
 use Rattle.std.proofs.Common.{◌∷◌, ◌++◌, length, map}
 use Rattle.std.proofs.Common.{Option, Some, None, take, drop, get_or, refl, sym, ap, subst, append_assoc, length-append, nat_lt, arith}
 use Rattle.std.specs.Prelude.{slice_get}
@@ -8,7 +8,6 @@ use Rattle.std.proofs.lemmas.Bool.{cond_both}
 use Rattle.std.proofs.lemmas.Bool.{ltb-true, ltb-false}
 use Rattle.std.proofs.lemmas.List.{append-nil, length-map, length-drop, length-take-le, take_all, take_more, get_or_append_left}
 use Rattle.std.proofs.lemmas.List.{get_or-append_right, get_or-map}
-use Rattle.std.proofs.lemmas.Option.{slice_get_past}
 use Rattle.std.proofs.lemmas.List.FromFn.{length-map-range_with_len, get_or-map-range_with_len}
 use Rattle.std.proofs.Math.Seq.{drop-append_seam}
 use Rattle.xid.specs.Places.{Place}
@@ -37,7 +36,7 @@ use Rattle.floors.specs.Worlds.{replace_at, replace_result, step_with_floors, to
 use Rattle.floors.specs.Worlds.{with_entry, with_told_lost}
 use Rattle.floors.specs.Runs.{is_lost, passes_over}
 use Rattle.floors.proofs.Steps.{lost_event, same_event, unasked_event}
-use Rattle.cluster.specs.Clusters.{NoticesParts, notice_at, sent_after, sized, told_after}
+use Rattle.cluster.specs.Clusters.{NoticesParts, sent_after, sized, told_after}
 use Rattle.cluster.specs.Opening.{name_of}
 use Rattle.cluster.specs.Notices.{told_count}
 use Rattle.cluster.proofs.Names.{acceptor_named, leader_named}
@@ -336,19 +335,3 @@ pub tells_all : (sizes : Sizes) (manager : ℕ) (place : Place) (before : List N
 tells_all sizes manager place before i le =
     ap (λ (ns : List Notice). before ++ ns)
     (take_all i (notices_of (sized sizes) manager (Some place)) (omega (arith, le, notices_in sizes manager place)))
-
--- a notice by its number from 1
-pub notice_is : (all : List Notice) (number place : ℕ) (d : Notice) → place < length all → number ≡ suc place
-    → notice_at all number ≡ Some (get_or all place d)
-notice_is all number place d lt is = ap (notice_at all) is ∙ found all place lt
-  where
-    found : (ns : List Notice) (p : ℕ) → p < length ns → slice_get ns p ≡ Some (get_or ns p d)
-    found [] p lt = absurd (omega (arith, lt))
-    found (n ∷ ns) zero lt = refl
-    found (n ∷ ns) (suc p) lt = found ns p (omega (arith, lt))
-
--- no notice has a number of 0, or one past theirs
-pub notice_none : (all : List Notice) (number : ℕ) → (number ≡ 0) ⊎ (length all < number) → notice_at all number ≡ None
-notice_none all number (inl is) = ap (notice_at all) is
-notice_none all zero (inr past) = refl
-notice_none all (suc n) (inr past) = slice_get_past all n (omega (arith, past))

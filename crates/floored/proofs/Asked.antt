@@ -6,7 +6,7 @@ use Rattle.xid.specs.Transactions.{TxParts}
 use Rattle.xid.specs.declared.refusals.Refusal.{Refusal}
 use Rattle.stable_record.specs.declared.record.RecordError.{RecordError}
 use Rattle.stable_record.specs.declared.record.RecordError.TheVariants as errors
-use Rattle.stable_record.specs.Held.{HasFailed, HasRead, Held, refusal_of}
+use Rattle.stable_record.specs.Held.{Held}
 use Rattle.protocol.specs.declared.nodes.NodeId.{NodeId}
 use Rattle.protocol.specs.declared.nodes.NodeId.TheVariants.{A, L, R}
 use Rattle.protocol.specs.declared.requests.Request.TheVariants as requests
@@ -15,14 +15,14 @@ use Rattle.protocol.specs.declared.states.View.{View}
 use Rattle.protocol.specs.Effects.{Config, Effect}
 use Rattle.protocol.specs.Nodes.{Asked, Memory, NodeState, empty_memory}
 use Rattle.node_core.specs.declared.role.Role.{Role}
-use Rattle.node_core.specs.Nodes.{IsSameNode, Keeps, NodeParts, NodeStands, Stands}
+use Rattle.node_core.specs.Nodes.{IsSameNode, NodeParts, NodeStands, Stands}
 use Rattle.node_core.specs.Viewing.{IsUnread, SaysTable, SaysView, TablesAs, ViewsAs}
 use Rattle.forgetting.specs.Above.{StandsAbove}
 use Rattle.forgetting.proofs.Effects.{manager_same}
 use Rattle.node_core.specs.Raising.{LearnsFloor}
 use Rattle.floored.specs.Nodes.{FlooredParts, FlooredStands, FlooredTables, FlooredViews, IsFlooredSound, LearnsOwn, SaysFlooredView}
-use Rattle.floored.specs.Nodes.{FlooredSays, floor_before, with_floor}
-use Rattle.floored.proofs.Restarting.{read_armed, read_bytes, read_nature, stopped_node, unread_sound}
+use Rattle.floored.specs.Nodes.{floor_before, with_floor}
+use Rattle.floored.proofs.Restarting.{read_nature, stopped_node, unread_sound}
 use Rattle.floored.proofs.Standing.{floor_found, floor_same, sound_on, stands_on}
 
 -- a node whose parts are all as they were
@@ -85,78 +85,9 @@ module _ (from config : Config) (floor : Option Place) (few m : NodeState) where
   table_alike (R rm) above (Ok rows) says = says ∙ above.rows_are
   table_alike (R rm) above (Err refusal) says = says
 
--- ---- its record couldn't be read
-
-pub unread_says : (X Says : Type 0) (old : NodeParts) (held : Held) (error : RecordError) (refusal : Refusal) → refusal ≡ refusal_of error
-    → HasRead {T = Unit {0}} old.held held (Err error) → old.role ≡ None → (config : Config) (m : NodeState)
-    → FlooredStands config (with_floor old) m
-    → FlooredSays {X = X} config m (with_floor old) (with_floor (record old { held = held })) Says (Err refusal)
-unread_says X Says old held error refusal is h down config m s =
-    let same : IsSameNode old (record old { held = held }) =
-    record { who_is = refl; sizes_are = refl; rows_are = refl; nature_is = read_nature old.held held error h } in
-    record {
-      floor_is = floor_same old.held held same.nature_is;
-      same = same;
-      role_is = refl;
-      stands = stands_on config old (record old { held = held }) m s same s.few m (record {
-        tail = s.is.stands.tail;
-        keeps = subst (λ (bytes : List ℕ). Keeps s.from old.who old.rows bytes s.few.facts s.is.stands.tail)
-            (sym (read_bytes old.held held error h)) s.is.stands.keeps;
-        played = s.is.stands.played;
-        role_is = s.is.stands.role_is;
-        tear_is = s.is.stands.tear_is ∙ sym (read_armed old.held held error h);
-      }) s.above;
-      says = inr (down, by error (Err refusal) (ap Err is) h);
-    }
-  where
-    by : (e : RecordError) (r : Result X Refusal) → r ≡ Err (refusal_of e) → HasRead {T = Unit {0}} old.held held (Err e)
-        → ((r ≡ Err Refusal.RecordFault) × HasFailed old.held.bytes old.held held) ⊎ ((r ≡ Err Refusal.NoMemory) × (held ≡ old.held))
-    by errors.Fault r is h = inl (is, h)
-    by errors.Memory r is h = inr (is, h)
-
 -- ---- asked for a view
 
 module _ (old : NodeParts) (tx : TxParts) where
-  pub other_viewed : (who : NodeId) → ((rm : _) → who ≡ R rm → ⊥) → old.who ≡ who → (config : Config) (m : NodeState)
-      → FlooredStands config (with_floor old) m → FlooredViews config m (with_floor old) (with_floor old) tx (Err Refusal.NoSuch)
-  other_viewed who apart is config m s = record {
-    floor_is = refl;
-    same = same_self old;
-    role_is = refl;
-    stands = s;
-    says = inl (
-      refl,
-      subst (λ (w : NodeId). SaysFlooredView config w (floor_before old.held) m.facts tx (Err Refusal.NoSuch)) (sym is) (by who apart),
-    );
-  }
-    where
-      by : (w : NodeId) → ((rm : _) → w ≡ R rm → ⊥) → SaysFlooredView config w (floor_before old.held) m.facts tx (Err Refusal.NoSuch)
-      by (A a) apart = refl
-      by (L l) apart = refl
-      by (R rm) apart = absurd (apart rm refl)
-
-  pub over_viewed : (rm : _) → old.who ≡ R rm → is_below (floor_before old.held) tx ≡ true → (config : Config) (m : NodeState)
-      → FlooredStands config (with_floor old) m → FlooredViews config m (with_floor old) (with_floor old) tx (Err Refusal.Forgotten)
-  over_viewed rm is low config m s = record {
-    floor_is = refl;
-    same = same_self old;
-    role_is = refl;
-    stands = s;
-    says = inl (
-      refl,
-      subst (λ (w : NodeId). SaysFlooredView config w (floor_before old.held) m.facts tx (Err Refusal.Forgotten)) (sym is)
-          (λ below. refl, λ high. absurd (cc (low, high))),
-    );
-  }
-
-  pub unread_viewed : (held : Held) (error : RecordError) (refusal : Refusal) → refusal ≡ refusal_of error
-      → HasRead {T = Unit {0}} old.held held (Err error) → old.role ≡ None → (config : Config) (m : NodeState)
-      → FlooredStands config (with_floor old) m
-      → FlooredViews config m (with_floor old) (with_floor (record old { held = held })) tx (Err refusal)
-  unread_viewed held error refusal is h down config m s =
-      unread_says View (SaysFlooredView config old.who (floor_before old.held) m.facts tx (Err refusal)) old held error refusal is h down
-      config m s
-
   pub viewed : (new : NodeParts) (result : Result View Refusal)
       → ((config : Config) (m : NodeState) → NodeStands config old m → ViewsAs config m old new tx result)
       → (rm : _) → old.who ≡ R rm → is_below (floor_before old.held) tx ≡ false → (config : Config) (m : NodeState)

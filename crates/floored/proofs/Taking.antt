@@ -111,13 +111,6 @@ module _ (node : NodeParts) (known : Option Place) (sound : IsFlooredSound known
       same_front (front_of (floor_before node.held)) new left sound.front.beneath held
       (ap (λ (h : Held). h.nature.fronts) held_is ∙ sound.front.fronts_are)
 
-  pub record_held : behind (front_of (floor_before node.held)) new ≡ node.held
-  record_held = ap (λ (front : List ℕ). behind front new) (sym front_is) ∙ held ∙ held_is
-
-  pub record_bytes : new.bytes ≡ front_of left.floor ++ left.held.bytes
-      → new.bytes ≡ front_of (floor_before node.held) ++ node.held.bytes
-  record_bytes bytes = bytes ∙ λ k. front_is k ++ (held_is k).bytes
-
 -- ---- a tear
 
 module _ (old new : NodeParts) (n : ℕ) (same : IsSameNode old new)

@@ -52,13 +52,6 @@ machine_after config world (first ∷ rest) =
     (sym (in_machine config world (with_floors first.event) first.fault))
     ∙ machine_after config next rest
 
-pub floored_reachable : (config : Config) (world : FlooredWorld) → IsFlooredReachable config world → (events : List Occurrence)
-    → IsFlooredReachable config (floored_world_after config world events)
-floored_reachable config world reach [] = reach
-floored_reachable config world reach (first ∷ rest) =
-    floored_reachable config (step_with_floors config world first.event first.fault).world
-    (After world (with_floors first.event) first.fault reach) rest
-
 -- ---- one step
 
 module _ (config : Config) (world : FlooredWorld) (P : World → Type 0) (still : P world.machine)

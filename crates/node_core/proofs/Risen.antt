@@ -1,5 +1,5 @@
 -- What comes of a node whose floor was to rise.
-use Rattle.std.proofs.Common.{◌≡◌, ◌∙◌, inl, inr, ℕ, true, false, List, [], Option, Some, None, refl, sym, ap, subst, drop}
+use Rattle.std.proofs.Common.{◌≡◌, ◌∙◌, inl, inr, ℕ, true, List, [], Option, Some, None, refl, sym, ap, subst, drop}
 use Rattle.std.specs.Prelude.{Result, Ok, Err}
 use Rattle.xid.specs.Places.{Place, IsPlace}
 use Rattle.xid.specs.declared.refusals.Refusal.{Refusal}
@@ -184,16 +184,9 @@ forgets_nature place role old new (Err other) h = absurd h
 
 module _ (config : Config) (who : NodeId) (own : List Row) (m : NodeState) (place : Place) (old new : BehindParts) (was : Option Role)
     (s : Stands config who own old.held was m) where
-  pub none_raised : was ≡ None → Raises config who own m place old old was was (Err Refusal.Down)
-  none_raised is = ((subst (λ (r : Option Role). Stands config who own old.held r m) is s).role_is, refl, refl)
-
   module _ (up : Role) (is : was ≡ Some up) where
     stands_up : Stands config who own old.held (Some up) m
     stands_up = subst (λ (r : Option Role). Stands config who own old.held r m) is s
-
-    pub held_back_raised : TellsClear place up false → Raises config who own m place old old was was (Err Refusal.Busy)
-    held_back_raised tells =
-        (stands_up.role_is.0, sym (tells config who m.facts m.memory stands_up.role_is.2), refl, refl)
 
     module _ (tells : TellsClear place up true) where
       clear_now : is_clear_below who place m.facts m.memory ≡ true

@@ -1,5 +1,5 @@
 -- Ends that clients await: when they begin, and what those who wait hear.
-use Rattle.std.proofs.Common.{◌≡◌, ◌≢◌, ◌⊎◌, ◌<◌, ◌≤◌, ◌+◌, ◌∷◌, [], List, ℕ, Option, Some, None, Bool, true, false, length, drop, get_or}
+use Rattle.std.proofs.Common.{◌≡◌, ◌⊎◌, ◌<◌, ◌≤◌, ◌+◌, ◌∷◌, [], List, ℕ, Option, Some, None, Bool, true, false, length, drop, get_or}
 use Rattle.std.proofs.Common.{is_some, refl, sym, ap, ◌∙◌, subst, if◌then◌else◌, inl, inr}
 use Rattle.std.proofs.Math.ListN.{drop_of_length-le}
 use Rattle.std.proofs.lemmas.Bool.{cases_eq}
@@ -13,15 +13,14 @@ use Rattle.protocol.specs.declared.nodes.NodeId.{NodeId}
 use Rattle.protocol.specs.declared.requests.Request.{Request}
 use Rattle.port.specs.Members.{MemberParts}
 use Rattle.serving.specs.declared.group.Item.{Item}
-use Rattle.serving.specs.declared.group.Origin.{Origin}
 use Rattle.serving.specs.declared.group.Work.{Work}
 use Rattle.serving.specs.declared.group.Work.TheVariants as works
 use Rattle.serving.specs.declared.stage.Stage.{Stage}
 use Rattle.serving.specs.declared.words.Wish.TheVariants as wishes
-use Rattle.serving.specs.Clients.{told_so_far, AreUntold, ClientParts}
+use Rattle.serving.specs.Clients.{ClientParts}
 use Rattle.serving.specs.Groups.{is_for}
 use Rattle.serving.specs.Happenings.{after_work, is_await, question, with_awaits, AwaitsBegin}
-use Rattle.node_process.specs.Awaiting.{once_waiting, AsksStanding, Hears, HearsAt, HearStandings, Waiting}
+use Rattle.node_process.specs.Awaiting.{once_waiting, AsksStanding, HearsAt, HearStandings, Waiting}
 
 -- ---- they begin
 
@@ -78,17 +77,6 @@ both_at who until key item rest (Some client) = refl
 none_at : (who : NodeId) (until : Instant) (key : ℕ) (seat : Option ClientParts) → seat ≡ option_map (with_awaits who until key []) seat
 none_at who until key None = refl
 none_at who until key (Some client) = refl
-
-untold_at : (origin : Origin) (request : Request) (until : Instant) (key : ℕ) (seat : Option ClientParts)
-    → option_map told_so_far (option_map (once_waiting origin request until key) seat) ≡ option_map told_so_far seat
-untold_at origin request until key None = refl
-untold_at origin request until key (Some client) = refl
-
--- who waits from now on was told nothing
-pub untold_waiting : (origin : Origin) (request : Request) (until : Instant) (old new : Slab ClientParts)
-    → ((key : ℕ) → get new key ≡ option_map (once_waiting origin request until key) (get old key)) → AreUntold old new
-untold_waiting origin request until old new waits key =
-    ap (option_map told_so_far) (waits key) ∙ untold_at origin request until key (get old key)
 
 -- no item is left
 pub begins_all : (who : NodeId) (until : Instant) (items : List Item) (i : ℕ) (clients : Slab ClientParts) → length items ≤ i

@@ -1,27 +1,37 @@
 -- What is due is taken up, one transaction after another. What `is_open_at`, `take_next` and `take_due` say needs it.
-use Rattle.std.proofs.Common.{◌≡◌, ◌+◌, ◌-◌, ◌^◌, ◌++◌, ◌∷◌, [], List, ℕ, Bool, true, false, Option, None, MatchBool, MatchOption, min}
+use Rattle.std.proofs.Common.{◌≡◌, ◌≢◌, ◌<◌, ◌≤◌, ◌+◌, ◌-◌, ◌^◌, ◌++◌, ◌∷◌, [], List, ℕ, Bool, true, false, Option, Some, None, Ok}
+use Rattle.std.proofs.Common.{MatchBool, MatchOption, min, is_some, length, drop, get_or}
 use Rattle.std.proofs.Common.{Vec, if◌then◌else◌, map, refl, sym, ap, ◌∙◌, subst, append_assoc, inr}
+use Rattle.std.proofs.Math.ListN.{drop_of_length-le}
 use Rattle.std.proofs.lemmas.Grind.{flat_map-append}
-use Rattle.std.proofs.lemmas.List.{append-nil, map-append}
-use Rattle.std.specs.List.{flat_map}
+use Rattle.std.proofs.lemmas.List.{append-nil, drop_more, map-append}
+use Rattle.std.specs.List.{flat_map, AllByRecursion}
 use Rattle.std.specs.declared.alloc.Global.{Global}
 use Rattle.std.specs.declared.time.Instant.{Instant}
 use Rattle.xid.specs.Transactions.{TxParts}
 use Rattle.wire.specs.Grammar.{tx_spelling}
 use Rattle.wire.specs.Versions.{version_2}
 use Rattle.protocol.specs.declared.answers.Answer.{Answer}
+use Rattle.protocol.specs.Effects.{Config}
+use Rattle.protocol.specs.Nodes.{NodeState}
 use Rattle.protocol.specs.declared.nodes.NodeId.{NodeId}
+use Rattle.protocol.specs.declared.nodes.NodeId.TheVariants.{A, L, R}
 use Rattle.protocol.specs.declared.requests.Request.{Request}
+use Rattle.resource_manager.specs.Open.{open_in}
+use Rattle.node_core.specs.Listing.{ListsOpen}
+use Rattle.node_core.specs.Nodes.{NodeParts, NodeStands}
+use Rattle.node_core.specs.declared.role.Role.{Role}
 use Rattle.port.specs.Members.{MemberParts}
 use Rattle.serving.specs.declared.group.Item.{Item}
 use Rattle.serving.specs.declared.queue.Place.{Place}
 use Rattle.serving.specs.declared.schedule.Schedule.{Schedule}
 use Rattle.serving.specs.declared.watched.Watch.{Watch}
 use Rattle.serving.specs.declared.watches.Watches.{Watches}
-use Rattle.serving.specs.Named.{seen, AreAsBefore, IsHandedOut, IsPutOff, SetsOnly}
+use Rattle.serving.specs.Named.{seen, AreAsBefore, IsAdded, IsHandedOut, IsPutOff, SetsOnly}
 use Rattle.serving.specs.Watching.{AreOnTime}
 use Rattle.node_process.specs.Asking.{IsAnswered}
-use Rattle.node_process.specs.Due.{asked_after, question_due, says_open, DueTx, IsOpenAt, KeepsTime, TakesUp, TakesUpEach}
+use Rattle.node_process.specs.Due.{asked_after, question_due, says_open, AsksAfterOpen, DueTx, IsOpenAt, IsWatched, KeepsTime, TakesUp}
+use Rattle.node_process.specs.Due.{TakesUpEach}
 use Rattle.node_process.specs.Gathering.{asked_item, TakesDue, TakesNext, TakesNone, TakesThese}
 
 -- ---- whether it is open
@@ -164,3 +174,64 @@ due_ends who now taken was mid is before last after old items new these none = r
       (subst (λ (some : List Item). TakesThese taken who now was mid before last old some) (sym none.items) these);
   enough = inr none.none;
 }
+
+-- ---- what is watched from the start
+
+-- what is watched stays so
+abbrev pub KeepWatch : (old new : Watches) → Type 0
+KeepWatch old new = (spelled : List ℕ) → is_some (seen old spelled) ≡ true → is_some (seen new spelled) ≡ true
+
+there_by_add : (seat : Option Watch) (old new : List ℕ → Option Watch) (spelled : List ℕ) (schedule : Schedule)
+    (queues : List (List Place)) (turn : ℕ) (now : Instant) → seat ≡ old spelled
+    → MatchOption seat (IsAdded old new spelled schedule queues turn now) (λ watch. AreAsBefore old new)
+    → is_some (new spelled) ≡ true
+there_by_add None old new spelled schedule queues turn now is added = ap is_some added.put_off.only.changed
+there_by_add (Some watch) old new spelled schedule queues turn now is same = ap is_some (same spelled) ∙ ap is_some (sym is)
+
+kept_by_add : (seat : Option Watch) (old new : List ℕ → Option Watch) (spelled other : List ℕ) (schedule : Schedule)
+    (queues : List (List Place)) (turn : ℕ) (now : Instant) → seat ≡ old spelled
+    → MatchOption seat (IsAdded old new spelled schedule queues turn now) (λ watch. AreAsBefore old new)
+    → is_some (old other) ≡ true → is_some (new other) ≡ true
+kept_by_add None old new spelled other schedule queues turn now is added there =
+    let apart : other ≢ spelled = λ e.
+    let wrong : true ≡ false = sym there ∙ ap (λ (s : List ℕ). is_some (old s)) e ∙ ap is_some (sym is) in absurd (cc) in
+    ap is_some (added.put_off.only.others other apart) ∙ there
+kept_by_add (Some watch) old new spelled other schedule queues turn now is same there = ap is_some (same other) ∙ there
+
+-- no transaction is left
+pub watched_all : (txs : List TxParts) (i : ℕ) (watches : Watches) → length txs ≤ i
+    → AllByRecursion (IsWatched watches) (drop i txs)
+watched_all txs i watches done =
+    subst (AllByRecursion (IsWatched watches)) (sym (drop_of_length-le txs done)) tt
+
+-- the next one is watched, and then those that are left
+pub watched_next : (txs : List TxParts) (i : ℕ) (tx : TxParts) (old new last : Watches) (turn : ℕ) (now : Instant) → i < length txs
+    → tx ≡ get_or txs i tx
+    → MatchOption (seen old (tx_spelling version_2 tx))
+    (IsAdded (seen old) (seen new) (tx_spelling version_2 tx) old.schedule old.queues.items turn now)
+    (λ watch. AreAsBefore (seen old) (seen new))
+    → KeepWatch new last → AllByRecursion (IsWatched last) (drop (i + 1) txs)
+    → KeepWatch old last × AllByRecursion (IsWatched last) (drop i txs)
+watched_next txs i tx old new last turn now below is added keep left =
+    let spelled : List ℕ = tx_spelling version_2 tx in
+    let here : tx ∷ drop (i + 1) txs ≡ drop i txs = ap (λ (t : TxParts). t ∷ drop (i + 1) txs) is ∙ sym (drop_more txs i tx below) in (
+      λ other there. keep other (kept_by_add (seen old spelled) (seen old) (seen new) spelled other old.schedule old.queues.items turn now
+          refl added there),
+      subst (AllByRecursion (IsWatched last)) here (
+        keep spelled (there_by_add (seen old spelled) (seen old) (seen new) spelled old.schedule old.queues.items turn now refl added),
+        left,
+      ),
+    )
+
+-- a resource manager lists what is open at it
+pub open_watched : (node : NodeParts) (txs : List TxParts) (watches : Watches)
+    → ((config : Config) (m : NodeState) → NodeStands config node m → ListsOpen node.who m.facts node.role (Ok txs))
+    → AllByRecursion (IsWatched watches) txs → AsksAfterOpen node watches
+open_watched node txs watches lists watched config m stands =
+    by node.who node.role (lists config m stands)
+  where
+    by : (its : NodeId) (role : Option Role) → ListsOpen its m.facts role (Ok txs) → AllByRecursion (IsWatched watches) (open_in m.facts)
+    by (R rm) None wrong = absurd (cc)
+    by (R rm) (Some role) are = subst (AllByRecursion (IsWatched watches)) are watched
+    by (A at) role wrong = absurd (cc)
+    by (L at) role wrong = absurd (cc)

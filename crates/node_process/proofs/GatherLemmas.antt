@@ -1,15 +1,14 @@
 -- What comes into a group, one thing after another: requests that are pending, and the messages that a port gives. What `take_pending` and
 -- `take_messages` say needs it.
-use Rattle.std.proofs.Common.{◌≡◌, ◌++◌, ◌∷◌, [], List, ℕ, Option, Some, None, Result, Ok, Err}
+use Rattle.std.proofs.Common.{◌≡◌, ◌++◌, ◌∷◌, [], List, ℕ, Some, None, Ok, Err}
 use Rattle.std.proofs.Common.{length, drop, map, refl, sym, ap, ◌∙◌, subst, append_assoc, arith}
 use Rattle.std.proofs.lemmas.List.{append-nil, map-append}
-use Rattle.xid.specs.declared.refusals.Refusal.{Refusal}
 use Rattle.protocol.specs.declared.requests.Request.{Request}
 use Rattle.port.specs.Calls.{Receiving}
 use Rattle.letter_port.specs.LetterPorts.{LetterParts, LetterReceived}
 use Rattle.letter_port.specs.Runs.{Given, ReceivesAll, messages_of}
 use Rattle.serving.specs.declared.group.Item.{Item}
-use Rattle.node_process.specs.Gathering.{asked_item, taken_item, Receives, TakesMessages, TakesPending}
+use Rattle.node_process.specs.Gathering.{asked_item, taken_item, GaveNothing, Receives, TakesMessages, TakesPending}
 
 -- ---- requests that are pending
 
@@ -103,3 +102,24 @@ takes_both Received before between after old mid new first second =
           ∙ ap (λ (items : List Item). old ++ items) (sym (ap (map taken_item) (messages_both first.given second.given)
           ∙ map-append taken_item (messages_of first.given) (messages_of second.given)));
     }
+
+-- one receive, which gave nothing
+pub takes_no_more : {P : Type 0} (Received : Receiving P) (before after : LetterParts P) (items : List Item)
+    → LetterReceived Received before after (Ok None)
+    → (takes : TakesMessages Received before after items items) × GaveNothing takes.given
+unfolding takes_nothing
+takes_no_more Received before after items received = (takes_nothing Received (Ok None) before after items refl received, ([], refl))
+
+-- some came, and then others, of which the last receive gave nothing
+pub takes_last : {P : Type 0} (Received : Receiving P) (before between after : LetterParts P) (old mid new : List Item)
+    → TakesMessages Received before between old mid
+    → (last : TakesMessages Received between after mid new) × GaveNothing last.given
+    → (takes : TakesMessages Received before after old new) × GaveNothing takes.given
+unfolding takes_both
+takes_last Received before between after old mid new first (last, nothing) = (
+  takes_both Received before between after old mid new first last,
+  (
+    first.given ++ nothing.0,
+    ap (λ (given : List Given). first.given ++ given) nothing.1 ∙ sym (append_assoc first.given nothing.0 (Ok None ∷ [])),
+  ),
+)

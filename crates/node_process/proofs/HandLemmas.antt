@@ -8,7 +8,7 @@ use Rattle.node_core.specs.declared.output.Input.TheVariants as inputs
 use Rattle.port.specs.Members.{item_of}
 use Rattle.port.specs.Members.{Item as MemberItem}
 use Rattle.serving.specs.declared.group.Item.{Item}
-use Rattle.node_process.specs.Handing.{given_of, handed_of, handed_to, item_given, Given}
+use Rattle.node_process.specs.Handing.{given_of, handed_of, handed_to, item_given}
 
 one_item : (who : NodeId) (input : Input) → item_of who input ≡ item_given who (given_of input)
 one_item who (inputs.Asked request) = refl

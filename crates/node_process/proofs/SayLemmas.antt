@@ -1,6 +1,6 @@
 -- What is said to the wishes of a group, one after another, and that there is a text for each: what the law of clients' lives asks of a
 -- round of work.
-use Rattle.std.proofs.Common.{◌≡◌, ◌<◌, ◌≤◌, ◌+◌, ◌++◌, ◌∷◌, [], List, ℕ, suc, Option, Some, None, Vec, Bool, true, false, cond}
+use Rattle.std.proofs.Common.{◌≡◌, ◌<◌, ◌≤◌, ◌+◌, ◌++◌, ◌∷◌, [], List, ℕ, suc, Option, Some, None, Vec, true, cond}
 use Rattle.std.proofs.Common.{length, drop, filter, get_or, slice_get, refl, sym, ap, ◌∙◌, subst, arith}
 use Rattle.std.proofs.Math.ListN.{drop_of_length-le}
 use Rattle.std.proofs.lemmas.List.{drop_more}
@@ -18,9 +18,9 @@ use Rattle.serving.specs.declared.terms.Terms.{Terms}
 use Rattle.serving.specs.declared.words.Wish.TheVariants as wishes
 use Rattle.serving.specs.Groups.{after_one, answer_text, is_handed, is_said}
 use Rattle.serving.specs.Happenings.{is_await, IsSilent}
-use Rattle.serving.specs.Served.{served_of, Served}
+use Rattle.serving.specs.Served.{served_of}
 use Rattle.node_process.specs.Handing.{given_by, handed_of, Given}
-use Rattle.node_process.specs.Saying.{listed, SaysAll, SaysFor, Stay}
+use Rattle.node_process.specs.Saying.{listed, SaysAll, SaysFor}
 
 -- ---- one after another
 

@@ -1,11 +1,10 @@
 -- A round of work, put together: what came into the group, what the node made of it, and who was told. What `Process::work` says needs it.
-use Rattle.std.proofs.Common.{◌≡◌, ◌⊎◌, ◌≤◌, ◌∷◌, ◌++◌, ◌&&◌, [], List, ℕ, Vec, Bool, true, length, map, filter}
+use Rattle.std.proofs.Common.{◌≡◌, ◌⊎◌, ◌≤◌, ◌∷◌, ◌++◌, ◌&&◌, [], List, ℕ, Bool, true, length, map, filter}
 use Rattle.std.proofs.Common.{refl, sym, ap, ◌∙◌, subst, arith}
 use Rattle.std.proofs.lemmas.List.{length-map}
 use Rattle.std.proofs.lemmas.List.Folds.{list_all-append}
 use Rattle.std.specs.Borrow.{Bor}
 use Rattle.std.specs.List.{flat_map, list_all}
-use Rattle.std.specs.declared.alloc.Global.{Global}
 use Rattle.std.specs.declared.time.Instant.{Instant}
 use Rattle.slab.specs.Slab.{Slab}
 use Rattle.protocol.specs.declared.answers.Answer.{Answer}
@@ -19,9 +18,9 @@ use Rattle.serving.specs.declared.branches.Branches.{Branches}
 use Rattle.serving.specs.declared.group.Item.{Item}
 use Rattle.serving.specs.declared.terms.Terms.{Terms}
 use Rattle.serving.specs.Clients.{AreUntold, ClientParts}
-use Rattle.serving.specs.Groups.{is_handed}
+use Rattle.serving.specs.Groups.{is_handed, is_nobody}
 use Rattle.serving.specs.Happenings.{AwaitsBegin, WorksOn}
-use Rattle.serving.specs.Served.{are_nobodys, is_nobody}
+use Rattle.serving.specs.Served.{are_nobodys}
 use Rattle.serving.specs.Taking.{HearsAll}
 use Rattle.serving.proofs.TellLemmas.{told_none}
 use Rattle.node_process.specs.declared.desk.Desk.{Desk}
@@ -130,17 +129,19 @@ works_some Received Sent now old desk counted new was asked handed is before got
       replies = answers.replies;
       replies_are = answers.replies_are;
       until = answers.until;
+      long = λ _. answers.long;
       clients = works_on Received Sent now old desk counted new was asked handed is before got sent after items outs gathered hands.count
           terms seats answers;
       branches = subst (λ (known : Branches). NotesAll now items outs known new.notes.branches) branches answers.branches;
+      terms = subst (λ (t : Terms). new.terms ≡ record t { latest = new.terms.latest }) terms answers.terms;
     }
 
 -- nothing came into the group
 pub works_none : {P : Type 0} (Received : Receiving P) (Sent : Sending P) (now : Instant) (old new : Desk)
     (was asked : MemberParts) (before got : LetterParts P) (items : List Item)
     → Asks old.terms.who was asked → AreGathered Received now old new was asked before got items → items ≡ []
-    → new.notes.branches ≡ old.notes.branches → Works Received Sent now old new was asked before got
-works_none Received Sent now old new was asked before got items asks gathered none branches = record {
+    → new.notes.branches ≡ old.notes.branches → new.terms ≡ old.terms → Works Received Sent now old new was asked before got
+works_none Received Sent now old new was asked before got items asks gathered none branches terms = record {
   asked = asked;
   asks = asks;
   ahead = gathered.ahead;
@@ -158,6 +159,7 @@ works_none Received Sent now old new was asked before got items asks gathered no
   replies = [];
   replies_are = refl;
   until = now;
+  long = λ some. absurd (some refl);
   clients = record {
     who_is = refl;
     lock_is = refl;
@@ -172,6 +174,7 @@ works_none Received Sent now old new was asked before got items asks gathered no
     begins = begins_all old.terms.who now [] 0 new.clients.seats (omega arith);
   };
   branches = branches;
+  terms = subst (λ (t : Terms). t ≡ record old.terms { latest = t.latest }) (sym terms) refl;
 }
 
 -- a round whose group was stored ended while that was answered

@@ -1,5 +1,6 @@
 -- Ends of transactions that clients wait for.
-use Rattle.std.specs.Prelude.{◌≡◌, ◌⊎◌, ℕ, Bool, false, List, [], ◌∷◌, Some, if◌then◌else◌}
+use Rattle.std.specs.Prelude.{◌≡◌, ◌⊎◌, ◌≤◌, ◌+◌, ◌*◌, ℕ, Bool, false, List, [], ◌∷◌, Some, if◌then◌else◌}
+use Rattle.std.specs.Time.{instant_nanos, FitsClock}
 use Rattle.std.specs.declared.time.Instant.{Instant}
 use Rattle.slab.specs.Slab.{Slab, get, SameValues, Updates}
 use Rattle.protocol.specs.Nodes.{Asked}
@@ -10,6 +11,13 @@ use Rattle.serving.specs.declared.group.Origin.{Origin}
 use Rattle.serving.specs.declared.stage.Stage.TheVariants.{Awaiting}
 use Rattle.serving.specs.Clients.{after_standing, ClientParts}
 use Rattle.serving.specs.Groups.{is_for}
+use Rattle.node_process.specs.declared.awaiting.TheConstants.{MOST_AWAITED}
+
+-- until then an end is awaited that is awaited from now on: for a minute, as far as the clock goes
+pub record IsAwaitedUntil (now until : Instant) : Type 0 where
+  pub most : instant_nanos until ≤ instant_nanos now + MOST_AWAITED * 1000000000
+  pub exact : FitsClock (instant_nanos now + MOST_AWAITED * 1000000000)
+      → instant_nanos until ≡ instant_nanos now + MOST_AWAITED * 1000000000
 
 -- the client at a key once who is answered waits for an end
 abbrev pub once_waiting : Origin → Request → (until : Instant) → (key : ℕ) → ClientParts → ClientParts

@@ -1,11 +1,13 @@
 -- Transactions that are due: each is handed out, and asked after where it is open at the node.
 use Rattle.std.specs.Prelude.{◌≡◌, ℕ, ◌+◌, ◌-◌, ◌^◌, min, nat_lt, Bool, true, false, if◌then◌else◌, MatchBool}
-use Rattle.std.specs.Prelude.{List, [], ◌∷◌, None}
+use Rattle.std.specs.Prelude.{List, [], ◌∷◌, None, is_some}
+use Rattle.std.specs.List.{AllByRecursion}
 use Rattle.std.specs.declared.time.Instant.{Instant}
 use Rattle.xid.specs.Transactions.{TxParts}
 use Rattle.wire.specs.Grammar.{tx_spelling}
 use Rattle.wire.specs.Versions.{version_2}
-use Rattle.protocol.specs.Nodes.{Asked}
+use Rattle.protocol.specs.Effects.{Config}
+use Rattle.protocol.specs.Nodes.{Asked, NodeState}
 use Rattle.protocol.specs.declared.answers.Answer.{Answer}
 use Rattle.protocol.specs.declared.answers.Answer.TheVariants.{Stands}
 use Rattle.protocol.specs.declared.nodes.NodeId.{NodeId}
@@ -13,6 +15,8 @@ use Rattle.protocol.specs.declared.nodes.NodeId.TheVariants.{L}
 use Rattle.protocol.specs.declared.requests.Request.{Request}
 use Rattle.protocol.specs.declared.requests.Request.TheVariants.{Commit, Timeout}
 use Rattle.protocol.specs.declared.states.Standing.TheVariants.{Undecided, Prepared}
+use Rattle.resource_manager.specs.Open.{open_in}
+use Rattle.node_core.specs.Nodes.{NodeParts, NodeStands}
 use Rattle.node_core.specs.declared.output.Output.{Output}
 use Rattle.port.specs.Members.{Acts, MemberParts, Takes}
 use Rattle.serving.specs.declared.watches.Watches.{Watches}
@@ -51,6 +55,15 @@ abbrev pub asked_after : NodeId → DueTx → List Request
 asked_after who one = if says_open one.out.reply then question_due who one.turn one.tx ∷ [] else []
 
 -- ---- what is watched
+
+-- a transaction is watched
+abbrev pub IsWatched : Watches → TxParts → Type 0
+IsWatched watches tx = is_some (seen watches (tx_spelling version_2 tx)) ≡ true
+
+-- all that a resource manager's record has prepared and not ended is watched
+abbrev pub AsksAfterOpen : NodeParts → Watches → Type 0
+AsksAfterOpen node watches =
+    (config : Config) (m : NodeState) → NodeStands config node m → AllByRecursion (IsWatched watches) (open_in m.facts)
 
 -- what is watched keeps its schedule, and stays on time where it was
 pub record KeepsTime (now : Instant) (old new : Watches) : Type 0 where

@@ -1,5 +1,5 @@
 -- What waits comes into a group.
-use Rattle.std.specs.Prelude.{◌≡◌, ◌⊎◌, ℕ, ◌+◌, ◌<◌, ◌≤◌, ◌++◌, List, [], ◌∷◌, length, map}
+use Rattle.std.specs.Prelude.{◌≡◌, ◌⊎◌, ℕ, ◌+◌, ◌≤◌, ◌++◌, Bool, false, List, [], ◌∷◌, length, map, None, Ok}
 use Rattle.std.specs.List.{flat_map}
 use Rattle.std.specs.declared.time.Instant.{Instant}
 use Rattle.protocol.specs.declared.nodes.NodeId.{NodeId}
@@ -81,6 +81,14 @@ pub record TakesMessages {P : Type 0} (Received : Receiving P) (before after : L
   pub receives : ReceivesAll Received before after given
   pub taken : new ≡ old ++ map taken_item (messages_of given)
 
+-- the last that a port was asked, it had nothing to give
+abbrev pub GaveNothing : List Given → Type 0
+GaveNothing given = (first : List Given) × (given ≡ first ++ Ok None ∷ [])
+
+-- where no datagram may be there any more: none might before, or the last that the port was asked, it had nothing to give
+abbrev pub IsEmptied : (might may : Bool) → List Given → Type 0
+IsEmptied might may given = may ≡ false → (might ≡ false) ⊎ GaveNothing given
+
 -- ---- a group
 
 -- what came into a group of what is nobody's: requests that were pending, what is asked after transactions that are due and open at the
@@ -93,6 +101,7 @@ pub record GathersAhead {P : Type 0} (Received : Receiving P) (now : Instant) (o
   pub asked : List Item
   pub due : TakesDue old.terms.who now was is old.notes.watches new.notes.watches pending asked
   pub messages : TakesMessages Received before after asked ahead
+  pub emptied : IsEmptied old.has_datagrams new.has_datagrams messages.given
 
 -- what came into a group: what is nobody's, and behind it the lines of clients
 pub record AreGathered {P : Type 0} (Received : Receiving P) (now : Instant) (old new : Desk) (was is : MemberParts)

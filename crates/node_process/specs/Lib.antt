@@ -5,5 +5,6 @@ pub mod Gathering
 pub mod Going
 pub mod Handing
 pub mod Noting
+pub mod Rising
 pub mod Saying
 pub mod Working

@@ -1,5 +1,5 @@
 -- What becomes known of branches by what came of a group.
-use Rattle.std.specs.Prelude.{◌≡◌, ℕ, Bool, true, false, List, [], ◌∷◌, slice_get, Option, Some, None, MatchOption}
+use Rattle.std.specs.Prelude.{◌≡◌, ℕ, Bool, true, List, [], ◌∷◌, slice_get, Option, Some, None, MatchOption}
 use Rattle.std.specs.declared.time.Instant.{Instant}
 use Rattle.xid.specs.Transactions.{xid_at}
 use Rattle.protocol.specs.declared.answers.Answer.{Answer}

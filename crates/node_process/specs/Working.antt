@@ -16,6 +16,7 @@ use Rattle.serving.specs.Groups.{answers_to, AreTold, AreToldSome}
 use Rattle.serving.specs.Happenings.{AwaitsBegin, WorksOn}
 use Rattle.node_process.specs.declared.desk.Desk.{Desk}
 use Rattle.node_process.specs.Asking.{Asks}
+use Rattle.node_process.specs.Awaiting.{IsAwaitedUntil}
 use Rattle.node_process.specs.Gathering.{AreGathered, GathersAhead, Receives}
 use Rattle.node_process.specs.Handing.{Hands, IsUnhanded}
 use Rattle.node_process.specs.Noting.{NotesAll}
@@ -39,8 +40,10 @@ pub record Answers {P : Type 0} (Sent : Sending P) (now : Instant) (items : List
   pub told : Slab ClientParts
   pub tells : AreTold old.clients.seats told (answers_to items replies said)
   pub until : Instant
+  pub long : IsAwaitedUntil now until
   pub begins : AwaitsBegin old.terms.who until items told new.clients.seats
   pub branches : NotesAll now items outs old.notes.branches new.notes.branches
+  pub terms : new.terms ≡ record old.terms { latest = new.terms.latest }
 
 -- a round of work: what waits came into a group, behind questions that were put to the node; it was handed to the node and stored; the
 -- wishes were answered; and who asked was told: clients' lines are items of the group, and each client is told what the node replied to its
@@ -64,8 +67,10 @@ pub record Works {P : Type 0} (Received : Receiving P) (Sent : Sending P) (now :
   pub replies : List (Bor Answer)
   pub replies_are : map (λ (reply : Bor Answer). reply.now) replies ≡ map (λ (out : Output). out.reply) outs
   pub until : Instant
+  pub long : (items ≡ [] → ⊥) → IsAwaitedUntil now until
   pub clients : WorksOn old.terms.who old.terms.lock old.terms ahead items replies said until old.clients.seats new.clients.seats
   pub branches : NotesAll now items outs old.notes.branches new.notes.branches
+  pub terms : new.terms ≡ record old.terms { latest = new.terms.latest }
 
 -- ---- a round that ended, and with it the process
 

@@ -9,7 +9,7 @@ ghost use Rattle.serving.specs.Happenings.{AwaitsBegin, Changes, is_await};
 ghost use Rattle.serving.specs.declared.stage.Stage.TheVariants as stages;
 ghost use Rattle.serving.specs.declared.group.Work.TheVariants as works;
 ghost use Rattle.serving.specs.declared.words.Wish.TheVariants as wishes;
-ghost use Rattle.node_process.specs.Awaiting.{AsksStanding, HearStandings, HearsAt, Waiting, once_waiting};
+ghost use Rattle.node_process.specs.Awaiting.{AsksStanding, HearStandings, HearsAt, IsAwaitedUntil, Waiting, once_waiting};
 
 use crate::standing::question_of;
 use hashing::WordKey;
@@ -27,7 +27,9 @@ use xid::{Refusal, Tx};
 const MOST_AWAITED: u64 = 60;
 
 /// Until when an end is awaited at most, from now on.
-pub(crate) fn awaited_until(now: Instant) -> Instant {
+pub(crate) fn awaited_until(now: Instant) -> Instant
+    ensures { IsAwaitedUntil now result }
+{
     now.checked_add(Duration::from_secs(MOST_AWAITED))
         .unwrap_or(now)
 }
@@ -54,7 +56,9 @@ fn is_there(clients: &Clients, key: usize, number: u64) -> bool
 
 /// The lines of the client at a key wait until then for the end of a transaction.
 fn wait_at(clients: &mut Clients, key: usize, request: Request, until: Instant)
-    ensures { Changes key (λ client. record client { stage = stages.Awaiting request until false }) clients.old.seats clients.new.seats }
+    ensures waits { Changes key (λ client. record client { stage = stages.Awaiting request until false }) clients.old.seats
+        clients.new.seats }
+    ensures count { clients.new.count ≡ clients.old.count }
 {
     if let Some(client) = clients.seats.get_mut(key) {
         client.begin_await(request, until);
@@ -63,7 +67,8 @@ fn wait_at(clients: &mut Clients, key: usize, request: Request, until: Instant)
 
 /// The lines of who is answered wait until then for the end of a transaction.
 fn begin_await(clients: &mut Clients, origin: Origin, request: Request, until: Instant)
-    ensures { (key : ℕ) → get clients.new.seats key ≡ option_map (once_waiting origin request until key) (get clients.old.seats key) }
+    ensures waits { (key : ℕ) → get clients.new.seats key ≡ option_map (once_waiting origin request until key) (get clients.old.seats key) }
+    ensures count { clients.new.count ≡ clients.old.count }
 {
     if let Origin::Client { key, number } = origin {
         if is_there(clients, key, number) {
@@ -82,6 +87,7 @@ fn begin_one(
 ) -> Result<(), Refusal>
     ensures ok { OnOk result (AwaitsBegin who until (item.now ∷ []) clients.old.seats clients.new.seats) }
     ensures untold { AreUntold clients.old.seats clients.new.seats }
+    ensures count { clients.new.count ≡ clients.old.count }
 {
     let Some(tx) = awaited_by(&item.work) else {
         return Ok(());
@@ -102,6 +108,7 @@ pub(crate) fn begin_awaits(
 ) -> Result<(), Refusal>
     ensures ok { OnOk result (AwaitsBegin who until items.now clients.old.seats clients.new.seats) }
     ensures untold { AreUntold clients.old.seats clients.new.seats }
+    ensures count { clients.new.count ≡ clients.old.count }
 {
     for item in items {
         begin_one(alloc, who, clients, item, until)?;
@@ -172,7 +179,8 @@ fn answer_at<R: Record>(
     key: usize,
     now: Instant,
 ) -> Result<(), Refusal>
-    ensures { OnOk result (HearsAt now node.old node.new clients.old.seats clients.new.seats) }
+    ensures hears { OnOk result (HearsAt now node.old node.new clients.old.seats clients.new.seats) }
+    ensures count { clients.new.count ≡ clients.old.count }
 {
     match clients.seats.get_mut(key) {
         Some(client) => answer_await(node, client, now),
@@ -189,7 +197,8 @@ fn answer_due<R: Record>(
     key: usize,
     now: Instant,
 ) -> Result<(), Refusal>
-    ensures { OnOk result (HearsAt now node.old node.new clients.old.seats clients.new.seats) }
+    ensures hears { OnOk result (HearsAt now node.old node.new clients.old.seats clients.new.seats) }
+    ensures count { clients.new.count ≡ clients.old.count }
 {
     if is_to_hear(clients, ended, are_all, key, now) {
         return answer_at(node, clients, key, now);
@@ -205,7 +214,8 @@ pub(crate) fn answer_awaited<R: Record>(
     are_all: bool,
     now: Instant,
 ) -> Result<(), Refusal>
-    ensures { OnOk result ((heard : List Waiting) × HearStandings now heard node.old node.new clients.old.seats clients.new.seats) }
+    ensures hear { OnOk result ((heard : List Waiting) × HearStandings now heard node.old node.new clients.old.seats clients.new.seats) }
+    ensures count { clients.new.count ≡ clients.old.count }
 {
     for key in 0..clients.seats.capacity() {
         answer_due(node, clients, ended, are_all, key, now)?;

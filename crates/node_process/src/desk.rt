@@ -1,9 +1,9 @@
 //! What a process keeps beside its node and its port.
 
-ghost use Rattle.std.specs.Prelude.{◌≡◌, ◌++◌, ◌∷◌, [], None, OnOk};
+ghost use Rattle.std.specs.Prelude.{◌≡◌, ◌⊎◌, ◌++◌, ◌∷◌, [], None, true, false, IfSome, OnOk};
 ghost use Rattle.slab.specs.Slab.{Updates, get};
 ghost use Rattle.serving.specs.Shortenings.{IsMarked};
-ghost use Rattle.node_process.specs.Going.{RollsBackOf, roll_back_all, rolls_back};
+ghost use Rattle.node_process.specs.Going.{IsGone, RollsBackIdle, RollsBackOf, roll_back_all, rolls_back};
 
 use crate::notes::Notes;
 use hashing::HashKey;
@@ -139,7 +139,8 @@ impl Desk {
         ensures gone { Updates self.old.clients.seats self.new.clients.seats key None }
         ensures pending { OnOk result (RollsBackOf self.old.notes.branches (get self.old.clients.seats key)
             self.old.pending.items self.new.pending.items) }
-        ensures same { self.new.notes ≡ self.old.notes }
+        ensures same { self.new ≡ record self.old { clients = self.new.clients; pending = self.new.pending } }
+        ensures count { self.new.clients.count ≡ self.old.clients.count }
     {
         match self.clients.seats.try_remove(key) {
             Some(client) => {
@@ -151,7 +152,10 @@ impl Desk {
     }
 
     /// Whether the client at a key has gone, or is too slow.
-    pub fn is_gone(&self, key: usize, now: Instant) -> bool {
+    pub fn is_gone(&self, key: usize, now: Instant) -> bool
+        ensures gone { result ≡ true → IsGone now (get self.now.clients.seats key) }
+        ensures broken { IfSome (get self.now.clients.seats key) (λ client. client.is_broken ≡ true → result ≡ true) }
+    {
         match self.clients.seats.get(key) {
             Some(client) => client.is_over() || client.is_slow(now),
             None => false,
@@ -160,7 +164,10 @@ impl Desk {
 
     /// Whether its floor may rise by itself: half of the time has passed for which names are kept, or the record is to be made shorter. If
     /// so, it may not before as long has passed again.
-    pub(crate) fn may_rise(&mut self, now: Instant) -> bool {
+    pub(crate) fn may_rise(&mut self, now: Instant) -> bool
+        ensures beside { self.old.terms.is_beside ≡ true → result ≡ false }
+        ensures same { self.new ≡ record self.old { next_rise = self.new.next_rise } }
+    {
         if self.terms.is_beside {
             return false;
         }
@@ -181,7 +188,9 @@ impl Desk {
     }
 
     /// Whether a floor is to be told again. If so, it isn't before some time has passed.
-    pub(crate) fn is_to_tell(&mut self, now: Instant) -> bool {
+    pub(crate) fn is_to_tell(&mut self, now: Instant) -> bool
+        ensures { self.new ≡ record self.old { next_tell = self.new.next_tell } }
+    {
         if now < self.next_tell {
             return false;
         }
@@ -201,7 +210,11 @@ impl Desk {
     }
 
     /// The branches that nobody touches are rolled back.
-    pub fn look_for_idle(&mut self, now: Instant) -> Result<(), AllocError> {
+    pub fn look_for_idle(&mut self, now: Instant) -> Result<(), AllocError>
+        ensures idle { OnOk result ((self.new.pending ≡ self.old.pending)
+            ⊎ RollsBackIdle now self.old.idle self.old.notes.branches self.old.pending.items self.new.pending.items) }
+        ensures same { self.new ≡ record self.old { pending = self.new.pending; next_look = self.new.next_look } }
+    {
         let Some(idle) = self.idle else {
             return Ok(());
         };
@@ -220,6 +233,10 @@ impl Desk {
     pub(crate) fn note_shorter(&mut self, len: u64)
         ensures marked { IsMarked self.old.counts.record len self.new.shortening.mark }
         ensures known { self.new.counts.record ≡ len }
+        ensures same { self.new ≡ record self.old {
+          counts = record self.old.counts { «record» = len };
+          shortening = self.new.shortening;
+        } }
     {
         self.shortening.note(self.counts.record, len);
         self.counts.record = len;

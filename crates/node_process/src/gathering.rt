@@ -5,6 +5,7 @@ ghost use Rattle.serving.specs.Clients.{AreUntold};
 ghost use Rattle.node_process.specs.Asking.{Asks};
 ghost use Rattle.node_process.specs.Due.{question_due};
 ghost use Rattle.node_process.specs.Gathering.{AreAllTaken, AreGathered, GathersAhead, Receives, TakesDue, TakesMessages};
+ghost use Rattle.node_process.specs.Gathering.{GaveNothing, IsEmptied};
 ghost use Rattle.node_process.specs.Gathering.{TakesNext, TakesNone, TakesPending, asked_item, taken_item};
 
 use crate::desk::Desk;
@@ -133,7 +134,8 @@ fn take_from<P: Port>(
     port: &mut LetterPort<P>,
     items: &mut Vec<Item>,
 ) -> Result<bool, Refusal>
-    ensures ok { OnOk result (TakesMessages P.received port.old port.new items.old.items items.new.items) }
+    ensures ok { IfOk result (λ may. (takes : TakesMessages P.received port.old port.new items.old.items items.new.items)
+        × (may ≡ false → GaveNothing takes.given)) }
     ensures receives { Receives P.received port.old port.new }
 {
     let mut buffer = [0; MAX_TAKEN];
@@ -152,7 +154,8 @@ fn take_messages<P: Port>(
     port: &mut LetterPort<P>,
     items: &mut Vec<Item>,
 ) -> Result<bool, Refusal>
-    ensures ok { OnOk result (TakesMessages P.received port.old port.new items.old.items items.new.items) }
+    ensures ok { IfOk result (λ may. (takes : TakesMessages P.received port.old port.new items.old.items items.new.items)
+        × IsEmptied may_wait may takes.given) }
     ensures receives { Receives P.received port.old port.new }
 {
     if !may_wait {
@@ -213,6 +216,7 @@ pub(crate) fn gather<R: Record, P: Port>(
     ensures asks { Asks desk.old.terms.who node.old node.new }
     ensures gathered { IfOk result (λ items. AreGathered P.received now desk.old desk.new node.old node.new port.old port.new items.items) }
     ensures terms { OnOk result (desk.new.terms ≡ desk.old.terms) }
+    ensures count { desk.new.clients.count ≡ desk.old.clients.count }
     ensures branches { OnOk result (desk.new.notes.branches ≡ desk.old.notes.branches) }
     ensures receives { Receives P.received port.old port.new }
     ensures untold { AreUntold desk.old.clients.seats desk.new.clients.seats }

@@ -1,9 +1,15 @@
 //! The process of a node.
 
-ghost use Rattle.std.specs.Prelude.{◌≡◌, ◌⊎◌, List, [], true, false, OnOk, OnErr};
+ghost use Rattle.std.specs.Prelude.{◌≡◌, ◌⊎◌, List, [], true, false, Result as ResultParts, Ok, IfOk, OnOk, OnErr, MatchOption};
+ghost use Rattle.std.specs.List.{AllByRecursion};
+ghost use Rattle.xid.specs.declared.refusals.Refusal.{Refusal as RefusalParts};
+ghost use Rattle.floors.specs.Worlds.{is_manager};
+ghost use Rattle.port.specs.Members.{CompactsMember};
 ghost use Rattle.serving.specs.Clients.{AreUntold};
 ghost use Rattle.serving.specs.Shortenings.{IsDue, IsMarked};
 ghost use Rattle.node_process.specs.Awaiting.{HearStandings, Waiting};
+ghost use Rattle.node_process.specs.Due.{AsksAfterOpen, IsWatched};
+ghost use Rattle.node_process.specs.Rising.{MayRise, MayTell};
 ghost use Rattle.node_process.specs.Working.{Answers, AnswersSome, EndsWork, Works};
 
 use crate::awaiting::{answer_awaited, awaited_until, begin_awaits};
@@ -17,10 +23,11 @@ use letter_port::LetterPort;
 use node_core::Output;
 use port::{Member, Port};
 use protocol::NodeId;
-use serving::Item;
+use serving::{Item, Watches};
 use stable_record::Record;
+use std::alloc::AllocError;
 use std::time::Instant;
-use xid::Refusal;
+use xid::{Refusal, Tx};
 
 /// The process of a node: its node, its port, and what it keeps beside them. Where a call of it is refused, it is to end, and nothing more
 /// is sent to its clients.
@@ -47,6 +54,16 @@ fn is_nothing(items: &[Item]) -> bool
     }
 }
 
+/// Transactions are asked after from now on.
+fn watch_all(watches: &mut Watches, txs: &[Tx], now: Instant) -> Result<(), AllocError>
+    ensures { OnOk result (AllByRecursion (IsWatched watches.new) txs.now) }
+{
+    for tx in txs {
+        watches.add(tx, 0, now)?;
+    }
+    Ok(())
+}
+
 impl<R: Record, P: Port> Process<R, P> {
     /// That of a node at a port.
     pub fn new(node: Member<R>, port: LetterPort<P>, desk: Desk) -> Process<R, P> {
@@ -60,15 +77,22 @@ impl<R: Record, P: Port> Process<R, P> {
     }
 
     /// It begins: how long its record is becomes known, and a resource manager asks after all that its record has prepared and not ended.
-    pub fn begin<G: Gauges<P>>(&mut self, gauges: &G, now: Instant) -> Result<(), Refusal> {
+    pub fn begin<G: Gauges<P>>(&mut self, gauges: &G, now: Instant) -> Result<(), Refusal>
+        ensures node { self.new.node ≡ self.old.node }
+        ensures port { self.new.port ≡ self.old.port }
+        ensures desk { self.new.desk ≡ record self.old.desk {
+          counts = record self.old.desk.counts { «record» = self.new.desk.counts.record };
+          notes = record self.old.desk.notes { watches = self.new.desk.notes.watches };
+        } }
+        ensures open { OnOk result (is_manager self.old.desk.terms.who ≡ true
+            → AsksAfterOpen self.old.node.floored.node self.new.desk.notes.watches) }
+    {
         self.desk.counts.record = gauges.record_len()?;
         let NodeId::R(_) = self.desk.terms.who else {
             return Ok(());
         };
         let open = self.node.open_transactions()?;
-        for tx in open.as_slice() {
-            self.desk.notes.watches.add(tx, 0, now)?;
-        }
+        watch_all(&mut self.desk.notes.watches, open.as_slice(), now)?;
         Ok(())
     }
 
@@ -83,6 +107,7 @@ impl<R: Record, P: Port> Process<R, P> {
         ensures answers { OnOk result (Answers P.sent now items.now self.old.outs.items self.old.desk self.new.desk self.old.node
             self.new.node self.old.port self.new.port) }
         ensures pending { self.new.desk.pending ≡ self.old.desk.pending }
+        ensures count { self.new.desk.clients.count ≡ self.old.desk.clients.count }
         ensures ends { OnErr result (AreUntold self.old.desk.clients.seats self.new.desk.clients.seats
             ⊎ AnswersSome P.sent self.old.desk.terms items.now self.old.outs.items self.old.desk.clients.seats
             self.new.desk.clients.seats self.old.node self.new.node self.old.port self.new.port) }
@@ -117,6 +142,7 @@ impl<R: Record, P: Port> Process<R, P> {
             self.old.port self.new.port) }
         ensures ends { OnErr result (EndsWork P.received P.sent now self.old.desk self.new.desk self.old.node self.new.node
             self.old.port self.new.port) }
+        ensures count { self.new.desk.clients.count ≡ self.old.desk.clients.count }
     {
         let items = gather(&mut self.node, &mut self.port, &mut self.desk, now)?;
         if is_nothing(&items) {
@@ -136,8 +162,15 @@ impl<R: Record, P: Port> Process<R, P> {
     /// The awaits whose time has come are answered, and the lines behind them are looked at again. All are asked from time to time, since a
     /// floor that rises ends some too.
     pub fn answer_awaited(&mut self, now: Instant) -> Result<(), Refusal>
-        ensures { OnOk result ((heard : List Waiting) × HearStandings now heard self.old.node self.new.node
+        ensures hear { OnOk result ((heard : List Waiting) × HearStandings now heard self.old.node self.new.node
             self.old.desk.clients.seats self.new.desk.clients.seats) }
+        ensures port { self.new.port ≡ self.old.port }
+        ensures desk { self.new.desk ≡ record self.old.desk {
+          clients = self.new.desk.clients;
+          notes = record self.old.desk.notes { ended = self.new.desk.notes.ended };
+          next_ask = self.new.desk.next_ask;
+        } }
+        ensures count { self.new.desk.clients.count ≡ self.old.desk.clients.count }
     {
         let are_all = self.desk.is_to_ask(now);
         answer_awaited(
@@ -152,7 +185,15 @@ impl<R: Record, P: Port> Process<R, P> {
     }
 
     /// The floor of a resource manager whose names stand in time rises by itself, if it is time.
-    pub fn rise<G: Gauges<P>>(&mut self, gauges: &G, now: Instant) -> Result<Rising, Refusal> {
+    pub fn rise<G: Gauges<P>>(&mut self, gauges: &G, now: Instant) -> Result<Rising, Refusal>
+        ensures rises { IfOk result (λ rising. MayRise P.sent self.old.desk.terms self.old.desk.notes.branches rising.has_risen
+            self.old.node self.new.node self.old.port self.new.port) }
+        ensures desk { self.new.desk ≡ record self.old.desk {
+          counts = record self.old.desk.counts { «record» = self.new.desk.counts.record };
+          shortening = self.new.desk.shortening;
+          next_rise = self.new.desk.next_rise;
+        } }
+    {
         let rising = rise(&mut self.node, &mut self.port, &mut self.desk, now)?;
         if rising.has_risen {
             self.desk.note_shorter(gauges.record_len()?);
@@ -161,12 +202,25 @@ impl<R: Record, P: Port> Process<R, P> {
     }
 
     /// A resource manager that has a floor tells it again, if it is time.
-    pub fn tell_again(&mut self, now: Instant) -> Result<(), Refusal> {
+    pub fn tell_again(&mut self, now: Instant) -> Result<(), Refusal>
+        ensures tells { OnOk result (MayTell P.sent self.old.node self.new.node self.old.port self.new.port) }
+        ensures desk { self.new.desk ≡ record self.old.desk { next_tell = self.new.desk.next_tell } }
+    {
         tell_again(&mut self.node, &mut self.port, &mut self.desk, now)
     }
 
     /// The record is made shorter, if it is time: of so many bytes as it is known to have. How many these were, if so.
     pub fn shorten<G: Gauges<P>>(&mut self, gauges: &G) -> Result<Option<u64>, Refusal>
+        ensures made { OnOk result (IsDue self.old.desk.shortening.mark self.old.desk.counts.record
+            → CompactsMember self.old.node self.new.node (Ok tt)) }
+        ensures refused { OnErr result ((done : ResultParts (Unit {0}) RefusalParts) × CompactsMember self.old.node self.new.node done) }
+        ensures told { IfOk result (λ told. MatchOption told (IsDue self.old.desk.shortening.mark self.old.desk.counts.record → ⊥)
+            (λ before. IsDue self.old.desk.shortening.mark self.old.desk.counts.record × (before ≡ self.old.desk.counts.record))) }
+        ensures desk { self.new.desk ≡ record self.old.desk {
+          counts = record self.old.desk.counts { «record» = self.new.desk.counts.record };
+          shortening = self.new.desk.shortening;
+        } }
+        ensures port { self.new.port ≡ self.old.port }
         ensures due { OnOk result (IsDue self.old.desk.shortening.mark self.old.desk.counts.record
             → IsMarked self.old.desk.counts.record self.new.desk.counts.record self.new.desk.shortening.mark) }
         ensures early { OnOk result ((IsDue self.old.desk.shortening.mark self.old.desk.counts.record → ⊥)

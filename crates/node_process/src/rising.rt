@@ -1,9 +1,11 @@
 //! A resource manager's floor rises.
 
-ghost use Rattle.std.specs.Prelude.{◌≡◌, Result as ResultParts, IfOk};
+ghost use Rattle.std.specs.Prelude.{◌≡◌, Result as ResultParts, IfOk, OnOk};
 ghost use Rattle.xid.specs.declared.refusals.Refusal.{Refusal as RefusalParts};
 ghost use Rattle.node_core.specs.Opening.{restart_answer};
+ghost use Rattle.floors.specs.Worlds.{is_done};
 ghost use Rattle.letter_port.specs.LetterPorts.{RaisesInLetters};
+ghost use Rattle.node_process.specs.Rising.{IsLetBy, MayRise, MayTell};
 
 use crate::desk::Desk;
 use letter_port::LetterPort;
@@ -19,7 +21,9 @@ pub(crate) fn let_by_branches<R: Record>(
     node: &Member<R>,
     desk: &Desk,
     wanted: Floor,
-) -> Result<Floor, Refusal> {
+) -> Result<Floor, Refusal>
+    ensures { IfOk result (IsLetBy desk.now.notes.branches wanted) }
+{
     let prepared = node.open_transactions()?;
     Ok(held_back(wanted, &desk.notes.branches, prepared.as_slice()))
 }
@@ -40,6 +44,13 @@ pub(crate) fn raise<R: Record, P: Port>(
             _ => Ok(Answer::Refused(refusal)),
         },
     }
+}
+
+/// Whether what was asked for was done.
+fn is_done(answer: &Answer) -> bool
+    ensures { result ≡ is_done answer.now }
+{
+    matches!(answer, Answer::Done)
 }
 
 /// What came of a floor that was to rise by itself.
@@ -64,7 +75,11 @@ pub(crate) fn rise<R: Record, P: Port>(
     port: &mut LetterPort<P>,
     desk: &mut Desk,
     now: Instant,
-) -> Result<Rising, Refusal> {
+) -> Result<Rising, Refusal>
+    ensures rises { IfOk result (λ rising. MayRise P.sent desk.old.terms desk.old.notes.branches rising.has_risen node.old node.new
+        port.old port.new) }
+    ensures desk { desk.new ≡ record desk.old { next_rise = desk.new.next_rise } }
+{
     if !desk.may_rise(now) || desk.terms.latest == 0 {
         return Ok(STAYS);
     }
@@ -77,9 +92,17 @@ pub(crate) fn rise<R: Record, P: Port>(
     } else {
         None
     };
-    let is_higher = floor.is_higher_than(&node.floor());
-    let has_risen = is_higher && matches!(raise(node, port, &floor)?, Answer::Done);
-    Ok(Rising { held_by, has_risen })
+    if !floor.is_higher_than(&node.floor()) {
+        return Ok(Rising {
+            held_by,
+            has_risen: false,
+        });
+    }
+    let answer = raise(node, port, &floor)?;
+    Ok(Rising {
+        held_by,
+        has_risen: is_done(&answer),
+    })
 }
 
 /// A resource manager that has a floor tells it again, if it is time: who was told may have been started anew since.
@@ -88,7 +111,10 @@ pub(crate) fn tell_again<R: Record, P: Port>(
     port: &mut LetterPort<P>,
     desk: &mut Desk,
     now: Instant,
-) -> Result<(), Refusal> {
+) -> Result<(), Refusal>
+    ensures tells { OnOk result (MayTell P.sent node.old node.new port.old port.new) }
+    ensures desk { desk.new ≡ record desk.old { next_tell = desk.new.next_tell } }
+{
     if !desk.is_to_tell(now) {
         return Ok(());
     }

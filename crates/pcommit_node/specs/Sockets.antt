@@ -1,13 +1,13 @@
 -- Where a socket sends, and what it makes of receives and sends.
-use Rattle.std.specs.Prelude.{◌≡◌, ℕ, List, [], Option, None, Result, Err, slice_get}
+use Rattle.std.specs.Prelude.{◌≡◌, ℕ, List, [], Option, Result, slice_get}
 use Rattle.std.specs.Option.{option_and_then}
 use Rattle.std.specs.declared.net.socket_addr.SocketAddr.{SocketAddr}
 use Rattle.xid.specs.declared.refusals.Refusal.{Refusal}
-use Rattle.xid.specs.declared.refusals.Refusal.TheVariants.{PortFault}
 use Rattle.protocol.specs.declared.nodes.NodeId.{NodeId}
 use Rattle.protocol.specs.Worlds.{place}
 use Rattle.node_core.specs.Configs.{config_by}
 use Rattle.node_core.specs.declared.config.Sizes.{Sizes}
+use Rattle.port.specs.Asks.{AsksAt}
 use Rattle.port.specs.Ports.{faults_after}
 use Rattle.pcommit_node.specs.declared.socket.NodeSocket.{NodeSocket}
 
@@ -24,15 +24,17 @@ pub record BoundTo (sizes : Sizes) (places : List SocketAddr) (socket : NodeSock
 abbrev pub socket_count : NodeSocket → ℕ
 socket_count socket = socket.faults
 
--- a receive leaves the places
+-- a receive leaves the places, and asks the system to send nothing
 pub record SocketReceived (old new : NodeSocket) (taken : Result (Option (List ℕ)) Refusal) : Type 0 where
   pub sizes : new.sizes ≡ old.sizes
   pub places : new.places ≡ old.places
+  pub socket : new.socket ≡ old.socket
   pub faults : new.faults ≡ faults_after old.faults taken
 
--- a send leaves them too, and fails where the node has no place
+-- a send leaves them too. It asks the system once to send so many bytes to the node's place, and comes to what the system made of it;
+-- where the node has no place it asks nothing, and fails
 pub record SocketSent (old new : NodeSocket) (receiver : NodeId) (bytes : List ℕ) (result : Result (Unit {0}) Refusal) : Type 0 where
   pub sizes : new.sizes ≡ old.sizes
   pub places : new.places ≡ old.places
   pub faults : new.faults ≡ faults_after old.faults result
-  pub lost : place_for old.sizes old.places.items receiver ≡ None → result ≡ Err PortFault
+  pub asks : AsksAt (place_for old.sizes old.places.items receiver) old.socket new.socket bytes result

@@ -1,16 +1,15 @@
 //! The loop of a node's process: what its socket has, what its clients ask, and what time asks, round after round.
 
 use crate::door::Door;
-use crate::failure::Failure;
-use crate::replacing::place_text;
 use log::{debug, info, warn};
 use mio::Events;
 use node_process::{Desk, Gauges, Process};
+use node_setup::{Failure, clock, place_text};
 use port::Port;
 use stable_record::FileRecord;
 use std::alloc::Global;
 use std::io::ErrorKind;
-use std::time::{Duration, Instant, SystemTime};
+use std::time::{Duration, Instant};
 
 /// The process of a node over a record in a file.
 pub(crate) type NodeProcess<P> = Process<FileRecord, P>;
@@ -28,14 +27,6 @@ fn wait(
         Err(error) => return Err(error.into()),
     }
     Ok(())
-}
-
-/// The milliseconds since 1970 by the system's clock, none where that is set before.
-pub(crate) fn clock(rt: &HostRuntime) -> Result<u64, Failure> {
-    match SystemTime::now(rt)?.duration_since(SystemTime::UNIX_EPOCH) {
-        Ok(since) => Ok(u64::try_from(since.as_millis()).unwrap_or(u64::MAX)),
-        Err(_) => Ok(0),
-    }
 }
 
 /// Clients that are gone, or too slow, are let go.

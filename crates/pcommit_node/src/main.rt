@@ -5,24 +5,16 @@
 ghost use Rattle.std.specs.Prelude.{◌≡◌, map, IfOk};
 ghost use Rattle.node_core.specs.Nodes.{AreSizes};
 
-mod command;
 mod door;
-mod failure;
 mod life;
 mod logging;
-mod replacing;
-mod setup;
 mod socket;
 mod stream;
 mod system;
 
-use crate::command::{Options, read_options};
 use crate::door::{DATAGRAMS, Door, LISTENER};
-use crate::failure::Failure;
 use crate::life::live;
 use crate::logging::logger;
-use crate::replacing::replace;
-use crate::setup::{Setup, claim, is_claimed, is_there, open_node, owned, record_path, set_up};
 use crate::socket::NodeSocket;
 use crate::system::System;
 use cluster_file::KEY;
@@ -32,40 +24,16 @@ use log::LevelFilter;
 use mio::net::TcpListener;
 use mio::{Interest, Poll};
 use node_process::{Desk, Process};
+use node_setup::{
+    Failure, Options, Setup, address_fault, make_desk, node_places, open_node, place_text,
+    read_options, record_path, replace, set_up,
+};
 use port::Member;
-use protocol::NodeId;
-use serving::{Lock, Schedule, Terms, Times};
 use signed_port::{PlainPort, SignedPort};
 use stable_record::FileRecord;
-use std::alloc::{AllocError, Global};
-use std::net::SocketAddr;
+use std::env;
 use std::process::ExitCode;
-use std::time::{Duration, Instant};
-use std::{env, io};
-use xid::Refusal;
-
-/// Where all nodes are found by each other.
-fn node_places(alloc: Global, setup: &Setup) -> Result<Vec<SocketAddr>, AllocError>
-    ensures { IfOk result (λ found. found.items ≡ map (λ place. place.node) setup.now.cluster.places.items) }
-{
-    let mut found = Vec::new(alloc);
-    for place in &setup.cluster.places {
-        found.push(place.node)?;
-    }
-    Ok(found)
-}
-
-/// Why an address can't be used.
-fn address_fault(alloc: Global, at: SocketAddr, error: io::Error) -> Failure {
-    match format!(in alloc; "{at}: {error}") {
-        Ok(what) => Failure::Device {
-            refusal: Refusal::PortFault,
-            what,
-            todo: "stop the process that has the address, or mend the address in the cluster's file",
-        },
-        Err(_) => Failure::Memory,
-    }
-}
+use xid::Floor;
 
 /// The node's socket for datagrams.
 fn bind(rt: &HostRuntime, poll: &Poll, setup: &Setup) -> Result<NodeSocket, Failure>
@@ -96,14 +64,6 @@ fn listen(rt: &HostRuntime, poll: &Poll, setup: &Setup) -> Result<Option<TcpList
     }
 }
 
-/// What clients have to prove, if they do.
-fn lock_of(alloc: Global, setup: &Setup, name: &str) -> Result<Option<Lock>, AllocError> {
-    match setup.client_key {
-        Some(key) => Ok(Some(Lock::new(alloc, key, name.as_bytes(), &setup.digest)?)),
-        None => Ok(None),
-    }
-}
-
 /// The door of a node.
 fn open_door(
     rt: HostRuntime,
@@ -123,61 +83,6 @@ fn open_door(
     })
 }
 
-/// How long a node waits before it asks after a transaction: a later leader longer, so that no two outbid each other for ever.
-fn schedule_of(setup: &Setup) -> Schedule {
-    let ask = u64::from(setup.cluster.timing.ask);
-    match setup.who {
-        NodeId::L(leader) => Schedule {
-            first: ask * (u64::from(leader) + 1),
-        },
-        _ => Schedule { first: ask },
-    }
-}
-
-/// How long a branch is left that nobody touches.
-fn idle_of(setup: &Setup) -> Option<Duration> {
-    match setup.cluster.timing.idle {
-        0 => None,
-        idle => Some(Duration::from_millis(u64::from(idle))),
-    }
-}
-
-/// How names stand in time, at a resource manager where they do.
-fn times_of(setup: &Setup) -> Option<Times> {
-    let NodeId::R(_) = setup.who else {
-        return None;
-    };
-    let naming = setup.cluster.naming;
-    if !naming.timed {
-        return None;
-    }
-    Some(Times {
-        format: naming.format,
-        ahead: u64::from(naming.ahead),
-        keep: Some(u64::from(naming.keep)),
-    })
-}
-
-/// On what terms the lines of clients are taken.
-fn terms_of(alloc: Global, setup: &Setup, name: &str) -> Result<Terms, AllocError> {
-    Ok(Terms {
-        who: setup.who,
-        lock: lock_of(alloc, setup, name)?,
-        times: times_of(setup),
-        clock: 0,
-        latest: 0,
-        is_beside: setup.place.beside,
-    })
-}
-
-/// What the process keeps beside its node and its port.
-fn make_desk(rt: &HostRuntime, setup: &Setup, name: &str) -> Result<Desk, Failure> {
-    let terms = terms_of(rt.alloc(), setup, name)?;
-    let (schedule, idle) = (schedule_of(setup), idle_of(setup));
-    let now = Instant::now(rt)?;
-    Ok(Desk::new(rt.alloc(), setup.hash_key, terms, schedule, idle, now)?)
-}
-
 /// Says where the node is found.
 fn announce(rt: &HostRuntime, name: &str, setup: &Setup) -> Result<(), Failure> {
     let node = setup.place.node;
@@ -187,6 +92,15 @@ fn announce(rt: &HostRuntime, name: &str, setup: &Setup) -> Result<(), Failure> 
         }
         None => println!(rt; "pcommit_node {name}: nodes at {node}, no clients")?,
     }
+    Ok(())
+}
+
+/// Says from which place on in the order of names a blank node takes part.
+fn announce_blank(rt: &HostRuntime, name: &str, place: &Floor) -> Result<(), Failure> {
+    let place = place_text(rt.alloc(), place)?;
+    println!(rt;
+        "pcommit_node {name}: a blank record, which takes part from {place} on: start it now"
+    )?;
     Ok(())
 }
 
@@ -236,16 +150,6 @@ fn lead(
     lead_signed(&rt, node, socket, desk, &mut door, setup, path)
 }
 
-/// That the record is there which the folder's node has had.
-fn require_record(rt: HostRuntime, path: &str) -> Result<(), Failure> {
-    if !is_there(rt, path)? {
-        return Err(Failure::NoRecord {
-            file: owned(rt.alloc(), path)?,
-        });
-    }
-    Ok(())
-}
-
 /// A node of a cluster lives.
 fn run(rt: HostRuntime, options: Options) -> Result<(), Failure> {
     let setup = match set_up(rt, options) {
@@ -254,19 +158,11 @@ fn run(rt: HostRuntime, options: Options) -> Result<(), Failure> {
     };
     let path = record_path(rt.alloc(), options)?;
     if let Some(replacement) = options.replacement {
-        return replace(rt, &setup, options, path.as_str(), replacement);
+        let place = replace(rt, &setup, options, path.as_str(), replacement)?;
+        return announce_blank(&rt, options.name, &place);
     }
-    let is_claimed = is_claimed(rt, &setup, options)?;
-    if is_claimed {
-        require_record(rt, path.as_str())?;
-    }
-    match open_node(rt, &setup.cluster.config, setup.who, path.as_str()) {
-        Ok(node) => {
-            if !is_claimed {
-                claim(rt, &setup, options)?;
-            }
-            lead(rt, node, &setup, options, path.as_str())
-        }
+    match open_node(rt, &setup, options, path.as_str()) {
+        Ok(node) => lead(rt, node, &setup, options, path.as_str()),
         Err(failure) => Err(failure),
     }
 }

@@ -1,4 +1,4 @@
-ghost use Rattle.std.specs.Prelude.{◌≡◌, ◌≤◌, ◌+◌, Some, min, length, IfOk, IfSome};
+ghost use Rattle.std.specs.Prelude.{◌≡◌, ◌+◌, min, IfOk};
 ghost use Rattle.xid.specs.declared.refusals.Refusal.TheVariants.{PortFault};
 ghost use Rattle.stable_record.specs.Held.{IsCounted, most_faults};
 ghost use Rattle.pcommit_node.specs.Sockets.{place_for, socket_count, BoundTo};
@@ -7,16 +7,17 @@ use mio::net::UdpSocket;
 use mio::{Interest, Registry, Token};
 use node_core::{Sizes, place_of};
 use node_process::PortCounts;
+use port::{CountedSocket, SendReply};
 use protocol::NodeId;
 use signed_port::{Carrier, MAX_CARRIED};
-use std::io::{self, ErrorKind};
+use std::io;
 use std::net::{Net, SocketAddr};
 use xid::Refusal;
 
 /// A node's socket for datagrams, which finds the other nodes by their places.
 #[derive(Drop)]
 pub struct NodeSocket {
-    socket: UdpSocket,
+    socket: CountedSocket,
     sizes: Sizes,
     places: Vec<SocketAddr>,
     taken: u64,
@@ -39,7 +40,7 @@ impl NodeSocket {
         let mut socket = UdpSocket::bind(rt, at)?;
         registry.register(&mut socket, token, Interest::READABLE)?;
         Ok(NodeSocket {
-            socket,
+            socket: CountedSocket::new(socket.into()),
             sizes,
             places,
             taken: 0,
@@ -66,20 +67,6 @@ impl NodeSocket {
         self.faults = self.faults.saturating_add(1);
         Refusal::PortFault
     }
-
-    /// Whether all bytes were sent, as one datagram, to the place of a node: to no other.
-    fn put(&self, _receiver: NodeId, place: SocketAddr, bytes: &[u8]) -> bool
-        requires { place_for self.now.sizes self.now.places.items _receiver ≡ Some place }
-    {
-        for _ in 0..u64::MAX {
-            match self.socket.send_to(bytes, place) {
-                Ok(len) => return len == bytes.len(),
-                Err(e) if e.kind() == ErrorKind::Interrupted => {}
-                Err(_) => return false,
-            }
-        }
-        false
-    }
 }
 
 /// The place to which a datagram to a node goes: the node's own among those of acceptors, then leaders, then resource managers. None where
@@ -93,21 +80,6 @@ fn place_for(sizes: Sizes, places: &[SocketAddr], receiver: NodeId) -> Option<So
     }
 }
 
-/// Takes a datagram, if one is there, and answers how many bytes of it stand in the buffer.
-fn take(socket: &UdpSocket, buffer: &mut [u8]) -> io::Result<Option<usize>>
-    ensures { IfOk result (λ taken. IfSome taken (λ len. len ≤ length buffer.new)) }
-{
-    for _ in 0..u64::MAX {
-        match socket.recv_from(buffer) {
-            Ok((len, _)) => return Ok(Some(len)),
-            Err(e) if e.kind() == ErrorKind::WouldBlock => return Ok(None),
-            Err(e) if e.kind() == ErrorKind::Interrupted => {}
-            Err(e) => return Err(e),
-        }
-    }
-    Ok(None)
-}
-
 impl Carrier for NodeSocket {
     ghost use Rattle.pcommit_node.specs.Sockets.{socket_count, SocketReceived, SocketSent};
 
@@ -118,7 +90,7 @@ impl Carrier for NodeSocket {
     ghost sent = { SocketSent };
 
     fn recv(&mut self, buffer: &mut [u8; MAX_CARRIED]) -> Result<Option<usize>, Refusal> {
-        match take(&self.socket, buffer) {
+        match self.socket.take(buffer) {
             Ok(Some(len)) => {
                 self.taken = self.taken.saturating_add(1);
                 Ok(Some(len))
@@ -132,11 +104,13 @@ impl Carrier for NodeSocket {
         let Some(place) = place_for(self.sizes, &self.places, receiver) else {
             return Err(self.count());
         };
-        if !self.put(receiver, place, bytes) {
-            return Err(self.count());
+        match self.socket.send(place, bytes) {
+            SendReply::Sent => {
+                self.sent = self.sent.saturating_add(1);
+                Ok(())
+            }
+            SendReply::Interrupted | SendReply::Failed => Err(self.count()),
         }
-        self.sent = self.sent.saturating_add(1);
-        Ok(())
     }
 
     fn faults(&self) -> u64 {

@@ -1,4 +1,5 @@
 pub mod Addresses
+pub mod Asks
 pub mod Ports
 pub mod Members
 pub mod Calls

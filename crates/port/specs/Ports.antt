@@ -1,5 +1,6 @@
 -- What a receive gives, and what the ports of this crate make of receives and sends.
 use Rattle.std.specs.Prelude.{◌≡◌, ◌==◌, ℕ, ◌+◌, ◌-◌, min, List, [], ◌∷◌, ◌++◌, take, Option, Some, None, Result, Ok, Err, is_err}
+use Rattle.std.specs.Option.{option_map}
 use Rattle.xid.specs.declared.refusals.Refusal.{Refusal}
 use Rattle.xid.specs.declared.refusals.Refusal.TheVariants.{PortFault}
 use Rattle.stable_record.specs.Held.{most_faults}
@@ -9,6 +10,7 @@ use Rattle.port.specs.declared.fake.FakePort.{FakePort}
 use Rattle.port.specs.declared.fake.Letter.{Letter}
 use Rattle.port.specs.declared.udp.UdpPort.{UdpPort}
 use Rattle.port.specs.Addresses.{address_of}
+use Rattle.port.specs.Asks.{AsksAt, loopback}
 
 -- what was received: the bytes at the front of a buffer, nothing, or a refusal
 abbrev pub taken_from : List ℕ → Result (Option ℕ) Refusal → Result (Option (List ℕ)) Refusal
@@ -75,19 +77,20 @@ pub record FakeSent (old new : FakePort) (receiver : NodeId) (bytes : List ℕ) 
 abbrev pub udp_count : UdpPort → ℕ
 udp_count port = port.faults
 
--- it is the same socket, and finds nodes where it found them. What the system gives and takes no contract can say
+-- it has its number, and finds nodes where it found them
 pub record IsSamePort (old new : UdpPort) : Type 0 where
-  pub socket : new.socket ≡ old.socket
   pub number : new.number ≡ old.number
   pub addresses : new.addresses ≡ old.addresses
 
--- a receive leaves the socket
+-- a receive asks the system to send nothing. What the system gives no contract can say
 pub record UdpReceived (old new : UdpPort) (taken : Result (Option (List ℕ)) Refusal) : Type 0 where
   pub same : IsSamePort old new
+  pub socket : new.socket ≡ old.socket
   pub faults : new.faults ≡ faults_after old.faults taken
 
--- a send leaves the socket, and fails where its node isn't found
+-- a send asks the system once to send so many bytes to where the node is found, and comes to what the system made of it; where the node
+-- isn't found it asks nothing, and fails. What the system does then no contract can say
 pub record UdpSent (old new : UdpPort) (receiver : NodeId) (bytes : List ℕ) (result : Result (Unit {0}) Refusal) : Type 0 where
   pub same : IsSamePort old new
   pub faults : new.faults ≡ faults_after old.faults result
-  pub lost : address_of old.addresses receiver ≡ None → result ≡ Err PortFault
+  pub asks : AsksAt (option_map loopback (address_of old.addresses receiver)) old.socket new.socket bytes result

@@ -4,6 +4,7 @@
 
 mod addresses;
 mod calling;
+mod counted;
 mod fake;
 mod member;
 mod port;
@@ -11,6 +12,7 @@ mod udp;
 
 pub use addresses::Addresses;
 pub use calling::{Served, call, call_all, raise, serve_once};
+pub use counted::{CountedSocket, LastSend, SendReply};
 pub use fake::{FakePort, Letter};
 pub use member::Member;
 pub use port::{MAX_TAKEN, Port};

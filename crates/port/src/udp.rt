@@ -1,20 +1,22 @@
-ghost use Rattle.std.specs.Prelude.{◌≡◌, ◌≤◌, ◌+◌, Some, min, length, IfOk, IfErr, IfSome};
+ghost use Rattle.std.specs.Prelude.{◌≡◌, ◌+◌, min, IfOk, IfErr};
 ghost use Rattle.xid.specs.declared.refusals.Refusal.TheVariants.{PortFault};
 ghost use Rattle.stable_record.specs.Held.{IsCounted, most_faults};
-ghost use Rattle.port.specs.Addresses.{address_of, no_addresses};
+ghost use Rattle.port.specs.Addresses.{no_addresses};
+ghost use Rattle.port.specs.Asks.{loopback};
 ghost use Rattle.port.specs.Ports.{udp_count};
 
 use crate::addresses::Addresses;
+use crate::counted::{CountedSocket, SendReply};
 use crate::port::{MAX_TAKEN, Port};
 use protocol::NodeId;
-use std::io::{self, ErrorKind};
-use std::net::{Ipv4Addr, Net, UdpSocket};
+use std::io;
+use std::net::{Ipv4Addr, Net, SocketAddr, SocketAddrV4, UdpSocket};
 use xid::Refusal;
 
 /// A socket of a node on 127.0.0.1. It finds the other nodes by their addresses. A call that was interrupted is tried again.
 #[derive(Drop)]
 pub struct UdpPort {
-    socket: UdpSocket,
+    socket: CountedSocket,
     number: u16,
     addresses: Addresses,
     faults: u64,
@@ -29,7 +31,7 @@ impl UdpPort {
     {
         match bound(rt) {
             Ok((socket, number)) => Ok(UdpPort {
-                socket,
+                socket: CountedSocket::new(socket),
                 number,
                 addresses: Addresses::none(),
                 faults: 0,
@@ -61,20 +63,6 @@ impl UdpPort {
         self.faults = self.faults.saturating_add(1);
         Refusal::PortFault
     }
-
-    /// Whether all bytes were sent, as one datagram, to the number on 127.0.0.1 at which a node is found: to no other.
-    fn put(&self, _receiver: NodeId, number: u16, bytes: &[u8]) -> bool
-        requires { address_of self.now.addresses _receiver ≡ Some number }
-    {
-        for _ in 0..u64::MAX {
-            match self.socket.send_to(bytes, (Ipv4Addr::LOCALHOST, number)) {
-                Ok(len) => return len == bytes.len(),
-                Err(e) if e.kind() == ErrorKind::Interrupted => {}
-                Err(_) => return false,
-            }
-        }
-        false
-    }
 }
 
 /// A socket that doesn't wait, and its number.
@@ -85,19 +73,11 @@ fn bound<R: Net>(rt: &R) -> io::Result<(UdpSocket, u16)> {
     Ok((socket, number))
 }
 
-/// Takes a datagram, if one is there, and answers how many bytes of it stand in the buffer.
-fn take(socket: &UdpSocket, buffer: &mut [u8]) -> io::Result<Option<usize>>
-    ensures { IfOk result (λ taken. IfSome taken (λ len. len ≤ length buffer.new)) }
+/// A port of 127.0.0.1.
+fn loopback(number: u16) -> SocketAddr
+    ensures { result ≡ loopback number }
 {
-    for _ in 0..u64::MAX {
-        match socket.recv_from(buffer) {
-            Ok((len, _)) => return Ok(Some(len)),
-            Err(e) if e.kind() == ErrorKind::WouldBlock => return Ok(None),
-            Err(e) if e.kind() == ErrorKind::Interrupted => {}
-            Err(e) => return Err(e),
-        }
-    }
-    Ok(None)
+    SocketAddr::V4(SocketAddrV4::new(Ipv4Addr::LOCALHOST, number))
 }
 
 impl Port for UdpPort {
@@ -110,7 +90,7 @@ impl Port for UdpPort {
     ghost sent = { UdpSent };
 
     fn recv(&mut self, buffer: &mut [u8; MAX_TAKEN]) -> Result<Option<usize>, Refusal> {
-        match take(&self.socket, buffer) {
+        match self.socket.take(buffer) {
             Ok(taken) => Ok(taken),
             Err(_) => Err(self.count()),
         }
@@ -120,10 +100,10 @@ impl Port for UdpPort {
         let Some(number) = self.addresses.get(receiver) else {
             return Err(self.count());
         };
-        if !self.put(receiver, number, bytes) {
-            return Err(self.count());
+        match self.socket.send(loopback(number), bytes) {
+            SendReply::Sent => Ok(()),
+            SendReply::Interrupted | SendReply::Failed => Err(self.count()),
         }
-        Ok(())
     }
 
     fn faults(&self) -> u64 {

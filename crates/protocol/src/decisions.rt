@@ -1,5 +1,4 @@
-ghost use Rattle.std.specs.Prelude.{◌≡◌, [], ◌∷◌, None};
-ghost use Rattle.protocol.specs.declared.answers.Answer.TheVariants.{Done};
+ghost use Rattle.std.specs.Prelude.{◌≡◌, [], ◌∷◌};
 
 use crate::answers::Answer;
 use crate::nodes::NodeId;
@@ -95,29 +94,4 @@ pub struct Decision {
     pub fact: Option<Fact>,
     /// What to send then, in order.
     pub sends: Sends,
-}
-
-impl Decision {
-    /// Ok, nothing to store, and nothing to send.
-    pub fn nothing() -> Decision
-        ensures { result ≡ record { answer = Done; fact = None; sends = [] } }
-    {
-        Decision {
-            answer: Answer::Done,
-            fact: None,
-            sends: Sends::none(),
-        }
-    }
-
-    /// Ok, nothing to store, and nothing to send, in place of what was decided before.
-    pub fn clear(&mut self)
-        ensures { self.new ≡ record { answer = Done; fact = None; sends = [] } }
-    {
-        self.answer = Answer::Done;
-        self.sends.clear();
-        let Some(_) = &self.fact else {
-            return;
-        };
-        self.fact = None;
-    }
 }

@@ -399,18 +399,6 @@ module _ (m : ManagerParts) (tx : TxParts) (config : Config) (number : ℕ) (fac
   abbrev view_by : Bool → Answer
   view_by known = if known then Stands (view_standing (view facts tx)) else Refused Refusal.BadTx
 
-  pub view_outside : (t : Bool) → t ≡ are_below m.managers (participants tx) → t ≡ false
-      → Refused Refusal.BadTx ≡ (on_view_call config number (stored_votes number facts) branches tx).answer
-  view_outside t below outside =
-      sym (ap (λ (b : Bool). view_by (b && is_participant tx number))
-      (inside_is config m.managers tx t stands.managers_are below ∙ outside))
-
-  pub view_stranger : (t : Bool) → t ≡ are_below m.managers (participants tx) → t ≡ true → is_participant tx m.number ≡ false
-      → Refused Refusal.BadTx ≡ (on_view_call config number (stored_votes number facts) branches tx).answer
-  view_stranger t below inside stranger =
-      sym (λ i. view_by ((inside_is config m.managers tx t stands.managers_are below ∙ inside) i
-      && (ap (is_participant tx) (sym stands.number_is) ∙ stranger) i))
-
   pub view_named_here : (t : Bool) → t ≡ are_below m.managers (participants tx) → t ≡ true → is_participant tx m.number ≡ true
       → Stands (view_standing (view_of (course_in m.courses tx)))
       ≡ (on_view_call config number (stored_votes number facts) branches tx).answer

@@ -90,11 +90,3 @@ pub begun_push : (ts : List TxParts) (numbers : List ℕ) (n : ℕ) (tx : TxPart
 begun_push ts numbers n tx number seen =
     filter_map-append (slice_get ts) numbers (n ∷ [])
     ∙ ap (λ (o : Option TxParts). filter_map (slice_get ts) numbers ++ cons_option o []) (ap (slice_get ts) number ∙ place_gets ts tx seen)
-
-pub below_push : (ts : List TxParts) (numbers : List ℕ) (n : ℕ) (tx : TxParts) → n ≡ place_in ts tx → place_in ts tx < length ts
-    → all_below (length ts) numbers ≡ true → all_below (length ts) (numbers ++ n ∷ []) ≡ true
-below_push ts [] n tx number seen below =
-    and_from (nat_lt n (length ts)) true (lt-ltb n (length ts) (omega (arith, number, seen))) refl
-below_push ts (k ∷ numbers) n tx number seen below =
-    let parts = and_parts (nat_lt k (length ts)) (all_below (length ts) numbers) below in
-    and_from (nat_lt k (length ts)) (all_below (length ts) (numbers ++ n ∷ [])) parts.0 (below_push ts numbers n tx number seen parts.1)

@@ -1,6 +1,6 @@
 -- What a resource manager writes in place of its record says what the record says.
 use Rattle.std.proofs.Common.{◌≡◌, ◌∙◌, ℕ, ◌≤◌, suc, zero, true, ◌&&◌, List, [], ◌∷◌, ◌++◌, Option, Some, None, refl, sym, ap, subst, map}
-use Rattle.std.specs.Prelude.{filter_map, replicate, slice_get, unwrap_or, Result, Ok, Err, IfOk}
+use Rattle.std.specs.Prelude.{filter_map, replicate, slice_get, unwrap_or}
 use Rattle.std.specs.List.{cons_option, list_all}
 use Rattle.std.specs.Option.{option_map_or}
 use Rattle.xid.specs.Names.{XidParts}

@@ -48,20 +48,6 @@ module _ (test : Branch → Bool) (number_of : Branch → ℕ) where
             (all y branch (sym (ap (λ (b : Bool). cond b (Some now) (get xid_eq old y)) other) ∙ sym (changes y) ∙ there) passes)
       ]
 
-  -- one branch is known no more
-  pub under_rest : (old new : IndexMap XidParts Branch WordKey) (names after : ByNumber) (x : XidParts)
-      → AreUnder test number_of old names → HasApart names after x
-      → ((y : XidParts) → get xid_eq new y ≡ cond (xid_eq x y) None (get xid_eq old y)) → AreUnder test number_of new after
-  under_rest old new names after x all apart changes y branch there passes =
-      elim (cases_Bool (xid_eq x y)) [
-        | inl same ↦
-            let none : None ≡ Some branch = sym (ap (λ (b : Bool). cond b None (get xid_eq old y)) same) ∙ sym (changes y) ∙ there in
-            absurd (cc (none))
-        | inr other ↦
-            apart (number_of branch) y other
-            (all y branch (sym (ap (λ (b : Bool). cond b None (get xid_eq old y)) other) ∙ sym (changes y) ∙ there) passes)
-      ]
-
 -- ---- names under numbers, before and after
 
 pub apart_all : (old new : ByNumber) (x : XidParts) → HasAll old new → HasApart old new x

@@ -14,8 +14,8 @@ use Rattle.serving.specs.declared.group.Origin.{Origin}
 use Rattle.serving.specs.declared.group.Origin.TheVariants.{Client, Node}
 use Rattle.protocol.specs.declared.answers.Answer.{Answer}
 use Rattle.serving.specs.Clients.{ClientParts}
-use Rattle.serving.specs.Groups.{Told, after_one, answer_text, answers_to, is_for, is_handed, is_said, texts_for, with_answers}
-use Rattle.serving.specs.Served.{are_nobodys, is_nobody, served_at, served_of, told_text, IsServed, Served, WhoAskedIsTold}
+use Rattle.serving.specs.Groups.{Told, after_one, answer_text, answers_to, is_for, is_handed, is_nobody, is_said, texts_for, with_answers}
+use Rattle.serving.specs.Served.{are_nobodys, served_at, served_of, told_text, IsServed, Served, WhoAskedIsTold}
 use Rattle.serving.specs.Taking.{is_at, is_from, items_at, HearsAt, HearsClient, IsItemOf}
 
 -- who is at no such key isn't told it

@@ -1,13 +1,16 @@
 -- Lines that are taken one after another.
-use Rattle.std.proofs.Common.{◌≡◌, ◌++◌, ◌∷◌, ◌&&◌, [], List, ℕ, Bool, true, false, not, refl, sym, ap, ◌∙◌, append_assoc, arith}
+use Rattle.std.proofs.Common.{◌≡◌, ◌<◌, ◌++◌, ◌∷◌, ◌&&◌, [], List, ℕ, Bool, true, false, length, not, refl, sym, ap, ◌∙◌, append_assoc}
+use Rattle.std.proofs.Common.{arith, inl, inr}
 use Rattle.std.proofs.lemmas.List.{append-nil}
 use Rattle.std.proofs.lemmas.List.Concat.{flat_map-append}
 use Rattle.std.proofs.lemmas.List.Folds.{list_all-append}
 use Rattle.std.specs.List.{AllZip}
 use Rattle.serving.specs.declared.group.Item.{Item}
 use Rattle.serving.specs.declared.group.Origin.{Origin}
+use Rattle.serving.specs.declared.taking.TheConstants.{MOST_ITEMS}
 use Rattle.serving.specs.declared.terms.Terms.{Terms}
-use Rattle.serving.specs.Taking.{are_free, holds_up, with_ends, IsItemOf, TakesFree, TakesFront, TakesLine}
+use Rattle.serving.specs.Fronts.{IsNoLine}
+use Rattle.serving.specs.Taking.{are_free, holds_up, with_ends, IsItemOf, NoneLeft, TakesFree, TakesFront, TakesLine}
 
 -- lines were taken from the front of these bytes, and none of them holds up what is behind it
 pub record TakesFreely (terms : Terms) (origin : Origin) (bytes rest : List ℕ) (before after : List Item) : Type 0 where
@@ -67,9 +70,10 @@ free_more terms origin bytes rest left before mid after had next = record {
 
 -- all that were taken
 pub front_taken : (terms : Terms) (origin : Origin) (bytes rest : List ℕ) (before after : List Item)
-    → TakesFreely terms origin bytes rest before after
+    → TakesFreely terms origin bytes rest before after → (length after < MOST_ITEMS → IsNoLine rest)
     → (taken : List Item) × (after ≡ before ++ taken) × TakesFront terms origin bytes rest taken
-front_taken terms origin bytes rest before after had = (
+    × (length after < MOST_ITEMS → NoneLeft taken rest)
+front_taken terms origin bytes rest before after had left = (
   had.taken,
   had.after_is,
   record {
@@ -78,12 +82,14 @@ front_taken terms origin bytes rest before after had = (
     each = had.each;
     last = record { front = had.taken; last = []; whole = sym (append-nil had.taken); free = had.free; one = omega arith };
   },
+  λ room. inl (left room),
 )
 
 -- with the last one
 pub front_last : (terms : Terms) (origin : Origin) (bytes rest left : List ℕ) (before mid after : List Item)
     → TakesFreely terms origin bytes rest before mid → TakesLine terms origin rest left mid after
     → (taken : List Item) × (after ≡ before ++ taken) × TakesFront terms origin bytes left taken
+    × (length after < MOST_ITEMS → NoneLeft taken left)
 front_last terms origin bytes rest left before mid after had next = (
   had.taken ++ next.item ∷ [],
   next.after_is ∙ ap (λ (items : List Item). items ++ next.item ∷ []) had.after_is ∙ append_assoc before had.taken (next.item ∷ []),
@@ -93,4 +99,5 @@ front_last terms origin bytes rest left before mid after had next = (
     each = zip_push (IsItemOf terms origin) had.lines had.taken next.line next.item had.each next.its;
     last = record { front = had.taken; last = next.item ∷ []; whole = refl; free = had.free; one = omega arith };
   },
+  λ room. inr (record { front = had.taken; last = next.item; whole = refl; held = next.held }),
 )

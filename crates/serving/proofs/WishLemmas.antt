@@ -20,19 +20,8 @@ use Rattle.net_script.proofs.Arms.{apart, first_word}
 use Rattle.net_script.proofs.EventLemmas.{event_apart, event_injective}
 use Rattle.net_script.proofs.WordLemmas.{differ}
 use Rattle.serving.specs.declared.words.Wish.{Wish}
-use Rattle.serving.specs.declared.words.Wish.TheVariants.{Ask, Raise, Table, Open, Info, Await, Elsewhere, Unknown}
+use Rattle.serving.specs.declared.words.Wish.TheVariants.{Ask, Raise, Table, Open, Await, Elsewhere}
 use Rattle.serving.specs.Wishes.{BeginsAsRequest, IsCommandLine, IsNoWish, IsWish, Spells, SpellsFor}
-
--- what is asked of this node is wished
-pub spelled_here : (me : NodeId) (line : List ℕ) (wish : Wish) → Spells me line wish → IsWish me line wish
-spelled_here me line (Ask request) spelled = spelled
-spelled_here me line (Raise floor) spelled = spelled
-spelled_here me line Table spelled = spelled
-spelled_here me line Open spelled = spelled
-spelled_here me line Info spelled = absurd spelled
-spelled_here me line (Await tx) spelled = spelled
-spelled_here me line Elsewhere spelled = absurd spelled
-spelled_here me line Unknown spelled = absurd spelled
 
 -- what is asked of another node is wished elsewhere
 pub spelled_there : (me who : NodeId) (line : List ℕ) (named : Option NodeId) (wish : Wish) → named ≡ Some who → who ≢ me
@@ -156,29 +145,6 @@ awaits_none line args begins none = record {
 pub awaits_nowhere : (line args : List ℕ) → words line ≡ codes "await" ∷ words args
     → ((n : NodeId) (ws : List (List ℕ)) → IsNode n → words args ≢ node_text n ∷ ws) → IsNoWish line
 awaits_nowhere line args begins none = awaits_none line (words args) begins (λ n tx is is-tx e. none n (tx_text tx ∷ []) is e)
-
--- no transaction is
-pub awaits_nothing : (line args rest : List ℕ) (at : NodeId) → words line ≡ codes "await" ∷ words args
-    → words args ≡ node_text at ∷ words rest → ((tx : TxParts) → IsTx tx → words rest ≢ tx_text tx ∷ []) → IsNoWish line
-awaits_nothing line args rest at begins named none =
-    awaits_none line (words args) begins (λ n tx is is-tx e.
-    let same : node_text at ∷ words rest ≡ node_text n ∷ tx_text tx ∷ [] = sym named ∙ e in
-    none tx is-tx (cc))
-
--- ---- how the node is
-
-info_apart : (who : NodeId) (line : List ℕ) (wish : Wish) → Spells who line wish → codes "info" ≡ wish_word wish → ⊥
-info_apart who line (Ask request) spelled same = request_apart (codes "info") request refl same
-info_apart who line wish spelled same = differ _ _ same refl
-
--- other words follow
-pub informs_none : (line rest : List ℕ) → words line ≡ codes "info" ∷ words rest → words rest ≢ [] → IsNoWish line
-informs_none line rest begins more = record {
-  names_none = λ who wish spelled. info_apart who line wish spelled (word_of who line wish (codes "info") (words rest) begins spelled);
-  no_info = λ e.
-      let same : codes "info" ∷ words rest ≡ codes "info" ∷ [] = sym begins ∙ e in
-      more (cc);
-}
 
 -- ---- words of scripts
 

@@ -12,7 +12,7 @@ use Rattle.net_script.specs.Traces.{line_text}
 use Rattle.protocol.specs.declared.answers.Answer.{Answer}
 use Rattle.protocol.specs.declared.answers.Answer.TheVariants.{Stands}
 use Rattle.protocol.specs.declared.states.Standing.TheVariants as standings
-use Rattle.serving.specs.Fronts.{IsCut}
+use Rattle.serving.specs.Fronts.{IsCut, IsNoLine}
 use Rattle.serving.specs.declared.stage.Stage.{Stage}
 use Rattle.serving.specs.declared.stage.Stage.TheVariants.{Proving, Open, Awaiting}
 
@@ -89,15 +89,20 @@ pub record IsWaiting (client : ClientParts) : Type 0 where
   pub cut : IsCut client.input line rest
   pub short : length line ≤ MAX_LINE
 
--- a line of a client is begun for too long, or its proof is due
+-- no line of a client is to be looked at: it may not ask, or no line stands there whole
+abbrev pub WaitsForNone : ClientParts → Type 0
+WaitsForNone client = (may_ask client ≡ false) ⊎ IsNoLine client.input
+
+-- a line of a client is begun for too long, or its proof is due for too long
 pub record IsSlow (now : Instant) (client : ClientParts) : Type 0 where
   pub begun : Instant
   pub since : client.begun ≡ Some begun
   pub long : MOST_BEGUN * 1000000000 ≤ instant_nanos now - instant_nanos begun
+  pub due : (is_proving client.stage || is_begun client.input) ≡ true
 
--- a client is to be let go, or it has gone and was sent all that it was told
+-- a client is to be let go, or it has gone, was sent all that it was told, and no line of it is to be looked at
 abbrev pub IsOver : ClientParts → Type 0
-IsOver client = (client.is_broken ≡ true) ⊎ ((client.has_ended ≡ true) × (client.output ≡ []))
+IsOver client = (client.is_broken ≡ true) ⊎ ((client.has_ended ≡ true) × (client.output ≡ []) × WaitsForNone client)
 
 -- ---- the end of a transaction that it waits for
 

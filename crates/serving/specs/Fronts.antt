@@ -16,6 +16,10 @@ IsLong bytes =
     ((lacks 10 bytes ≡ true) × (MAX_LINE < length bytes))
     ⊎ ((line : List ℕ) × (rest : List ℕ) × IsCut bytes line rest × (MAX_LINE < length line))
 
+-- no whole line stands at the front: one is begun there at most, or it is too long
+abbrev pub IsNoLine : List ℕ → Type 0
+IsNoLine bytes = (lacks 10 bytes ≡ true) ⊎ IsLong bytes
+
 -- what stands at the front
 abbrev pub IsFront : List ℕ → Front → Type 0
 IsFront bytes (Line line rest) = IsCut bytes line.now rest.now × (length line.now ≤ MAX_LINE)

@@ -75,6 +75,11 @@ answers_to (item ∷ items) replies said =
 
 -- ---- who is told it
 
+-- whether nobody is answered
+abbrev pub is_nobody : Origin → Bool
+is_nobody Node = true
+is_nobody (Client key number) = false
+
 -- whether an answer is for the client of a number at a key
 abbrev pub is_for : (key number : ℕ) → Origin → Bool
 is_for key number (Client its_key its_number) = its_key == key && its_number == number

@@ -6,11 +6,10 @@ use Rattle.std.specs.declared.alloc.Global.{Global}
 use Rattle.slab.specs.Slab.{Slab, get}
 use Rattle.serving.specs.declared.terms.Terms.{Terms}
 use Rattle.serving.specs.declared.group.Item.{Item}
-use Rattle.serving.specs.declared.group.Origin.{Origin}
-use Rattle.serving.specs.declared.group.Origin.TheVariants.{Client, Node}
+use Rattle.serving.specs.declared.group.Origin.TheVariants.{Client}
 use Rattle.protocol.specs.declared.answers.Answer.{Answer}
 use Rattle.serving.specs.Clients.{ClientParts, is_proving, may_ask}
-use Rattle.serving.specs.Groups.{after_one, answer_text, answers_to, is_handed, is_said, AreTold}
+use Rattle.serving.specs.Groups.{after_one, answer_text, answers_to, is_handed, is_nobody, is_said, AreTold}
 use Rattle.serving.specs.Taking.{is_at, with_ends, HearsAll, IsItemOf, TakesProof}
 
 -- an item of a group, what the node replied to it, if it was handed it, and what was said to it, if it is a wish
@@ -46,11 +45,6 @@ pub record IsServed (terms : Terms) (key : ℕ) (old new : ClientParts) (served 
   pub input : mid.input ≡ with_ends lines ++ new.input
   pub each : AllZip (λ line one. IsItemOf terms (Client key mid.number) line one.item) lines (served_at key served)
   pub output : new.output ≡ mid.output ++ flat_map told_text (served_at key served)
-
--- whether nobody is answered
-abbrev pub is_nobody : Origin → Bool
-is_nobody Node = true
-is_nobody (Client key number) = false
 
 -- whether these items are all the node's own, and for no client
 abbrev pub are_nobodys : List Item → Bool

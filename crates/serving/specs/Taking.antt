@@ -1,5 +1,5 @@
 -- How the lines that clients wrote come into a group.
-use Rattle.std.specs.Prelude.{◌≡◌, ◌⊎◌, ◌↔◌, ◌≤◌, ◌<◌, ◌==◌, ◌&&◌, ℕ, ◌++◌, ◌∷◌, not, Bool, true, false, List, [], length, filter}
+use Rattle.std.specs.Prelude.{⊤, ◌≡◌, ◌⊎◌, ◌↔◌, ◌≤◌, ◌<◌, ◌==◌, ◌&&◌, ℕ, ◌++◌, ◌∷◌, not, Bool, true, false, List, [], length, filter}
 use Rattle.std.specs.Prelude.{Option, Some, None, is_some, IsSomeAnd}
 use Rattle.std.specs.List.{flat_map, list_all, AllZip}
 use Rattle.std.specs.Option.{option_map_or}
@@ -19,11 +19,13 @@ use Rattle.serving.specs.declared.group.Origin.TheVariants.{Client, Node}
 use Rattle.serving.specs.declared.group.Work.{Work}
 use Rattle.serving.specs.declared.group.Work.TheVariants.{Ask, Say, Untimely, Late}
 use Rattle.serving.specs.declared.group.Item.{Item}
+use Rattle.serving.specs.declared.taking.TheConstants.{MOST_ITEMS}
 use Rattle.serving.specs.declared.taking.Taken.{Taken}
 use Rattle.serving.specs.declared.taking.Taken.TheVariants as takens
 use Rattle.serving.specs.declared.terms.Terms.{Terms}
 use Rattle.serving.specs.Clients.{ClientParts, is_proving, may_ask}
-use Rattle.serving.specs.Fronts.{IsCut, IsLong}
+use Rattle.serving.specs.Fronts.{IsCut, IsLong, IsNoLine}
+use Rattle.serving.specs.Groups.{is_nobody}
 use Rattle.serving.specs.Proving.{IsProof}
 use Rattle.serving.specs.Times.{is_timely}
 use Rattle.serving.specs.Wishes.{IsWish}
@@ -91,6 +93,17 @@ pub record HoldsUpLast (items : List Item) : Type 0 where
   pub free : are_free front ≡ true
   pub one : length last ≤ 1
 
+-- the last of these holds up what is behind it
+pub record IsHeldUp (items : List Item) : Type 0 where
+  pub front : List Item
+  pub last : Item
+  pub whole : items ≡ front ++ last ∷ []
+  pub held : holds_up last.work ≡ true
+
+-- where these were taken and this is left, no line is to be taken still: none stands there whole, or it is held up
+abbrev pub NoneLeft : (taken : List Item) → (rest : List ℕ) → Type 0
+NoneLeft taken rest = IsNoLine rest ⊎ IsHeldUp taken
+
 -- ---- the lines of a client
 
 -- lines, each with the LF at its end
@@ -147,15 +160,20 @@ pub record HearsClient (terms : Terms) (key : ℕ) (old new : ClientParts) (take
   pub unproved : is_proving mid.stage ≡ true → (new ≡ mid) × (taken ≡ [])
   pub idle : may_ask old ≡ false → (new ≡ old) × (taken ≡ [])
 
+-- of a client of which these were taken no line is to be taken still: it may not ask, or none is left
+abbrev pub NoneWaits : ClientParts → (taken : List Item) → Type 0
+NoneWaits client taken = (may_ask client ≡ false) ⊎ NoneLeft taken client.input
+
 -- ---- one line
 
--- a line stood at the front of these bytes, and became an item behind others
+-- a line stood at the front of these bytes, and became an item behind others, which holds up what is behind it
 pub record TakesLine (terms : Terms) (origin : Origin) (bytes rest : List ℕ) (before after : List Item) : Type 0 where
   pub line : List ℕ
   pub item : Item
   pub cut : IsCut bytes line rest
   pub after_is : after ≡ before ++ item ∷ []
   pub its : IsItemOf terms origin line item
+  pub held : holds_up item.work ≡ true
 
 -- the same, and the item holds nothing up
 pub record TakesFree (terms : Terms) (origin : Origin) (bytes rest : List ℕ) (before after : List Item) : Type 0 where
@@ -171,7 +189,7 @@ abbrev pub TakesOne : (terms : Terms) → Origin → (bytes : List ℕ) → (bef
 TakesOne terms origin bytes before after (takens.More rest) = TakesFree terms origin bytes rest.now before after
 TakesOne terms origin bytes before after (takens.Last rest) = TakesLine terms origin bytes rest.now before after
 TakesOne terms origin bytes before after takens.TooLong = (after ≡ before) × IsLong bytes
-TakesOne terms origin bytes before after takens.Nothing = after ≡ before
+TakesOne terms origin bytes before after takens.Nothing = (after ≡ before) × (lacks 10 bytes ≡ true)
 
 -- ---- the lines of all clients
 
@@ -193,12 +211,23 @@ abbrev pub HearsAt : Terms → (key : ℕ) → (old new : Option ClientParts) �
 HearsAt terms key None new taken = (new ≡ None) × (taken ≡ [])
 HearsAt terms key (Some old) new taken = IsSomeAnd new (λ now. HearsClient terms key old now taken)
 
+-- of the client at a key no line is to be taken still, if one is there
+abbrev pub NoneWaitsAt : Option ClientParts → (taken : List Item) → Type 0
+NoneWaitsAt None taken = ⊤
+NoneWaitsAt (Some client) taken = NoneWaits client taken
+
+-- whether each of these items is for a client
+abbrev pub are_clients : List Item → Bool
+are_clients items = list_all (λ item. not (is_nobody item.origin)) items
+
 -- what all clients wrote was looked at, each for itself: the items that came of it are behind those that were there, and of them those of
--- each client are what is to be done for its lines
+-- each client are what is to be done for its lines, and there are no others; where the group isn't full, no line is to be taken still
 pub record HearsAll (terms : Terms) (old new : Slab ClientParts) (before after : List Item) : Type 0 where
   pub taken : List Item
   pub after_is : after ≡ before ++ taken
   pub each : (key : ℕ) → HearsAt terms key (get old key) (get new key) (items_at key taken)
+  pub theirs : are_clients taken ≡ true
+  pub enough : length after < MOST_ITEMS → (key : ℕ) → NoneWaitsAt (get new key) (items_at key taken)
 
 -- the same of the clients at keys from one on and before another; the others are as they were
 pub record HearsRange (terms : Terms) (from to : ℕ) (old new : Slab ClientParts) (before after : List Item) : Type 0 where
@@ -206,3 +235,5 @@ pub record HearsRange (terms : Terms) (from to : ℕ) (old new : Slab ClientPart
   pub after_is : after ≡ before ++ taken
   pub inside : (key : ℕ) → from ≤ key → key < to → HearsAt terms key (get old key) (get new key) (items_at key taken)
   pub outside : (key : ℕ) → (key < from) ⊎ (to ≤ key) → (get new key ≡ get old key) × (items_at key taken ≡ [])
+  pub theirs : are_clients taken ≡ true
+  pub enough : length after < MOST_ITEMS → (key : ℕ) → from ≤ key → key < to → NoneWaitsAt (get new key) (items_at key taken)

@@ -1,10 +1,13 @@
 //! A client, without the stream at which it is: bytes come in, lines are taken, and answers go out.
 
-ghost use Rattle.std.specs.Prelude.{◌≡◌, ◌≤◌, ◌++◌, ◌&&◌, ◌||◌, ◌==◌, List, [], length, drop, not, nat_le, true, false, OnOk, OnErr};
+ghost use Rattle.std.specs.Prelude.{◌≡◌, ◌⊎◌, ◌≤◌, ◌<◌, ◌++◌, ◌&&◌, ◌||◌, ◌==◌, List, [], length, drop, not, nat_le, true, false};
+ghost use Rattle.std.specs.Prelude.{OnOk, OnErr};
+ghost use Rattle.xid.specs.Text.{lacks};
 ghost use Rattle.serving.specs.Clients.{after_standing, begun_by, is_begun, is_last_word, once_asked, IsOver, IsSlow, IsWaiting};
+ghost use Rattle.serving.specs.Clients.{WaitsForNone};
 ghost use Rattle.serving.specs.Groups.{reply_line};
 ghost use Rattle.serving.specs.Clients.{fresh_client, is_awaiting, is_proving, may_ask, told_so_far, with_told};
-ghost use Rattle.serving.specs.Taking.{HearsClient, TakesLines, TakesProof};
+ghost use Rattle.serving.specs.Taking.{HearsClient, NoneLeft, NoneWaits, TakesLines, TakesProof};
 ghost use Rattle.serving.specs.declared.group.Item.{Item as ItemParts};
 
 use crate::group::{Item, Origin};
@@ -13,7 +16,7 @@ use crate::proving::is_proof;
 use crate::queue::is_by;
 use crate::replies::put_reply;
 use crate::stage::Stage;
-use crate::taking::take_front;
+use crate::taking::{MOST_ITEMS, take_front};
 use crate::terms::Terms;
 use protocol::{Answer, Request, Standing};
 use std::alloc::{AllocError, Global};
@@ -128,7 +131,8 @@ impl Client {
 
     /// Whether a line of it is waiting to be looked at, and would be.
     pub fn is_waiting(&self) -> bool
-        ensures { result ≡ true → IsWaiting self.now }
+        ensures some { result ≡ true → IsWaiting self.now }
+        ensures none { result ≡ false → WaitsForNone self.now }
     {
         self.may_ask() && matches!(front_of(&self.input), Front::Line(..))
     }
@@ -231,6 +235,8 @@ impl Client {
     /// Takes its proof, where that is due and came.
     fn take_proof(&mut self, terms: &Terms) -> Result<(), AllocError>
         ensures ok { OnOk result (TakesProof terms.now self.old self.new) }
+        ensures due { OnOk result (is_proving self.new.stage ≡ true
+            → (self.new.is_broken ≡ true) ⊎ (lacks 10 self.new.input ≡ true)) }
         ensures untold { told_so_far self.new ≡ told_so_far self.old }
     {
         let Stage::Proving(challenge) = &self.stage else {
@@ -268,7 +274,7 @@ impl Client {
         now: Instant,
     ) -> Result<(), Refusal>
         ensures ok { OnOk result ((taken : List ItemParts) × (items.new.items ≡ items.old.items ++ taken)
-            × TakesLines terms.now key self.old self.new taken) }
+            × TakesLines terms.now key self.old self.new taken × (length items.new.items < MOST_ITEMS → NoneLeft taken self.new.input)) }
         ensures untold { told_so_far self.new ≡ told_so_far self.old }
     {
         let origin = Origin::Client {
@@ -295,7 +301,7 @@ impl Client {
         now: Instant,
     ) -> Result<(), Refusal>
         ensures ok { OnOk result ((taken : List ItemParts) × (items.new.items ≡ items.old.items ++ taken)
-            × HearsClient terms.now key self.old self.new taken) }
+            × HearsClient terms.now key self.old self.new taken × (length items.new.items < MOST_ITEMS → NoneWaits self.new taken)) }
         ensures untold { told_so_far self.new ≡ told_so_far self.old }
     {
         if self.input.is_empty() || !self.may_ask() {

@@ -116,6 +116,7 @@ impl Clients {
     fn tell(&mut self, origin: Origin, text: &[u8]) -> Result<(), AllocError>
         ensures ok { OnOk result (AreTold self.old.seats self.new.seats (record { origin = origin; text = text.now } ∷ [])) }
         ensures err { OnErr result (AreTold self.old.seats self.new.seats []) }
+        ensures count { self.new.count ≡ self.old.count }
     {
         let Origin::Client { key, number } = origin else {
             return Ok(());
@@ -137,6 +138,7 @@ impl Clients {
     ) -> Result<(), Refusal>
         ensures ok { OnOk result (HearsRange terms.now key (key + 1) self.old.seats self.new.seats items.old.items items.new.items) }
         ensures untold { AreUntold self.old.seats self.new.seats }
+        ensures count { self.new.count ≡ self.old.count }
     {
         match self.seats.get_mut(key) {
             Some(client) => client.take_lines(terms, promised, key, items, now),
@@ -157,6 +159,7 @@ impl Clients {
         requires { from ≤ to }
         ensures ok { OnOk result (HearsRange terms.now from to self.old.seats self.new.seats items.old.items items.new.items) }
         ensures untold { AreUntold self.old.seats self.new.seats }
+        ensures count { self.new.count ≡ self.old.count }
     {
         for key in from..to {
             self.take_at(terms, promised, key, items, now)?;
@@ -175,6 +178,7 @@ impl Clients {
     ) -> Result<(), Refusal>
         ensures ok { OnOk result (HearsAll terms.now self.old.seats self.new.seats items.old.items items.new.items) }
         ensures untold { AreUntold self.old.seats self.new.seats }
+        ensures count { self.new.count ≡ self.old.count }
     {
         let places = self.seats.capacity();
         let first = within(self.first, places);
@@ -195,6 +199,7 @@ impl Clients {
     ) -> Result<(), Refusal>
         ensures ok { OnOk result (AreTold self.old.seats self.new.seats (answers_to items.now replies.now said.now)) }
         ensures err { OnErr result (AreToldSome self.old.seats self.new.seats (answers_to items.now replies.now said.now)) }
+        ensures count { self.new.count ≡ self.old.count }
     {
         let mut text = Vec::new(self.alloc);
         let mut given = replies;

@@ -1,9 +1,9 @@
 //! How the lines that a client wrote come into a group.
 
-ghost use Rattle.std.specs.Prelude.{◌≡◌, ◌++◌, false, true, List, IfOk, MatchOption};
+ghost use Rattle.std.specs.Prelude.{◌≡◌, ◌<◌, ◌++◌, false, true, List, length, IfOk, MatchOption};
 ghost use Rattle.serving.specs.declared.group.Item.{Item as ItemParts};
 ghost use Rattle.serving.specs.Fronts.{IsLong};
-ghost use Rattle.serving.specs.Taking.{holds_up, is_refused, IsWorkFor, IsWorkOf, TakesFront, TakesOne};
+ghost use Rattle.serving.specs.Taking.{holds_up, is_refused, IsWorkFor, IsWorkOf, NoneLeft, TakesFront, TakesOne};
 
 use crate::group::{Item, Origin, Work};
 use crate::lines::{Front, front_of};
@@ -139,7 +139,8 @@ pub(crate) fn take_front<'a>(
     bytes: &'a [u8],
 ) -> Result<Left<'a>, Refusal>
     ensures front { IfOk result (λ left. (taken : List ItemParts) × (items.new.items ≡ items.old.items ++ taken)
-        × TakesFront terms.now origin bytes.now left.rest.now taken) }
+        × TakesFront terms.now origin bytes.now left.rest.now taken
+        × (length items.new.items < MOST_ITEMS → NoneLeft taken left.rest.now)) }
     ensures long { IfOk result (λ left. left.is_too_long ≡ true → IsLong left.rest.now) }
 {
     let mut left = Left {

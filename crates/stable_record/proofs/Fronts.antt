@@ -5,7 +5,7 @@ use Rattle.std.specs.Prelude.{Result, Ok, Err}
 use Rattle.std.proofs.lemmas.List.{drop_at}
 use Rattle.stable_record.specs.declared.record.RecordError.{RecordError}
 use Rattle.stable_record.specs.declared.record.RecordError.TheVariants.{Fault, Memory}
-use Rattle.stable_record.specs.Held.{Held, Nature, HasRead, HasAdded, HasPut, HasFailed, with_bytes}
+use Rattle.stable_record.specs.Held.{Held, Nature, HasPut, HasFailed, with_bytes}
 use Rattle.stable_record.specs.Behind.{behind, BeginsWith}
 
 -- the nature of what is held behind a front
@@ -36,11 +36,6 @@ module _ (front : List ℕ) (old new : Held) where
       by (inl same) = inl (ap (drop (length front)) same)
       by (inr same) = inr (ap (drop (length front)) same ∙ e)
 
-  pub read_refused : (T S : Type 0) (error : RecordError) → HasRead {T = T} old new (Err error)
-      → HasRead {T = S} (behind front old) (behind front new) (Err error)
-  read_refused T S Fault h = failed_behind old.bytes (drop (length front) old.bytes) refl h
-  read_refused T S Memory h = ap (behind front) h
-
   -- the bytes behind the front, where they begin with it
   pub rest_is : (begins : BeginsWith front old.bytes) → drop (length front) old.bytes ≡ begins.rest
   rest_is begins = ap (drop (length front)) begins.same ∙ drop_at front begins.rest (length front) refl
@@ -53,36 +48,11 @@ module _ (front : List ℕ) (old new : Held) where
       ap (drop (length front)) whole ∙ drop_at front (begins.rest ++ text) (length front) refl
       ∙ ap (λ (xs : List ℕ). xs ++ text) (sym (rest_is begins))
 
-  pub append_behind : (text : List ℕ) (result : Result (Unit {0}) RecordError) → BeginsWith front old.bytes → HasAdded text old new result
-      → HasAdded text (behind front old) (behind front new) result
-  append_behind text (Ok done) begins h = record {
-    bytes = added_bytes text begins h.bytes;
-    kept = h.kept;
-    faults = h.faults;
-    unarmed = h.unarmed;
-    armed = h.armed;
-    nature = ap (nature_behind front) h.nature;
-  }
-  append_behind text (Err Fault) begins h = record {
-    at = h.at;
-    bytes = added_bytes (take new.kept text) begins h.bytes;
-    counted = h.counted;
-    armed = h.armed;
-    nature = ap (nature_behind front) h.nature;
-  }
-  append_behind text (Err Memory) begins h = ap (behind front) h
-
   longer : (text : List ℕ) → BeginsWith front old.bytes → new.bytes ≡ old.bytes ++ text → BeginsWith front new.bytes
   longer text begins e = record {
     rest = begins.rest ++ text;
     same = e ∙ ap (λ (xs : List ℕ). xs ++ text) begins.same ∙ append_assoc front begins.rest text;
   }
-
-  pub append_begins : (text : List ℕ) (result : Result (Unit {0}) RecordError) → BeginsWith front old.bytes → HasAdded text old new result
-      → BeginsWith front new.bytes
-  append_begins text (Ok done) begins h = longer text begins h.bytes
-  append_begins text (Err Fault) begins h = longer (take new.kept text) begins h.bytes
-  append_begins text (Err Memory) begins h = subst (λ (r : Held). BeginsWith front r.bytes) (sym h) begins
 
   pub put_behind : (next : List ℕ) (result : Result (Unit {0}) RecordError) → HasPut (front ++ next) old new result
       → HasPut next (behind front old) (behind front new) result

@@ -114,7 +114,7 @@ fn parted(kind: FactKind) -> (Tx, FactRest)
     }
 }
 
-/// A fact of any kind over the bytes of its transaction, which stand elsewhere: as it is read to be played, or written.
+/// A fact of any kind over the bytes of its transaction, which stand elsewhere: as it is decided, written, and read to be played.
 #[derive(Debug, Drop)]
 pub struct FactView<'a> {
     tx: SpelledTx<'a>,

@@ -15,7 +15,8 @@ module _ (p : TxParts → Bool) where
   pub any_passing : (tx : TxParts) → p tx ≡ true → (seen : List TxParts) → list_any (tx_eq tx) (filter p seen) ≡ list_any (tx_eq tx) seen
   any_passing tx passes [] = refl
   any_passing tx passes (x ∷ xs) =
-      cond_both (p x) (x ∷ filter p xs) (filter p xs) (λ (ys : List TxParts). list_any (tx_eq tx) ys ≡ (tx_eq tx x || list_any (tx_eq tx) xs))
+      cond_both (p x) (x ∷ filter p xs) (filter p xs)
+      (λ (ys : List TxParts). list_any (tx_eq tx) ys ≡ (tx_eq tx x || list_any (tx_eq tx) xs))
       (λ kept. ap (λ (b : Bool). tx_eq tx x || b) (any_passing tx passes xs))
       (λ dropped. any_passing tx passes xs ∙ sym (ap (λ (b : Bool). b || list_any (tx_eq tx) xs) (other (tx_eq tx x) refl dropped)))
     where

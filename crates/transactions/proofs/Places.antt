@@ -1,7 +1,6 @@
 -- Transactions by their places, in an order of their own.
 use Rattle.std.proofs.Common.{◌≡◌, ◌∙◌, ℕ, zero, suc, ◌<◌, ◌≤◌, Bool, true, false, ◌||◌, ◌==◌, List, [], ◌∷◌, ◌++◌, length, get_or}
-use Rattle.std.proofs.Common.{slice_get}
-use Rattle.std.proofs.Common.{Some, None, refl, sym, ap, subst, arith}
+use Rattle.std.proofs.Common.{refl, sym, ap, subst, arith}
 use Rattle.std.specs.Prelude.{if◌then◌else◌, nat_eq, Result, Ok, Err, OnOk, OnErr}
 use Rattle.std.specs.Bool.{one_answer}
 use Rattle.std.specs.List.{AllByRecursion, IsDistinct, list_any}
@@ -90,27 +89,6 @@ inside_more n place (first ∷ places) false each less = (each.0, inside_more n 
 
 pub inside_with : (n place : ℕ) (places : List ℕ) → AreInside n places → place < n → AreInside n (numbered_with places place)
 inside_with n place places each less = inside_more n place places (list_any (λ m. place == m) places) each less
-
--- ---- one of those that begin
-
-there_is : (ts : List TxParts) (n : ℕ) → n < length ts → slice_get ts n ≡ Some (get_or ts n no_transaction)
-there_is [] n less = absurd (omega (arith, less))
-there_is (tx ∷ ts) zero less = refl
-there_is (tx ∷ ts) (suc n) less = there_is ts n (omega (arith, less))
-
-some_place : (a b : ℕ) → Some a ≡ Some b → a ≡ b
-some_place a b e = cc
-
-pub begun_got : (ts : List TxParts) (places : List ℕ) (i place : ℕ) → AreInside (length ts) places → Some place ≡ slice_get places i
-    → slice_get ts place ≡ slice_get (at_places ts places) i
-begun_got ts [] i place each e = absurd (cc)
-begun_got ts (n ∷ places) zero place each e = ap (slice_get ts) (some_place place n e) ∙ there_is ts n each.0
-begun_got ts (n ∷ places) (suc i) place each e = begun_got ts places i place each.1 e
-
-pub begun_none : (ts : List TxParts) (places : List ℕ) (i : ℕ) → None ≡ slice_get places i → None ≡ slice_get (at_places ts places) i
-begun_none ts [] i e = refl
-begun_none ts (n ∷ places) zero e = absurd (cc)
-begun_none ts (n ∷ places) (suc i) e = begun_none ts places i e
 
 -- what holds of all holds of those at places
 pub at_places_valid : (ts : List TxParts) (places : List ℕ) → AreInside (length ts) places → AllByRecursion IsTx ts

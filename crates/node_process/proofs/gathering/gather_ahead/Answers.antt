@@ -11,5 +11,6 @@ returns-clause-ahead g c = record {
   all = c.in_ok-take_pending.ensures.all;
   asked = c.take_due.new.items.items;
   due = c.in_ok-take_due.ensures.due;
-  messages = c.in_ok-desk.ensures.ok;
+  messages = c.in_ok-desk.ensures.ok.0;
+  emptied = c.in_ok-desk.ensures.ok.1;
 }

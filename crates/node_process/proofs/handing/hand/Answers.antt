@@ -1,5 +1,4 @@
 use Rattle.std.proofs.Common.{◌≡◌, ◌++◌, ◌∙◌, List, length, map, take, drop, ap, sym, subst, inr, Ok, Err, arith}
-use Rattle.node_core.specs.declared.output.Input.{Input}
 use Rattle.node_core.specs.declared.output.Output.{Output}
 use Rattle.port.specs.Members.{TakesAll, item_of}
 use Rattle.port.specs.Members.{Item as MemberItem}

@@ -1,4 +1,4 @@
-use Rattle.std.proofs.Common.{◌∙◌, List, ℕ, Bor, Vec, ap, map, subst, inl, inr}
+use Rattle.std.proofs.Common.{◌∙◌, List, ℕ, Bor, Vec, refl, ap, map, subst, inl, inr}
 use Rattle.std.specs.declared.alloc.Global.{Global}
 use Rattle.protocol.specs.declared.answers.Answer.{Answer}
 use Rattle.node_core.specs.declared.output.Output.{Output}
@@ -23,9 +23,11 @@ returns-clause-answers g c =
           (subst (λ (replies : List (Bor Answer)). AreTold before after (answers_to items replies c.deref-4.result.now))
           c.deref-3.ensures.value c.in_ok-tell_all.ensures.ok);
       until = c.awaited_until.result;
+      long = c.awaited_until.ensures;
       begins = c.in_ok-begin_awaits.ensures.ok;
       branches = subst (λ (outs : List Output). NotesAll c.args.now items outs c.args.self.now.desk.notes.branches
           c.note_all.new.self.branches) c.deref.ensures.value c.in_ok-note_all.ensures;
+      terms = refl;
     }
 
 pub returns-in_err-tell_all-clause-ends : goal.returns-in_err-tell_all-clause-ends

@@ -17,6 +17,7 @@ returns-then-is_nothing-clause-works g c =
     let none : c.in_ok-items.items.items ≡ [] = sym c.deref.ensures.value ∙ c.is_nothing.ensures.none c.if-is_nothing.true in
     works_none g.P.Port.received g.P.Port.sent c.args.now old.desk c.gather.new.desk old.node c.gather.new.node old.port c.gather.new.port
     c.in_ok-items.items.items c.gather.ensures.asks c.in_ok-items.ensures.gathered none c.in_ok-items.ensures.branches
+    c.in_ok-items.ensures.terms
 
 pub returns-in_err-items-clause-ends : goal.returns-in_err-items-clause-ends
 returns-in_err-items-clause-ends g c =

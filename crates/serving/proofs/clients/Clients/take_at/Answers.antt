@@ -3,7 +3,7 @@ use Rattle.std.proofs.lemmas.Result.{on_ok_weaker}
 use Rattle.slab.specs.Slab.{Slab, get, with_value}
 use Rattle.slab.proofs.SlabLemmas.{Updates-with_value}
 use Rattle.serving.specs.Clients.{ClientParts}
-use Rattle.serving.proofs.RangeLemmas.{range_one}
+use Rattle.serving.proofs.RangeLemmas.{range_empty, range_one}
 use Rattle.serving.proofs.UntoldLemmas.{untold_none, untold_one}
 use Rattle.serving.proofs.clients.Clients.take_at.Goals as goal
 
@@ -28,3 +28,7 @@ returns-in-Some-clause-untold c =
 
 pub returns-in-None-clause-untold : goal.returns-in-None-clause-untold
 returns-in-None-clause-untold c = untold_none c.args.self.now.seats
+
+pub returns-in-None-clause-ok : goal.returns-in-None-clause-ok
+returns-in-None-clause-ok c = range_empty c.args.terms.now c.args.key c.args.self.now.seats c.args.items.now.items
+    (sym c.in-None.ensures.value)

@@ -1,4 +1,4 @@
-use Rattle.std.proofs.Common.{◌≡◌, ◌+◌, ℕ, subst, arith}
+use Rattle.std.proofs.Common.{◌≡◌, ◌∙◌, ◌+◌, ℕ, refl, subst, arith}
 use Rattle.serving.specs.Taking.{HearsRange}
 use Rattle.serving.proofs.RangeLemmas.{range_join, range_none}
 use Rattle.serving.proofs.UntoldLemmas.{untold_both, untold_none}
@@ -8,6 +8,7 @@ pub loop-key-init : goal.loop-key-init
 loop-key-init c = record {
   heard = range_none c.args.terms.now c.args.from c.args.self.now.seats c.args.items.now.items;
   untold = untold_none c.args.self.now.seats;
+  count = refl;
 }
 
 pub loop-key-preserved : goal.loop-key-preserved
@@ -17,6 +18,7 @@ loop-key-preserved c = record {
       c.loop-key.invariant.heard c.in_ok-take_at.ensures.ok;
   untold = untold_both c.args.self.now.seats c.loop-key.self.seats c.take_at.new.self.seats c.loop-key.invariant.untold
       c.take_at.ensures.untold;
+  count = c.take_at.ensures.count ∙ c.loop-key.invariant.count;
 }
 
 pub returns-in_err-take_at-clause-untold : goal.returns-in_err-take_at-clause-untold

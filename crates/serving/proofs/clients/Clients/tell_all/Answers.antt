@@ -1,10 +1,10 @@
-use Rattle.std.proofs.Common.{◌≡◌, ◌++◌, ◌∷◌, [], List, drop, slice_get, refl, sym, subst, arith}
+use Rattle.std.proofs.Common.{◌≡◌, ◌∙◌, ◌++◌, ◌∷◌, [], List, drop, slice_get, refl, sym, subst, arith}
 use Rattle.serving.specs.Groups.{answer_text, answers_to, AreTold, Told}
 use Rattle.serving.proofs.TellLemmas.{answer_written, on_err_all, told_all, told_both, told_next, told_no_more, told_none}
 use Rattle.serving.proofs.clients.Clients.tell_all.Goals as goal
 
 pub loop-item-init : goal.loop-item-init
-loop-item-init c = record { told = []; tells = told_none c.args.self.now.seats; whole = refl }
+loop-item-init c = record { told = []; tells = told_none c.args.self.now.seats; count = refl; whole = refl }
 
 pub loop-item-preserved : goal.loop-item-preserved
 loop-item-preserved c =
@@ -18,6 +18,7 @@ loop-item-preserved c =
       told = told ++ record { origin = item.origin; text = c.deref.result.now } ∷ [];
       tells = told_both c.args.self.now.seats c.loop-item.self.seats c.tell.new.self.seats told
           (record { origin = item.origin; text = c.deref.result.now } ∷ []) c.loop-item.invariant.tells c.in_ok-tell.ensures.ok;
+      count = c.tell.ensures.count ∙ c.loop-item.invariant.count;
       whole = told_next c.args.items.now c.loop-item.item-index item given c.after_one-given.result.now spoken
           c.after_one-spoken.result.now c.is_handed.result c.is_said.result c.deref.result.now
           (answers_to c.args.items.now c.args.replies.now c.args.said.now) told (omega arith) c.item-item.is text_is c.is_handed.ensures

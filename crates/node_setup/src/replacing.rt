@@ -1,9 +1,11 @@
 //! A blank record for a node that stands in for a lost one.
 
 use crate::command::{Options, Replacement};
-use crate::failure::Failure;
-use crate::life::clock;
-use crate::setup::{Setup, claim, folder_fault, is_claimed, is_there, open_record, owned, todo_of};
+use crate::failure::{Failure, folder_fault, owned};
+use crate::owners::{claim, is_claimed};
+use crate::records::{is_there, open_record, todo_of};
+use crate::setup::Setup;
+use crate::timing::clock;
 use floored::Floored;
 use net_script::{Command, put_floor, read_command};
 use protocol::{Event, NodeId};
@@ -14,8 +16,8 @@ use std::fs;
 use std::io::{self, ErrorKind};
 use xid::{Floor, Refusal};
 
-/// A place in the order of names, as it is written.
-pub(crate) fn place_text(alloc: Global, floor: &Floor) -> Result<String, Failure> {
+/// A place in the order of names, as it is written. Refused: memory ran out.
+pub fn place_text(alloc: Global, floor: &Floor) -> Result<String, Failure> {
     let mut words = Vec::new(alloc);
     put_floor(&mut words, floor)?;
     let mut text = String::new(alloc);
@@ -120,20 +122,19 @@ fn make_whole(rt: HostRuntime, setup: &Setup, path: &str, floor: &Floor) -> Resu
     }
 }
 
-/// A blank record is made, of an acceptor or a leader that stands in for a lost one and takes part from a place on in the order of names.
-/// Refused, and nothing is made: a resource manager; a record that is there; names that stand in no time, where the place is to follow the
-/// clock.
-pub(crate) fn replace(
+/// A blank record is made, of an acceptor or a leader that stands in for a lost one and takes part from a place on in the order of names;
+/// the answer is that place. Refused, and nothing is made: a resource manager; a place that is none; names that stand in no time, where the
+/// place is to follow the clock; a record that is there; a folder with another's. Refused too: the folder can't be used, or memory ran out.
+pub fn replace(
     rt: HostRuntime,
     setup: &Setup,
     options: Options,
     path: &str,
     replacement: Replacement,
-) -> Result<(), Failure> {
-    let name = options.name;
+) -> Result<Floor, Failure> {
     if let NodeId::R(_) = setup.who {
         return Err(Failure::IsManager {
-            name: owned(rt.alloc(), name)?,
+            name: owned(rt.alloc(), options.name)?,
         });
     }
     let floor = place_wanted(rt, setup, options, replacement)?;
@@ -142,9 +143,5 @@ pub(crate) fn replace(
         claim(rt, setup, options)?;
     }
     make_whole(rt, setup, path, &floor)?;
-    let place = place_text(rt.alloc(), &floor)?;
-    println!(rt;
-        "pcommit_node {name}: a blank record, which takes part from {place} on: start it now"
-    )?;
-    Ok(())
+    Ok(floor)
 }

@@ -1,9 +1,8 @@
 //! A node's record in both versions. A node builds the entries of version 1, and sees those of version 2 over their frames.
 
-use crate::nodes::Place;
 use crate::page::{Page, frames_in};
+use crate::places::Place;
 use crate::stop::Stop;
-use crate::ways;
 use floored::Floored;
 use stable_record::MemRecord;
 use std::alloc::Global;
@@ -153,5 +152,5 @@ pub fn agree(place: &Place, alloc: Global, bytes: &[u8], page: &mut Page) -> Res
     say(place, alloc, &in_first_version(alloc, bytes)?, &mut first)?;
     let mut second = Page::new(alloc)?;
     say(place, alloc, bytes, &mut second)?;
-    ways::agree(&first, &second, page)
+    page.compare(&first, &second)
 }

@@ -1,6 +1,6 @@
 use Rattle.std.proofs.Common.{◌≡◌, map, take}
 use Rattle.cluster_file.specs.declared.cluster.Place.{Place}
-use Rattle.pcommit_node.proofs.node_places.Given as goal
+use Rattle.node_setup.proofs.setup.node_places.Given as goal
 
 -- where the nodes so far are found
 abbrev pub invariant-loop-place : goal.invariant-loop-place

@@ -241,6 +241,23 @@ impl Page {
         self.finished(played)
     }
 
+    /// Where two ways print different things, a line that is never right, and both.
+    pub fn compare(&mut self, first: &Page, second: &Page) -> Result<(), Stop> {
+        if first.text == second.text {
+            return Ok(());
+        }
+        self.bytes(b"the two ways differ:\n")?;
+        self.bytes(&first.text)?;
+        self.bytes(b"and\n")?;
+        self.bytes(&second.text)
+    }
+
+    /// A line for what opening a node was refused with.
+    pub fn not_opened(&mut self, refusal: Refusal) -> Result<(), Stop> {
+        self.bytes(b"open ->")?;
+        self.finished(Err(refusal))
+    }
+
     /// The frames of a shorter record, a line for each.
     pub fn frames(&mut self, bytes: &[u8]) -> Result<(), Stop> {
         let frames = frames_in(self.alloc, bytes)?;

@@ -1,3 +1,5 @@
+//! The command line, read by clap.
+
 use crate::failure::Failure;
 use clap::error::ErrorKind;
 use clap::{Arg, ArgAction, ArgMatches, Command};
@@ -7,7 +9,7 @@ use std::convert::AsStr;
 
 /// From which place on in the order of names a blank node takes part that stands in for a lost one.
 #[derive(Clone, Copy, Debug)]
-pub(crate) enum Replacement<'a> {
+pub enum Replacement<'a> {
     /// From this one on, FORMAT:GTRID.
     From(&'a str),
     /// From the first one on that is too far ahead of the clock to be begun now.
@@ -16,17 +18,17 @@ pub(crate) enum Replacement<'a> {
 
 /// What the command line says.
 #[derive(Clone, Copy, Debug)]
-pub(crate) struct Options<'a> {
+pub struct Options<'a> {
     /// The path of the cluster's file.
     pub(crate) file: &'a str,
     /// The name of the node.
-    pub(crate) name: &'a str,
+    pub name: &'a str,
     /// The folder of its record.
     pub(crate) folder: &'a str,
     /// What is logged.
-    pub(crate) level: LevelFilter,
+    pub level: LevelFilter,
     /// Where a blank record is to begin that stands in for a lost one, if it is to be made.
-    pub(crate) replacement: Option<Replacement<'a>>,
+    pub replacement: Option<Replacement<'a>>,
 }
 
 /// A position that must be given.
@@ -71,11 +73,8 @@ fn replacement_of<'a>(matches: &ArgMatches<'a>) -> Result<Option<Replacement<'a>
     }
 }
 
-/// Reads a command line, the program's own name first.
-pub(crate) fn read_options<'a, S: AsStr>(
-    alloc: Global,
-    words: &'a [S],
-) -> Result<Options<'a>, Failure> {
+/// Reads a command line, the program's own name first. Refused: it is none of the program's, or memory ran out.
+pub fn read_options<'a, S: AsStr>(alloc: Global, words: &'a [S]) -> Result<Options<'a>, Failure> {
     let matches = match program_command(alloc)?.try_get_matches_from(words) {
         Ok(matches) => matches,
         Err(error) => {
