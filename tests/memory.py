@@ -19,7 +19,7 @@ program = os.path.realpath(sys.argv[1] if len(sys.argv) > 1 else "bin/pcommit")
 scratch = tempfile.TemporaryDirectory()
 library = os.path.join(scratch.name, "refuse.so")
 ROWS = ["first_branch", "plain_commit", "takeover_before_vote_late", "takeover_before_vote_early", "bundled_commit", "bundled_takeover",
-        "ballots_after_restart", "limits", "compacted", "floors_cross", "replaced_acceptor"]
+        "ballots_after_restart", "limits", "compacted", "floors_cross", "floors_told", "bundled_floors", "replaced_acceptor"]
 # a transaction that is in no row, and a branch
 OTHER, STRANGER = "9:77/{}=77", "9:78:78"
 # what may come of a refusal: 11 as a whole, or an answer 11 by a node that goes on or is down, or in what follows the row; or nothing
@@ -65,8 +65,8 @@ def each_refused(word, path):
 # ---- what a trace says of its nodes
 
 class Row:
-    """A golden run, event by event, and what follows it here: all nodes are restarted, once more where a tear may be left over, and each
-    transaction is ended."""
+    """A golden run, event by event, and what follows it here: all nodes are restarted, once more where a tear may be left over, what was
+    told of floors is heard again, and each transaction is ended."""
 
     def __init__(self, trace):
         lines = trace.splitlines()
@@ -76,8 +76,10 @@ class Row:
         self.events = [line.split(" -> ")[0] for line in self.lines if " -> " in line]
         counts = map(int, re.match(r"cluster acceptors (\d+) leaders (\d+) rms (\d+)", lines[0]).groups())
         self.nodes = [f"{kind}{number}" for kind, count in zip("alr", counts) for number in range(count)]
+        self.replaced = {line.split()[1] for line in self.events if line.startswith("replace ")}
         self.transactions = sorted({line.split()[2] for line in self.events if line.split()[0] in ("commit", "timeout")})
         again = [f"restart {node}" for node in self.nodes]
+        again += [f"hear {line.split()[1]}" for line in self.lines if line.startswith("told ")]
         again += [line for tx in self.transactions for line in (f"timeout l0 {tx}", "flow 1000")]
         self.serves = [f"start {node} {STRANGER}" for node in self.nodes if node[0] == "r"]
         self.ends = [f"status l0 {tx}" for tx in self.transactions]
@@ -136,12 +138,12 @@ def shifted(line, above, by):
 
 def taken_down(row, at):
     """Events that take the node of an event down, if it is up, and store and send nothing of the row's, and how many datagrams they send;
-    None where no leader is up to begin them."""
+    None where it reaches no node, or no leader is up to begin them: one that is replaced may have stored nothing."""
     node, down, tears, count = row.before(at)
-    leader = next((other for other in row.nodes if other[0] == "l" and other not in down), None)
+    leader = next((other for other in row.nodes if other[0] == "l" and other not in down | row.replaced), None)
     if node in down:
         return [], 0
-    if leader is None:
+    if node is None or leader is None:
         return None
     armed, again = [f"tear {node} 0"], [f"tear {node} {tears[node]}"] if node in tears else []
     if node[0] == "l":

@@ -365,7 +365,7 @@ def run(tests, program, count, **words):
         for test in tests:
             if not test(own):
                 failed += 1
-                print('floors: FAILED %s: floors %s, records %s' % (test.__name__.refloor_at('_', ' '), own.floors(), own.sizes()))
+                print('floors: FAILED %s: floors %s, records %s' % (test.__name__.replace('_', ' '), own.floors(), own.sizes()))
         own.client.close()
     shutil.rmtree(folder)
     return failed

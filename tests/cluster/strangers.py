@@ -1,9 +1,14 @@
 #!/usr/bin/env python3
-"""Strangers send 100,000 datagrams that no node takes, and connect as clients that aren't any; the bank goes on, alone at nine tenths of its rate,
-and no record holds anything of theirs: strangers.py PROGRAM [DATAGRAMS [SEED]]. The datagrams: bytes of chance; messages without a
-signature; of a cluster with another key; of another cluster with the same key; of this one, to another node than the one they were made
-for; of this one with a bit changed."""
+"""Strangers send 100,000 datagrams that no node takes, and connect as clients that aren't any; the bank goes on, alone at nine tenths of
+its rate, and no record holds anything of theirs: strangers.py PROGRAM [DATAGRAMS [SEED]]. RATE in the environment says how many they send
+a second, where it isn't to be 3,000. With `full` in place of DATAGRAMS three million go as fast as a process can send them: the bank goes
+on as far as they let it, and all else is the same. The datagrams: bytes of chance; letters without a signature; of a cluster with another
+key; of another cluster with the same key; of this one, to another node than the one they were made for; of this one with a bit changed; of
+this one, cut."""
+import collections
+import math
 import multiprocessing
+import os
 import random
 import shutil
 import socket
@@ -17,11 +22,22 @@ from pcommit_client import Cluster, Connection
 from processes import ZEROS, Processes
 
 MARK = b'stranger'
+# what is sent: so many, so many a second, for so many seconds and then as long not, and the part of its rate that the bank keeps
+Flood = collections.namedtuple('Flood', 'count rate span least')
 # alone, as in the soak, the bank keeps nine tenths of its rate; beside other tests, which take processors too, it has to go on
 LEAST_ALONE, LEAST_BESIDE, ALONE = 0.9, 0.3, 1000000
 EACH_SECOND = 3000
 # with and without them by turns so short that what else the machine does falls on both
 SPAN = 0.3
+# at full speed nodes lose each other's letters too, and the turns are so long that those that are asked for again fall into the same one
+FULL = Flood(3000000, math.inf, 2.0, 0.05)
+
+
+def flood_of(count):
+    """What is sent, by a number of datagrams or the word `full`."""
+    if count == 'full':
+        return FULL
+    return Flood(int(count), float(os.environ.get('RATE', EACH_SECOND)), SPAN, LEAST_ALONE if int(count) >= ALONE else LEAST_BESIDE)
 
 
 def capture(program, **words):
@@ -62,14 +78,15 @@ def kinds_of(program, names):
         'of another cluster': [(to, data) for _who, to, data in capture(program, tables=other_tables)],
         'to another node': [(name, data) for _who, to, data in mine for name in names if name != to],
         'changed': [(to, changed(data, chance)) for _who, to, data in mine],
+        'cut': [(to, data[:chance.randrange(len(data))]) for _who, to, data in mine],
     }
 
 
-def send(places, kinds, count, seconds, seed, gate, told):
-    """Sends datagrams of all kinds by turns, while the gate is open, so many a second."""
+def send(places, kinds, flood, seed, gate, told):
+    """Sends datagrams of all kinds by turns, while the gate is open."""
     chance, end, sent = random.Random(seed), socket.socket(socket.AF_INET, socket.SOCK_DGRAM), 0
     kinds, begun, shut = list(kinds.values()), time.monotonic(), 0.0
-    while sent < count:
+    while sent < flood.count:
         if not gate.is_set():
             now = time.monotonic()
             gate.wait()
@@ -79,7 +96,7 @@ def send(places, kinds, count, seconds, seed, gate, told):
             end.sendto(data, places[name])
             sent += 1
         told.value = sent
-        ahead = sent * seconds / count - (time.monotonic() - begun - shut)
+        ahead = sent / flood.rate - (time.monotonic() - begun - shut)
         if ahead > 0:
             time.sleep(ahead)
 
@@ -137,14 +154,17 @@ def dropped(cluster):
     return sum(client.info(name)['dropped'] for name in cluster.names)
 
 
+def length(spans):
+    return sum(end - begin for begin, end in spans)
+
+
 def rate_of(bank, spans):
     """Committed transactions a second in all of some spans."""
-    return sum(bank.rate(begin, end) * (end - begin) for begin, end in spans) / sum(end - begin for begin, end in spans)
+    return sum(bank.rate(begin, end) * (end - begin) for begin, end in spans) / length(spans)
 
 
-def main(program, count=100000, seed=1):
-    count, seed, found = int(count), int(seed), {}
-    seconds = count / EACH_SECOND
+def main(program, count='100000', seed=1):
+    flood, seed, found = flood_of(count), int(seed), {}
 
     def begin(cluster, _folder):
         found['kinds'] = kinds_of(program, cluster.names)
@@ -152,7 +172,7 @@ def main(program, count=100000, seed=1):
     def drive(cluster, bank, _others):
         gate, stop = multiprocessing.Event(), multiprocessing.Event()
         sent, told = multiprocessing.Value('l', 0), multiprocessing.Value('l', 0)
-        args = (cluster.nodes, found['kinds'], count, seconds, seed, gate, sent)
+        args = (cluster.nodes, found['kinds'], flood, seed, gate, sent)
         senders = [multiprocessing.Process(target=send, args=args, daemon=True),
                    multiprocessing.Process(target=talk, args=(cluster, stop, gate, told), daemon=True)]
         for one in senders:
@@ -163,13 +183,14 @@ def main(program, count=100000, seed=1):
             for is_open in (False, True):
                 (gate.set if is_open else gate.clear)()
                 now = time.time()
-                senders[0].join(SPAN)
+                senders[0].join(flood.span)
                 spans[is_open].append((now, time.time()))
         stop.set()
         senders[1].join()
         marks = sum(MARK in cluster.record(name) for name in cluster.names)
         found.update(spans=spans, sent=sent.value, told=told.value, dropped=dropped(cluster), marks=marks)
-        return '%d datagrams sent, %d dropped; %d connections refused' % (found['sent'], found['dropped'], found['told'])
+        return '%d datagrams sent, %.0f a second, %d dropped; %d connections refused' % (
+            found['sent'], found['sent'] / length(spans[True]), found['dropped'], found['told'])
 
     bank = over('strangers', program, begin, drive, seed=seed)
     rates = {is_open: rate_of(bank, spans) for is_open, spans in found['spans'].items()}
@@ -178,9 +199,12 @@ def main(program, count=100000, seed=1):
     print('strangers: by chance alone the rates of two halves without them were %.0f and %.0f' % tuple(halves))
     print('strangers: %.0f transactions a second without them, %.0f with them (%.0f%%)' % (
         rates[False], rates[True], 100 * rates[True] / max(rates[False], 1e-9)))
-    finish('strangers', [('nothing is wrong', not bank.faults), ('all were sent', found['sent'] >= count),
-                         ('they were dropped', found['dropped'] >= 0.9 * count), ('clients were refused', found['told'] >= 20),
-                         ('the rate stays', rates[True] >= (LEAST_ALONE if count >= ALONE else LEAST_BESIDE) * rates[False]), ('no record has anything of theirs', not found['marks'])])
+    # at full speed sockets are full, and the kernel drops what nodes have no time for
+    least = 0.9 if flood.rate < math.inf else 0.1
+    finish('strangers', [('nothing is wrong', not bank.faults), ('all were sent', found['sent'] >= flood.count),
+                         ('they were dropped', found['dropped'] >= least * flood.count), ('clients were refused', found['told'] >= 20),
+                         ('the rate stays', rates[True] >= flood.least * rates[False]),
+                         ('no record has anything of theirs', not found['marks'])])
 
 
 if __name__ == '__main__':

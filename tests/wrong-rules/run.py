@@ -1,4 +1,8 @@
-"""Tries each wrong rule NAME.rule on a copy of crates/protocol/specs.
+#!/usr/bin/env python3
+"""Tries each wrong rule NAME.rule of this folder on a copy of crates/protocol/specs: run.py [NAME..]. JOBS: how many at once (2).
+
+run.py --check only looks whether each can be applied: that its files are there, each old text stands in them once, and what its runs use of
+the definitions is there. The gate does that.
 
 A rule has a line 'wrong:', what is wrong in a sentence; and edits: 'file:' a file of crates/protocol, then pairs of 'old:', a text that
 stands once in it, and 'new:'; several 'old:' or 'new:' lines are a text of several lines. Beside it NAME.run is a run that goes wrong:
@@ -34,6 +38,7 @@ HERE = os.path.dirname(os.path.realpath(__file__))
 ROOT = os.path.dirname(os.path.dirname(HERE))
 WORDS = ("RunWords", "BackWords", "FloorWords", "LawWords", "StuckWords", "VainWords", "SilentWords")
 DEFINITIONS = re.compile(r"Rattle\.(history|branch_table)\.specs\.(\w+)")
+USED = re.compile(r"^use Rattle\.(\w+)\.specs\.(?!declared\.)([\w.]+)\.\{(.*)\}$", re.MULTILINE)
 RT = os.environ.get("RT", "rt").split()
 JOBS = int(os.environ.get("JOBS", "2"))
 ERROR = re.compile(r"^(?:\./)?(\S+):(\d+):\d+: error: (.*)")
@@ -150,6 +155,48 @@ def parse_rule(name):
     return edits
 
 
+def apply(pairs, file, text):
+    """A file's text with the edits of a rule."""
+    for old, new in pairs:
+        if text.count(old) != 1:
+            raise BadRule(f"{file}: stands {text.count(old)} times: {old}")
+        text = text.replace(old, new)
+    return text
+
+
+def missing_words(text):
+    """What a run uses of the definitions of crates, and isn't there: of each crate of the repository the files, and the words in them."""
+    for crate, module, words in USED.findall(text):
+        path = f"{ROOT}/crates/{crate}/specs/{module.replace('.', '/')}.antt"
+        if not os.path.isdir(f"{ROOT}/crates/{crate}"):
+            continue
+        if not os.path.exists(path):
+            yield f"{crate} has no definitions {module}"
+            continue
+        there = set(re.findall(r"[^\s(){}.,;:]+", read(path)))
+        yield from (f"{crate}.specs.{module} has no {word}" for word in words.split(", ") if word.split(" as ")[0] not in there)
+
+
+def why_not(name):
+    """Why a rule can't be applied, if it can't."""
+    try:
+        for file, pairs in parse_rule(name).items():
+            apply(pairs, file, read(f"{ROOT}/crates/{file}"))
+    except (BadRule, OSError, IndexError, TypeError) as why:
+        return why
+    return next((word for text in runs_of(name).values() for word in missing_words(text)), None)
+
+
+def check_all(rules):
+    """Whether each rule can be applied, and the words are there that all runs share."""
+    reasons = {f"{name}.rule": why_not(name) for name in sorted(rules)}
+    reasons |= {f"{name}.run": next(missing_words(run_of(name)), None) for name in WORDS}
+    for file, reason in reasons.items():
+        if reason:
+            print(f"tests/wrong-rules/{file}: {reason}", file=sys.stderr)
+    return 1 if any(reasons.values()) or not rules else 0
+
+
 class Copy:
     """A copy of a crate and of those that it stands on."""
 
@@ -172,12 +219,8 @@ class Copy:
         try:
             for file, pairs in parse_rule(name).items():
                 path = f"{self.folder}/crates/{file}"
-                before[path] = text = read(path)
-                for old, new in pairs:
-                    if text.count(old) != 1:
-                        raise BadRule(f"{file}: stands {text.count(old)} times: {old}")
-                    text = text.replace(old, new)
-                write(path, text)
+                before[path] = read(path)
+                write(path, apply(pairs, file, before[path]))
             yield
         finally:
             for path, text in before.items():
@@ -442,6 +485,8 @@ def main():
     rules = {name for name, kind in files if kind == ".rule"}
     if strays := {name for name, kind in files if kind in (".run", ".law")} - rules - set(WORDS):
         sys.exit(f"runs without a rule: {', '.join(sorted(strays))}")
+    if sys.argv[1:] == ["--check"]:
+        sys.exit(check_all(rules))
     names = sys.argv[1:] or sorted(rules)
     passed = []
     for kind, judge in ((Scratch, "safety"), (StuckScratch, "progress"), (ToldScratch, "answers"), (VainScratch, "commits"),
