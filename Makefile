@@ -24,18 +24,21 @@ try: proof-tools
 	@echo "Interpreting $(SCRIPT), with no proofs: about a minute." >&2
 	@cd crates/pcommit && rt try --data script=$(abspath $(SCRIPT)) -- run script
 
-# everything: a sentence above each definition, figures and links on the pages, each proof from nothing, the must-fail edits, the tests, the programs as two
-# compilers build them, the cases of single parts among them; then, of what was built so, the golden scripts, runs and cases with each block
-# of memory refused in turn, runs of many transactions, and names that collide
+# everything: a sentence above each definition, figures and links on the pages, that wrong bodies and rules can be applied, each proof from
+# nothing, the must-fail edits, the tests, the programs as two compilers build them, the cases of single parts and of processes among them;
+# then, of what was built so, the golden scripts, runs and cases with each block of memory refused in turn, runs of many transactions, and
+# names that collide
 test: test-tools
 	tools/definitions.py --check
 	tools/pages.py --check
 	tests/wrong-bodies/run.py --check
+	tests/wrong-rules/run.py --check
 	tools/ci.py
 	@mkdir -p bin
 	@cp crates/pcommit/out/pcommit bin/pcommit
 	$(MAKE) scripts
 	tests/refused.py crates/cases/out/cases crates/cases/stdin
+	tests/refused.py crates/process_cases/out/process_cases crates/process_cases/stdin
 	tests/many.py bin/pcommit crates/cases/out/cases
 	tests/collisions.py bin/pcommit crates/pcommit_node/out/pcommit_node
 
@@ -99,7 +102,7 @@ wrong-bodies: proof-tools
 
 # tries each wrong rule of the protocol on a copy of the definitions, outside the gate: the six that are safe take minutes each
 wrong-rules: proof-tools
-	tests/wrong-rules/run.sh
+	tests/wrong-rules/run.py
 
 # writes every definition with its sentence to docs/DEFINITIONS.md, which isn't kept
 docs:

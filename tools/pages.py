@@ -1,8 +1,11 @@
 #!/usr/bin/env python3
 """pages.py --check: counts again what the pages say there is so many of (crates, runs, edits, tests, calls, rules), and fails where a page
 says another figure, or none says it any more, or two pages differ in how long `make try` takes; where a link of a page leads to no file or no
-heading; where a file of the repository that a page names isn't there. Figures of time and speed are measured and can't be counted again."""
+heading; where a file of the repository that a page names isn't there; where FORMATS.md has other bytes of a cluster's digest and a signed
+letter than Python's hashes give. Figures of time and speed are measured and can't be counted again."""
 import ast
+import hashlib
+import hmac
 import re
 import sys
 from pathlib import Path
@@ -41,10 +44,15 @@ def constant(script, name):
                 if isinstance(node, ast.Assign) and getattr(node.targets[0], "id", None) == name)
 
 
+def cases(crate):
+    """The cases of a program, each by its lines."""
+    blocks = [[line for line in case.splitlines() if not line.startswith("#")] for case in text(f"crates/{crate}/stdin").split("\n\n")]
+    return [block for block in blocks if block]
+
+
 def calls():
     """How many calls the cases of single parts make, in hundreds."""
-    cases = [[line for line in case.splitlines() if not line.startswith("#")] for case in text("crates/cases/stdin").split("\n\n")]
-    return round(sum(max(0, len(case) - 1) for case in cases), -2)
+    return round(sum(len(case) - 1 for case in cases("cases")), -2)
 
 
 def named_edits():
@@ -87,6 +95,25 @@ def missing_files(page):
             yield f"{page} names {name}, which isn't there"
 
 
+def worked_hashes():
+    """What FORMATS.md has to say of the digest of a cluster of one node each with the row 6b=30, and of a signed letter of two messages."""
+    one = (1).to_bytes(8, "big")
+    digest = hashlib.sha256(bytes([1, 1, 1, 0]) + one + one + b"\x6b" + one + b"\x30").digest()
+    prepares = [bytes.fromhex(f"02010000000101{gtrid}0100000161") for gtrid in ("74", "75")]
+    letter = b"\x03" + b"".join(len(message).to_bytes(2, "big") + message for message in prepares)
+    key, sender, receiver = bytes(range(32)), bytes([1, 0]), bytes([2, 0])
+    hashed = digest + sender + receiver + letter
+    tag = hmac.new(key, hashed, "sha256").digest()
+    return [
+        f"as `r0 {digest.hex()}`, of a cluster of one node each, not bundled, whose first table has 6b=30",
+        f"sends it to r0 in {len(letter + sender + tag)} bytes",
+        f"under the key `{key.hex()}`, these are: ```text {letter.hex()} the letter {sender.hex()} its sender, leader 0 "
+        f"{tag.hex()} the tag ```",
+        f"the HMAC-SHA256 of these {len(hashed)} bytes: ```text {digest.hex()} the cluster's digest {sender.hex()} the sender, leader 0 "
+        f"{receiver.hex()} the receiver, resource manager 0 {letter.hex()} the letter ```",
+    ]
+
+
 named, edits = named_edits()
 unnamed = ["/".join(edit) for edit in edits if edit not in named]
 rules, looking_back = count("tests/wrong-rules/*.rule"), count("tests/wrong-rules/*.rule", "crate: history")
@@ -103,7 +130,7 @@ FIGURES = [
     ("tries # wrong bodies", len(edits)), ("There are #, each of which bears one of these names", len(edits)),
     ("So # others stand in `tests/wrong-bodies`", count("tests/wrong-bodies/*/*.edit")),
     ("and # tests that are proved", sum(path.read_text(encoding="utf-8").count("#[test]") for path in ROOT.glob("crates/*/src/**/*.rt"))),
-    ("some # calls of the codec", calls()),
+    ("some # calls of the codec", calls()), ("has # cases of the process", len(cases("process_cases"))),
     ("tries # wrong rules", rules), ("# of the protocol, six of which", rules - looking_back - floored),
     ("# ways to look back", looking_back), ("and # of floors", floored),
     ("For # rules it is also proved", count("tests/wrong-rules/*.law") - safe - otherwise),
@@ -126,6 +153,7 @@ def main():
     minutes = r"(?:in|proofs:) (about [a-z ]*minutes?)(?=, with no proofs|\.\")"
     tries = {found for page in pages.values() for found in re.findall(minutes, page)}
     wrong += [] if len(tries) == 1 else [f"`make try` takes {' and '.join(tries)}"]
+    wrong += [f"FORMATS doesn't say: {said}" for said in worked_hashes() if said not in pages["docs/FORMATS.md"]]
     for page in PAGES:
         wrong += [*broken_links(page), *missing_files(page)]
     print("\n".join(wrong), end="\n" if wrong else "", file=sys.stderr)
