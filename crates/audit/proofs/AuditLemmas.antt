@@ -2,10 +2,12 @@
 use Rattle.std.proofs.Common.{◌≡◌, ◌∙◌, ℕ, ◌+◌, ◌<◌, Bool, true, false, ◌&&◌, List, ◌∷◌, length, get_or, take, Result, Ok, Err, refl, sym}
 use Rattle.std.proofs.Common.{ap, subst}
 use Rattle.std.specs.Prelude.{IfOk}
+use Rattle.protocol.specs.Vocabulary.{Step, Row}
 use Rattle.net_script.specs.declared.values.Entry.{Entry}
 use Rattle.history.specs.SerialOrder.{first_commits}
 use Rattle.xid.specs.declared.refusals.Refusal.{Refusal}
-use Rattle.audit.specs.Words.{Step, Row, Table, Trace}
+use Rattle.net_script.specs.declared.values.Table.{Table}
+use Rattle.net_script.specs.declared.values.Trace.{Trace}
 use Rattle.audit.specs.Told.{step_of, history_of, each_step, moves_rightly}
 use Rattle.audit.specs.Stretches.{stretches_back}
 use Rattle.audit.specs.Tables.{first_tables, table_told, shows_rightly, are_tables}

@@ -8,12 +8,13 @@ use Rattle.std.proofs.lemmas.Bool.Decides.{nat_tests}
 use Rattle.std.proofs.lemmas.Bool.{and_parts, ltb-true, ltb-false}
 use Rattle.std.proofs.lemmas.List.{append_assoc, length-append, length-take-le, take_all, take-append-drop}
 use Rattle.std.proofs.lemmas.List.Elements.{All-take}
+use Rattle.protocol.specs.Vocabulary.{Row}
 use Rattle.net_script.specs.declared.trace_lines.TraceLine.TheVariants.{Contents}
 use Rattle.net_script.specs.Traces.{head_text, entry_text, final_line, final_lines}
 use Rattle.net_script.specs.TraceLines.{AreFinalRows, entry_lines, rows_lines, lines_of}
 use Rattle.net_script.specs.TraceReading.{IsBegun}
 use Rattle.history.specs.SerialOrder.{first_commits}
-use Rattle.audit.specs.Words.{Row, Trace}
+use Rattle.net_script.specs.declared.values.Trace.{Trace}
 use Rattle.audit.specs.Told.{history_of}
 use Rattle.audit.specs.Stretches.{stretches_back}
 use Rattle.audit.specs.Tables.{first_tables, table_told, are_tables}

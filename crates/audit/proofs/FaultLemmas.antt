@@ -3,6 +3,7 @@ use Rattle.std.proofs.Common.{◌≡◌, ◌∙◌, ◌⊎◌, inl, inr, ℕ, �
 use Rattle.std.proofs.Common.{Option, Some, None, refl, sym, ap, arith}
 use Rattle.std.proofs.lemmas.Bool.{and_parts}
 use Rattle.std.proofs.lemmas.List.{length_push}
+use Rattle.protocol.specs.Vocabulary.{Change, Step, Row}
 use Rattle.net_script.specs.declared.trace_lines.TraceLine.{TraceLine}
 use Rattle.net_script.specs.declared.trace_lines.TraceLine.TheVariants.{Cluster, Contents, Happened, Served, Changed, Datagram}
 use Rattle.net_script.specs.declared.trace_lines.TraceLine.TheVariants.{Notice, Final}
@@ -10,7 +11,8 @@ use Rattle.net_script.specs.TraceReaders.{last_of, is_missing, is_alone, takes_s
 use Rattle.net_script.specs.TraceReaders.{bare_step, opened, begun_with}
 use Rattle.history.specs.SerialOrder.{first_commits}
 use Rattle.protocol.specs.declared.events.Told.{Told}
-use Rattle.audit.specs.Words.{Change, Step, Entry, Row, Trace}
+use Rattle.net_script.specs.declared.values.Entry.{Entry}
+use Rattle.net_script.specs.declared.values.Trace.{Trace}
 use Rattle.audit.specs.Told.{step_of, history_of, each_step, moves_rightly}
 use Rattle.audit.specs.Stretches.{stretches_back}
 use Rattle.audit.specs.Tables.{first_tables, table_told, shows_rightly, are_tables}

@@ -6,6 +6,7 @@ use Rattle.std.specs.Option.{ForSome}
 use Rattle.std.proofs.lemmas.Bool.{and_parts}
 use Rattle.std.proofs.lemmas.List.{length-append, length_push}
 use Rattle.std.proofs.lemmas.List.Elements.{All-head, All-tail}
+use Rattle.protocol.specs.Vocabulary.{Change}
 use Rattle.net_script.specs.declared.trace_lines.TraceLine.{TraceLine}
 use Rattle.net_script.specs.declared.trace_lines.TraceLine.TheVariants.{Cluster, Contents, Happened, Served, Changed, Datagram}
 use Rattle.net_script.specs.declared.trace_lines.TraceLine.TheVariants.{Notice, Final}
@@ -18,8 +19,9 @@ use Rattle.net_script.specs.Traces.{joined_words}
 use Rattle.net_script.proofs.DraftLemmas.{begins, serve_tells_none}
 use Rattle.protocol.specs.declared.events.Sent.{Sent}
 use Rattle.protocol.specs.declared.events.Told.{Told}
-use Rattle.audit.specs.Words.{Change, Entry, Trace}
 use Rattle.std.proofs.lemmas.Option.{same_Some}
+use Rattle.net_script.specs.declared.values.Entry.{Entry}
+use Rattle.net_script.specs.declared.values.Trace.{Trace}
 use Rattle.audit.proofs.HearingLemmas.{after_is, change_made, sent_made, notice_made}
 
 last_of : {X : Type 0} (P : X → Type 0) (xs : List X) (x : X) → All P (xs ++ x ∷ []) → P x

@@ -7,6 +7,7 @@ use Rattle.std.specs.Option.{option_map_or}
 use Rattle.std.proofs.lemmas.Bool.{and_parts}
 use Rattle.std.proofs.lemmas.List.{nil_from_length}
 use Rattle.std.proofs.lemmas.Option.{same_Some}
+use Rattle.protocol.specs.Vocabulary.{Answer, Event, Deliver, Change, Step, Row}
 use Rattle.net_script.specs.declared.values.Sizes.{Sizes}
 use Rattle.net_script.specs.declared.trace_lines.TraceLine.TheVariants.{Cluster, Contents, Happened, Served, Changed, Datagram}
 use Rattle.net_script.specs.declared.trace_lines.TraceLine.TheVariants.{Notice, Final}
@@ -21,7 +22,9 @@ use Rattle.xid.specs.declared.refusals.Refusal.TheVariants.{NoMemory}
 use Rattle.protocol.specs.declared.events.Sent.{Sent}
 use Rattle.protocol.specs.declared.events.Told.{Told}
 use Rattle.protocol.specs.declared.nodes.NodeId.{NodeId}
-use Rattle.audit.specs.Words.{Answer, Event, Deliver, Change, Step, Entry, Row, Table, Trace}
+use Rattle.net_script.specs.declared.values.Entry.{Entry}
+use Rattle.net_script.specs.declared.values.Table.{Table}
+use Rattle.net_script.specs.declared.values.Trace.{Trace}
 use Rattle.audit.specs.Told.{step_of, history_of, each_step, is_move}
 use Rattle.audit.specs.Stretches.{stretches_back}
 use Rattle.audit.specs.Tables.{first_tables, table_told, shows_rightly, are_tables}

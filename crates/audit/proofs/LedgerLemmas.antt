@@ -6,6 +6,9 @@ use Rattle.std.specs.Option.{option_map_or, option_and_then}
 use Rattle.std.proofs.Math.Seq.{take-suc}
 use Rattle.std.proofs.lemmas.Bool.{and_parts}
 use Rattle.std.proofs.lemmas.List.{reverse-append, map-append, take-append-drop}
+use Rattle.xid.specs.Names.{XidParts}
+use Rattle.xid.specs.Transactions.{TxParts, tx_eq}
+use Rattle.protocol.specs.Vocabulary.{Answer, Event, Deliver, Change, Step, Row}
 use Rattle.protocol.specs.Tables.{with_writes}
 use Rattle.protocol.specs.declared.events.Sent.{Sent}
 use Rattle.protocol.specs.declared.events.Told.{Told}
@@ -15,7 +18,6 @@ use Rattle.transactions.specs.Seen.{seen_with}
 use Rattle.history.specs.SerialOrder.{first_commits, with_commit}
 use Rattle.history.specs.Writes.{is_committed_view, changed_to}
 use Rattle.net_script.specs.declared.values.Entry.{Entry}
-use Rattle.audit.specs.Words.{XidParts, TxParts, tx_eq, Answer, Event, Deliver, Change, Step, Row}
 use Rattle.audit.specs.Told.{step_of, history_of, each_step, is_move, moves_rightly, views_back}
 use Rattle.audit.specs.Stretches.{stretch_by, stretches_back, stretch_back, writes_at}
 use Rattle.audit.specs.Tables.{is_event_right, table_told}

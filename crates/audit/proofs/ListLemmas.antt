@@ -10,8 +10,9 @@ use Rattle.std.proofs.lemmas.List.Sums.{fold_more}
 use Rattle.std.proofs.Math.Seq.{take-suc}
 use Rattle.std.proofs.lemmas.List.{map-append}
 use Rattle.xid.specs.Transactions.{BranchParts, TxParts, participants, nth_branch}
+use Rattle.protocol.specs.Vocabulary.{Row, View}
 use Rattle.protocol.specs.Tables.{put_row}
-use Rattle.audit.specs.Words.{Row, Table, View}
+use Rattle.net_script.specs.declared.values.Table.{Table}
 use Rattle.audit.specs.Tables.{first_rows_of, first_tables}
 
 pub all_next : {X : Type 0} (p : X → Bool) (xs : List X) (i : ℕ) (d : X) → i < length xs → list_all p (take i xs) ≡ true

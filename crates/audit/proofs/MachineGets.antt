@@ -9,6 +9,8 @@ use Rattle.std.proofs.lemmas.Slice.Eq.{bytes_eq-Decides}
 use Rattle.xid.specs.declared.codes.XaCode.TheVariants as code
 use Rattle.xid.specs.Names.{XidParts}
 use Rattle.xid.specs.Transactions.{TxParts, xid_at, participants}
+use Rattle.protocol.specs.Basics.{Act}
+use Rattle.protocol.specs.Vocabulary.{Action, Start, Put, Del, Get, End, EndFail, Rollback, Answer, Code, Value, NoValue, Row, Step}
 use Rattle.protocol.specs.Branches.{is_done, get_answer, row_at, value_after}
 use Rattle.protocol.specs.Effects.{Config}
 use Rattle.protocol.specs.Holds.{IsIn}
@@ -16,7 +18,6 @@ use Rattle.protocol.specs.Nodes.{first_rows}
 use Rattle.protocol.specs.Tables.{put_row, with_writes}
 use Rattle.protocol.specs.Worlds.{World}
 use Rattle.protocol.proofs.Lists.{IsIn-push}
-use Rattle.history.specs.Words.{Act, Action, Start, Put, Del, Get, End, EndFail, Rollback, Answer, Code, Value, NoValue, Row, Step}
 use Rattle.history.specs.Calls.{call_done}
 use Rattle.history.specs.LookingBack.{is_start, done_at, writes_in, last_act_on}
 use Rattle.history.specs.SerialOrder.{first_commits, those_before, serial_read}

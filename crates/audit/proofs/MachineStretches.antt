@@ -11,15 +11,16 @@ use Rattle.xid.specs.declared.codes.XaCode.TheVariants as code
 use Rattle.xid.specs.Names.{XidParts, xid_eq}
 use Rattle.xid.specs.Transactions.{TxParts, xid_at}
 use Rattle.xid.proofs.Deciding.{xid_decides}
+use Rattle.protocol.specs.Basics.{Act, Touched}
 use Rattle.protocol.specs.declared.states.BranchState.TheVariants.{Active, Idle, RollbackOnly}
+use Rattle.protocol.specs.Vocabulary.{Action, Start, Put, Del, Get, End, EndFail, Rollback, Answer, Code, Value, NoValue, BranchState, R}
+use Rattle.protocol.specs.Vocabulary.{Event, Ask, Call, Step}
 use Rattle.protocol.specs.Branches.{is_done}
 use Rattle.protocol.specs.Effects.{Config}
 use Rattle.protocol.specs.Managers.{view_named}
 use Rattle.protocol.specs.Nodes.{NodeState}
 use Rattle.protocol.specs.Worlds.{World, step_of, world_step}
 use Rattle.protocol.proofs.DoneCalls.{IsReadyFor}
-use Rattle.history.specs.Words.{Act, Touched, Action, Start, Put, Del, Get, End, EndFail, Rollback, Answer, Code, Value, NoValue}
-use Rattle.history.specs.Words.{BranchState, R, Event, Ask, Call, Step}
 use Rattle.history.specs.Calls.{call_done}
 use Rattle.history.specs.LookingBack.{is_start, is_end, is_end_fail, state_by, write_by, writes_in, last_act_on, done_at, ends_at}
 use Rattle.history.specs.LookingBack.{actions_since}

@@ -12,13 +12,14 @@ use Rattle.std.proofs.lemmas.Cmp.{nat_list_eq_equiv}
 use Rattle.xid.specs.Names.{XidParts}
 use Rattle.xid.specs.Transactions.{TxParts, xid_at}
 use Rattle.stable_record.specs.declared.fact.FactKind.TheVariants as stored
+use Rattle.protocol.specs.Basics.{Touched}
+use Rattle.protocol.specs.Vocabulary.{Action, Change, Row, Step}
 use Rattle.protocol.specs.Effects.{Config}
 use Rattle.protocol.specs.Holds.{IsIn}
 use Rattle.protocol.specs.Nodes.{NodeState, first_rows}
 use Rattle.protocol.specs.Rows.{row_eq}
 use Rattle.protocol.specs.Tables.{put_row, with_writes}
 use Rattle.protocol.specs.Worlds.{World, step_of, world_step}
-use Rattle.history.specs.Words.{Action, Change, Row, Step, Touched}
 use Rattle.history.specs.Lines.{change_at, changes_at}
 use Rattle.history.specs.LookingBack.{is_start, done_at, writes_in}
 use Rattle.history.specs.Writes.{accepted_writes, writes_of, is_committed_view, changed_to, commit_order, table_back}

@@ -16,7 +16,9 @@ use Rattle.xid.specs.declared.refusals.Refusal.TheVariants.{Busy, Full}
 use Rattle.xid.specs.declared.transaction.Vote.TheVariants as votes
 use Rattle.stable_record.specs.Facts.{fact_tx}
 use Rattle.stable_record.specs.declared.fact.FactKind.TheVariants as stored
+use Rattle.protocol.specs.Basics.{Act, Fact, Touched}
 use Rattle.protocol.specs.declared.states.BranchState.TheVariants.{Active, Idle, RollbackOnly, Prepared}
+use Rattle.protocol.specs.Vocabulary.{Answer, BranchState, Call, Code, Event, Ask, Get, NoValue, R, Refused, Row, Step, Change, Value, View}
 use Rattle.protocol.specs.Branches.{BranchView, by_state, get_answer, is_done, key_fits, read_of, row_at, value_after}
 use Rattle.protocol.specs.Effects.{Config}
 use Rattle.protocol.specs.Facts.{view}
@@ -31,8 +33,6 @@ use Rattle.protocol.proofs.Manager.Played.{voted_named}
 use Rattle.protocol.proofs.Manager.Views.{prepared_shows}
 use Rattle.safety.specs.Runs.{views_in}
 use Rattle.safety.proofs.World.Reachable.{steps}
-use Rattle.history.specs.Words.{Act, Answer, BranchState, Call, Code, Event, Fact, Ask, Get, NoValue, R, Refused, Row, Step, Change}
-use Rattle.history.specs.Words.{Value, View, Touched}
 use Rattle.history.specs.Answers.{IsAnswered, IsAnswerOf}
 use Rattle.history.specs.Lines.{change_here, change_stored, view_back, view_stored, is_spent_back}
 use Rattle.history.specs.LookingBack.{actions_since, branch_back, branch_by, is_hindered_back, last_act_on, prepared_in, writes_in}

@@ -9,12 +9,12 @@ use Rattle.std.specs.Option.{option_map_or}
 use Rattle.std.proofs.lemmas.Bool.{ltb-true, ltb-false, ne_eqb, false≢true}
 use Rattle.std.proofs.lemmas.List.{get_or-map, length-map}
 use Rattle.std.proofs.lemmas.List.Sums.{passes_at_first, prefix_len-le-length}
-use Rattle.xid.specs.Transactions.{BranchParts, IsTx, is_at, rm_numbers}
+use Rattle.xid.specs.Transactions.{BranchParts, IsTx, is_at, rm_numbers, TxParts, tx_eq, participants}
 use Rattle.xid.proofs.Deciding.{tx_decides}
 use Rattle.transactions.proofs.Keys.{absent_from_place, present_from_place}
 use Rattle.wire.proofs.Ascending.{later}
+use Rattle.protocol.specs.Vocabulary.{Answer, Event, Change, Step, View}
 use Rattle.history.specs.Lines.{view_back, changes_at}
-use Rattle.audit.specs.Words.{TxParts, tx_eq, participants, Answer, Event, Change, Step, View}
 use Rattle.protocol.specs.declared.events.Sent.{Sent}
 use Rattle.protocol.specs.declared.events.Told.{Told}
 use Rattle.audit.specs.Told.{may_move, is_move, views_back}

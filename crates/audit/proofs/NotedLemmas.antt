@@ -21,7 +21,7 @@ use Rattle.net_script.specs.TraceReaders.{begun_with}
 use Rattle.net_script.specs.TraceReaders.{ReaderParts, HasRead, ReadsOn, IsRead}
 use Rattle.net_script.proofs.EndedText.{text_is_lines}
 use Rattle.xid.specs.declared.refusals.Refusal.{Refusal}
-use Rattle.audit.specs.Words.{Trace}
+use Rattle.net_script.specs.declared.values.Trace.{Trace}
 use Rattle.audit.specs.Hearing.{HasHeard}
 use Rattle.audit.specs.Floors.{is_sent_above}
 use Rattle.audit.specs.FloorBooks.{HasHeardFloors, are_above, floor_before}

@@ -15,7 +15,7 @@ use Rattle.std.proofs.lemmas.Bool.{true≢false}
 use Rattle.std.proofs.lemmas.List.{reverse-append, length-append, get_or_append_left, get_or_at}
 use Rattle.std.proofs.lemmas.Map.Text.{is_eq-slice_cmp}
 use Rattle.std.proofs.lemmas.Slice.Eq.{bytes_eq-Decides}
-use Rattle.audit.specs.Words.{Act, Touched}
+use Rattle.protocol.specs.Basics.{Act, Touched}
 use Rattle.audit.specs.Stretches.{own_act}
 use Rattle.audit.specs.Books.{ArePlaces, act_at}
 use Rattle.audit.proofs.RowLemmas.{flipped}

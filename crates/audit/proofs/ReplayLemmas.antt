@@ -12,8 +12,9 @@ use Rattle.std.proofs.lemmas.List.Folds.{list_any_none, list_any_more}
 use Rattle.std.proofs.lemmas.List.Sums.{position_or_len_is}
 use Rattle.xid.specs.Transactions.{BranchParts, TxParts, IsTx, is_at, nth_branch, rm_numbers, xid_of}
 use Rattle.wire.proofs.Ascending.{later}
+use Rattle.protocol.specs.Basics.{Touched}
+use Rattle.protocol.specs.Vocabulary.{Row}
 use Rattle.protocol.specs.Tables.{with_writes}
-use Rattle.audit.specs.Words.{Touched, Row}
 use Rattle.audit.specs.Stretches.{Stretches, writes_in, writes_at}
 use Rattle.audit.specs.Books.{place_at}
 

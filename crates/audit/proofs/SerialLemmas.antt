@@ -10,16 +10,16 @@ use Rattle.std.proofs.lemmas.List.{get_or-map, length-map}
 use Rattle.std.proofs.lemmas.List.Sums.{fold-append}
 use Rattle.std.proofs.lemmas.List.Elements.{filter-append}
 use Rattle.xid.proofs.Texts.{list_all_get}
+use Rattle.protocol.specs.Vocabulary.{Step, Row, View}
 use Rattle.audit.proofs.ListLemmas.{all_next, all_fails, participant_at, participants_many}
 use Rattle.std.proofs.lemmas.List.Sums.{passes_at_first, prefix_len-le-length}
 use Rattle.std.specs.Cmp.{unsigned_Decides}
-use Rattle.xid.specs.Transactions.{BranchParts, is_at, rm_numbers, xid_of}
+use Rattle.xid.specs.Transactions.{BranchParts, is_at, rm_numbers, xid_of, TxParts, tx_eq, participants}
 use Rattle.xid.proofs.Deciding.{tx_self, tx_decides}
 use Rattle.protocol.specs.Tables.{with_writes}
 use Rattle.history.specs.Lines.{view_back}
 use Rattle.history.specs.SerialOrder.{those_before, first_commits}
 use Rattle.history.specs.Writes.{is_committed_view}
-use Rattle.audit.specs.Words.{TxParts, tx_eq, participants, Step, Row, View}
 use Rattle.audit.specs.Told.{views_back}
 use Rattle.audit.specs.Stretches.{Stretches, stretches_back, branch_at, gets_in, writes_in, writes_at}
 use Rattle.audit.specs.Tables.{are_tables}

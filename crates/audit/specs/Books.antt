@@ -7,13 +7,15 @@ use Rattle.std.specs.Cmp.Lexicographic.{slice_cmp}
 use Rattle.std.specs.Option.{IfSome, option_eq, option_map_or}
 use Rattle.std.specs.Ordering.{nat_cmp, is_eq}
 use Rattle.std.specs.Str.{bytes_eq}
-use Rattle.audit.specs.Words.{XidParts, xid_eq, TxParts, tx_eq, participants, Act, Touched, Answer, Action, Change, Row, View}
+use Rattle.xid.specs.Names.{XidParts, xid_eq}
+use Rattle.protocol.specs.Basics.{Act, Touched}
+use Rattle.protocol.specs.Vocabulary.{Answer, Action, Change, Row, View}
 use Rattle.history.specs.Writes.{is_committed_view}
 use Rattle.audit.specs.Told.{may_move}
 use Rattle.audit.specs.Stretches.{StretchParts, Stretches, stretch_after, own_act, writes_at}
 use Rattle.audit.specs.declared.branches.Name.{Name}
 use Rattle.transactions.specs.Seen.{place_in, seen_with}
-use Rattle.xid.specs.Transactions.{is_at}
+use Rattle.xid.specs.Transactions.{is_at, TxParts, tx_eq, participants}
 use Rattle.protocol.specs.Tables.{with_writes}
 use Rattle.audit.specs.Consistent.{serial_table}
 

@@ -2,7 +2,9 @@
 -- that one serial order explains the last rows and the gets of committed transactions, and that no step takes part below a floor.
 use Rattle.std.specs.Prelude.{ℕ, Bool, ◌&&◌, List, filter, fold}
 use Rattle.std.specs.List.{list_all}
-use Rattle.audit.specs.Words.{TxParts, participants, Step, Row, Trace}
+use Rattle.xid.specs.Transactions.{TxParts, participants}
+use Rattle.protocol.specs.Vocabulary.{Step, Row}
+use Rattle.net_script.specs.declared.values.Trace.{Trace}
 use Rattle.audit.specs.declared.stretch.Shown.{Shown}
 use Rattle.protocol.specs.Tables.{with_writes}
 use Rattle.history.specs.SerialOrder.{first_commits, those_before}

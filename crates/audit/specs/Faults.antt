@@ -6,7 +6,7 @@ use Rattle.net_script.specs.Traces.{trace_text}
 use Rattle.net_script.specs.TraceLines.{lines_of}
 use Rattle.net_script.specs.TraceReading.{IsBegun, SpellsTrace}
 use Rattle.history.specs.SerialOrder.{first_commits}
-use Rattle.audit.specs.Words.{Trace}
+use Rattle.net_script.specs.declared.values.Trace.{Trace}
 use Rattle.audit.specs.Told.{history_of, each_step, moves_rightly}
 use Rattle.audit.specs.Stretches.{stretches_back}
 use Rattle.audit.specs.Tables.{first_tables, table_told, shows_rightly, are_tables}

@@ -4,6 +4,7 @@ use Rattle.std.specs.List.{list_all, range_with_len}
 use Rattle.std.specs.Option.{option_map_or}
 use Rattle.xid.specs.Places.{Place, is_lower, is_below, is_xid_below}
 use Rattle.xid.specs.declared.refusals.Refusal.{Refusal}
+use Rattle.xid.specs.declared.codes.XaCode.{XaCode}
 use Rattle.wire.specs.Messages.{message_tx}
 use Rattle.protocol.specs.declared.answers.Answer.TheVariants.{Done, Refused}
 use Rattle.protocol.specs.declared.events.Event.TheVariants.{Restart, Raise, Hear, Replace}
@@ -13,7 +14,7 @@ use Rattle.protocol.specs.declared.nodes.NodeId.{NodeId}
 use Rattle.protocol.specs.declared.nodes.NodeId.TheVariants.{A, L}
 use Rattle.protocol.specs.declared.requests.Request.{Request}
 use Rattle.protocol.specs.declared.requests.Request.TheVariants.{Recover}
-use Rattle.audit.specs.Words.{XaCode, Answer, Code, Change, Event, Ask, Step, R, Action, Start, Call}
+use Rattle.protocol.specs.Vocabulary.{Answer, Code, Change, Event, Ask, Step, R, Action, Start, Call}
 
 -- ---- places
 

@@ -1,6 +1,9 @@
 -- What an auditor holds after each line of a trace.
 use Rattle.std.specs.Prelude.{◌≡◌, Bool, true, ◌&&◌, List, [], Option, Some, None}
-use Rattle.audit.specs.Words.{Entry, Row, Table, Trace}
+use Rattle.protocol.specs.Vocabulary.{Row}
+use Rattle.net_script.specs.declared.values.Entry.{Entry}
+use Rattle.net_script.specs.declared.values.Table.{Table}
+use Rattle.net_script.specs.declared.values.Trace.{Trace}
 use Rattle.audit.specs.Told.{history_of, each_step, moves_rightly}
 use Rattle.audit.specs.Tables.{first_tables, shows_rightly}
 use Rattle.audit.specs.Following.{Follows}

@@ -1,4 +1,3 @@
-pub mod Words
 pub mod Told
 pub mod Stretches
 pub mod Tables

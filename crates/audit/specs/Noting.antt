@@ -1,7 +1,7 @@
 -- What a judge holds after each line of a trace.
 use Rattle.std.specs.Prelude.{◌≡◌, ◌⊎◌, ℕ, ◌+◌, ◌<◌, ◌≤◌, Bool, true, false, List, length, Option, Some, None}
 use Rattle.net_script.specs.TraceReaders.{lines_so_far}
-use Rattle.audit.specs.Words.{Trace}
+use Rattle.net_script.specs.declared.values.Trace.{Trace}
 use Rattle.audit.specs.Hearing.{HasHeard}
 use Rattle.audit.specs.FloorBooks.{HasHeardFloors, are_above}
 use Rattle.audit.specs.Faults.{HasNoFault, IsFirstFault}

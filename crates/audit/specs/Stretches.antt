@@ -1,8 +1,11 @@
 -- What was done in a branch since it was last started, by looking back over a history, which has the newest first.
 use Rattle.std.specs.Prelude.{ℕ, ◌&&◌, ◌==◌, if◌then◌else◌, List, [], ◌∷◌, ◌++◌, reverse, Option, Some, None}
 use Rattle.std.specs.Option.{option_map, option_map_or, option_and_then}
-use Rattle.audit.specs.Words.{XidParts, xid_eq, TxParts, xid_at, XaCode, Act, Touched, Answer, Code, Value, NoValue, Event, Ask, Step, R}
-use Rattle.audit.specs.Words.{Action, Start, Put, Del, Get, Call}
+use Rattle.xid.specs.Names.{XidParts, xid_eq}
+use Rattle.xid.specs.Transactions.{TxParts, xid_at}
+use Rattle.xid.specs.declared.codes.XaCode.{XaCode}
+use Rattle.protocol.specs.Basics.{Act, Touched}
+use Rattle.protocol.specs.Vocabulary.{Answer, Code, Value, NoValue, Event, Ask, Step, R, Action, Start, Put, Del, Get, Call}
 use Rattle.audit.specs.declared.stretch.Shown.{Shown}
 use Rattle.history.specs.LookingBack.{last_act_on}
 

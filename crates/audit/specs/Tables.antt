@@ -3,12 +3,15 @@ use Rattle.std.specs.Prelude.{ℕ, suc, Bool, true, ◌&&◌, ◌==◌, if◌the
 use Rattle.std.specs.Cmp.Lexicographic.{pointwise}
 use Rattle.std.specs.Option.{option_map_or, option_and_then, option_eq}
 use Rattle.std.specs.Str.{bytes_eq}
-use Rattle.audit.specs.Words.{TxParts, Act, Answer, Value, NoValue, Event, Ask, Step, R, Action, Get, Call, Row, Table}
+use Rattle.xid.specs.Transactions.{TxParts}
+use Rattle.protocol.specs.Basics.{Act}
+use Rattle.protocol.specs.Vocabulary.{Answer, Value, NoValue, Event, Ask, Step, R, Action, Get, Call, Row}
 use Rattle.protocol.specs.Branches.{row_at, value_after}
 use Rattle.protocol.specs.Rows.{row_eq}
 use Rattle.protocol.specs.Tables.{put_row, with_writes}
 use Rattle.history.specs.Lines.{change_at}
 use Rattle.history.specs.Writes.{is_committed_view, changed_to}
+use Rattle.net_script.specs.declared.values.Table.{Table}
 use Rattle.audit.specs.Stretches.{StretchParts, Stretches, own_act, stretches_back, writes_in, writes_at}
 
 -- the first contents of a resource manager's table: none where no line gives them

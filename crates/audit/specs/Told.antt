@@ -3,9 +3,11 @@
 use Rattle.std.specs.Prelude.{Bool, true, false, not, ◌&&◌, List, [], ◌∷◌, map, reverse}
 use Rattle.std.specs.List.{list_all}
 use Rattle.std.specs.Option.{option_map_or}
-use Rattle.audit.specs.Words.{TxParts, participants, is_participant, Change, Deliver, Step, View, Entry}
+use Rattle.xid.specs.Transactions.{TxParts, participants, is_participant}
+use Rattle.protocol.specs.Vocabulary.{Change, Deliver, Step, View}
 use Rattle.history.specs.Lines.{view_back}
 use Rattle.history.specs.Writes.{is_committed_view}
+use Rattle.net_script.specs.declared.values.Entry.{Entry}
 
 -- an entry as a step; what a node took from a socket is a datagram with no number, and those of steps are numbered from 1
 abbrev pub step_of : Entry → Step

@@ -2,8 +2,11 @@
 
 ghost use Rattle.std.specs.Prelude.{◌≡◌, List, false, [], ◌∷◌, ◌++◌, Option, None, Some, IfOk, IfErr, OnOk};
 ghost use Rattle.xid.specs.declared.refusals.Refusal.TheVariants.{NoMemory};
+ghost use Rattle.protocol.specs.Vocabulary.{Row};
 ghost use Rattle.net_script.specs.TraceReaders.{bare_step, with_now, begun_with};
-ghost use Rattle.audit.specs.Words.{Entry, Table, Trace, Row};
+ghost use Rattle.net_script.specs.declared.values.Entry.{Entry};
+ghost use Rattle.net_script.specs.declared.values.Table.{Table};
+ghost use Rattle.net_script.specs.declared.values.Trace.{Trace};
 ghost use Rattle.audit.specs.Told.{step_of};
 ghost use Rattle.audit.specs.Hearing.{Hears, HasHeard};
 

@@ -7,13 +7,14 @@ ghost use Rattle.xid.specs.Places.{is_below};
 ghost use Rattle.xid.specs.declared.refusals.Refusal.TheVariants.{NoMemory};
 ghost use Rattle.protocol.specs.declared.events.Told.{Told};
 ghost use Rattle.protocol.specs.declared.nodes.NodeId.{NodeId};
+ghost use Rattle.protocol.specs.Vocabulary.{Step};
+ghost use Rattle.net_script.specs.declared.values.Trace.{Trace};
 ghost use Rattle.audit.specs.Floors.{FloorsTold, no_floors, higher, is_refused, is_call_refused, is_request_above, is_event_above};
 ghost use Rattle.audit.specs.Floors.{is_done, is_no_such, least_told, told_with};
 ghost use Rattle.audit.specs.Floors.{is_change_above, is_sent_above, with_heard, floors_by, or_newer, stays_above};
 ghost use Rattle.audit.specs.FloorBooks.{place_of, entry_of, floor_at, told_in, notice_at, floor_before, Keeps, HadBefore};
 ghost use Rattle.audit.specs.FloorBooks.{FollowsFloors, HasHeardFloors, are_above};
 ghost use Rattle.audit.specs.Told.{step_of};
-ghost use Rattle.audit.specs.Words.{Step, Trace};
 ghost use Rattle.net_script.specs.TraceReaders.{begun_with};
 
 use crate::told_floors::{ToldFloors, higher};

@@ -2,6 +2,8 @@
 
 ghost use Rattle.std.specs.Prelude.{◌≡◌, List, [], IsTrue, true, fold, map};
 ghost use Rattle.std.specs.List.{range_with_len};
+ghost use Rattle.xid.specs.Transactions.{is_participant};
+ghost use Rattle.protocol.specs.Vocabulary.{Change, Step};
 ghost use Rattle.protocol.specs.Effects.{Config};
 ghost use Rattle.protocol.specs.Nodes.{first_rows};
 ghost use Rattle.protocol.specs.TCommit.{IsCommitMove};
@@ -9,7 +11,6 @@ ghost use Rattle.protocol.specs.Tables.{put_row};
 ghost use Rattle.protocol.specs.Worlds.{Occurrence, opening, table_at, world_after};
 ghost use Rattle.history.specs.Lines.{history, view_back};
 ghost use Rattle.audit.specs.Consistent.{is_history_consistent};
-ghost use Rattle.audit.specs.Words.{Change, Step, is_participant};
 ghost use Rattle.audit.specs.Told.{is_move};
 
 /// A change that the auditor takes is one of a participant of its transaction, and one that the machine TCommit may make, from the views

@@ -3,11 +3,10 @@
 ghost use Rattle.std.specs.Prelude.{◌≡◌, ℕ, ◌<◌, ◌&&◌, ◌==◌, length, true, false, if◌then◌else◌, MatchOption, IfOk, IfErr, IsTrue, OnOk};
 ghost use Rattle.std.specs.List.{list_all};
 ghost use Rattle.std.specs.Option.{option_copied};
-ghost use Rattle.xid.specs.Transactions.{nth_branch};
+ghost use Rattle.xid.specs.Transactions.{nth_branch, participants};
 ghost use Rattle.xid.specs.declared.refusals.Refusal.TheVariants.{NoMemory};
 ghost use Rattle.protocol.specs.Tables.{with_writes};
 ghost use Rattle.history.specs.Writes.{is_committed_view};
-ghost use Rattle.audit.specs.Words.{participants};
 ghost use Rattle.audit.specs.Stretches.{branch_at, gets_in, writes_at};
 ghost use Rattle.audit.specs.Tables.{first_tables, shows};
 ghost use Rattle.audit.specs.Consistent.{are_shown, is_order_kept, reads_are_serial, serial_table};

@@ -10,10 +10,10 @@ use Rattle.std.proofs.lemmas.List.Sums.{take_while-cons}
 use Rattle.xid.specs.Names.{XidParts}
 use Rattle.xid.specs.Transactions.{TxParts, tx_eq, xid_at}
 use Rattle.protocol.specs.declared.events.Change.{Change}
+use Rattle.protocol.specs.Vocabulary.{Action, Row, Step, View}
 use Rattle.protocol.specs.Branches.{no_branch}
 use Rattle.protocol.specs.Facts.{is_prepared_view}
 use Rattle.protocol.specs.Tables.{put_row, with_writes}
-use Rattle.cluster_run.specs.Words.{Action, Row, Step, View}
 use Rattle.history.specs.Calls.{is_restart}
 use Rattle.history.specs.Lines.{change_here, change_at, changes_at, view_back}
 use Rattle.history.specs.LookingBack.{done_at, is_name_at, is_rollback, ends_at, actions_since, is_vote_at, before_vote, prepared_in}

@@ -4,6 +4,7 @@ use Rattle.std.proofs.Common.{Option, Some, None, refl, sym, ap, subst}
 use Rattle.std.specs.Option.{option_map_or}
 use Rattle.std.proofs.lemmas.Bool.{and_from, and_parts, both_ways, false_from_ne_true}
 use Rattle.xid.specs.declared.refusals.Refusal.TheVariants.{NoSuch}
+use Rattle.protocol.specs.Vocabulary.{A, Answer, Ask, Event, L, R, Refused, Request, Step}
 use Rattle.protocol.specs.Effects.{Config}
 use Rattle.protocol.specs.Nodes.{NodeState, Asked, Fault, NoFault, NoMemoryBefore, NoMemoryAt, RecordFails, accepts_request}
 use Rattle.protocol.specs.Nodes.{answer_outcome, down_answer, effect_of, effect_outcome, node_step}
@@ -18,7 +19,6 @@ use Rattle.history.proofs.Answering.{answered_ever, inside_stands, standing_insi
 use Rattle.history.proofs.Laws as laws
 use Rattle.history.proofs.Runs as machine
 use Rattle.cluster_run.specs.Answers.{AreAnsweredHere, IsAnswerHere, IsAnsweredHere, is_down, is_over}
-use Rattle.cluster_run.specs.Words.{A, Answer, Ask, Event, L, R, Refused, Request, Step}
 use Rattle.cluster_run.proofs.Floored.{IsFlooredRun, AtFirst, Then, Follows, follows}
 use Rattle.cluster_run.proofs.Hindering.{answers_same}
 use Rattle.cluster_run.proofs.Raised.{IsSaid, said_ever}

@@ -2,12 +2,12 @@
 use Rattle.std.proofs.Common.{◌≡◌, ◌∙◌, List, [], ◌∷◌, ◌++◌, refl, sym, ap, subst}
 use Rattle.std.specs.Prelude.{reverse}
 use Rattle.std.proofs.lemmas.List.{reverse-append}
+use Rattle.protocol.specs.Vocabulary.{Step}
 use Rattle.protocol.specs.Effects.{Config}
 use Rattle.protocol.specs.Worlds.{World, Occurrence, opening, step_of, trace, world_after, world_step}
 use Rattle.history.specs.Lines.{history}
 use Rattle.history.proofs.Runs.{IsRun, AtFirst, Then}
 use Rattle.cluster_run.specs.Traces.{last_world, run_history}
-use Rattle.cluster_run.specs.Words.{Step}
 use Rattle.cluster_run.proofs.Alike.{Alike}
 use Rattle.cluster_run.proofs.Floored.{follows, run_is}
 

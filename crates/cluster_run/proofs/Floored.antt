@@ -11,15 +11,16 @@ use Rattle.xid.specs.Names.{XidParts}
 use Rattle.xid.specs.Places.{Place, is_lower}
 use Rattle.xid.specs.declared.refusals.Refusal.TheVariants.{Busy, Down, NoMemory, NoSuch}
 use Rattle.stable_record.specs.Facts.{fact_tx}
+use Rattle.protocol.specs.Basics.{Fact}
 use Rattle.protocol.specs.declared.decisions.Outgoing.{Outgoing}
 use Rattle.protocol.specs.declared.events.Change.{Change}
+use Rattle.protocol.specs.Vocabulary.{A, Answer, Ask, Compact, Deliver, Done, End, EndFail, Event, Get, Hear, L, Lose, NodeId, Put, Del, R}
+use Rattle.protocol.specs.Vocabulary.{Raise, Refused, Replace, Request, Restart, Rollback, Start, Step}
 use Rattle.protocol.specs.Effects.{Config}
 use Rattle.protocol.specs.Facts.{view}
 use Rattle.protocol.specs.Nodes.{NodeState, Asked, Fault, NoMemoryBefore, Outcome, compact_outcome, restart_outcome}
 use Rattle.protocol.specs.Worlds.{World, Datagram, Occurrence, StepResult, answer_result, change_of, datagram_at, datagrams_of, if_found}
 use Rattle.protocol.specs.Worlds.{node_at, numbered, outcome_result, step_of, view_number, with_mark, world_after, world_step}
-use Rattle.cluster_run.specs.Words.{A, Answer, Ask, Compact, Deliver, Done, End, EndFail, Event, Fact, Get, Hear, L, Lose, NodeId}
-use Rattle.cluster_run.specs.Words.{Put, Del, R, Raise, Refused, Replace, Request, Restart, Rollback, Start, Step}
 use Rattle.protocol.specs.declared.requests.Request.TheVariants as requests
 use Rattle.floors.specs.Nodes.{forgotten_answer, is_free_below, kept_rise, may_replace, on_least, on_raise, risen}
 use Rattle.floors.specs.Worlds as floored

@@ -10,6 +10,7 @@ use Rattle.xid.specs.Transactions.{TxParts, is_participant, xid_at}
 use Rattle.xid.specs.declared.refusals.Refusal.TheVariants.{BadTx}
 use Rattle.protocol.specs.declared.events.Change.{Change}
 use Rattle.protocol.specs.declared.states.BranchState.{BranchState}
+use Rattle.protocol.specs.Vocabulary.{Action, Refused, Request, Stands, Step, View, Xids}
 use Rattle.protocol.specs.Branches.{hinders}
 use Rattle.protocol.specs.Effects.{Config, is_inside, view_standing}
 use Rattle.protocol.specs.Facts.{is_prepared_view}
@@ -18,8 +19,6 @@ use Rattle.protocol.specs.Nodes.{first_rows}
 use Rattle.protocol.specs.declared.requests.Request.TheVariants as requests
 use Rattle.protocol.proofs.Lists.{any_found, found_any}
 use Rattle.branch_table.specs.OneCall.{view_in_state}
-use Rattle.cluster_run.specs.Words.{Action, Refused, Request}
-use Rattle.cluster_run.specs.Words.{Stands, Step, View, Xids}
 use Rattle.protocol.specs.declared.requests.Request.TheVariants.{Call, Recover, Timeout}
 use Rattle.history.specs.Answers.{answer_to}
 use Rattle.history.specs.Lines.{changes_at, is_spent_back, view_back}

@@ -1,7 +1,8 @@
 -- What a client call of the machine leaves is what one call leaves, and it is answered as one call is.
 use Rattle.std.proofs.Common.{◌≡◌, inl, inr, ◌∙◌, Bool, true, false, if◌then◌else◌, List, refl, sym, ap, subst, ℕ}
 use Rattle.xid.specs.Names.{XidParts}
-use Rattle.cluster_run.specs.Words.{Fact, Action, Start, Row}
+use Rattle.protocol.specs.Basics.{Fact}
+use Rattle.protocol.specs.Vocabulary.{Action, Start, Row}
 use Rattle.protocol.specs.Branches.{BranchView, hinders, is_done}
 use Rattle.protocol.specs.Effects.{Effect}
 use Rattle.protocol.specs.Facts.{bound_branches, is_spent}

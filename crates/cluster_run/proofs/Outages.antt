@@ -6,8 +6,8 @@ use Rattle.std.specs.Option.{option_map_or}
 use Rattle.std.proofs.lemmas.Grind.{flat_map-append}
 use Rattle.std.proofs.lemmas.List.{append-nil, reverse-append}
 use Rattle.protocol.specs.declared.events.Sent.{Sent}
+use Rattle.protocol.specs.Vocabulary.{Answer, Cut, Deliver, Event, Step}
 use Rattle.cluster_run.specs.Answers.{is_down, is_event_here}
-use Rattle.cluster_run.specs.Words.{Answer, Cut, Deliver, Event, Step}
 use Rattle.history.specs.Calls.{is_restart}
 use Rattle.history.specs.Outages.{is_event_at, is_manager, is_out, is_outage, is_record_fault, sent_lines}
 use Rattle.cluster_run.proofs.Alike.{Alike, Nothing, Both, Shown, Hidden, IsQuiet}

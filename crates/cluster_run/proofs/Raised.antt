@@ -6,6 +6,7 @@ use Rattle.std.proofs.lemmas.Bool.{cond_both, both_ways, not-true, eqb-true, ne_
 use Rattle.xid.specs.Places.{Place, is_lower, tx_place, xid_place}
 use Rattle.xid.specs.declared.refusals.Refusal.TheVariants.{Busy, Down, NoMemory, NoSuch}
 use Rattle.xid.proofs.Places.{not_lower, not_lower_self}
+use Rattle.protocol.specs.Vocabulary.{A, Answer, Done, Event, Hear, L, NodeId, R, Raise, Refused, Replace, Request, Step}
 use Rattle.protocol.specs.Effects.{Config}
 use Rattle.protocol.specs.Nodes.{NodeState, Fault, NoMemoryBefore, NoMemoryAt, RecordFails}
 use Rattle.protocol.specs.Worlds.{node_at}
@@ -19,7 +20,6 @@ use Rattle.floors.specs.Worlds.{replace_result, with_entry, with_rise, with_told
 use Rattle.floors.proofs.Places.{self_node}
 use Rattle.floors.proofs.Rising.{entry_own, not_sunk, raise_is}
 use Rattle.cluster_run.specs.Answers.{is_over, may_be_raised, raised_by}
-use Rattle.cluster_run.specs.Words.{A, Answer, Done, Event, Hear, L, NodeId, R, Raise, Refused, Replace, Request, Step}
 use Rattle.cluster_run.proofs.Floored.{IsFlooredRun, AtFirst, Then}
 
 -- ---- places

@@ -3,8 +3,8 @@ use Rattle.std.proofs.Common.{◌≡◌, ◌≢◌, ◌∙◌, ℕ, List, ◌∷
 use Rattle.std.proofs.Math.Path.{fun_ext}
 use Rattle.xid.specs.Transactions.{TxParts, is_participant}
 use Rattle.xid.specs.declared.refusals.Refusal.TheVariants.{Damaged}
+use Rattle.protocol.specs.Vocabulary.{NodeId, Event, Refused, Restart, Step, View}
 use Rattle.cluster_run.specs.Headlines.{views_back, IsSafeStep, AreSafe}
-use Rattle.cluster_run.specs.Words.{NodeId, Event, Refused, Restart, Step, View}
 use Rattle.protocol.specs.Effects.{Config}
 use Rattle.protocol.specs.Nodes.{Fault}
 use Rattle.protocol.specs.TCommit.{IsCommitStep}

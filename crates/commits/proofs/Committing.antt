@@ -4,8 +4,8 @@ use Rattle.std.proofs.Common.{Option, refl, sym, ap, subst, arith}
 use Rattle.xid.specs.Transactions.{TxParts, is_participant}
 use Rattle.xid.specs.declared.transaction.Vote.TheVariants.{Prepared}
 use Rattle.ballot.specs.Majority.{is_majority}
+use Rattle.protocol.specs.Vocabulary.{NodeId, A, Stands as answers}
 use Rattle.safety.specs.CommitSteps.{committed}
-use Rattle.safety.specs.Words.{NodeId, A, Stands as answers}
 use Rattle.safety.specs.Standing.{facts_at, facts_of}
 use Rattle.safety.proofs.Facts.{participates, among_participants}
 use Rattle.protocol.specs.declared.states.Standing.TheVariants as standings

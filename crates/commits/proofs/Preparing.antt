@@ -15,7 +15,8 @@ use Rattle.wire.specs.declared.message.Kind.TheVariants.{Prepare}
 use Rattle.stable_record.specs.Facts.{fact_tx}
 use Rattle.stable_record.specs.declared.fact.FactKind.TheVariants as stored
 use Rattle.ballot.specs.Greatest.{IsIn}
-use Rattle.safety.specs.Words.{Fact, Touched, BranchState, NodeId, A, L, R, Outgoing}
+use Rattle.protocol.specs.Basics.{Fact, Touched}
+use Rattle.protocol.specs.Vocabulary.{BranchState, NodeId, A, L, R, Outgoing}
 use Rattle.safety.specs.Standing.{facts_at, facts_of}
 use Rattle.safety.proofs.World.Events.{safe_ever}
 use Rattle.protocol.specs.Effects.{Config, Effect, is_inside, no_effect, sends_only}

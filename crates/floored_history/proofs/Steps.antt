@@ -2,10 +2,10 @@
 use Rattle.std.proofs.Common.{◌≡◌, ◌∙◌, List, [], ◌∷◌, ◌++◌, refl, sym, ap, subst}
 use Rattle.std.specs.Prelude.{reverse}
 use Rattle.std.proofs.lemmas.List.{reverse-append}
+use Rattle.protocol.specs.Vocabulary.{Event, Step}
 use Rattle.protocol.specs.Effects.{Config}
 use Rattle.protocol.specs.Nodes.{Fault}
 use Rattle.protocol.specs.Worlds.{World, Occurrence, StepResult, opening, step_of, trace, world_after, world_step}
-use Rattle.history.specs.Words.{Event, Step}
 use Rattle.history.proofs.Runs.{IsRun, run_is}
 use Rattle.floors.specs.Worlds.{FlooredWorld, FlooredEvent, Machine, floored_step, machine_part}
 use Rattle.floors.specs.Runs.{IsFlooredReachable, After, all_events, events_in_machine, machine_events, with_fault}

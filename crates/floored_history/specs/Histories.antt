@@ -1,7 +1,7 @@
 -- What happened in a cluster with floors.
 use Rattle.std.specs.Prelude.{List}
+use Rattle.protocol.specs.Vocabulary.{Step}
 use Rattle.protocol.specs.Effects.{Config}
-use Rattle.history.specs.Words.{Step}
 use Rattle.history.specs.Lines.{history}
 use Rattle.floors.specs.Worlds.{FlooredWorld}
 use Rattle.floors.specs.Runs.{IsFlooredReachable, all_events}

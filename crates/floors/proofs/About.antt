@@ -17,12 +17,13 @@ use Rattle.stable_record.specs.declared.fact.Touched.{Touched}
 use Rattle.ballot.specs.Ballots.{next_of}
 use Rattle.ballot.specs.Choice.{is_prepared}
 use Rattle.ballot.specs.Greatest.{IsIn}
+use Rattle.protocol.specs.Basics.{Fact}
 use Rattle.protocol.specs.declared.requests.Request.TheVariants as requests
 use Rattle.protocol.specs.declared.decisions.Address.{Address}
 use Rattle.protocol.specs.declared.decisions.Address.TheVariants.{Acceptors, Leaders, Managers}
 use Rattle.protocol.specs.declared.states.Status.{Status}
 use Rattle.protocol.specs.declared.states.Status.TheVariants as statuses
-use Rattle.safety.specs.Words.{Fact, NodeId, A, L, R, Outgoing}
+use Rattle.protocol.specs.Vocabulary.{NodeId, A, L, R, Outgoing}
 use Rattle.protocol.specs.Acceptors.{Slots, is_some_below, is_accepted, report_after, accept_messages, on_1a, on_b1a, on_2a}
 use Rattle.protocol.specs.Acceptors.{on_acceptor_message}
 use Rattle.protocol.specs.Effects.{Config, Effect, is_inside, to}

@@ -1,8 +1,9 @@
 -- A leader needs nothing in its memory of transactions below its floor.
 use Rattle.std.proofs.Common.{◌≡◌, ℕ, Bool, true, false, if◌then◌else◌, List, Option, refl, ap}
 use Rattle.xid.specs.Places.{Place}
+use Rattle.protocol.specs.Basics.{Fact}
 use Rattle.protocol.specs.declared.requests.Request.TheVariants as requests
-use Rattle.safety.specs.Words.{Fact, L}
+use Rattle.protocol.specs.Vocabulary.{L}
 use Rattle.protocol.specs.Effects.{Config, no_effect}
 use Rattle.protocol.specs.Facts.{last_ballot}
 use Rattle.protocol.specs.Kept.{kept_leader, kept_memory}

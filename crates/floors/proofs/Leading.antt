@@ -10,7 +10,8 @@ use Rattle.xid.specs.Transactions.{TxParts, tx_eq}
 use Rattle.xid.proofs.Deciding.{tx_decides}
 use Rattle.wire.specs.Messages.{message_tx}
 use Rattle.ballot.specs.Greatest.{IsIn}
-use Rattle.safety.specs.Words.{Fact, NodeId, Outgoing, Event, Ask, Deliver, Restart, Timeout}
+use Rattle.protocol.specs.Basics.{Fact}
+use Rattle.protocol.specs.Vocabulary.{NodeId, Outgoing, Event, Ask, Deliver, Restart, Timeout}
 use Rattle.safety.specs.Runs.{IsReachable}
 use Rattle.safety.proofs.World.Outcomes.{step_is}
 use Rattle.protocol.specs.Effects.{Config, receivers}

@@ -18,10 +18,11 @@ use Rattle.wire.specs.declared.message.Kind.TheVariants as kinds
 use Rattle.stable_record.specs.Facts.{fact_tx}
 use Rattle.stable_record.specs.declared.fact.Touched.{Touched}
 use Rattle.ballot.specs.Greatest.{IsIn}
+use Rattle.protocol.specs.Basics.{Fact}
 use Rattle.protocol.specs.declared.requests.Request.TheVariants as requests
 use Rattle.protocol.specs.declared.states.View.TheVariants as views
 use Rattle.protocol.specs.declared.states.BranchState.{BranchState}
-use Rattle.safety.specs.Words.{Fact, NodeId, R, Action, Start, Put, Del, Get, End, EndFail, Rollback, Refused}
+use Rattle.protocol.specs.Vocabulary.{NodeId, R, Action, Start, Put, Del, Get, End, EndFail, Rollback, Refused}
 use Rattle.protocol.specs.Branches.{is_done}
 use Rattle.protocol.specs.Effects.{Config, Effect, is_inside}
 use Rattle.protocol.specs.Facts.{view, is_vote_of, is_commit_of, is_abort_of, is_open_view, is_prepared_view}

@@ -7,9 +7,10 @@ use Rattle.xid.specs.Transactions.{TxParts, is_at, xid_at}
 use Rattle.wire.specs.Messages.{message_tx}
 use Rattle.wire.specs.declared.message.Kind.{Kind}
 use Rattle.ballot.specs.declared.slot.Slot.{Slot}
+use Rattle.protocol.specs.Basics.{Fact}
 use Rattle.protocol.specs.declared.requests.Request.TheVariants as requests
 use Rattle.protocol.specs.declared.states.View.TheVariants as views
-use Rattle.safety.specs.Words.{Fact, NodeId, A, L, R, Action, Row}
+use Rattle.protocol.specs.Vocabulary.{NodeId, A, L, R, Action, Row}
 use Rattle.protocol.specs.Acceptors.{on_acceptor_message}
 use Rattle.protocol.specs.Effects.{Config, Effect, no_effect}
 use Rattle.protocol.specs.Facts.{slot, last_ballot, view, bound_branches}

@@ -7,10 +7,9 @@ use Rattle.std.specs.Option.{option_map_or}
 use Rattle.std.specs.List.{flat_map}
 use Rattle.std.proofs.lemmas.Bool.{cond_both, cond-true, cond-false}
 use Rattle.xid.specs.declared.refusals.Refusal.TheVariants.{NoSuch, Down, Busy}
-use Rattle.safety.specs.Words.{NodeId, A, L, R, Outgoing, Done, Refused, Event, Ask, Deliver, Lose, Restart}
-use Rattle.safety.specs.Words.{Compact}
 use Rattle.protocol.specs.declared.requests.Request.{Request}
 use Rattle.protocol.specs.declared.requests.Request.TheVariants as requests
+use Rattle.protocol.specs.Vocabulary.{NodeId, A, L, R, Outgoing, Done, Refused, Event, Ask, Deliver, Lose, Restart, Compact}
 use Rattle.protocol.specs.Effects.{Config}
 use Rattle.protocol.specs.Nodes.{NodeState, Input, Asked, Received, Fault, NoMemoryBefore, Outcome, node_step, answer_outcome}
 use Rattle.protocol.specs.Nodes.{restart_outcome, compact_outcome}

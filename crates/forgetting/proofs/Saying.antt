@@ -3,7 +3,7 @@ use Rattle.std.proofs.Common.{◌≡◌, ℕ, false, List, Option, Some, None, r
 use Rattle.std.specs.Prelude.{find, option_map}
 use Rattle.std.specs.Option.{option_map_or}
 use Rattle.xid.specs.Transactions.{TxParts, BranchParts, is_at, xid_of, xid_at}
-use Rattle.safety.specs.Words.{Fact}
+use Rattle.protocol.specs.Basics.{Fact}
 use Rattle.protocol.specs.Facts.{is_spent, view}
 use Rattle.protocol.specs.Managers.{stored_votes}
 use Rattle.protocol.proofs.Local.{votes_at, votes_on}

@@ -6,10 +6,11 @@ use Rattle.std.specs.Option.{option_map_or}
 use Rattle.std.specs.Str.{bytes_eq}
 use Rattle.std.proofs.lemmas.Bool.{cond_both}
 use Rattle.xid.specs.Names.{XidParts, xid_eq}
+use Rattle.protocol.specs.Basics.{Act, Touched}
+use Rattle.protocol.specs.Vocabulary.{BranchState, Action, Start, Put, Del, Get, End, EndFail, Rollback}
 use Rattle.protocol.specs.Branches.{BranchView, no_branch}
 use Rattle.protocol.specs.Managers.{Branch, view_named, view_by, last_act}
 use Rattle.branch_table.specs.OneCall.{SameView, view_after_done, new_branch}
-use Rattle.history.specs.Words.{BranchState, Act, Touched, Action, Start, Put, Del, Get, End, EndFail, Rollback}
 use Rattle.history.specs.LookingBack.{is_start, is_end, is_end_fail, is_rollback, state_by, touched_keys, distinct_keys, writes_in}
 use Rattle.history.specs.LookingBack.{branch_by}
 use Rattle.protocol.proofs.DoneCalls.{IsReadyFor}

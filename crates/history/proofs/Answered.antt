@@ -9,6 +9,8 @@ use Rattle.std.proofs.lemmas.List.Sums.{take_while-cons}
 use Rattle.xid.specs.Names.{XidParts, xid_eq}
 use Rattle.xid.specs.Transactions.{TxParts}
 use Rattle.xid.proofs.Deciding.{xid_decides, xid_apart}
+use Rattle.protocol.specs.Vocabulary.{R, BranchState, Event, Answer, Action, Start, Put, Del, Get, End, EndFail, Rollback, Call, Ask, Step}
+use Rattle.protocol.specs.Vocabulary.{Row, Request, Recover, Timeout, A, L}
 use Rattle.protocol.specs.Branches.{is_done, hinders}
 use Rattle.protocol.specs.Effects.{Config}
 use Rattle.protocol.specs.Facts.{bound_branches}
@@ -20,8 +22,6 @@ use Rattle.branch_table.proofs.Views.{view_of, none_hinders, hindered_to}
 use Rattle.protocol.specs.Holds.{IsIn}
 use Rattle.protocol.proofs.Lists.{any_found, found_any, filter_map_given, filter_map_gives}
 use Rattle.protocol.proofs.Manager.Prepared.{names_held_once}
-use Rattle.history.specs.Words.{R, BranchState, Event, Answer, Action, Start, Put, Del, Get, End, EndFail, Rollback, Call, Ask, Step, Row}
-use Rattle.history.specs.Words.{Request, Recover, Timeout, A, L}
 use Rattle.history.specs.Calls.{call_done}
 use Rattle.history.specs.LookingBack.{branch_by, done_at, ends_at, actions_since, is_vote_at, before_vote, prepared_in, branch_back}
 use Rattle.history.specs.LookingBack.{called_name, is_hindered_back, answer_back}

@@ -9,15 +9,15 @@ use Rattle.std.proofs.lemmas.List.{length-set, length-replicate}
 use Rattle.xid.specs.declared.refusals.Refusal.TheVariants.{NoSuch, NoMemory, Forged, Down}
 use Rattle.wire.specs.Decoding.{spells_message}
 use Rattle.wire.specs.Grammar.{spelling}
+use Rattle.protocol.specs.Basics.{Fact}
+use Rattle.protocol.specs.Vocabulary.{NodeId, A, L, R, Event, Ask, Deliver, Lose, Cut, Noise, Tear, Restart, Compact, Request, Answer, Done}
+use Rattle.protocol.specs.Vocabulary.{Refused, Step}
 use Rattle.protocol.specs.Effects.{Config, Effect}
 use Rattle.protocol.specs.Nodes.{Memory, NodeState, new_node, Input, Asked, Received, ReceivedNoise, Fault, NoFault, NoMemoryBefore}
 use Rattle.protocol.specs.Nodes.{NoMemoryAt, RecordFails, accepts_request, down_answer, answer_outcome, effect_of, effect_outcome}
 use Rattle.protocol.specs.Nodes.{node_step, restart_outcome, compact_outcome}
 use Rattle.protocol.specs.Worlds.{World, StepResult, place, node_at, set_node, answer_result, outcome_result, if_found, at_node}
 use Rattle.protocol.specs.Worlds.{datagram_at, with_mark, dispatch, world_step}
-use Rattle.history.specs.Words.{NodeId, A, L, R, Event, Ask, Deliver, Lose, Cut, Noise, Tear, Restart, Compact, Request, Answer, Done}
-use Rattle.history.specs.Words.{Refused}
-use Rattle.history.specs.Words.{Fact, Step}
 use Rattle.history.specs.Outages.{is_record_fault, is_out}
 use Rattle.history.specs.Answers.{IsAmple, IsAnswerOf, IsAnswered, AreAnswered}
 use Rattle.history.proofs.Runs.{IsRun, AtFirst, Then}

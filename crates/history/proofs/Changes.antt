@@ -12,14 +12,15 @@ use Rattle.xid.specs.declared.transaction.Vote.TheVariants as votes
 use Rattle.xid.proofs.Deciding.{tx_self}
 use Rattle.stable_record.specs.Facts.{fact_tx}
 use Rattle.stable_record.specs.declared.fact.FactKind.TheVariants as stored
+use Rattle.protocol.specs.Basics.{Fact}
 use Rattle.protocol.specs.declared.states.View.TheVariants as views
+use Rattle.protocol.specs.Vocabulary.{R, View, Change}
 use Rattle.protocol.specs.Facts.{vote_in, is_ended, is_vote_of, is_commit_of, is_abort_of, view, is_prepared_view, is_open_view}
 use Rattle.protocol.specs.Managers.{Branch}
 use Rattle.protocol.specs.Nodes.{Input}
 use Rattle.protocol.specs.Worlds.{view_number, change_of}
 use Rattle.protocol.proofs.Manager.Views.{casts_decides, aborts_decides, prepared_shows}
 use Rattle.protocol.proofs.Manager.Effects.{IsManagerFact}
-use Rattle.history.specs.Words.{Fact, R, View, Change}
 use Rattle.history.specs.Lines.{view_stored, change_stored}
 
 pub or_none : (b : Bool) → (b || false) ≡ b

@@ -11,7 +11,9 @@ use Rattle.xid.specs.declared.transaction.Vote.TheVariants as votes
 use Rattle.xid.proofs.Deciding.{tx_decides, tx_self}
 use Rattle.stable_record.specs.Facts.{fact_tx}
 use Rattle.stable_record.specs.declared.fact.FactKind.TheVariants as stored
+use Rattle.protocol.specs.Basics.{Fact, Touched}
 use Rattle.protocol.specs.declared.states.View.TheVariants as views
+use Rattle.protocol.specs.Vocabulary.{View, Change, R, Event, Answer, Step}
 use Rattle.protocol.specs.Branches.{is_write}
 use Rattle.protocol.specs.Effects.{Config}
 use Rattle.protocol.specs.Facts.{Bound, is_prepared_view, view}
@@ -30,7 +32,6 @@ use Rattle.protocol.proofs.Manager.Played.{voted_named}
 use Rattle.protocol.proofs.Manager.Prepared.{bound_apart}
 use Rattle.protocol.proofs.Manager.Views.{unended, unvoted, view_is}
 use Rattle.safety.proofs.World.Reachable.{committed_finds, consistent}
-use Rattle.history.specs.Words.{Fact, Touched, View, Change, R, Event, Answer, Step}
 use Rattle.history.specs.Lines.{change_here, change_stored, view_stored}
 use Rattle.history.specs.SerialOrder.{commit_said, with_commit, first_commits}
 use Rattle.history.specs.Writes.{is_committed_view, changed_to}

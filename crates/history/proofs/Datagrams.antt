@@ -8,6 +8,7 @@ use Rattle.std.proofs.lemmas.List.{reverse-append, reverse-reverse}
 use Rattle.wire.specs.Decoding.{spells_message}
 use Rattle.wire.specs.Grammar.{spelling}
 use Rattle.xid.specs.declared.refusals.Refusal.TheVariants.{NoSuch, Forged, Down}
+use Rattle.protocol.specs.Vocabulary.{NodeId, Event, Ask, Deliver, Lose, Cut, Noise, Tear, Restart, Compact, Done, Refused, Sent, Step}
 use Rattle.protocol.specs.Effects.{Config}
 use Rattle.protocol.specs.Nodes.{NodeState, Input, Asked, Received, ReceivedNoise, Fault, NoMemoryBefore, Outcome, node_step}
 use Rattle.protocol.specs.Nodes.{restart_outcome}
@@ -15,7 +16,6 @@ use Rattle.protocol.specs.Nodes.{compact_outcome}
 use Rattle.protocol.specs.Worlds.{Occurrence, trace, world_after, World, Datagram, StepResult, opening, node_at, set_node, answer_result}
 use Rattle.protocol.specs.Worlds.{if_found, outcome_result, at_node}
 use Rattle.protocol.specs.Worlds.{datagram_at, mark_at, with_mark, dispatch, world_step, numbered, step_of}
-use Rattle.history.specs.Words.{NodeId, Event, Ask, Deliver, Lose, Cut, Noise, Tear, Restart, Compact, Done, Refused, Sent, Step}
 use Rattle.history.specs.Outages.{sent_lines, sent_back}
 use Rattle.history.specs.Lines.{history}
 use Rattle.history.proofs.Runs.{IsRun, AtFirst, Then, run_is}

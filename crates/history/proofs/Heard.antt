@@ -14,6 +14,9 @@ use Rattle.wire.specs.declared.items.InstanceReport.{InstanceReport}
 use Rattle.wire.specs.declared.items.InstanceAccept.{InstanceAccept}
 use Rattle.wire.specs.Decoding.{spells_message}
 use Rattle.wire.specs.Grammar.{spelling}
+use Rattle.protocol.specs.Basics.{Fact}
+use Rattle.protocol.specs.Vocabulary.{NodeId, A, L, R, Event, Ask, Deliver, Lose, Cut, Noise, Tear, Restart, Compact, Request, Call}
+use Rattle.protocol.specs.Vocabulary.{Recover, Timeout, Answer, Done, Refused, Sent, Step}
 use Rattle.protocol.specs.Effects.{Config, Effect, is_inside}
 use Rattle.ballot.specs.Ballots.{next_of}
 use Rattle.protocol.specs.Facts.{last_ballot}
@@ -31,9 +34,6 @@ use Rattle.protocol.proofs.Lists.{IsIn-before, IsIn-after, filter_kept}
 use Rattle.safety.proofs.World.Growth.{same_node}
 use Rattle.safety.proofs.World.NodePlaces.{node_there, node_elsewhere, opening_node}
 use Rattle.safety.proofs.World.Outcomes.{KeepsFacts, step_is}
-use Rattle.history.specs.Words.{NodeId, A, L, R, Event, Ask, Deliver, Lose, Cut, Noise, Tear, Restart, Compact, Request, Call, Recover}
-use Rattle.history.specs.Words.{Timeout}
-use Rattle.history.specs.Words.{Fact, Answer, Done, Refused, Sent, Step}
 use Rattle.history.specs.Heard.{is_leader, is_leader_restart, came_at, came_since}
 use Rattle.history.proofs.Runs.{IsRun, AtFirst, Then}
 use Rattle.history.proofs.Datagrams.{line_of, sent_is}

@@ -3,6 +3,8 @@ use Rattle.std.proofs.Common.{◌≡◌, ◌≢◌, ◌⊎◌, inl, inr, ◌∙�
 use Rattle.std.proofs.lemmas.Bool.{false_from_ne_true}
 use Rattle.xid.specs.Names.{XidParts, xid_eq}
 use Rattle.xid.proofs.Deciding.{xid_decides}
+use Rattle.protocol.specs.Basics.{Fact}
+use Rattle.protocol.specs.Vocabulary.{R, Step}
 use Rattle.protocol.specs.Branches.{BranchView, no_branch, is_write}
 use Rattle.protocol.specs.Effects.{Config}
 use Rattle.protocol.specs.Facts.{bound_branches}
@@ -14,7 +16,6 @@ use Rattle.protocol.specs.Holds.{IsIn}
 use Rattle.protocol.specs.Holds.{AreApart}
 use Rattle.protocol.proofs.Manager.Apart.{none_apart}
 use Rattle.protocol.proofs.Manager.Prepared as holds
-use Rattle.history.specs.Words.{Fact, R, Step}
 use Rattle.history.specs.LookingBack.{branch_back}
 use Rattle.history.proofs.Moves.{manager_in, branches_of, left_by, IsMove, Quiet, Restarted, Called, Stored, event_moved}
 use Rattle.history.proofs.Runs.{IsRun, AtFirst, Then, new_manager}

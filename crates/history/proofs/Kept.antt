@@ -11,7 +11,9 @@ use Rattle.xid.specs.declared.transaction.Vote.TheVariants as votes
 use Rattle.xid.proofs.Deciding.{xid_decides}
 use Rattle.stable_record.specs.Facts.{AreAscending, fact_tx}
 use Rattle.stable_record.specs.declared.fact.FactKind.TheVariants as stored
+use Rattle.protocol.specs.Basics.{Fact, Touched, Act}
 use Rattle.protocol.specs.declared.states.BranchState.TheVariants.{Active, Prepared}
+use Rattle.protocol.specs.Vocabulary.{BranchState, Action, Start, Put, Del, Get, End, EndFail, Rollback, Step, Row}
 use Rattle.protocol.specs.Branches.{BranchView, no_branch, is_done, hinders, rollback_answer}
 use Rattle.protocol.specs.Effects.{Config}
 use Rattle.protocol.specs.Facts.{is_spent, bound_branches}
@@ -26,8 +28,6 @@ use Rattle.protocol.proofs.Manager.Apart.{idle_branch, name_of}
 use Rattle.protocol.proofs.Manager.Effects.{IsManagerFact}
 use Rattle.protocol.proofs.Manager.Keys.{spent_by}
 use Rattle.protocol.proofs.Manager.Views.{prepared_shows}
-use Rattle.history.specs.Words.{Fact, Touched, Act, BranchState, Action, Start, Put, Del, Get, End, EndFail, Rollback}
-use Rattle.history.specs.Words.{Step, Row}
 use Rattle.history.specs.Calls.{is_restart}
 use Rattle.history.specs.Lines.{change_stored}
 use Rattle.history.specs.LookingBack.{is_name_at, is_start, is_rollback, state_by, branch_by, done_at, writes_in, last_act_on}

@@ -12,7 +12,9 @@ use Rattle.xid.specs.declared.transaction.Vote.TheVariants as votes
 use Rattle.xid.proofs.Deciding.{xid_decides, tx_decides, tx_self}
 use Rattle.stable_record.specs.Facts.{fact_tx}
 use Rattle.stable_record.specs.declared.fact.FactKind.TheVariants as stored
+use Rattle.protocol.specs.Basics.{Fact, Touched}
 use Rattle.protocol.specs.declared.states.View.TheVariants as views
+use Rattle.protocol.specs.Vocabulary.{View, Action, Start, Put, Del, Get, End, EndFail, Rollback, Step}
 use Rattle.protocol.specs.Branches.{BranchView, is_write, is_done, key_of}
 use Rattle.protocol.specs.Effects.{Config}
 use Rattle.protocol.specs.Facts.{Bound, is_prepared_view, is_open_view, is_vote_of, view}
@@ -28,7 +30,6 @@ use Rattle.protocol.proofs.Manager.Apart.{stored_bound, idle_branch, name_of}
 use Rattle.protocol.proofs.Manager.Effects.{IsManagerFact}
 use Rattle.protocol.proofs.Manager.Prepared.{bound_apart}
 use Rattle.protocol.proofs.Manager.Views.{view_is}
-use Rattle.history.specs.Words.{Fact, Touched, View, Action, Start, Put, Del, Get, End, EndFail, Rollback, Step}
 use Rattle.history.specs.Calls.{is_restart}
 use Rattle.history.specs.Lines.{change_stored}
 use Rattle.history.specs.LookingBack.{is_name_at, is_rollback, touched_keys, branch_by, done_at, actions_since}

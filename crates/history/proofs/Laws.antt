@@ -9,6 +9,8 @@ use Rattle.xid.specs.Names.{XidParts}
 use Rattle.xid.specs.Transactions.{TxParts, is_participant, xid_at}
 use Rattle.xid.specs.declared.refusals.Refusal.TheVariants.{BadTx, NoSuch}
 use Rattle.stable_record.specs.declared.fact.FactKind.TheVariants as stored
+use Rattle.protocol.specs.Basics.{Fact, Touched}
+use Rattle.protocol.specs.Vocabulary.{R, Ask, View, Row, Step, Request, Call, Recover, Timeout, Done, Xids, Stands, Refused}
 use Rattle.protocol.specs.Branches.{BranchView}
 use Rattle.protocol.specs.Effects.{Config, Effect, is_inside, view_standing}
 use Rattle.protocol.specs.Facts.{view, is_spent, bound_branches}
@@ -19,7 +21,6 @@ use Rattle.protocol.specs.Tables.{table}
 use Rattle.protocol.specs.Worlds.{World, node_at, if_found, outcome_result, at_node, world_step, table_at}
 use Rattle.protocol.specs.Holds.{IsIn}
 use Rattle.safety.specs.Standing.{facts_at}
-use Rattle.history.specs.Words.{R, Ask, Fact, Touched, View, Row, Step, Request, Call, Recover, Timeout, Done, Xids, Stands, Refused}
 use Rattle.history.specs.Lines.{changes_at, change_stored, view_back, is_spent_back}
 use Rattle.history.specs.LookingBack.{branch_back, answer_back, actions_since, writes_in, last_act_on}
 use Rattle.history.specs.Writes.{actions_since_start, table_back}

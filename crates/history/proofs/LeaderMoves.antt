@@ -17,6 +17,8 @@ use Rattle.wire.specs.declared.message.Kind.{Kind}
 use Rattle.wire.specs.declared.message.Kind.TheVariants as kinds
 use Rattle.ballot.specs.Ballots.{next_of}
 use Rattle.ballot.specs.Greatest.{IsIn}
+use Rattle.protocol.specs.Basics.{Fact}
+use Rattle.protocol.specs.Vocabulary.{L, R, Status, Request, Timeout, Event, Ask, Deliver, Done, Stands, Refused, Change, Step}
 use Rattle.protocol.specs.Effects.{Config, Effect, is_inside, to, answer_only, no_effect, sends_only, stores, status_standing}
 use Rattle.protocol.specs.LeaderMemory.{Begun, LeaderMemory, StoredBallots, current, is_decided, is_known, status_of, with_met, with_heard}
 use Rattle.protocol.specs.LeaderMemory.{with_all_heard, is_counted, with_begun, is_phase_1b, is_reported, is_proposed, value_to_propose}
@@ -28,7 +30,6 @@ use Rattle.protocol.specs.declared.decisions.Address.{Address}
 use Rattle.protocol.specs.declared.decisions.Address.TheVariants.{Node, Acceptors, Managers}
 use Rattle.protocol.specs.declared.decisions.Outgoing.{Outgoing}
 use Rattle.protocol.proofs.Lists.{IsIn-after, IsIn-before, IsIn-append, IsIn-mapped, filter_map_given, only_one}
-use Rattle.history.specs.Words.{Fact, L, R, Status, Request, Timeout, Event, Ask, Deliver, Done, Stands, Refused, Change, Step}
 use Rattle.history.specs.LeaderBack.{sent_by, ballot_begun_by, proposal_in, began_at, begins_at, taken_at, told_of, met_at, is_settled}
 use Rattle.history.specs.LeaderBack.{counts, counted_of, joined_to, still_heard}
 use Rattle.history.proofs.LeaderSends.{own_sent, copies, unread, proposals_said, only_any, only_find, ballot_said, none_proposed}

@@ -14,6 +14,9 @@ use Rattle.wire.specs.Decoding.{spells_message}
 use Rattle.wire.specs.Grammar.{spelling}
 use Rattle.stable_record.specs.Frames.{frame_length}
 use Rattle.ballot.specs.Greatest.{IsIn}
+use Rattle.protocol.specs.Basics.{Fact}
+use Rattle.protocol.specs.Vocabulary.{NodeId, A, L, R, Event, Ask, Deliver, Lose, Cut, Noise, Tear, Restart, Compact, Request, Call}
+use Rattle.protocol.specs.Vocabulary.{Recover, Timeout, Answer, Done, Refused, Change, Sent, Status, Step}
 use Rattle.protocol.specs.Effects.{Config, Effect}
 use Rattle.protocol.specs.Facts.{last_ballot}
 use Rattle.protocol.specs.LeaderMemory.{LeaderMemory, StoredBallots, current, is_decided, nothing_heard, status_of}
@@ -29,9 +32,6 @@ use Rattle.protocol.specs.declared.decisions.Outgoing.{Outgoing}
 use Rattle.protocol.proofs.Lists.{IsIn-after, IsIn-before, IsIn-append, filter_kept, filter_keeps}
 use Rattle.safety.proofs.World.Growth.{same_node}
 use Rattle.safety.proofs.World.NodePlaces.{node_there, node_elsewhere, opening_node}
-use Rattle.history.specs.Words.{Fact, NodeId, A, L, R, Event, Ask, Deliver, Lose, Cut, Noise, Tear, Restart, Compact, Request, Call}
-use Rattle.history.specs.Words.{Recover}
-use Rattle.history.specs.Words.{Timeout, Answer, Done, Refused, Change, Sent, Status, Step}
 use Rattle.history.specs.Heard.{is_leader, is_leader_restart}
 use Rattle.history.specs.LeaderBack.{sent_by, proposal_in, began_at, begins_at, taken_at, told_of, met_at, is_met_back, current_back}
 use Rattle.history.specs.LeaderBack.{proposed_back, counted_of, joined_to, still_heard, heard_back, status_back}

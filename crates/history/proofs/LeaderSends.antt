@@ -8,6 +8,7 @@ use Rattle.xid.specs.Transactions.{TxParts, participants}
 use Rattle.wire.specs.Messages.{message_tx}
 use Rattle.wire.specs.declared.message.Kind.{Kind}
 use Rattle.wire.specs.declared.message.Kind.TheVariants.{P1a, B1a}
+use Rattle.protocol.specs.Vocabulary.{NodeId, A, L}
 use Rattle.protocol.specs.Effects.{Config, receivers, to}
 use Rattle.protocol.specs.LeaderMemory.{Begun}
 use Rattle.protocol.specs.Leaders.{phase_1a}
@@ -18,7 +19,6 @@ use Rattle.ballot.specs.Greatest.{IsIn}
 use Rattle.std.proofs.lemmas.Bool.{cond_both, false_from_ne_true}
 use Rattle.protocol.proofs.Lists.{IsIn-join, IsIn-joined, IsIn-map, IsIn-mapped, IsMapSource, filter_map_given, filter_map_gives, found_any}
 use Rattle.protocol.proofs.Lists.{any_found, any_find, found_among, only_one}
-use Rattle.history.specs.Words.{NodeId, A, L}
 use Rattle.history.specs.Heard.{is_leader}
 use Rattle.history.specs.LeaderBack.{sent_by, ballot_begun_by, proposal_in}
 

@@ -2,10 +2,10 @@
 use Rattle.std.specs.Prelude.{◌≡◌, refl, true, false, List, [], ◌∷◌, ◌++◌, map, Some, None}
 use Rattle.xid.specs.declared.transaction.Vote.TheVariants as votes
 use Rattle.wire.specs.declared.message.Kind.TheVariants.{P1b, P2b}
+use Rattle.protocol.specs.Vocabulary.{L, Status, Event, Deliver, Restart, Step}
 use Rattle.protocol.specs.Effects.{Config}
 use Rattle.protocol.specs.LeaderMemory.{is_proposed}
 use Rattle.protocol.proofs.RowWords.{two, one, cluster, with_bundles, well, timeout, deliveries, one_ended, two_ended}
-use Rattle.history.specs.Words.{L, Status, Event, Deliver, Restart, Step}
 use Rattle.history.specs.Lines.{history}
 use Rattle.history.specs.LeaderBack.{is_met_back, current_back, proposed_back, heard_back, status_back}
 

@@ -17,6 +17,9 @@ use Rattle.wire.specs.Messages.{message_tx}
 use Rattle.stable_record.specs.Facts.{fact_tx}
 use Rattle.stable_record.specs.Frames.{frame_length}
 use Rattle.stable_record.specs.declared.fact.FactKind.TheVariants as stored
+use Rattle.protocol.specs.Basics.{Fact, Touched}
+use Rattle.protocol.specs.Vocabulary.{Change, NodeId, A, L, R, Answer, Done, Code, Refused, Event, Ask, Deliver, Lose, Cut, Noise, Tear}
+use Rattle.protocol.specs.Vocabulary.{Restart, Compact, Request, Call, Recover, Timeout, Action}
 use Rattle.protocol.specs.Branches.{is_done}
 use Rattle.protocol.specs.Effects.{Config, Effect, is_inside}
 use Rattle.protocol.specs.Facts.{is_prepared_view, is_open_view, view, vote_in, is_ended, is_spent}
@@ -35,8 +38,6 @@ use Rattle.protocol.proofs.Manager.Apart.{manager_stays_apart}
 use Rattle.protocol.proofs.Manager.Effects.{IsManagerFact, manager_effect_is}
 use Rattle.safety.proofs.World.Growth.{same_node}
 use Rattle.safety.proofs.World.NodePlaces.{node_there, node_elsewhere}
-use Rattle.history.specs.Words.{Fact, Touched, Change, NodeId, A, L, R, Answer, Done, Code, Refused, Event, Ask, Deliver, Lose, Cut, Noise}
-use Rattle.history.specs.Words.{Tear, Restart, Compact, Request, Call, Recover, Timeout, Action}
 use Rattle.history.specs.Lines.{change_here, change_stored}
 use Rattle.history.specs.Calls.{call_done, is_restart}
 use Rattle.history.proofs.Undone.{no_call_by, no_call_refused, no_restart_refused, undone_down}

@@ -15,6 +15,10 @@ use Rattle.wire.specs.declared.message.Kind.{Kind}
 use Rattle.wire.specs.declared.message.Kind.TheVariants as kinds
 use Rattle.wire.specs.Messages.{message_tx}
 use Rattle.xid.specs.Limits.{most_touched}
+use Rattle.protocol.specs.Basics.{Fact, Touched}
+use Rattle.protocol.specs.Vocabulary.{NodeId, A, L, R, Answer, Done, Code, Refused, Event, Ask, Deliver, Lose, Cut, Noise, Tear, Restart}
+use Rattle.protocol.specs.Vocabulary.{Compact, Request, Call, Recover, Timeout, Action, Start, Put, Del, Get, End, EndFail, Rollback, Row}
+use Rattle.protocol.specs.Vocabulary.{Sent, Step, BranchState}
 use Rattle.protocol.specs.Branches.{BranchView, by_state, read_of, get_answer, rollback_answer, call_answer}
 use Rattle.protocol.specs.Effects.{Config, Effect, is_inside}
 use Rattle.protocol.specs.Facts.{is_prepared_view, is_open_view, is_spent, vote_in, is_ended, view}
@@ -28,10 +32,6 @@ use Rattle.safety.specs.Standing.{facts_of}
 use Rattle.safety.proofs.World.Growth.{same_node}
 use Rattle.safety.proofs.World.Reachable.{play}
 use Rattle.safety.proofs.World.NodePlaces.{node_there, node_elsewhere}
-use Rattle.history.specs.Words.{Fact, Touched, NodeId, A, L, R, Answer, Done, Code, Refused, Event, Ask, Deliver, Lose, Cut, Noise}
-use Rattle.history.specs.Words.{Tear, Restart, Compact, Request, Call, Recover, Timeout, Action, Start, Put, Del, Get, End, EndFail}
-use Rattle.history.specs.Words.{Rollback}
-use Rattle.history.specs.Words.{Row, Sent, Step, BranchState}
 use Rattle.history.specs.Calls.{is_restart}
 use Rattle.history.specs.Outages.{is_manager, is_sent_to, is_event_at, is_record_fault, is_outage, is_out}
 use Rattle.history.proofs.Moves.{manager_in}

@@ -7,11 +7,12 @@ use Rattle.std.specs.Str.{bytes_eq}
 use Rattle.std.proofs.lemmas.List.{reverse-append}
 use Rattle.std.proofs.lemmas.List.Sums.{fold-append}
 use Rattle.stable_record.specs.Facts.{AreAscending}
+use Rattle.protocol.specs.Basics.{Act, Touched}
+use Rattle.protocol.specs.Vocabulary.{Action, Put, Del, Row}
 use Rattle.protocol.specs.Branches.{row_at, value_after}
 use Rattle.protocol.specs.Managers.{act_on}
 use Rattle.protocol.specs.Tables.{with_writes}
 use Rattle.branch_table.proofs.TableRows.{AscendRows, after_there, keys_there, same_rows, writes_ascend}
-use Rattle.history.specs.Words.{Act, Touched, Action, Put, Del, Row}
 use Rattle.history.specs.LookingBack.{writes_in, last_act_on}
 
 -- writes one after another: the last one of each key stands

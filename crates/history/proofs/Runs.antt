@@ -4,13 +4,14 @@ use Rattle.std.specs.Prelude.{reverse}
 use Rattle.std.specs.List.{cons_option}
 use Rattle.std.specs.Option.{option_and_then}
 use Rattle.std.proofs.lemmas.List.{append-nil, map-append, reverse-append}
+use Rattle.protocol.specs.Basics.{Fact}
+use Rattle.protocol.specs.Vocabulary.{Change, R, Answer, Event, Step}
 use Rattle.protocol.specs.Effects.{Config}
 use Rattle.protocol.specs.Nodes.{NodeState, new_node, Fault}
 use Rattle.protocol.specs.Worlds.{World, Occurrence, opening, node_at, step_of, trace, world_after, world_step}
 use Rattle.safety.specs.Runs.{IsReachable, Opening, After}
 use Rattle.safety.specs.Standing.{facts_of, facts_at}
 use Rattle.safety.proofs.World.NodePlaces.{opening_node}
-use Rattle.history.specs.Words.{Fact, Change, R, Answer, Event, Step}
 use Rattle.history.specs.Lines.{history, change_here, changes_at, change_stored}
 use Rattle.history.proofs.Moves.{manager_in, IsMove, Quiet, Restarted, Called, Stored, event_moved}
 

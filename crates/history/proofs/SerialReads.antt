@@ -16,8 +16,10 @@ use Rattle.xid.specs.declared.codes.XaCode.TheVariants as codes
 use Rattle.xid.specs.declared.refusals.Refusal.TheVariants.{Busy, Full}
 use Rattle.xid.proofs.Deciding.{xid_decides, tx_decides, tx_self}
 use Rattle.stable_record.specs.declared.fact.FactKind.TheVariants as stored
+use Rattle.protocol.specs.Basics.{Act, Fact, Touched}
 use Rattle.protocol.specs.declared.states.BranchState.TheVariants.{Active, Idle, RollbackOnly, Prepared}
 use Rattle.protocol.specs.declared.states.View.TheVariants as views
+use Rattle.protocol.specs.Vocabulary.{BranchState, View, Action, Start, Get, Change, Answer, Code, Refused, Event, Row, Step}
 use Rattle.protocol.specs.Branches.{BranchView, is_write, is_done, hinders, row_at, read_of, get_answer, by_state, key_fits, value_after}
 use Rattle.protocol.specs.Effects.{Config}
 use Rattle.protocol.specs.Facts.{Bound, branch_bound_by, is_prepared_view, bound_branches, is_spent, view}
@@ -36,8 +38,6 @@ use Rattle.protocol.proofs.Manager.Played.{voted_named}
 use Rattle.protocol.proofs.Manager.Prepared.{bound_apart}
 use Rattle.protocol.proofs.Manager.Views.{view_is}
 use Rattle.safety.proofs.World.Reachable.{consistent}
-use Rattle.history.specs.Words.{Act, Fact, Touched, BranchState, View, Action, Start, Get, Change, Answer, Code, Refused, Event, Row}
-use Rattle.history.specs.Words.{Step}
 use Rattle.history.specs.Calls.{call_done}
 use Rattle.history.specs.LookingBack.{is_start, branch_by, done_at, actions_since, writes_in, last_act_on}
 use Rattle.history.specs.SerialOrder.{first_commits, those_before, serial_table, serial_read}

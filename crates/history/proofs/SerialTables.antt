@@ -11,7 +11,9 @@ use Rattle.xid.proofs.Deciding.{tx_decides}
 use Rattle.xid.specs.declared.transaction.Vote.TheVariants as votes
 use Rattle.stable_record.specs.Facts.{AreAscending}
 use Rattle.stable_record.specs.declared.fact.FactKind.TheVariants as stored
+use Rattle.protocol.specs.Basics.{Fact, Act, Touched}
 use Rattle.protocol.specs.declared.states.View.TheVariants as views
+use Rattle.protocol.specs.Vocabulary.{View, Row, Step}
 use Rattle.protocol.specs.Branches.{BranchView, no_branch, is_write, row_at, value_after}
 use Rattle.protocol.specs.Effects.{Config}
 use Rattle.protocol.specs.Facts.{Bound, branch_bound_by, view}
@@ -27,7 +29,6 @@ use Rattle.protocol.proofs.Manager.Keys.{names_name}
 use Rattle.protocol.proofs.Manager.Played.{voted_named}
 use Rattle.protocol.proofs.Manager.Effects.{name_names}
 use Rattle.protocol.proofs.Manager.Views.{view_is}
-use Rattle.history.specs.Words.{Fact, Act, Touched, View, Row, Step}
 use Rattle.history.specs.Lines.{changes_at, change_stored, view_back}
 use Rattle.history.specs.LookingBack.{branch_by, actions_since, before_vote}
 use Rattle.history.specs.SerialOrder.{first_commits, committed_at, stands_first, voted_branch, is_conflict, serial_table}

@@ -3,9 +3,9 @@ use Rattle.std.specs.Prelude.{◌≡◌, refl, true, false, ℕ, List, [], ◌�
 use Rattle.xid.specs.Names.{XidParts}
 use Rattle.xid.specs.Transactions.{TxParts}
 use Rattle.protocol.specs.declared.states.View.TheVariants as views
+use Rattle.protocol.specs.Vocabulary.{View, Answer, Value, Done, Event, Deliver, Start, Get, End, Row, Step}
 use Rattle.protocol.specs.Effects.{Config}
 use Rattle.protocol.proofs.RowWords.{x, y, z, two, row, cluster, well, call, put, commit, deliveries, ok}
-use Rattle.history.specs.Words.{View, Answer, Value, Done, Event, Deliver, Start, Get, End, Row, Step}
 use Rattle.history.specs.Lines.{history}
 use Rattle.history.specs.SerialOrder.{first_commits, committed_at, stands_first, voted_branch, is_conflict, serial_table, serial_read}
 use Rattle.history.specs.Writes.{commit_order, table_back}

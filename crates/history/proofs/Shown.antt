@@ -9,6 +9,7 @@ use Rattle.xid.specs.Transactions.{TxParts, tx_eq, xid_at}
 use Rattle.xid.proofs.Deciding.{xid_decides, xid_self, tx_decides}
 use Rattle.protocol.specs.declared.states.BranchState.TheVariants.{Prepared}
 use Rattle.protocol.specs.declared.states.View.TheVariants as views
+use Rattle.protocol.specs.Vocabulary.{Change, Step}
 use Rattle.protocol.specs.Branches.{BranchView}
 use Rattle.protocol.specs.Effects.{Config}
 use Rattle.protocol.specs.Facts.{Bound, is_prepared_view, bound_branches}
@@ -22,8 +23,6 @@ use Rattle.protocol.proofs.Lists.{filter_map_gives}
 use Rattle.protocol.proofs.Manager.Apart.{bound_stored, stored_bound}
 use Rattle.protocol.proofs.Manager.Prepared.{prepared_or_not, names_held_once}
 use Rattle.protocol.proofs.Manager.Views.{prepared_shows}
-use Rattle.history.specs.Words.{Change}
-use Rattle.history.specs.Words.{Step}
 use Rattle.history.specs.Lines.{changes_at, view_back}
 use Rattle.history.specs.LookingBack.{branch_by, is_name_at, actions_since, before_vote, prepared_in, branch_back}
 use Rattle.history.proofs.Moves.{branches_of}

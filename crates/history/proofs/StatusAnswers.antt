@@ -3,12 +3,12 @@ use Rattle.std.proofs.Common.{◌≡◌, ◌<◌, ◌∙◌, ℕ, true, not, if�
 use Rattle.std.proofs.lemmas.Bool.{cond_both, both_ways, not-true}
 use Rattle.xid.specs.Transactions.{TxParts}
 use Rattle.xid.specs.declared.refusals.Refusal.TheVariants.{BadTx}
+use Rattle.protocol.specs.Vocabulary.{L, Ask, Request, Status, Stands, Refused, Step}
 use Rattle.protocol.specs.Effects.{Config, Effect, is_inside, status_standing}
 use Rattle.protocol.specs.Facts.{last_ballot}
 use Rattle.protocol.specs.Nodes.{Memory, NodeState, Asked, Fault, NoFault, NoMemoryBefore, NoMemoryAt, RecordFails, effect_of}
 use Rattle.protocol.specs.Nodes.{effect_outcome, Outcome, node_step}
 use Rattle.protocol.specs.Worlds.{World, node_at, if_found, outcome_result, at_node, world_step}
-use Rattle.history.specs.Words.{L, Ask, Request, Status, Stands, Refused, Step}
 use Rattle.history.specs.Answers.{IsAmple}
 use Rattle.history.specs.LeaderBack.{status_answer}
 use Rattle.history.proofs.Runs.{IsRun}

@@ -7,7 +7,7 @@ use Rattle.std.specs.Option.{option_map_or}
 use Rattle.std.proofs.lemmas.List.Sums.{take_while-cons}
 use Rattle.xid.specs.Names.{XidParts}
 use Rattle.xid.specs.Transactions.{TxParts}
-use Rattle.history.specs.Words.{Change, Step, Action}
+use Rattle.protocol.specs.Vocabulary.{Change, Step, Action}
 use Rattle.history.specs.Lines.{change_at, changes_at}
 use Rattle.history.specs.Calls.{is_restart}
 use Rattle.history.specs.LookingBack.{is_rollback, done_at, is_name_at, ends_at, actions_since, is_vote_at, before_vote}

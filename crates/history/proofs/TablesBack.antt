@@ -9,6 +9,8 @@ use Rattle.xid.specs.Transactions.{TxParts, tx_eq, xid_at}
 use Rattle.xid.specs.declared.transaction.Vote.TheVariants as votes
 use Rattle.xid.proofs.Deciding.{tx_decides, tx_self}
 use Rattle.stable_record.specs.declared.fact.FactKind.TheVariants as stored
+use Rattle.protocol.specs.Basics.{Fact, Touched}
+use Rattle.protocol.specs.Vocabulary.{Change, Step, Row}
 use Rattle.protocol.specs.Effects.{Config}
 use Rattle.protocol.specs.Facts.{Bound, branch_bound_by, bound_branches, is_prepared_view}
 use Rattle.protocol.specs.Managers.{insert_xid}
@@ -19,7 +21,6 @@ use Rattle.protocol.proofs.Lists.{found_any, found_among, any_find, filter_map_g
 use Rattle.protocol.proofs.Manager.Apart.{bound_is}
 use Rattle.protocol.proofs.Manager.Keys.{names_name}
 use Rattle.protocol.proofs.Manager.Played.{voted_named}
-use Rattle.history.specs.Words.{Fact, Touched, Change, Step, Row}
 use Rattle.history.specs.Lines.{changes_at, change_stored, view_back}
 use Rattle.history.specs.Writes.{actions_since_start, accepted_writes, writes_of, is_committed_view, changed_to, commit_order, table_back}
 use Rattle.history.specs.Writes.{names_prepared}

@@ -13,8 +13,10 @@ use Rattle.xid.specs.declared.transaction.Vote.TheVariants as votes
 use Rattle.xid.proofs.Deciding.{xid_decides, xid_self, tx_decides, tx_self}
 use Rattle.stable_record.specs.Facts.{fact_tx}
 use Rattle.stable_record.specs.declared.fact.FactKind.TheVariants as stored
+use Rattle.protocol.specs.Basics.{Fact, Touched}
 use Rattle.protocol.specs.declared.states.BranchState.TheVariants.{Prepared}
 use Rattle.protocol.specs.declared.states.View.TheVariants as views
+use Rattle.protocol.specs.Vocabulary.{Change, R, Event, Action, Step, Rollback, Row}
 use Rattle.protocol.specs.Branches.{BranchView, no_branch, is_done}
 use Rattle.protocol.specs.Effects.{Config}
 use Rattle.protocol.specs.Facts.{view, is_spent, is_prepared_view}
@@ -35,7 +37,6 @@ use Rattle.protocol.proofs.Manager.Played.{voted_named}
 use Rattle.protocol.proofs.Manager.Views.{prepared_shows, unvoted}
 use Rattle.safety.proofs.World.Events.{safe_ever}
 use Rattle.safety.proofs.World.SafeSteps.{IsSafe}
-use Rattle.history.specs.Words.{Fact, Touched, Change, R, Event, Action, Step, Rollback, Row}
 use Rattle.history.specs.Lines.{change_at, changes_at, change_stored, view_stored, view_back, is_spent_back}
 use Rattle.history.specs.Calls.{call_done, is_restart}
 use Rattle.history.specs.LookingBack.{is_rollback, branch_by, done_at, actions_since, is_vote_at, before_vote}

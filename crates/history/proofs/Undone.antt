@@ -3,9 +3,9 @@ use Rattle.std.proofs.Common.{◌≡◌, ℕ, Bool, false, ◌&&◌, ◌==◌, i
 use Rattle.xid.specs.Names.{XidParts, xid_eq}
 use Rattle.xid.specs.declared.refusals.Refusal.{Refusal}
 use Rattle.xid.specs.declared.codes.XaCode.TheVariants as codes
+use Rattle.protocol.specs.Vocabulary.{A, Action, Answer, Ask, Call, Code, Del, End, EndFail, Event, Get, L, Put, R, Recover, Refused}
+use Rattle.protocol.specs.Vocabulary.{Request, Restart, Rollback, Start, Timeout}
 use Rattle.protocol.specs.Branches.{is_done}
-use Rattle.history.specs.Words.{A, Action, Answer, Ask, Call, Code, Del, End, EndFail, Event, Get, L, Put, R, Recover, Refused, Request}
-use Rattle.history.specs.Words.{Restart, Rollback, Start, Timeout}
 use Rattle.history.specs.Calls.{call_done, is_restart}
 
 -- an action that is refused is not done, and none is at a manager that is down

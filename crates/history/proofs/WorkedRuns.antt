@@ -5,14 +5,12 @@ use Rattle.xid.specs.declared.codes.XaCode.TheVariants as codes
 use Rattle.xid.specs.declared.refusals.Refusal.TheVariants.{Busy}
 use Rattle.stable_record.specs.declared.fact.Act.TheVariants as acts
 use Rattle.protocol.specs.declared.states.Standing.TheVariants as standings
+use Rattle.protocol.specs.Vocabulary.{L, R, Answer, Code, Value, Xids, Stands, Refused, Event, Ask, Deliver, Tear, Restart, Compact, Action}
+use Rattle.protocol.specs.Vocabulary.{Start, Get, End, Rollback, Step, Recover}
 use Rattle.protocol.specs.Effects.{Config}
 use Rattle.protocol.specs.Nodes.{first_rows}
 use Rattle.protocol.proofs.RowWords.{x, y, z, two, one, other_one, row, cluster, cluster_with_row, well, call, put, recover, view, commit}
 use Rattle.protocol.proofs.RowWords.{deliveries, ok, two_ended, one_ended}
-use Rattle.history.specs.Words.{L, R, Answer, Code, Value, Xids, Stands, Refused, Event, Ask, Deliver, Tear, Restart}
-use Rattle.history.specs.Words.{Compact, Action, Start}
-use Rattle.history.specs.Words.{Get, End}
-use Rattle.history.specs.Words.{Rollback, Step, Recover}
 use Rattle.history.specs.Lines.{history}
 use Rattle.history.specs.Writes.{accepted_writes, commit_order, table_back}
 use Rattle.history.specs.Answers.{answer_to}

@@ -1,8 +1,8 @@
 -- What a step did to the branches of a resource manager.
 use Rattle.std.specs.Prelude.{ℕ, Bool, false, ◌&&◌, ◌==◌, if◌then◌else◌, Option, Some, None}
 use Rattle.xid.specs.Names.{XidParts, xid_eq}
+use Rattle.protocol.specs.Vocabulary.{R, Event, Ask, Restart, Action, Call, Answer, Done}
 use Rattle.protocol.specs.Branches.{is_done}
-use Rattle.history.specs.Words.{R, Event, Ask, Restart, Action, Call, Answer, Done}
 
 -- the call on branch x of resource manager rm that an event is and that was done, if it is one
 abbrev pub call_done : ℕ → XidParts → Event → Answer → Option Action

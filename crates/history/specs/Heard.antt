@@ -2,8 +2,8 @@
 use Rattle.std.specs.Prelude.{ℕ, Bool, false, ◌==◌, if◌then◌else◌, List, [], ◌∷◌, ◌++◌}
 use Rattle.std.specs.Option.{option_map_or}
 use Rattle.wire.specs.declared.message.Kind.{Kind}
+use Rattle.protocol.specs.Vocabulary.{L, NodeId, Event, Deliver, Restart, Answer, Done, Step}
 use Rattle.protocol.specs.StandsFor.{stands_for}
-use Rattle.history.specs.Words.{L, NodeId, Event, Deliver, Restart, Answer, Done, Step}
 use Rattle.history.specs.Outages.{sent_back}
 
 -- whether a node is leader l

@@ -11,11 +11,11 @@ use Rattle.xid.specs.declared.transaction.Vote.TheVariants.{Prepared, Aborted}
 use Rattle.wire.specs.Messages.{message_tx}
 use Rattle.wire.specs.declared.message.Kind.{Kind}
 use Rattle.wire.specs.declared.message.Kind.TheVariants.{P1a, P1b, P2a, P2b, B1a, B1b, B2b}
+use Rattle.protocol.specs.Vocabulary.{L, Status, Request, Timeout, Event, Ask, Deliver, Answer, Done, Stands, Refused, Sent, Step}
 use Rattle.protocol.specs.Effects.{Config, is_inside, status_standing}
 use Rattle.protocol.specs.LeaderMemory.{Begun, StoredBallots, is_counted, is_decided, is_phase_1b}
 use Rattle.protocol.specs.Nodes.{is_message_inside}
 use Rattle.protocol.specs.StandsFor.{stands_for}
-use Rattle.history.specs.Words.{L, Status, Request, Timeout, Event, Ask, Deliver, Answer, Done, Stands, Refused, Sent, Step}
 use Rattle.history.specs.Heard.{is_leader, is_leader_restart}
 use Rattle.history.specs.Outages.{sent_back}
 

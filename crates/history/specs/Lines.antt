@@ -5,9 +5,10 @@ use Rattle.std.specs.Option.{option_map_or, option_and_then}
 use Rattle.xid.specs.Names.{XidParts, xid_eq}
 use Rattle.xid.specs.Transactions.{TxParts, tx_eq, xid_at}
 use Rattle.stable_record.specs.Facts.{fact_tx}
+use Rattle.protocol.specs.Basics.{Fact}
+use Rattle.protocol.specs.Vocabulary.{Change, Step, View}
 use Rattle.protocol.specs.Effects.{Config}
 use Rattle.protocol.specs.Worlds.{Occurrence, opening, trace}
-use Rattle.history.specs.Words.{Fact, Change, Step, View}
 
 -- what happened, the newest first
 abbrev pub history : Config → List Occurrence → List Step

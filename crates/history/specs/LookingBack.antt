@@ -6,13 +6,12 @@ use Rattle.std.specs.Option.{option_map_or}
 use Rattle.std.specs.Str.{bytes_eq}
 use Rattle.xid.specs.Names.{XidParts, xid_eq}
 use Rattle.xid.specs.Transactions.{TxParts, tx_eq, xid_at}
+use Rattle.protocol.specs.Basics.{Act, Touched}
+use Rattle.protocol.specs.Vocabulary.{BranchState, Action, Start, Put, Del, End, EndFail, Rollback, R, Event, Ask, Call, Answer, Row, Step}
 use Rattle.protocol.specs.Branches.{BranchView, hinders, key_of}
 use Rattle.protocol.specs.Facts.{is_prepared_view}
 use Rattle.protocol.specs.Managers.{named_answer}
 use Rattle.branch_table.specs.OneCall.{view_in_state}
-use Rattle.history.specs.Words.{Act, Touched, BranchState, Action, Start, Put, Del, End, EndFail, Rollback, R, Event, Ask, Call, Answer}
-use Rattle.history.specs.Words.{Row}
-use Rattle.history.specs.Words.{Step}
 use Rattle.history.specs.Lines.{change_at, changes_at, view_back, is_spent_back}
 use Rattle.history.specs.Calls.{call_done, is_restart}
 

@@ -5,9 +5,9 @@ use Rattle.std.specs.List.{list_any}
 use Rattle.std.specs.Option.{option_map_or, option_and_then}
 use Rattle.xid.specs.Names.{XidParts}
 use Rattle.xid.specs.Transactions.{TxParts, tx_eq, xid_at}
+use Rattle.protocol.specs.Vocabulary.{Row, Step}
 use Rattle.protocol.specs.Branches.{BranchView, no_branch, is_write, row_at, value_after}
 use Rattle.protocol.specs.Tables.{put_row, with_writes}
-use Rattle.history.specs.Words.{Row, Step}
 use Rattle.history.specs.Lines.{view_back}
 use Rattle.history.specs.LookingBack.{branch_by, actions_since, before_vote, writes_in, last_act_on}
 use Rattle.history.specs.Writes.{actions_since_start, writes_of, is_committed_view, changed_to}

@@ -4,10 +4,11 @@ use Rattle.std.specs.List.{take_while}
 use Rattle.std.specs.Option.{option_map_or}
 use Rattle.xid.specs.Names.{XidParts}
 use Rattle.xid.specs.Transactions.{TxParts, xid_at}
+use Rattle.protocol.specs.Basics.{Touched}
+use Rattle.protocol.specs.Vocabulary.{Action, Row, View, Change, Step}
 use Rattle.protocol.specs.Facts.{is_prepared_view}
 use Rattle.protocol.specs.Managers.{insert_xid}
 use Rattle.protocol.specs.Tables.{put_row, with_writes}
-use Rattle.history.specs.Words.{Touched, Action, Row, View, Change, Step}
 use Rattle.history.specs.Lines.{changes_at, view_back}
 use Rattle.history.specs.LookingBack.{is_start, writes_in, done_at}
 

@@ -1,13 +1,13 @@
 //! Branches and answers: those of a resource manager that is up are the ones looked back at.
 ghost use Rattle.std.specs.Prelude.{◌≡◌, ◌≢◌, ℕ, List, true, false, Some};
 ghost use Rattle.xid.specs.Names.{XidParts};
+ghost use Rattle.protocol.specs.Vocabulary.{R, Ask, Request};
 ghost use Rattle.protocol.specs.Branches.{is_write};
 ghost use Rattle.protocol.specs.Effects.{Config};
 ghost use Rattle.protocol.specs.Facts.{bound_branches};
 ghost use Rattle.protocol.specs.Managers.{all_branches, view_named};
 ghost use Rattle.protocol.specs.Nodes.{NodeState, Fault};
 ghost use Rattle.protocol.specs.Worlds.{Occurrence, opening, node_at, world_after, world_step};
-ghost use Rattle.history.specs.Words.{R, Ask, Request};
 ghost use Rattle.history.specs.Lines.{history};
 ghost use Rattle.history.specs.LookingBack.{branch_back};
 ghost use Rattle.history.specs.Outages.{is_outage, is_record_fault, is_out};

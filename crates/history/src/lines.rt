@@ -2,12 +2,12 @@
 ghost use Rattle.std.specs.Prelude.{◌≡◌, ℕ, List, map};
 ghost use Rattle.xid.specs.Names.{XidParts};
 ghost use Rattle.xid.specs.Transactions.{TxParts};
+ghost use Rattle.protocol.specs.Vocabulary.{R};
 ghost use Rattle.protocol.specs.Effects.{Config};
 ghost use Rattle.protocol.specs.Facts.{view, is_spent};
 ghost use Rattle.protocol.specs.Worlds.{Occurrence, opening, trace, world_after, numbered};
 ghost use Rattle.history.specs.Outages.{sent_lines};
 ghost use Rattle.safety.specs.Standing.{facts_at};
-ghost use Rattle.history.specs.Words.{R};
 ghost use Rattle.history.specs.Lines.{history, changes_at, change_stored, view_back, is_spent_back};
 
 /// The facts of a resource manager are, by transaction and by the view that they lead to, the changes of views that the trace says of

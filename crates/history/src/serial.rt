@@ -3,12 +3,12 @@ ghost use Rattle.std.specs.Prelude.{◌≡◌, ◌≢◌, ℕ, List, ◌∷◌, 
 ghost use Rattle.std.specs.List.{list_any};
 ghost use Rattle.xid.specs.Names.{XidParts};
 ghost use Rattle.xid.specs.Transactions.{TxParts, xid_at};
+ghost use Rattle.protocol.specs.Vocabulary.{R, Get, Step};
 ghost use Rattle.protocol.specs.Branches.{get_answer};
 ghost use Rattle.protocol.specs.Effects.{Config};
 ghost use Rattle.protocol.specs.Nodes.{NodeState, first_rows};
 ghost use Rattle.protocol.specs.Worlds.{Occurrence, opening, node_at, table_at, world_after};
 ghost use Rattle.protocol.specs.Holds.{IsIn};
-ghost use Rattle.history.specs.Words.{R, Get, Step};
 ghost use Rattle.history.specs.Calls.{call_done};
 ghost use Rattle.history.specs.Lines.{history};
 ghost use Rattle.history.specs.LookingBack.{is_start, done_at};

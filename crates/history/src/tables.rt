@@ -3,13 +3,14 @@ ghost use Rattle.std.specs.Prelude.{◌≡◌, ◌≢◌, ℕ, List, Some, None,
 ghost use Rattle.xid.specs.Names.{XidParts};
 ghost use Rattle.xid.specs.Transactions.{TxParts, xid_at};
 ghost use Rattle.stable_record.specs.declared.fact.FactKind.TheVariants as stored;
+ghost use Rattle.protocol.specs.Basics.{Touched};
+ghost use Rattle.protocol.specs.Vocabulary.{R};
 ghost use Rattle.protocol.specs.Effects.{Config};
 ghost use Rattle.protocol.specs.Managers.{act_on, view_named};
 ghost use Rattle.protocol.specs.Nodes.{NodeState, first_rows};
 ghost use Rattle.protocol.specs.Worlds.{Occurrence, opening, node_at, table_at, world_after};
 ghost use Rattle.protocol.specs.Holds.{IsIn};
 ghost use Rattle.safety.specs.Standing.{facts_at};
-ghost use Rattle.history.specs.Words.{R, Touched};
 ghost use Rattle.history.specs.Lines.{history};
 ghost use Rattle.history.specs.LookingBack.{writes_in, last_act_on};
 ghost use Rattle.history.specs.Writes.{actions_since_start, table_back};

@@ -14,8 +14,9 @@ use Rattle.wire.specs.declared.message.Kind.TheVariants as kinds
 use Rattle.ballot.specs.Choice.{Report, is_prepared}
 use Rattle.ballot.specs.declared.slot.Slot.{Slot}
 use Rattle.ballot.specs.Greatest.{IsIn}
-use Rattle.safety.specs.Words.{Fact, L, NodeId, Outgoing, Leaders}
 use Rattle.stable_record.specs.declared.fact.FactKind.TheVariants as stored
+use Rattle.protocol.specs.Basics.{Fact}
+use Rattle.protocol.specs.Vocabulary.{L, NodeId, Outgoing, Leaders}
 use Rattle.protocol.specs.Acceptors.{is_accepted, report_after, accept_item, accept_messages, on_2a}
 use Rattle.protocol.specs.Effects.{Config, Effect, is_inside, to}
 use Rattle.protocol.specs.Facts.{slot, with_fact, vote_eq}

@@ -6,7 +6,8 @@ use Rattle.xid.specs.Transactions.{TxParts, participants}
 use Rattle.wire.specs.declared.message.Kind.TheVariants as kinds
 use Rattle.ballot.specs.Ballots.{owner_of}
 use Rattle.ballot.specs.Greatest.{IsIn}
-use Rattle.safety.specs.Words.{Fact, A, L}
+use Rattle.protocol.specs.Basics.{Fact}
+use Rattle.protocol.specs.Vocabulary.{A, L}
 use Rattle.protocol.specs.Acceptors.{on_acceptor_message}
 use Rattle.protocol.specs.Effects.{Config, Effect, is_inside}
 use Rattle.protocol.specs.Facts.{slot, with_fact}

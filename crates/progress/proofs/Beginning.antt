@@ -16,8 +16,9 @@ use Rattle.wire.specs.Messages.{message_tx}
 use Rattle.ballot.specs.Ballots.{owner_of, next_of}
 use Rattle.ballot.specs.Greatest.{IsIn, greatest}
 use Rattle.ballot.proofs.Turns.{next_is}
-use Rattle.safety.specs.Words.{Fact, A, NodeId, Outgoing, Acceptors, Managers, Refused}
 use Rattle.stable_record.specs.declared.fact.FactKind.TheVariants as stored
+use Rattle.protocol.specs.Basics.{Fact}
+use Rattle.protocol.specs.Vocabulary.{A, NodeId, Outgoing, Acceptors, Managers, Refused}
 use Rattle.protocol.specs.Effects.{Config, Effect, answer_only, sends_only, stores, to, is_inside}
 use Rattle.protocol.specs.Facts.{instance_eq, ballot_begun, last_ballot}
 use Rattle.protocol.specs.LeaderMemory.{LeaderMemory, StoredBallots, is_proposed, with_begun, with_met, status_of}

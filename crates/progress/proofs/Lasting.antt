@@ -8,7 +8,8 @@ use Rattle.stable_record.specs.declared.fact.FactKind.TheVariants as stored
 use Rattle.ballot.specs.Greatest.{IsIn}
 use Rattle.ballot.specs.Majority.{IsMajority, is_majority, count}
 use Rattle.ballot.proofs.Majorities.{majorities_meet}
-use Rattle.safety.specs.Words.{Fact, NodeId, A, L, R, Stands as answers}
+use Rattle.protocol.specs.Basics.{Fact}
+use Rattle.protocol.specs.Vocabulary.{NodeId, A, L, R, Stands as answers}
 use Rattle.safety.specs.Invariant.{Invariant}
 use Rattle.safety.specs.Items.{Vote, Prepared, Aborted, Item, Accepted, Voted, P1b, P2a}
 use Rattle.safety.specs.Items.{Setting, IsDecided, IsReportOfAccept, IsCovered, IsBallotAtMost}

@@ -4,7 +4,8 @@ use Rattle.std.proofs.Common.{map, filter, refl, subst, arith}
 use Rattle.std.specs.List.{flat_map, range_with_len}
 use Rattle.xid.specs.Transactions.{TxParts, participants}
 use Rattle.ballot.specs.Greatest.{IsIn}
-use Rattle.safety.specs.Words.{Fact, A, L}
+use Rattle.protocol.specs.Basics.{Fact}
+use Rattle.protocol.specs.Vocabulary.{A, L}
 use Rattle.protocol.specs.Effects.{Config}
 use Rattle.protocol.specs.Facts.{slot, last_ballot}
 use Rattle.protocol.specs.LeaderMemory.{LeaderMemory, nothing_heard, status_of}

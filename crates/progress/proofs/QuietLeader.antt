@@ -6,7 +6,8 @@ use Rattle.xid.specs.Transactions.{TxParts}
 use Rattle.stable_record.specs.declared.fact.FactKind.TheVariants as stored
 use Rattle.stable_record.specs.Frames.{frame_length}
 use Rattle.ballot.specs.Ballots.{next_of}
-use Rattle.safety.specs.Words.{Fact, NodeId, A, L}
+use Rattle.protocol.specs.Basics.{Fact}
+use Rattle.protocol.specs.Vocabulary.{NodeId, A, L}
 use Rattle.progress.proofs.Backed.{IsBacked}
 use Rattle.safety.specs.Standing.{facts_at, facts_of}
 use Rattle.protocol.specs.Effects.{Config, Effect, is_inside}

@@ -5,7 +5,8 @@ use Rattle.std.proofs.lemmas.Bool.{cases_eq}
 use Rattle.xid.specs.Transactions.{TxParts, participants}
 use Rattle.stable_record.specs.Frames.{frame_length}
 use Rattle.ballot.specs.Greatest.{IsIn}
-use Rattle.safety.specs.Words.{Fact, NodeId, A, L}
+use Rattle.protocol.specs.Basics.{Fact}
+use Rattle.protocol.specs.Vocabulary.{NodeId, A, L}
 use Rattle.progress.proofs.Backed.{IsBacked}
 use Rattle.safety.specs.Standing.{facts_at, facts_of}
 use Rattle.protocol.specs.Effects.{Config, is_inside}

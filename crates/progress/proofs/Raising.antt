@@ -6,7 +6,8 @@ use Rattle.xid.specs.Transactions.{TxParts, participants}
 use Rattle.stable_record.specs.declared.fact.FactKind.TheVariants as stored
 use Rattle.ballot.specs.Ballots.{next_of}
 use Rattle.ballot.specs.Greatest.{IsIn}
-use Rattle.safety.specs.Words.{Fact, NodeId, A, L}
+use Rattle.protocol.specs.Basics.{Fact}
+use Rattle.protocol.specs.Vocabulary.{NodeId, A, L}
 use Rattle.progress.proofs.Backed.{IsBacked}
 use Rattle.protocol.specs.Effects.{Config, Effect, is_inside, stores}
 use Rattle.protocol.specs.Facts.{last_ballot, with_fact}

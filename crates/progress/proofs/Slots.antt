@@ -10,8 +10,8 @@ use Rattle.xid.specs.Transactions.{TxParts, is_participant, tx_eq}
 use Rattle.xid.specs.declared.transaction.Vote.{Vote}
 use Rattle.ballot.specs.Greatest.{greatest}
 use Rattle.ballot.specs.Choice.{Report}
-use Rattle.safety.specs.Words.{Fact}
 use Rattle.stable_record.specs.declared.fact.FactKind.TheVariants as stored
+use Rattle.protocol.specs.Basics.{Fact}
 use Rattle.protocol.specs.Facts.{instance_eq, ballot_joined, accept_of, slot}
 use Rattle.protocol.proofs.Same.{instance_eq-same}
 

@@ -8,8 +8,9 @@ use Rattle.xid.specs.Transactions.{TxParts, tx_eq}
 use Rattle.xid.proofs.Deciding.{tx_self}
 use Rattle.wire.specs.declared.message.Kind.{Kind}
 use Rattle.ballot.specs.Greatest.{IsIn}
-use Rattle.safety.specs.Words.{Fact, NodeId, Outgoing, Event, Ask, Deliver, Restart, Request, Timeout, Done, Refused}
 use Rattle.xid.specs.declared.refusals.Refusal.TheVariants.{NoSuch, Damaged}
+use Rattle.protocol.specs.Basics.{Fact}
+use Rattle.protocol.specs.Vocabulary.{NodeId, Outgoing, Event, Ask, Deliver, Restart, Request, Timeout, Done, Refused}
 use Rattle.protocol.specs.Effects.{Config, Effect, no_effect}
 use Rattle.protocol.specs.Facts.{with_fact}
 use Rattle.protocol.specs.Nodes.{NodeState, Memory, empty_memory, Input, Asked, Received, NoFault, Outcome}

@@ -1,10 +1,10 @@
 -- What a run comes to, and what it starts from: an outcome known to a leader, ended participants, accepted votes, ballots left.
 use Rattle.std.specs.Prelude.{◌≡◌, ◌⊎◌, ℕ, ◌+◌, ◌*◌, ◌^◌, ◌<◌, ◌≤◌, Bool, IsTrue}
 use Rattle.xid.specs.Transactions.{TxParts, is_participant}
-use Rattle.safety.specs.Words.{A, L, Answer, Stands, Ask, View}
 use Rattle.protocol.specs.declared.requests.Request.TheVariants as requests
 use Rattle.protocol.specs.declared.states.Standing.TheVariants as standings
 use Rattle.ballot.specs.Majority.{is_majority}
+use Rattle.protocol.specs.Vocabulary.{A, L, Answer, Stands, Ask, View}
 use Rattle.protocol.specs.Effects.{Config}
 use Rattle.protocol.specs.Facts.{slot, last_ballot}
 use Rattle.protocol.specs.Nodes.{NoFault}

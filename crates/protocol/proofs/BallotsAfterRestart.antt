@@ -2,7 +2,7 @@
 use Rattle.std.specs.Prelude.{◌≡◌, refl, List, [], ◌∷◌, ◌++◌, None}
 use Rattle.wire.specs.declared.message.Kind.TheVariants.{P1a, P1b}
 use Rattle.protocol.specs.declared.states.Standing.TheVariants as standings
-use Rattle.protocol.specs.Words.{A, L, Stands, Event, Deliver, Restart}
+use Rattle.protocol.specs.Vocabulary.{A, L, Stands, Event, Deliver, Restart}
 use Rattle.protocol.specs.Effects.{Config}
 use Rattle.protocol.proofs.RowWords.{one, cluster, next, sent_by, status, timeout}
 

@@ -4,7 +4,7 @@ use Rattle.xid.specs.declared.transaction.Vote.TheVariants as votes
 use Rattle.xid.specs.declared.codes.XaCode.TheVariants as codes
 use Rattle.wire.specs.declared.message.Kind.TheVariants.{P1a, P2a, Abort}
 use Rattle.protocol.specs.declared.states.View.TheVariants as views
-use Rattle.protocol.specs.Words.{A, L, R, Code, Event, Deliver, Start}
+use Rattle.protocol.specs.Vocabulary.{A, L, R, Code, Event, Deliver, Start}
 use Rattle.protocol.specs.Effects.{Config}
 use Rattle.protocol.proofs.RowWords.{y, two, row, cluster_with_row, next, tables, deliveries, call, sent_by, changes, two_ended, timeout}
 

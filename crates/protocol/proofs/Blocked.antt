@@ -4,7 +4,7 @@ use Rattle.xid.specs.declared.transaction.Vote.TheVariants as votes
 use Rattle.xid.specs.declared.codes.XaCode.TheVariants as codes
 use Rattle.wire.specs.declared.message.Kind.TheVariants.{P2a, P2b, Ask}
 use Rattle.protocol.specs.declared.states.Standing.TheVariants as standings
-use Rattle.protocol.specs.Words.{A, L, R, Done, Code, Xids, Stands, Event, Deliver, Rollback}
+use Rattle.protocol.specs.Vocabulary.{A, L, R, Done, Code, Xids, Stands, Event, Deliver, Rollback}
 use Rattle.protocol.specs.Effects.{Config}
 use Rattle.protocol.proofs.RowWords.{x, one, cluster, next, answers, tables, deliveries, call, recover, sent_by, ok, one_ended, status}
 use Rattle.protocol.proofs.RowWords.{timeout, view}

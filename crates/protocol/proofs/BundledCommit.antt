@@ -4,7 +4,7 @@ use Rattle.xid.specs.declared.transaction.Vote.TheVariants as votes
 use Rattle.wire.specs.declared.items.InstanceAccept.{InstanceAccept}
 use Rattle.wire.specs.declared.message.Kind.TheVariants.{Commit, B2b}
 use Rattle.protocol.specs.declared.states.View.TheVariants as views
-use Rattle.protocol.specs.Words.{A, L, R, Deliver}
+use Rattle.protocol.specs.Vocabulary.{A, L, R, Deliver}
 use Rattle.protocol.specs.Effects.{Config}
 use Rattle.protocol.proofs.RowWords.{two, row, cluster_with_row, with_bundles, next, tables, run, deliveries, sent_by, changes, two_ended}
 

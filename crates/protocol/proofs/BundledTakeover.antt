@@ -4,7 +4,7 @@ use Rattle.xid.specs.declared.transaction.Vote.TheVariants as votes
 use Rattle.wire.specs.declared.items.InstanceReport.{InstanceReport}
 use Rattle.wire.specs.declared.items.InstanceAccept.{InstanceAccept}
 use Rattle.wire.specs.declared.message.Kind.TheVariants.{P2a, Abort, B1a, B1b, B2b}
-use Rattle.protocol.specs.Words.{A, L, R, Event, Deliver}
+use Rattle.protocol.specs.Vocabulary.{A, L, R, Event, Deliver}
 use Rattle.protocol.specs.Effects.{Config}
 use Rattle.protocol.proofs.RowWords.{two, row, cluster_with_row, with_bundles, next, tables, sent_by, two_ended, timeout}
 

@@ -5,7 +5,7 @@ use Rattle.xid.specs.declared.refusals.Refusal.TheVariants.{Busy}
 use Rattle.wire.specs.declared.message.Kind.TheVariants.{P2a}
 use Rattle.protocol.specs.declared.states.View.TheVariants as views
 use Rattle.protocol.specs.declared.states.Standing.TheVariants as standings
-use Rattle.protocol.specs.Words.{A, R, Done, Stands, Refused, Event, Deliver, Start, Get}
+use Rattle.protocol.specs.Vocabulary.{A, R, Done, Stands, Refused, Event, Deliver, Start, Get}
 use Rattle.protocol.specs.Effects.{Config}
 use Rattle.protocol.proofs.RowWords.{x, z, one, cluster, next, answers, tables, call, put, sent_by, changes, ok, commit}
 

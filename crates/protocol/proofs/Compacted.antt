@@ -5,7 +5,7 @@ use Rattle.xid.specs.declared.codes.XaCode.TheVariants as codes
 use Rattle.xid.specs.declared.refusals.Refusal.TheVariants.{RecordFault, Down, NoSuch}
 use Rattle.wire.specs.declared.message.Kind.TheVariants.{P2a}
 use Rattle.protocol.specs.declared.states.Standing.TheVariants as standings
-use Rattle.protocol.specs.Words.{A, L, R, Done, Code, Stands, Refused, Event, Deliver, Tear, Restart, Compact, Start}
+use Rattle.protocol.specs.Vocabulary.{A, L, R, Done, Code, Stands, Refused, Event, Deliver, Tear, Restart, Compact, Start}
 use Rattle.protocol.specs.Effects.{Config}
 use Rattle.protocol.proofs.RowWords.{x, two, row, cluster, cluster_with_row, next, answers, tables, deliveries, call, view, sent_by}
 use Rattle.protocol.proofs.RowWords.{two_ended, one_ended}

@@ -3,8 +3,8 @@ use Rattle.std.proofs.Common.{◌≡◌, ◌≢◌, Bool, true, false, if◌then
 use Rattle.std.specs.Prelude.{is_none}
 use Rattle.std.proofs.lemmas.Bool.{both_ways}
 use Rattle.xid.specs.declared.codes.XaCode.TheVariants as code
-use Rattle.protocol.specs.Words.{BranchState, Action, Start, Put, Del, Get, End, EndFail, Rollback, Answer, Code, Row}
 use Rattle.protocol.specs.declared.states.BranchState.TheVariants.{Active, Idle, RollbackOnly, Prepared}
+use Rattle.protocol.specs.Vocabulary.{BranchState, Action, Start, Put, Del, Get, End, EndFail, Rollback, Answer, Code, Row}
 use Rattle.protocol.specs.Branches.{BranchView, by_state, rollback_answer, call_answer, is_done}
 
 -- the state in which a call is done

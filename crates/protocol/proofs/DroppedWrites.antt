@@ -4,7 +4,7 @@ use Rattle.xid.specs.declared.codes.XaCode.TheVariants as codes
 use Rattle.wire.specs.declared.message.Kind.TheVariants.{Commit}
 use Rattle.protocol.specs.declared.states.View.TheVariants as views
 use Rattle.protocol.specs.declared.states.Standing.TheVariants as standings
-use Rattle.protocol.specs.Words.{L, R, Done, Code, Stands, Event, Deliver, Restart, Start, End}
+use Rattle.protocol.specs.Vocabulary.{L, R, Done, Code, Stands, Event, Deliver, Restart, Start, End}
 use Rattle.protocol.specs.Effects.{Config}
 use Rattle.protocol.proofs.RowWords.{x, one, row, cluster, next, answers, tables, deliveries, call, put, sent_by, changes, ok, commit}
 

@@ -5,8 +5,8 @@ use Rattle.xid.specs.declared.refusals.Refusal.TheVariants.{NoMemory, RecordFaul
 use Rattle.stable_record.specs.declared.fact.FactKind.TheVariants.{Ballot}
 use Rattle.protocol.specs.declared.states.View.TheVariants as views
 use Rattle.protocol.specs.declared.states.Standing.TheVariants as standings
-use Rattle.protocol.specs.Words.{A, L, R, Answer, Done, Code, Stands, Refused, Event, Deliver, Lose, Tear, Restart, Compact}
-use Rattle.protocol.specs.Words.{Start, Timeout}
+use Rattle.protocol.specs.Vocabulary.{A, L, R, Answer, Done, Code, Stands, Refused, Event, Deliver, Lose, Tear, Restart, Compact, Start}
+use Rattle.protocol.specs.Vocabulary.{Timeout}
 use Rattle.protocol.specs.Effects.{Config}
 use Rattle.protocol.specs.Nodes.{NodeState, new_node, Fault, NoFault, NoMemoryBefore, NoMemoryAt, RecordFails, Asked, node_step}
 use Rattle.protocol.specs.Worlds.{StepResult, world_step}

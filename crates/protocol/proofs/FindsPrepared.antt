@@ -4,7 +4,7 @@ use Rattle.xid.specs.declared.transaction.Vote.TheVariants as votes
 use Rattle.wire.specs.declared.message.Kind.TheVariants.{P1b, P2a, P2b, Commit}
 use Rattle.protocol.specs.declared.states.View.TheVariants as views
 use Rattle.protocol.specs.declared.states.Standing.TheVariants as standings
-use Rattle.protocol.specs.Words.{A, L, R, Stands, Event, Deliver}
+use Rattle.protocol.specs.Vocabulary.{A, L, R, Stands, Event, Deliver}
 use Rattle.protocol.specs.Effects.{Config}
 use Rattle.protocol.proofs.RowWords.{two, row, cluster_with_row, next, tables, deliveries, sent_by, changes, two_ended, status, timeout}
 

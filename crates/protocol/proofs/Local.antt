@@ -7,7 +7,7 @@ use Rattle.xid.specs.declared.transaction.Vote.{Vote}
 use Rattle.wire.specs.declared.message.Kind.TheVariants as kinds
 use Rattle.stable_record.specs.declared.fact.FactKind.TheVariants as stored
 use Rattle.protocol.specs.Basics.{Kind, message_tx, Fact, fact_tx}
-use Rattle.protocol.specs.Words.{View}
+use Rattle.protocol.specs.Vocabulary.{View}
 use Rattle.protocol.specs.Acceptors.{Slots, on_acceptor_message, plays_at_acceptor}
 use Rattle.protocol.specs.Effects.{Config}
 use Rattle.protocol.specs.Facts.{Bound}

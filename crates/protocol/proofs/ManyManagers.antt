@@ -5,7 +5,7 @@ use Rattle.xid.specs.declared.refusals.Refusal.TheVariants.{NoSuch}
 use Rattle.xid.specs.declared.transaction.Vote.TheVariants as votes
 use Rattle.wire.specs.declared.message.Kind.TheVariants.{Prepare, P2a}
 use Rattle.protocol.specs.declared.states.View.TheVariants as views
-use Rattle.protocol.specs.Words.{A, L, R, Refused, Start, End, Event, Deliver}
+use Rattle.protocol.specs.Vocabulary.{A, L, R, Refused, Start, End, Event, Deliver}
 use Rattle.protocol.specs.Effects.{Config}
 use Rattle.protocol.proofs.RowWords.{x, y, cluster, next, deliveries, sent_by, changes, call, commit}
 

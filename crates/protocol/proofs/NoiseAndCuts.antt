@@ -6,7 +6,7 @@ use Rattle.wire.specs.Versions.{version_1}
 use Rattle.wire.specs.Grammar.{spelling, tx_spelling}
 use Rattle.wire.specs.Reading.{component_at, branch_at, list_at, tx_at, kind_at}
 use Rattle.wire.specs.declared.message.Kind.TheVariants.{Prepare}
-use Rattle.protocol.specs.Words.{R, Refused, Event, Deliver, Lose, Cut, Noise}
+use Rattle.protocol.specs.Vocabulary.{R, Refused, Event, Deliver, Lose, Cut, Noise}
 use Rattle.protocol.specs.Effects.{Config}
 use Rattle.protocol.proofs.RowWords.{two, row, cluster_with_row, run, next, answers, tables, two_ended}
 

@@ -3,7 +3,7 @@ use Rattle.std.specs.Prelude.{◌≡◌, refl, ◌-◌, ℕ, List, [], ◌∷◌
 use Rattle.std.specs.List.{range_with_len}
 use Rattle.xid.specs.declared.transaction.Vote.TheVariants as votes
 use Rattle.wire.specs.declared.message.Kind.TheVariants.{P2a, P2b}
-use Rattle.protocol.specs.Words.{A, L, R, Done, Event, Deliver}
+use Rattle.protocol.specs.Vocabulary.{A, L, R, Done, Event, Deliver}
 use Rattle.protocol.specs.Effects.{Config}
 use Rattle.protocol.proofs.RowWords.{two, row, cluster_with_row, run, next, answers, tables, deliveries, sent_by, two_ended}
 

@@ -5,7 +5,7 @@ use Rattle.xid.specs.declared.codes.XaCode.TheVariants as codes
 use Rattle.wire.specs.declared.message.Kind.TheVariants.{P2a}
 use Rattle.protocol.specs.declared.states.View.TheVariants as views
 use Rattle.protocol.specs.declared.states.Standing.TheVariants as standings
-use Rattle.protocol.specs.Words.{A, R, Done, Code, Stands, Event, Deliver, Start, EndFail, Rollback}
+use Rattle.protocol.specs.Vocabulary.{A, R, Done, Code, Stands, Event, Deliver, Start, EndFail, Rollback}
 use Rattle.protocol.specs.Effects.{Config}
 use Rattle.protocol.proofs.RowWords.{x, one, cluster, next, answers, call, put, sent_by, changes, ok, commit}
 

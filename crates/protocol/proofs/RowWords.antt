@@ -5,8 +5,8 @@ use Rattle.xid.specs.Transactions.{TxParts}
 use Rattle.wire.specs.declared.message.Kind.{Kind}
 use Rattle.xid.specs.declared.codes.XaCode.TheVariants as codes
 use Rattle.std.specs.List.{range_with_len}
-use Rattle.protocol.specs.Words.{NodeId, L, R, View, Answer, Code, Action, Start, Put, End, Row, Request, Call, Recover, Timeout, Event}
-use Rattle.protocol.specs.Words.{Ask, Deliver, Change}
+use Rattle.protocol.specs.Vocabulary.{NodeId, L, R, View, Answer, Code, Action, Start, Put, End, Row, Request, Call, Recover, Timeout}
+use Rattle.protocol.specs.Vocabulary.{Event, Ask, Deliver, Change}
 use Rattle.protocol.specs.Effects.{Config}
 use Rattle.protocol.specs.Nodes.{NoFault}
 use Rattle.protocol.specs.Worlds.{Occurrence, World, Datagram, StepResult, opening, trace, world_after, world_step, table_at}

@@ -1,7 +1,7 @@
 -- shared_reads: two branches read one key, and each may write it only while it alone holds it.
 use Rattle.std.specs.Prelude.{◌≡◌, refl, List, [], ◌∷◌, ◌++◌}
 use Rattle.xid.specs.declared.refusals.Refusal.TheVariants.{Busy}
-use Rattle.protocol.specs.Words.{Value, Refused, Action, Event, Start, Get, End, Rollback}
+use Rattle.protocol.specs.Vocabulary.{Value, Refused, Action, Event, Start, Get, End, Rollback}
 use Rattle.protocol.specs.Effects.{Config}
 use Rattle.protocol.proofs.RowWords.{x, z, row, cluster_with_row, answers, tables, call, put, ok}
 

@@ -6,7 +6,7 @@ use Rattle.xid.specs.declared.refusals.Refusal.TheVariants.{Busy}
 use Rattle.wire.specs.declared.message.Kind.TheVariants.{P2a}
 use Rattle.protocol.specs.declared.states.View.TheVariants as views
 use Rattle.protocol.specs.declared.states.Standing.TheVariants as standings
-use Rattle.protocol.specs.Words.{A, R, Answer, Done, Value, Xids, Stands, Refused, Action, Event, Deliver, Restart, Start, Get, End}
+use Rattle.protocol.specs.Vocabulary.{A, R, Answer, Done, Value, Xids, Stands, Refused, Action, Event, Deliver, Restart, Start, Get, End}
 use Rattle.protocol.specs.Effects.{Config}
 use Rattle.protocol.proofs.RowWords.{x, z, one, other_one, row, cluster_with_row, next, answers, tables, call, put, recover, commit}
 use Rattle.protocol.proofs.RowWords.{sent_by, changes, ok}

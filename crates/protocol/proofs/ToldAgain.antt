@@ -3,7 +3,7 @@ use Rattle.std.specs.Prelude.{◌≡◌, refl, List, [], ◌∷◌, ◌++◌}
 use Rattle.xid.specs.declared.refusals.Refusal.TheVariants.{BadTx}
 use Rattle.wire.specs.declared.message.Kind.TheVariants.{Commit}
 use Rattle.protocol.specs.declared.states.Standing.TheVariants as standings
-use Rattle.protocol.specs.Words.{L, R, Stands, Refused, Event, Deliver}
+use Rattle.protocol.specs.Vocabulary.{L, R, Stands, Refused, Event, Deliver}
 use Rattle.protocol.specs.Effects.{Config}
 use Rattle.protocol.proofs.RowWords.{one, two, cluster, next, deliveries, sent_by, one_ended, commit, status, timeout, view}
 

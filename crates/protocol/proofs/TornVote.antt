@@ -10,7 +10,7 @@ use Rattle.stable_record.specs.declared.fact.FactKind.{FactKind as Fact}
 use Rattle.stable_record.specs.declared.fact.FactKind.TheVariants.{VotePrepared}
 use Rattle.stable_record.specs.Frames.{frame_length, frame_length_in}
 use Rattle.protocol.specs.declared.states.View.TheVariants as views
-use Rattle.protocol.specs.Words.{A, R, Answer, Done, Code, Xids, Refused, Event, Deliver, Tear, Restart}
+use Rattle.protocol.specs.Vocabulary.{A, R, Answer, Done, Code, Xids, Refused, Event, Deliver, Tear, Restart}
 use Rattle.protocol.specs.Effects.{Config}
 use Rattle.protocol.proofs.RowWords.{x, one, cluster, next, answers, recover, sent_by, changes, one_ended}
 

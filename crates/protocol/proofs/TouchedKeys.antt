@@ -12,7 +12,7 @@ use Rattle.std.proofs.lemmas.Slice.Eq.{bytes_eq-Decides}
 use Rattle.stable_record.specs.declared.fact.Act.{Act}
 use Rattle.stable_record.specs.declared.fact.Touched.{Touched}
 use Rattle.stable_record.specs.Facts.{AreAscending}
-use Rattle.protocol.specs.Words.{Action, Start, Put, Del, Get, End, EndFail, Rollback}
+use Rattle.protocol.specs.Vocabulary.{Action, Start, Put, Del, Get, End, EndFail, Rollback}
 use Rattle.protocol.specs.Managers.{Branch, with_touched, last_act, has_key, act_on, branch_after}
 
 -- ---- the order of keys

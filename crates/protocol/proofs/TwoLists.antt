@@ -3,7 +3,7 @@ use Rattle.std.specs.Prelude.{◌≡◌, refl, List, [], ◌∷◌, ◌++◌}
 use Rattle.xid.specs.declared.transaction.Vote.TheVariants as votes
 use Rattle.wire.specs.declared.message.Kind.TheVariants.{Prepare, P2a, Commit}
 use Rattle.protocol.specs.declared.states.View.TheVariants as views
-use Rattle.protocol.specs.Words.{A, L, R, Xids, Event, Deliver, Start, End}
+use Rattle.protocol.specs.Vocabulary.{A, L, R, Xids, Event, Deliver, Start, End}
 use Rattle.protocol.specs.Effects.{Config}
 use Rattle.protocol.proofs.RowWords.{x, two, one, cluster, next, deliveries, call, recover, sent_by, changes, commit}
 

@@ -4,7 +4,7 @@ use Rattle.std.specs.Prelude.{ℕ, Bool, false, not, ◌&&◌, ◌||◌, ◌==�
 use Rattle.std.specs.Prelude.{Option, Some, is_some}
 use Rattle.protocol.specs.Basics.{list_any, list_all, option_map, option_map_or, TxParts, participants, is_participant, Vote, is_prepared}
 use Rattle.protocol.specs.Basics.{Kind, P1a, P1b, P2a, P2b, B1a, B1b, B2b, InstanceReport, InstanceAccept, Fact, owner_of, Report, Slot}
-use Rattle.protocol.specs.Words.{L, Node, Leaders, Outgoing}
+use Rattle.protocol.specs.Vocabulary.{L, Node, Leaders, Outgoing}
 use Rattle.protocol.specs.Facts.{vote_eq}
 use Rattle.protocol.specs.Effects.{Config, Effect, no_effect, sends_only, stores, to}
 

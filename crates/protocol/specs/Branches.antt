@@ -5,8 +5,8 @@ use Rattle.std.specs.Prelude.{ℕ, Bool, true, false, ◌&&◌, ◌||◌, nat_lt
 use Rattle.std.specs.Prelude.{is_none}
 use Rattle.xid.specs.Limits.{most_key, most_value, most_touched}
 use Rattle.protocol.specs.Basics.{bytes_eq, XaCode, Refusal, Act}
-use Rattle.protocol.specs.Words.{BranchState, Action, Answer, Row, Start, End, EndFail, Rollback, Put, Del, Get, Code, Value, NoValue}
-use Rattle.protocol.specs.Words.{Refused}
+use Rattle.protocol.specs.Vocabulary.{BranchState, Action, Answer, Row, Start, End, EndFail, Rollback, Put, Del, Get, Code, Value, NoValue}
+use Rattle.protocol.specs.Vocabulary.{Refused}
 
 -- a branch as it shows: its state, if it exists; which keys it has touched, and how many; and its last act on a key, which is to
 -- read it where it has written nothing there

@@ -1,8 +1,8 @@
 -- What a rule decides: an answer, at most one fact to store, messages to send, and what it leaves in memory.
 use Rattle.std.specs.Prelude.{ℕ, Bool, nat_lt, List, [], ◌∷◌, map, Option, Some, None}
 use Rattle.protocol.specs.Basics.{list_all, range_with_len, TxParts, participants, Kind, Fact}
-use Rattle.protocol.specs.Words.{Answer, Done, Row, NodeId, A, L, R, Address, Node, Acceptors, Leaders, Managers, Outgoing, Decision}
-use Rattle.protocol.specs.Words.{Standing, Status, View}
+use Rattle.protocol.specs.Vocabulary.{Answer, Done, Row, NodeId, A, L, R, Address, Node, Acceptors, Leaders, Managers, Outgoing, Decision}
+use Rattle.protocol.specs.Vocabulary.{Standing, Status, View}
 
 -- the sizes of a cluster, whether phases 1a, 1b and 2b go in bundles, and the first contents of its tables
 pub record Config : Type 0 where

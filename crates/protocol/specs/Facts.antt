@@ -5,7 +5,7 @@ use Rattle.std.specs.Prelude.{Option, Some, None}
 use Rattle.protocol.specs.Basics.{list_any, last_or, XidParts, xid_eq, tx_eq, TxParts, is_participant, xid_at, Vote, Fact, Touched, fact_tx}
 use Rattle.protocol.specs.Basics.{Report, is_prepared, Slot}
 use Rattle.ballot.specs.Greatest.{greatest, IsIn}
-use Rattle.protocol.specs.Words.{View}
+use Rattle.protocol.specs.Vocabulary.{View}
 
 -- whether two instances of transactions are the same
 abbrev pub instance_eq : TxParts → ℕ → TxParts → ℕ → Bool

@@ -4,7 +4,7 @@ use Rattle.std.specs.Prelude.{ℕ, Bool, true, false, not, ◌&&◌, ◌||◌, �
 use Rattle.std.specs.Prelude.{find, Option, Some, None}
 use Rattle.protocol.specs.Basics.{list_any, list_all, option_map, tx_eq, TxParts, participants, Vote, message_tx, Kind, P1b, P2a, P2b}
 use Rattle.protocol.specs.Basics.{Report, pick, is_majority}
-use Rattle.protocol.specs.Words.{Status}
+use Rattle.protocol.specs.Vocabulary.{Status}
 use Rattle.protocol.specs.Facts.{instance_eq, vote_eq}
 
 -- a ballot begun for a transaction

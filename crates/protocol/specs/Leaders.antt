@@ -5,7 +5,7 @@ use Rattle.std.specs.Prelude.{Option, Some, None}
 use Rattle.protocol.specs.Basics.{option_map_or, TxParts, participants, Refusal, Kind, Prepare, P1a, P1b, P2a, P2b, Commit, Abort, B1a, B1b}
 use Rattle.protocol.specs.Basics.{B2b}
 use Rattle.protocol.specs.Basics.{InstanceReport, InstanceAccept, Fact, owner_of, next_of}
-use Rattle.protocol.specs.Words.{R, Status, Stands, Refused, Address, Node, Acceptors, Managers, Outgoing}
+use Rattle.protocol.specs.Vocabulary.{R, Status, Stands, Refused, Address, Node, Acceptors, Managers, Outgoing}
 use Rattle.protocol.specs.LeaderMemory.{LeaderMemory, StoredBallots, current, is_reported, value_to_propose, is_proposed, status_of}
 use Rattle.protocol.specs.LeaderMemory.{with_met, with_all_heard, with_begun, with_proposed}
 use Rattle.protocol.specs.StandsFor.{report_messages, accept_messages_of}

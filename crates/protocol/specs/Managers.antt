@@ -5,8 +5,8 @@ use Rattle.std.specs.Prelude.{fold, Option, Some, None, is_some, is_none}
 use Rattle.protocol.specs.Basics.{slice_cmp, list_any, option_map, option_map_or, nat_cmp, is_lt, bytes_eq, XidParts, xid_eq, xid_cmp}
 use Rattle.protocol.specs.Basics.{TxParts, is_participant, xid_at, XaCode, Refusal, Vote, Kind, Prepare, P2a, Commit, Abort, Fact, Act}
 use Rattle.protocol.specs.Basics.{Touched}
-use Rattle.protocol.specs.Words.{BranchState, View, Action, Answer, Row, Start, End, EndFail, Rollback, Put, Del, Get, Code, Xids, Stands}
-use Rattle.protocol.specs.Words.{Refused, Outgoing, Acceptors, Leaders}
+use Rattle.protocol.specs.Vocabulary.{BranchState, View, Action, Answer, Row, Start, End, EndFail, Rollback, Put, Del, Get, Code, Xids}
+use Rattle.protocol.specs.Vocabulary.{Stands, Refused, Outgoing, Acceptors, Leaders}
 use Rattle.protocol.specs.Branches.{BranchView, no_branch, is_write, hinders_use, hinders, call_answer, is_done}
 use Rattle.protocol.specs.Facts.{Bound, vote_in, is_ended, view, is_prepared_view, is_open_view, is_spent, bound_branches}
 use Rattle.protocol.specs.Effects.{Config, Effect, answer_only, no_effect, sends_only, stores, to, is_inside, view_standing}

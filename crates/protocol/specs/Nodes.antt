@@ -2,7 +2,7 @@
 use Rattle.std.specs.Prelude.{ℕ, Bool, true, false, not, ◌&&◌, nat_lt, nat_le, if◌then◌else◌, List, [], ◌∷◌, ◌++◌, slice_get, Option, Some}
 use Rattle.std.specs.Prelude.{None, unwrap_or}
 use Rattle.protocol.specs.Basics.{xid_at, XaCode, Refusal, message_tx, Kind, P1a, P1b, P2b, B1a, B1b, B2b, Fact, frame_length}
-use Rattle.protocol.specs.Words.{NodeId, A, L, R, Request, Call, Recover, Timeout, Answer, Done, Code, Refused, Outgoing, Row}
+use Rattle.protocol.specs.Vocabulary.{NodeId, A, L, R, Request, Call, Recover, Timeout, Answer, Done, Code, Refused, Outgoing, Row}
 use Rattle.protocol.specs.Facts.{slot, last_ballot}
 use Rattle.protocol.specs.LeaderMemory.{LeaderMemory, nothing_heard}
 use Rattle.protocol.specs.Tables.{table}

@@ -4,7 +4,7 @@ use Rattle.std.specs.Ordering.{nat_cmp, on, then_cmp, eq_of_both}
 use Rattle.std.specs.Cmp.Lexicographic.{slice_cmp, pointwise}
 use Rattle.std.specs.List.Sorted.{IsSorted, IsPermutation}
 use Rattle.std.specs.declared.cmp.Ordering.{Ordering}
-use Rattle.protocol.specs.Words.{Row}
+use Rattle.protocol.specs.Vocabulary.{Row}
 
 -- whether two rows are the same
 abbrev pub row_eq : Row → Row → Bool

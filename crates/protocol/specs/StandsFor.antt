@@ -2,7 +2,7 @@
 -- Gray and Lamport, "Consensus on Transaction Commit", ACM TODS 31(1), 2006, section 4.
 use Rattle.std.specs.Prelude.{ℕ, List, [], ◌∷◌, map, Option}
 use Rattle.protocol.specs.Basics.{TxParts, participants, Vote, Kind, InstanceReport, InstanceAccept, Fact}
-use Rattle.protocol.specs.Words.{NodeId}
+use Rattle.protocol.specs.Vocabulary.{NodeId}
 
 -- phase 1b of an acceptor in a ballot, for each instance that it reports
 abbrev pub report_messages : TxParts → (ballot acceptor : ℕ) → List InstanceReport → List Kind

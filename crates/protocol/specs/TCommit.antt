@@ -1,7 +1,7 @@
 -- What a transaction commit protocol may do, seen from all its participants at once: the specification.
 -- Gray and Lamport, "Consensus on Transaction Commit", ACM TODS 31(1), 2006, section 2.
 use Rattle.std.specs.Prelude.{◌≡◌, ◌≢◌, ◌⊎◌, ℕ, Bool, IsTrue}
-use Rattle.protocol.specs.Words.{View}
+use Rattle.protocol.specs.Vocabulary.{View}
 
 -- prepared or committed
 abbrev pub IsReady : View → Type 0

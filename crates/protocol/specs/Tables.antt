@@ -1,7 +1,7 @@
 -- Tables: rows with their keys ascending, and what transactions have made of them.
 use Rattle.std.specs.Prelude.{ℕ, not, if◌then◌else◌, List, [], ◌∷◌, filter, filter_map, find, fold, Option, Some, None}
 use Rattle.protocol.specs.Basics.{slice_cmp, option_map_or, nat_cmp, is_lt, bytes_eq, tx_eq, TxParts, Fact, Act, Touched}
-use Rattle.protocol.specs.Words.{Row}
+use Rattle.protocol.specs.Vocabulary.{Row}
 use Rattle.protocol.specs.Facts.{branch_bound_by}
 
 -- a row put among rows with their keys ascending, in place of the row of its key

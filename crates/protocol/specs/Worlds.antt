@@ -3,8 +3,8 @@ use Rattle.std.specs.Prelude.{ℕ, zero, suc, ◌+◌, Bool, true, false, ◌==�
 use Rattle.std.specs.Prelude.{replicate, slice_get, Option, Some, None}
 use Rattle.protocol.specs.Basics.{flat_map, slice_set, option_map_or, option_and_then, Refusal, spelling, message_tx, spells_message, Kind}
 use Rattle.protocol.specs.Basics.{Fact, fact_tx}
-use Rattle.protocol.specs.Words.{NodeId, A, L, R, View, Row, Outgoing, Answer, Done, Refused, Event, Ask, Deliver, Lose, Cut, Noise, Tear}
-use Rattle.protocol.specs.Words.{Restart, Compact, Change, Sent, Step}
+use Rattle.protocol.specs.Vocabulary.{NodeId, A, L, R, View, Row, Outgoing, Answer, Done, Refused, Event, Ask, Deliver, Lose, Cut, Noise}
+use Rattle.protocol.specs.Vocabulary.{Tear, Restart, Compact, Change, Sent, Step}
 use Rattle.protocol.specs.Facts.{view}
 use Rattle.protocol.specs.Tables.{table}
 use Rattle.protocol.specs.Effects.{Config, receivers}

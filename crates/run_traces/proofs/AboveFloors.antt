@@ -20,6 +20,8 @@ use Rattle.stable_record.specs.declared.fact.FactKind.{FactKind as Fact}
 use Rattle.protocol.specs.declared.answers.Answer.TheVariants.{Code}
 use Rattle.protocol.specs.declared.events.Sent.{Sent}
 use Rattle.protocol.specs.declared.requests.Request.TheVariants as requests
+use Rattle.protocol.specs.Vocabulary.{A, L, R, Action, Answer, Ask, Change, Compact, Cut, Deliver, Done, Event, Hear, Lose, NodeId, Noise}
+use Rattle.protocol.specs.Vocabulary.{Outgoing, Raise, Refused, Replace, Request, Restart, Start, Step, Tear}
 use Rattle.protocol.specs.Effects.{Config, receivers}
 use Rattle.protocol.specs.Facts.{view}
 use Rattle.protocol.specs.Nodes.{NodeState, Input, Asked, Received, ReceivedNoise, Fault, NoMemoryBefore, Outcome, accepts_input}
@@ -34,8 +36,6 @@ use Rattle.floors.proofs.About.{IsOn, effect_about, on_above}
 use Rattle.floors.proofs.Nodes.{above_is, below_stays, compact_keeps, compact_silent, restart_keeps, restart_silent}
 use Rattle.floors.proofs.Refusing.{below_silent}
 use Rattle.audit.specs.Floors.{is_call_refused, is_change_above, is_event_above, is_refused, is_request_above, is_sent_above, is_step_above}
-use Rattle.run_traces.specs.Words.{A, L, R, Action, Answer, Ask, Change, Compact, Cut, Deliver, Done, Event, Hear, Lose, NodeId}
-use Rattle.run_traces.specs.Words.{Noise, Outgoing, Raise, Refused, Replace, Request, Restart, Start, Step, Tear}
 use Rattle.cluster_run.proofs.Floored.{IsSilent, hear_silent, raise_silent, replace_silent}
 
 -- ---- lower floors

@@ -9,6 +9,8 @@ use Rattle.xid.specs.Places.{Place, is_lower}
 use Rattle.xid.specs.declared.refusals.Refusal.TheVariants.{Down, NoSuch}
 use Rattle.ballot.specs.Greatest.{IsIn}
 use Rattle.protocol.specs.declared.requests.Request.TheVariants as requests
+use Rattle.protocol.specs.Vocabulary.{Answer, Ask, Change, Compact, Deliver, Done, Event, Hear, Lose, NodeId, R, Raise, Refused, Replace}
+use Rattle.protocol.specs.Vocabulary.{Request, Restart, Start, Put, Del, Get, End, EndFail, Rollback}
 use Rattle.protocol.specs.Effects.{Config}
 use Rattle.protocol.specs.Nodes.{NodeState, Asked, Fault, NoMemoryBefore, NoMemoryAt, Outcome, RecordFails, all_play, restart_outcome}
 use Rattle.protocol.specs.Worlds.{Datagram, Occurrence, datagram_at, node_at}
@@ -31,9 +33,6 @@ use Rattle.net_script.specs.Events.{IsFloor}
 use Rattle.net_script.specs.TraceLines.{IsChange}
 use Rattle.cluster_run.proofs.Floored.{IsSilent}
 use Rattle.cluster_run.proofs.Raised.{heard_still, machine_still, raise_said, replaced_still}
-use Rattle.run_traces.specs.Words.{Answer, Ask, Change, Compact, Deliver, Done, Event, Hear, Lose, NodeId, R, Raise, Refused, Replace}
-use Rattle.run_traces.specs.Words.{Request, Restart}
-use Rattle.run_traces.specs.Words.{Start, Put, Del, Get, End, EndFail, Rollback}
 use Rattle.run_traces.proofs.Formed.{IsFormed}
 use Rattle.run_traces.proofs.Steps.{IsTold, silent}
 

@@ -11,6 +11,7 @@ use Rattle.xid.specs.declared.refusals.Refusal.TheVariants.{Down, NoSuch}
 use Rattle.xid.proofs.Places.{not_below_none, not_lower, not_lower_self}
 use Rattle.ballot.specs.Greatest.{IsIn}
 use Rattle.protocol.specs.declared.events.Told.{Told}
+use Rattle.protocol.specs.Vocabulary.{A, Answer, Done, Event, Hear, L, NodeId, R, Raise, Refused, Replace, Restart, Step}
 use Rattle.protocol.specs.Effects.{Config}
 use Rattle.protocol.specs.Nodes.{NodeState, Fault, NoMemoryAt, NoMemoryBefore, Outcome, RecordFails, all_play, restart_outcome}
 use Rattle.protocol.specs.Worlds.{StepResult, if_found, node_at, outcome_result, set_node}
@@ -32,7 +33,6 @@ use Rattle.audit.specs.Told.{each_step}
 use Rattle.cluster.proofs.Noticed.{event_adds}
 use Rattle.cluster_run.proofs.Floored.{AtFirst, IsFlooredRun, Then, untold_heard, untold_replaced}
 use Rattle.cluster_run.proofs.Raised.{raise_said}
-use Rattle.run_traces.specs.Words.{A, Answer, Done, Event, Hear, L, NodeId, R, Raise, Refused, Replace, Restart, Step}
 use Rattle.run_traces.proofs.AboveFloors.{step_above, step_lower}
 use Rattle.run_traces.proofs.AtMost.{IsAtMost, as_told, least_most, node_is, self_node, told_most, told_rises}
 use Rattle.run_traces.proofs.Numbered.{heard_at, told_from_both}

@@ -4,6 +4,7 @@ use Rattle.std.proofs.Common.{Option, Some, None, refl, sym, ap, subst, arith}
 use Rattle.std.specs.List.{AllByRecursion, range_with_len}
 use Rattle.xid.specs.Places.{Place}
 use Rattle.ballot.specs.Greatest.{IsIn}
+use Rattle.protocol.specs.Vocabulary.{A, Ask, Deliver, Event, Hear, L, Lose, NodeId, R, Raise, Replace, Request}
 use Rattle.protocol.specs.Effects.{Config}
 use Rattle.protocol.specs.Nodes.{NodeState, Asked, Fault, NoMemoryBefore, first_rows}
 use Rattle.protocol.specs.Worlds.{datagram_at, node_at, world_step}
@@ -21,7 +22,6 @@ use Rattle.cluster_run.proofs.Floored.{hear_silent, raise_silent, replace_silent
 use Rattle.net_script.specs.Events.{IsFloor, IsNode}
 use Rattle.net_script.specs.TraceLines.{IsNotice}
 use Rattle.run_traces.specs.Machine.{IsLimited}
-use Rattle.run_traces.specs.Words.{A, Ask, Deliver, Event, Hear, L, Lose, NodeId, R, Raise, Replace, Request}
 use Rattle.run_traces.proofs.Floors.{IsGood, hear_small, over_told, quiet_told, raise_small, replace_small, rise_named}
 use Rattle.run_traces.proofs.Formed.{IsFormed}
 use Rattle.run_traces.proofs.Rows.{KeepLimits}

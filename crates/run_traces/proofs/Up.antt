@@ -9,6 +9,8 @@ use Rattle.xid.specs.Places.{Place}
 use Rattle.xid.specs.declared.refusals.Refusal.TheVariants.{Down, Forged, NoSuch}
 use Rattle.wire.specs.Decoding.{spells_message}
 use Rattle.wire.specs.Grammar.{spelling}
+use Rattle.protocol.specs.Vocabulary.{Ask, Compact, Cut, Deliver, Done, Event, Hear, Lose, NodeId, Noise, R, Raise, Refused, Replace}
+use Rattle.protocol.specs.Vocabulary.{Restart, Tear}
 use Rattle.protocol.specs.Effects.{Config, Effect}
 use Rattle.protocol.specs.Nodes.{Memory, NodeState, Input, Asked, Received, ReceivedNoise, Fault, NoMemoryBefore, NoMemoryAt, RecordFails}
 use Rattle.protocol.specs.Nodes.{Outcome, accepts_input, answer_outcome, compact_outcome, down_answer, effect_of, effect_outcome}
@@ -20,8 +22,6 @@ use Rattle.safety.proofs.World.NodePlaces.{node_elsewhere, node_there}
 use Rattle.floors.specs.Runs.{does_raise, does_rise, events_in_machine, is_lost, is_put_in, passes_over, receiver_of, with_fault}
 use Rattle.floors.specs.Worlds.{FlooredWorld, step_with_floors, with_floors}
 use Rattle.floors.proofs.Steps.{in_machine}
-use Rattle.run_traces.specs.Words.{Ask, Compact, Cut, Deliver, Done, Event, Hear, Lose, NodeId, Noise, R, Raise, Refused, Replace, Restart}
-use Rattle.run_traces.specs.Words.{Tear}
 
 -- whether a node is there, and up
 abbrev pub up_in : Option NodeState → Bool

@@ -8,8 +8,9 @@ use Rattle.xid.specs.Transactions.{TxParts, BranchParts, participants, is_partic
 use Rattle.xid.specs.declared.transaction.Vote.{Vote}
 use Rattle.xid.specs.declared.transaction.Vote.TheVariants.{Prepared, Aborted}
 use Rattle.wire.specs.declared.message.Kind.{Kind}
-use Rattle.safety.specs.Words.{Fact, Outgoing}
 use Rattle.stable_record.specs.declared.fact.FactKind.TheVariants as stored
+use Rattle.protocol.specs.Basics.{Fact}
+use Rattle.protocol.specs.Vocabulary.{Outgoing}
 use Rattle.protocol.specs.Facts.{vote_eq, last_ballot, ballot_begun}
 use Rattle.protocol.specs.StandsFor.{stands_for}
 pub use Rattle.protocol.specs.Facts.{with_fact}

@@ -4,9 +4,9 @@ use Rattle.xid.specs.Transactions.{TxParts}
 use Rattle.xid.specs.declared.transaction.Vote.{Vote}
 use Rattle.ballot.specs.declared.slot.Slot.{Slot}
 use Rattle.ballot.specs.Choice.{Report}
-use Rattle.safety.specs.Words.{Fact}
 use Rattle.stable_record.specs.declared.fact.FactKind.TheVariants as stored
 use Rattle.ballot.specs.Greatest.{IsIn}
+use Rattle.protocol.specs.Basics.{Fact}
 pub use Rattle.protocol.specs.Facts.{IsViewOf}
 use Rattle.safety.specs.Standing.{IsPromised}
 

@@ -1,4 +1,3 @@
-pub mod Words
 pub mod CommitSteps
 pub mod Items
 pub mod Invariant

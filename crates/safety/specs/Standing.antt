@@ -6,8 +6,9 @@ use Rattle.wire.specs.declared.message.Kind.{Kind}
 use Rattle.wire.specs.declared.message.Kind.TheVariants as kinds
 use Rattle.ballot.specs.Greatest.{IsIn}
 use Rattle.ballot.specs.Ballots.{owner_of}
-use Rattle.safety.specs.Words.{Fact, NodeId, A, L, R}
 use Rattle.stable_record.specs.declared.fact.FactKind.TheVariants as stored
+use Rattle.protocol.specs.Basics.{Fact}
+use Rattle.protocol.specs.Vocabulary.{NodeId, A, L, R}
 use Rattle.protocol.specs.Effects.{Config}
 use Rattle.protocol.specs.Nodes.{NodeState}
 use Rattle.protocol.specs.StandsFor.{stands_for}

@@ -1,7 +1,8 @@
 //! What slots and views come to, fact by fact; and the worlds that runs of events lead to.
 ghost use Rattle.std.specs.Prelude.{◌≡◌, ℕ, true, [], List};
 ghost use Rattle.xid.specs.Transactions.{TxParts};
-ghost use Rattle.safety.specs.Words.{A, Fact};
+ghost use Rattle.protocol.specs.Basics.{Fact};
+ghost use Rattle.protocol.specs.Vocabulary.{A};
 ghost use Rattle.protocol.specs.Effects.{Config};
 ghost use Rattle.protocol.specs.Facts.{slot, view};
 ghost use Rattle.protocol.specs.Nodes.{all_play};

@@ -16,7 +16,7 @@ use Rattle.stable_record.specs.declared.fact.FactKind.TheVariants as stored
 use Rattle.ballot.specs.Greatest.{greatest, IsIn}
 use Rattle.protocol.specs.declared.states.View.TheVariants as views
 use Rattle.protocol.specs.Basics.{Fact}
-use Rattle.protocol.specs.Words.{View}
+use Rattle.protocol.specs.Vocabulary.{View}
 use Rattle.protocol.specs.Facts.{Bound, ballot_joined, accept_of, slot, ballot_begun, last_ballot, is_vote_of, vote_in, is_commit_of}
 use Rattle.protocol.specs.Facts.{is_abort_of, is_ended, view, is_prepared_view, is_spent, branch_bound_by, bound_branches}
 use Rattle.protocol.specs.Kept.{are_free_below, is_kept, kept_facts}

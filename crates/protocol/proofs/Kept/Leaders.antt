@@ -3,6 +3,7 @@ use Rattle.std.proofs.Common.{◌≡◌, ◌∙◌, inl, inr, ℕ, ◌^◌, Bool
 use Rattle.std.proofs.Common.{Option}
 use Rattle.std.proofs.Common.{Some, None, refl, sym, ap, subst, nat_lt, unwrap_or}
 use Rattle.ballot.specs.Greatest.{IsIn}
+use Rattle.protocol.specs.Vocabulary.{R, Node, Acceptors, Managers, Refused, Stands}
 use Rattle.protocol.proofs.Lists.{IsIn-mapped, filter_map_given}
 use Rattle.std.specs.Prelude.{map, filter, filter_map, find, option_map}
 use Rattle.std.specs.List.{list_any, list_all, cons_option}
@@ -24,7 +25,6 @@ use Rattle.ballot.specs.Choice.{pick}
 use Rattle.ballot.specs.Majority.{is_majority}
 use Rattle.protocol.specs.declared.states.Status.{Status}
 use Rattle.protocol.specs.declared.states.Status.TheVariants as statuses
-use Rattle.protocol.specs.Words.{R, Node, Acceptors, Managers, Refused, Stands}
 use Rattle.protocol.specs.Effects.{Config, Effect, is_inside, no_effect, answer_only, sends_only, stores, to, status_standing}
 use Rattle.protocol.specs.Facts.{instance_eq, vote_eq}
 use Rattle.protocol.specs.LeaderMemory.{LeaderMemory, StoredBallots, Begun, message_report, is_report_of, has_reported, is_reported}

@@ -11,8 +11,8 @@ use Rattle.stable_record.specs.Facts.{fact_tx}
 use Rattle.stable_record.specs.declared.fact.Touched.{Touched}
 use Rattle.stable_record.specs.declared.fact.FactKind.TheVariants as stored
 use Rattle.protocol.specs.Basics.{Fact}
-use Rattle.protocol.specs.Words.{NodeId, A, L, R, View}
 use Rattle.protocol.specs.declared.states.BranchState.{BranchState}
+use Rattle.protocol.specs.Vocabulary.{NodeId, A, L, R, View}
 use Rattle.protocol.specs.Acceptors.{plays_at_acceptor}
 use Rattle.protocol.specs.Branches.{is_write, hinders_use}
 use Rattle.protocol.specs.Effects.{Config}

@@ -15,10 +15,10 @@ use Rattle.wire.specs.declared.message.Kind.{Kind}
 use Rattle.wire.specs.declared.message.Kind.TheVariants as kinds
 use Rattle.wire.specs.Messages as messages
 use Rattle.protocol.specs.Basics.{Fact, Touched}
-use Rattle.protocol.specs.Words.{BranchState, R, Action, Start, Put, Del, Get, End, EndFail, Rollback, Code, Refused, Row}
-use Rattle.protocol.specs.Words.{Call, Timeout}
 use Rattle.stable_record.specs.Facts.{AreAscending, fact_tx}
 use Rattle.stable_record.specs.declared.fact.FactKind.TheVariants as stored
+use Rattle.protocol.specs.Vocabulary.{BranchState, R, Action, Start, Put, Del, Get, End, EndFail, Rollback, Code, Refused, Row, Call}
+use Rattle.protocol.specs.Vocabulary.{Timeout}
 use Rattle.protocol.specs.Managers.{stored_votes}
 use Rattle.protocol.specs.declared.states.BranchState.TheVariants as states
 use Rattle.protocol.specs.Branches.{BranchView, is_write, hinders_use, hinders, is_done, key_of, by_state}

@@ -11,8 +11,8 @@ use Rattle.wire.specs.declared.message.Kind.{Kind}
 use Rattle.wire.specs.declared.message.Kind.TheVariants as kinds
 use Rattle.wire.specs.Messages.{message_tx}
 use Rattle.protocol.specs.Basics.{Fact, Touched}
-use Rattle.protocol.specs.Words.{R, Outgoing, Leaders, Timeout}
 use Rattle.stable_record.specs.declared.fact.FactKind.TheVariants as stored
+use Rattle.protocol.specs.Vocabulary.{R, Outgoing, Leaders, Timeout}
 use Rattle.protocol.specs.Managers.{stored_votes}
 use Rattle.protocol.specs.Facts.{vote_in, is_ended, is_spent, view, is_prepared_view, is_open_view}
 use Rattle.protocol.specs.Effects.{Config, Effect, to, is_inside}

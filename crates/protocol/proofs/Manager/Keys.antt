@@ -8,8 +8,8 @@ use Rattle.std.proofs.lemmas.Bool.{cond_both, or_cases, or_left, or_right, false
 use Rattle.xid.specs.Names.{XidParts, xid_eq}
 use Rattle.xid.specs.Transactions.{TxParts, is_participant, is_at, xid_of, xid_at}
 use Rattle.protocol.specs.Basics.{Fact, Act, Touched}
-use Rattle.protocol.specs.Words.{BranchState, Action, Put, Del, Get, End, EndFail}
 use Rattle.stable_record.specs.Facts.{AreAscending, fact_tx}
+use Rattle.protocol.specs.Vocabulary.{BranchState, Action, Put, Del, Get, End, EndFail}
 use Rattle.protocol.specs.Branches.{key_of, is_write, hinders_use, hinders}
 use Rattle.protocol.specs.Facts.{is_spent}
 use Rattle.protocol.specs.Holds.{AreDisjoint}

@@ -5,8 +5,8 @@ use Rattle.xid.specs.Transactions.{TxParts, is_participant}
 use Rattle.xid.specs.declared.transaction.Vote.{Vote}
 use Rattle.xid.specs.declared.transaction.Vote.TheVariants as votes
 use Rattle.protocol.specs.Basics.{Fact}
-use Rattle.protocol.specs.Words.{NodeId, R}
 use Rattle.stable_record.specs.declared.fact.FactKind.TheVariants as stored
+use Rattle.protocol.specs.Vocabulary.{NodeId, R}
 use Rattle.protocol.specs.Managers.{stored_votes}
 use Rattle.protocol.specs.Facts.{bound_branches}
 use Rattle.protocol.specs.Effects.{Config}

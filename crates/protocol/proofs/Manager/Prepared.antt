@@ -11,8 +11,8 @@ use Rattle.xid.specs.Names.{XidParts}
 use Rattle.xid.specs.Transactions.{TxParts, is_participant, xid_at}
 use Rattle.xid.specs.declared.transaction.Vote.TheVariants as votes
 use Rattle.protocol.specs.Basics.{Fact, Touched}
-use Rattle.protocol.specs.Words.{R}
 use Rattle.stable_record.specs.declared.fact.FactKind.TheVariants as stored
+use Rattle.protocol.specs.Vocabulary.{R}
 use Rattle.protocol.specs.Managers.{stored_votes}
 use Rattle.protocol.specs.declared.states.BranchState.TheVariants as states
 use Rattle.protocol.specs.Effects.{Config}

@@ -8,9 +8,9 @@ use Rattle.xid.specs.Transactions.{TxParts}
 use Rattle.xid.specs.declared.transaction.Vote.{Vote}
 use Rattle.xid.specs.declared.transaction.Vote.TheVariants as votes
 use Rattle.protocol.specs.Basics.{Fact, Touched}
-use Rattle.protocol.specs.Words.{View}
 use Rattle.stable_record.specs.declared.fact.FactKind.TheVariants as stored
 use Rattle.protocol.specs.declared.states.View.TheVariants as views
+use Rattle.protocol.specs.Vocabulary.{View}
 use Rattle.protocol.specs.Facts.{is_vote_of, vote_in, is_commit_of, is_abort_of, is_ended, view, is_prepared_view}
 use Rattle.xid.proofs.Deciding.{tx_self, tx_decides}
 use Rattle.protocol.specs.Facts.{IsViewOf}

@@ -15,8 +15,9 @@ use Rattle.wire.specs.declared.message.Kind.TheVariants as kinds
 use Rattle.ballot.specs.Ballots.{owner_of}
 use Rattle.ballot.specs.Choice.{Report, is_prepared}
 use Rattle.ballot.specs.declared.slot.Slot.{Slot}
-use Rattle.safety.specs.Words.{Fact, NodeId, A, L, Address, Node, Outgoing, Leaders}
 use Rattle.stable_record.specs.declared.fact.FactKind.TheVariants as stored
+use Rattle.protocol.specs.Basics.{Fact}
+use Rattle.protocol.specs.Vocabulary.{NodeId, A, L, Address, Node, Outgoing, Leaders}
 use Rattle.protocol.specs.Effects.{Config, Effect, no_effect, sends_only, stores, to}
 use Rattle.protocol.specs.Facts.{slot, vote_eq}
 use Rattle.protocol.specs.Acceptors.{is_accepted, reports_below, is_some_below, report_after, accept_item, accept_messages}

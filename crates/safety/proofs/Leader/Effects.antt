@@ -13,9 +13,10 @@ use Rattle.wire.specs.declared.message.Kind.TheVariants.{Prepare, P1a, P1b, P2a,
 use Rattle.wire.specs.Messages.{message_tx}
 use Rattle.ballot.specs.Ballots.{IsOwned, owner_of, next_of}
 use Rattle.ballot.proofs.Turns.{next_is}
-use Rattle.safety.specs.Words.{Fact, L, R, Status, Stands, Refused, Outgoing, Address, Node, Acceptors, Managers, Request, Timeout, Ask}
 use Rattle.stable_record.specs.declared.fact.FactKind.TheVariants as stored
+use Rattle.protocol.specs.Basics.{Fact}
 use Rattle.protocol.specs.declared.states.Status.TheVariants as statuses
+use Rattle.protocol.specs.Vocabulary.{L, R, Status, Stands, Refused, Outgoing, Address, Node, Acceptors, Managers, Request, Timeout, Ask}
 use Rattle.protocol.specs.Facts.{last_ballot}
 use Rattle.protocol.specs.Effects.{status_standing, Config, Effect, to, is_inside, answer_only}
 use Rattle.protocol.specs.Effects.{no_effect, sends_only, stores}

@@ -7,8 +7,9 @@ use Rattle.wire.specs.declared.message.Kind.{Kind}
 use Rattle.wire.specs.declared.message.Kind.TheVariants as kinds
 use Rattle.ballot.specs.Ballots.{IsOwned}
 use Rattle.ballot.specs.Choice.{Report}
-use Rattle.safety.specs.Words.{Fact, Outgoing}
 use Rattle.stable_record.specs.declared.fact.FactKind.TheVariants as stored
+use Rattle.protocol.specs.Basics.{Fact}
+use Rattle.protocol.specs.Vocabulary.{Outgoing}
 use Rattle.protocol.specs.Facts.{last_ballot}
 use Rattle.protocol.specs.Effects.{Config}
 use Rattle.protocol.specs.StandsFor.{stands_for}

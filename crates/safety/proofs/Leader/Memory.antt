@@ -13,10 +13,10 @@ use Rattle.wire.specs.declared.message.Kind.TheVariants.{P1b, P2a}
 use Rattle.wire.specs.Messages.{message_tx}
 use Rattle.ballot.specs.Ballots.{IsOwned}
 use Rattle.ballot.specs.Choice.{Report}
-use Rattle.safety.specs.Words.{Fact}
 use Rattle.stable_record.specs.declared.fact.FactKind.TheVariants as stored
 use Rattle.xid.specs.Transactions.{tx_eq}
 use Rattle.ballot.specs.Greatest.{greatest, IsIn}
+use Rattle.protocol.specs.Basics.{Fact}
 use Rattle.protocol.specs.Facts.{instance_eq, ballot_begun, last_ballot}
 use Rattle.protocol.specs.Effects.{Config}
 use Rattle.protocol.specs.LeaderMemory.{LeaderMemory, Begun, nothing_heard, current, has_reported, is_proposed, with_met, with_heard}

@@ -1,7 +1,8 @@
 -- Keys and names of a resource manager's branches, whatever has happened.
 use Rattle.std.proofs.Common.{◌≡◌, ℕ, true, List, [], Some, ap, subst}
-use Rattle.safety.specs.Words.{Fact, R}
 use Rattle.stable_record.specs.Facts.{AreAscending}
+use Rattle.protocol.specs.Basics.{Fact}
+use Rattle.protocol.specs.Vocabulary.{R}
 use Rattle.protocol.specs.Facts.{bound_branches}
 use Rattle.protocol.specs.Effects.{Config}
 use Rattle.protocol.specs.Managers.{Branch, all_branches}

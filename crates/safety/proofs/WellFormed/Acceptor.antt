@@ -15,7 +15,8 @@ use Rattle.ballot.specs.Greatest.{IsIn}
 use Rattle.stable_record.proofs.Widths.{instance_fits}
 use Rattle.stable_record.specs.Facts.{IsFact}
 use Rattle.stable_record.specs.declared.fact.FactKind.TheVariants as stored
-use Rattle.safety.specs.Words.{Fact, A}
+use Rattle.protocol.specs.Basics.{Fact}
+use Rattle.protocol.specs.Vocabulary.{A}
 use Rattle.safety.specs.Laws.{IsGreatestAccept}
 use Rattle.protocol.specs.Facts.{slot}
 use Rattle.protocol.specs.Effects.{Config, Effect, no_effect}

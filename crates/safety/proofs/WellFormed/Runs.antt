@@ -14,8 +14,9 @@ use Rattle.wire.proofs.DecodingLemmas.{spelled}
 use Rattle.wire.proofs.OneSpelling.{begins_none}
 use Rattle.wire.specs.Messages.{IsMessage, IsAcceptor, message_tx}
 use Rattle.ballot.specs.Greatest.{IsIn}
-use Rattle.safety.specs.Words.{Fact, NodeId, A, L, R, Outgoing, Done, Refused}
-use Rattle.safety.specs.Words.{Event, Ask, Deliver, Lose, Cut, Noise, Tear, Restart, Compact}
+use Rattle.protocol.specs.Basics.{Fact}
+use Rattle.protocol.specs.Vocabulary.{NodeId, A, L, R, Outgoing, Done, Refused, Event, Ask, Deliver, Lose, Cut, Noise, Tear, Restart}
+use Rattle.protocol.specs.Vocabulary.{Compact}
 use Rattle.safety.specs.Forms.{IsEvent, IsSized, IsWellReached}
 use Rattle.safety.specs.Forms as forms
 use Rattle.safety.specs.Runs.{IsReachable, Opening, After}

@@ -7,8 +7,9 @@ use Rattle.xid.specs.Transactions.{TxParts, participants, is_participant}
 use Rattle.xid.specs.declared.transaction.Vote.{Vote}
 use Rattle.wire.specs.declared.message.Kind.{Kind}
 use Rattle.wire.specs.declared.message.Kind.TheVariants as kinds
-use Rattle.safety.specs.Words.{Fact, NodeId, A, L, R}
 use Rattle.stable_record.specs.declared.fact.FactKind.TheVariants as stored
+use Rattle.protocol.specs.Basics.{Fact}
+use Rattle.protocol.specs.Vocabulary.{NodeId, A, L, R}
 use Rattle.protocol.specs.Effects.{Config}
 use Rattle.protocol.specs.StandsFor.{message_items}
 use Rattle.safety.specs.Items.{Item, Promised, Accepted, Began, Voted, Committed, StoredAbort, P1b, P2a, P2b, Commit, Abort}

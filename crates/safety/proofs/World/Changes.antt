@@ -13,10 +13,11 @@ use Rattle.xid.specs.declared.transaction.Vote.TheVariants as votes
 use Rattle.xid.proofs.Deciding.{tx_decides}
 use Rattle.stable_record.specs.Facts.{fact_tx}
 use Rattle.stable_record.specs.declared.fact.FactKind.TheVariants as stored
-use Rattle.safety.specs.Words.{Fact, NodeId, A, L, R, View, Change, Answer, Done, Refused, Event, Ask, Deliver, Lose, Cut, Noise, Tear}
-use Rattle.safety.specs.Words.{Restart, Compact}
 use Rattle.xid.specs.declared.refusals.Refusal.TheVariants.{NoSuch, Forged, NoMemory, Down}
+use Rattle.protocol.specs.Basics.{Fact}
 use Rattle.protocol.specs.declared.states.View.TheVariants as views
+use Rattle.protocol.specs.Vocabulary.{NodeId, A, L, R, View, Change, Answer, Done, Refused, Event, Ask, Deliver, Lose, Cut, Noise, Tear}
+use Rattle.protocol.specs.Vocabulary.{Restart, Compact}
 use Rattle.protocol.specs.Facts.{view, is_vote_of, is_commit_of, is_abort_of}
 use Rattle.wire.specs.Decoding.{spells_message}
 use Rattle.wire.specs.Grammar.{spelling}

@@ -7,8 +7,9 @@ use Rattle.std.proofs.lemmas.Bool.{cond_both}
 use Rattle.std.proofs.lemmas.List.{append-nil}
 use Rattle.xid.specs.Transactions.{TxParts}
 use Rattle.wire.specs.declared.message.Kind.{Kind}
-use Rattle.safety.specs.Words.{Fact, NodeId, L, R, Outgoing, Done, Refused, Event, Deliver, Lose, Cut, Noise, Tear, Restart, Compact, Ask}
 use Rattle.xid.specs.declared.refusals.Refusal.TheVariants.{NoSuch, Forged, Down}
+use Rattle.protocol.specs.Basics.{Fact}
+use Rattle.protocol.specs.Vocabulary.{NodeId, L, R, Outgoing, Done, Refused, Event, Deliver, Lose, Cut, Noise, Tear, Restart, Compact, Ask}
 use Rattle.protocol.specs.Effects.{Config}
 use Rattle.wire.specs.Decoding.{spells_message}
 use Rattle.wire.specs.Grammar.{spelling}

@@ -2,7 +2,8 @@
 use Rattle.std.proofs.Common.{◌≡◌, ℕ, ◌<◌, true, List, Option, Some, refl, sym, ap, subst}
 use Rattle.std.proofs.lemmas.Bool.{cond_both}
 use Rattle.wire.specs.declared.message.Kind.{Kind}
-use Rattle.safety.specs.Words.{Fact, NodeId, A, L, R, Answer}
+use Rattle.protocol.specs.Basics.{Fact}
+use Rattle.protocol.specs.Vocabulary.{NodeId, A, L, R, Answer}
 use Rattle.protocol.specs.Effects.{Config, Effect, answer_only}
 use Rattle.protocol.specs.Nodes.{Memory, NodeState, Input, Received}
 use Rattle.protocol.specs.Nodes.{effect_of, on_message, is_message_inside}

@@ -1,6 +1,6 @@
 use Rattle.std.proofs.Common.{◌≡◌, length, Option}
 use Rattle.net_script.specs.TraceReaders.{HasRead}
-use Rattle.audit.specs.Words.{Trace}
+use Rattle.net_script.specs.declared.values.Trace.{Trace}
 use Rattle.audit.specs.Noting.{HasNoted}
 use Rattle.audit.proofs.auditing.audit_text_with_hash_key.Given as goal
 

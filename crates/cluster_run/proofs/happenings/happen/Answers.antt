@@ -1,6 +1,7 @@
 use Rattle.std.proofs.Common.{◌≡◌, List, [], ◌++◌, ℕ, Option, ap, inl, rules}
 use Rattle.std.specs.List.{flat_map}
 use Rattle.std.proofs.lemmas.Result.{on_ok_weaker}
+use Rattle.protocol.specs.Vocabulary.{Step}
 use Rattle.cluster.specs.Clusters.{sent_after, step_by, told_after}
 use Rattle.net_script.specs.declared.values.Command.TheVariants.{Do}
 use Rattle.net_script.specs.Events.{event_words}
@@ -8,7 +9,6 @@ use Rattle.net_script.specs.Traces.{notice_line, outcome_text, step_text}
 use Rattle.net_script.specs.Writing.{IsFileRefusal}
 use Rattle.cluster_run.specs.Happenings.{IsDoneBy}
 use Rattle.cluster_run.specs.Running.{PrintsShort, StopsIn, so_far}
-use Rattle.cluster_run.specs.Words.{Step}
 use Rattle.cluster_run.proofs.Configs.{handed_on}
 use Rattle.cluster_run.proofs.Lines.{step_joined}
 use Rattle.cluster_run.proofs.Printing.{if_err_more}

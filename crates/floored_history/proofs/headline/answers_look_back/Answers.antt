@@ -1,6 +1,6 @@
 use Rattle.std.proofs.Common.{◌∙◌, ap}
+use Rattle.protocol.specs.Vocabulary.{R, Ask}
 use Rattle.protocol.specs.Worlds.{StepResult}
-use Rattle.history.specs.Words.{R, Ask}
 use Rattle.history.proofs.Answering.{answered_ever}
 use Rattle.history.proofs.Laws as laws
 use Rattle.floors.proofs.Steps.{same_event}

@@ -1,6 +1,6 @@
 use Rattle.std.specs.Prelude.{◌≡◌, true, [], List}
 use Rattle.std.proofs.Common.{sym, subst}
-use Rattle.safety.specs.Words.{Fact}
+use Rattle.protocol.specs.Basics.{Fact}
 use Rattle.protocol.specs.Nodes.{all_play, compact_outcome, restart_outcome}
 use Rattle.floors.proofs.Nodes.{compact_keeps, restart_keeps}
 use Rattle.forgetting.proofs.Coming.{came, compacted, restarted, torn}

@@ -1,6 +1,6 @@
 use Rattle.std.specs.Prelude.{◌≡◌}
+use Rattle.protocol.specs.Vocabulary.{Stands}
 use Rattle.safety.specs.CommitSteps.{committed}
-use Rattle.safety.specs.Words.{Stands}
 use Rattle.protocol.specs.declared.states.Standing.TheVariants as standings
 use Rattle.progress.specs.Runs.{leader_quorum_and_participants}
 use Rattle.progress.specs.Outcomes.{status_answer, HaveEnded}

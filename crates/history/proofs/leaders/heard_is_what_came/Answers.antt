@@ -1,9 +1,9 @@
 use Rattle.std.proofs.Common.{◌≡◌, ◌<◌, ℕ, true, List, Some}
+use Rattle.protocol.specs.Vocabulary.{L}
 use Rattle.protocol.specs.Effects.{Config}
 use Rattle.protocol.specs.Facts.{last_ballot}
 use Rattle.protocol.specs.Nodes.{NodeState}
 use Rattle.protocol.specs.Worlds.{Occurrence, opening, node_at, world_after}
-use Rattle.history.specs.Words.{L}
 use Rattle.history.specs.Lines.{history}
 use Rattle.history.proofs.Runs.{run_is}
 use Rattle.history.proofs.LeaderRuns.{IsLeaderBack, leader_back, status_looked}

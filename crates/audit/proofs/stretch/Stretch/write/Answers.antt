@@ -2,7 +2,7 @@ use Rattle.std.proofs.Common.{◌∙◌, [], ◌∷◌, ◌++◌, sym, ap, subst
 use Rattle.std.specs.BTreeMap.{insert_entry}
 use Rattle.std.specs.Cmp.Lexicographic.{slice_cmp}
 use Rattle.std.specs.Ordering.{nat_cmp}
-use Rattle.audit.specs.Words.{Touched}
+use Rattle.protocol.specs.Basics.{Touched}
 use Rattle.audit.specs.Books.{ArePlaces}
 use Rattle.audit.proofs.PlaceLemmas.{places_after}
 use Rattle.audit.proofs.stretch.Stretch.write.Goals as goal

@@ -1,5 +1,5 @@
 use Rattle.std.proofs.Common.{◌∙◌, cond, set, sym, ap, subst}
-use Rattle.audit.specs.Words.{tx_eq}
+use Rattle.xid.specs.Transactions.{tx_eq}
 use Rattle.audit.specs.Books.{IsNumberOf, views_in}
 use Rattle.audit.proofs.ViewLemmas.{course_is, view_set}
 use Rattle.audit.proofs.views.Views.set.Goals as goal
