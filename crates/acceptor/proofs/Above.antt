@@ -18,7 +18,7 @@ use Rattle.protocol.proofs.Kept.Facts.{slot_kept}
 use Rattle.protocol.proofs.Kept.Playing.{all_play_kept}
 use Rattle.protocol.proofs.Lists.{any_found, filter_kept}
 use Rattle.acceptor.specs.Acceptors.{AcceptorParts, StandsFor, begun_in}
-use Rattle.acceptor.specs.Tables.{slot_in, txs_above}
+use Rattle.acceptor.specs.SlotTables.{slot_in, txs_above}
 use Rattle.acceptor.proofs.Begun.{unbegun_empty}
 
 module _ (place : Place) where

@@ -29,7 +29,7 @@ use Rattle.protocol.specs.Facts.{instance_eq, slot}
 use Rattle.protocol.specs.Nodes.{plays, all_play}
 use Rattle.protocol.proofs.Manager.Played.{all_play_then}
 use Rattle.acceptor.specs.Slots.{place_of, slot_of, after_fact, raised, latest}
-use Rattle.acceptor.specs.Tables.{TableParts, IsSeen, IsTable, slots_in, slot_in}
+use Rattle.acceptor.specs.SlotTables.{TableParts, IsSeen, IsTable, slots_in, slot_in}
 use Rattle.acceptor.specs.Acceptors.{AcceptorParts, StandsFor, begun_in}
 use Rattle.acceptor.specs.Compaction.{accepted_ballot, accept_facts, least_ballot, is_promised, common_ballot, common_facts}
 use Rattle.acceptor.specs.Compaction.{promise_facts, accepts_of, promises_of, transaction_facts, compacted, IsCompacted, shorter_facts}

@@ -17,7 +17,7 @@ use Rattle.transactions.proofs.Keys.{absent_from_place, present_from_place}
 use Rattle.transactions.proofs.Places.{at_places_grown, inside_with, still_inside}
 use Rattle.transactions.proofs.Rows.{number_at, place_le}
 use Rattle.acceptor.specs.Slots.{slot_of}
-use Rattle.acceptor.specs.Tables.{IsLeft, IsSeen, IsTable, TableParts, slot_in, slots_in, txs_above}
+use Rattle.acceptor.specs.SlotTables.{IsLeft, IsSeen, IsTable, TableParts, slot_in, slots_in, txs_above}
 use Rattle.acceptor.proofs.Rows.{same_table, seen_table}
 
 -- ---- one transaction more, which wasn't seen

@@ -15,7 +15,7 @@ use Rattle.transactions.proofs.Keys.{absent_from_place}
 use Rattle.transactions.proofs.Rows.{front, place_le, one_at, place_stays, place_ends, number_same, longer, is_seen}
 use Rattle.protocol.specs.Acceptors.{plays_at_acceptor}
 use Rattle.acceptor.specs.Slots.{place_of, slot_at, slot_of, slots_after, after_fact}
-use Rattle.acceptor.specs.Tables.{TableParts, IsSeen, IsTable, slots_in, slot_in}
+use Rattle.acceptor.specs.SlotTables.{TableParts, IsSeen, IsTable, slots_in, slot_in}
 use Rattle.acceptor.proofs.Played.{leads_to, stays, whole_after, plays_alone}
 
 -- ---- one more transaction

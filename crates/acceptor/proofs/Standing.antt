@@ -21,7 +21,7 @@ use Rattle.protocol.proofs.Manager.Played.{all_play_then}
 use Rattle.transactions.specs.Seen.{seen_with}
 use Rattle.transactions.proofs.First.{first_more}
 use Rattle.acceptor.specs.Slots.{slots_of, after_fact}
-use Rattle.acceptor.specs.Tables.{TableParts, IsSeen, slots_in, slot_in}
+use Rattle.acceptor.specs.SlotTables.{TableParts, IsSeen, slots_in, slot_in}
 use Rattle.acceptor.specs.Acceptors.{AcceptorParts, StandsFor, Decides, acceptor_part}
 use Rattle.acceptor.proofs.Played.{slot_more, plays_alone}
 

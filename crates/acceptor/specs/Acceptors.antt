@@ -11,7 +11,7 @@ use Rattle.protocol.specs.Acceptors.{Slots, plays_at_acceptor}
 use Rattle.protocol.specs.Effects.{Config, Effect, decision_of}
 use Rattle.protocol.specs.Nodes.{all_play}
 use Rattle.stable_record.specs.Parts.{Part}
-use Rattle.acceptor.specs.Tables.{TableParts, IsSeen, slot_in}
+use Rattle.acceptor.specs.SlotTables.{TableParts, IsSeen, slot_in}
 
 -- the transactions of facts, in the order of their first facts
 abbrev pub begun_in : List Fact → List TxParts

@@ -1,5 +1,5 @@
 pub mod Slots
-pub mod Tables
+pub mod SlotTables
 pub mod Acceptors
 pub mod Compaction
 pub mod Decisions

@@ -8,7 +8,7 @@ ghost use Rattle.stable_record.specs.declared.entry.EntryKind.TheVariants as kin
 ghost use Rattle.stable_record.specs.Written.{AddsFacts, AreWritten};
 ghost use Rattle.transactions.specs.Seen.{AreInside, at_places};
 ghost use Rattle.acceptor.specs.Slots.{IsKept, slots_of};
-ghost use Rattle.acceptor.specs.Tables.{slot_in};
+ghost use Rattle.acceptor.specs.SlotTables.{slot_in};
 ghost use Rattle.acceptor.specs.Compaction.{accept_facts, common_ballot as common_of, common_facts, promise_facts, accepts_of, promises_of};
 ghost use Rattle.acceptor.specs.Compaction.{transaction_facts, compacted};
 

@@ -10,7 +10,7 @@ ghost use Rattle.stable_record.specs.Written.{AreWritten};
 ghost use Rattle.transactions.specs.Seen.{AreInside, at_places, place_in, seen_with};
 ghost use Rattle.protocol.specs.Acceptors.{plays_at_acceptor};
 ghost use Rattle.acceptor.specs.Slots.{after_fact};
-ghost use Rattle.acceptor.specs.Tables.{IsLeft, IsSeen, IsTable, slots_in, slot_in};
+ghost use Rattle.acceptor.specs.SlotTables.{IsLeft, IsSeen, IsTable, slots_in, slot_in};
 ghost use Rattle.acceptor.specs.Compaction.{compacted};
 
 use crate::shorter::frames_of;
@@ -35,7 +35,7 @@ pub struct Table {
 
 impl Model for Table {
     ghost use Rattle.std.specs.Prelude.{map};
-    ghost use Rattle.acceptor.specs.Tables.{TableParts, IsTable};
+    ghost use Rattle.acceptor.specs.SlotTables.{TableParts, IsTable};
 
     ghost Value = { TableParts };
 

@@ -10,7 +10,7 @@ use Rattle.net_script.specs.declared.values.Table.{Table}
 use Rattle.net_script.specs.declared.values.Trace.{Trace}
 use Rattle.audit.specs.Told.{step_of, history_of, each_step, moves_rightly}
 use Rattle.audit.specs.Stretches.{stretches_back}
-use Rattle.audit.specs.Tables.{first_tables, table_told, shows_rightly, are_tables}
+use Rattle.audit.specs.ToldTables.{first_tables, table_told, shows_rightly, are_tables}
 use Rattle.audit.specs.Floors.{stays_above}
 use Rattle.audit.specs.Books.{rows_of, stretch_of, has_committed}
 use Rattle.audit.specs.Following.{Follows, Takes}

@@ -17,7 +17,7 @@ use Rattle.history.specs.SerialOrder.{first_commits}
 use Rattle.net_script.specs.declared.values.Trace.{Trace}
 use Rattle.audit.specs.Told.{history_of}
 use Rattle.audit.specs.Stretches.{stretches_back}
-use Rattle.audit.specs.Tables.{first_tables, table_told, are_tables}
+use Rattle.audit.specs.ToldTables.{first_tables, table_told, are_tables}
 use Rattle.audit.specs.Consistent.{committed_back, is_order_kept, is_consistent, reads_are_serial, serial_table}
 use Rattle.audit.specs.Books.{rows_of, stretch_of, has_committed, Reaches}
 use Rattle.audit.specs.FloorBooks.{are_above}

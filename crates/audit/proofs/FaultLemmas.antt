@@ -15,7 +15,7 @@ use Rattle.net_script.specs.declared.values.Entry.{Entry}
 use Rattle.net_script.specs.declared.values.Trace.{Trace}
 use Rattle.audit.specs.Told.{step_of, history_of, each_step, moves_rightly}
 use Rattle.audit.specs.Stretches.{stretches_back}
-use Rattle.audit.specs.Tables.{first_tables, table_told, shows_rightly, are_tables}
+use Rattle.audit.specs.ToldTables.{first_tables, table_told, shows_rightly, are_tables}
 use Rattle.audit.specs.Consistent.{committed_back, is_order_kept}
 use Rattle.audit.specs.Hearing.{are_right}
 use Rattle.audit.specs.FloorBooks.{are_above}

@@ -27,7 +27,7 @@ use Rattle.net_script.specs.declared.values.Table.{Table}
 use Rattle.net_script.specs.declared.values.Trace.{Trace}
 use Rattle.audit.specs.Told.{step_of, history_of, each_step, is_move}
 use Rattle.audit.specs.Stretches.{stretches_back}
-use Rattle.audit.specs.Tables.{first_tables, table_told, shows_rightly, are_tables}
+use Rattle.audit.specs.ToldTables.{first_tables, table_told, shows_rightly, are_tables}
 use Rattle.audit.specs.Floors.{stays_above}
 use Rattle.audit.specs.Books.{is_move_from}
 use Rattle.audit.specs.Consistent.{committed_back, is_order_kept, is_consistent}

@@ -20,7 +20,7 @@ use Rattle.history.specs.Writes.{is_committed_view, changed_to}
 use Rattle.net_script.specs.declared.values.Entry.{Entry}
 use Rattle.audit.specs.Told.{step_of, history_of, each_step, is_move, moves_rightly, views_back}
 use Rattle.audit.specs.Stretches.{stretch_by, stretches_back, stretch_back, writes_at}
-use Rattle.audit.specs.Tables.{is_event_right, table_told}
+use Rattle.audit.specs.ToldTables.{is_event_right, table_told}
 use Rattle.audit.specs.Books.{rows_of, stretch_of, views_in, is_move_from, place_at, firsts_changed}
 use Rattle.audit.specs.Following.{IsHappened, IsChanged, IsChangedBy, Follows, Takes}
 use Rattle.audit.specs.declared.ledger.Ledger.{Ledger}

@@ -13,7 +13,7 @@ use Rattle.xid.specs.Transactions.{BranchParts, TxParts, participants, nth_branc
 use Rattle.protocol.specs.Vocabulary.{Row, View}
 use Rattle.protocol.specs.Tables.{put_row}
 use Rattle.net_script.specs.declared.values.Table.{Table}
-use Rattle.audit.specs.Tables.{first_rows_of, first_tables}
+use Rattle.audit.specs.ToldTables.{first_rows_of, first_tables}
 
 pub all_next : {X : Type 0} (p : X → Bool) (xs : List X) (i : ℕ) (d : X) → i < length xs → list_all p (take i xs) ≡ true
     → p (get_or xs i d) ≡ true → list_all p (take (i + 1) xs) ≡ true

@@ -29,7 +29,7 @@ use Rattle.audit.specs.declared.stretch.Shown.{Shown}
 use Rattle.audit.specs.Consistent.{serial_table, are_shown, reads_are_serial}
 use Rattle.audit.specs.Stretches as stretches
 use Rattle.audit.specs.Stretches.{StretchParts, own_act, stretch_after, stretch_back, stretches_back, gets_in, writes_at}
-use Rattle.audit.specs.Tables.{shows}
+use Rattle.audit.specs.ToldTables.{shows}
 use Rattle.audit.proofs.MachineStretches.{not_called, called, writes_same, own_same}
 
 -- ---- where a get stands

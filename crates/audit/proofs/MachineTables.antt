@@ -28,7 +28,7 @@ use Rattle.history.proofs.Moves.{manager_in, IsMove, Quiet, Restarted, Called, S
 use Rattle.history.proofs.Runs.{IsRun, AtFirst, Then}
 use Rattle.history.proofs.SerialTables as tables
 use Rattle.history.proofs.Told.{sound, told_ever}
-use Rattle.audit.specs.Tables.{commit_at, table_told, are_tables}
+use Rattle.audit.specs.ToldTables.{commit_at, table_told, are_tables}
 use Rattle.audit.proofs.MachineStretches.{writes_same}
 
 -- ---- one step more

@@ -49,7 +49,7 @@ use Rattle.history.proofs.Told.{sound}
 use Rattle.audit.specs.Consistent.{committed_back, is_history_consistent, serial_table}
 use Rattle.audit.specs.Stretches as stretches
 use Rattle.audit.specs.Stretches.{own_act, stretch_back, stretches_back}
-use Rattle.audit.specs.Tables.{are_tables, is_event_right, shows, shows_rightly, table_told}
+use Rattle.audit.specs.ToldTables.{are_tables, is_event_right, shows, shows_rightly, table_told}
 use Rattle.audit.specs.Told.{each_step, is_move, moves_rightly}
 use Rattle.audit.proofs.CommitLemmas.{one_is_a_move}
 use Rattle.audit.proofs.MachineGets.{first, found_so, gets_serial, serial_same, shows_so}

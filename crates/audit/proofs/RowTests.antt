@@ -7,7 +7,7 @@ use Rattle.std.proofs.lemmas.Bool.Decides.{nat_tests}
 use Rattle.std.proofs.lemmas.List.{take_all}
 use Rattle.protocol.specs.Vocabulary.{Row}
 use Rattle.protocol.specs.Rows.{row_eq}
-use Rattle.audit.specs.Tables.{are_tables}
+use Rattle.audit.specs.ToldTables.{are_tables}
 use Rattle.audit.specs.Books.{Reaches}
 
 and_assoc : (a b c : Bool) → (a && (b && c)) ≡ ((a && b) && c)

@@ -22,7 +22,7 @@ use Rattle.history.specs.SerialOrder.{those_before, first_commits}
 use Rattle.history.specs.Writes.{is_committed_view}
 use Rattle.audit.specs.Told.{views_back}
 use Rattle.audit.specs.Stretches.{Stretches, stretches_back, branch_at, gets_in, writes_in, writes_at}
-use Rattle.audit.specs.Tables.{are_tables}
+use Rattle.audit.specs.ToldTables.{are_tables}
 use Rattle.audit.specs.Consistent.{serial_table, are_shown, read_after, committed_back, is_order_kept, reads_are_serial}
 use Rattle.audit.specs.Books.{ViewsParts, stretch_of, rows_of, views_in, has_committed, has_committed_everywhere, place_at, IsReplayed}
 use Rattle.audit.specs.Following.{Follows}

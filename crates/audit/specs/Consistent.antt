@@ -12,7 +12,7 @@ use Rattle.history.specs.Lines.{view_back}
 use Rattle.history.specs.Writes.{is_committed_view}
 use Rattle.audit.specs.Told.{history_of, each_step, moves_rightly}
 use Rattle.audit.specs.Stretches.{Stretches, stretches_back, branch_at, gets_in, writes_at}
-use Rattle.audit.specs.Tables.{first_tables, table_told, shows, shows_rightly, are_tables}
+use Rattle.audit.specs.ToldTables.{first_tables, table_told, shows, shows_rightly, are_tables}
 use Rattle.audit.specs.Floors.{stays_above}
 
 -- the table of rm after some transactions, one whole transaction after another

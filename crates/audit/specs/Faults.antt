@@ -9,7 +9,7 @@ use Rattle.history.specs.SerialOrder.{first_commits}
 use Rattle.net_script.specs.declared.values.Trace.{Trace}
 use Rattle.audit.specs.Told.{history_of, each_step, moves_rightly}
 use Rattle.audit.specs.Stretches.{stretches_back}
-use Rattle.audit.specs.Tables.{first_tables, table_told, shows_rightly, are_tables}
+use Rattle.audit.specs.ToldTables.{first_tables, table_told, shows_rightly, are_tables}
 use Rattle.audit.specs.Floors.{stays_above}
 use Rattle.audit.specs.Consistent.{committed_back, is_order_kept, is_consistent}
 use Rattle.audit.specs.declared.faults.Question.{Question}

@@ -6,7 +6,7 @@ use Rattle.protocol.specs.Vocabulary.{Answer, Event, Change, Step, Row}
 use Rattle.history.specs.SerialOrder.{first_commits}
 use Rattle.audit.specs.Told.{moves_rightly, views_back}
 use Rattle.audit.specs.Stretches.{stretch_back, stretch_by}
-use Rattle.audit.specs.Tables.{shows_rightly, table_told}
+use Rattle.audit.specs.ToldTables.{shows_rightly, table_told}
 use Rattle.audit.specs.Books.{rows_of, stretch_of, views_in, rows_changed, views_moved, firsts_changed}
 use Rattle.audit.specs.declared.ledger.Ledger.{Ledger}
 

@@ -5,7 +5,7 @@ use Rattle.net_script.specs.declared.values.Entry.{Entry}
 use Rattle.net_script.specs.declared.values.Table.{Table}
 use Rattle.net_script.specs.declared.values.Trace.{Trace}
 use Rattle.audit.specs.Told.{history_of, each_step, moves_rightly}
-use Rattle.audit.specs.Tables.{first_tables, shows_rightly}
+use Rattle.audit.specs.ToldTables.{first_tables, shows_rightly}
 use Rattle.audit.specs.Following.{Follows}
 use Rattle.audit.specs.declared.auditor.Auditor.{Auditor}
 

@@ -1,6 +1,6 @@
 pub mod Told
 pub mod Stretches
-pub mod Tables
+pub mod ToldTables
 pub mod Floors
 pub mod Consistent
 pub mod Books

@@ -6,7 +6,7 @@ ghost use Rattle.net_script.specs.declared.trace_lines.TraceLine.{TraceLine as L
 ghost use Rattle.net_script.specs.Telling.{IsHeard};
 ghost use Rattle.net_script.specs.TraceReaders.{begun_with};
 ghost use Rattle.net_script.specs.declared.values.Trace.{Trace};
-ghost use Rattle.audit.specs.Tables.{first_tables};
+ghost use Rattle.audit.specs.ToldTables.{first_tables};
 ghost use Rattle.audit.specs.Consistent.{is_order_kept};
 ghost use Rattle.audit.specs.Books.{stretch_of, has_committed, Reaches};
 ghost use Rattle.audit.specs.Faults.{Tells, IsFound};

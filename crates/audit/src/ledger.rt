@@ -9,7 +9,7 @@ ghost use Rattle.protocol.specs.Tables.{with_writes};
 ghost use Rattle.net_script.specs.declared.values.Table.{Table};
 ghost use Rattle.audit.specs.Told.{step_of};
 ghost use Rattle.audit.specs.Stretches.{own_act, with_get, writes_in, writes_at};
-ghost use Rattle.audit.specs.Tables.{first_tables, shows, is_call_right, is_event_right};
+ghost use Rattle.audit.specs.ToldTables.{first_tables, shows, is_call_right, is_event_right};
 ghost use Rattle.audit.specs.Books.{rows_of, stretch_of, Called, Sets, is_move_from};
 ghost use Rattle.audit.specs.Following.{Follows, IsChanged, IsChangedBy, IsHappened, Takes};
 

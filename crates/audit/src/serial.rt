@@ -8,7 +8,7 @@ ghost use Rattle.xid.specs.declared.refusals.Refusal.TheVariants.{NoMemory};
 ghost use Rattle.protocol.specs.Tables.{with_writes};
 ghost use Rattle.history.specs.Writes.{is_committed_view};
 ghost use Rattle.audit.specs.Stretches.{branch_at, gets_in, writes_at};
-ghost use Rattle.audit.specs.Tables.{first_tables, shows};
+ghost use Rattle.audit.specs.ToldTables.{first_tables, shows};
 ghost use Rattle.audit.specs.Consistent.{are_shown, is_order_kept, reads_are_serial, serial_table};
 ghost use Rattle.audit.specs.Books.{rows_of, stretch_of, has_committed, has_committed_everywhere, view_in, IsReplayed};
 

@@ -5,7 +5,7 @@ ghost use Rattle.std.specs.Cmp.Lexicographic.{pointwise};
 ghost use Rattle.xid.specs.declared.refusals.Refusal.TheVariants.{NoMemory};
 ghost use Rattle.protocol.specs.Rows.{row_eq};
 ghost use Rattle.protocol.specs.Tables.{put_row, with_writes};
-ghost use Rattle.audit.specs.Tables.{first_tables, are_tables};
+ghost use Rattle.audit.specs.ToldTables.{first_tables, are_tables};
 ghost use Rattle.audit.specs.Books.{rows_of, Reaches};
 
 use crate::rows::Rows;

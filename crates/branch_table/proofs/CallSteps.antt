@@ -23,8 +23,9 @@ use Rattle.protocol.specs.Branches.{value_fits, call_answer, touch_answer, is_do
 use Rattle.protocol.specs.Managers.{Branch, act_on, has_key, last_act, view_named}
 use Rattle.protocol.proofs.TouchedKeys.{acts_touched, has_touched}
 use Rattle.branch_table.specs.OneCall.{Answers, IsHindered, SameView, view_with_act, view_after_done}
-use Rattle.branch_table.specs.Tables.{TableState, AreHeldApart, ChangesOnly, Steps, branch_done, branch_named, can_be_rolled_back, in_state}
-use Rattle.branch_table.specs.Tables.{is_active, with_act}
+use Rattle.branch_table.specs.TableStates.{TableState, AreHeldApart, ChangesOnly, Steps, branch_done, branch_named, can_be_rolled_back}
+use Rattle.branch_table.specs.TableStates.{in_state}
+use Rattle.branch_table.specs.TableStates.{is_active, with_act}
 use Rattle.branch_table.specs.Admission.{end_action, end_state, end_code, Admits, IsAdmitted, Meets, Touches}
 use Rattle.branch_table.specs.Parts.{hold_of}
 use Rattle.branch_table.specs.declared.hold.Hold.{Hold}

@@ -13,7 +13,7 @@ use Rattle.xid.proofs.Deciding.{xid_decides, xid_other, xid_apart}
 use Rattle.protocol.specs.Branches.{BranchView, no_branch}
 use Rattle.protocol.specs.Managers.{Branch, view_by, view_named}
 use Rattle.indexmap.specs.IndexMap.{swap_remove_entry}
-use Rattle.branch_table.specs.Tables.{branch_named, ChangesOnly}
+use Rattle.branch_table.specs.TableStates.{branch_named, ChangesOnly}
 use Rattle.branch_table.specs.Parts.{Course, branch_of, is_using, uses_of, uses_in, Replaces}
 use Rattle.branch_table.proofs.Positions.{none_passes}
 

@@ -10,7 +10,7 @@ use Rattle.xid.proofs.Deciding.{xid_self, xid_decides, xid_other, xid_apart}
 use Rattle.protocol.specs.Branches.{BranchView, no_branch, hinders_use}
 use Rattle.protocol.specs.Managers.{Branch, view_named}
 use Rattle.branch_table.specs.OneCall.{IsHindered}
-use Rattle.branch_table.specs.Tables.{branch_named}
+use Rattle.branch_table.specs.TableStates.{branch_named}
 use Rattle.branch_table.specs.Parts.{is_using, uses_of, uses_in}
 use Rattle.branch_table.proofs.Uses.{one}
 use Rattle.branch_table.proofs.Views.{hindered_to, is_of, none_hinders_use, view_of}

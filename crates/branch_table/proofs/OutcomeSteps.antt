@@ -7,7 +7,7 @@ use Rattle.stable_record.specs.declared.fact.Touched.{Touched}
 use Rattle.protocol.specs.declared.states.BranchState.{BranchState}
 use Rattle.protocol.specs.Managers.{Branch, idle_keys}
 use Rattle.branch_table.specs.Outcomes.{Looks, keys_named, looks_after}
-use Rattle.branch_table.specs.Tables.{branch_named, is_idle}
+use Rattle.branch_table.specs.TableStates.{branch_named, is_idle}
 use Rattle.branch_table.proofs.Hindered.{distinct_tail, named_absent, names, none_later}
 use Rattle.branch_table.proofs.Uses.{looks_more}
 

@@ -10,7 +10,7 @@ use Rattle.stable_record.specs.declared.fact.Act.{Act}
 use Rattle.stable_record.specs.Facts.{IsKey, IsValue}
 use Rattle.protocol.specs.declared.rows.Row.{Row}
 use Rattle.protocol.specs.Tables.{put_row, rows_after}
-use Rattle.branch_table.specs.Tables.{are_rows, is_row}
+use Rattle.branch_table.specs.TableStates.{are_rows, is_row}
 
 -- a key and a value that fit make a row that does
 pub row_fits : (key value : List ℕ) → IsKey key → IsValue value → is_row (record { key = key; value = value }) ≡ true

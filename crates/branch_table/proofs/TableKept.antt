@@ -17,7 +17,7 @@ use Rattle.protocol.specs.Branches.{is_write, hinders_use}
 use Rattle.protocol.specs.Managers.{Branch, act_on, has_key, view_named, with_touched}
 use Rattle.branch_table.specs.OneCall.{IsHindered}
 use Rattle.branch_table.specs.Outcomes.{AreHindered, CanBePrepared, prepared_branch}
-use Rattle.branch_table.specs.Tables.{AreHeldApart, AreTableBranches, branch_named, in_state, is_idle, with_act}
+use Rattle.branch_table.specs.TableStates.{AreHeldApart, AreTableBranches, branch_named, in_state, is_idle, with_act}
 use Rattle.branch_table.specs.Admission.{IsAdmitted}
 use Rattle.branch_table.specs.Parts.{Adds, AreHolds, free, Replaces, Takes, hold_at, hold_more, is_using, uses_by, uses_held, uses_in}
 use Rattle.branch_table.specs.Parts.{uses_of}

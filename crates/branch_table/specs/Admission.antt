@@ -17,7 +17,7 @@ use Rattle.protocol.specs.Managers.{Branch, has_key, view_named}
 use Rattle.branch_table.specs.OneCall.{IsHindered}
 use Rattle.branch_table.specs.Parts.{hold_of}
 use Rattle.branch_table.specs.declared.hold.Hold.{Hold}
-use Rattle.branch_table.specs.Tables.{TableState, ChangesOnly, branch_named, is_active, with_act}
+use Rattle.branch_table.specs.TableStates.{TableState, ChangesOnly, branch_named, is_active, with_act}
 use Rattle.branch_table.specs.declared.table.Access.{Access}
 use Rattle.branch_table.specs.declared.table.Access.TheVariants as access
 use Rattle.branch_table.specs.declared.table.Ending.{Ending}

@@ -1,5 +1,5 @@
 pub mod OneCall
-pub mod Tables
+pub mod TableStates
 pub mod Outcomes
 pub mod Parts
 pub mod Admission

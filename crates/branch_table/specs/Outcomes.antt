@@ -11,7 +11,7 @@ use Rattle.protocol.specs.Branches.{hinders_use, is_write}
 use Rattle.protocol.specs.Managers.{Branch, view_named}
 use Rattle.protocol.specs.Tables.{with_writes}
 use Rattle.branch_table.specs.OneCall.{IsHindered}
-use Rattle.branch_table.specs.Tables.{TableState, ChangesOnly, branch_named, is_prepared}
+use Rattle.branch_table.specs.TableStates.{TableState, ChangesOnly, branch_named, is_prepared}
 
 -- the touched keys of the branch of a name; none where there is no such branch
 abbrev pub keys_named : List Branch → XidParts → List Touched

@@ -14,7 +14,7 @@ use Rattle.protocol.specs.declared.states.BranchState.{BranchState}
 use Rattle.protocol.specs.Branches.{hinders_use, is_write, value_after}
 use Rattle.protocol.specs.Managers.{Branch, view_by, act_on, has_key}
 use Rattle.protocol.specs.Tables.{rows_after}
-use Rattle.branch_table.specs.Tables.{ChangesOnly, branch_named, is_row}
+use Rattle.branch_table.specs.TableStates.{ChangesOnly, branch_named, is_row}
 use Rattle.branch_table.specs.declared.hold.Hold.{Hold}
 use Rattle.branch_table.specs.declared.places.Place.{Place}
 

@@ -9,7 +9,7 @@ ghost use Rattle.protocol.specs.declared.states.BranchState.{BranchState};
 ghost use Rattle.stable_record.specs.declared.fact.Act.TheVariants as acts;
 ghost use Rattle.protocol.specs.Managers.{act_on as act_on_lem, has_key as has_key_lem, with_touched};
 ghost use Rattle.branch_table.specs.Parts.{hold_of};
-ghost use Rattle.branch_table.specs.Tables.{is_active, is_idle, is_prepared, can_be_rolled_back};
+ghost use Rattle.branch_table.specs.TableStates.{is_active, is_idle, is_prepared, can_be_rolled_back};
 
 use crate::hold::Hold;
 use crate::keys::{act_on, are_same, copied, touch_key};

@@ -9,7 +9,7 @@ ghost use Rattle.xid.specs.Places.{is_xid_below};
 ghost use Rattle.xid.specs.declared.refusals.Refusal.TheVariants.{NoMemory};
 ghost use Rattle.stable_record.specs.Facts.{IsKey, IsAct};
 ghost use Rattle.protocol.specs.Managers.{has_key};
-ghost use Rattle.branch_table.specs.Tables.{branch_named, in_state, with_act};
+ghost use Rattle.branch_table.specs.TableStates.{branch_named, in_state, with_act};
 ghost use Rattle.branch_table.specs.Outcomes.{prepared_names};
 ghost use Rattle.branch_table.specs.Parts.{branch_of, Replaces};
 

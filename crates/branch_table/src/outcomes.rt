@@ -9,7 +9,7 @@ ghost use Rattle.protocol.specs.Branches.{hinders_use, is_write};
 ghost use Rattle.protocol.specs.Managers.{Branch as Named, idle_keys, view_named};
 ghost use Rattle.branch_table.specs.OneCall.{IsHindered};
 ghost use Rattle.protocol.specs.declared.answers.Answer.TheVariants as answers;
-ghost use Rattle.branch_table.specs.Tables.{AreTableBranches, branch_named};
+ghost use Rattle.branch_table.specs.TableStates.{AreTableBranches, branch_named};
 ghost use Rattle.branch_table.specs.Outcomes.{AreHindered, AreRecovered, Commits, IsRestored, RefusesRestore, Undoes};
 ghost use Rattle.branch_table.specs.Outcomes.{keys_named};
 

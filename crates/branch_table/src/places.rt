@@ -10,7 +10,7 @@ ghost use Rattle.protocol.specs.Managers.{has_key};
 ghost use Rattle.protocol.specs.Tables.{put_row, rows_after, with_writes};
 ghost use Rattle.branch_table.specs.Outcomes.{looks_after};
 ghost use Rattle.branch_table.specs.Parts.{free, no_place, place_left, hold_at, uses_held, uses_by, Adds, Takes, CanLeave, table_of};
-ghost use Rattle.branch_table.specs.Tables.{are_rows, first_table, is_row};
+ghost use Rattle.branch_table.specs.TableStates.{are_rows, first_table, is_row};
 
 use crate::hold::Hold;
 use crate::looks::Looks;
@@ -73,7 +73,7 @@ pub struct Places {
 impl Model for Places {
     ghost use Rattle.std.specs.Prelude.{◌≡◌, true, List, ℕ, map};
     ghost use Rattle.branch_table.specs.Parts.{table_of};
-    ghost use Rattle.branch_table.specs.Tables.{are_rows};
+    ghost use Rattle.branch_table.specs.TableStates.{are_rows};
     ghost use Rattle.branch_table.specs.declared.places.Place.{Place};
 
     ghost Value = { List (List ℕ × Place) };

@@ -18,7 +18,7 @@ ghost use Rattle.branch_table.specs.Admission.{end_action, end_state, end_code, 
 ghost use Rattle.branch_table.specs.OneCall.{IsHindered};
 ghost use Rattle.branch_table.specs.Outcomes.{Looks as LooksLem, keys_named};
 ghost use Rattle.branch_table.specs.Parts.{uses_held, uses_of};
-ghost use Rattle.branch_table.specs.Tables.{AreTableBranches, Steps, are_rows, branch_named, first_table};
+ghost use Rattle.branch_table.specs.TableStates.{AreTableBranches, Steps, are_rows, branch_named, first_table};
 
 use crate::branch::Branch;
 use crate::branches::Branches;
@@ -86,7 +86,7 @@ pub struct BranchTable {
 }
 
 impl Model for BranchTable {
-    ghost use Rattle.branch_table.specs.Tables.{TableState, AreTableBranches};
+    ghost use Rattle.branch_table.specs.TableStates.{TableState, AreTableBranches};
     ghost use Rattle.branch_table.specs.Parts.{AreHolds, table_of};
 
     ghost Value = { TableState };

@@ -1,7 +1,7 @@
 //! A branch table, and client calls.
 
 ghost use Rattle.std.specs.Prelude.{◌≡◌, true, IfOk, IfSome};
-ghost use Rattle.branch_table.specs.Tables.{is_row, are_rows};
+ghost use Rattle.branch_table.specs.TableStates.{is_row, are_rows};
 
 use crate::records;
 use crate::ways::Alone;

@@ -3,7 +3,7 @@ use Rattle.std.proofs.Common.{◌≡◌, ◌∙◌, ◌+◌, ◌<◌, ◌==◌, 
 use Rattle.std.proofs.lemmas.List.{take_more, flat_map_more}
 use Rattle.std.proofs.lemmas.Bool.{and_parts, eqb-true}
 use Rattle.std.specs.List.{flat_map, list_all}
-use Rattle.branch_table.specs.Tables.{are_rows}
+use Rattle.branch_table.specs.TableStates.{are_rows}
 use Rattle.node_core.specs.Configs.{are_sizes, is_config}
 use Rattle.protocol.specs.Effects.{Config}
 

@@ -13,7 +13,7 @@ use Rattle.xid.specs.declared.refusals.Refusal.{Refusal}
 use Rattle.protocol.specs.Vocabulary.{Row}
 use Rattle.cluster_run.specs.Runs.{is_in_limits}
 use Rattle.cluster_run.specs.Traces.{each_manager, first_rows_of}
-use Rattle.branch_table.specs.Tables.{are_rows, is_row}
+use Rattle.branch_table.specs.TableStates.{are_rows, is_row}
 use Rattle.node_core.specs.Configs.{are_sizes, config_of, is_config}
 use Rattle.net_script.specs.Items.{IsContents, IsRow}
 use Rattle.net_script.specs.declared.values.Sizes.{Sizes}

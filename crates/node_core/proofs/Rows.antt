@@ -18,7 +18,7 @@ use Rattle.stable_record.specs.Grammar.{IsStored, IsFramed, HasNoFrame}
 use Rattle.stable_record.proofs.Framed.{framed_same, nothing_stored}
 use Rattle.protocol.specs.declared.rows.Row.{Row}
 use Rattle.resource_manager.specs.Compacted.{row_entry, are_ascending, is_about_tx}
-use Rattle.branch_table.specs.Tables.{is_row}
+use Rattle.branch_table.specs.TableStates.{is_row}
 use Rattle.node_core.specs.Opening.{IsReadUpTo, row_of, is_snapshot, may_follow, AreRowsTo, AreAllRows, IsSnapshot}
 use Rattle.node_core.specs.Opening.{TakesNothing}
 use Rattle.node_core.proofs.Reading.{nothing_read, read_more, read_both, damaged_on}

@@ -10,7 +10,7 @@ use Rattle.protocol.specs.declared.nodes.NodeId.TheVariants.{A, L, R}
 use Rattle.protocol.specs.Effects.{Config}
 use Rattle.node_core.specs.declared.config.Sizes.{Sizes}
 use Rattle.node_core.specs.Configs.{is_config, are_sizes, is_among}
-use Rattle.branch_table.specs.Tables.{are_rows}
+use Rattle.branch_table.specs.TableStates.{are_rows}
 use Rattle.node_core.specs.Nodes.{AreSizes, IsSized, IsAmong}
 
 odd_few : (a : ℕ) → (a == 1 || a == 3 || a == 5 || a == 7) ≡ true → a ≤ 7

@@ -2,7 +2,7 @@
 use Rattle.std.specs.Prelude.{ℕ, Bool, true, false, ◌&&◌, ◌||◌, ◌==◌, nat_lt, nat_le, List, length}
 use Rattle.std.specs.List.{list_all}
 use Rattle.xid.specs.Limits.{most_leaders, most_managers}
-use Rattle.branch_table.specs.Tables.{are_rows}
+use Rattle.branch_table.specs.TableStates.{are_rows}
 use Rattle.protocol.specs.declared.nodes.NodeId.{NodeId}
 use Rattle.protocol.specs.declared.nodes.NodeId.TheVariants.{A, L, R}
 use Rattle.protocol.specs.declared.rows.Row.{Row}

@@ -24,7 +24,7 @@ use Rattle.node_core.specs.declared.output.Input.TheVariants as inputs
 use Rattle.node_core.specs.declared.output.Output.{Output}
 use Rattle.node_core.specs.declared.role.Role.{Role}
 use Rattle.resource_manager.specs.Compacted.{IsCompacted, beginning_with}
-use Rattle.branch_table.specs.Tables.{are_rows}
+use Rattle.branch_table.specs.TableStates.{are_rows}
 use Rattle.node_core.specs.Sends.{sent}
 use Rattle.node_core.specs.Roles.{RoleStands}
 use Rattle.node_core.specs.Shorter.{shorter_record}

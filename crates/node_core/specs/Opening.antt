@@ -23,7 +23,7 @@ use Rattle.protocol.specs.Nodes.{NodeState, Fault, empty_memory, all_play, resta
 use Rattle.protocol.specs.Nodes.{NoFault, NoMemoryBefore, NoMemoryAt, RecordFails}
 use Rattle.resource_manager.specs.Compacted.{IsCompacted, beginning_with, row_entry, are_ascending, is_about_tx, facts_of}
 use Rattle.node_core.specs.Configs.{is_among}
-use Rattle.branch_table.specs.Tables.{is_row, are_rows}
+use Rattle.branch_table.specs.TableStates.{is_row, are_rows}
 use Rattle.node_core.specs.Nodes.{Kept, Holds, begun, NodeParts, NodeStands, Stands, IsSameNode}
 use Rattle.node_core.specs.declared.role.Role.{Role}
 use Rattle.node_core.specs.Roles.{RoleStands}

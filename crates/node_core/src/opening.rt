@@ -7,7 +7,7 @@ ghost use Rattle.xid.specs.declared.refusals.Refusal.TheVariants.{NoMemory};
 ghost use Rattle.protocol.specs.Effects.{Config};
 ghost use Rattle.protocol.specs.Nodes.{NodeState, empty_memory};
 ghost use Rattle.protocol.specs.declared.nodes.NodeId.{NodeId as Id};
-ghost use Rattle.branch_table.specs.Tables.{are_rows};
+ghost use Rattle.branch_table.specs.TableStates.{are_rows};
 ghost use Rattle.node_core.specs.Roles.{RoleStands};
 ghost use Rattle.node_core.specs.Nodes.{AreSizes, HasRows, IsAmong, IsSized, Stands};
 ghost use Rattle.node_core.specs.Opening.{IsManager, IsPlain, IsSnapshot, TakesNothing, IsPlayedFrom, Reads, Loads, Restarts};

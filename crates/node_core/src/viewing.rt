@@ -6,7 +6,7 @@ ghost use Rattle.protocol.specs.declared.nodes.NodeId.{NodeId as Id};
 ghost use Rattle.protocol.specs.Effects.{Config};
 ghost use Rattle.protocol.specs.Nodes.{Memory, NodeState};
 ghost use Rattle.node_core.specs.Roles.{RoleStands};
-ghost use Rattle.branch_table.specs.Tables.{are_rows};
+ghost use Rattle.branch_table.specs.TableStates.{are_rows};
 ghost use Rattle.node_core.specs.Nodes.{AreSizes, IsAmong, IsSized, Stands};
 ghost use Rattle.node_core.specs.Viewing.{AsksUnused, Peeks, SaysView, SaysTable, Views, Tables};
 ghost use Rattle.node_core.specs.Listing.{ListsOpen, SaysOpen};

@@ -1,7 +1,7 @@
 //! The order of the first commits anywhere explains the tables of all processes.
 ghost use Rattle.protocol.specs.Effects.{Config};
 ghost use Rattle.floored_groups.specs.Clusters.{AllProcesses, IsRun};
-ghost use Rattle.process_history.specs.Tables.{AreSerial};
+ghost use Rattle.process_history.specs.SerialTables.{AreSerial};
 
 /// Whatever becomes of the processes of a cluster, there is a run of events with floors, one at a time, to a world for which all of them
 /// stand; and the order of its first commits explains every table that one of them answers: it is its first contents with the accepted

@@ -30,7 +30,7 @@ use Rattle.protocol.proofs.Kept.Facts.{bound_kept, free_branch, free_prepared, o
 use Rattle.protocol.proofs.Kept.Leaders.{any_filter, other_tx}
 use Rattle.protocol.proofs.Kept.Playing.{all_play_kept}
 use Rattle.protocol.proofs.Lists.{any_found, filter_kept, found_any}
-use Rattle.branch_table.specs.Tables.{branch_named}
+use Rattle.branch_table.specs.TableStates.{branch_named}
 use Rattle.resource_manager.specs.declared.course.Course.{Course}
 use Rattle.resource_manager.specs.Courses.{begun_in, course_in, stored_by, stored_in}
 use Rattle.resource_manager.specs.Forgetting.{AreCoursesOf, begun_above}

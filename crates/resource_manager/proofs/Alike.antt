@@ -21,7 +21,7 @@ use Rattle.protocol.proofs.Manager.Apart.{bound_stored, stored_bound}
 use Rattle.protocol.proofs.Manager.Keys.{names_name}
 use Rattle.protocol.proofs.Manager.Played.{voted_named}
 use Rattle.protocol.proofs.Manager.Views.{prepared_shows}
-use Rattle.branch_table.specs.Tables.{branch_named}
+use Rattle.branch_table.specs.TableStates.{branch_named}
 use Rattle.resource_manager.specs.declared.course.Course.{Course}
 use Rattle.resource_manager.specs.Courses.{Stored, stored_in, stored_by, view_among, begun_in}
 use Rattle.resource_manager.specs.Compacted.{SaysSame, beginning_with, entry_of, row_entry, shorter_entries}

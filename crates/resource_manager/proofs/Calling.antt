@@ -33,7 +33,7 @@ use Rattle.branch_table.specs.Admission.{end_action}
 use Rattle.branch_table.specs.OneCall.{IsHindered, Answers}
 use Rattle.branch_table.specs.declared.table.Ending.{Ending}
 use Rattle.branch_table.specs.declared.table.Ending.TheVariants as endings
-use Rattle.branch_table.specs.Tables.{TableState, Steps, branch_named, branch_done, branch_left}
+use Rattle.branch_table.specs.TableStates.{TableState, Steps, branch_named, branch_done, branch_left}
 use Rattle.resource_manager.specs.SpentNames.{is_spent_in}
 use Rattle.resource_manager.specs.Managers.{ManagerParts, StandsFor, IsCall, branches_in, call_effect}
 use Rattle.resource_manager.proofs.Named.{named_own, named_in, shown, view_shown}

@@ -36,7 +36,7 @@ use Rattle.protocol.proofs.Manager.Keys.{spent_by}
 use Rattle.protocol.proofs.Manager.Played.{voted_named}
 use Rattle.protocol.proofs.Manager.Prepared.{names_held_once}
 use Rattle.protocol.proofs.Manager.Views.{prepared_shows, vote_in_stands}
-use Rattle.branch_table.specs.Tables.{AreTableBranches}
+use Rattle.branch_table.specs.TableStates.{AreTableBranches}
 use Rattle.resource_manager.specs.declared.course.Course.{Course}
 use Rattle.resource_manager.specs.declared.messages.ManagerDecision.{ManagerDecision}
 use Rattle.resource_manager.specs.declared.reminding.Reminder.{Reminder}

@@ -23,7 +23,7 @@ use Rattle.protocol.proofs.Manager.Apart.{bound_stored, stored_bound, gone, with
 use Rattle.protocol.proofs.Manager.Effects.{name_names}
 use Rattle.protocol.proofs.Manager.Keys.{spent_by}
 use Rattle.protocol.proofs.Manager.Prepared.{names_held_once}
-use Rattle.branch_table.specs.Tables.{branch_named}
+use Rattle.branch_table.specs.TableStates.{branch_named}
 use Rattle.branch_table.specs.Outcomes.{keys_named, prepared_branch}
 use Rattle.resource_manager.specs.declared.course.Course.{Course}
 use Rattle.resource_manager.specs.Courses.{Stored, stored_in, stored_by, view_among, course_in}

@@ -11,7 +11,7 @@ use Rattle.xid.specs.Limits.{most_key, most_value}
 use Rattle.xid.specs.Names.{IsBytes}
 use Rattle.stable_record.specs.Facts.{IsKey, IsValue}
 use Rattle.protocol.specs.declared.rows.Row.{Row}
-use Rattle.branch_table.specs.Tables.{is_row}
+use Rattle.branch_table.specs.TableStates.{is_row}
 use Rattle.resource_manager.specs.Managers.{ManagerParts}
 
 -- a row within the limits can be an entry

@@ -26,7 +26,7 @@ use Rattle.protocol.specs.Kept.{are_free_below}
 use Rattle.protocol.specs.Managers.{Branch, all_branches}
 use Rattle.protocol.proofs.Lists.{any_find, any_found, found_among, found_any}
 use Rattle.protocol.proofs.Manager.Apart.{bound_named}
-use Rattle.branch_table.specs.Tables.{branch_named}
+use Rattle.branch_table.specs.TableStates.{branch_named}
 use Rattle.resource_manager.specs.declared.course.Course.{Course}
 use Rattle.resource_manager.specs.Courses.{CoursesParts, course_in, is_new_course}
 use Rattle.resource_manager.specs.Forgetting.{AreCoursesOf, IsKept, begun_above}

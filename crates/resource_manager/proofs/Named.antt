@@ -12,7 +12,7 @@ use Rattle.protocol.specs.Branches.{BranchView, no_branch}
 use Rattle.protocol.specs.Holds.{AreNamedOnce, names_of}
 use Rattle.protocol.specs.Managers.{Branch, view_by, view_named, idle_keys}
 use Rattle.protocol.proofs.Lists.{IsIn-map, found_among, found_any, any_find}
-use Rattle.branch_table.specs.Tables.{branch_named}
+use Rattle.branch_table.specs.TableStates.{branch_named}
 use Rattle.branch_table.specs.Outcomes.{idle_branch}
 
 -- a branch shows at its name, as no other has it

@@ -15,7 +15,7 @@ use Rattle.protocol.specs.Managers.{Branch, stored_votes, plays_at_manager, is_n
 use Rattle.protocol.proofs.Manager.Keys.{names_name}
 use Rattle.protocol.proofs.Manager.Played.{voted_named}
 use Rattle.protocol.proofs.Manager.Views.{prepared_shows}
-use Rattle.branch_table.specs.Tables.{TableState, branch_named}
+use Rattle.branch_table.specs.TableStates.{TableState, branch_named}
 use Rattle.branch_table.specs.Outcomes.{Commits, RefusesRestore}
 use Rattle.resource_manager.specs.declared.course.Course.{Course}
 use Rattle.resource_manager.specs.Courses.{CoursesParts, stored_by, view_among, view_of, vote_among, is_ended_among, is_new_course}

@@ -31,7 +31,7 @@ use Rattle.protocol.proofs.Lists.{filter_map_gives}
 use Rattle.protocol.proofs.Manager.Apart.{named_so}
 use Rattle.protocol.proofs.Manager.Names.{distinct_filtered, named_once_filtered}
 use Rattle.protocol.proofs.Manager.Prepared.{names_held_once, prepared_or_not, votes_named}
-use Rattle.branch_table.specs.Tables.{AreTableBranches, is_prepared}
+use Rattle.branch_table.specs.TableStates.{AreTableBranches, is_prepared}
 use Rattle.branch_table.specs.Outcomes.{AreRecovered, prepared_names}
 use Rattle.resource_manager.specs.Managers.{ManagerParts, StandsFor, branches_in}
 use Rattle.resource_manager.proofs.Deciding.{distinct_names}

@@ -24,7 +24,7 @@ use Rattle.protocol.proofs.Lists.{found_among}
 use Rattle.protocol.proofs.Manager.Apart.{named_so, bound_is, bound_stored, stored_bound, without_some, name_of}
 use Rattle.protocol.proofs.Manager.Played.{all_play_then}
 use Rattle.protocol.proofs.Manager.Prepared.{prepared_or_not, names_held_once, votes_named}
-use Rattle.branch_table.specs.Tables.{ChangesOnly, branch_named}
+use Rattle.branch_table.specs.TableStates.{ChangesOnly, branch_named}
 use Rattle.resource_manager.specs.declared.course.Course.{Course}
 use Rattle.resource_manager.specs.Courses.{stored_in, stored_by, view_among, course_in, begun_with, Sets}
 use Rattle.resource_manager.specs.SpentNames.{is_spent_in}

@@ -29,7 +29,7 @@ use Rattle.protocol.proofs.Manager.Effects.{name_names}
 use Rattle.protocol.proofs.Manager.Keys.{names_name, spent_by}
 use Rattle.protocol.proofs.Manager.Prepared.{prepared_or_not, names_held_once}
 use Rattle.protocol.proofs.Manager.Views.{prepared_shows, casts_decides}
-use Rattle.branch_table.specs.Tables.{branch_named}
+use Rattle.branch_table.specs.TableStates.{branch_named}
 use Rattle.branch_table.specs.Outcomes.{AreHindered, CanBePrepared, idle_branch, prepared_branch}
 use Rattle.resource_manager.specs.declared.course.Course.{Course}
 use Rattle.resource_manager.specs.Courses.{Stored, stored_by, view_among, vote_among, is_ended_among, course_in}

@@ -20,7 +20,7 @@ use Rattle.protocol.specs.Nodes.{all_play, first_rows}
 use Rattle.stable_record.specs.Parts.{Part}
 use Rattle.protocol.specs.Facts.{with_fact}
 use Rattle.protocol.specs.Tables.{table}
-use Rattle.branch_table.specs.Tables.{TableState, branch_named}
+use Rattle.branch_table.specs.TableStates.{TableState, branch_named}
 use Rattle.resource_manager.specs.Courses.{CoursesParts, IsSeen, course_in, stored_in, stored_by, begun_in}
 use Rattle.resource_manager.specs.SpentNames.{SpentParts, is_spent_in}
 

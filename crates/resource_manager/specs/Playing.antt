@@ -9,7 +9,7 @@ use Rattle.protocol.specs.Effects.{Config}
 use Rattle.protocol.specs.Managers.{Branch}
 use Rattle.stable_record.specs.Parts.{IsPlayed}
 use Rattle.protocol.specs.Tables.{with_writes}
-use Rattle.branch_table.specs.Tables.{ChangesOnly, branch_named}
+use Rattle.branch_table.specs.TableStates.{ChangesOnly, branch_named}
 use Rattle.branch_table.specs.Outcomes.{CanBePrepared, keys_named, prepared_branch}
 use Rattle.resource_manager.specs.Courses.{course_in, Sets, begun_with}
 use Rattle.resource_manager.specs.SpentNames.{is_spent_in}

@@ -9,7 +9,7 @@ ghost use Rattle.protocol.specs.Managers.{Branch, on_recover, on_view_call, stor
 ghost use Rattle.protocol.specs.Nodes.{first_rows};
 ghost use Rattle.protocol.specs.Tables.{table};
 ghost use Rattle.branch_table.specs.Admission.{end_action};
-ghost use Rattle.branch_table.specs.Tables.{are_rows};
+ghost use Rattle.branch_table.specs.TableStates.{are_rows};
 ghost use Rattle.resource_manager.specs.Managers.{IsCall, StandsFor, view_answer};
 ghost use Rattle.resource_manager.specs.Open.{open_at, open_in};
 

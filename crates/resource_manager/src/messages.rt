@@ -11,7 +11,7 @@ ghost use Rattle.wire.specs.declared.message.Kind.TheVariants as kinds;
 ghost use Rattle.protocol.specs.declared.answers.Answer.TheVariants.{Done};
 ghost use Rattle.protocol.specs.Effects.{decision_of};
 ghost use Rattle.protocol.specs.Managers.{Branch, first_vote as first_vote_of, idle_keys, on_manager_message, vote_sent};
-ghost use Rattle.branch_table.specs.Tables.{AreTableBranches};
+ghost use Rattle.branch_table.specs.TableStates.{AreTableBranches};
 ghost use Rattle.resource_manager.specs.Decisions.{sent_message, shown};
 ghost use Rattle.resource_manager.specs.Managers.{Decides};
 ghost use Rattle.resource_manager.specs.SpentNames.{is_spent_in};

@@ -8,7 +8,7 @@ ghost use Rattle.transactions.specs.Seen.{place_in};
 ghost use Rattle.protocol.specs.Effects.{Config};
 ghost use Rattle.protocol.specs.Managers.{Branch};
 ghost use Rattle.stable_record.specs.Parts.{IsMadeReady, IsPlayed};
-ghost use Rattle.branch_table.specs.Tables.{branch_named};
+ghost use Rattle.branch_table.specs.TableStates.{branch_named};
 ghost use Rattle.resource_manager.specs.Managers.{HasPlaces, IsPlayable, StandsForSame, manager_part, placed_part};
 ghost use Rattle.resource_manager.specs.Playing.{IsThere, MeansSame, Plays, PlaysEnd, PlaysVote, Stores};
 

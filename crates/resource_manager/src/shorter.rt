@@ -8,7 +8,7 @@ ghost use Rattle.xid.specs.declared.refusals.Refusal.TheVariants.{NoMemory};
 ghost use Rattle.stable_record.specs.Facts.{AreKeys};
 ghost use Rattle.stable_record.specs.Views.{entry_seen};
 ghost use Rattle.stable_record.specs.Written.{Adds, AreWritten};
-ghost use Rattle.branch_table.specs.Tables.{are_rows, is_row};
+ghost use Rattle.branch_table.specs.TableStates.{are_rows, is_row};
 ghost use Rattle.resource_manager.specs.Compacted.{AreShorterFrames, entries_at, entry_at, keys_here, row_entry};
 
 use crate::course::Course;

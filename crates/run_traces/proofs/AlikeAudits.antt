@@ -16,7 +16,7 @@ use Rattle.history.specs.SerialOrder.{first_commits}
 use Rattle.history.specs.Writes.{changed_to, is_committed_view}
 use Rattle.audit.specs.Consistent.{committed_back, is_history_consistent, is_order_kept}
 use Rattle.audit.specs.Stretches.{StretchParts, Stretches, stretch_back, stretch_by, stretches_back, writes_at}
-use Rattle.audit.specs.Tables.{are_tables, commit_at, is_event_right, shows_rightly, table_told}
+use Rattle.audit.specs.ToldTables.{are_tables, commit_at, is_event_right, shows_rightly, table_told}
 use Rattle.audit.specs.Told.{each_step, is_move, may_move, moves_rightly}
 use Rattle.audit.proofs.MachineStretches.{not_called}
 use Rattle.cluster_run.proofs.Alike.{Alike, Both, Hidden, IsQuiet, Nothing, Shown, commits_same, same_view}

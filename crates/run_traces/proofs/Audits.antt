@@ -23,8 +23,8 @@ use Rattle.net_script.specs.Scripts.{IsScript}
 use Rattle.audit.specs.Consistent.{is_consistent, is_history_consistent}
 use Rattle.audit.specs.Faults.{IsJudged}
 use Rattle.audit.specs.Floors.{stays_above}
-use Rattle.audit.specs.Tables as told
-use Rattle.audit.specs.Tables.{first_tables}
+use Rattle.audit.specs.ToldTables as told
+use Rattle.audit.specs.ToldTables.{first_tables}
 use Rattle.audit.specs.Told.{each_step, history_of, step_of}
 use Rattle.audit.specs.declared.faults.Fault.{Fault}
 use Rattle.cluster_run.specs.Runs.{IsRun}

@@ -17,7 +17,7 @@ use Rattle.net_script.specs.Scripts.{lines_kept, script_items, SpellsScript}
 use Rattle.cluster_run.specs.Traces.{config_of}
 use Rattle.udp_run.specs.Sites.{SiteParts}
 use Rattle.udp_run.specs.Commands.{CarriesAll, is_served}
-use Rattle.udp_run.specs.Tables.{StopsAtTable}
+use Rattle.udp_run.specs.NodeTables.{StopsAtTable}
 use Rattle.udp_run.specs.Runs.{IsOpenedSite, RefusesDevices, RefusesSite, RefusesUdp}
 
 -- a line says each command

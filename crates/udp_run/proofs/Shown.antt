@@ -20,7 +20,7 @@ use Rattle.node_core.specs.Viewing.{SaysTable, IsUnread}
 use Rattle.floors.specs.Worlds.{is_manager}
 use Rattle.floored.specs.Nodes.{FlooredParts, FlooredStands, FlooredTables}
 use Rattle.port.specs.Members.{IsMember, MemberParts}
-use Rattle.udp_run.specs.Tables.{IsTableOf, ShowsTable, AreTablesOf, IsUnshown, StopsAtTable}
+use Rattle.udp_run.specs.NodeTables.{IsTableOf, ShowsTable, AreTablesOf, IsUnshown, StopsAtTable}
 
 -- ---- one node
 

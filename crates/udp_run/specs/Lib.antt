@@ -1,4 +1,4 @@
 pub mod Sites
 pub mod Commands
-pub mod Tables
+pub mod NodeTables
 pub mod Runs

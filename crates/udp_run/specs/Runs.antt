@@ -28,7 +28,7 @@ use Rattle.net_script.specs.Traces.{trace_text}
 use Rattle.cluster_run.specs.Traces.{config_of}
 use Rattle.udp_run.specs.Sites.{SiteParts, place_in, node_count}
 use Rattle.udp_run.specs.Commands.{CarriesAll, is_served}
-use Rattle.udp_run.specs.Tables.{AreTablesOf, StopsAtTable}
+use Rattle.udp_run.specs.NodeTables.{AreTablesOf, StopsAtTable}
 
 -- ---- at first
 

@@ -3,7 +3,7 @@ ghost use Rattle.std.specs.List.{list_all};
 ghost use Rattle.xid.specs.declared.refusals.Refusal.TheVariants.{NoMemory, RecordFault};
 ghost use Rattle.udp_run.specs.Sites.{Comes, Happens, IsSite, site_of};
 ghost use Rattle.udp_run.specs.Commands.{CarriesAll, CarriesOut, Flows, Joins, ServesFirst, is_served_event, is_served};
-ghost use Rattle.udp_run.specs.Tables.{AreTablesOf, StopsAtTable};
+ghost use Rattle.udp_run.specs.NodeTables.{AreTablesOf, StopsAtTable};
 
 use crate::happenings::{ask, compact, noise, raise, restart};
 use crate::rounds::serve_each;

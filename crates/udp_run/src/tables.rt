@@ -2,7 +2,7 @@
 
 ghost use Rattle.std.specs.Prelude.{◌≡◌, ◌⊎◌, IfOk, IfErr, OnOk};
 ghost use Rattle.xid.specs.declared.refusals.Refusal.TheVariants.{NoMemory, RecordFault};
-ghost use Rattle.udp_run.specs.Tables.{AreTablesOf, HasTable, IsUnshown, ShowsTable, StopsAtTable};
+ghost use Rattle.udp_run.specs.NodeTables.{AreTablesOf, HasTable, IsUnshown, ShowsTable, StopsAtTable};
 
 use port::Member;
 use protocol::{NodeId, Row};

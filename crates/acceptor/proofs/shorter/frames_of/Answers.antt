@@ -5,7 +5,7 @@ use Rattle.transactions.proofs.Pieces.{next_put}
 use Rattle.stable_record.specs.Written.{AddsFacts}
 use Rattle.stable_record.proofs.Written.{more_added}
 use Rattle.acceptor.specs.Slots.{slots_of}
-use Rattle.acceptor.specs.Tables.{slot_in}
+use Rattle.acceptor.specs.SlotTables.{slot_in}
 use Rattle.acceptor.specs.Compaction.{transaction_facts}
 use Rattle.acceptor.proofs.shorter.frames_of.Goals as goal
 

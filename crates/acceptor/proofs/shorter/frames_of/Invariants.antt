@@ -1,7 +1,7 @@
 use Rattle.std.proofs.Common.{drop}
 use Rattle.transactions.specs.Seen.{at_places}
 use Rattle.stable_record.proofs.Written.{HasAdded}
-use Rattle.acceptor.specs.Tables.{slot_in}
+use Rattle.acceptor.specs.SlotTables.{slot_in}
 use Rattle.acceptor.specs.Compaction.{compacted}
 use Rattle.acceptor.proofs.shorter.frames_of.Given as goal
 

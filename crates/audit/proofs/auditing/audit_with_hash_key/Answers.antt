@@ -2,7 +2,7 @@ use Rattle.std.proofs.Common.{◌≡◌, ◌∙◌, ◌<◌, ◌≤◌, length, 
 use Rattle.std.proofs.lemmas.List.{take_all}
 use Rattle.audit.specs.Books.{rows_of}
 use Rattle.audit.specs.Following.{Follows}
-use Rattle.audit.specs.Tables.{are_tables, first_tables}
+use Rattle.audit.specs.ToldTables.{are_tables, first_tables}
 use Rattle.audit.specs.Told.{history_of, each_step}
 use Rattle.audit.proofs.AuditLemmas.{is_right, wrong_step, next_follows, next_right, wrong_floors, wrong_tables, by_result}
 use Rattle.audit.proofs.auditing.audit_with_hash_key.Goals as goal

@@ -1,6 +1,6 @@
 use Rattle.std.proofs.Common.{◌≡◌, true, take}
 use Rattle.audit.specs.Following.{Follows}
-use Rattle.audit.specs.Tables.{first_tables}
+use Rattle.audit.specs.ToldTables.{first_tables}
 use Rattle.audit.specs.Told.{history_of, each_step}
 use Rattle.audit.proofs.AuditLemmas.{is_right}
 use Rattle.audit.proofs.auditing.audit_with_hash_key.Given as goal

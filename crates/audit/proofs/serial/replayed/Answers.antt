@@ -2,7 +2,7 @@ use Rattle.std.proofs.Common.{◌≡◌, ℕ, true, false, subst}
 use Rattle.std.specs.Option.{MatchOption}
 use Rattle.audit.specs.Books.{rows_of, stretch_of}
 use Rattle.audit.specs.Consistent.{reads_are_serial, serial_table}
-use Rattle.audit.specs.Tables.{first_tables}
+use Rattle.audit.specs.ToldTables.{first_tables}
 use Rattle.audit.proofs.SerialLemmas.{all_replayed}
 use Rattle.audit.proofs.serial.replayed.Goals as goal
 

@@ -1,6 +1,6 @@
 use Rattle.std.proofs.Common.{◌∙◌, sym}
 use Rattle.audit.specs.Books.{rows_of, stretch_of}
-use Rattle.audit.specs.Tables.{first_tables}
+use Rattle.audit.specs.ToldTables.{first_tables}
 use Rattle.audit.proofs.SerialLemmas.{all_more, read_so, read_more, read_fails}
 use Rattle.audit.proofs.serial.replayed_all.Goals as goal
 

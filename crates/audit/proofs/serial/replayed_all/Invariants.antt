@@ -3,7 +3,7 @@ use Rattle.std.specs.List.{list_all}
 use Rattle.history.specs.SerialOrder.{those_before}
 use Rattle.audit.specs.Books.{rows_of, stretch_of}
 use Rattle.audit.specs.Consistent.{serial_table, read_after}
-use Rattle.audit.specs.Tables.{first_tables}
+use Rattle.audit.specs.ToldTables.{first_tables}
 use Rattle.audit.proofs.serial.replayed_all.Given as goal
 
 abbrev pub invariant-loop-number : goal.invariant-loop-number

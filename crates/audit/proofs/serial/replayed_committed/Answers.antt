@@ -1,5 +1,5 @@
 use Rattle.audit.specs.Books.{rows_of, stretch_of, has_committed}
-use Rattle.audit.specs.Tables.{first_tables}
+use Rattle.audit.specs.ToldTables.{first_tables}
 use Rattle.audit.proofs.SerialLemmas.{committed_more}
 use Rattle.audit.proofs.serial.replayed_committed.Goals as goal
 

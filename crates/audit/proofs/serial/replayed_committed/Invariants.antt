@@ -2,7 +2,7 @@ use Rattle.std.proofs.Common.{◌≡◌, ℕ, take}
 use Rattle.std.specs.Prelude.{filter}
 use Rattle.audit.specs.Books.{rows_of, stretch_of, has_committed}
 use Rattle.audit.specs.Consistent.{serial_table}
-use Rattle.audit.specs.Tables.{first_tables}
+use Rattle.audit.specs.ToldTables.{first_tables}
 use Rattle.audit.proofs.serial.replayed_committed.Given as goal
 
 abbrev pub invariant-loop-number : goal.invariant-loop-number

@@ -1,5 +1,5 @@
 use Rattle.std.proofs.Common.{◌≡◌, true}
-use Rattle.branch_table.specs.Tables.{are_rows}
+use Rattle.branch_table.specs.TableStates.{are_rows}
 use Rattle.cases.proofs.tables.rows.Given as goal
 
 abbrev pub invariant-loop-word : goal.invariant-loop-word

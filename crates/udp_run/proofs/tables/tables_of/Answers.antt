@@ -2,7 +2,7 @@ use Rattle.std.proofs.Common.{◌≡◌, ◌⊎◌, List, ◌<◌, length, sym, 
 use Rattle.xid.specs.declared.refusals.Refusal.TheVariants.{NoMemory, RecordFault}
 use Rattle.protocol.specs.declared.rows.Row.{Row}
 use Rattle.cluster_run.proofs.Configs.{handed_on}
-use Rattle.udp_run.specs.Tables.{StopsAtTable}
+use Rattle.udp_run.specs.NodeTables.{StopsAtTable}
 use Rattle.udp_run.proofs.Shown.{HaveShownTables, none_shown, all_shown, shown_next, shown_no_more}
 use Rattle.udp_run.proofs.tables.tables_of.Goals as goal
 

@@ -5,7 +5,7 @@ use Rattle.stable_record.specs.Parts.{IsPlayed}
 use Rattle.transactions.specs.Seen.{at_places, seen_with}
 use Rattle.transactions.proofs.Places.{at_places_seen}
 use Rattle.acceptor.specs.Acceptors.{acceptor_part}
-use Rattle.acceptor.specs.Tables.{IsSeen, slot_in}
+use Rattle.acceptor.specs.SlotTables.{IsSeen, slot_in}
 use Rattle.acceptor.specs.contracts.acceptor.Acceptor.{the_view}
 use Rattle.acceptor.proofs.Standing.{plays_there, plays_same, is_damaged, lacks_memory, is_played, with_parts}
 use Rattle.acceptor.proofs.acceptor.Acceptor.play_first.Goals as goal

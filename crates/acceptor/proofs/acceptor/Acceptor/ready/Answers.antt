@@ -3,7 +3,7 @@ use Rattle.stable_record.specs.Parts.{IsMadeReady}
 use Rattle.transactions.specs.Seen.{at_places}
 use Rattle.transactions.proofs.Places.{at_places_seen}
 use Rattle.acceptor.specs.Acceptors.{acceptor_part}
-use Rattle.acceptor.specs.Tables.{IsSeen}
+use Rattle.acceptor.specs.SlotTables.{IsSeen}
 use Rattle.acceptor.specs.contracts.acceptor.Acceptor.{the_view}
 use Rattle.acceptor.proofs.Standing.{is_ready, with_parts}
 use Rattle.acceptor.proofs.acceptor.Acceptor.ready.Goals as goal

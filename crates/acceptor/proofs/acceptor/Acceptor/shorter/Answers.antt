@@ -5,7 +5,7 @@ use Rattle.xid.specs.Transactions.{IsTx}
 use Rattle.transactions.specs.Seen.{at_places}
 use Rattle.transactions.proofs.Places.{at_places_valid}
 use Rattle.acceptor.specs.Compaction.{AreShorterFrames, compacted}
-use Rattle.acceptor.specs.Tables.{slot_in}
+use Rattle.acceptor.specs.SlotTables.{slot_in}
 use Rattle.acceptor.specs.contracts.acceptor.Acceptor.{the_view}
 use Rattle.acceptor.proofs.Compacting.{is_compacted}
 use Rattle.acceptor.proofs.acceptor.Acceptor.shorter.Goals as goal

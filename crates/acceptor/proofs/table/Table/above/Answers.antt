@@ -6,7 +6,7 @@ use Rattle.std.proofs.lemmas.Result.{err_from_is_err_and}
 use Rattle.xid.specs.Transactions.{tx_eq}
 use Rattle.transactions.specs.Seen.{at_places, no_transaction}
 use Rattle.transactions.proofs.Places.{begun_once}
-use Rattle.acceptor.specs.Tables.{IsSeen, IsTable, TableParts}
+use Rattle.acceptor.specs.SlotTables.{IsSeen, IsTable, TableParts}
 use Rattle.acceptor.proofs.Left.{is_left, is_new, left_out, put_there, seen_at}
 use Rattle.acceptor.proofs.table.Table.above.Goals as goal
 

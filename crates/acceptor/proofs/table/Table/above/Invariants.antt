@@ -1,6 +1,6 @@
 use Rattle.std.proofs.Common.{take}
 use Rattle.transactions.specs.Seen.{at_places}
-use Rattle.acceptor.specs.Tables.{txs_above}
+use Rattle.acceptor.specs.SlotTables.{txs_above}
 use Rattle.acceptor.proofs.Left.{HasRowsOf}
 use Rattle.acceptor.proofs.table.Table.above.Given as goal
 

@@ -5,7 +5,7 @@ use Rattle.stable_record.specs.Facts.{fact_tx}
 use Rattle.transactions.specs.Seen.{place_in}
 use Rattle.protocol.specs.Acceptors.{plays_at_acceptor}
 use Rattle.acceptor.specs.Slots.{slots_after, after_fact}
-use Rattle.acceptor.specs.Tables.{IsSeen, slot_in}
+use Rattle.acceptor.specs.SlotTables.{IsSeen, slot_in}
 use Rattle.acceptor.proofs.Played.{whole_after}
 use Rattle.acceptor.proofs.Rows.{wrote_table, wrote_slots}
 use Rattle.acceptor.proofs.table.Table.change.Goals as goal

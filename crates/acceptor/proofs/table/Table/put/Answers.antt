@@ -1,5 +1,5 @@
 use Rattle.std.proofs.Common.{◌∙◌, ◌<◌, ◌++◌, ◌∷◌, [], length, sym, ap, subst}
-use Rattle.acceptor.specs.Tables.{IsSeen, TableParts}
+use Rattle.acceptor.specs.SlotTables.{IsSeen, TableParts}
 use Rattle.transactions.specs.Seen.{place_in}
 use Rattle.acceptor.proofs.Left.{last_place, put_parts, put_table}
 use Rattle.acceptor.proofs.table.Table.put.Goals as goal

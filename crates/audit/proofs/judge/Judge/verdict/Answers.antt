@@ -1,5 +1,5 @@
 use Rattle.std.proofs.Common.{◌≤◌, length, Some, sym, ap, subst, arith}
-use Rattle.audit.specs.Tables.{are_tables}
+use Rattle.audit.specs.ToldTables.{are_tables}
 use Rattle.audit.specs.Books.{rows_of, Reaches}
 use Rattle.audit.specs.Faults.{IsFound}
 use Rattle.audit.proofs.EndLemmas.{found_noted, found_in_tables, found_in_order, found_none}

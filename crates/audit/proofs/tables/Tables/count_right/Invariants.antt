@@ -1,6 +1,6 @@
 use Rattle.std.proofs.Common.{◌≡◌, true, take}
 use Rattle.audit.specs.Books.{rows_of}
-use Rattle.audit.specs.Tables.{are_tables}
+use Rattle.audit.specs.ToldTables.{are_tables}
 use Rattle.audit.proofs.tables.Tables.count_right.Given as goal
 
 abbrev pub invariant-loop-rm : goal.invariant-loop-rm

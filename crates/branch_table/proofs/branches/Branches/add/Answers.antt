@@ -2,7 +2,7 @@ use Rattle.std.proofs.Common.{◌∙◌, None, Some, ap, subst}
 use Rattle.xid.specs.Names.{xid_eq}
 use Rattle.indexmap.proofs.CallerLemmas.{insert_entry-new}
 use Rattle.branch_table.specs.Parts.{branch_of, Replaces}
-use Rattle.branch_table.specs.Tables.{branch_named}
+use Rattle.branch_table.specs.TableStates.{branch_named}
 use Rattle.branch_table.proofs.Found.{branches_of, no_entry, pushed}
 use Rattle.branch_table.proofs.branches.Branches.add.Goals as goal
 

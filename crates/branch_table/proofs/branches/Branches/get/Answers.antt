@@ -1,7 +1,7 @@
 use Rattle.std.proofs.Common.{◌∙◌, sym, ap}
 use Rattle.std.specs.Option.{option_map}
 use Rattle.branch_table.specs.Parts.{branch_of}
-use Rattle.branch_table.specs.Tables.{branch_named}
+use Rattle.branch_table.specs.TableStates.{branch_named}
 use Rattle.branch_table.proofs.Found.{copied_map, named_from}
 use Rattle.branch_table.proofs.branches.Branches.get.Goals as goal
 

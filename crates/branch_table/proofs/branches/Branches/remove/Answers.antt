@@ -1,7 +1,7 @@
 use Rattle.std.proofs.Common.{◌∙◌, None, sym, ap, subst}
 use Rattle.std.specs.Option.{option_map}
 use Rattle.branch_table.specs.Parts.{branch_of, Replaces}
-use Rattle.branch_table.specs.Tables.{branch_named}
+use Rattle.branch_table.specs.TableStates.{branch_named}
 use Rattle.branch_table.proofs.Found.{branches_of, named_from, removed}
 use Rattle.branch_table.proofs.branches.Branches.remove.Goals as goal
 

@@ -8,7 +8,7 @@ use Rattle.xid.specs.Limits.{most_touched}
 use Rattle.xid.specs.Names.{xid_eq}
 use Rattle.protocol.specs.Managers.{has_key, with_touched}
 use Rattle.branch_table.specs.Parts.{branch_of, Replaces}
-use Rattle.branch_table.specs.Tables.{branch_named, with_act}
+use Rattle.branch_table.specs.TableStates.{branch_named, with_act}
 use Rattle.branch_table.proofs.Found.{branches_of, named_from, not_absent, set_to}
 use Rattle.branch_table.proofs.PlaceTable.{on_err, on_ok}
 use Rattle.std.specs.Map.{set_value}

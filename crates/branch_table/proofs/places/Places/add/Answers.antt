@@ -4,7 +4,7 @@ use Rattle.std.specs.Option.{unwrap_or}
 use Rattle.std.specs.Str.{bytes_eq}
 use Rattle.stable_record.specs.declared.fact.Act.{Act}
 use Rattle.branch_table.specs.Parts.{Adds, hold_at, no_place, place_and, place_at, table_of}
-use Rattle.branch_table.specs.Tables.{are_rows}
+use Rattle.branch_table.specs.TableStates.{are_rows}
 use Rattle.branch_table.specs.declared.places.Place.{Place}
 use Rattle.branch_table.proofs.PlaceTable.{adds, first_and, held_first, known, place_is, rows_set, set_by, with_hold}
 use Rattle.branch_table.proofs.places.Places.add.Goals as goal

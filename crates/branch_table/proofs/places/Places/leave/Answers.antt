@@ -2,7 +2,7 @@ use Rattle.std.proofs.Common.{◌∙◌, Some, None, refl, sym, ap, subst, rules
 use Rattle.std.specs.Option.{unwrap_or}
 use Rattle.protocol.specs.Tables.{rows_after}
 use Rattle.branch_table.specs.Parts.{CanLeave, SetsPlace, Takes, no_place, place_at, place_left, table_of}
-use Rattle.branch_table.specs.Tables.{are_rows}
+use Rattle.branch_table.specs.TableStates.{are_rows}
 use Rattle.branch_table.proofs.PlaceTable.{known, left_none, place_is, rows_set, set_by, sets, sets_same, sets_twice, takes}
 use Rattle.branch_table.proofs.RowLimits.{after_fit}
 use Rattle.branch_table.proofs.places.Places.leave.Goals as goal

@@ -3,7 +3,7 @@ use Rattle.std.proofs.lemmas.Bool.{both_ways, true_from_ne_false}
 use Rattle.std.proofs.lemmas.Iterator.Adapters.{YieldsList-from_vec}
 use Rattle.std.proofs.lemmas.Iterator.Consumers.{YieldsList-turn}
 use Rattle.std.proofs.lemmas.List.Folds.{list_all_at}
-use Rattle.branch_table.specs.Tables.{are_rows, is_row}
+use Rattle.branch_table.specs.TableStates.{are_rows, is_row}
 use Rattle.branch_table.proofs.places.Places.new.Goals as goal
 
 pub put-requires-clause-row : goal.put-requires-clause-row

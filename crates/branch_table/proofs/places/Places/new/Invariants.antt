@@ -1,6 +1,6 @@
 use Rattle.std.proofs.Common.{◌≡◌, ℕ, List}
 use Rattle.branch_table.specs.Parts.{free, hold_at, table_of}
-use Rattle.branch_table.specs.Tables.{first_table}
+use Rattle.branch_table.specs.TableStates.{first_table}
 use Rattle.branch_table.proofs.places.Places.new.Given as goal
 
 abbrev pub invariant-loop-row : goal.invariant-loop-row

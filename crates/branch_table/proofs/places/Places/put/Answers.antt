@@ -3,7 +3,7 @@ use Rattle.stable_record.specs.declared.fact.Act.{Act}
 use Rattle.protocol.specs.declared.rows.Row.{Row}
 use Rattle.protocol.specs.Tables.{put_row}
 use Rattle.branch_table.specs.Parts.{free, hold_at, table_of}
-use Rattle.branch_table.specs.Tables.{are_rows, is_row}
+use Rattle.branch_table.specs.TableStates.{are_rows, is_row}
 use Rattle.branch_table.specs.declared.places.Place.{Place}
 use Rattle.branch_table.proofs.PlaceTable.{Known, free_set, known, rows_set, sets}
 use Rattle.branch_table.proofs.RowLimits.{put_fits}

@@ -5,7 +5,7 @@ use Rattle.protocol.specs.Managers.{view_named}
 use Rattle.branch_table.specs.Admission.{is_writing}
 use Rattle.branch_table.specs.OneCall.{IsHindered}
 use Rattle.branch_table.specs.Parts.{branch_of, uses_held, uses_of}
-use Rattle.branch_table.specs.Tables.{branch_named}
+use Rattle.branch_table.specs.TableStates.{branch_named}
 use Rattle.branch_table.proofs.CallSteps.{admits, denies_absent, denies_ended, denies_full, denies_hindered}
 use Rattle.branch_table.proofs.Hindered.{is_busy}
 use Rattle.branch_table.proofs.Uses.{own_hold, uses_same}

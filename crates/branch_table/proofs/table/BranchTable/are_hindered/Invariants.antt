@@ -4,7 +4,7 @@ use Rattle.stable_record.specs.declared.fact.Touched.{Touched}
 use Rattle.protocol.specs.Branches.{hinders_use, is_write}
 use Rattle.protocol.specs.Managers.{view_named}
 use Rattle.branch_table.specs.OneCall.{IsHindered}
-use Rattle.branch_table.specs.Tables.{branch_named}
+use Rattle.branch_table.specs.TableStates.{branch_named}
 use Rattle.branch_table.proofs.table.BranchTable.are_hindered.Given as goal
 
 abbrev pub invariant-loop-touched : goal.invariant-loop-touched

@@ -3,7 +3,7 @@ use Rattle.std.specs.Prelude.{is_some}
 use Rattle.branch_table.specs.Parts.{branch_of}
 use Rattle.branch_table.proofs.CallSteps.{end_absent, end_done, end_ended}
 use Rattle.branch_table.proofs.TableKept.{kept_state, was_found}
-use Rattle.branch_table.specs.Tables.{in_state}
+use Rattle.branch_table.specs.TableStates.{in_state}
 use Rattle.branch_table.proofs.table.BranchTable.end.Goals as goal
 
 pub returns-in_default-clause-steps : goal.returns-in_default-clause-steps

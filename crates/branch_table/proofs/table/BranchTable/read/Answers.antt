@@ -3,7 +3,7 @@ use Rattle.std.specs.Prelude.{IfOk}
 use Rattle.protocol.specs.declared.answers.Answer.TheVariants.{Value}
 use Rattle.protocol.specs.Branches.{get_answer, read_of, row_at, value_after}
 use Rattle.branch_table.specs.Parts.{branch_of}
-use Rattle.branch_table.specs.Tables.{branch_named}
+use Rattle.branch_table.specs.TableStates.{branch_named}
 use Rattle.branch_table.proofs.CallSteps.{shown}
 use Rattle.branch_table.proofs.table.BranchTable.read.Goals as goal
 

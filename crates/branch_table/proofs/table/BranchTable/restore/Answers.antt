@@ -6,7 +6,7 @@ use Rattle.protocol.specs.declared.rows.Row.{Row}
 use Rattle.protocol.specs.declared.states.BranchState.{BranchState}
 use Rattle.branch_table.specs.Outcomes.{AreHindered, prepared_branch}
 use Rattle.branch_table.specs.Parts.{Replaces, branch_of, hold_at, uses_by, uses_held}
-use Rattle.branch_table.specs.Tables.{ChangesOnly, TableState, branch_named, in_state}
+use Rattle.branch_table.specs.TableStates.{ChangesOnly, TableState, branch_named, in_state}
 use Rattle.branch_table.proofs.PlaceTable.{given_on_err, given_on_ok, kept_on_err}
 use Rattle.branch_table.proofs.TableKept.{could_idle, held_small, kept_prepared, kept_state, refused_hindered, refused_keys, refused_state}
 use Rattle.branch_table.proofs.TableKept.{same_kept, was_found}

@@ -1,6 +1,6 @@
 use Rattle.std.proofs.Common.{◌∙◌, sym, ap}
 use Rattle.branch_table.specs.Parts.{branch_of}
-use Rattle.branch_table.specs.Tables.{branch_named}
+use Rattle.branch_table.specs.TableStates.{branch_named}
 use Rattle.branch_table.proofs.CallSteps.{rollback_absent, rollback_done, rollback_refused}
 use Rattle.branch_table.proofs.table.BranchTable.rollback.Goals as goal
 

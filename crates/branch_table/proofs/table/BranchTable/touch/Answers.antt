@@ -6,7 +6,7 @@ use Rattle.protocol.specs.Branches.{is_write}
 use Rattle.protocol.specs.Managers.{has_key}
 use Rattle.branch_table.specs.Admission.{IsAdmitted}
 use Rattle.branch_table.specs.Parts.{Adds, Replaces, hold_more, more_by, uses_held}
-use Rattle.branch_table.specs.Tables.{branch_named, with_act}
+use Rattle.branch_table.specs.TableStates.{branch_named, with_act}
 use Rattle.branch_table.proofs.PlaceTable.{given_on_ok, kept_on_err}
 use Rattle.branch_table.proofs.TableKept.{IsKept, held_small, kept_back, kept_touched, keys_same}
 use Rattle.branch_table.proofs.Uses.{more_is, more_small}

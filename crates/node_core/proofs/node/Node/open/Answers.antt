@@ -1,6 +1,6 @@
 use Rattle.std.proofs.Common.{◌≡◌, true, sym, subst}
 use Rattle.std.specs.Prelude.{Ok}
-use Rattle.branch_table.specs.Tables.{are_rows}
+use Rattle.branch_table.specs.TableStates.{are_rows}
 use Rattle.node_core.specs.Nodes.{HasRows}
 use Rattle.node_core.proofs.Sizing.{sized_of, among_of}
 use Rattle.node_core.proofs.Restarting.{sound_opened, is_opened, is_unopened, unopened_early, loads_over}

@@ -18,7 +18,7 @@ use Rattle.floored_groups.specs.Runs.{with_net}
 use Rattle.floored_groups.proofs.Clusters.{stand_for}
 use Rattle.floored_groups.proofs.Single.{one_by_one}
 use Rattle.floored_groups.proofs.Views.{table_is}
-use Rattle.process_history.specs.Tables.{AreSerial}
+use Rattle.process_history.specs.SerialTables.{AreSerial}
 
 module _ (config : Config) (world : FlooredWorld) (reach : IsFlooredReachable config world) (rm : ℕ) (old : MemberParts)
     (s : StandsIn config world (R rm) old) where
