@@ -4,8 +4,8 @@ ghost use Rattle.std.specs.Prelude.{◌≡◌, true, not, if◌then◌else◌, I
 ghost use Rattle.std.specs.List.{list_all};
 ghost use Rattle.xid.specs.declared.refusals.Refusal.TheVariants.{NoMemory};
 ghost use Rattle.xid.specs.Transactions.{TxParts, IsTx, tx_eq, is_at};
-ghost use Rattle.history.specs.Writes.{is_committed_view as is_committed_lem};
-ghost use Rattle.audit.specs.Told.{may_move as may_move_lem, is_ready_view as is_ready_lem};
+ghost use Rattle.history.specs.Writes.{is_committed_view};
+ghost use Rattle.audit.specs.Told.{may_move as may_move_of, is_ready_view};
 ghost use Rattle.audit.specs.Books.{all_working, views_in, view_in, views_moved, is_move_from, has_committed_everywhere, IsNumberOf};
 
 use hashing::HashKey;
@@ -53,35 +53,35 @@ impl Model for Views {
 
 /// Whether a view is prepared or committed.
 fn is_ready(view: &View) -> bool
-    ensures { result ≡ is_ready_lem view.now }
+    ensures { result ≡ is_ready_view view.now }
 {
     matches!(view, View::Prepared | View::Committed)
 }
 
 /// Whether a view is committed.
 fn is_committed(view: &View) -> bool
-    ensures { result ≡ is_committed_lem view.now }
+    ensures { result ≡ is_committed_view view.now }
 {
     matches!(view, View::Committed)
 }
 
 /// Whether all views are prepared or committed.
 fn are_ready(views: &[View]) -> bool
-    ensures { result ≡ list_all is_ready_lem views.now }
+    ensures { result ≡ list_all is_ready_view views.now }
 {
     views.iter().all(|view| is_ready(view))
 }
 
 /// Whether no view is committed.
 fn are_uncommitted(views: &[View]) -> bool
-    ensures { result ≡ list_all (λ view. not (is_committed_lem view)) views.now }
+    ensures { result ≡ list_all (λ view. not (is_committed_view view)) views.now }
 {
     views.iter().all(|view| !is_committed(view))
 }
 
 /// Whether one participant of a transaction may go from a view to another, where these are the views of all.
 fn may_move(all: &[View], from: View, to: View) -> bool
-    ensures { result ≡ may_move_lem all.now from to }
+    ensures { result ≡ may_move_of all.now from to }
 {
     match (from, to) {
         (View::Working, View::Prepared) => true,
@@ -131,7 +131,7 @@ impl Course {
 
     /// Whether the participant of a place may go to a view.
     fn may_move(&self, place: usize, to: View) -> bool
-        ensures { result ≡ may_move_lem self.now (slice_index_or self.now place View.Working) to }
+        ensures { result ≡ may_move_of self.now (slice_index_or self.now place View.Working) to }
     {
         may_move(&self.views, self.at(place), to)
     }
@@ -160,7 +160,7 @@ impl Views {
 
     /// Whether a participant has committed a transaction, by its place.
     pub fn has_committed(&self, tx: &Tx, place: usize) -> bool
-        ensures { result ≡ is_committed_lem (view_in self.now tx.now place) }
+        ensures { result ≡ is_committed_view (view_in self.now tx.now place) }
     {
         match self.transactions.number_of(tx) {
             Some(number) => is_committed(&self.courses[number].at(place)),

@@ -16,8 +16,8 @@ use Rattle.stable_record.specs.declared.fact.Touched.{Touched}
 use Rattle.protocol.specs.Branches.{value_after}
 use Rattle.protocol.specs.Managers.{has_key}
 use Rattle.protocol.specs.Tables.{rows_after}
-use Rattle.branch_table.specs.Parts.{CanLeave, free, no_place, place_and, place_at, place_left, hold_at, table_of, uses_held, Adds}
-use Rattle.branch_table.specs.Parts.{SetsPlace, Takes}
+use Rattle.branch_table.specs.Parts.{CanLeave, free, no_place, place_and, place_at, place_left, hold_at, table_of, uses_held, AddsHolders}
+use Rattle.branch_table.specs.Parts.{SetsPlace, TakesHolders}
 use Rattle.branch_table.specs.declared.hold.Hold.{Hold}
 use Rattle.branch_table.specs.declared.places.Place.{Place}
 use Rattle.stable_record.specs.Facts.{IsKey, IsAct}
@@ -114,7 +114,7 @@ at_key : (old new : Known) (key other : List ℕ) (p : Place) → SetsPlace old 
 at_key old new key other p is b e = is other ∙ ap (λ (t : Bool). cond t p (place_at old other)) e
 
 pub adds : (old new : Known) (key : List ℕ) (more : Hold) → SetsPlace old new key (place_and (place_at old key) more)
-    → Adds old new key more
+    → AddsHolders old new key more
 adds old new key more is = λ writes other. by other (bytes_eq key other) refl writes
   where
     by : (other : List ℕ) (b : Bool) → bytes_eq key other ≡ b → (writes : Bool) → uses_held writes (hold_at new other)
@@ -129,7 +129,7 @@ adds old new key more is = λ writes other. by other (bytes_eq key other) refl w
         ap (λ (p : Place). uses_held writes p.hold) (at_key old new key other (place_and (place_at old key) more) is false e)
 
 pub takes : (old new : Known) (key : List ℕ) (act : Act) (fewer : Hold) → SetsPlace old new key (place_left (place_at old key) act fewer)
-    → Takes old new key fewer
+    → TakesHolders old new key fewer
 takes old new key act fewer is = λ writes other. by other (bytes_eq key other) refl writes
   where
     by : (other : List ℕ) (b : Bool) → bytes_eq key other ≡ b → (writes : Bool) → uses_held writes (hold_at new other)
@@ -243,7 +243,7 @@ own_key t rest = ap (λ b. b || has_key t.key rest) ((bytes_eq-Decides t.key t.k
 
 -- the keys after one that is let go are held as before
 pub held_after : (old new : Known) (t : Touched) (rest : List Touched) (fewer : Hold) → has_key t.key rest ≡ false
-    → Takes old new t.key fewer → ((key : List ℕ) → has_key key (t ∷ rest) ≡ true → 0 < (hold_at old key).touched_by)
+    → TakesHolders old new t.key fewer → ((key : List ℕ) → has_key key (t ∷ rest) ≡ true → 0 < (hold_at old key).touched_by)
     → (key : List ℕ) → has_key key rest ≡ true → 0 < (hold_at new key).touched_by
 held_after old new t rest fewer apart taken held key there = by (bytes_eq t.key key) refl
   where

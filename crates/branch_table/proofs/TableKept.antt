@@ -19,7 +19,8 @@ use Rattle.branch_table.specs.OneCall.{IsHindered}
 use Rattle.branch_table.specs.Outcomes.{AreHindered, CanBePrepared, prepared_branch}
 use Rattle.branch_table.specs.TableStates.{AreHeldApart, AreTableBranches, branch_named, in_state, is_idle, with_act}
 use Rattle.branch_table.specs.Admission.{IsAdmitted}
-use Rattle.branch_table.specs.Parts.{Adds, AreHolds, free, Replaces, Takes, hold_at, hold_more, is_using, uses_by, uses_held, uses_in}
+use Rattle.branch_table.specs.Parts.{AddsHolders, AreHolds, free, Replaces, TakesHolders, hold_at, hold_more, is_using, uses_by, uses_held}
+use Rattle.branch_table.specs.Parts.{uses_in}
 use Rattle.branch_table.specs.Parts.{uses_of}
 use Rattle.branch_table.specs.declared.hold.Hold.{Hold}
 use Rattle.branch_table.proofs.Hindered.{own_within}
@@ -112,7 +113,7 @@ add_by held was other own more false is takes uses total counts before = omega (
 
 -- one more act on a key of a branch
 pub kept_touched : (holds after : Known) (old new : List Branch) (x : XidParts) (key : List ℕ) (act : Act) → IsKept holds old
-    → (is : IsAdmitted old x (is_write act) key) → Adds holds after key (hold_more is.branch.keys key act)
+    → (is : IsAdmitted old x (is_write act) key) → AddsHolders holds after key (hold_more is.branch.keys key act)
     → Replaces old new x (branch_named old x) (option_map (with_act key act) (branch_named old x)) → IsKept after new
 kept_touched holds after old new x key act kept is adds given =
     let b = is.branch in
@@ -133,7 +134,7 @@ back_by h g k m false more less = omega (arith, more, less)
 
 -- a hold that was taken is let go again
 pub kept_back : (holds added back : Known) (branches : List Branch) (key : List ℕ) (more : Hold) → IsKept holds branches
-    → Adds holds added key more → Takes added back key more → IsKept back branches
+    → AddsHolders holds added key more → TakesHolders added back key more → IsKept back branches
 kept_back holds added back branches key more kept adds takes = (
   kept.0,
   λ writes q.

@@ -107,14 +107,14 @@ uses_held true hold = hold.touched_by
 uses_held false hold = hold.written_by
 
 -- one key has some holders more
-abbrev pub Adds : (old new : List (List ℕ × Place)) → List ℕ → Hold → Type 0
-Adds old new key more = (writes : Bool) (other : List ℕ)
+abbrev pub AddsHolders : (old new : List (List ℕ × Place)) → List ℕ → Hold → Type 0
+AddsHolders old new key more = (writes : Bool) (other : List ℕ)
     → uses_held writes (hold_at new other)
     ≡ (if bytes_eq key other then uses_held writes (hold_at old other) + uses_held writes more else uses_held writes (hold_at old other))
 
 -- one key has some holders less
-abbrev pub Takes : (old new : List (List ℕ × Place)) → List ℕ → Hold → Type 0
-Takes old new key fewer = (writes : Bool) (other : List ℕ)
+abbrev pub TakesHolders : (old new : List (List ℕ × Place)) → List ℕ → Hold → Type 0
+TakesHolders old new key fewer = (writes : Bool) (other : List ℕ)
     → uses_held writes (hold_at new other)
     ≡ (if bytes_eq key other then uses_held writes (hold_at old other) - uses_held writes fewer else uses_held writes (hold_at old other))
 

@@ -7,7 +7,7 @@ ghost use Rattle.xid.specs.declared.refusals.Refusal.TheVariants.{NoMemory};
 ghost use Rattle.stable_record.specs.Facts.{AreKeys, IsKey, IsAct};
 ghost use Rattle.protocol.specs.declared.states.BranchState.{BranchState};
 ghost use Rattle.stable_record.specs.declared.fact.Act.TheVariants as acts;
-ghost use Rattle.protocol.specs.Managers.{act_on as act_on_lem, has_key as has_key_lem, with_touched};
+ghost use Rattle.protocol.specs.Managers.{act_on as act_on_of, has_key, with_touched};
 ghost use Rattle.branch_table.specs.Parts.{hold_of};
 ghost use Rattle.branch_table.specs.TableStates.{is_active, is_idle, is_prepared, can_be_rolled_back};
 
@@ -121,9 +121,9 @@ impl Branch {
 
     /// Its last act on a key, if it has touched it.
     pub fn act_on(&self, key: &[u8]) -> Option<&Act>
-        ensures some { IfSome result (λ act. act.now ≡ act_on_lem self.now.keys key.now) }
-        ensures none { IfNone result (act_on_lem self.now.keys key.now ≡ acts.Read) }
-        ensures touched { is_some result ≡ has_key_lem key.now self.now.keys }
+        ensures some { IfSome result (λ act. act.now ≡ act_on_of self.now.keys key.now) }
+        ensures none { IfNone result (act_on_of self.now.keys key.now ≡ acts.Read) }
+        ensures touched { is_some result ≡ has_key key.now self.now.keys }
     {
         act_on(&self.keys, key)
     }
@@ -142,7 +142,7 @@ impl Branch {
     pub fn has_room(&self, key: &[u8], own: Hold) -> bool
         requires { own ≡ hold_of self.now.keys key.now }
         ensures valid { AreKeys self.now.keys }
-        ensures value { result ≡ (has_key_lem key.now self.now.keys || nat_lt (length self.now.keys) most_touched) }
+        ensures value { result ≡ (has_key key.now self.now.keys || nat_lt (length self.now.keys) most_touched) }
     {
         own.touched_by > 0 || self.keys.len() < MAX_TOUCHED
     }
@@ -151,7 +151,7 @@ impl Branch {
     pub fn touch(&mut self, alloc: Global, key: &[u8], act: Act) -> Result<(), Refusal>
         requires key { IsKey key.now }
         requires act { IsAct act }
-        requires room { (has_key_lem key.now self.old.keys || nat_lt (length self.old.keys) most_touched) ≡ true }
+        requires room { (has_key key.now self.old.keys || nat_lt (length self.old.keys) most_touched) ≡ true }
         ensures ok { OnOk result (self.new ≡ record self.old { keys = with_touched self.old.keys key.now act }) }
         ensures err { IfErr result (λ e. (e ≡ NoMemory) × (self.new ≡ self.old)) }
     {

@@ -1,7 +1,7 @@
 //! How a key is held.
 
 ghost use Rattle.std.specs.Prelude.{◌≡◌, ◌+◌, ◌-◌, ◌<◌, ◌^◌, ◌==◌, ◌&&◌};
-ghost use Rattle.protocol.specs.Branches.{is_write as is_write_lem};
+ghost use Rattle.protocol.specs.Branches.{is_write as is_write_of};
 ghost use Rattle.branch_table.specs.Parts.{free, hold_by, more_by};
 
 use stable_record::Act;
@@ -78,7 +78,7 @@ impl Hold {
 
 /// Whether an act writes.
 fn is_write(act: &Act) -> bool
-    ensures { result ≡ is_write_lem act.now }
+    ensures { result ≡ is_write_of act.now }
 {
     matches!(act, Act::Put(_) | Act::Del)
 }

@@ -8,7 +8,7 @@ ghost use Rattle.std.specs.Str.{bytes_eq};
 ghost use Rattle.xid.specs.declared.refusals.Refusal.TheVariants.{NoMemory};
 ghost use Rattle.stable_record.specs.Facts.{AreAscending};
 ghost use Rattle.stable_record.specs.declared.fact.Act.TheVariants as acts;
-ghost use Rattle.protocol.specs.Managers.{act_on as act_on_lem, has_key as has_key_lem, last_act, with_touched};
+ghost use Rattle.protocol.specs.Managers.{act_on as act_on_of, has_key, last_act, with_touched};
 
 use stable_record::{Act, Touched};
 use std::alloc::Global;
@@ -42,9 +42,9 @@ fn place_of(keys: &[Touched], key: &[u8]) -> Option<usize>
 /// The last act on a key, if it was touched.
 pub fn act_on<'a>(keys: &'a [Touched], key: &[u8]) -> Option<&'a Act>
     requires { AreAscending keys.now }
-    ensures some { IfSome result (λ act. act.now ≡ act_on_lem keys.now key.now) }
-    ensures none { IfNone result (act_on_lem keys.now key.now ≡ acts.Read) }
-    ensures touched { is_some result ≡ has_key_lem key.now keys.now }
+    ensures some { IfSome result (λ act. act.now ≡ act_on_of keys.now key.now) }
+    ensures none { IfNone result (act_on_of keys.now key.now ≡ acts.Read) }
+    ensures touched { is_some result ≡ has_key key.now keys.now }
 {
     let Some(at) = place_of(keys, key) else {
         return None;

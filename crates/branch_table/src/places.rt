@@ -9,7 +9,8 @@ ghost use Rattle.protocol.specs.Branches.{row_at};
 ghost use Rattle.protocol.specs.Managers.{has_key};
 ghost use Rattle.protocol.specs.Tables.{put_row, rows_after, with_writes};
 ghost use Rattle.branch_table.specs.Outcomes.{looks_after};
-ghost use Rattle.branch_table.specs.Parts.{free, no_place, place_left, hold_at, uses_held, uses_by, Adds, Takes, CanLeave, table_of};
+ghost use Rattle.branch_table.specs.Parts.{free, no_place, place_left, hold_at, uses_held, uses_by, AddsHolders, TakesHolders, CanLeave};
+ghost use Rattle.branch_table.specs.Parts.{table_of};
 ghost use Rattle.branch_table.specs.TableStates.{are_rows, first_table, is_row};
 
 use crate::hold::Hold;
@@ -144,7 +145,7 @@ impl Places {
     /// A key has some holders more. At `NoMemory`, the only refusal, nothing changes.
     pub fn add(&mut self, alloc: Global, key: &[u8], more: Hold) -> Result<(), Refusal>
         requires fits { (writes : Bool) → uses_held writes (hold_at self.old key.now) + uses_held writes more < 2 ^ 64 }
-        ensures holds { OnOk result (Adds self.old self.new key.now more) }
+        ensures holds { OnOk result (AddsHolders self.old self.new key.now more) }
         ensures rows { OnOk result (table_of self.new ≡ table_of self.old) }
         ensures err { IfErr result (λ e. (e ≡ NoMemory) × (self.new ≡ self.old)) }
     {
@@ -165,7 +166,7 @@ impl Places {
     /// no memory.
     pub fn leave(&mut self, key: &[u8], act: Act, fewer: Hold)
         requires { CanLeave self.old key.now act }
-        ensures holds { Takes self.old self.new key.now fewer }
+        ensures holds { TakesHolders self.old self.new key.now fewer }
         ensures rows { table_of self.new ≡ rows_after (table_of self.old) key.now act }
     {
         let Some(place) = self.known.get_mut(key) else {

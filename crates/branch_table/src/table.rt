@@ -11,8 +11,8 @@ ghost use Rattle.xid.specs.declared.refusals.Refusal.TheVariants.{NoMemory};
 ghost use Rattle.stable_record.specs.Facts.{IsKey, IsAct};
 ghost use Rattle.protocol.specs.declared.requests.Action.TheVariants as actions;
 ghost use Rattle.protocol.specs.declared.answers.Answer.TheVariants as answers;
-ghost use Rattle.protocol.specs.Branches.{key_fits as key_fits_lem, value_fits as value_fits_lem, get_answer, hinders_use};
-ghost use Rattle.protocol.specs.Branches.{is_write as is_write_lem, read_of, row_at};
+ghost use Rattle.protocol.specs.Branches.{key_fits as key_fits_of, value_fits, get_answer, hinders_use};
+ghost use Rattle.protocol.specs.Branches.{is_write, read_of, row_at};
 ghost use Rattle.protocol.specs.Managers.{view_named};
 ghost use Rattle.branch_table.specs.Admission.{end_action, end_state, end_code, is_writing, Admits, Touches};
 ghost use Rattle.branch_table.specs.OneCall.{IsHindered};
@@ -66,7 +66,7 @@ pub(crate) enum Access {
 impl Access {
     /// The access that an act has.
     pub(crate) fn of(act: &Act) -> Access
-        ensures { is_writing result ≡ is_write_lem act.now }
+        ensures { is_writing result ≡ is_write act.now }
     {
         match act {
             Act::Read => Access::Read,
@@ -331,7 +331,7 @@ impl BranchTable {
     ) -> Result<(), Refusal>
         requires key { IsKey key.now }
         requires act { IsAct act }
-        requires admitted { Admits self.old.branches xid.now (is_write_lem act) key.now (Ok own) }
+        requires admitted { Admits self.old.branches xid.now (is_write act) key.now (Ok own) }
         ensures ok { OnOk result (Touches self.old self.new xid.now key.now act) }
         ensures err { IfErr result (λ e. (e ≡ NoMemory) × (self.new ≡ self.old)) }
     {
@@ -348,13 +348,13 @@ impl BranchTable {
 }
 
 fn key_fits(key: &[u8]) -> bool
-    ensures { result ≡ key_fits_lem key.now }
+    ensures { result ≡ key_fits_of key.now }
 {
     (1..=MAX_KEY).contains(&key.len())
 }
 
 fn put_fits(key: &[u8], value: &[u8]) -> bool
-    ensures { result ≡ (key_fits_lem key.now && value_fits_lem value.now) }
+    ensures { result ≡ (key_fits_of key.now && value_fits value.now) }
 {
     key_fits(key) && value.len() <= MAX_VALUE
 }

@@ -42,7 +42,7 @@ use Rattle.protocol.specs.declared.answers.Answer.TheVariants.{Refused}
 use Rattle.protocol.specs.Effects.{Config, Effect, receivers, to, is_inside, answer_only, no_effect, sends_only, stores}
 use Rattle.protocol.specs.Facts.{slot, last_ballot, is_prepared_view, is_open_view}
 use Rattle.protocol.specs.LeaderMemory.{LeaderMemory, StoredBallots, status_of, with_met, with_begun, with_all_heard}
-use Rattle.protocol.specs.StandsFor.{report_messages, accept_messages_of}
+use Rattle.protocol.specs.PaperItems.{report_messages, accept_messages_of}
 use Rattle.protocol.specs.Leaders.{outcome_messages, is_final, is_current, phase_1a, on_leader_timeout, on_1b, on_2b, on_ask}
 use Rattle.protocol.specs.Leaders.{on_leader_message, after_reports, proposal_of}
 use Rattle.protocol.specs.Acceptors.{Slots, on_1a, on_b1a, on_2a, accept_item, report_after, accept_messages, reports_below}

@@ -45,14 +45,14 @@ use Rattle.cluster.proofs.Sent.{count_after, get_dropped, sent_is}
 -- ---- an event
 
 -- what came of an event stands behind what there was
-pub record Adds (world : FlooredWorld) (result : FlooredResult) : Type 0 where
+pub record IsAppended (world : FlooredWorld) (result : FlooredResult) : Type 0 where
   pub sent : numbered 1 result.world.machine.net
       ≡ numbered 1 world.machine.net ++ numbered (suc (length world.machine.net)) result.sent
   pub noticed : result.world.notices ≡ world.notices ++ result.noticed
 
 -- nothing is sent or told
 adds_none : (world : FlooredWorld) (result : FlooredResult) → result.world.machine.net ≡ world.machine.net
-    → result.world.notices ≡ world.notices → result.sent ≡ [] → result.noticed ≡ [] → Adds world result
+    → result.world.notices ≡ world.notices → result.sent ≡ [] → result.noticed ≡ [] → IsAppended world result
 adds_none world result net notices silent untold = record {
   sent =
       ap (numbered 1) net
@@ -62,13 +62,13 @@ adds_none world result net notices silent untold = record {
 }
 
 module _ (config : Config) (world : FlooredWorld) where
-  answer_adds : (answer : Answer) → Adds world (floored_answer world answer)
+  answer_adds : (answer : Answer) → IsAppended world (floored_answer world answer)
   answer_adds answer = adds_none world (floored_answer world answer) refl refl refl refl
 
   -- an event of the machine sends what one does there
   as_machine : (event : Event) (fault : Fault) (other : Event)
       → machine_part (floored_step config world (Machine event) fault) ≡ world_step config world.machine other fault
-      → Adds world (floored_step config world (Machine event) fault)
+      → IsAppended world (floored_step config world (Machine event) fault)
   as_machine event fault other same = record {
     sent =
         subst (λ (r : StepResult). numbered 1 r.world.net
@@ -83,72 +83,73 @@ module _ (config : Config) (world : FlooredWorld) where
       untold fault = sym (append-nil world.notices)
 
   asked_adds : (who : NodeId) (request : Request) (fault : Fault) (t : Bool) → passes_over config world who (Asked request) ≡ t
-      → Adds world (floored_step config world (Machine (Ask who request)) fault)
+      → IsAppended world (floored_step config world (Machine (Ask who request)) fault)
   asked_adds who request NoMemoryBefore t e = answer_adds (Refused NoMemory)
   asked_adds who request fault true e =
-      subst (Adds world) (sym (unasked_event config world who request fault e)) (answer_adds (forgotten_answer (Asked request)))
+      subst (IsAppended world) (sym (unasked_event config world who request fault e)) (answer_adds (forgotten_answer (Asked request)))
   asked_adds who request fault false e =
       as_machine (Ask who request) fault (Ask who request)
       (same_event config world (Ask who request) fault (ap (λ (t : Bool). if t then [] else Ask who request ∷ []) e))
 
   delivered_adds : (n : ℕ) (fault : Fault) (t : Bool) → is_lost config world (datagram_at world.machine.net n) ≡ t
-      → Adds world (floored_step config world (Machine (Deliver n)) fault)
+      → IsAppended world (floored_step config world (Machine (Deliver n)) fault)
   delivered_adds n fault true e = as_machine (Deliver n) fault (Lose n) (lost_event config world n fault e)
   delivered_adds n fault false e =
       as_machine (Deliver n) fault (Deliver n)
       (same_event config world (Deliver n) fault (ap (λ (t : Bool). (if t then Lose n else Deliver n) ∷ []) e))
 
   -- a floor was to rise
-  risen_adds : (rm : ℕ) (rise : Rise) → Adds world (raise_result config world rm rise)
+  risen_adds : (rm : ℕ) (rise : Rise) → IsAppended world (raise_result config world rm rise)
   risen_adds rm rise = record { sent = sym (append-nil (numbered 1 world.machine.net)); noticed = refl }
 
-  raised_adds : (rm : ℕ) (place : Place) (fault : Fault) → Adds world (floored_dispatch config world (floored.Raise (R rm) place) fault)
+  raised_adds : (rm : ℕ) (place : Place) (fault : Fault)
+      → IsAppended world (floored_dispatch config world (floored.Raise (R rm) place) fault)
   raised_adds rm place fault = by_found (node_at config world.machine (R rm))
     where
-      by_found : (o : Option NodeState) → Adds world (floored_if_found world (λ node.
+      by_found : (o : Option NodeState) → IsAppended world (floored_if_found world (λ node.
           raise_result config world rm (on_raise (world.floor (R rm)) node place fault)) o)
       by_found None = answer_adds (Refused NoSuch)
       by_found (Some node) = risen_adds rm (on_raise (world.floor (R rm)) node place fault)
 
   -- a notice was heard
-  heard_adds : (notice : Notice) (fault : Fault) → Adds world (hear_at config world fault notice)
+  heard_adds : (notice : Notice) (fault : Fault) → IsAppended world (hear_at config world fault notice)
   heard_adds notice fault =
       cond_both (is_manager notice.receiver) (floored_answer world Done)
-      (floored_if_found world (hear_result config world notice fault) (node_at config world.machine notice.receiver)) (Adds world)
+      (floored_if_found world (hear_result config world notice fault) (node_at config world.machine notice.receiver)) (IsAppended world)
       (λ manager. answer_adds Done) (λ other. by_found (node_at config world.machine notice.receiver))
     where
-      by_found : (o : Option NodeState) → Adds world (floored_if_found world (hear_result config world notice fault) o)
+      by_found : (o : Option NodeState) → IsAppended world (floored_if_found world (hear_result config world notice fault) o)
       by_found None = answer_adds (Refused NoSuch)
       by_found (Some node) =
           let told = told_with (world.told notice.receiver) notice in
           let rise = on_least (world.floor notice.receiver) node (least_told config told) fault in
           let heard = floored_answer (record (with_rise config world notice.receiver rise)
           { told = with_entry world.told notice.receiver told }) rise.answer in
-          cond_both node.up heard (floored_answer world (Refused Down)) (Adds world)
+          cond_both node.up heard (floored_answer world (Refused Down)) (IsAppended world)
           (λ up. adds_none world heard refl refl refl refl) (λ down. answer_adds (Refused Down))
 
-  found_adds : (o : Option Notice) (fault : Fault) → Adds world (floored_if_found world (hear_at config world fault) o)
+  found_adds : (o : Option Notice) (fault : Fault) → IsAppended world (floored_if_found world (hear_at config world fault) o)
   found_adds None fault = answer_adds (Refused NoSuch)
   found_adds (Some notice) fault = heard_adds notice fault
 
   -- a blank node was to stand in for a lost one
-  lost_adds : (lost : Bool) (who : NodeId) (answer : Answer) → Adds world (floored_answer (with_told_lost world who lost) answer)
+  lost_adds : (lost : Bool) (who : NodeId) (answer : Answer) → IsAppended world (floored_answer (with_told_lost world who lost) answer)
   lost_adds true who answer = adds_none world (floored_answer (with_told_lost world who true) answer) refl refl refl refl
   lost_adds false who answer = answer_adds answer
 
-  replaced_adds : (who : NodeId) (place : Place) (fault : Fault) → Adds world (replace_at config world who place fault)
+  replaced_adds : (who : NodeId) (place : Place) (fault : Fault) → IsAppended world (replace_at config world who place fault)
   replaced_adds who place fault =
       cond_both (is_manager who) (floored_answer world (Refused NoSuch))
-      (floored_if_found world (replace_result config world who place fault) (node_at config world.machine who)) (Adds world)
+      (floored_if_found world (replace_result config world who place fault) (node_at config world.machine who)) (IsAppended world)
       (λ manager. answer_adds (Refused NoSuch)) (λ other. by_found (node_at config world.machine who))
     where
-      by_found : (o : Option NodeState) → Adds world (floored_if_found world (replace_result config world who place fault) o)
+      by_found : (o : Option NodeState) → IsAppended world (floored_if_found world (replace_result config world who place fault) o)
       by_found None = answer_adds (Refused NoSuch)
       by_found (Some node) =
-          cond_both (may_replace (world.floor who) node place) _ _ (Adds world) (λ may. adds_none world _ refl refl refl refl)
+          cond_both (may_replace (world.floor who) node place) _ _ (IsAppended world) (λ may. adds_none world _ refl refl refl refl)
           (λ used. lost_adds (is_unread node fault) who _)
 
-  pub event_adds : (event : Event) (fault : Fault) → Adds world (step_with_floors config world event fault)
+  pub event_adds : (event : Event) (fault : Fault) → IsAppended world (step_with_floors config world event fault)
   event_adds (Ask who request) fault = asked_adds who request fault (passes_over config world who (Asked request)) refl
   event_adds (Deliver n) fault = delivered_adds n fault (is_lost config world (datagram_at world.machine.net n)) refl
   event_adds (Raise rm place) NoMemoryBefore = answer_adds (Refused NoMemory)

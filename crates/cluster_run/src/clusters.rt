@@ -10,7 +10,7 @@ ghost use Rattle.floors.specs.Runs.{floored_opening};
 ghost use Rattle.net_script.specs.Items.{IsContents};
 ghost use Rattle.cluster_run.specs.Running.{IsRunning};
 ghost use Rattle.cluster_run.specs.Runs.{is_in_limits, RefusesSizes};
-ghost use Rattle.cluster_run.specs.Traces.{config_for, each_manager, first_rows_of as first_rows_of_lem};
+ghost use Rattle.cluster_run.specs.Traces.{config_for, each_manager, first_rows_of as first_rows_for};
 
 use cluster::Cluster;
 use hashing::HashKey;
@@ -66,7 +66,7 @@ fn count_of(number: u32) -> Result<u8, Refusal>
 
 /// The first contents of so many resource managers.
 fn first_tables(alloc: Global, tables: &[Table], count: u8) -> Result<Vec<Sequence<Row>>, Refusal>
-    ensures ok { IfOk result (λ first. first.items ≡ each_manager (first_rows_of_lem tables.now) count) }
+    ensures ok { IfOk result (λ first. first.items ≡ each_manager (first_rows_for tables.now) count) }
     ensures err { IfErr result (λ e. e ≡ NoMemory) }
 {
     let mut first = Vec::new(alloc);
@@ -79,7 +79,7 @@ fn first_tables(alloc: Global, tables: &[Table], count: u8) -> Result<Vec<Sequen
 
 /// The first contents of a resource manager, copied.
 fn first_rows_of(alloc: Global, tables: &[Table], rm: u8) -> Result<Vec<Row>, Refusal>
-    ensures ok { IfOk result (λ rows. rows.items ≡ first_rows_of_lem tables.now rm) }
+    ensures ok { IfOk result (λ rows. rows.items ≡ first_rows_for tables.now rm) }
     ensures err { IfErr result (λ e. e ≡ NoMemory) }
 {
     for table in tables {

@@ -32,7 +32,7 @@ use Rattle.protocol.specs.LeaderMemory.{LeaderMemory, StoredBallots, status_of, 
 use Rattle.protocol.specs.LeaderMemory.{value_to_propose}
 use Rattle.protocol.specs.Leaders.{outcome_messages, is_final, on_commit_call, phase_1a, on_leader_timeout, is_current}
 use Rattle.protocol.specs.Leaders.{proposal_of, after_reports, on_1b, on_2b, on_leader_message}
-use Rattle.protocol.specs.StandsFor.{report_messages}
+use Rattle.protocol.specs.PaperItems.{report_messages}
 use Rattle.protocol.specs.Managers.{Branch, StoredVotes, stored_votes, idle_keys, vote_sent, first_vote, on_prepare, on_commit, on_abort}
 use Rattle.protocol.specs.Managers.{on_manager_message, on_manager_timeout}
 use Rattle.protocol.specs.Nodes.{Memory, Input, Asked, Received, ReceivedNoise, effect_of, is_message_inside, on_message}

@@ -26,7 +26,7 @@ use Rattle.protocol.specs.Leaders.{on_leader_message}
 use Rattle.protocol.specs.Nodes.{Memory, empty_memory, NodeState, new_node, Input, Asked, Received, ReceivedNoise, Fault, NoMemoryBefore}
 use Rattle.protocol.specs.Nodes.{NoMemoryAt, RecordFails, all_play, is_message_inside, effect_of, Outcome, node_step, restart_outcome}
 use Rattle.protocol.specs.Nodes.{compact_outcome}
-use Rattle.protocol.specs.StandsFor.{report_messages, accept_messages_of, stands_for}
+use Rattle.protocol.specs.PaperItems.{report_messages, accept_messages_of, unbundled}
 use Rattle.protocol.specs.Worlds.{World, Datagram, StepResult, opening, node_at, set_node, answer_result, outcome_result, if_found, at_node}
 use Rattle.protocol.specs.Worlds.{datagram_at, with_mark, dispatch, world_step, step_of}
 use Rattle.ballot.specs.Greatest.{IsIn}
@@ -83,12 +83,12 @@ module _ (config : Config) (l : ℕ) (stored : StoredBallots) (memory : LeaderMe
         | inr new ↦ inr new
       ])
 
-  message_heard : (m : Kind) → Hears (stands_for m) (on_leader_message config stored memory m)
+  message_heard : (m : Kind) → Hears (unbundled m) (on_leader_message config stored memory m)
   message_heard (kinds.P1b tx i b report a) = reports_heard tx b a (record { instance = i; report = report } ∷ [])
   message_heard (kinds.B1b tx b a reports) = reports_heard tx b a reports
   message_heard (kinds.P2b tx i b v a) = accepts_heard tx a (record { instance = i; ballot = b; vote = v } ∷ [])
   message_heard (kinds.B2b tx a accepts) = accepts_heard tx a accepts
-  message_heard (kinds.Ask tx rm) = met_from tx memory (stands_for (kinds.Ask tx rm))
+  message_heard (kinds.Ask tx rm) = met_from tx memory (unbundled (kinds.Ask tx rm))
   message_heard message = λ m h. inl h
 
   commit_heard : (tx : TxParts) → Hears [] (on_commit_call config stored memory tx)
@@ -102,13 +102,13 @@ module _ (config : Config) (l : ℕ) (stored : StoredBallots) (memory : LeaderMe
 
 -- what an input brings
 abbrev brought : Input → List Kind
-brought (Received m) = stands_for m
+brought (Received m) = unbundled m
 brought input = []
 
 effect_heard : (config : Config) (l : ℕ) (facts : List Fact) (memory : Memory) (input : Input)
     → IsHeardFrom memory.leader (brought input) (effect_of config (L l) facts memory input).memory.leader
 effect_heard config l facts memory (Received m) = cond_both (is_message_inside config m) _ _
-    (λ (e : Effect Memory). IsHeardFrom memory.leader (stands_for m) e.memory.leader)
+    (λ (e : Effect Memory). IsHeardFrom memory.leader (unbundled m) e.memory.leader)
     (λ inside. message_heard config l (last_ballot facts) memory.leader m) (λ outside k h. inl h)
 effect_heard config l facts memory (Asked (Request.Commit tx)) = commit_heard config l (last_ballot facts) memory.leader tx
 effect_heard config l facts memory (Asked (Request.Status tx)) = λ m h. inl h
@@ -257,17 +257,17 @@ module _ (config : Config) (world : World) (l : ℕ) where
 
 -- what a datagram brings to leader l
 abbrev brings : ℕ → Option Datagram → List Kind
-brings l o = option_map_or (λ d. if is_leader l d.receiver then stands_for d.message else []) o []
+brings l o = option_map_or (λ d. if is_leader l d.receiver then unbundled d.message else []) o []
 
 brought_by : (l n : ℕ) (o : Option Datagram)
-    → option_map_or (λ (s : Sent). if is_leader l s.receiver then stands_for s.message else []) (option_map (line_of n) o) [] ≡ brings l o
+    → option_map_or (λ (s : Sent). if is_leader l s.receiver then unbundled s.message else []) (option_map (line_of n) o) [] ≡ brings l o
 brought_by l n None = refl
 brought_by l n (Some d) = refl
 
 module _ (config : Config) (world : World) (before : List Step) (l : ℕ) (run : IsRun config world before) where
   came_is : (n : ℕ) → came_at l before (Deliver n) ≡ brings l (datagram_at world.net n)
   came_is n =
-      ap (λ (o : Option Sent). option_map_or (λ s. if is_leader l s.receiver then stands_for s.message else []) o [])
+      ap (λ (o : Option Sent). option_map_or (λ s. if is_leader l s.receiver then unbundled s.message else []) o [])
       (sent_is config world before run n) ∙ brought_by l n (datagram_at world.net n)
 
   delivers : (n : ℕ) (fault : Fault) (o : Option Datagram) → Heard (brings l o) config world l (Deliver n)
@@ -275,7 +275,7 @@ module _ (config : Config) (world : World) (before : List Step) (l : ℕ) (run :
   delivers n fault None = unheard config world l [] (Deliver n) (answer_result world (Refused NoSuch)) refl refl
   delivers n fault (Some d) =
       input_hears config (with_mark world n) l (brings l (Some d)) d.receiver (Received d.message) fault (Deliver n) (λ answer. refl)
-      (λ same. ap (λ (b : Bool). if b then stands_for d.message else []) (ap (is_leader l) (sym same) ∙ eq-eqb l l refl))
+      (λ same. ap (λ (b : Bool). if b then unbundled d.message else []) (ap (is_leader l) (sym same) ∙ eq-eqb l l refl))
 
   dispatch_hears : (event : Event) (fault : Fault)
       → Heard (came_at l before event) config world l event (dispatch config world event fault)

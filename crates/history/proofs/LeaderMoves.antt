@@ -24,7 +24,7 @@ use Rattle.protocol.specs.LeaderMemory.{Begun, LeaderMemory, StoredBallots, curr
 use Rattle.protocol.specs.LeaderMemory.{with_all_heard, is_counted, with_begun, is_phase_1b, is_reported, is_proposed, value_to_propose}
 use Rattle.protocol.specs.Leaders.{is_final, is_current, outcome_messages, on_commit_call, on_leader_timeout, phase_1a, proposal_of, on_1b}
 use Rattle.protocol.specs.Leaders.{on_2b, on_leader_message}
-use Rattle.protocol.specs.StandsFor.{report_messages, accept_messages_of, stands_for}
+use Rattle.protocol.specs.PaperItems.{report_messages, accept_messages_of, unbundled}
 use Rattle.protocol.specs.Worlds.{datagrams_of, numbered}
 use Rattle.protocol.specs.declared.decisions.Address.{Address}
 use Rattle.protocol.specs.declared.decisions.Address.TheVariants.{Node, Acceptors, Managers}
@@ -366,8 +366,8 @@ module _ (config : Config) (l : ℕ) (before : List Step) (k : ℕ) (now : Optio
         (option_map_or (counted_of config.acceptors old.heard (current old)) o []))
         taken)
 
-    came_by : (b : Bool) → counts config.acceptors old.heard (current old) m ≡ b → came ≡ (if b then stands_for m else [])
-    came_by b e = ap (λ (c : Bool). if c then stands_for m else []) e
+    came_by : (b : Bool) → counts config.acceptors old.heard (current old) m ≡ b → came ≡ (if b then unbundled m else [])
+    came_by b e = ap (λ (c : Bool). if c then unbundled m else []) e
 
     -- plain sends, and what it leaves of what was met and heard
     took : (sends : List Outgoing) (new : LeaderMemory) → ArePlain sends → ((t : TxParts) → list_any (tx_eq t) new.met ≡ met_by t)
@@ -390,7 +390,7 @@ module _ (config : Config) (l : ℕ) (before : List Step) (k : ℕ) (now : Optio
 
     -- phase 2b
     accepts_leave : (tx : TxParts) (a : ℕ) (accepts : List InstanceAccept) → told_of m ≡ Some tx
-        → stands_for m ≡ accept_messages_of tx a accepts
+        → unbundled m ≡ accept_messages_of tx a accepts
         → counts config.acceptors old.heard (current old) m ≡ not (is_settled config.acceptors old.heard tx)
         → Leaves event (on_2b config stored old tx a accepts)
     accepts_leave tx a accepts told stands tests =
@@ -464,7 +464,7 @@ module _ (config : Config) (l : ℕ) (before : List Step) (k : ℕ) (now : Optio
 
     -- phase 1b
     reports_leave : (tx : TxParts) (b a : ℕ) (reports : List InstanceReport) → told_of m ≡ None
-        → stands_for m ≡ report_messages tx b a reports
+        → unbundled m ≡ report_messages tx b a reports
         → counts config.acceptors old.heard (current old) m
         ≡ (not (is_settled config.acceptors old.heard tx) && is_current old tx b)
         → Leaves event (on_1b config stored old tx b a reports)

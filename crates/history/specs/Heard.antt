@@ -3,7 +3,7 @@ use Rattle.std.specs.Prelude.{ℕ, Bool, false, ◌==◌, if◌then◌else◌, L
 use Rattle.std.specs.Option.{option_map_or}
 use Rattle.wire.specs.declared.message.Kind.{Kind}
 use Rattle.protocol.specs.Vocabulary.{L, NodeId, Event, Deliver, Restart, Answer, Done, Step}
-use Rattle.protocol.specs.StandsFor.{stands_for}
+use Rattle.protocol.specs.PaperItems.{unbundled}
 use Rattle.history.specs.Outages.{sent_back}
 
 -- whether a node is leader l
@@ -16,10 +16,10 @@ abbrev pub is_leader_restart : ℕ → Event → Answer → Bool
 is_leader_restart l (Restart who) Done = is_leader l who
 is_leader_restart l event answer = false
 
--- the paper's messages that the datagram of a delivery to leader l stands for, however that is answered
+-- the paper's messages of the datagram of a delivery to leader l, however that is answered
 abbrev pub came_at : ℕ → List Step → Event → List Kind
 came_at l history (Deliver n) =
-    option_map_or (λ sent. if is_leader l sent.receiver then stands_for sent.message else []) (sent_back history n) []
+    option_map_or (λ sent. if is_leader l sent.receiver then unbundled sent.message else []) (sent_back history n) []
 came_at l history event = []
 
 -- those that came to it since it was last restarted

@@ -15,7 +15,7 @@ use Rattle.protocol.specs.Vocabulary.{L, Status, Request, Timeout, Event, Ask, D
 use Rattle.protocol.specs.Effects.{Config, is_inside, status_standing}
 use Rattle.protocol.specs.LeaderMemory.{Begun, StoredBallots, is_counted, is_decided, is_phase_1b}
 use Rattle.protocol.specs.Nodes.{is_message_inside}
-use Rattle.protocol.specs.StandsFor.{stands_for}
+use Rattle.protocol.specs.PaperItems.{unbundled}
 use Rattle.history.specs.Heard.{is_leader, is_leader_restart}
 use Rattle.history.specs.Outages.{sent_back}
 
@@ -113,7 +113,7 @@ counts n heard current message = false
 
 -- the paper's messages that count of one that was taken
 abbrev pub counted_of : ℕ → List Kind → (current : TxParts → Option ℕ) → Kind → List Kind
-counted_of n heard current message = if counts n heard current message then stands_for message else []
+counted_of n heard current message = if counts n heard current message then unbundled message else []
 
 -- messages heard, one after the other: phase 1b once for an acceptor, instance and ballot, phase 2b once for these and the value
 abbrev pub joined_to : (heard came : List Kind) → List Kind

@@ -17,7 +17,7 @@ use Rattle.protocol.specs.LeaderMemory.{LeaderMemory, StoredBallots, current, ha
 use Rattle.protocol.specs.LeaderMemory.{is_accept_of}
 use Rattle.protocol.specs.LeaderMemory.{ballot_told, is_decided, is_counted, with_heard, with_all_heard, with_met, with_begun}
 use Rattle.protocol.specs.LeaderMemory.{with_proposed, is_phase_1b}
-use Rattle.protocol.specs.StandsFor.{report_messages, accept_messages_of}
+use Rattle.protocol.specs.PaperItems.{report_messages, accept_messages_of}
 use Rattle.leader.specs.declared.instance.InstanceCourse.{InstanceCourse}
 use Rattle.leader.specs.declared.proposals.Proposal.{Proposal}
 use Rattle.leader.specs.Choices.{best_of}

@@ -14,7 +14,7 @@ use Rattle.ballot.specs.Majority.{has}
 use Rattle.ballot.specs.Choice.{Report}
 use Rattle.protocol.specs.LeaderMemory.{LeaderMemory, StoredBallots, current, has_reported, message_report, is_accept_of, with_heard}
 use Rattle.protocol.specs.LeaderMemory.{with_all_heard}
-use Rattle.protocol.specs.StandsFor.{report_messages}
+use Rattle.protocol.specs.PaperItems.{report_messages}
 use Rattle.leader.specs.declared.instance.InstanceCourse.{InstanceCourse}
 use Rattle.leader.specs.Choices.{merged, best_of}
 use Rattle.leader.specs.Courses.{CourseParts, InstanceStands, CourseStands, joined, with_report, with_reports, after_reports}

@@ -22,7 +22,7 @@ use Rattle.protocol.specs.LeaderMemory.{LeaderMemory, StoredBallots, current, is
 use Rattle.protocol.specs.LeaderMemory.{with_proposed}
 use Rattle.protocol.specs.Leaders as rules
 use Rattle.protocol.specs.Leaders.{is_final, is_current, outcome_messages, proposal_of}
-use Rattle.protocol.specs.StandsFor.{report_messages, accept_messages_of}
+use Rattle.protocol.specs.PaperItems.{report_messages, accept_messages_of}
 use Rattle.leader.specs.declared.instance.InstanceCourse.{InstanceCourse}
 use Rattle.leader.specs.declared.proposals.Proposal.{Proposal}
 use Rattle.leader.specs.Courses.{CourseParts, InstanceStands, CourseStands, status_in, status_by, after_meeting, after_reports}

@@ -15,7 +15,7 @@ use Rattle.wire.specs.declared.items.InstanceAccept.{InstanceAccept}
 use Rattle.ballot.specs.Majority.{has, is_majority, count}
 use Rattle.protocol.specs.Facts.{vote_eq}
 use Rattle.protocol.specs.LeaderMemory.{LeaderMemory, StoredBallots, is_accept_of, ballot_told, is_decided, with_heard, with_all_heard}
-use Rattle.protocol.specs.StandsFor.{accept_messages_of}
+use Rattle.protocol.specs.PaperItems.{accept_messages_of}
 use Rattle.leader.specs.declared.instance.InstanceCourse.{InstanceCourse}
 use Rattle.leader.specs.declared.instance.Told.{Told}
 use Rattle.leader.specs.Courses.{CourseParts, InstanceStands, CourseStands, nobody, joined, is_place_of, told_of, with_member}

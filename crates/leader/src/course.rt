@@ -4,11 +4,11 @@ ghost use Rattle.std.specs.Vec.{vec_capacity};
 ghost use Rattle.xid.specs.Limits.{most_acceptors, most_branches};
 ghost use Rattle.xid.specs.Transactions.{participants};
 ghost use Rattle.xid.specs.declared.refusals.Refusal.TheVariants.{NoMemory};
-ghost use Rattle.protocol.specs.Leaders.{is_final as is_final_lem};
-ghost use Rattle.leader.specs.Courses.{fresh, fresh_instance, proposals_of as proposals_of_lem, proposal_at as proposal_at_lem};
+ghost use Rattle.protocol.specs.Leaders.{is_final as is_final_of};
+ghost use Rattle.leader.specs.Courses.{fresh, fresh_instance, proposals_of as proposals_for, proposal_at as proposal_for};
 ghost use Rattle.leader.specs.Courses.{after_accept};
 ghost use Rattle.leader.specs.Courses.{after_each_accept, after_accepts, after_meeting, after_beginning, after_ballot, status_in};
-ghost use Rattle.leader.specs.Courses.{status_by as status_by_lem};
+ghost use Rattle.leader.specs.Courses.{status_by as status_by_rows};
 ghost use Rattle.leader.specs.Courses.{counts_report, proposals_after_1b, after_1b, after_2b, status_after_2b};
 ghost use Rattle.leader.specs.Courses.{is_place_of, told_once, makes_majority, with_decided, with_nothing_reported, with_reports};
 ghost use Rattle.leader.specs.Courses.{with_proposals};
@@ -204,7 +204,7 @@ fn are_all_prepared(rows: &[InstanceCourse]) -> bool
 }
 
 fn status_by(known: bool, rows: &[InstanceCourse]) -> Status
-    ensures { result ≡ status_by_lem known rows.now }
+    ensures { result ≡ status_by_rows known rows.now }
 {
     if is_some_aborted(rows) {
         return Status::Aborted;
@@ -220,7 +220,7 @@ fn status_by(known: bool, rows: &[InstanceCourse]) -> Status
 
 /// Whether an outcome is known.
 pub fn is_final(status: Status) -> bool
-    ensures { result ≡ is_final_lem status }
+    ensures { result ≡ is_final_of status }
 {
     matches!(status, Status::Committed | Status::Aborted)
 }
@@ -229,7 +229,7 @@ pub fn is_final(status: Status) -> bool
 fn proposals_of(rows: &[InstanceCourse], acceptors: u8, items: &[InstanceReport]) -> Proposals
     requires acceptors { acceptors ≤ most_acceptors }
     requires few { length items.now ≤ most_branches }
-    ensures { result ≡ proposals_of_lem acceptors rows.now items.now }
+    ensures { result ≡ proposals_for acceptors rows.now items.now }
 {
     let mut proposals = Proposals::new();
     for item in items {
@@ -293,7 +293,7 @@ fn mark_all_decided(rows: &mut [InstanceCourse], instance: ManagerNumber, vote: 
 /// What an instance proposes.
 fn proposal_at(rows: &[InstanceCourse], acceptors: u8, instance: ManagerNumber) -> Option<Proposal>
     requires { acceptors ≤ most_acceptors }
-    ensures { result ≡ proposal_at_lem acceptors rows.now instance }
+    ensures { result ≡ proposal_for acceptors rows.now instance }
 {
     for row in rows {
         if row.instance == instance {

@@ -4,7 +4,7 @@ ghost use Rattle.xid.specs.Limits.{most_acceptors};
 ghost use Rattle.ballot.specs.Majority.{has};
 ghost use Rattle.leader.specs.Choices.{both, merged, vote_of};
 ghost use Rattle.leader.specs.Courses.{fresh_instance, with_said, with_reports, instance_proposal, with_proposals, with_decided};
-ghost use Rattle.leader.specs.Courses.{first_report as first_report_lem};
+ghost use Rattle.leader.specs.Courses.{first_report as first_report_of};
 ghost use Rattle.leader.specs.Courses.{with_nothing_reported, is_place_of, first_told, with_teller, completes};
 
 use crate::proposals::Proposal;
@@ -42,7 +42,7 @@ fn merge(new: Report, before: Report) -> Report
 
 /// The first of some reports of an instance.
 fn first_report(items: &[InstanceReport], instance: ManagerNumber) -> Option<Report>
-    ensures { result ≡ first_report_lem instance items.now }
+    ensures { result ≡ first_report_of instance items.now }
 {
     for item in items {
         if item.instance == instance {

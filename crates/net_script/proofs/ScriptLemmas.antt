@@ -13,7 +13,7 @@ use Rattle.net_script.specs.Items.{IsContents, IsCommand, IsItem, command_words,
 use Rattle.net_script.specs.Spelling.{no_words, ◌&◌}
 use Rattle.net_script.specs.Laws.{literal, a_number, a_table, a_sizes}
 use Rattle.net_script.specs.Scripts.{script_items, Says, ReadsLine, IsScript, is_note, lines_kept, SpelledBy, CanBegin}
-use Rattle.net_script.specs.Scripts.{IsScriptFault, items_so_far, IsLineOf, takes_table, script_with, Adds}
+use Rattle.net_script.specs.Scripts.{IsScriptFault, items_so_far, IsLineOf, takes_table, script_with, AddsItem}
 use Rattle.std.specs.List.{AllPairs}
 use Rattle.std.specs.Option.{ForSome}
 use Rattle.std.proofs.Common.{ltb, cond, eqb, eqb-true}
@@ -170,7 +170,7 @@ item_added (Some r) (Then c) s is range e =
 
 -- what a line makes of the items before it is what its item does
 pub reads_item : (o : Option Script) (line : List ℕ) (item : Item) → ForSome o IsScript → IsItem item → Says line item
-    → (r : Result Script Stop) → Adds o item r → ReadsLine (items_so_far o) line r
+    → (r : Result Script Stop) → AddsItem o item r → ReadsLine (items_so_far o) line r
 reads_item o line item valid is says (Ok s) adds =
     let added = item_added o item s valid is adds in
     (item, is, says, added.0, added.1)

@@ -87,10 +87,10 @@ script_with (Some s) (Contents table) = if takes_table s table then Some (record
 script_with (Some s) (Then command) = Some (record s { commands = s.commands ++ command ∷ [] })
 
 -- what comes of one more item
-abbrev pub Adds : Option Script → Item → Result Script Stop → Type 0
-Adds before item (Ok s) = script_with before item ≡ Some s
-Adds before item (Err Wrong) = script_with before item ≡ None
-Adds before item (Err Memory) = Unit {0}
+abbrev pub AddsItem : Option Script → Item → Result Script Stop → Type 0
+AddsItem before item (Ok s) = script_with before item ≡ Some s
+AddsItem before item (Err Wrong) = script_with before item ≡ None
+AddsItem before item (Err Memory) = Unit {0}
 
 -- what one more line makes of the items before it; nothing, where it says no item that may follow them
 abbrev pub ReadsLine : List Item → List ℕ → Result Script Stop → Type 0

@@ -6,7 +6,7 @@ ghost use Rattle.std.specs.Option.{ForSome};
 ghost use Rattle.net_script.specs.Basics.{NoMemory, Script};
 ghost use Rattle.net_script.specs.declared.items.Item.TheVariants.{Contents};
 ghost use Rattle.net_script.specs.Lines.{lines, words, is_plain};
-ghost use Rattle.net_script.specs.Scripts.{is_note, lines_kept, items_so_far, IsLineOf, IsScript, Adds, ReadsLine};
+ghost use Rattle.net_script.specs.Scripts.{is_note, lines_kept, items_so_far, IsLineOf, IsScript, AddsItem, ReadsLine};
 ghost use Rattle.net_script.specs.Scripts.{SpellsScript, Refuses, IsScriptFault};
 
 use crate::items::{Item, item_by};
@@ -54,7 +54,7 @@ fn is_free(tables: &[Table], rm: u8) -> bool
 
 /// The script with one more table, if it may stand there.
 fn with_table(alloc: Global, mut script: Script, table: Table) -> Result<Script, Stop>
-    ensures { Adds (Some script) (Contents table) result }
+    ensures { AddsItem (Some script) (Contents table) result }
 {
     if !script.commands.as_slice().is_empty() {
         return Err(Stop::Wrong);
@@ -71,7 +71,7 @@ fn with_table(alloc: Global, mut script: Script, table: Table) -> Result<Script,
 
 /// The script so far with one more item, if it may follow.
 fn with_item(alloc: Global, script: Option<Script>, item: Item) -> Result<Script, Stop>
-    ensures { Adds script item result }
+    ensures { AddsItem script item result }
 {
     let Some(mut script) = script else {
         let Item::Cluster(sizes) = item else {

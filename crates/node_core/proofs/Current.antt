@@ -18,9 +18,11 @@ use Rattle.stable_record.specs.declared.entry.EntryKind.{EntryKind as Entry}
 use Rattle.stable_record.specs.Entries.{IsEntry, IsEntryIn}
 use Rattle.stable_record.specs.Grammar.{IsStored, IsTail, frame, body_spelling}
 use Rattle.stable_record.specs.Held.{Held, HasPut}
-use Rattle.stable_record.proofs.Framed.{short_tail, tail_unframed, one_stored, stored_joined, stored_same}
+use Rattle.stable_record.specs.Written.{AreWritten}
+use Rattle.stable_record.proofs.Framed.{short_tail, tail_unframed, stored_same}
 use Rattle.stable_record.proofs.Lengths.{body_few, entry_in_version_2}
-use Rattle.node_core.specs.Opening.{frames_of, AreFrames, IsReplaced, Rewrites}
+use Rattle.stable_record.proofs.Written.{adds_one}
+use Rattle.node_core.specs.Opening.{frames_of, IsReplaced, Rewrites}
 
 -- what is taken at the front of a frame: the length of its body, and the body with what follows
 head_taken : (v : VersionNumber) (e : Entry) (rest : List ℕ) → IsEntryIn (version_of v) e
@@ -150,23 +152,12 @@ module _ (bytes rest : List ℕ) (all : List Entry) (u : IsCurrentUpTo bytes res
 
 -- ---- frames that are written
 
-pub frames_on : (bytes : List ℕ) (all : List Entry) (entry : Entry) → IsEntry entry → AreFrames bytes all
-    → AreFrames (bytes ++ frame version_2 entry) (all ++ entry ∷ [])
-frames_on bytes all entry valid h = record {
-  bytes_are = ap (λ (xs : List ℕ). xs ++ frame version_2 entry) h.bytes_are
-      ∙ ap (λ (xs : List ℕ). frames_of all ++ xs) (sym (append-nil (frame version_2 entry)))
-      ∙ sym (flat_map-append (frame version_2) all (entry ∷ []));
-  stored = stored_joined all (entry ∷ []) bytes (frame version_2 entry) [] h.stored
-      (one_stored Second entry (entry_in_version_2 entry valid));
-}
-
 pub frames_next : (all : List Entry) (i : ℕ) (entry : Entry) (bytes now : List ℕ) → i < length all → entry ≡ get_or all i entry
-    → IsEntry entry → now ≡ bytes ++ frame version_2 entry → AreFrames bytes (take i all) → AreFrames now (take (i + 1) all)
+    → IsEntry entry → now ≡ bytes ++ frame version_2 entry → AreWritten bytes (take i all) → AreWritten now (take (i + 1) all)
 frames_next all i entry bytes now lt is valid now_is h =
     let more : take (i + 1) all ≡ take i all ++ entry ∷ [] =
     take_more all i entry lt ∙ ap (λ e. take i all ++ e ∷ []) (sym is) in
-    subst (λ es. AreFrames now es) (sym more)
-    (subst (λ (xs : List ℕ). AreFrames xs (take i all ++ entry ∷ [])) (sym now_is) (frames_on bytes (take i all) entry valid h))
+    subst (λ es. AreWritten now es) (sym more) (adds_one bytes now entry valid now_is (take i all) h)
 
 -- ---- the record is replaced
 
@@ -176,14 +167,14 @@ replaced next old new h = h
 
 module _ (old new : Held) (bytes : List ℕ) (is : old.bytes ≡ bytes) where
   rewritten_so : (read : List Entry) (tail frames : List ℕ) (r : Result (Unit {0}) Refusal) → IsStored bytes read tail
-      → AreFrames frames read → IsReplaced frames old new r → Rewrites old new r
+      → AreWritten frames read → IsReplaced frames old new r → Rewrites old new r
   rewritten_so read tail frames r there h put all stored =
       let same : read ≡ all =
       (stored_same read all bytes tail [] there (subst (λ (xs : List ℕ). IsStored xs all []) is stored)).0 in
       subst (λ (xs : List ℕ). IsReplaced xs old new r) (h.bytes_are ∙ ap frames_of same) put
 
   pub rewritten_by : (read given : List Entry) (tail frames text : List ℕ) (r : Result (Unit {0}) Refusal) → IsStored bytes read tail
-      → given ≡ read → AreFrames frames given → text ≡ frames → IsReplaced text old new r → Rewrites old new r
+      → given ≡ read → AreWritten frames given → text ≡ frames → IsReplaced text old new r → Rewrites old new r
   rewritten_by read given tail frames text r there given_is h text_is put =
-      rewritten_so read tail frames r there (subst (AreFrames frames) given_is h)
+      rewritten_so read tail frames r there (subst (AreWritten frames) given_is h)
       (subst (λ (xs : List ℕ). IsReplaced xs old new r) text_is put)

@@ -23,7 +23,7 @@ use Rattle.protocol.specs.Effects.{Config}
 use Rattle.resource_manager.specs.Compacted.{IsCompacted, row_entry, is_about_tx, facts_of}
 use Rattle.node_core.specs.declared.role.Role.{Role}
 use Rattle.node_core.specs.Nodes.{Kept, MeansFrom, Holds}
-use Rattle.node_core.specs.Opening.{IsBad, IsReadAs, Reads, HasStayed, HasFaulted, Loads, frames_of, IsReplaced, Rewrites}
+use Rattle.node_core.specs.Opening.{IsBad, IsRecordRead, Reads, HasStayed, HasFaulted, Loads, frames_of, IsReplaced, Rewrites}
 use Rattle.node_core.specs.Opening.{IsUntailed, IsTrimmed, IsLeftOver}
 use Rattle.node_core.proofs.Rows.{same_row}
 use Rattle.node_core.proofs.Starting.{of_facts}
@@ -143,7 +143,7 @@ module _ (config : Config) (who : NodeId) (own : List Row) (old : Held) where
   replay_refused new bytes other is same h = absurd h
 
   -- the tail is cut, or the record fails
-  module _ (role : Role) (len : ℕ) (h : IsReadAs config who own old.bytes role len) where
+  module _ (role : Role) (len : ℕ) (h : IsRecordRead config who own old.bytes role len) where
     abbrev cut : List ℕ
     cut = take len old.bytes
 
@@ -262,9 +262,9 @@ module _ (config : Config) (who : NodeId) (own : List Row) (old : Held) where
           }
 
 module _ (config : Config) (who : NodeId) (own : List Row) (old : Held) (role : Role) (len : ℕ) (mid : Held) (bytes : List ℕ)
-    (bytes_are : bytes ≡ old.bytes) (mid_is : mid ≡ old) (h : IsReadAs config who own bytes role len) where
-  read_old : IsReadAs config who own old.bytes role len
-  read_old = subst (λ bs. IsReadAs config who own bs role len) bytes_are h
+    (bytes_are : bytes ≡ old.bytes) (mid_is : mid ≡ old) (h : IsRecordRead config who own bytes role len) where
+  read_old : IsRecordRead config who own old.bytes role len
+  read_old = subst (λ bs. IsRecordRead config who own bs role len) bytes_are h
 
   pub load_cut : (new : Held) (e : RecordError) (refusal : Refusal) → refusal ≡ refusal_of e → HasPut (take len mid.bytes) mid new (Err e)
       → Loads config who own old new (Err refusal)

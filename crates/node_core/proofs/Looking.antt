@@ -21,7 +21,7 @@ use Rattle.node_core.specs.declared.config.Sizes.{Sizes}
 use Rattle.node_core.specs.declared.role.Role.{Role}
 use Rattle.node_core.specs.Roles.{RoleStands}
 use Rattle.node_core.specs.Nodes.{AreSizes, Keeps, Stands, NodeParts, NodeStands, IsSameNode, IsSound}
-use Rattle.node_core.specs.Opening.{IsBad, IsReadAs, Reads}
+use Rattle.node_core.specs.Opening.{IsBad, IsRecordRead, Reads}
 use Rattle.node_core.specs.Viewing.{Peeks, SaysView, SaysTable, IsUnread, Views, Tables, ViewsAs, TablesAs}
 use Rattle.node_core.specs.Viewing.{AsksUnused, AsksUnusedAs, TellsUnused}
 use Rattle.node_core.proofs.Loading.{either_same}
@@ -52,7 +52,7 @@ leader_tells place p unused says config (R rm) facts memory stands = absurd stan
 pub peeked : (config : Config) (who : NodeId) (own : List Row) (old new : Held) (role : Role) (len : ℕ) (bytes : List ℕ)
     → bytes ≡ old.bytes → new ≡ old → Reads config who own bytes (Ok (role, len)) → Peeks config who own old new (Ok role)
 peeked config who own old new role len bytes bytes_are same h =
-    let p : IsReadAs config who own old.bytes role len = subst (λ bs. IsReadAs config who own bs role len) bytes_are h in
+    let p : IsRecordRead config who own old.bytes role len = subst (λ bs. IsRecordRead config who own bs role len) bytes_are h in
     record { kept = p.kept; tail = drop len old.bytes; held = p.holds; same = same; stands = p.stands }
 
 pub unpeeked : (config : Config) (who : NodeId) (own : List Row) (old new : Held) (bytes : List ℕ) (e : Refusal) → bytes ≡ old.bytes

@@ -27,7 +27,7 @@ use Rattle.resource_manager.specs.Managers.{ManagerParts, manager_part, placed_p
 use Rattle.resource_manager.proofs.Votes.{idle_there}
 use Rattle.resource_manager.proofs.More.{unspent_all}
 use Rattle.node_core.specs.declared.role.Role.{Role}
-use Rattle.node_core.specs.Roles.{RoleStands, HasRoomFor, IsSame, Takes, Replays, IsReplayed, memory_after}
+use Rattle.node_core.specs.Roles.{RoleStands, HasRoomFor, IsSame, TakesFact, Replays, IsReplayed, memory_after}
 
 -- ---- made ready
 
@@ -114,7 +114,7 @@ part_takes part old new facts fact (Err other) h s plays ready = absurd h
 
 pub acceptor_takes : (old new : AcceptorParts) (fact : Fact) (r : Result (Unit {0}) Refusal)
     → ((config : Config) (number : ℕ) → IsPlayed (acceptor_part config number) old new fact r)
-    → Takes (Role.Acceptor old) (Role.Acceptor new) fact r
+    → TakesFact (Role.Acceptor old) (Role.Acceptor new) fact r
 acceptor_takes old new fact r h config (A a) facts memory s fits idle ready =
     let t = part_takes (acceptor_part config a) old new facts fact r (h config a) s fits ready in
     record { done = t.done; stands = t.stands }
@@ -137,7 +137,7 @@ idle_ready config rm p facts branches s other idle room = room
 pub manager_takes : (old new : ManagerParts) (fact : Fact) (r : Result (Unit {0}) Refusal)
     → ((config : Config) (number : ℕ) (branches : List Branch) → manager_specs.IsPlayable number branches fact
     → IsPlayed (manager_part config number branches) old new fact r)
-    → Takes (Role.Manager old) (Role.Manager new) fact r
+    → TakesFact (Role.Manager old) (Role.Manager new) fact r
 manager_takes old new fact r h config (A a) facts memory s fits idle ready = absurd s
 manager_takes old new fact r h config (L l) facts memory s fits idle ready = absurd s
 manager_takes old new fact r h config (R rm) facts memory s fits idle ready =
@@ -159,7 +159,7 @@ module _ (old played new : LeaderParts) (tx : TxParts) (b : ℕ) (fact : Fact) (
       → ((config : Config) (number : ℕ) (stored : StoredBallots) (memory : LeaderMemory)
       → StandsForBallots config number played stored memory → 0 < stored tx
       → StandsForBallots config number new stored (with_begun tx b (with_met tx memory)) × (new.courses.begun ≡ played.courses.begun))
-      → Takes (Role.Leader old) (Role.Leader new) fact (Ok tt)
+      → TakesFact (Role.Leader old) (Role.Leader new) fact (Ok tt)
   leader_takes r done h begins config (A a) facts memory s fits idle ready = absurd s
   leader_takes r done h begins config (R rm) facts memory s fits idle ready = absurd s
   leader_takes r done h begins config (L l) facts memory s fits idle ready =
@@ -182,7 +182,7 @@ module _ (old played new : LeaderParts) (tx : TxParts) (b : ℕ) (fact : Fact) (
 -- a fact that doesn't play, or for which it isn't ready, isn't taken
 pub leader_refused : (old new : LeaderParts) (fact : Fact) (r : Result (Unit {0}) Refusal) (e : Refusal) → r ≡ Err e
     → ((config : Config) (number : ℕ) (memory : LeaderMemory) → IsPlayed (leader_part config number memory) old new fact r)
-    → Takes (Role.Leader old) (Role.Leader new) fact (Err e)
+    → TakesFact (Role.Leader old) (Role.Leader new) fact (Err e)
 leader_refused old new fact r e is h config (A a) facts memory s fits idle ready = absurd s
 leader_refused old new fact r e is h config (R rm) facts memory s fits idle ready = absurd s
 leader_refused old new fact r e is h config (L l) facts memory s fits idle ready =
@@ -244,9 +244,9 @@ manager_replays old new fact r h config (R rm) facts s =
 
 -- ---- what is played, under other names
 
-pub takes_so : (old inner new : Role) (fact : Fact) (r : Result (Unit {0}) Refusal) → old ≡ inner → Takes inner new fact r
-    → Takes old new fact r
-takes_so old inner new fact r is h = subst (λ x. Takes x new fact r) (sym is) h
+pub takes_so : (old inner new : Role) (fact : Fact) (r : Result (Unit {0}) Refusal) → old ≡ inner → TakesFact inner new fact r
+    → TakesFact old new fact r
+takes_so old inner new fact r is h = subst (λ x. TakesFact x new fact r) (sym is) h
 
 pub replays_so : (old inner new : Role) (fact : Fact) (r : Result (Unit {0}) Refusal) → old ≡ inner → Replays inner new fact r
     → Replays old new fact r

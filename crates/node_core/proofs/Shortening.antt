@@ -23,19 +23,14 @@ use Rattle.resource_manager.specs.Compacted.{AreShorterFrames, IsShortened}
 use Rattle.node_core.specs.declared.role.Role.{Role}
 use Rattle.node_core.specs.Roles.{RoleStands}
 use Rattle.node_core.specs.Nodes.{begun, SameState, Keeps, Stands, NodeParts, NodeStands, IsSound}
-use Rattle.node_core.specs.Opening.{AreFrames}
 use Rattle.node_core.specs.Compacting.{IsNoLonger, IsShorter, Shortens, IsRecompacted, Recompacts, BefallsCompact, IsCompactedUp, role_kept}
 use Rattle.node_core.specs.Compacting.{Compacts, CompactsAs}
 use Rattle.node_core.proofs.Lengths.{no_longer}
 use Rattle.node_core.proofs.Starting.{of_facts}
 
--- frames as they are written
-frames_so : (bytes : List ℕ) (all : List Entry) → AreWritten bytes all → AreFrames bytes all
-frames_so bytes all is = record { bytes_are = is.bytes_are; stored = is.stored }
-
 -- ---- facts that a part gives
 
-module _ (bytes : List ℕ) (kept : List Fact) (frames : AreFrames bytes (of_facts kept)) where
+module _ (bytes : List ℕ) (kept : List Fact) (frames : AreWritten bytes (of_facts kept)) where
   acceptor_says : (config : Config) (a : ℕ) (facts : List Fact) → of_acceptor.SaysTheSame config a kept facts
       → SameState config config (A a) kept facts
   acceptor_says config a facts same =
@@ -90,7 +85,7 @@ module _ (bytes : List ℕ) (kept : List Fact) (frames : AreFrames bytes (of_fac
   leader_shortens p h config (A a) facts memory s played = absurd s
   leader_shortens p h config (R rm) facts memory s played = absurd s
 
-module _ (bytes : List ℕ) (all : List Entry) (frames : AreFrames bytes all) where
+module _ (bytes : List ℕ) (all : List Entry) (frames : AreWritten bytes all) where
   manager_says : (config : Config) (rm : ℕ) (facts : List Fact) (own : List Row) (c : IsShortened config rm facts all)
       → SameState (begun config (R rm) own (Some c.rows)) config (R rm) c.kept facts
   manager_says config rm facts own c = record { stands = stands; fits = c.same.fits; shorter = c.same.shorter }
@@ -127,18 +122,18 @@ pub acceptor_framed : (p : AcceptorParts) (r : Result (Vec ℕ Global) Refusal)
     → IfOk r (λ frames. of_acceptor.AreShorterFrames p frames.items)
     → IfOk r (λ frames. Shortens (Role.Acceptor p) frames.items)
 acceptor_framed p (Ok frames) is =
-    acceptor_shortens frames.items is.kept (frames_so frames.items (of_facts is.kept) is.written) p is.compacts
+    acceptor_shortens frames.items is.kept is.written p is.compacts
 acceptor_framed p (Err e) is = tt
 
 pub leader_framed : (p : LeaderParts) (r : Result (Vec ℕ Global) Refusal) → IfOk r (λ frames. of_leader.AreShorterFrames p frames.items)
     → IfOk r (λ frames. Shortens (Role.Leader p) frames.items)
 leader_framed p (Ok frames) is =
-    leader_shortens frames.items is.kept (frames_so frames.items (of_facts is.kept) is.written) p is.compacts
+    leader_shortens frames.items is.kept is.written p is.compacts
 leader_framed p (Err e) is = tt
 
 pub manager_framed : (p : ManagerParts) (r : Result (Vec ℕ Global) Refusal) → IfOk r (λ frames. AreShorterFrames p frames.items)
     → IfOk r (λ frames. Shortens (Role.Manager p) frames.items)
-manager_framed p (Ok frames) is = manager_shortens frames.items is.all (frames_so frames.items is.all is.written) p is.shortened
+manager_framed p (Ok frames) is = manager_shortens frames.items is.all is.written p is.shortened
 manager_framed p (Err e) is = tt
 
 -- the same of a role under another name

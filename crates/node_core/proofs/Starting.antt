@@ -20,7 +20,7 @@ use Rattle.node_core.specs.declared.config.Sizes.{Sizes}
 use Rattle.node_core.specs.declared.role.Role.{Role}
 use Rattle.node_core.specs.Nodes.{Kept, MeansFrom, Holds, begun, AreSizes, HasRows}
 use Rattle.node_core.specs.Opening.{is_fact, Goes, HasPlayed, IsUnplayable, IsPlayedFrom, IsSnapshot, IsManager}
-use Rattle.node_core.specs.Opening.{IsPlain, IsBad, IsReadAs, Reads}
+use Rattle.node_core.specs.Opening.{IsPlain, IsBad, IsRecordRead, Reads}
 
 -- ---- the cluster in which a table begins with the rows of a record
 
@@ -97,7 +97,7 @@ module _ (config : Config) (rm : ℕ) (own : List Row) (bytes rest : List ℕ) (
   from = beginning_with config rm rows
 
   pub compacted_read : (role : Role) (len : ℕ) → HasPlayed from (R rm) true rest role len
-      → IsReadAs config (R rm) own bytes role (length bytes - length rest + len)
+      → IsRecordRead config (R rm) own bytes role (length bytes - length rest + len)
   compacted_read role len h =
       let all : length bytes ≡ length (s.up_to.place.0 ++ rest) = ap length s.up_to.place.1 in
       let left = drop_past bytes s.up_to.place.0 rest len s.up_to.place.1 in
@@ -150,7 +150,7 @@ module _ (config : Config) (who : NodeId) (own : List Row) (bytes : List ℕ) wh
   abbrev plain_from : Config
   plain_from = begun config who own None
 
-  pub plain_read : (role : Role) (len : ℕ) → HasPlayed plain_from who false bytes role len → IsReadAs config who own bytes role len
+  pub plain_read : (role : Role) (len : ℕ) → HasPlayed plain_from who false bytes role len → IsRecordRead config who own bytes role len
   plain_read role len h =
       let facts = flat_map facts_of h.all in
       record {
@@ -200,7 +200,7 @@ module _ (config : Config) (own : List Row) (bytes rest : List ℕ) (rows : List
       → Reads config who own bytes (Ok (role, length bytes - (length rest - len)))
   snapshot_read (R rm) is role len within h =
       let same : length bytes - length rest + len ≡ length bytes - (length rest - len) = omega (arith, s.few, within) in
-      subst (IsReadAs config (R rm) own bytes role) same (compacted_read config rm own bytes rest rows s role len h)
+      subst (IsRecordRead config (R rm) own bytes role) same (compacted_read config rm own bytes rest rows s role len h)
   snapshot_read (A a) is role len within h = absurd is
   snapshot_read (L l) is role len within h = absurd is
 

@@ -202,11 +202,6 @@ IsPlain who bytes = Unit {0}
 abbrev pub frames_of : List Entry → List ℕ
 frames_of all = flat_map (frame version_2) all
 
--- bytes are the frames of entries, as they are written today
-pub record AreFrames (bytes : List ℕ) (all : List Entry) : Type 0 where
-  pub bytes_are : bytes ≡ frames_of all
-  pub stored : IsStored bytes all []
-
 -- bytes that hold entries and no tail are the frames of these as they are written today, or not
 abbrev pub IsCurrent : List ℕ → Bool → Type 0
 IsCurrent bytes true = (all : List Entry) → IsStored bytes all [] → bytes ≡ frames_of all
@@ -230,7 +225,7 @@ abbrev pub IsBad : Config → NodeId → List ℕ → Type 0
 IsBad config who bytes = (kept : Kept) (tail : List ℕ) → Holds config who bytes kept tail → ⊥
 
 -- a record was read, and its entries were played: their frames fill so many bytes
-pub record IsReadAs (config : Config) (who : NodeId) (own : List Row) (bytes : List ℕ) (role : Role) (len : ℕ) : Type 0 where
+pub record IsRecordRead (config : Config) (who : NodeId) (own : List Row) (bytes : List ℕ) (role : Role) (len : ℕ) : Type 0 where
   pub kept : Kept
   pub within : len ≤ length bytes
   pub holds : Holds config who bytes kept (drop len bytes)
@@ -238,7 +233,7 @@ pub record IsReadAs (config : Config) (who : NodeId) (own : List Row) (bytes : L
 
 -- what comes of reading bytes
 abbrev pub Reads : Config → NodeId → (own : List Row) → List ℕ → Result (Role × ℕ) Refusal → Type 0
-Reads config who own bytes (Ok read) = IsReadAs config who own bytes read.0 read.1
+Reads config who own bytes (Ok read) = IsRecordRead config who own bytes read.0 read.1
 Reads config who own bytes (Err Refusal.Damaged) = IsBad config who bytes
 Reads config who own bytes (Err Refusal.NoMemory) = Unit {0}
 Reads config who own bytes (Err other) = ⊥

@@ -100,8 +100,8 @@ pub record IsTaken (config : Config) (who : NodeId) (facts : List Fact) (memory 
   pub stands : RoleStands config who new (facts ++ fact ∷ []) (memory_after who facts memory fact)
 
 -- it takes a decided fact, whatever it stood for
-abbrev pub Takes : (old new : Role) → Fact → Result (Unit {0}) Refusal → Type 0
-Takes old new fact result =
+abbrev pub TakesFact : (old new : Role) → Fact → Result (Unit {0}) Refusal → Type 0
+TakesFact old new fact result =
     (config : Config) (who : NodeId) (facts : List Fact) (memory : Memory) → RoleStands config who old facts memory
     → plays config who facts fact ≡ true → IsOfIdleBranch who memory fact → HasRoomFor old fact
     → IsTaken config who facts memory new fact result

@@ -3,7 +3,7 @@
 ghost use Rattle.std.specs.Prelude.{◌≡◌, IfErr, OnOk};
 ghost use Rattle.xid.specs.declared.refusals.Refusal.TheVariants.{NoMemory};
 ghost use Rattle.node_core.specs.declared.role.Role.{Role as RoleParts};
-ghost use Rattle.node_core.specs.Roles.{HasRoomFor, IsSame, Takes};
+ghost use Rattle.node_core.specs.Roles.{HasRoomFor, IsSame, TakesFact};
 
 use crate::role::Role;
 use acceptor::Acceptor;
@@ -25,7 +25,7 @@ pub(crate) trait Playing {
     /// Plays a fact that it decided and for which it is ready, once it is stored; a leader begins its ballot. It takes no memory, and is
     /// refused for no such fact.
     fn take(&mut self, fact: &FactView<'_>) -> Result<(), Refusal>
-        ensures { Takes (role self.old) (role self.new) fact.now result };
+        ensures { TakesFact (role self.old) (role self.new) fact.now result };
 }
 
 impl Playing for Acceptor {

@@ -79,7 +79,7 @@ abbrev pub Receiving : Type 0 → Type 1
 Receiving P = P → P → Result (Option (List ℕ)) Refusal → Type 0
 
 -- a datagram was received, and the node was handed its bytes
-pub record ServesAs {P : Type 0} (Received : Receiving P) (Sent : Sending P) (old new : MemberParts) (before after : P) (served : Served)
+pub record ServesOne {P : Type 0} (Received : Receiving P) (Sent : Sending P) (old new : MemberParts) (before after : P) (served : Served)
     : Type 0 where
   pub bytes : List ℕ
   pub between : P
@@ -90,7 +90,7 @@ pub record ServesAs {P : Type 0} (Received : Receiving P) (Sent : Sending P) (ol
 abbrev pub Serves : {P : Type 0} → Receiving P → Sending P → (old new : MemberParts) → (before after : P) → Result (Option Served) Refusal
     → Type 0
 Serves Received Sent old new before after (Ok None) = Received before after (Ok None) × (new ≡ old)
-Serves Received Sent old new before after (Ok (Some served)) = ServesAs Received Sent old new before after served
+Serves Received Sent old new before after (Ok (Some served)) = ServesOne Received Sent old new before after served
 Serves Received Sent old new before after (Err refusal) = Received before after (Err refusal) × (new ≡ old)
 
 -- a resource manager was asked at its port to raise its floor: it did what the machine's does, and where that was done the port went by one

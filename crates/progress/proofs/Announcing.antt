@@ -32,7 +32,7 @@ use Rattle.protocol.specs.declared.states.Standing.{Standing}
 use Rattle.protocol.specs.declared.states.Standing.TheVariants as standings
 use Rattle.protocol.specs.declared.states.Status.TheVariants as statuses
 use Rattle.progress.specs.Outcomes.{status_answer}
-use Rattle.protocol.specs.StandsFor.{stands_for}
+use Rattle.protocol.specs.PaperItems.{unbundled}
 use Rattle.protocol.specs.Worlds.{World, Datagram, node_at, outcome_result, if_found}
 use Rattle.protocol.proofs.Lists.{IsIn-join, IsIn-mapped, any_find}
 use Rattle.progress.proofs.Mail.{Letter, letter_of, mail}
@@ -42,11 +42,11 @@ use Rattle.progress.proofs.Ending.{IsAnnounced}
 -- what is in the mail was sent
 mailed_sent : (world : World) (receiver : NodeId) (message m : Kind)
     → IsIn (mail world.net) (record { receiver = receiver; message = message })
-    → IsIn (stands_for message) m → IsIn (sent_in world) m
+    → IsIn (unbundled message) m → IsIn (sent_in world) m
 mailed_sent world receiver message m h k =
     let from = IsIn-mapped letter_of world.net (record { receiver = receiver; message = message }) h in
-    IsIn-join (λ (d : Datagram). stands_for d.message) world.net from.source m from.among
-    (subst (λ (x : Kind). IsIn (stands_for x) m) (sym (ap (λ (letter : Letter). letter.message) from.maps)) k)
+    IsIn-join (λ (d : Datagram). unbundled d.message) world.net from.source m from.among
+    (subst (λ (x : Kind). IsIn (unbundled x) m) (sym (ap (λ (letter : Letter). letter.message) from.maps)) k)
 
 -- a participant has a name
 named_there : (tx : TxParts) (r : ℕ) → IsIn (participants tx) r → (x : XidParts) × (xid_at tx r ≡ Some x)

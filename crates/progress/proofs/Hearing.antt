@@ -17,7 +17,7 @@ use Rattle.protocol.specs.Facts.{instance_eq}
 use Rattle.protocol.specs.LeaderMemory.{LeaderMemory, StoredBallots, Begun, is_report_of, has_reported, is_reported, value_to_propose}
 use Rattle.protocol.specs.LeaderMemory.{is_proposed, is_counted, with_heard, with_all_heard, status_of}
 use Rattle.protocol.specs.Leaders.{is_final, is_current, proposal_of, after_reports, on_1b}
-use Rattle.protocol.specs.StandsFor.{report_messages}
+use Rattle.protocol.specs.PaperItems.{report_messages}
 use Rattle.protocol.proofs.Lists.{any_found, found_any, IsIn-before, IsIn-after, IsIn-map, filter_map_gives}
 use Rattle.protocol.proofs.Same.{instance_eq-is, instance_eq-same}
 use Rattle.safety.proofs.Leader.Memory.{hears_no_ballot}

@@ -20,7 +20,7 @@ use Rattle.protocol.specs.LeaderMemory.{LeaderMemory, StoredBallots, is_accept_o
 use Rattle.protocol.specs.LeaderMemory.{is_known, with_met, with_all_heard}
 use Rattle.protocol.specs.LeaderMemory.{status_of}
 use Rattle.protocol.specs.Leaders.{is_final, outcome_messages, on_2b}
-use Rattle.protocol.specs.StandsFor.{accept_messages_of}
+use Rattle.protocol.specs.PaperItems.{accept_messages_of}
 use Rattle.protocol.proofs.Lists.{any_found, found_any, IsIn-map, filter_map_gives}
 use Rattle.protocol.proofs.Same.{instance_eq-same}
 use Rattle.progress.proofs.Hearing.{passes_still, hears}

@@ -8,7 +8,7 @@ use Rattle.protocol.specs.Basics.{InstanceReport, InstanceAccept, Fact, owner_of
 use Rattle.protocol.specs.Vocabulary.{R, Status, Stands, Refused, Address, Node, Acceptors, Managers, Outgoing}
 use Rattle.protocol.specs.LeaderMemory.{LeaderMemory, StoredBallots, current, is_reported, value_to_propose, is_proposed, status_of}
 use Rattle.protocol.specs.LeaderMemory.{with_met, with_all_heard, with_begun, with_proposed}
-use Rattle.protocol.specs.StandsFor.{report_messages, accept_messages_of}
+use Rattle.protocol.specs.PaperItems.{report_messages, accept_messages_of}
 use Rattle.protocol.specs.Effects.{Config, Effect, answer_only, no_effect, sends_only, stores, to, is_inside, status_standing}
 
 -- the message of a decision

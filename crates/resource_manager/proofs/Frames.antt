@@ -10,7 +10,7 @@ use Rattle.stable_record.specs.declared.entry.EntryKind.TheVariants as entries
 use Rattle.stable_record.specs.Entries.{IsEntry}
 use Rattle.stable_record.specs.Facts.{IsKey, IsValue}
 use Rattle.stable_record.specs.Grammar.{frame}
-use Rattle.stable_record.specs.Written.{AreWritten, Adds}
+use Rattle.stable_record.specs.Written.{AreWritten, AddsEntries}
 use Rattle.stable_record.proofs.Written.{none_written, adds_one}
 use Rattle.protocol.specs.declared.rows.Row.{Row}
 use Rattle.resource_manager.specs.Compacted.{AreShorterFrames, row_entry, entries_at}
@@ -21,7 +21,7 @@ use Rattle.resource_manager.proofs.Shortened.{shortened}
 
 pub row_written : (r : Result (Unit {0}) Refusal) (key value old new : List ℕ) (row : Row) → key ≡ row.key → value ≡ row.value
     → IsKey row.key × IsValue row.value → OnOk r (new ≡ old ++ frame version_2 (entries.Row key value))
-    → OnOk r (Adds old new (row_entry row ∷ []))
+    → OnOk r (AddsEntries old new (row_entry row ∷ []))
 row_written (Err e) key value old new row key_is value_is valid h = tt
 row_written (Ok done) key value old new row key_is value_is valid h =
     adds_one old new (row_entry row) valid (h ∙ λ i. old ++ frame version_2 (entries.Row (key_is i) (value_is i)))
@@ -30,10 +30,10 @@ row_written (Ok done) key value old new row key_is value_is valid h =
 
 -- what the frame of an entry that is given adds
 pub given_written : (r : Result (Unit {0}) Refusal) (old new : List ℕ) (entry : Entry) (given : Option Entry) → Some entry ≡ given
-    → IsEntry entry → OnOk r (new ≡ old ++ frame version_2 entry) → OnOk r (Adds old new (cons_option given []))
+    → IsEntry entry → OnOk r (new ≡ old ++ frame version_2 entry) → OnOk r (AddsEntries old new (cons_option given []))
 given_written (Err e) old new entry given is valid put = tt
 given_written (Ok done) old new entry given is valid put =
-    subst (λ o. Adds old new (cons_option o [])) is (adds_one old new entry valid put)
+    subst (λ o. AddsEntries old new (cons_option o [])) is (adds_one old new entry valid put)
 
 -- ---- the whole
 
@@ -44,7 +44,7 @@ pub record IsWrittenTo (bytes : List ℕ) (so_far : List Entry) : Type 0 where
   pub are : done ≡ so_far
 
 pub begun_written : (m : ManagerParts) (none first second : List ℕ) (entry : Entry) (rows : List Row) → none ≡ []
-    → entry ≡ entries.Snapshot → first ≡ none ++ frame version_2 entry → rows ≡ m.table.rows → Adds first second (map row_entry rows)
+    → entry ≡ entries.Snapshot → first ≡ none ++ frame version_2 entry → rows ≡ m.table.rows → AddsEntries first second (map row_entry rows)
     → IsWrittenTo second ((entries.Snapshot ∷ map row_entry m.table.rows) ++ [])
 begun_written m none first second entry rows empty snapshot one same adds =
     let at_front : first ≡ [] ++ frame version_2 entries.Snapshot =

@@ -7,7 +7,7 @@ ghost use Rattle.xid.specs.Names.{IsBytes};
 ghost use Rattle.xid.specs.declared.refusals.Refusal.TheVariants.{NoMemory};
 ghost use Rattle.stable_record.specs.Facts.{AreKeys};
 ghost use Rattle.stable_record.specs.Views.{entry_seen};
-ghost use Rattle.stable_record.specs.Written.{Adds, AreWritten};
+ghost use Rattle.stable_record.specs.Written.{AddsEntries, AreWritten};
 ghost use Rattle.branch_table.specs.TableStates.{are_rows, is_row};
 ghost use Rattle.resource_manager.specs.Compacted.{AreShorterFrames, entries_at, entry_at, keys_here, row_entry};
 
@@ -56,7 +56,7 @@ impl ResourceManager {
         tx: SpelledTx<'_>,
         likely: usize,
     ) -> Result<(), Refusal>
-        ensures ok { OnOk result (Adds frames.old.items frames.new.items (cons_option (entry_at self.now tx.entry) [])) }
+        ensures ok { OnOk result (AddsEntries frames.old.items frames.new.items (cons_option (entry_at self.now tx.entry) [])) }
         ensures err { IfErr result (λ e. e ≡ NoMemory) }
     {
         match self.view_of(alloc, tx, likely)? {
@@ -107,7 +107,7 @@ impl ResourceManager {
 /// Writes the frames of rows, which are within the limits. Refused: `NoMemory` alone.
 fn write_rows(frames: &mut Vec<u8>, rows: &[Row]) -> Result<(), Refusal>
     requires { are_rows rows.now ≡ true }
-    ensures ok { OnOk result (Adds frames.old.items frames.new.items (map row_entry rows.now)) }
+    ensures ok { OnOk result (AddsEntries frames.old.items frames.new.items (map row_entry rows.now)) }
     ensures err { IfErr result (λ e. e ≡ NoMemory) }
 {
     for row in rows {
@@ -119,7 +119,7 @@ fn write_rows(frames: &mut Vec<u8>, rows: &[Row]) -> Result<(), Refusal>
 /// Writes the frame of a row, which is within the limits. Refused: `NoMemory` alone.
 fn write_one(frames: &mut Vec<u8>, row: &Row) -> Result<(), Refusal>
     requires { is_row row.now ≡ true }
-    ensures ok { OnOk result (Adds frames.old.items frames.new.items (row_entry row.now ∷ [])) }
+    ensures ok { OnOk result (AddsEntries frames.old.items frames.new.items (row_entry row.now ∷ [])) }
     ensures err { IfErr result (λ e. e ≡ NoMemory) }
 {
     let key = row.key.as_slice();

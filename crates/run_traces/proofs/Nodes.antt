@@ -18,7 +18,7 @@ use Rattle.protocol.specs.Acceptors.{Slots, on_acceptor_message, accept_messages
 use Rattle.protocol.specs.LeaderMemory.{LeaderMemory, StoredBallots, status_of, with_all_heard, with_met}
 use Rattle.protocol.specs.Leaders.{outcome_messages, is_final, on_commit_call, phase_1a, on_leader_timeout, on_status_call, is_current}
 use Rattle.protocol.specs.Leaders.{proposal_of, on_1b, on_2b, on_leader_message}
-use Rattle.protocol.specs.StandsFor.{accept_messages_of, report_messages}
+use Rattle.protocol.specs.PaperItems.{accept_messages_of, report_messages}
 use Rattle.protocol.proofs.Lists.{all_mapped}
 use Rattle.net_script.specs.Answers.{IsAnswer}
 use Rattle.net_script.specs.Events.{IsNode}

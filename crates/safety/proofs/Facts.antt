@@ -12,7 +12,7 @@ use Rattle.stable_record.specs.declared.fact.FactKind.TheVariants as stored
 use Rattle.protocol.specs.Basics.{Fact}
 use Rattle.protocol.specs.Vocabulary.{Outgoing}
 use Rattle.protocol.specs.Facts.{vote_eq, last_ballot, ballot_begun}
-use Rattle.protocol.specs.StandsFor.{stands_for}
+use Rattle.protocol.specs.PaperItems.{unbundled}
 pub use Rattle.protocol.specs.Facts.{with_fact}
 use Rattle.xid.proofs.Deciding.{tx_self}
 use Rattle.protocol.proofs.Lists.{any_found, found_any, IsIn-map, IsIn-mapped}
@@ -25,7 +25,7 @@ with_fact_is facts (Some fact) = refl
 
 -- the paper's messages that an effect's sends stand for
 abbrev pub messages_of : List Outgoing → List Kind
-messages_of sends = flat_map (λ send. stands_for send.message) sends
+messages_of sends = flat_map (λ send. unbundled send.message) sends
 
 pub vote_eq-is : (v w : Vote) → vote_eq v w ≡ true → v ≡ w
 vote_eq-is Prepared Prepared e = refl

@@ -4,7 +4,7 @@ use Rattle.std.specs.Prelude.{◌≡◌, ◌⊎◌, ℕ, zero, suc, ◌<◌, ◌
 pub use Rattle.ballot.specs.Majority.{count, IsMajority}
 pub use Rattle.xid.specs.declared.transaction.Vote.{Vote}
 pub use Rattle.xid.specs.declared.transaction.Vote.TheVariants.{Prepared, Aborted}
-pub use Rattle.protocol.specs.StandsFor.{Item, Promised, Accepted, Began, Voted, Committed, StoredAbort, P1b, P2a, P2b, Commit, Abort}
+pub use Rattle.protocol.specs.PaperItems.{Item, Promised, Accepted, Began, Voted, Committed, StoredAbort, P1b, P2a, P2b, Commit, Abort}
 use Rattle.safety.specs.CommitSteps.{View, working, prepared, committed, aborted}
 
 -- what is fixed for all time: the number of acceptors, the leader that owns a ballot above 0, and whether a

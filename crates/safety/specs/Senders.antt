@@ -5,7 +5,7 @@ use Rattle.wire.specs.declared.message.Kind.TheVariants.{Prepare, P1a, P1b, P2a,
 use Rattle.ballot.specs.Ballots.{owner_of}
 use Rattle.protocol.specs.Vocabulary.{NodeId, A, L, R}
 use Rattle.protocol.specs.Effects.{Config}
-use Rattle.protocol.specs.StandsFor.{stands_for}
+use Rattle.protocol.specs.PaperItems.{unbundled}
 use Rattle.protocol.specs.Worlds.{Datagram}
 use Rattle.ballot.specs.Greatest.{IsIn}
 
@@ -29,4 +29,4 @@ IsFrom config who bundle = Unit {0}
 
 -- each of the paper's messages that a datagram stands for is from the node that it says
 abbrev pub AreFrom : Config → List Datagram → Type 0
-AreFrom config net = (d : Datagram) → IsIn net d → (m : Kind) → IsIn (stands_for d.message) m → IsFrom config d.sender m
+AreFrom config net = (d : Datagram) → IsIn net d → (m : Kind) → IsIn (unbundled d.message) m → IsFrom config d.sender m

@@ -11,7 +11,7 @@ use Rattle.protocol.specs.Basics.{Fact}
 use Rattle.protocol.specs.Vocabulary.{NodeId, A, L, R}
 use Rattle.protocol.specs.Effects.{Config}
 use Rattle.protocol.specs.Nodes.{NodeState}
-use Rattle.protocol.specs.StandsFor.{stands_for}
+use Rattle.protocol.specs.PaperItems.{unbundled}
 pub use Rattle.protocol.specs.Facts.{HasVote}
 use Rattle.protocol.specs.Worlds.{World, node_at}
 use Rattle.safety.specs.Items.{Setting, Item, Promised, Accepted, Began, Voted, Committed, StoredAbort, P1b, P2a, P2b, Commit, Abort}
@@ -49,7 +49,7 @@ facts_at config world who = facts_of (node_at config world who)
 
 -- the paper's messages of the datagrams that were ever sent
 abbrev pub sent_in : World → List Kind
-sent_in world = flat_map (λ datagram. stands_for datagram.message) world.net
+sent_in world = flat_map (λ datagram. unbundled datagram.message) world.net
 
 -- an item stands in a world
 abbrev pub Stands : Config → World → Item TxParts → Type 0

@@ -12,7 +12,7 @@ use Rattle.stable_record.specs.declared.fact.FactKind.{FactKind as Fact}
 use Rattle.stable_record.specs.Entries.{IsEntry}
 use Rattle.stable_record.specs.Facts.{IsFact}
 use Rattle.stable_record.specs.Grammar.{IsStored, frame, value_spelling}
-use Rattle.stable_record.specs.Written.{AreWritten, Adds, AddsFacts}
+use Rattle.stable_record.specs.Written.{AreWritten, AddsEntries, AddsFacts}
 use Rattle.stable_record.proofs.Framed.{one_stored, stored_joined}
 use Rattle.stable_record.proofs.Lengths.{entry_in_version_2}
 
@@ -54,7 +54,7 @@ row_framed old a b c d n key value len ea eb ec ed =
 pub none_written : AreWritten [] []
 none_written = record { bytes_are = refl; stored = (refl, inl (omega arith)) }
 
-pub adds_one : (old new : List ℕ) (entry : Entry) → IsEntry entry → new ≡ old ++ frame version_2 entry → Adds old new (entry ∷ [])
+pub adds_one : (old new : List ℕ) (entry : Entry) → IsEntry entry → new ≡ old ++ frame version_2 entry → AddsEntries old new (entry ∷ [])
 adds_one old new entry valid is all h = record {
   bytes_are = is ∙ ap (λ (xs : List ℕ). xs ++ frame version_2 entry) h.bytes_are
       ∙ ap (λ (xs : List ℕ). flat_map (frame version_2) all ++ xs) (sym (append-nil (frame version_2 entry)))

@@ -12,8 +12,8 @@ pub record AreWritten (bytes : List ℕ) (all : List Entry) : Type 0 where
   pub stored : IsStored bytes all []
 
 -- the frames of entries were written behind those of others
-abbrev pub Adds : (old new : List ℕ) → List Entry → Type 0
-Adds old new added = (all : List Entry) → AreWritten old all → AreWritten new (all ++ added)
+abbrev pub AddsEntries : (old new : List ℕ) → List Entry → Type 0
+AddsEntries old new added = (all : List Entry) → AreWritten old all → AreWritten new (all ++ added)
 
 -- the frames of facts were written behind those of others
 abbrev pub AddsFacts : (old new : List ℕ) → List Fact → Type 0

@@ -3,7 +3,7 @@
 ghost use Rattle.std.specs.Prelude.{◌≡◌, ◌⊎◌, true, IfOk, IfErr, MatchOption};
 ghost use Rattle.std.specs.List.{list_all};
 ghost use Rattle.xid.specs.declared.refusals.Refusal.TheVariants.{NoMemory};
-ghost use Rattle.udp_run.specs.Commands.{is_served as is_served_lem};
+ghost use Rattle.udp_run.specs.Commands.{is_served as is_served_of};
 ghost use Rattle.udp_run.specs.Runs.{IsFirstRefused, IsServed, IsUdpRun, RefusesDevices, RefusesUdp};
 
 use crate::opening::open;
@@ -45,7 +45,7 @@ pub fn udp(rt: HostRuntime, script: &[u8], folder: &str) -> Result<Vec<u8>, Refu
 
 /// Runs a script whose commands all happen over sockets.
 fn serve(rt: HostRuntime, script: Script, folder: &str, config: &Config) -> Result<Vec<u8>, Refusal>
-    requires { list_all is_served_lem script.commands ≡ true }
+    requires { list_all is_served_of script.commands ≡ true }
     ensures ok { IfOk result (λ output. IsServed config.now script output.items) }
     ensures err { IfErr result (λ e. (e ≡ NoMemory) ⊎ RefusesDevices config.now script.commands e) }
 {
@@ -68,7 +68,7 @@ fn serve(rt: HostRuntime, script: Script, folder: &str, config: &Config) -> Resu
 
 /// Whether a command happens over sockets: datagrams and notices there have no numbers, and files can't be torn or lost.
 fn is_served(command: &Command) -> bool
-    ensures { result ≡ is_served_lem command.now }
+    ensures { result ≡ is_served_of command.now }
 {
     matches!(
         command,
@@ -84,7 +84,7 @@ fn is_served(command: &Command) -> bool
 
 /// The place of the first command that doesn't happen over sockets.
 fn first_refused(commands: &[Command]) -> Option<usize>
-    ensures { MatchOption result (list_all is_served_lem commands.now ≡ true) (IsFirstRefused commands.now) }
+    ensures { MatchOption result (list_all is_served_of commands.now ≡ true) (IsFirstRefused commands.now) }
 {
     for (at, command) in commands.iter().enumerate() {
         if !is_served(command) {

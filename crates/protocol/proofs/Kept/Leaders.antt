@@ -32,7 +32,7 @@ use Rattle.protocol.specs.LeaderMemory.{value_to_propose, is_proposed, is_accept
 use Rattle.protocol.specs.LeaderMemory.{with_heard, is_counted, with_all_heard, is_phase_1b, with_begun, with_proposed}
 use Rattle.protocol.specs.Leaders.{is_final, outcome_messages, on_commit_call, phase_1a, on_leader_timeout, on_status_call, is_current}
 use Rattle.protocol.specs.Leaders.{proposal_of, after_reports, on_1b, on_2b, on_ask, on_leader_message}
-use Rattle.protocol.specs.StandsFor.{report_messages, accept_messages_of}
+use Rattle.protocol.specs.PaperItems.{report_messages, accept_messages_of}
 use Rattle.xid.specs.Places.{Place, is_below}
 use Rattle.protocol.specs.Kept.{kept_leader}
 

@@ -23,7 +23,7 @@ use Rattle.protocol.specs.Facts.{slot, vote_eq}
 use Rattle.protocol.specs.Acceptors.{is_accepted, reports_below, is_some_below, report_after, accept_item, accept_messages}
 use Rattle.protocol.specs.Acceptors.{on_1a, on_b1a, on_2a, on_acceptor_message, plays_at_acceptor}
 use Rattle.protocol.specs.Nodes.{all_play}
-use Rattle.protocol.specs.StandsFor.{report_messages, accept_messages_of, stands_for, message_items}
+use Rattle.protocol.specs.PaperItems.{report_messages, accept_messages_of, unbundled, message_items}
 use Rattle.safety.specs.Laws as laws
 use Rattle.safety.proofs.Facts.{messages_of, participates, vote_eq-is}
 use Rattle.safety.proofs.Acceptor.Slots.{slot_is}
@@ -46,8 +46,8 @@ pub record IsAllowedAcceptorEffect (config : Config) (a : ℕ) (facts : NodeId �
   pub plays : (fact : Fact) → e.fact ≡ Some fact → plays_at_acceptor (slot (facts (A a))) fact ≡ true
 
 -- what is sent alone
-sent_alone : (address : Address) (x m : Kind) → IsIn (messages_of (to address x ∷ [])) m → IsIn (stands_for x) m
-sent_alone address x m h = elim (IsIn-append (stands_for x) [] m h) [ inl here ↦ here | inr none ↦ absurd none ]
+sent_alone : (address : Address) (x m : Kind) → IsIn (messages_of (to address x ∷ [])) m → IsIn (unbundled x) m
+sent_alone address x m h = elim (IsIn-append (unbundled x) [] m h) [ inl here ↦ here | inr none ↦ absurd none ]
 
 module _ (facts : NodeId → List Fact) (a : ℕ) (tx : TxParts) (i : ℕ) where
   held_is : (sent : List Kind) (mbal : ℕ) (r : Report)
@@ -328,9 +328,9 @@ module _ (config : Config) (a : ℕ) (facts : NodeId → List Fact) (sent : List
       }))
       (λ low. nothing (no_effect tt) refl refl)
 
-  -- an acceptor's rules, on a message of which all that it stands for was sent
-  pub acceptor_is_allowed : (m : Kind) → ((k : Kind) → IsIn (stands_for m) k → IsIn sent k)
-      → ((k : Kind) → IsIn (stands_for m) k → NamesParticipant k)
+  -- an acceptor's rules, on a message of which all was sent, bundled or not
+  pub acceptor_is_allowed : (m : Kind) → ((k : Kind) → IsIn (unbundled m) k → IsIn sent k)
+      → ((k : Kind) → IsIn (unbundled m) k → NamesParticipant k)
       → IsAllowedAcceptorEffect config a facts sent (on_acceptor_message config a slots m)
   acceptor_is_allowed (kinds.P1a tx i b) came named = on_1a_allowed tx i b (named (kinds.P1a tx i b) (inl refl))
   acceptor_is_allowed (kinds.B1a tx b) came named = on_b1a_allowed tx b

@@ -14,7 +14,7 @@ use Rattle.protocol.specs.Effects.{Config, Effect}
 use Rattle.protocol.specs.Nodes.{Memory, Input, effect_of}
 use Rattle.protocol.specs.Leaders.{plays_at_leader}
 use Rattle.protocol.specs.Facts.{last_ballot}
-use Rattle.protocol.specs.StandsFor.{stands_for, message_items}
+use Rattle.protocol.specs.PaperItems.{unbundled, message_items}
 use Rattle.safety.specs.Items.{Item, Began, P1b, P2a, P2b, Commit, Abort, Setting, IsAllowed, IsProposal, IsMajorityPick}
 use Rattle.safety.specs.Invariant.{Invariant}
 use Rattle.safety.specs.Senders.{IsFrom}
@@ -39,7 +39,7 @@ pub record IsAllowedLeaderEffect (config : Config) (l : ℕ) (facts : NodeId →
 
 sent_by : (sends : List Outgoing) (m : Kind) → IsIn (messages_of sends) m → IsSentBy sends m
 sent_by sends m h =
-    let at = IsIn-joined (λ (s : Outgoing). stands_for s.message) sends m h in (at.source, at.among, at.inside)
+    let at = IsIn-joined (λ (s : Outgoing). unbundled s.message) sends m h in (at.source, at.among, at.inside)
 
 -- what was proposed in a leader's ballots, its record has begun
 pub backed_by : (config : Config) (l : ℕ) (facts : NodeId → List Fact) (sent : List Kind)

@@ -24,7 +24,7 @@ use Rattle.protocol.specs.LeaderMemory.{LeaderMemory, current, is_reported, valu
 use Rattle.protocol.specs.LeaderMemory.{Begun, with_met, with_all_heard, with_begun}
 use Rattle.protocol.specs.Leaders.{outcome_messages, is_final, on_commit_call, on_leader_timeout, on_status_call, is_current}
 use Rattle.protocol.specs.Leaders.{phase_1a, proposal_of, after_reports, on_1b}
-use Rattle.protocol.specs.StandsFor.{report_messages, accept_messages_of, stands_for}
+use Rattle.protocol.specs.PaperItems.{report_messages, accept_messages_of, unbundled}
 use Rattle.protocol.specs.Leaders.{on_2b, on_ask, on_leader_message}
 use Rattle.protocol.specs.Nodes.{Memory, Input, Asked, Received, of_leader}
 use Rattle.protocol.specs.Nodes.{effect_of, is_acceptor_inside, is_form_of, is_message_inside}
@@ -50,11 +50,11 @@ IsNoProposal (P2a tx i b v) = ⊥
 IsNoProposal message = Unit {0}
 
 -- what is sent alone
-sent_alone : (address : Address) (x m : Kind) → IsSentBy (to address x ∷ []) m → IsIn (stands_for x) m
-sent_alone address x m (s, inl e, f) = subst (λ (y : Outgoing). IsIn (stands_for y.message) m) (sym e) f
+sent_alone : (address : Address) (x m : Kind) → IsSentBy (to address x ∷ []) m → IsIn (unbundled x) m
+sent_alone address x m (s, inl e, f) = subst (λ (y : Outgoing). IsIn (unbundled y.message) m) (sym e) f
 sent_alone address x m (s, inr none, f) = absurd none
 
-one_sent : (address : Address) (x m : Kind) → stands_for x ≡ x ∷ [] → IsSentBy (to address x ∷ []) m → x ≡ m
+one_sent : (address : Address) (x m : Kind) → unbundled x ≡ x ∷ [] → IsSentBy (to address x ∷ []) m → x ≡ m
 one_sent address x m plain h =
     only_one (λ (y : Kind). x ≡ y) x refl m (subst (λ (ys : List Kind). IsIn ys m) plain (sent_alone address x m h))
 
@@ -139,7 +139,7 @@ module _ (config : Config) (l : ℕ) (facts : List Fact) (Sent Now : Kind → Ty
       → (i : ℕ) × IsTrue (is_participant tx i) × (P1a tx i b ≡ m)
   asked_alone tx b m h =
       let at = IsIn-mapped (λ (i : ℕ). to Acceptors (P1a tx i b)) (participants tx) h.0 h.1 in
-      let is = subst (λ (y : Outgoing). IsIn (stands_for y.message) m) (sym at.maps) h.2 in
+      let is = subst (λ (y : Outgoing). IsIn (unbundled y.message) m) (sym at.maps) h.2 in
       (at.source, participates tx at.source at.among, only_one (λ (y : Kind). P1a tx at.source b ≡ y) (P1a tx at.source b) refl m is)
 
   asked : (tx : TxParts) (b : ℕ) (m : Kind) → IsSentBy (phase_1a config tx b) m → (i : ℕ) × IsTrue (is_participant tx i) × (P1a tx i b ≡ m)
@@ -247,10 +247,10 @@ module _ (config : Config) (l : ℕ) (facts : List Fact) (Sent Now : Kind → Ty
       let at = IsIn-mapped (to Acceptors) proposals h.0 h.1 in
       let own = proposal_among memory tx b instances at.source at.among in
       let v = value_to_propose memory.heard tx own.instance b in
-      let inside = subst (λ (y : Outgoing). IsIn (stands_for y.message) m) (sym at.maps) h.2 in
+      let inside = subst (λ (y : Outgoing). IsIn (unbundled y.message) m) (sym at.maps) h.2 in
       let same : P2a tx own.instance b v ≡ m =
       only_one (λ (y : Kind). P2a tx own.instance b v ≡ y) (P2a tx own.instance b v) refl m
-      (subst (λ (y : Kind). IsIn (stands_for y) m) (sym own.is) inside) in
+      (subst (λ (y : Kind). IsIn (unbundled y) m) (sym own.is) inside) in
       subst (IsIn proposals) (sym own.is ∙ same) at.among
 
   reports_step : (memory : LeaderMemory) (tx : TxParts) (b : ℕ) (instances : List ℕ) → current memory tx ≡ Some b
@@ -326,8 +326,8 @@ module _ (config : Config) (l : ℕ) (facts : List Fact) (Sent Now : Kind → Ty
       (λ e grown. quiet (with_met tx memory) known grown)
       (λ e grown. told now (outcome_messages status tx Managers) (outcome_told tx now Managers status refl heard) heard grown)
 
-  -- a message of which all that it stands for was sent, the acceptor that it names being one of the cluster
-  takes_step : (memory : LeaderMemory) (message : Kind) → ((m : Kind) → IsIn (stands_for message) m → Sent m)
+  -- a message of which all was sent, bundled or not, the acceptor that it names being one of the cluster
+  takes_step : (memory : LeaderMemory) (message : Kind) → ((m : Kind) → IsIn (unbundled message) m → Sent m)
       → is_acceptor_inside config message ≡ true
       → LeaderInvariant config l facts memory Sent → IsStepEffect (on_leader_message config (last_ballot facts) memory message)
   takes_step memory (P1b tx i b report a) sent inside kept grown =
@@ -346,9 +346,9 @@ module _ (config : Config) (l : ℕ) (facts : List Fact) (Sent Now : Kind → Ty
 abbrev pub IsLeaderEffect : Config → (l : ℕ) → List Fact → (Sent : Kind → Type 0) → Effect Memory → (Now : Kind → Type 0) → Type 0
 IsLeaderEffect config l facts Sent e Now = IsLeaderStep config l facts Sent e.fact e.sends e.memory.leader Now
 
--- all that a datagram stands for was sent, where one comes
+-- all messages of a datagram were sent, where one comes
 abbrev pub IsTakenSent : (Sent : Kind → Type 0) → Input → Type 0
-IsTakenSent Sent (Received message) = (m : Kind) → IsIn (stands_for message) m → Sent m
+IsTakenSent Sent (Received message) = (m : Kind) → IsIn (unbundled message) m → Sent m
 IsTakenSent Sent input = Unit {0}
 
 module _ (config : Config) (l : ℕ) (facts : List Fact) (Sent Now : Kind → Type 0) (few : l < config.leaders)

@@ -12,7 +12,7 @@ use Rattle.protocol.specs.Basics.{Fact}
 use Rattle.protocol.specs.Vocabulary.{Outgoing}
 use Rattle.protocol.specs.Facts.{last_ballot}
 use Rattle.protocol.specs.Effects.{Config}
-use Rattle.protocol.specs.StandsFor.{stands_for}
+use Rattle.protocol.specs.PaperItems.{unbundled}
 use Rattle.protocol.specs.LeaderMemory.{LeaderMemory, current, is_proposed}
 use Rattle.protocol.specs.Leaders.{plays_at_leader}
 use Rattle.safety.specs.Items.{Item, P1b, P2a, P2b, Commit, Abort, IsDecided, IsMajorityPick}
@@ -52,9 +52,9 @@ pub record AreProposalsBacked (leaders l : ℕ) (facts : List Fact) (Sent : Kind
 
 -- ---- what is handed over
 
--- a message is one that some of these stands for
+-- a message is one that some of these is, bundled or not
 abbrev pub IsSentBy : List Outgoing → Kind → Type 0
-IsSentBy sends m = (s : Outgoing) × IsIn sends s × IsIn (stands_for s.message) m
+IsSentBy sends m = (s : Outgoing) × IsIn sends s × IsIn (unbundled s.message) m
 
 -- what was sent, and at most these
 pub record IsSentExtension (Sent : Kind → Type 0) (sends : List Outgoing) (Now : Kind → Type 0) : Type 0 where

@@ -14,7 +14,7 @@ use Rattle.protocol.specs.Vocabulary.{NodeId, R, Outgoing}
 use Rattle.protocol.specs.Effects.{Config}
 use Rattle.protocol.specs.Managers.{Branch}
 use Rattle.protocol.specs.Nodes.{Memory, Input, Received, effect_of, all_play}
-use Rattle.protocol.specs.StandsFor.{stands_for, message_items, comes_to}
+use Rattle.protocol.specs.PaperItems.{unbundled, message_items, comes_to}
 use Rattle.safety.specs.Items.{Item, Voted, Committed, StoredAbort, P2a, IsAllowed}
 use Rattle.safety.specs.Senders.{IsFrom}
 use Rattle.ballot.specs.Greatest.{IsIn}
@@ -49,7 +49,7 @@ voted_after rm facts (Some fact) tx votes.Aborted h = elim (IsIn-push facts fact
 
 module _ (config : Config) (rm : ℕ) (facts : NodeId → List Fact) (sent : List Kind) (branches : List Branch) (input : Input)
     (play : all_play config (R rm) [] (facts (R rm)) ≡ true)
-    (came : (m k : Kind) → input ≡ Received m → IsIn (stands_for m) k → IsIn sent k) where
+    (came : (m k : Kind) → input ≡ Received m → IsIn (unbundled m) k → IsIn sent k) where
   abbrev Has : Item TxParts → Type 0
   Has = StandsBy facts sent
 
@@ -105,7 +105,7 @@ module _ (config : Config) (rm : ℕ) (facts : NodeId → List Fact) (sent : Lis
     items_allowed = fact_allowed o right.fact_is
 
     -- no resource manager sends a bundle
-    not_bundled : (x : Kind) → IsManagerSend rm (with_fact (facts (R rm)) o) x → (m : Kind) → IsIn (stands_for x) m
+    not_bundled : (x : Kind) → IsManagerSend rm (with_fact (facts (R rm)) o) x → (m : Kind) → IsIn (unbundled x) m
         → IsManagerSend rm (with_fact (facts (R rm)) o) m
     not_bundled (kinds.P2a tx i b v) is m h = only_one (IsManagerSend rm (with_fact (facts (R rm)) o)) (kinds.P2a tx i b v) is m h
     not_bundled (kinds.Ask tx r) is m h = only_one (IsManagerSend rm (with_fact (facts (R rm)) o)) (kinds.Ask tx r) is m h
@@ -114,7 +114,7 @@ module _ (config : Config) (rm : ℕ) (facts : NodeId → List Fact) (sent : Lis
     -- a message of these
     sent_one : (m : Kind) → IsIn (messages_of sends) m → IsManagerSend rm (with_fact (facts (R rm)) o) m
     sent_one m h =
-        let from = IsIn-joined (λ (send : Outgoing). stands_for send.message) sends m h in
+        let from = IsIn-joined (λ (send : Outgoing). unbundled send.message) sends m h in
         not_bundled from.source.message (right.sends_are from.source from.among) m from.inside
 
     send_allowed : (m : Kind) → IsManagerSend rm (with_fact (facts (R rm)) o) m → (y : Item TxParts) → IsIn (message_items m) y
@@ -163,7 +163,7 @@ module _ (config : Config) (rm : ℕ) (facts : NodeId → List Fact) (sent : Lis
 module _ (config : Config) (rm : ℕ) (facts : NodeId → List Fact) (sent : List Kind) where
   -- whatever a resource manager is handed: what it stores and sends may come to stand
   pub manager_is_allowed : (memory : Memory) (input : Input)
-      → all_play config (R rm) [] (facts (R rm)) ≡ true → ((m k : Kind) → input ≡ Received m → IsIn (stands_for m) k → IsIn sent k)
+      → all_play config (R rm) [] (facts (R rm)) ≡ true → ((m k : Kind) → input ≡ Received m → IsIn (unbundled m) k → IsIn sent k)
       → IsAllowedEffect config (R rm) facts sent (effect_of config (R rm) (facts (R rm)) memory input).fact
       (messages_of (effect_of config (R rm) (facts (R rm)) memory input).sends)
   manager_is_allowed memory input play came =

@@ -16,7 +16,7 @@ use Rattle.protocol.specs.Vocabulary.{Answer, Outgoing, Address, Acceptors, Mana
 use Rattle.protocol.specs.Effects.{Config, Effect, answer_only, sends_only, to, is_inside}
 use Rattle.protocol.specs.LeaderMemory.{LeaderMemory, StoredBallots, status_of, with_met, with_all_heard, is_reported, is_proposed}
 use Rattle.protocol.specs.LeaderMemory.{value_to_propose}
-use Rattle.protocol.specs.StandsFor.{report_messages}
+use Rattle.protocol.specs.PaperItems.{report_messages}
 use Rattle.protocol.specs.Leaders.{outcome_messages, is_final, on_commit_call, phase_1a, on_leader_timeout, on_status_call}
 use Rattle.protocol.specs.Leaders.{is_current, proposal_of, on_1b, on_2b, on_leader_message}
 use Rattle.protocol.proofs.Lists.{filter_map_given, only_one, all_mapped}

@@ -11,7 +11,7 @@ use Rattle.stable_record.specs.declared.fact.FactKind.TheVariants as stored
 use Rattle.protocol.specs.Basics.{Fact}
 use Rattle.protocol.specs.Vocabulary.{NodeId, A, L, R}
 use Rattle.protocol.specs.Effects.{Config}
-use Rattle.protocol.specs.StandsFor.{message_items}
+use Rattle.protocol.specs.PaperItems.{message_items}
 use Rattle.safety.specs.Items.{Item, Promised, Accepted, Began, Voted, Committed, StoredAbort, P1b, P2a, P2b, Commit, Abort}
 use Rattle.safety.specs.Items.{IsAllowed, manager_of}
 use Rattle.safety.specs.Senders.{IsFrom}

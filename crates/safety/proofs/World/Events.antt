@@ -17,7 +17,7 @@ use Rattle.protocol.specs.Nodes.{NodeState, Input, Asked, Received, ReceivedNois
 use Rattle.protocol.specs.Nodes.{Fault, RecordFails, NoMemoryBefore, NoMemoryAt, Outcome, node_step}
 use Rattle.protocol.specs.Nodes.{restart_outcome, compact_outcome}
 use Rattle.protocol.specs.Nodes.{all_play}
-use Rattle.protocol.specs.StandsFor.{stands_for}
+use Rattle.protocol.specs.PaperItems.{unbundled}
 use Rattle.protocol.specs.Worlds.{World, Datagram, opening, if_found}
 use Rattle.protocol.specs.Worlds.{StepResult, Occurrence, if_found, node_at, set_node, answer_result}
 use Rattle.protocol.specs.Worlds.{outcome_result}
@@ -52,7 +52,7 @@ marked_from : (config : Config) (net : List Datagram) (n : ℕ) → AreFrom conf
 marked_from config [] n are x h = are x h
 marked_from config (d ∷ net) zero are x h = are x h
 marked_from config (d ∷ net) (suc zero) are x (inl e) =
-    subst (λ (y : Datagram). (m : Kind) → IsIn (stands_for y.message) m → IsFrom config y.sender m) e (are d (inl refl))
+    subst (λ (y : Datagram). (m : Kind) → IsIn (unbundled y.message) m → IsFrom config y.sender m) e (are d (inl refl))
 marked_from config (d ∷ net) (suc zero) are x (inr h) = are x (inr h)
 marked_from config (d ∷ net) (suc (suc n)) are x (inl e) = are x (inl e)
 marked_from config (d ∷ net) (suc (suc n)) are x (inr h) = marked_from config net (suc n) (λ y k. are y (inr k)) x h
@@ -139,7 +139,7 @@ module _ (config : Config) (world : World) (safe : IsSafe config world) where
       record {
         next =
             subst (IsSafeStepBy config (node_at config world) (node_at config (set_node config world who (record node { tear = Some n }))))
-            (ap (flat_map (λ datagram. stands_for datagram.message)) (append-nil world.net))
+            (ap (flat_map (λ datagram. unbundled datagram.message)) (append-nil world.net))
             (next_still config world who node left safe is (record { facts = refl; silent = refl; memory = inl refl }));
         from = λ are. are;
       }
@@ -189,7 +189,7 @@ module _ (config : Config) (world : World) (safe : IsSafe config world) where
       let first = marked config world safe n in
       let second = at_node_next config (with_mark world n) first.next.safe d.receiver (Received d.message) fault
       (λ m h. subst (λ (xs : List Kind). IsIn xs m) (sym (marked_messages world.net n))
-      (IsIn-join (λ (datagram : Datagram). stands_for datagram.message) world.net d m (datagram_among world.net n d is) h)) in
+      (IsIn-join (λ (datagram : Datagram). unbundled datagram.message) world.net d m (datagram_among world.net n d is) h)) in
       record { next = second.next; from = λ are. second.from (first.from are) })
 
   -- an event that reaches its node, if it has one

@@ -9,7 +9,7 @@ use Rattle.wire.specs.declared.message.Kind.{Kind}
 use Rattle.protocol.specs.Vocabulary.{NodeId, A, L, R}
 use Rattle.protocol.specs.Effects.{Config}
 use Rattle.protocol.specs.Nodes.{NodeState, new_node}
-use Rattle.protocol.specs.StandsFor.{stands_for}
+use Rattle.protocol.specs.PaperItems.{unbundled}
 use Rattle.protocol.specs.Worlds.{World, Datagram, place, node_at, set_node, mark_at, opening}
 
 -- ---- lists
@@ -135,8 +135,8 @@ leader_inside config world l node h = leader_by config world l node (place confi
 
 -- a mark changes no message
 pub marked_messages : (net : List Datagram) (n : ℕ)
-    → flat_map (λ datagram. stands_for datagram.message) (mark_at net n) ≡ flat_map (λ datagram. stands_for datagram.message) net
+    → flat_map (λ datagram. unbundled datagram.message) (mark_at net n) ≡ flat_map (λ datagram. unbundled datagram.message) net
 marked_messages [] n = refl
 marked_messages (d ∷ net) zero = refl
 marked_messages (d ∷ net) (suc zero) = refl
-marked_messages (d ∷ net) (suc (suc n)) = ap (λ (rest : List Kind). stands_for d.message ++ rest) (marked_messages net (suc n))
+marked_messages (d ∷ net) (suc (suc n)) = ap (λ (rest : List Kind). unbundled d.message ++ rest) (marked_messages net (suc n))

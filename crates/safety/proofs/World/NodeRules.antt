@@ -9,7 +9,7 @@ use Rattle.protocol.specs.Nodes.{Memory, NodeState, Input, Received}
 use Rattle.protocol.specs.Nodes.{effect_of, on_message, is_message_inside}
 use Rattle.protocol.specs.Acceptors.{plays_at_acceptor}
 use Rattle.protocol.specs.Facts.{slot}
-use Rattle.protocol.specs.StandsFor.{stands_for}
+use Rattle.protocol.specs.PaperItems.{unbundled}
 use Rattle.ballot.specs.Greatest.{IsIn}
 use Rattle.safety.specs.Standing.{facts_of}
 use Rattle.safety.proofs.Facts.{with_fact, messages_of}
@@ -24,12 +24,12 @@ use Rattle.safety.proofs.World.Outcomes.{IsRuleEffect}
 use Rattle.safety.proofs.World.SafeSteps.{facts_by, IsSafeBy}
 use Rattle.safety.proofs.World.AllowedEffects.{IsAllowedEffect, nothing_is_allowed}
 
--- each message that a datagram stands for was sent, where one is handed over
+-- each message of a datagram was sent, where one is handed over
 abbrev pub IsFromNet : (sent : List Kind) → Input → Type 0
 IsFromNet sent input = IsTakenSent (IsIn sent) input
 
 taken_from : (sent : List Kind) (input : Input) → IsFromNet sent input
-    → (m k : Kind) → input ≡ Received m → IsIn (stands_for m) k → IsIn sent k
+    → (m k : Kind) → input ≡ Received m → IsIn (unbundled m) k → IsIn sent k
 taken_from sent input came m k e h = let each : IsFromNet sent (Received m) = subst (IsFromNet sent) e came in each k h
 
 -- ---- acceptors
@@ -44,7 +44,7 @@ module _ (config : Config) (a : ℕ) (nodes : NodeId → Option NodeState) (sent
   quiet : (reply : Answer) → IsAcceptorEffect config a (facts_by nodes) sent (answer_only memory reply)
   quiet answer = record { allowed = nothing_is_allowed config (A a) (facts_by nodes) sent; met = λ f is. absurd (cc (is)) }
 
-  acceptor_takes : (m : Kind) → ((k : Kind) → IsIn (stands_for m) k → IsIn sent k)
+  acceptor_takes : (m : Kind) → ((k : Kind) → IsIn (unbundled m) k → IsIn sent k)
       → IsAcceptorEffect config a (facts_by nodes) sent (on_message config (A a) (facts_by nodes (A a)) memory m)
   acceptor_takes m h =
       let is = acceptor_is_allowed config a (facts_by nodes) sent (safe.played (A a)) m h (λ k at. safe.named k (h k at)) in

@@ -14,7 +14,7 @@ use Rattle.stable_record.specs.Frames.{frame_length}
 use Rattle.protocol.specs.Nodes.{Memory, empty_memory, NodeState, Input, Fault, RecordFails, NoMemoryAt, Outcome}
 use Rattle.protocol.specs.Nodes.{accepts_input}
 use Rattle.protocol.specs.Nodes.{effect_of, answer_outcome, stopped_append, finished_append, effect_outcome, down_answer, node_step, plays}
-use Rattle.protocol.specs.StandsFor.{stands_for}
+use Rattle.protocol.specs.PaperItems.{unbundled}
 use Rattle.protocol.specs.Worlds.{World, Datagram, node_at, datagrams_of, outcome_result}
 use Rattle.safety.specs.Senders.{IsFrom, AreFrom}
 use Rattle.ballot.specs.Greatest.{IsIn}
@@ -99,27 +99,27 @@ step_is config who node input fault =
 
 -- the paper's messages that datagrams stand for
 abbrev net_messages : List Datagram → List Kind
-net_messages net = flat_map (λ datagram. stands_for datagram.message) net
+net_messages net = flat_map (λ datagram. unbundled datagram.message) net
 
 -- each of those of the datagrams that are sent is a send's
 posted_message : (config : Config) (who : NodeId) (sends : List Outgoing) (m : Kind)
     → IsIn (net_messages (flat_map (datagrams_of config who) sends)) m → IsSentBy sends m
 posted_message config who sends m h =
-    let one = IsIn-joined (λ (d : Datagram). stands_for d.message) (flat_map (datagrams_of config who) sends) m h in
+    let one = IsIn-joined (λ (d : Datagram). unbundled d.message) (flat_map (datagrams_of config who) sends) m h in
     let from = IsIn-joined (datagrams_of config who) sends one.source one.among in
     let to = IsIn-mapped (λ (receiver : NodeId). record
     { sender = who; receiver = receiver; message = from.source.message; marked = false })
     (receivers config from.source.to (messages.message_tx from.source.message)) one.source from.inside in
-    (from.source, from.among, subst (λ (d : Datagram). IsIn (stands_for d.message) m) (sym to.maps) one.inside)
+    (from.source, from.among, subst (λ (d : Datagram). IsIn (unbundled d.message) m) (sym to.maps) one.inside)
 
 sent_message : (sends : List Outgoing) (m : Kind) → IsSentBy sends m → IsIn (messages_of sends) m
-sent_message sends m h = IsIn-join (λ (s : Outgoing). stands_for s.message) sends h.0 m h.1 h.2
+sent_message sends m h = IsIn-join (λ (s : Outgoing). unbundled s.message) sends h.0 m h.1 h.2
 
 net-append : (xs ys : List Datagram) → net_messages (xs ++ ys) ≡ net_messages xs ++ net_messages ys
 net-append [] ys = refl
 net-append (x ∷ xs) ys =
-    ap (λ (rest : List Kind). stands_for x.message ++ rest) (net-append xs ys)
-    ∙ sym (append_assoc (stands_for x.message) (net_messages xs) (net_messages ys))
+    ap (λ (rest : List Kind). unbundled x.message ++ rest) (net-append xs ys)
+    ∙ sym (append_assoc (unbundled x.message) (net_messages xs) (net_messages ys))
 
 -- what the rule of an input hands over, by the facts of the node
 pub record IsRuleEffect (config : Config) (who : NodeId) (nodes : NodeId → Option NodeState) (sent : List Kind) (facts : List Fact)
@@ -283,7 +283,7 @@ module _ (config : Config) (world : World) (who : NodeId) (node : NodeState) (in
 
 -- a datagram that is sent is a send of its sender
 record IsPosted (who : NodeId) (sends : List Outgoing) (d : Datagram) : Type 0 where
-  messages : (m : Kind) → IsIn (stands_for d.message) m → IsIn (messages_of sends) m
+  messages : (m : Kind) → IsIn (unbundled d.message) m → IsIn (messages_of sends) m
   sender : who ≡ d.sender
 
 posted_is : (config : Config) (who : NodeId) (sends : List Outgoing) (d : Datagram) → IsIn (flat_map (datagrams_of config who) sends) d
@@ -294,8 +294,8 @@ posted_is config who sends d h =
     { sender = who; receiver = receiver; message = from.source.message; marked = false })
     (receivers config from.source.to (messages.message_tx from.source.message)) d from.inside in
     record {
-      messages = λ m k. IsIn-join (λ (s : Outgoing). stands_for s.message) sends from.source m from.among
-          (subst (λ (x : Datagram). IsIn (stands_for x.message) m) (sym to.maps) k);
+      messages = λ m k. IsIn-join (λ (s : Outgoing). unbundled s.message) sends from.source m from.among
+          (subst (λ (x : Datagram). IsIn (unbundled x.message) m) (sym to.maps) k);
       sender = ap (λ (x : Datagram). x.sender) to.maps;
     }
 

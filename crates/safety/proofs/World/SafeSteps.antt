@@ -15,7 +15,7 @@ use Rattle.protocol.specs.Vocabulary.{NodeId, L, R, View}
 use Rattle.protocol.specs.Effects.{Config}
 use Rattle.protocol.specs.Facts.{view}
 use Rattle.protocol.specs.Nodes.{NodeState, plays, all_play}
-use Rattle.protocol.specs.StandsFor.{message_items}
+use Rattle.protocol.specs.PaperItems.{message_items}
 use Rattle.protocol.specs.TCommit.{IsCommitStep}
 use Rattle.protocol.specs.Worlds.{World, node_at}
 use Rattle.safety.specs.Laws as laws

@@ -3,7 +3,7 @@ use Rattle.std.specs.Map.{lookup}
 use Rattle.std.specs.Option.{unwrap_or}
 use Rattle.std.specs.Str.{bytes_eq}
 use Rattle.stable_record.specs.declared.fact.Act.{Act}
-use Rattle.branch_table.specs.Parts.{Adds, hold_at, no_place, place_and, place_at, table_of}
+use Rattle.branch_table.specs.Parts.{AddsHolders, hold_at, no_place, place_and, place_at, table_of}
 use Rattle.branch_table.specs.TableStates.{are_rows}
 use Rattle.branch_table.specs.declared.places.Place.{Place}
 use Rattle.branch_table.proofs.PlaceTable.{adds, first_and, held_first, known, place_is, rows_set, set_by, with_hold}
@@ -32,7 +32,7 @@ returns-in-Some-clause-holds c =
     let updates = (c.get_mut.follows.holds w).3 (search rules) in
     let set = set_by (λ k. k.items) old new key (Some c.in-Some.place.now) (Some w) (λ p. place_and p c.args.more) updates.3 updates.1
     c.in-Some.ensures.value (with_hold c.in-Some.place.now c.and-place.result c.args.more c.and-place.ensures) in
-    subst (λ ps. Adds ps (known (λ k. k.items) new) key c.args.more) c.self.view_is
+    subst (λ ps. AddsHolders ps (known (λ k. k.items) new) key c.args.more) c.self.view_is
     (adds (known (λ k. k.items) old) (known (λ k. k.items) new) key c.args.more set)
 
 pub returns-in-Some-clause-rows : goal.returns-in-Some-clause-rows
@@ -72,8 +72,8 @@ returns-clause-holds c =
     c.in_default.ensures.value) in
     let set = set_by (λ k. k.items) old new key None (Some (held_first c.args.more)) (λ p. place_and p c.args.more)
     updates.3 updates.1 none (first_and c.args.more) in
-    subst (λ ps. Adds ps (known (λ k. k.items) new) c.args.key.now c.args.more) (view ∙ c.self.view_is)
-    (subst (λ (q : List ℕ). Adds (known (λ k. k.items) old) (known (λ k. k.items) new) q c.args.more) c.in_ok-key.ensures.items
+    subst (λ ps. AddsHolders ps (known (λ k. k.items) new) c.args.key.now c.args.more) (view ∙ c.self.view_is)
+    (subst (λ (q : List ℕ). AddsHolders (known (λ k. k.items) old) (known (λ k. k.items) new) q c.args.more) c.in_ok-key.ensures.items
     (adds (known (λ k. k.items) old) (known (λ k. k.items) new) key c.args.more set))
 
 pub returns-clause-rows : goal.returns-clause-rows

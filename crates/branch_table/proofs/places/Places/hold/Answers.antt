@@ -1,6 +1,6 @@
 use Rattle.std.proofs.Common.{◌≡◌, ◌∙◌, ◌+◌, cond, drop, refl, sym, ap, arith}
 use Rattle.std.specs.Str.{bytes_eq}
-use Rattle.branch_table.specs.Parts.{Adds, hold_at, hold_by, table_of, uses_by, uses_held}
+use Rattle.branch_table.specs.Parts.{AddsHolders, hold_at, hold_by, table_of, uses_by, uses_held}
 use Rattle.branch_table.proofs.PlaceTable.{given_on_ok, kept_on_err}
 use Rattle.branch_table.proofs.Uses.{hold_step, split_uses, take_ascends, uses_step}
 use Rattle.branch_table.proofs.places.Places.hold.Goals as goal
@@ -34,7 +34,7 @@ loop-at-preserved c = record {
       let keys = c.args.keys.now in
       let i = c.loop-at.at in
       let t = c.index-keys-at.result in
-      let adds = given_on_ok c.add.result (Adds c.loop-at.self c.add.new.self c.as_slice.result.now c.by.result)
+      let adds = given_on_ok c.add.result (AddsHolders c.loop-at.self c.add.new.self c.as_slice.result.now c.by.result)
       (sym c.is_err.ensures.value ∙ c.if-is_err.false) c.add.ensures.holds in
       let added = adds writes key
       ∙ (λ j. cond (bytes_eq (c.as_slice.ensures j) key)

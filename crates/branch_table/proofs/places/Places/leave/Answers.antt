@@ -1,7 +1,7 @@
 use Rattle.std.proofs.Common.{◌∙◌, Some, None, refl, sym, ap, subst, rules}
 use Rattle.std.specs.Option.{unwrap_or}
 use Rattle.protocol.specs.Tables.{rows_after}
-use Rattle.branch_table.specs.Parts.{CanLeave, SetsPlace, Takes, no_place, place_at, place_left, table_of}
+use Rattle.branch_table.specs.Parts.{CanLeave, SetsPlace, TakesHolders, no_place, place_at, place_left, table_of}
 use Rattle.branch_table.specs.TableStates.{are_rows}
 use Rattle.branch_table.proofs.PlaceTable.{known, left_none, place_is, rows_set, set_by, sets, sets_same, sets_twice, takes}
 use Rattle.branch_table.proofs.RowLimits.{after_fit}
@@ -20,7 +20,7 @@ returns-in_default c =
     let left = place_left (place_at places key) act fewer in
     let set = sets_same places key left (left_none places key act fewer c.requires none) in
     record {
-      holds = subst (λ ps. Takes places ps key fewer) (sym view) (takes places places key act fewer set);
+      holds = subst (λ ps. TakesHolders places ps key fewer) (sym view) (takes places places key act fewer set);
       rows = ap table_of view ∙ rows_set places places key act left set refl;
     }
 
@@ -52,7 +52,7 @@ returns-then-not-is_empty c =
     let set = set_by (λ k. k.items) old mid key (Some c.in-Some.place.now) (Some w) (λ p. place_left p act fewer) updates.3 updates.1
     c.in-Some.ensures.value c.leave.ensures in
     record {
-      holds = subst (λ ps. Takes ps (known (λ k. k.items) mid) key fewer) c.self.view_is
+      holds = subst (λ ps. TakesHolders ps (known (λ k. k.items) mid) key fewer) c.self.view_is
           (takes (known (λ k. k.items) old) (known (λ k. k.items) mid) key act fewer set);
       rows = rows_set (known (λ k. k.items) old) (known (λ k. k.items) mid) key act
           (place_left (place_at (known (λ k. k.items) old) key) act fewer) set refl
@@ -103,7 +103,7 @@ returns c =
     (place_left (place_at (known (λ k. k.items) old) key) act fewer) no_place set
     (sets (λ k. k.items) mid new key None removed.3 removed.1)) in
     record {
-      holds = subst (λ ps. Takes ps (known (λ k. k.items) new) key fewer) c.self.view_is
+      holds = subst (λ ps. TakesHolders ps (known (λ k. k.items) new) key fewer) c.self.view_is
           (takes (known (λ k. k.items) old) (known (λ k. k.items) new) key act fewer gone);
       rows = rows_set (known (λ k. k.items) old) (known (λ k. k.items) new) key act
           (place_left (place_at (known (λ k. k.items) old) key) act fewer) gone refl

@@ -8,7 +8,7 @@ use Rattle.protocol.specs.Managers.{has_key}
 use Rattle.protocol.specs.Tables.{rows_after, with_writes}
 use Rattle.protocol.proofs.TouchedKeys.{tail_ascends}
 use Rattle.branch_table.specs.Outcomes.{looks_after}
-use Rattle.branch_table.specs.Parts.{CanLeave, Takes, hold_at, hold_by, table_of, uses_by, uses_held}
+use Rattle.branch_table.specs.Parts.{CanLeave, TakesHolders, hold_at, hold_by, table_of, uses_by, uses_held}
 use Rattle.branch_table.proofs.PlaceTable.{can_leave, held_after, own_key}
 use Rattle.branch_table.proofs.Uses.{first_apart, first_uses, let_step, looks_more}
 use Rattle.branch_table.proofs.places.Places.settle.Goals as goal
@@ -31,7 +31,7 @@ loop-touched-preserved c =
     let before = c.loop-touched.self in
     let up = subst AreAscending whole c.loop-touched.invariant.ascending in
     let each = subst (AllByRecursion IsTouched) whole c.loop-touched.invariant.each in
-    let taken : Takes before c.leave.new.self t.key (hold_by t.act) = λ writes key. c.leave.ensures.holds writes key
+    let taken : TakesHolders before c.leave.new.self t.key (hold_by t.act) = λ writes key. c.leave.ensures.holds writes key
     ∙ (λ j. cond (bytes_eq (c.as_slice.ensures j) key)
     (uses_held writes (hold_at before key) - uses_held writes (c.by-fewer.ensures j)) (uses_held writes (hold_at before key))) in
     let yielded = length-append c.loop-touched.yielded (t ∷ []) in

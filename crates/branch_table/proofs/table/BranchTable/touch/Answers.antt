@@ -5,7 +5,7 @@ use Rattle.xid.specs.Limits.{most_touched}
 use Rattle.protocol.specs.Branches.{is_write}
 use Rattle.protocol.specs.Managers.{has_key}
 use Rattle.branch_table.specs.Admission.{IsAdmitted}
-use Rattle.branch_table.specs.Parts.{Adds, Replaces, hold_more, more_by, uses_held}
+use Rattle.branch_table.specs.Parts.{AddsHolders, Replaces, hold_more, more_by, uses_held}
 use Rattle.branch_table.specs.TableStates.{branch_named, with_act}
 use Rattle.branch_table.proofs.PlaceTable.{given_on_ok, kept_on_err}
 use Rattle.branch_table.proofs.TableKept.{IsKept, held_small, kept_back, kept_touched, keys_same}
@@ -64,7 +64,7 @@ invariant_of-self-else-is_err c =
     let more = c.more-more.ensures ∙ ap (λ own. more_by own act) c.requires.admitted.1 ∙ more_is b.keys key act
     ∙ ap (λ keys. hold_more keys key act) (keys_same old x b is.branch found is.found) in
     kept_touched c.self.inside.places c.add.new.self old c.touch.new.self x key act c.self.invariant is
-    (subst (Adds c.self.inside.places c.add.new.self key) more c.in_ok-add.ensures.holds) replaced
+    (subst (AddsHolders c.self.inside.places c.add.new.self key) more c.in_ok-add.ensures.holds) replaced
 
 pub returns-clause-ok : goal.returns-clause-ok
 returns-clause-ok c =

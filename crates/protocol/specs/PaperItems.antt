@@ -12,12 +12,12 @@ report_messages tx b a reports = map (λ item. Kind.P1b tx item.instance b item.
 abbrev pub accept_messages_of : TxParts → (acceptor : ℕ) → List InstanceAccept → List Kind
 accept_messages_of tx a accepts = map (λ item. Kind.P2b tx item.instance item.ballot item.vote a) accepts
 
--- the paper's messages that a datagram stands for: those of a bundle's instances, or the message itself
-abbrev pub stands_for : Kind → List Kind
-stands_for (Kind.B1a tx b) = map (λ i. Kind.P1a tx i b) (participants tx)
-stands_for (Kind.B1b tx b a reports) = report_messages tx b a reports
-stands_for (Kind.B2b tx a accepts) = accept_messages_of tx a accepts
-stands_for message = message ∷ []
+-- the paper's messages as which a datagram is read: those of a bundle's instances, or the message itself
+abbrev pub unbundled : Kind → List Kind
+unbundled (Kind.B1a tx b) = map (λ i. Kind.P1a tx i b) (participants tx)
+unbundled (Kind.B1b tx b a reports) = report_messages tx b a reports
+unbundled (Kind.B2b tx a accepts) = accept_messages_of tx a accepts
+unbundled message = message ∷ []
 
 -- what a node stores, and the messages that the argument for safety speaks of. a, l and r number acceptors, leaders and
 -- resource managers, i is an instance: the number of its resource manager, b is a ballot
