@@ -1,4 +1,4 @@
-ghost use Rattle.std.specs.Prelude.{◌≡◌, ℕ, ◌<◌, ◌≤◌, ◌^◌, true, false, is_some, MatchOption, IfSome, ◌∷◌, ◌++◌, [], length, filter_map};
+ghost use Rattle.std.specs.Prelude.{◌≡◌, ◌<◌, ◌^◌, true, false, is_some, MatchOption, IfSome, length, filter_map};
 ghost use Rattle.std.specs.List.{AllByRecursion, list_all};
 ghost use Rattle.xid.specs.Limits.{most_branches};
 ghost use Rattle.xid.specs.Transactions.{participants, nth_branch, is_participant};

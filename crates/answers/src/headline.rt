@@ -1,5 +1,5 @@
 //! A leader that answers a client committed or aborted says what was decided, and nothing that happens later goes against it.
-ghost use Rattle.std.specs.Prelude.{◌≡◌, ◌≢◌, ℕ, List, IsTrue};
+ghost use Rattle.std.specs.Prelude.{◌≢◌, ℕ, List, IsTrue};
 ghost use Rattle.xid.specs.Transactions.{TxParts, is_participant};
 ghost use Rattle.xid.specs.declared.transaction.Vote.TheVariants as votes;
 ghost use Rattle.ballot.specs.Greatest.{IsIn};

@@ -1,9 +1,8 @@
 //! What was done in a branch since it was last started.
 
-ghost use Rattle.std.specs.Prelude.{◌≡◌, [], IfOk, IfErr, OnOk, MatchOption};
+ghost use Rattle.std.specs.Prelude.{◌≡◌, IfOk, IfErr, OnOk};
 ghost use Rattle.std.specs.Option.{option_copied};
 ghost use Rattle.xid.specs.declared.refusals.Refusal.TheVariants.{NoMemory};
-ghost use Rattle.stable_record.specs.declared.fact.Act.TheVariants as acts;
 ghost use Rattle.protocol.specs.Branches.{value_after};
 ghost use Rattle.audit.specs.Stretches.{own_act, with_write, with_get, just_started};
 ghost use Rattle.audit.specs.Books.{act_or_read, agrees};

@@ -2,7 +2,7 @@
 
 ghost use Rattle.std.specs.Prelude.{◌≡◌, ◌<◌, ◌^◌, ◌||◌, true, [], None, Some, IfOk, IfErr, IfSome, OnOk, is_some, length, nat_lt, map};
 ghost use Rattle.std.specs.List.{IsDistinct, list_any};
-ghost use Rattle.std.specs.Option.{option_map, option_copied};
+ghost use Rattle.std.specs.Option.{option_map};
 ghost use Rattle.xid.specs.Limits.{most_touched};
 ghost use Rattle.xid.specs.Names.{xid_eq};
 ghost use Rattle.xid.specs.Places.{is_xid_below};

@@ -1,12 +1,12 @@
 //! What becomes of a branch once its work is over: it is prepared, committed or undone.
 
-ghost use Rattle.std.specs.Prelude.{◌≡◌, ◌≢◌, List, true, None, Some, IfOk, IfErr, OnOk, IfSome, length, is_some};
+ghost use Rattle.std.specs.Prelude.{◌≡◌, List, true, None, Some, IfOk, IfErr, OnOk, IfSome, is_some};
 ghost use Rattle.xid.specs.declared.refusals.Refusal.TheVariants.{NoMemory};
 ghost use Rattle.stable_record.specs.Facts.{AreKeys};
 ghost use Rattle.std.specs.Bool.{Decides};
 ghost use Rattle.xid.specs.Names.{XidParts};
 ghost use Rattle.protocol.specs.Branches.{hinders_use, is_write};
-ghost use Rattle.protocol.specs.Managers.{Branch as Named, idle_keys, view_named};
+ghost use Rattle.protocol.specs.Managers.{idle_keys, view_named};
 ghost use Rattle.branch_table.specs.OneCall.{IsHindered};
 ghost use Rattle.protocol.specs.declared.answers.Answer.TheVariants as answers;
 ghost use Rattle.branch_table.specs.TableStates.{AreTableBranches, branch_named};

@@ -1,10 +1,9 @@
 //! What is known of each key: its row, and how branches hold it.
 
-ghost use Rattle.std.specs.Prelude.{◌≡◌, ◌+◌, ◌-◌, ◌*◌, ◌<◌, ◌≤◌, ◌^◌, Bool, ℕ, List, [], true, None, Some, IfOk, IfErr, OnOk, MatchOption};
+ghost use Rattle.std.specs.Prelude.{◌≡◌, ◌+◌, ◌-◌, ◌*◌, ◌<◌, ◌≤◌, ◌^◌, Bool, ℕ, List, true, None, Some, IfOk, IfErr, OnOk, MatchOption};
 ghost use Rattle.std.specs.Prelude.{length};
 ghost use Rattle.xid.specs.declared.refusals.Refusal.TheVariants.{NoMemory};
 ghost use Rattle.stable_record.specs.Facts.{AreAscending, AreKeys};
-ghost use Rattle.stable_record.specs.declared.fact.Act.TheVariants as acts;
 ghost use Rattle.protocol.specs.Branches.{row_at};
 ghost use Rattle.protocol.specs.Managers.{has_key};
 ghost use Rattle.protocol.specs.Tables.{put_row, rows_after, with_writes};

@@ -1,9 +1,8 @@
 //! A resource manager's branches and table, and the client calls on them.
 
-ghost use Rattle.std.specs.Prelude.{◌≡◌, ◌≢◌, ◌<◌, ◌||◌, ◌&&◌, Some, None, [], true, IfOk, IfErr, OnOk, length, Ok};
+ghost use Rattle.std.specs.Prelude.{◌≡◌, ◌≢◌, ◌<◌, ◌&&◌, Some, None, [], true, IfOk, IfErr, OnOk, length, Ok};
 ghost use Rattle.std.specs.Bool.{Decides};
 ghost use Rattle.std.specs.List.{list_any};
-ghost use Rattle.std.specs.Option.{option_map};
 ghost use Rattle.xid.specs.Names.{XidParts};
 ghost use Rattle.xid.specs.Places.{is_xid_below};
 ghost use Rattle.xid.specs.declared.codes.XaCode.{XaCode};

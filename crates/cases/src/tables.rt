@@ -1,6 +1,6 @@
 //! A branch table, and client calls.
 
-ghost use Rattle.std.specs.Prelude.{◌≡◌, true, IfOk, IfSome};
+ghost use Rattle.std.specs.Prelude.{◌≡◌, true, IfOk};
 ghost use Rattle.branch_table.specs.TableStates.{is_row, are_rows};
 
 use crate::records;

@@ -1,6 +1,6 @@
 //! The cluster of a script.
 
-ghost use Rattle.std.specs.Prelude.{◌≡◌, ℕ, ◌≤◌, IfOk, IfErr, MatchResult, true};
+ghost use Rattle.std.specs.Prelude.{◌≡◌, ◌≤◌, IfOk, IfErr, MatchResult, true};
 ghost use Rattle.std.specs.List.{All};
 ghost use Rattle.xid.specs.declared.refusals.Refusal.TheVariants.{NoMemory, BadConfig};
 ghost use Rattle.protocol.specs.Effects.{Config as ConfigParts};

@@ -1,6 +1,6 @@
 //! What becomes of a cluster with floors is what events of the machine make, of which some lose a datagram and some aren't there. So what
 //! holds of every world of the machine holds of it.
-ghost use Rattle.std.specs.Prelude.{◌≡◌, ◌≢◌, ℕ, true, false, None, [], ◌∷◌, if◌then◌else◌, IsTrue};
+ghost use Rattle.std.specs.Prelude.{◌≡◌, ◌≢◌, ℕ, true, None, [], ◌∷◌, IsTrue};
 ghost use Rattle.xid.specs.Transactions.{TxParts, is_participant};
 ghost use Rattle.protocol.specs.declared.requests.Request.{Request};
 ghost use Rattle.protocol.specs.declared.states.View.TheVariants as views;

@@ -2,7 +2,7 @@ ghost use Rattle.std.specs.Prelude.{◌≡◌, ◌<◌, ◌≤◌, ◌==◌, [],
 ghost use Rattle.std.specs.List.{list_any};
 ghost use Rattle.xid.specs.Limits.{most_acceptors};
 ghost use Rattle.ballot.specs.Majority.{has};
-ghost use Rattle.leader.specs.Choices.{both, merged, vote_of};
+ghost use Rattle.leader.specs.Choices.{both, merged};
 ghost use Rattle.leader.specs.Courses.{fresh_instance, with_said, with_reports, instance_proposal, with_proposals, with_decided};
 ghost use Rattle.leader.specs.Courses.{first_report as first_report_of};
 ghost use Rattle.leader.specs.Courses.{with_nothing_reported, is_place_of, first_told, with_teller, completes};

@@ -1,4 +1,4 @@
-ghost use Rattle.std.specs.Prelude.{◌≡◌, ◌<◌, [], true, length, slice_index_or};
+ghost use Rattle.std.specs.Prelude.{◌≡◌, ◌<◌, [], length, slice_index_or};
 ghost use Rattle.xid.specs.Transactions.{IsTx};
 ghost use Rattle.wire.specs.Messages.{IsMessage, IsBallot, IsLeaderBallot};
 ghost use Rattle.protocol.specs.Effects.{to as to_of};

@@ -1,6 +1,6 @@
 //! How many bytes a record has, while a node holds it.
 
-ghost use Rattle.std.specs.Prelude.{◌≤◌, length};
+ghost use Rattle.std.specs.Prelude.{length};
 ghost use Rattle.stable_record.specs.Records.{mem_held};
 
 use stable_record::{MemRecord, Record, RecordError};

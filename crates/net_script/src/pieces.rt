@@ -3,7 +3,7 @@
 ghost use Rattle.std.specs.Prelude.{◌≡◌, ◌++◌, ◌∷◌, IfErr, OnOk, decimal, OnErr};
 ghost use Rattle.xid.specs.Text.{Extends};
 ghost use Rattle.net_script.specs.Basics.{NoMemory, R, tx_text, xid_text};
-ghost use Rattle.net_script.specs.Lines.{bytes_text, node_text, floor_text, row_text};
+ghost use Rattle.net_script.specs.Lines.{bytes_text, node_text, floor_text};
 ghost use Rattle.net_script.specs.Items.{rows_words};
 ghost use Rattle.net_script.specs.Traces.{spaced_words};
 ghost use Rattle.net_script.specs.Writing.{Puts};

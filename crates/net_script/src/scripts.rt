@@ -1,9 +1,9 @@
 //! Whole scripts, line by line.
 
-ghost use Rattle.std.specs.Prelude.{◌≡◌, not, ◌==◌, ℕ, [], ◌∷◌, ◌++◌, ◌≤◌, List, length, IfOk, IfErr, MatchResult, MatchOption, Some};
+ghost use Rattle.std.specs.Prelude.{◌≡◌, not, ◌==◌, ℕ, ◌≤◌, List, length, IfOk, IfErr, MatchOption, Some};
 ghost use Rattle.std.specs.List.{list_all};
 ghost use Rattle.std.specs.Option.{ForSome};
-ghost use Rattle.net_script.specs.Basics.{NoMemory, Script};
+ghost use Rattle.net_script.specs.Basics.{Script};
 ghost use Rattle.net_script.specs.declared.items.Item.TheVariants.{Contents};
 ghost use Rattle.net_script.specs.Lines.{lines, words, is_plain};
 ghost use Rattle.net_script.specs.Scripts.{is_note, lines_kept, items_so_far, IsLineOf, IsScript, AddsItem, ReadsLine};

@@ -1,4 +1,4 @@
-ghost use Rattle.std.specs.Prelude.{◌≡◌, IfOk, IfErr, true, false, length};
+ghost use Rattle.std.specs.Prelude.{◌≡◌, IfOk, IfErr, true, false};
 ghost use Rattle.std.specs.List.{list_all};
 ghost use Rattle.xid.specs.declared.refusals.Refusal.TheVariants.{BadConfig};
 ghost use Rattle.node_core.specs.Configs.{are_sizes as are_sizes_of, is_config, is_among, config_of, bundled_config};

@@ -1,12 +1,11 @@
 //! How a node reads its record: the rows of its table, if it was made shorter, then entry by entry, each played as it is read; then the
 //! tail is cut, and frames of version 1 are written anew.
 
-ghost use Rattle.std.specs.Prelude.{◌≡◌, ◌≤◌, true, List, [], length, take, IfOk, IfErr, MatchOption};
+ghost use Rattle.std.specs.Prelude.{◌≡◌, ◌≤◌, true, [], length, take, IfOk, IfErr, MatchOption};
 ghost use Rattle.stable_record.specs.Held.{HasPut};
 ghost use Rattle.xid.specs.declared.refusals.Refusal.TheVariants.{NoMemory};
 ghost use Rattle.protocol.specs.Effects.{Config};
 ghost use Rattle.protocol.specs.Nodes.{NodeState, empty_memory};
-ghost use Rattle.protocol.specs.declared.nodes.NodeId.{NodeId as Id};
 ghost use Rattle.branch_table.specs.TableStates.{are_rows};
 ghost use Rattle.node_core.specs.Roles.{RoleStands};
 ghost use Rattle.node_core.specs.Nodes.{AreSizes, HasRows, IsAmong, IsSized, Stands};

@@ -5,7 +5,6 @@ ghost use Rattle.protocol.specs.declared.nodes.NodeId.{NodeId as Id};
 ghost use Rattle.protocol.specs.declared.rows.Row.{Row};
 ghost use Rattle.protocol.specs.Effects.{Config};
 ghost use Rattle.protocol.specs.Nodes.{NodeState};
-ghost use Rattle.stable_record.specs.Behind.{BehindParts};
 ghost use Rattle.node_core.specs.Nodes.{Stands};
 ghost use Rattle.node_core.specs.Raising.{Forgets, Raises};
 

@@ -1,6 +1,6 @@
 //! How a node stores what was decided: ready for the fact first, then appended, then played. Nothing is sent that wasn't stored before.
 
-ghost use Rattle.std.specs.Prelude.{◌≡◌, IfOk, OnOk, List, None, Some, true};
+ghost use Rattle.std.specs.Prelude.{◌≡◌, List, None, Some, true};
 ghost use Rattle.stable_record.specs.declared.fact.FactKind.{FactKind};
 ghost use Rattle.stable_record.specs.Facts.{IsFact};
 ghost use Rattle.protocol.specs.Effects.{Config, Effect};

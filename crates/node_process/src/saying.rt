@@ -1,10 +1,10 @@
 //! What a wish is answered that is no input of the node.
 
-ghost use Rattle.std.specs.Prelude.{◌≡◌, ◌++◌, ◌∷◌, [], IfOk, OnOk};
+ghost use Rattle.std.specs.Prelude.{◌≡◌, ◌++◌, IfOk, OnOk};
 ghost use Rattle.protocol.specs.declared.answers.Answer.TheVariants.{Refused as RefusedAnswer};
 ghost use Rattle.serving.specs.Groups.{reply_line};
 ghost use Rattle.node_process.specs.Asking.{Asks};
-ghost use Rattle.node_process.specs.Saying.{SaysAhead, SaysAll, SaysFor, SaysOne, SaysRaised, SaysTable, Stay, listed, table_line};
+ghost use Rattle.node_process.specs.Saying.{SaysAll, SaysFor, SaysOne, SaysRaised, SaysTable, listed, table_line};
 
 use crate::desk::Desk;
 use crate::gauges::Gauges;

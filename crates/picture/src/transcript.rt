@@ -1,6 +1,6 @@
 //! The lines of the trace, beside the lanes.
 
-ghost use Rattle.std.specs.Prelude.{◌≡◌, ◌++◌, [], min, ◌==◌, count_by, IfOk, IfErr, OnOk};
+ghost use Rattle.std.specs.Prelude.{◌≡◌, ◌++◌, ◌==◌, IfOk, IfErr, OnOk};
 ghost use Rattle.xid.specs.declared.refusals.Refusal.TheVariants.{NoMemory};
 ghost use Rattle.net_script.specs.Lines.{lines};
 ghost use Rattle.picture.specs.Pictures.{line_count};

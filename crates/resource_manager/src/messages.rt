@@ -1,6 +1,6 @@
 //! What a resource manager decides on each message, over the bytes of its transaction.
 
-ghost use Rattle.std.specs.Prelude.{◌≡◌, IsTrue, IfOk, IfErr, List, [], ◌∷◌, Some, None, false};
+ghost use Rattle.std.specs.Prelude.{◌≡◌, IsTrue, IfOk, IfErr, List, [], Some, None, false};
 ghost use Rattle.xid.specs.Transactions.{is_participant, xid_at};
 ghost use Rattle.xid.specs.declared.refusals.Refusal.TheVariants.{NoMemory};
 ghost use Rattle.xid.specs.declared.transaction.Vote.TheVariants.{Aborted, Prepared};

@@ -1,6 +1,6 @@
 //! How a resource manager makes itself ready for a fact, and plays it.
 
-ghost use Rattle.std.specs.Prelude.{◌≡◌, ℕ, IfOk, IfErr, OnOk, OnErr, List, None, true, false};
+ghost use Rattle.std.specs.Prelude.{◌≡◌, ℕ, IfOk, IfErr, OnOk, OnErr, List, None, false};
 ghost use Rattle.xid.specs.declared.refusals.Refusal.TheVariants.{NoMemory};
 ghost use Rattle.stable_record.specs.declared.fact.FactKind.TheVariants as facts;
 ghost use Rattle.stable_record.specs.Facts.{AreKeys};

@@ -1,6 +1,6 @@
 //! The parts of the invariant, one by one: what stands in every world that events come to. An item stands where its fact is in the
 //! record of its node, or where its message was ever sent.
-ghost use Rattle.std.specs.Prelude.{◌≡◌, ℕ, ◌<◌, ◌≤◌, Option, Some, IsTrue};
+ghost use Rattle.std.specs.Prelude.{◌≡◌, ℕ, ◌<◌, ◌≤◌, Some, IsTrue};
 ghost use Rattle.xid.specs.Transactions.{TxParts, is_participant};
 ghost use Rattle.xid.specs.declared.transaction.Vote.{Vote};
 ghost use Rattle.xid.specs.declared.transaction.Vote.TheVariants as votes;

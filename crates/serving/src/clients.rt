@@ -1,6 +1,6 @@
 //! The clients of a node, and what each is told.
 
-ghost use Rattle.std.specs.Prelude.{◌≡◌, ◌≤◌, ◌+◌, ◌++◌, ◌∷◌, [], length, drop, slice_get, false, IfOk, OnOk, OnErr};
+ghost use Rattle.std.specs.Prelude.{◌≡◌, ◌≤◌, ◌+◌, ◌++◌, ◌∷◌, [], false, IfOk, OnOk, OnErr};
 ghost use Rattle.std.specs.Option.{option_copied};
 ghost use Rattle.serving.specs.Taking.{HearsAll, HearsRange};
 ghost use Rattle.serving.specs.Groups.{after_one, answer_text, answers_to, AreTold, AreToldSome};

@@ -1,4 +1,4 @@
-ghost use Rattle.std.specs.Prelude.{◌≡◌, ◌≤◌, ℕ, List, Option, Result, IfOk, IfErr, IfSome, OnOk, length, take};
+ghost use Rattle.std.specs.Prelude.{◌≡◌, ◌≤◌, ℕ, List, Option, Result, IfOk, IfErr, IfSome, OnOk, take};
 ghost use Rattle.xid.specs.declared.refusals.Refusal.{Refusal as CarrierRefusal};
 ghost use Rattle.xid.specs.declared.refusals.Refusal.TheVariants.{PortFault};
 ghost use Rattle.stable_record.specs.Held.{IsCounted};

@@ -1,4 +1,4 @@
-ghost use Rattle.std.specs.Prelude.{◌≡◌, ◌≢◌, ◌≤◌, ◌<◌, ◌+◌, ◌++◌, ◌↔◌, IsTrue, ℕ, List, length, MatchOption, IfSome, IfNone};
+ghost use Rattle.std.specs.Prelude.{◌≡◌, ◌≢◌, ◌≤◌, ◌<◌, ◌+◌, ◌↔◌, IsTrue, ℕ, List, length, MatchOption, IfSome, IfNone};
 ghost use Rattle.wire.specs.declared.grammar.TheConstants.{MAX_DATAGRAM};
 ghost use Rattle.protocol.specs.declared.nodes.NodeId.{NodeId as Coded};
 ghost use Rattle.signed_port.specs.Signing.{node_code, tag_of, signed, IsSigned, AreParts};

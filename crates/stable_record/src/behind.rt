@@ -1,10 +1,10 @@
 //! A record behind a floor's frame.
 
-ghost use Rattle.std.specs.Prelude.{◌≡◌, ◌≤◌, ◌++◌, true, Some, List, length, take, drop, is_some, IfOk, IfErr, OnOk};
+ghost use Rattle.std.specs.Prelude.{◌≡◌, ◌≤◌, ◌++◌, true, Some, length, drop, IfOk, IfErr, OnOk};
 ghost use Rattle.xid.specs.Names.{IsBytes};
 ghost use Rattle.xid.specs.Places.{IsPlace};
 ghost use Rattle.stable_record.specs.declared.record.RecordError.TheVariants.{Memory};
-ghost use Rattle.stable_record.specs.Held.{Held, HasRead, HasAdded, HasPut, armed_with};
+ghost use Rattle.stable_record.specs.Held.{HasRead};
 ghost use Rattle.stable_record.specs.Floors.{floor_frame, floor_of, front_of};
 ghost use Rattle.stable_record.specs.Behind.{BeginsWith, HasLearned, HasRisen, IsFloor, IsTakenUp, behind};
 

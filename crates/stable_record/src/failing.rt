@@ -1,5 +1,5 @@
-ghost use Rattle.std.specs.Prelude.{◌≡◌, ◌≤◌, ℕ, ◌+◌, ◌-◌, ◌==◌, min, false, length, take, is_some, Some, IfOk};
-ghost use Rattle.stable_record.specs.Held.{Held, HasAdded, HasPut, HasRead, IsCounted, armed_with, most_faults};
+ghost use Rattle.std.specs.Prelude.{◌≡◌, ◌≤◌, ◌+◌, ◌-◌, ◌==◌, min, false, length, take, is_some, Some, IfOk};
+ghost use Rattle.stable_record.specs.Held.{HasAdded, HasPut, HasRead, IsCounted, armed_with, most_faults};
 ghost use Rattle.stable_record.specs.declared.record.RecordError.TheVariants.{Fault};
 ghost use Rattle.stable_record.specs.Records.{FailsInTurn, fail_held, is_made};
 

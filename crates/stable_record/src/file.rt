@@ -1,5 +1,5 @@
-ghost use Rattle.std.specs.Prelude.{◌≡◌, ◌≤◌, ◌<◌, ℕ, List, length, IfOk};
-ghost use Rattle.stable_record.specs.Held.{Held, IsCounted};
+ghost use Rattle.std.specs.Prelude.{◌≡◌, ◌≤◌, ◌<◌, length, IfOk};
+ghost use Rattle.stable_record.specs.Held.{IsCounted};
 ghost use Rattle.stable_record.specs.Records.{file_held, just_opened};
 ghost use Rattle.stable_record.specs.declared.record.RecordError.TheVariants.{Fault};
 

@@ -1,6 +1,6 @@
 //! The frame of a floor, which a record begins with where its node has one.
 
-ghost use Rattle.std.specs.Prelude.{◌≡◌, ℕ, ◌++◌, ◌≤◌, length, OnOk, MatchOption};
+ghost use Rattle.std.specs.Prelude.{◌≡◌, ◌++◌, ◌≤◌, length, OnOk};
 ghost use Rattle.xid.specs.Places.{IsPlace};
 ghost use Rattle.wire.specs.Reading.{taken};
 ghost use Rattle.wire.specs.Names.{place_spelling};

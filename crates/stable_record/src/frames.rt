@@ -1,6 +1,6 @@
-ghost use Rattle.std.specs.Prelude.{◌≡◌, ◌⊎◌, ℕ, ◌≤◌, List, length, drop, IfOk, IfErr, IfSome, MatchOption};
+ghost use Rattle.std.specs.Prelude.{◌≡◌, ◌⊎◌, ◌≤◌, length, drop, IfOk, IfErr, IfSome, MatchOption};
 ghost use Rattle.xid.specs.declared.refusals.Refusal.TheVariants.{Damaged, NoMemory};
-ghost use Rattle.stable_record.specs.Grammar.{most_body, IsTail, IsFramed, IsStored, IsDamaged, HasNoFrame};
+ghost use Rattle.stable_record.specs.Grammar.{IsTail, IsFramed, IsStored, IsDamaged, HasNoFrame};
 ghost use Rattle.stable_record.specs.Views.{HasBody, entry_seen};
 
 use crate::entry::Entry;

@@ -1,6 +1,6 @@
 //! What a stopped append leaves, and what bytes hold. Each of these functions is there for its laws, which the check proves; calling
 //! it does nothing.
-ghost use Rattle.std.specs.Prelude.{◌≡◌, ◌⊎◌, ℕ, ◌-◌, ◌<◌, ◌≤◌, [], ◌∷◌, ◌++◌, length, take, List, Some};
+ghost use Rattle.std.specs.Prelude.{◌≡◌, ℕ, ◌-◌, ◌<◌, ◌≤◌, [], ◌∷◌, ◌++◌, length, take, List, Some};
 ghost use Rattle.wire.specs.Versions.{version_2, version_of};
 ghost use Rattle.wire.specs.declared.grammar.VersionNumber.{VersionNumber};
 ghost use Rattle.stable_record.specs.declared.fact.FactKind.{FactKind};

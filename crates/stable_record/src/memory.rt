@@ -1,5 +1,4 @@
-ghost use Rattle.std.specs.Prelude.{◌≡◌, ◌≤◌, ◌⊎◌, ℕ, List, length, is_some, Some, None, false};
-ghost use Rattle.stable_record.specs.Held.{Held};
+ghost use Rattle.std.specs.Prelude.{◌≡◌, is_some, Some, None};
 
 use crate::record::{Record, RecordError, Tear};
 use std::alloc::Global;

@@ -1,4 +1,4 @@
-ghost use Rattle.std.specs.Prelude.{◌≡◌, ◌⊎◌, ℕ, ◌+◌, List, [], ◌++◌, length};
+ghost use Rattle.std.specs.Prelude.{◌≡◌, []};
 ghost use Rattle.xid.specs.Transactions.{TxParts};
 ghost use Rattle.wire.specs.Versions.{version_of, version_2};
 ghost use Rattle.wire.specs.Reading.{taken, list_at, instance_at};

@@ -1,4 +1,4 @@
-ghost use Rattle.std.specs.Prelude.{◌≡◌, ◌≤◌, ◌++◌, ℕ, length, take, Some, is_some, IfOk};
+ghost use Rattle.std.specs.Prelude.{◌≡◌, ◌≤◌, length, take, Some, is_some, IfOk};
 ghost use Rattle.stable_record.specs.declared.record.RecordError.TheVariants.{Memory};
 ghost use Rattle.stable_record.specs.Held.{Held, refusal_of, HasRead, HasAdded, HasPut, armed_with};
 

@@ -1,13 +1,12 @@
 ghost use Rattle.std.specs.Prelude.{◌≡◌, ◌≤◌, [], ◌∷◌, ◌++◌, length, OnOk, IfErr};
-ghost use Rattle.std.specs.List.{flat_map};
 ghost use Rattle.xid.specs.declared.refusals.Refusal.TheVariants.{NoMemory};
 ghost use Rattle.wire.specs.Versions.{version_2};
 ghost use Rattle.wire.specs.Grammar.{number_spelling, rm_spelling, component_spelling, tx_spelling, vote_byte};
 ghost use Rattle.stable_record.specs.declared.entry.EntryKind.{EntryKind};
-ghost use Rattle.stable_record.specs.Facts.{IsFact, IsTouched, AreKeys, IsAct, IsKey, IsValue, fact_tx};
+ghost use Rattle.stable_record.specs.Facts.{IsFact, IsTouched, AreKeys, IsAct, IsKey, IsValue};
 ghost use Rattle.stable_record.specs.Entries.{IsEntry};
 ghost use Rattle.stable_record.specs.Grammar.{most_body, value_spelling, act_spelling, touched_spelling, keys_spelling, fact_byte};
-ghost use Rattle.stable_record.specs.Grammar.{rest_spelling, entry_byte, fields_spelling, body_spelling, frame};
+ghost use Rattle.stable_record.specs.Grammar.{rest_spelling, body_spelling, frame};
 
 use crate::entry::{Entry, EntryKind};
 use crate::fact::{Act, Fact, FactKind, Touched};

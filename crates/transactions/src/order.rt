@@ -1,4 +1,4 @@
-ghost use Rattle.std.specs.Prelude.{◌≡◌, ◌==◌, ◌<◌, [], IfOk, IfErr, OnOk, OnErr, length, slice_get, nat_eq, false};
+ghost use Rattle.std.specs.Prelude.{◌≡◌, ◌==◌, ◌<◌, [], IfErr, OnOk, OnErr, length, slice_get, nat_eq, false};
 ghost use Rattle.std.specs.List.{IsDistinct, list_any};
 ghost use Rattle.xid.specs.declared.refusals.Refusal.TheVariants.{NoMemory};
 ghost use Rattle.transactions.specs.Seen.{numbered_with};

@@ -1,8 +1,6 @@
-ghost use Rattle.std.specs.Prelude.{◌≡◌, ℕ, ◌+◌, ◌≤◌, ◌<◌, IfSome, Some, IsTrue, is_some, length, slice_index, MatchOption, nat_lt};
-ghost use Rattle.std.specs.List.{find, list_all, position_or_len};
-ghost use Rattle.std.specs.Option.{option_map};
+ghost use Rattle.std.specs.Prelude.{◌≡◌, ℕ, ◌+◌, ◌≤◌, ◌<◌, Some, IsTrue, is_some, length, slice_index, MatchOption, nat_lt};
+ghost use Rattle.std.specs.List.{list_all, position_or_len};
 ghost use Rattle.xid.specs.Limits.{most_managers};
-ghost use Rattle.xid.specs.Names.{IsComponent};
 ghost use Rattle.xid.specs.Places.{is_below};
 ghost use Rattle.xid.specs.Transactions.{IsTx, nth_branch, participants, is_at, is_participant, xid_at};
 ghost use Rattle.wire.specs.Decoding.{tx_in};

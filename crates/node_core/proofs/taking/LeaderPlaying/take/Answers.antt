@@ -1,4 +1,4 @@
-use Rattle.std.proofs.Common.{◌≡◌, ◌∙◌, ◌<◌, ℕ, sym, ap}
+use Rattle.std.proofs.Common.{◌∙◌, sym, ap}
 use Rattle.stable_record.specs.declared.fact.FactKind.TheVariants.{Ballot}
 use Rattle.stable_record.specs.Facts.{fact_tx}
 use Rattle.stable_record.specs.Rests.{fact_of}
