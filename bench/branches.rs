@@ -14,8 +14,8 @@ use anyhow::bail;
 use branch_table::Ending;
 use common::tx_of;
 use frames::count;
-use protocol::Answer;
-use resource_manager::{ManagerDecision, ResourceManager};
+use protocol::{Answer, MessageDecision};
+use resource_manager::ResourceManager;
 use stable_record::{EntryView, FactView, view_frame};
 use std::alloc::Global;
 use std::env;
@@ -155,7 +155,7 @@ fn play_ready(manager: &mut ResourceManager, fact: &FactView<'_>) -> Result<(), 
 }
 
 /// The fact of a decision is made ready for and played. Answers how many there were.
-fn store(manager: &mut ResourceManager, decision: &ManagerDecision<'_>) -> Result<u64, Refusal> {
+fn store(manager: &mut ResourceManager, decision: &MessageDecision<'_>) -> Result<u64, Refusal> {
     match &decision.fact {
         Some(fact) => {
             play_ready(manager, fact)?;
@@ -276,7 +276,7 @@ fn commits(rt: &HostRuntime, rows: u32, batches: u32, count: usize) -> anyhow::R
 /// Adds the frame of a decision's fact, and plays it.
 fn record(
     manager: &mut ResourceManager,
-    decision: &ManagerDecision<'_>,
+    decision: &MessageDecision<'_>,
     bytes: &mut Vec<u8>,
 ) -> Result<(), Refusal> {
     let Some(fact) = &decision.fact else {

@@ -2,4 +2,3 @@ pub mod Slots
 pub mod SlotTables
 pub mod Acceptors
 pub mod Compaction
-pub mod Decisions

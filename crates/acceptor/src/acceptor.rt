@@ -8,19 +8,19 @@ ghost use Rattle.wire.specs.declared.message.Kind.TheVariants.{P1a, P2a, B1a};
 ghost use Rattle.stable_record.specs.declared.fact.FactKind.{FactKind};
 ghost use Rattle.stable_record.specs.Facts.{fact_tx};
 ghost use Rattle.protocol.specs.Acceptors.{on_1a, on_b1a, on_2a, on_acceptor_message};
+ghost use Rattle.protocol.specs.Decisions.{shown};
 ghost use Rattle.protocol.specs.Effects.{Config};
 ghost use Rattle.protocol.specs.Kept.{kept_facts};
 ghost use Rattle.stable_record.specs.Parts.{IsMadeReady, IsPlayed};
 ghost use Rattle.acceptor.specs.Acceptors.{acceptor_part, StandsFor, Decides};
-ghost use Rattle.acceptor.specs.Decisions.{shown};
 ghost use Rattle.acceptor.specs.Compaction.{AreShorterFrames};
 
 use crate::bundles::Accepted;
-use crate::decision::AcceptorDecision;
 use crate::rules::{Seat, on_1a, on_2a, on_b1a};
 use crate::slots::plays;
 use crate::table::{Table, begin};
 use hashing::HashKey;
+use protocol::MessageDecision;
 use stable_record::FactView;
 use std::alloc::Global;
 use std::marker::Model;
@@ -98,7 +98,7 @@ impl Acceptor {
         tx: &SpelledTx<'a>,
         instance: ManagerNumber,
         ballot: Ballot,
-    ) -> AcceptorDecision<'a>
+    ) -> MessageDecision<'a>
         requires { IsMessage (P1a tx.now instance ballot) }
         ensures { Decides self.now (shown result) (λ config a slots. on_1a config a slots tx.now instance ballot) }
     {
@@ -107,7 +107,7 @@ impl Acceptor {
 
     /// Phase 1a of all instances: where some stands below the ballot, one promise for all of these is to be stored, and they are
     /// reported to the ballot's owner. Else nothing. It takes no memory.
-    pub fn on_b1a<'a>(&self, tx: &SpelledTx<'a>, ballot: Ballot) -> AcceptorDecision<'a>
+    pub fn on_b1a<'a>(&self, tx: &SpelledTx<'a>, ballot: Ballot) -> MessageDecision<'a>
         requires { IsMessage (B1a tx.now ballot) }
         ensures { Decides self.now (shown result) (λ config a slots. on_b1a config a slots tx.now ballot) }
     {
@@ -123,7 +123,7 @@ impl Acceptor {
         instance: ManagerNumber,
         ballot: Ballot,
         vote: Vote,
-    ) -> AcceptorDecision<'a>
+    ) -> MessageDecision<'a>
         requires { IsMessage (P2a tx.now instance ballot vote) }
         ensures { Decides self.now (shown result) (λ config a slots. on_2a config a slots tx.now instance ballot vote) }
     {
@@ -137,7 +137,7 @@ impl Acceptor {
 
     /// What it does on a message: on phases 1a and 2a what `on_1a`, `on_b1a` and `on_2a` say, on every other nothing. That the message
     /// is of this kind of cluster and names none but nodes of it is asked before, by the node.
-    pub fn on_message<'a>(&self, message: &MessageView<'a>) -> AcceptorDecision<'a>
+    pub fn on_message<'a>(&self, message: &MessageView<'a>) -> MessageDecision<'a>
         ensures { Decides self.now (shown result) (λ config a slots. on_acceptor_message config a slots message.now) }
     {
         match message.rest() {
@@ -148,7 +148,7 @@ impl Acceptor {
                 ballot,
                 vote,
             } => self.on_2a(message.tx(), instance, ballot, vote),
-            _ => AcceptorDecision::nothing(),
+            _ => MessageDecision::nothing(),
         }
     }
 

@@ -5,11 +5,9 @@
 mod acceptor;
 mod bundles;
 mod compaction;
-mod decision;
 mod rules;
 mod shorter;
 mod slots;
 mod table;
 
 pub use acceptor::Acceptor;
-pub use decision::{AcceptorDecision, SentReply};

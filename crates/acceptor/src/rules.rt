@@ -6,16 +6,15 @@ ghost use Rattle.protocol.specs.Acceptors.{on_1a as on_1a_of, on_b1a as on_b1a_o
 ghost use Rattle.protocol.specs.Acceptors.{accept_messages as accept_messages_of, is_accepted as is_accepted_in};
 ghost use Rattle.stable_record.specs.declared.fact.FactKind.TheVariants.{Accept};
 ghost use Rattle.protocol.specs.declared.decisions.Address.TheVariants.{Leaders};
+ghost use Rattle.protocol.specs.Decisions.{sent_reply, shown};
 ghost use Rattle.protocol.specs.Effects.{Config, decision_of, to};
 ghost use Rattle.wire.specs.Said.{replied};
-ghost use Rattle.acceptor.specs.Decisions.{sent_reply, shown};
 ghost use Rattle.acceptor.specs.Slots.{slots_of};
 
 use crate::bundles::{Accepted, accepts_after, have_all_values, reports_below};
-use crate::decision::{AcceptorDecision, SentReply};
 use crate::slots::{KeptSlot, is_accepted, slot_of};
 use ballot::{Slot, owner};
-use protocol::{Address, NodeId};
+use protocol::{Address, MessageDecision, NodeId, SentReply};
 use stable_record::{FactRest, FactView};
 use wire::{Reply, ReplyRest, SpelledTx};
 use xid::{Ballot, ManagerNumber, Vote};
@@ -38,7 +37,7 @@ pub fn on_1a<'a>(
     slots: &[KeptSlot],
     instance: ManagerNumber,
     ballot: Ballot,
-) -> AcceptorDecision<'a>
+) -> MessageDecision<'a>
     requires message { IsMessage (P1a tx.now instance ballot) }
     requires number { seat.number < most_acceptors }
     requires leaders { 0 < seat.leaders }
@@ -47,7 +46,7 @@ pub fn on_1a<'a>(
 {
     let slot = slot_of(tx, slots, instance);
     if ballot <= slot.mbal {
-        return AcceptorDecision::nothing();
+        return MessageDecision::nothing();
     }
     let promise = FactRest::Promise { instance, ballot };
     let report = ReplyRest::P1b {
@@ -56,7 +55,7 @@ pub fn on_1a<'a>(
         report: slot.report,
         acceptor: seat.number,
     };
-    AcceptorDecision {
+    MessageDecision {
         fact: Some(FactView::new(tx.again(), promise)),
         reply: Some(SentReply {
             to: Address::Node(NodeId::L(owner(ballot, seat.leaders))),
@@ -71,7 +70,7 @@ pub fn on_b1a<'a>(
     tx: &SpelledTx<'a>,
     slots: &[KeptSlot],
     ballot: Ballot,
-) -> AcceptorDecision<'a>
+) -> MessageDecision<'a>
     requires message { IsMessage (B1a tx.now ballot) }
     requires number { seat.number < most_acceptors }
     requires leaders { 0 < seat.leaders }
@@ -79,14 +78,14 @@ pub fn on_b1a<'a>(
         → shown result ≡ decision_of (on_b1a_of config seat.number (slots_of tx.now slots.now) tx.now ballot) }
 {
     let Some(reports) = reports_below(tx, slots, ballot) else {
-        return AcceptorDecision::nothing();
+        return MessageDecision::nothing();
     };
     let report = ReplyRest::B1b {
         ballot,
         acceptor: seat.number,
         reports,
     };
-    AcceptorDecision {
+    MessageDecision {
         fact: Some(FactView::new(tx.again(), FactRest::PromiseAll { ballot })),
         reply: Some(SentReply {
             to: Address::Node(NodeId::L(owner(ballot, seat.leaders))),
@@ -185,7 +184,7 @@ pub fn on_2a<'a>(
     tx: &SpelledTx<'a>,
     slots: &[KeptSlot],
     accepted: Accepted,
-) -> AcceptorDecision<'a>
+) -> MessageDecision<'a>
     requires message { IsMessage (P2a tx.now accepted.instance accepted.ballot accepted.vote) }
     requires number { seat.number < most_acceptors }
     ensures { (config : Config) → seat.bundled ≡ config.bundled
@@ -194,9 +193,9 @@ pub fn on_2a<'a>(
 {
     let slot = slot_of(tx, slots, accepted.instance);
     if accepted.ballot < slot.mbal {
-        return AcceptorDecision::nothing();
+        return MessageDecision::nothing();
     }
-    AcceptorDecision {
+    MessageDecision {
         fact: accept_fact(tx, &slot, accepted),
         reply: accept_messages(seat, tx, slots, accepted),
     }

@@ -2,7 +2,7 @@
 
 use crate::ways::Alone;
 use crate::{codec, records};
-use acceptor::{Acceptor, SentReply};
+use acceptor::Acceptor;
 use case_lines::{Page, Part, Stop, run_calls, wanted, words};
 use protocol::Answer;
 use std::alloc::Global;
@@ -21,16 +21,6 @@ pub fn run(alloc: Global, rest: &[u8], calls: &[String], page: &mut Page) -> Res
     run_calls(&mut Alone(acceptor), alloc, calls, page)
 }
 
-/// What is sent, as it is spelled.
-fn say_reply(reply: &Option<SentReply<'_>>, page: &mut Page) -> Result<(), Stop> {
-    let Some(reply) = reply else {
-        return Ok(());
-    };
-    let mut bytes = [0; MAX_DATAGRAM];
-    let len = reply.message.encode(&mut bytes);
-    page.sent(&codec::outgoing(reply.to, &bytes[..len])?)
-}
-
 /// A message comes: a fact is decided on, made ready for and played, and then the messages go.
 fn hear(acceptor: &mut Acceptor, alloc: Global, words: &[u8], page: &mut Page) -> Result<(), Stop> {
     let mut bytes = [0; MAX_DATAGRAM];
@@ -47,7 +37,7 @@ fn hear(acceptor: &mut Acceptor, alloc: Global, words: &[u8], page: &mut Page) -
     if let Some(fact) = &decision.fact {
         page.fact(fact)?;
     }
-    say_reply(&decision.reply, page)
+    codec::say_reply(&decision.reply, page)
 }
 
 impl Part for Alone<Acceptor> {

@@ -3,9 +3,9 @@
 use crate::seen;
 use crate::ways::{ByValue, OverBytes, run_both};
 use case_lines::{Page, Part, Stop, words};
-use protocol::{Address, Outgoing};
+use protocol::{Address, Outgoing, SentReply};
 use std::alloc::Global;
-use wire::{MAX_DATAGRAM, decode, view_of};
+use wire::{MAX_DATAGRAM, decode, encode, view_of};
 
 /// The codec, each call by itself.
 #[derive(Drop)]
@@ -22,6 +22,16 @@ pub fn outgoing(to: Address, bytes: &[u8]) -> Result<Outgoing, Stop> {
         Ok(message) => Ok(Outgoing { to, message }),
         Err(_) => Err(Stop::Unread),
     }
+}
+
+/// What is sent on a message, as it is spelled.
+pub fn say_reply(reply: &Option<SentReply<'_>>, page: &mut Page) -> Result<(), Stop> {
+    let Some(reply) = reply else {
+        return Ok(());
+    };
+    let mut bytes = [0; MAX_DATAGRAM];
+    let len = reply.message.encode(&mut bytes);
+    page.sent(&outgoing(reply.to, &bytes[..len])?)
 }
 
 impl Part for ByValue<Codec> {
@@ -49,7 +59,7 @@ fn say_again(bytes: &[u8], page: &mut Page) -> Result<(), Stop> {
         return Err(Stop::Unread);
     };
     let mut again = [0; MAX_DATAGRAM];
-    let len = message.encode(&mut again);
+    let len = encode(&message.to_message(), &mut again);
     page.hex(&again[..len])
 }
 

@@ -4,7 +4,7 @@ use crate::ways::Alone;
 use crate::{codec, records, tables};
 use case_lines::{Page, Part, Stop, run_calls, wanted, words};
 use protocol::{Answer, View};
-use resource_manager::{ResourceManager, SentMessage};
+use resource_manager::ResourceManager;
 use std::alloc::Global;
 use wire::{MAX_DATAGRAM, MAX_TX_BYTES, view_of};
 use xid::Xid;
@@ -42,16 +42,6 @@ fn client_call(
     }
 }
 
-/// What is sent, as it is spelled.
-fn say_sent(sent: &Option<SentMessage<'_>>, page: &mut Page) -> Result<(), Stop> {
-    let Some(sent) = sent else {
-        return Ok(());
-    };
-    let mut bytes = [0; MAX_DATAGRAM];
-    let len = sent.message.encode(&mut bytes);
-    page.sent(&codec::outgoing(sent.to, &bytes[..len])?)
-}
-
 /// A message comes: a fact is decided on, made ready for and played, and then the messages go.
 fn hear(
     manager: &mut ResourceManager,
@@ -76,7 +66,7 @@ fn hear(
     if let Some(fact) = &decision.fact {
         page.fact(fact)?;
     }
-    say_sent(&decision.sent, page)
+    codec::say_reply(&decision.reply, page)
 }
 
 /// What a timeout sends again.

@@ -32,7 +32,7 @@ pub(crate) fn manage<R: Record>(
 {
     match manager.on_message(message) {
         Ok(decision) => {
-            out.put_sent(&decision.sent);
+            out.put_reply(&decision.reply);
             carry_out(frame, device, who, manager, &decision.fact, out)
         }
         Err(refusal) => {

@@ -1,16 +1,14 @@
 ghost use Rattle.std.specs.Prelude.{◌≡◌, None, Some};
 ghost use Rattle.protocol.specs.declared.answers.Answer.TheVariants.{Done, Refused};
-ghost use Rattle.acceptor.specs.Decisions.{sent_reply};
-ghost use Rattle.resource_manager.specs.Decisions.{sent_message};
+ghost use Rattle.protocol.specs.Decisions.{sent_reply};
 ghost use Rattle.node_core.specs.Roles.{decided, from_reminder, answering};
 ghost use Rattle.node_core.specs.Storing.{output_of, stopped_output, change_made};
 
 use crate::sends::{NodeSends, forget_fact};
 use crate::storing::Stopped;
-use acceptor::SentReply;
 use leader::LeaderSends;
-use protocol::{Answer, Change, NodeId, Request, View};
-use resource_manager::{Reminder, SentMessage};
+use protocol::{Answer, Change, NodeId, Request, SentReply, View};
+use resource_manager::Reminder;
 use stable_record::{Fact, FactRest, FactView};
 use xid::Refusal;
 
@@ -98,20 +96,12 @@ impl Output {
         self.now = Some(Change { rm, tx, view });
     }
 
-    /// What an acceptor answers and sends.
+    /// What an acceptor or a resource manager answers and sends on a message.
     pub(crate) fn put_reply(&mut self, reply: &Option<SentReply<'_>>)
         ensures { self.new ≡ record { reply = Done; now = self.old.now; sends = sent_reply reply.now } }
     {
         self.reply = Answer::Done;
         self.sends.reply(reply);
-    }
-
-    /// What a resource manager answers and sends.
-    pub(crate) fn put_sent(&mut self, sent: &Option<SentMessage<'_>>)
-        ensures { self.new ≡ record { reply = Done; now = self.old.now; sends = sent_message sent.now } }
-    {
-        self.reply = Answer::Done;
-        self.sends.send(sent);
     }
 
     /// The refusal of an append that was stopped, with the change that the fact makes where its whole frame was kept.

@@ -4,9 +4,7 @@ ghost use Rattle.std.specs.Prelude.{◌≡◌, ◌<◌, ◌≤◌, [], ◌∷◌
 ghost use Rattle.wire.specs.declared.message.Kind.{Kind};
 ghost use Rattle.wire.specs.Grammar.{Spells};
 
-use acceptor::SentReply;
-use protocol::{Address, Outgoing};
-use resource_manager::SentMessage;
+use protocol::{Address, Outgoing, SentReply};
 use std::marker::Model;
 use wire::{MAX_DATAGRAM, MAX_MESSAGE_BYTES, decode};
 
@@ -50,20 +48,12 @@ impl Replied {
         self.len = 0;
     }
 
-    /// A message of an acceptor, in place of another.
+    /// A message, in place of another.
     pub(crate) fn put(&mut self, reply: &SentReply<'_>)
         ensures { self.new ≡ record { to = reply.now.to; message = reply.now.message } ∷ [] }
     {
         self.to = reply.to;
         self.len = reply.message.encode(&mut self.bytes);
-    }
-
-    /// A message of a resource manager, in place of another.
-    pub(crate) fn put_message(&mut self, sent: &SentMessage<'_>)
-        ensures { self.new ≡ record { to = sent.now.to; message = sent.now.message } ∷ [] }
-    {
-        self.to = sent.to;
-        self.len = sent.message.encode(&mut self.bytes);
     }
 
     /// How many there are: one, or none.

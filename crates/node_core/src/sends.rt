@@ -2,18 +2,15 @@ ghost use Rattle.std.specs.Prelude.{◌≡◌, ℕ, ◌<◌, [], ◌++◌, ◌�
 ghost use Rattle.wire.specs.declared.message.Kind.{Kind};
 ghost use Rattle.wire.specs.Grammar.{Spells};
 ghost use Rattle.stable_record.specs.declared.fact.FactKind.{FactKind};
+ghost use Rattle.protocol.specs.Decisions.{sent_reply};
 ghost use Rattle.protocol.specs.Effects.{Config};
 ghost use Rattle.protocol.specs.Leaders.{on_leader_message};
-ghost use Rattle.acceptor.specs.Decisions.{sent_reply};
-ghost use Rattle.resource_manager.specs.Decisions.{sent_message};
 ghost use Rattle.leader.specs.Leaders.{FollowsOrRefuses};
 ghost use Rattle.node_core.specs.Sends.{led};
 
 use crate::replied::Replied;
-use acceptor::SentReply;
 use leader::{Leader, LeaderDecision, LeaderSends};
-use protocol::{Address, Answer, Outgoing, Sends};
-use resource_manager::SentMessage;
+use protocol::{Address, Answer, Outgoing, Sends, SentReply};
 use stable_record::Fact;
 use std::marker::Model;
 use std::mem;
@@ -102,24 +99,13 @@ impl NodeSends {
         forget_led(&mut self.led.sends);
     }
 
-    /// What an acceptor sends, in place of what was sent before.
+    /// What an acceptor or a resource manager sends on a message, in place of what was sent before.
     pub(crate) fn reply(&mut self, reply: &Option<SentReply<'_>>)
         ensures { self.new ≡ sent_reply reply.now }
     {
         self.clear();
         match reply {
             Some(reply) => self.replied.put(reply),
-            None => {}
-        }
-    }
-
-    /// What a resource manager sends on a message, in place of what was sent before.
-    pub(crate) fn send(&mut self, sent: &Option<SentMessage<'_>>)
-        ensures { self.new ≡ sent_message sent.now }
-    {
-        self.clear();
-        match sent {
-            Some(sent) => self.replied.put_message(sent),
             None => {}
         }
     }

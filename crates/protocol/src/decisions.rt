@@ -1,11 +1,11 @@
-ghost use Rattle.std.specs.Prelude.{◌≡◌, [], ◌∷◌};
+ghost use Rattle.std.specs.Prelude.{◌≡◌, [], ◌∷◌, None};
 
 use crate::answers::Answer;
 use crate::nodes::NodeId;
-use stable_record::Fact;
+use stable_record::{Fact, FactView};
 use std::marker::Model;
 use std::slice;
-use wire::Message;
+use wire::{Message, Reply};
 
 /// Whom a message is for.
 #[derive(Clone, Copy, Debug, PartialEq, Eq)]
@@ -94,4 +94,35 @@ pub struct Decision {
     pub fact: Option<Fact>,
     /// What to send then, in order.
     pub sends: Sends,
+}
+
+/// What is sent on a message, and whom it is for.
+#[derive(Debug, Drop)]
+pub struct SentReply<'a> {
+    /// Whom it is for.
+    pub to: Address,
+    /// The message.
+    pub message: Reply<'a>,
+}
+
+/// What an acceptor or a resource manager decides on a message, over the bytes of its transaction. The answer is ok.
+#[derive(Debug, Drop)]
+pub struct MessageDecision<'a> {
+    /// The fact to store, if there is one. Nothing is sent before it is stored.
+    pub fact: Option<FactView<'a>>,
+    /// What to send then, if there is anything.
+    pub reply: Option<SentReply<'a>>,
+}
+
+impl<'a> MessageDecision<'a> {
+    /// Nothing to store, and nothing to send. It takes no memory.
+    pub fn nothing() -> MessageDecision<'a>
+        ensures fact { result.fact ≡ None }
+        ensures reply { result.reply ≡ None }
+    {
+        MessageDecision {
+            fact: None,
+            reply: None,
+        }
+    }
 }

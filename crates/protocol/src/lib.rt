@@ -14,7 +14,7 @@ mod states;
 
 pub use answers::Answer;
 pub use boxed::Boxed;
-pub use decisions::{Address, Decision, Outgoing, Sends};
+pub use decisions::{Address, Decision, MessageDecision, Outgoing, Sends, SentReply};
 pub use events::{Change, Event, Sent, Step, Told};
 pub use nodes::NodeId;
 pub use requests::{Action, Request};

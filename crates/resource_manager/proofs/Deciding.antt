@@ -22,8 +22,10 @@ use Rattle.wire.specs.Said.{said}
 use Rattle.protocol.specs.declared.answers.Answer.{Answer}
 use Rattle.protocol.specs.declared.answers.Answer.TheVariants.{Done, Stands, Refused}
 use Rattle.protocol.specs.declared.decisions.Decision.{Decision}
+use Rattle.protocol.specs.declared.decisions.MessageDecision.{MessageDecision}
 use Rattle.protocol.specs.declared.decisions.Outgoing.{Outgoing}
 use Rattle.protocol.specs.declared.decisions.Address.TheVariants.{Leaders}
+use Rattle.protocol.specs.Decisions.{sent_reply, shown}
 use Rattle.protocol.specs.Effects.{Config, Effect, decision_of, no_effect, sends_only, stores, to, is_inside, view_standing}
 use Rattle.protocol.specs.Facts.{is_prepared_view, is_open_view, is_spent, is_ended, vote_in, view}
 use Rattle.protocol.specs.Holds.{AreDistinct, names_of}
@@ -38,13 +40,11 @@ use Rattle.protocol.proofs.Manager.Prepared.{names_held_once}
 use Rattle.protocol.proofs.Manager.Views.{prepared_shows, vote_in_stands}
 use Rattle.branch_table.specs.TableStates.{AreTableBranches}
 use Rattle.resource_manager.specs.declared.course.Course.{Course}
-use Rattle.resource_manager.specs.declared.messages.ManagerDecision.{ManagerDecision}
 use Rattle.resource_manager.specs.declared.reminding.Reminder.{Reminder}
 use Rattle.resource_manager.specs.Courses.{Stored, stored_by, vote_of, view_of, vote_among, is_ended_among, is_new_course, view_among}
 use Rattle.resource_manager.specs.Courses.{course_in}
 use Rattle.resource_manager.specs.SpentNames.{is_spent_in}
 use Rattle.resource_manager.specs.Managers.{ManagerParts, StandsFor, IsDecision, IsOfIdleBranch, Decides, Rule, branches_in}
-use Rattle.resource_manager.specs.Decisions.{shown}
 use Rattle.resource_manager.specs.Managers.{unspent_branches}
 use Rattle.resource_manager.specs.Messages.{are_below, asked_by, IsReminder}
 use Rattle.resource_manager.proofs.Named.{same_idle, same_named}
@@ -56,6 +56,10 @@ use Rattle.resource_manager.proofs.Votes.{view_is, prepared_vote, only_named}
 
 abbrev nothing : Decision
 nothing = record { answer = Done; fact = None; sends = [] }
+
+-- a decision with nothing to store or to send, as the machine has it
+pub nothing_shown : (decision : MessageDecision) → decision.fact ≡ None → decision.reply ≡ None → shown decision ≡ nothing
+nothing_shown decision fact reply = λ i. record { answer = Done; fact = fact i; sends = sent_reply (reply i) }
 
 -- nothing to store: what is sent is the rule's, which leaves all
 pub tells : (m : ManagerParts) (decision : Decision) (sends : List Outgoing) (rule : Rule)
@@ -426,7 +430,7 @@ ended_by Course.VotedAborted e f = absurd (cc (e))
 ended_by Course.Committed e f = absurd (cc (e))
 ended_by Course.RolledBack e f = absurd (cc (e))
 
-pub first_shown : (r : Result ManagerDecision Refusal) (m : ManagerParts) (tx : TxParts) (x : XidParts)
+pub first_shown : (r : Result MessageDecision Refusal) (m : ManagerParts) (tx : TxParts) (x : XidParts)
     → xid_at tx m.number ≡ Some x → course_in m.courses tx ≡ Course.Working
     → (is_spent_in m.spent x ≡ false → AreTableBranches m.table.branches)
     → IfOk r (λ decision. (branches : List Branch) → shown decision

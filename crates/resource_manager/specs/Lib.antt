@@ -5,6 +5,5 @@ pub mod Open
 pub mod Messages
 pub mod Playing
 pub mod Compacted
-pub mod Decisions
 pub mod Left
 pub mod Forgetting

@@ -13,5 +13,4 @@ mod shorter;
 mod spent;
 
 pub use manager::ResourceManager;
-pub use messages::{ManagerDecision, SentMessage};
 pub use reminding::Reminder;

@@ -1,4 +1,4 @@
--- What a message says beside its transaction: as it is seen over bytes, and as an acceptor replies.
+-- What a message says beside its transaction: as it is seen over bytes, and as it is replied.
 use Rattle.std.specs.Prelude.{ℕ, List, [], ◌∷◌, ◌++◌, length, Option, Some, None, Result, Ok, Err}
 use Rattle.std.specs.Borrow.{Bor}
 use Rattle.std.specs.List.{flat_map}
@@ -29,24 +29,6 @@ said tx (rests.B1a ballot) = kinds.B1a tx ballot
 said tx (rests.B1b ballot acceptor reports) = kinds.B1b tx ballot acceptor (reports_spelled reports.now)
 said tx (rests.B2b acceptor accepts) = kinds.B2b tx acceptor (accepts_spelled accepts.now)
 
--- what follows the transaction in that message
-abbrev pub said_spelling : Rest → List ℕ
-said_spelling rests.Prepare = []
-said_spelling (rests.P1a instance ballot) = rm_spelling version_2 instance ++ number_spelling ballot
-said_spelling (rests.P1b instance ballot report acceptor) = rm_spelling version_2 instance
-    ++ (number_spelling ballot ++ (report_spelling report ++ acceptor ∷ []))
-said_spelling (rests.P2a instance ballot vote) = rm_spelling version_2 instance ++ (number_spelling ballot ++ vote_byte vote ∷ [])
-said_spelling (rests.P2b instance ballot vote acceptor) = rm_spelling version_2 instance
-    ++ (number_spelling ballot ++ vote_byte vote ∷ acceptor ∷ [])
-said_spelling rests.Commit = []
-said_spelling rests.Abort = []
-said_spelling (rests.Ask rm) = rm_spelling version_2 rm
-said_spelling (rests.B1a ballot) = number_spelling ballot
-said_spelling (rests.B1b ballot acceptor reports) = number_spelling ballot
-    ++ acceptor ∷ length (reports_spelled reports.now) ∷ flat_map (report_item_spelling version_2) (reports_spelled reports.now)
-said_spelling (rests.B2b acceptor accepts) =
-    acceptor ∷ length (accepts_spelled accepts.now) ∷ flat_map (accept_item_spelling version_2) (accepts_spelled accepts.now)
-
 -- a rest that was taken, as the message that it makes, and the bytes after it
 abbrev pub heard : TxParts → Option (Rest × Bor (List ℕ)) → Option (Kind × List ℕ)
 heard tx None = None
@@ -60,6 +42,7 @@ told tx (Some rest) = Ok (said tx rest)
 -- the message of a reply to a transaction
 abbrev pub replied : TxParts → ReplyRest → Kind
 replied tx (replies.P1b instance ballot report acceptor) = kinds.P1b tx instance ballot report acceptor
+replied tx (replies.P2a instance ballot vote) = kinds.P2a tx instance ballot vote
 replied tx (replies.P2b instance ballot vote acceptor) = kinds.P2b tx instance ballot vote acceptor
 replied tx (replies.B1b ballot acceptor reports) = kinds.B1b tx ballot acceptor reports
 replied tx (replies.B2b acceptor accepts) = kinds.B2b tx acceptor accepts
@@ -67,6 +50,7 @@ replied tx (replies.B2b acceptor accepts) = kinds.B2b tx acceptor accepts
 -- the number of its kind
 abbrev pub reply_byte : ReplyRest → ℕ
 reply_byte (replies.P1b instance ballot report acceptor) = 3
+reply_byte (replies.P2a instance ballot vote) = 4
 reply_byte (replies.P2b instance ballot vote acceptor) = 5
 reply_byte (replies.B1b ballot acceptor reports) = 11
 reply_byte (replies.B2b acceptor accepts) = 12
@@ -75,6 +59,7 @@ reply_byte (replies.B2b acceptor accepts) = 12
 abbrev pub reply_spelling : ReplyRest → List ℕ
 reply_spelling (replies.P1b instance ballot report acceptor) = rm_spelling version_2 instance
     ++ (number_spelling ballot ++ (report_spelling report ++ acceptor ∷ []))
+reply_spelling (replies.P2a instance ballot vote) = rm_spelling version_2 instance ++ (number_spelling ballot ++ vote_byte vote ∷ [])
 reply_spelling (replies.P2b instance ballot vote acceptor) = rm_spelling version_2 instance
     ++ (number_spelling ballot ++ vote_byte vote ∷ acceptor ∷ [])
 reply_spelling (replies.B1b ballot acceptor reports) =

@@ -14,7 +14,6 @@ mod spelled_tx;
 mod view;
 mod view_items;
 mod view_reading;
-mod view_writing;
 mod writing;
 
 pub use grammar::{MAX_DATAGRAM, MAX_MESSAGE_BYTES, MAX_TX_BYTES, VERSION, VersionNumber};

@@ -12,17 +12,23 @@ use crate::writing::{
 use std::marker::Model;
 use xid::{Ballot, ManagerNumber, Vote};
 
-/// What an acceptor's reply says beside its transaction.
+/// What a reply says beside its transaction.
 #[derive(Clone, Copy, Debug)]
 pub enum ReplyRest {
-    /// Phase 1b: it takes part in the ballot. The report is the ballot and vote that it accepted last, if there are any.
+    /// Phase 1b, of an acceptor: it takes part in the ballot. The report is the ballot and vote that it accepted last, if there are any.
     P1b {
         instance: ManagerNumber,
         ballot: Ballot,
         report: Option<(Ballot, Vote)>,
         acceptor: u8,
     },
-    /// Phase 2b: it accepted the vote.
+    /// Phase 2a in ballot 0, of a resource manager: its vote.
+    P2a {
+        instance: ManagerNumber,
+        ballot: Ballot,
+        vote: Vote,
+    },
+    /// Phase 2b, of an acceptor: it accepted the vote.
     P2b {
         instance: ManagerNumber,
         ballot: Ballot,
@@ -48,6 +54,7 @@ fn code_of(rest: &ReplyRest) -> u8
 {
     match rest {
         ReplyRest::P1b { .. } => 3,
+        ReplyRest::P2a { .. } => 4,
         ReplyRest::P2b { .. } => 5,
         ReplyRest::B1b { .. } => 11,
         ReplyRest::B2b { .. } => 12,
@@ -73,6 +80,15 @@ fn put_reply(rest: &ReplyRest, out: &mut [u8], at: usize) -> usize
             let at = put_number(out, at, *ballot);
             let at = put_report(out, at, *report);
             put_byte(out, at, *acceptor)
+        }
+        ReplyRest::P2a {
+            instance,
+            ballot,
+            vote,
+        } => {
+            let at = put_rm(out, at, *instance);
+            let at = put_number(out, at, *ballot);
+            put_byte(out, at, byte_of_vote(*vote))
         }
         ReplyRest::P2b {
             instance,
@@ -101,7 +117,7 @@ fn put_reply(rest: &ReplyRest, out: &mut [u8], at: usize) -> usize
     }
 }
 
-/// A message of an acceptor to leaders, over the bytes of its transaction, which stand elsewhere.
+/// What an acceptor or a resource manager sends on a message, over the bytes of its transaction, which stand elsewhere.
 #[derive(Debug, Drop)]
 pub struct Reply<'a> {
     tx: SpelledTx<'a>,

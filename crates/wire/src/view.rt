@@ -1,4 +1,4 @@
-ghost use Rattle.std.specs.Prelude.{◌≡◌, ◌≢◌, ◌<◌, ◌≤◌, ◌∷◌, IfOk, IfErr, MatchOption, length, take, drop};
+ghost use Rattle.std.specs.Prelude.{◌≡◌, ◌≢◌, ◌<◌, ◌∷◌, IfOk, IfErr, MatchOption};
 ghost use Rattle.xid.specs.declared.refusals.Refusal.TheVariants.{BadMessage};
 ghost use Rattle.wire.specs.declared.message.Kind.{Kind};
 ghost use Rattle.wire.specs.Versions.{version_2};
@@ -6,14 +6,12 @@ ghost use Rattle.wire.specs.Grammar.{Spells, kind_byte, spelling};
 ghost use Rattle.wire.specs.Messages.{IsMessage, message_tx};
 ghost use Rattle.wire.specs.Said.{said};
 
-use crate::grammar::{MAX_DATAGRAM, MAX_MESSAGE_BYTES, VERSION};
+use crate::grammar::VERSION;
 use crate::message::{Kind, Message};
 use crate::rest::Rest;
 use crate::spelled_tx::SpelledTx;
 use crate::view_items::{accepts_of, reports_of};
 use crate::view_reading::rest_of;
-use crate::view_writing::{code_of, put_said};
-use crate::writing::{put_byte, put_bytes};
 use std::marker::Model;
 use xid::{Refusal, Tx};
 
@@ -129,14 +127,6 @@ fn kind_of(tx: Tx, rest: Rest<'_>) -> Kind
 }
 
 impl<'a> MessageView<'a> {
-    /// The message of a transaction.
-    pub fn new(tx: SpelledTx<'a>, rest: Rest<'a>) -> MessageView<'a>
-        requires { IsMessage (said tx rest) }
-        ensures { result ≡ said tx.entry rest.entry }
-    {
-        MessageView { tx, rest }
-    }
-
     /// The transaction.
     pub fn tx(&self) -> &SpelledTx<'a>
         ensures value { result.now ≡ message_tx self.now }
@@ -158,21 +148,6 @@ impl<'a> MessageView<'a> {
         ensures { result ≡ self.now }
     {
         Message::new(kind_of(self.tx.to_tx(), self.rest))
-    }
-
-    /// Spells it at the front of `out`, as `encode` does a message.
-    #[tactic(auto, using(crate::proofs::Replies::said_spelled))]
-    pub fn encode(&self, out: &mut [u8; MAX_DATAGRAM]) -> usize
-        ensures few { result ≤ MAX_MESSAGE_BYTES }
-        ensures len { result ≡ length (spelling self.now) }
-        ensures spells { take result out.new ≡ spelling self.now }
-        ensures rest { drop result out.new ≡ drop result out.old }
-        ensures valid { IsMessage self.now }
-    {
-        let at = put_byte(out, 0, VERSION);
-        let at = put_byte(out, at, code_of(&self.rest));
-        let at = put_bytes(out, at, self.tx.as_bytes());
-        put_said(&self.tx, &self.rest, out, at)
     }
 }
 

@@ -1,6 +1,6 @@
 use Rattle.std.proofs.Common.{sym, ap, subst}
 use Rattle.protocol.specs.Nodes.{on_message}
-use Rattle.acceptor.specs.Decisions.{shown}
+use Rattle.protocol.specs.Decisions.{shown}
 use Rattle.node_core.specs.Roles.{IsDecided, decided}
 use Rattle.node_core.specs.declared.role.Role.TheVariants as roles
 use Rattle.node_core.proofs.Deciding.{acceptor_decides}

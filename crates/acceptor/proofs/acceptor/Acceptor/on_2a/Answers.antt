@@ -3,7 +3,7 @@ use Rattle.protocol.specs.Acceptors.{on_2a}
 use Rattle.protocol.specs.Effects.{decision_of}
 use Rattle.acceptor.specs.Slots.{slots_of}
 use Rattle.acceptor.specs.Acceptors.{Decides}
-use Rattle.acceptor.specs.Decisions.{shown}
+use Rattle.protocol.specs.Decisions.{shown}
 use Rattle.acceptor.proofs.Standing.{decides, plays_2a}
 use Rattle.acceptor.proofs.acceptor.Acceptor.on_2a.Goals as goal
 

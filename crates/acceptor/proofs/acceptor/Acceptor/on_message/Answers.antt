@@ -2,7 +2,7 @@ use Rattle.std.proofs.Common.{◌≡◌, ◌∙◌, ap, subst}
 use Rattle.wire.specs.declared.message.Kind.TheVariants.{P1a, P2a}
 use Rattle.protocol.specs.Acceptors.{on_acceptor_message}
 use Rattle.acceptor.specs.Acceptors.{Decides}
-use Rattle.acceptor.specs.Decisions.{shown}
+use Rattle.protocol.specs.Decisions.{shown}
 use Rattle.acceptor.proofs.acceptor.Acceptor.on_message.Goals as goal
 
 pub returns-in-P1a : goal.returns-in-P1a

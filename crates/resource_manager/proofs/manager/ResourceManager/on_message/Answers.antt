@@ -4,9 +4,9 @@ use Rattle.xid.specs.Transactions.{xid_at}
 use Rattle.wire.specs.Messages.{message_tx}
 use Rattle.wire.specs.declared.message.Kind.TheVariants as kinds
 use Rattle.protocol.specs.Managers.{on_manager_message}
-use Rattle.resource_manager.specs.Decisions.{shown}
+use Rattle.protocol.specs.Decisions.{shown}
 use Rattle.resource_manager.specs.Managers.{Decides}
-use Rattle.resource_manager.proofs.Deciding.{IsOther, other_rest, other_message}
+use Rattle.resource_manager.proofs.Deciding.{IsOther, other_rest, other_message, nothing_shown}
 use Rattle.resource_manager.proofs.manager.ResourceManager.on_message.Goals as goal
 
 pub returns-in-Prepare-clause-ok : goal.returns-in-Prepare-clause-ok
@@ -35,4 +35,4 @@ returns-in_default-clause-ok c =
     other_message c.args.self.now (shown c.nothing.result) c.args.message.now
     (subst IsOther c.rest.ensures.value
     (other_rest (message_tx c.args.message.now) _ c.in_default.not-Prepare c.in_default.not-Commit c.in_default.not-Abort))
-    c.nothing.ensures
+    (nothing_shown c.nothing.result c.nothing.ensures.fact c.nothing.ensures.reply)

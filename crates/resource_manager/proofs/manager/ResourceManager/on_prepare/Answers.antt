@@ -1,14 +1,16 @@
 use Rattle.std.proofs.Common.{◌∙◌, sym, ap}
 use Rattle.xid.specs.Transactions.{is_participant}
 use Rattle.protocol.proofs.Manager.Effects.{name_names}
-use Rattle.resource_manager.specs.Decisions.{shown}
+use Rattle.protocol.specs.Decisions.{shown}
 use Rattle.resource_manager.proofs.Deciding.{prepare_unnamed, prepare_again, prepare_ended, first_shown, course_of, told_is, ended_by}
+use Rattle.resource_manager.proofs.Deciding.{nothing_shown}
 use Rattle.resource_manager.proofs.Played.{working_course}
 use Rattle.resource_manager.proofs.manager.ResourceManager.on_prepare.Goals as goal
 
 pub returns-in_default-clause-ok : goal.returns-in_default-clause-ok
 returns-in_default-clause-ok c =
-    prepare_unnamed c.args.self.now c.args.tx.now (shown c.nothing.result) (sym c.in_default.ensures.value) c.nothing.ensures
+    prepare_unnamed c.args.self.now c.args.tx.now (shown c.nothing.result) (sym c.in_default.ensures.value)
+    (nothing_shown c.nothing.result c.nothing.ensures.fact c.nothing.ensures.reply)
 
 pub first_vote-requires : goal.first_vote-requires
 first_vote-requires c = name_names c.args.tx.now c.args.self.now.number c.in-Some.xid (sym c.in-Some.ensures.value)
@@ -35,7 +37,9 @@ returns-in-Some-vote-clause-ok c =
 
 pub returns-in-None-clause-ok : goal.returns-in-None-clause-ok
 returns-in-None-clause-ok c =
+    let none = c.nothing-in-None in
     prepare_ended c.args.self.now c.args.tx.now c.in-Some.xid (sym c.in-Some.ensures.value) c.of-course.result
-    (course_of _ c.args.self.now c.args.tx.now c.of-course.result c.self.view_is c.of-course.ensures) (shown c.nothing-in-None.result)
+    (course_of _ c.args.self.now c.args.tx.now c.of-course.result c.self.view_is c.of-course.ensures) (shown none.result)
     (sym c.in-None.ensures)
-    (ended_by c.of-course.result (sym c.in-None.ensures) (sym c.if-is_working.ensures)) c.nothing-in-None.ensures
+    (ended_by c.of-course.result (sym c.in-None.ensures) (sym c.if-is_working.ensures))
+    (nothing_shown none.result none.ensures.fact none.ensures.reply)
