@@ -135,19 +135,19 @@ fn read(spelled: Option<(Address, &[u8])>) -> Result<Option<Outgoing>, Stop> {
 }
 
 /// Says where messages that are spelled already aren't what they have to be: what an acceptor sends, and what a resource manager sends on a
-/// datagram, is spelled, one message at a time; what is asked for by `replied` is an acceptor's.
+/// datagram, is spelled, one message at a time.
 fn compare(who: NodeId, received: bool, sends: &NodeSends, page: &mut Page) -> Result<(), Stop> {
     let first = if sends.count() > 0 {
         Some(sends.at(0))
     } else {
         None
     };
-    let (replied, spelled) = match who {
-        NodeId::A(_) => (first, first),
-        NodeId::R(_) if received => (None, first),
-        NodeId::R(_) | NodeId::L(_) => (None, None),
+    let spelled = match who {
+        NodeId::A(_) => first,
+        NodeId::R(_) if received => first,
+        NodeId::R(_) | NodeId::L(_) => None,
     };
-    if read(sends.replied())? != replied || read(sends.spelled())? != spelled {
+    if read(sends.spelled())? != spelled {
         page.bytes(b"the two ways differ: what is sent, and what is spelled of it\n")?;
     }
     Ok(())

@@ -29,6 +29,7 @@ use Rattle.node_core.specs.Groups.{Place as At}
 use Rattle.node_core.specs.Sends.{sent}
 use Rattle.node_core.specs.Nodes.{AreSizes, Befalls}
 use Rattle.node_core.specs.Nodes.{datagram_input}
+use Rattle.node_core.proofs.Addressed.{datagrams_as}
 use Rattle.stable_record.specs.Held.{Held}
 use Rattle.xid.specs.Places.{Place}
 use Rattle.floors.specs.Nodes.{floored_node_step, is_input_below}
@@ -39,7 +40,6 @@ use Rattle.cluster.specs.declared.handing.Answered.{Answered}
 use Rattle.cluster.specs.Clusters.{NoticesParts, sized, cluster_of, ClusterStands, ReachesAs, ComesTo, BefallsAt}
 use Rattle.cluster.specs.Sending.{HaveSent, HasRoom}
 use Rattle.cluster.proofs.Standing.{there, placed, found, named, floor_there, node_put, at_place, same_but, same_floored, others_stay}
-use Rattle.cluster.proofs.Standing.{datagrams_as}
 use Rattle.cluster.proofs.Bounds.{count}
 
 -- what came of a machine's event that says nothing of floors

@@ -1,23 +1,17 @@
 -- The nodes of a cluster and those of its world with floors, place by place.
-use Rattle.std.proofs.Common.{◌≡◌, ◌∙◌, inl, inr, ℕ, zero, suc, ◌+◌, ◌<◌, Bool, true, false, List, [], ◌∷◌, ◌++◌, length, map}
+use Rattle.std.proofs.Common.{◌≡◌, ◌∙◌, inl, inr, ℕ, zero, suc, ◌+◌, ◌<◌, Bool, true, false, List, [], ◌∷◌, length}
 use Rattle.std.proofs.Common.{get_or, set}
 use Rattle.std.proofs.Common.{Option, Some, None, refl, sym, ap, subst, nat_lt, arith}
 use Rattle.std.specs.Prelude.{slice_get, if◌then◌else◌}
-use Rattle.std.specs.List.{AllZip, flat_map, range_with_len, slice_set}
+use Rattle.std.specs.List.{AllZip, slice_set}
 use Rattle.std.specs.Option.{option_and_then, option_map_or}
 use Rattle.std.proofs.lemmas.Bool.{cases_eq, ltb-true}
 use Rattle.std.proofs.lemmas.List.{get_or_default, get_or-set_same, get_or-set_other, length-set}
-use Rattle.std.proofs.lemmas.List.FromFn.{length-map-range_with_len, get_or-map-range_with_len}
-use Rattle.xid.specs.Transactions.{TxParts}
-use Rattle.wire.specs.Messages.{message_tx}
-use Rattle.protocol.specs.declared.decisions.Address.{Address}
-use Rattle.protocol.specs.declared.decisions.Address.TheVariants as addresses
-use Rattle.protocol.specs.declared.decisions.Outgoing.{Outgoing}
 use Rattle.protocol.specs.declared.nodes.NodeId.{NodeId}
 use Rattle.protocol.specs.declared.nodes.NodeId.TheVariants.{A, L, R}
-use Rattle.protocol.specs.Effects.{Config, receivers}
+use Rattle.protocol.specs.Effects.{Config}
 use Rattle.protocol.specs.Nodes.{NodeState}
-use Rattle.protocol.specs.Worlds.{Datagram, place, node_at, set_node, datagrams_of}
+use Rattle.protocol.specs.Worlds.{Datagram, place, node_at, set_node}
 use Rattle.stable_record.specs.Held.{Nature}
 use Rattle.xid.specs.Places.{Place}
 use Rattle.node_core.specs.declared.config.Sizes.{Sizes}
@@ -26,9 +20,7 @@ use Rattle.floors.specs.Worlds.{FlooredWorld, with_entry}
 use Rattle.floors.proofs.Rising.{entry_by, entry_own}
 use Rattle.floored.specs.Nodes.{FlooredParts, FlooredStands}
 use Rattle.floored.specs.Told.{told_at}
-use Rattle.network.specs.Networks.{NetworkParts, StandsFor, datagram_to}
-use Rattle.cluster.specs.declared.receivers.Receivers.{Receivers}
-use Rattle.cluster.specs.Sending.{receivers_in}
+use Rattle.network.specs.Networks.{NetworkParts, StandsFor}
 use Rattle.cluster.specs.Clusters.{ClusterParts, NoticesParts, sized, node_count, cluster_of, AreNodes, AreTold, ClusterStands}
 use Rattle.cluster.specs.Clusters.{IsSameCluster, IsSameFloored, StayBut}
 
@@ -114,37 +106,6 @@ place_as config sizes are (R rm) =
     ap (λ (n : ℕ). if nat_lt rm n then Some (sizes.acceptors + sizes.leaders + rm) else None) are.managers_are
     ∙ ap (λ (m : ℕ). if nat_lt rm config.managers then Some (m + sizes.leaders + rm) else None) are.acceptors_are
     ∙ ap (λ (m : ℕ). if nat_lt rm config.managers then Some (config.acceptors + m + rm) else None) are.leaders_are
-
-receivers_as : (config : Config) (sizes : Sizes) → AreSizes config sizes → (address : Address) (tx : TxParts)
-    → receivers (sized sizes) address tx ≡ receivers config address tx
-receivers_as config sizes are (addresses.Node node) tx = refl
-receivers_as config sizes are addresses.Acceptors tx = ap (λ (n : ℕ). map A (range_with_len 0 n)) are.acceptors_are
-receivers_as config sizes are addresses.Leaders tx = ap (λ (n : ℕ). map L (range_with_len 0 n)) are.leaders_are
-receivers_as config sizes are addresses.Managers tx = refl
-
-pub datagrams_as : (config : Config) (sizes : Sizes) → AreSizes config sizes → (who : NodeId) (sends : List Outgoing)
-    → flat_map (datagrams_of (sized sizes) who) sends ≡ flat_map (datagrams_of config who) sends
-datagrams_as config sizes are who [] = refl
-datagrams_as config sizes are who (send ∷ sends) =
-    ap (λ (rs : List NodeId). map (datagram_to who send.message) rs ++ flat_map (datagrams_of (sized sizes) who) sends)
-    (receivers_as config sizes are send.to (message_tx send.message))
-    ∙ ap (λ (ds : List Datagram). datagrams_of config who send ++ ds) (datagrams_as config sizes are who sends)
-
--- so many nodes of one kind
-module _ (name : ℕ → NodeId) (r : Receivers) (count : ℕ) (is : receivers_in r ≡ map name (range_with_len 0 count)) where
-  pub named_count : (n : ℕ) → n ≡ count → n ≡ length (receivers_in r)
-  named_count n e = e ∙ sym (length-map-range_with_len name 0 count) ∙ sym (ap length is)
-
-  pub named_there : (i : ℕ) → i < length (receivers_in r) → i < count
-  named_there i lt = let e : count ≡ length (receivers_in r) = named_count count refl in omega (arith, lt, e)
-
-  pub named_is : (i : ℕ) → i < length (receivers_in r) → (number : ℕ) → number ≡ i
-      → name number ≡ get_or (receivers_in r) i (name number)
-  named_is i lt number same =
-      let at : 0 + i ≡ i = omega arith in
-      ap name same
-      ∙ sym (get_or-map-range_with_len name 0 count i i (name number) (named_there i lt) at)
-      ∙ sym (ap (λ (nodes : List NodeId). get_or nodes i (name number)) is)
 
 -- ---- places
 

@@ -68,10 +68,6 @@ sized sizes = record {
 abbrev pub node_count : Sizes → ℕ
 node_count sizes = sizes.acceptors + sizes.leaders + sizes.managers
 
--- the place of a number below a bound, after so many others
-abbrev pub placed_after : (number bound before : ℕ) → Option ℕ
-placed_after number bound before = if nat_lt number bound then Some (before + number) else None
-
 -- the nodes stand in the order of their names, each with its floor, and each for the one that the machine has there
 pub record AreNodes (config : Config) (nodes : List FlooredParts) (floor : NodeId → Option Place) (states : List NodeState) : Type 0 where
   pub count : length nodes ≡ config.acceptors + config.leaders + config.managers

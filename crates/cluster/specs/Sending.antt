@@ -1,22 +1,8 @@
 -- How datagrams are sent: put into the network, for which there is room.
-use Rattle.std.specs.Prelude.{ℕ, ◌+◌, ◌*◌, ◌≤◌, List, ◌∷◌, [], ◌++◌, map}
-use Rattle.std.specs.List.{range_with_len}
+use Rattle.std.specs.Prelude.{ℕ, ◌+◌, ◌*◌, ◌≤◌, List, ◌++◌}
 use Rattle.wire.specs.declared.grammar.TheConstants.{MAX_MESSAGE_BYTES}
-use Rattle.wire.specs.Messages.{message_tx}
-use Rattle.xid.specs.Transactions.{participants}
-use Rattle.protocol.specs.declared.nodes.NodeId.{NodeId}
-use Rattle.protocol.specs.declared.nodes.NodeId.TheVariants.{A, L, R}
 use Rattle.protocol.specs.Worlds.{Datagram}
 use Rattle.network.specs.Networks.{NetworkParts, StandsFor}
-use Rattle.cluster.specs.declared.receivers.Receivers.{Receivers}
-use Rattle.cluster.specs.declared.receivers.Receivers.TheVariants as kinds
-
--- the nodes to which a message goes
-abbrev pub receivers_in : Receivers → List NodeId
-receivers_in (kinds.Node node) = node ∷ []
-receivers_in (kinds.Acceptors count) = map A (range_with_len 0 count)
-receivers_in (kinds.Leaders count) = map L (range_with_len 0 count)
-receivers_in (kinds.Managers message) = map R (participants (message_tx message))
 
 -- these datagrams were put after those before
 abbrev pub HaveSent : (old new : NetworkParts) → (more : List Datagram) → Type 0

@@ -7,9 +7,8 @@ ghost use Rattle.network.specs.Networks.{NetworkParts};
 ghost use Rattle.cluster.specs.Asking.{ViewsIn, TablesIn};
 ghost use Rattle.cluster.specs.Clusters.{NoticesParts, cluster_of, node_count, ClusterStands};
 
-use crate::receivers::place_of;
 use floored::Floored;
-use node_core::Sizes;
+use node_core::{Sizes, place_of};
 use protocol::{NodeId, Row, View};
 use stable_record::Record;
 use xid::{Refusal, Sequence, Tx};

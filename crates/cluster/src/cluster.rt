@@ -13,7 +13,7 @@ use crate::asking::{table, view};
 use crate::handing::{Answered, happen};
 use crate::notices::Notices;
 use crate::opening::open_all;
-use crate::receivers::count_of;
+use crate::places::count_of;
 use crate::room::{most_sent, most_told};
 use floored::Floored;
 use network::{KeptDatagram, Network};

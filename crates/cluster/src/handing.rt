@@ -18,12 +18,11 @@ ghost use Rattle.cluster.specs.Notices.{HasToldOwn, RaisesTo, RaisesToLeast, is_
 ghost use Rattle.cluster.specs.Sending.{HasRoom, HaveSent};
 
 use crate::notices::{Notices, count_told};
-use crate::receivers::place_of;
 use crate::room::{make_room, most_asked, most_heard};
 use crate::sending::send_all;
 use floored::Floored;
 use network::Network;
-use node_core::{Input, Output, Sizes};
+use node_core::{Input, Output, Sizes, place_of};
 use protocol::{Answer, Change, Event, NodeId, Request};
 use stable_record::{Record, Tear};
 use std::mem;

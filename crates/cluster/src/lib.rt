@@ -8,7 +8,7 @@ mod handing;
 pub mod laws;
 mod notices;
 mod opening;
-mod receivers;
+mod places;
 mod room;
 mod sending;
 

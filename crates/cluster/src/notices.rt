@@ -9,7 +9,7 @@ ghost use Rattle.floors.specs.Worlds.{notices_of};
 ghost use Rattle.cluster.specs.Clusters.{node_count, notice_at, sized};
 ghost use Rattle.cluster.specs.Notices.{HasHeardAt, HaveTold, forgotten_at, notice_in, shown_notice, told_count};
 
-use crate::receivers::{count_of, name_at};
+use crate::places::{count_of, name_at};
 use floored::ToldFloors;
 use node_core::Sizes;
 use protocol::{NodeId, Told};

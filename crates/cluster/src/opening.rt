@@ -6,7 +6,7 @@ ghost use Rattle.node_core.specs.Nodes.{AreSizes};
 ghost use Rattle.cluster.specs.Clusters.{node_count};
 ghost use Rattle.cluster.specs.Opening.{AreBegun, IsBegun, IsUnbegun, IsUnmade};
 
-use crate::receivers::{count_of, name_at};
+use crate::places::{count_of, name_at};
 use floored::Floored;
 use node_core::{Config, Sizes};
 use protocol::NodeId;

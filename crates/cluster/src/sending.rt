@@ -11,9 +11,8 @@ ghost use Rattle.network.specs.Networks.{StandsFor, datagram_to};
 ghost use Rattle.cluster.specs.Clusters.{sized};
 ghost use Rattle.cluster.specs.Sending.{HasRoom, HaveSent, KeepsRoom};
 
-use crate::receivers::Receivers;
 use network::Network;
-use node_core::{NodeSends, Sizes};
+use node_core::{NodeSends, Receivers, Sizes};
 use protocol::{Address, NodeId, Outgoing};
 use wire::{MAX_DATAGRAM, MAX_MESSAGE_BYTES, encode};
 

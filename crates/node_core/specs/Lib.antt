@@ -7,6 +7,7 @@ pub mod Nodes
 pub mod Handling
 pub mod Configs
 pub mod Places
+pub mod Receivers
 pub mod Opening
 pub mod Viewing
 pub mod Listing

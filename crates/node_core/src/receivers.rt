@@ -1,15 +1,18 @@
 //! Where nodes stand in a cluster, and which of them an address means.
 
 ghost use Rattle.std.specs.Prelude.{◌≡◌, ◌<◌, [], length, slice_index_or};
+ghost use Rattle.wire.specs.declared.message.Kind.{Kind};
+ghost use Rattle.wire.specs.Grammar.{Spells};
 ghost use Rattle.wire.specs.Messages.{message_tx};
-ghost use Rattle.protocol.specs.declared.nodes.NodeId.TheVariants.{A, L};
 ghost use Rattle.protocol.specs.Effects.{receivers};
 ghost use Rattle.protocol.specs.Worlds.{place};
 ghost use Rattle.node_core.specs.Configs.{config_by};
 ghost use Rattle.node_core.specs.Places.{placed_after};
+ghost use Rattle.node_core.specs.Receivers.{receivers_in};
 
 use crate::config::Sizes;
-use protocol::{Address, NodeId, Outgoing};
+use protocol::{Address, NodeId};
+use wire::{MessageView, view_of};
 
 /// Where a node stands: acceptors first, then leaders, then resource managers. None where there is no such node.
 pub fn place_of(sizes: Sizes, who: NodeId) -> Option<usize>
@@ -36,43 +39,75 @@ fn placed(number: u8, bound: u8, before: usize) -> Option<usize>
     }
 }
 
-/// To how many nodes a message goes.
-pub fn receiver_count(sizes: Sizes, outgoing: &Outgoing) -> usize
-    ensures { result ≡ length (receivers (config_by sizes []) outgoing.now.to (message_tx outgoing.now.message)) }
-{
-    match outgoing.to {
-        Address::Node(_) => 1,
-        Address::Acceptors => usize::from(sizes.acceptors),
-        Address::Leaders => usize::from(sizes.leaders),
-        Address::Managers => outgoing.message.kind().tx().count(),
+/// The nodes to which a message goes.
+#[derive(Drop)]
+pub enum Receivers<'a> {
+    /// One.
+    Node(NodeId),
+    /// So many acceptors.
+    Acceptors(u8),
+    /// So many leaders.
+    Leaders(u8),
+    /// The resource managers of the transaction of this message.
+    Managers(MessageView<'a>),
+}
+
+impl<'a> Receivers<'a> {
+    /// Those to which the message goes that these bytes spell.
+    pub fn of(sizes: Sizes, to: Address, bytes: &'a [u8]) -> Receivers<'a>
+        requires { (message : Kind) × Spells message bytes.now }
+        ensures { (message : Kind) → Spells message bytes.now
+            → receivers_in result ≡ receivers (config_by sizes []) to (message_tx message) }
+    {
+        match to {
+            Address::Node(node) => Receivers::Node(node),
+            Address::Acceptors => Receivers::Acceptors(sizes.acceptors),
+            Address::Leaders => Receivers::Leaders(sizes.leaders),
+            Address::Managers => Receivers::Managers(seen(bytes)),
+        }
+    }
+
+    /// How many they are.
+    pub fn count(&self) -> usize
+        ensures { result ≡ length (receivers_in self.now) }
+    {
+        match self {
+            Receivers::Node(_) => 1,
+            Receivers::Acceptors(count) => usize::from(*count),
+            Receivers::Leaders(count) => usize::from(*count),
+            Receivers::Managers(message) => message.tx().count(),
+        }
+    }
+
+    /// The one of a place.
+    pub fn at(&self, i: usize) -> NodeId
+        requires { i < length (receivers_in self.now) }
+        ensures { result ≡ slice_index_or (receivers_in self.now) i result }
+    {
+        match self {
+            Receivers::Node(node) => *node,
+            Receivers::Acceptors(count) => NodeId::A(number_below(*count, i)),
+            Receivers::Leaders(count) => NodeId::L(number_below(*count, i)),
+            Receivers::Managers(message) => NodeId::R(message.tx().rm(i) as u8),
+        }
     }
 }
 
-/// The acceptor of a number.
-fn acceptor_at(sizes: Sizes, i: usize) -> NodeId
-    requires { i < sizes.acceptors }
-    ensures { result ≡ A i }
+/// A place below a count, as the number of a node.
+fn number_below(count: u8, i: usize) -> u8
+    requires { i < count }
+    ensures { result ≡ i }
 {
-    NodeId::A(i as u8)
+    i as u8
 }
 
-/// The leader of a number.
-fn leader_at(sizes: Sizes, i: usize) -> NodeId
-    requires { i < sizes.leaders }
-    ensures { result ≡ L i }
+/// The message that bytes spell, seen over them.
+fn seen(bytes: &[u8]) -> MessageView<'_>
+    requires { (message : Kind) × Spells message bytes.now }
+    ensures { Spells result bytes.now }
 {
-    NodeId::L(i as u8)
-}
-
-/// The node of a place among those to which a message goes.
-pub fn receiver_at(sizes: Sizes, outgoing: &Outgoing, i: usize) -> NodeId
-    requires { i < length (receivers (config_by sizes []) outgoing.now.to (message_tx outgoing.now.message)) }
-    ensures { result ≡ slice_index_or (receivers (config_by sizes []) outgoing.now.to (message_tx outgoing.now.message)) i result }
-{
-    match outgoing.to {
-        Address::Node(node) => node,
-        Address::Acceptors => acceptor_at(sizes, i),
-        Address::Leaders => leader_at(sizes, i),
-        Address::Managers => NodeId::R(outgoing.message.kind().tx().rm(i) as u8),
+    match view_of(bytes) {
+        Ok(message) => message,
+        Err(_) => unreachable!(),
     }
 }

@@ -165,22 +165,8 @@ impl NodeSends {
         self.reminded.as_slice().len() + self.question.as_slice().len()
     }
 
-    /// Whom an acceptor's reply is for, and the bytes that spell it, where that is what is sent; nothing else is then.
-    pub fn replied(&self) -> Option<(Address, &[u8])>
-        ensures few { IfSome result (λ reply. length reply.1.now ≤ MAX_MESSAGE_BYTES) }
-        ensures spells { IfSome result (λ reply. (message : Kind) × Spells message reply.1.now
-            × (self.now ≡ record { to = reply.0; message = message } ∷ [])) }
-    {
-        let (to, bytes) = self.spelled()?;
-        // what is for acceptors is a resource manager's
-        if matches!(to, Address::Acceptors) {
-            return None;
-        }
-        Some((to, bytes))
-    }
-
-    /// Whom an acceptor's reply, or a resource manager's vote on a message, is for, and the bytes that spell it, where that is what is
-    /// sent; nothing else is then.
+    /// Whom an acceptor's or a resource manager's reply to a message is for, and the bytes that spell it, where that is what is sent;
+    /// nothing else is then.
     pub fn spelled(&self) -> Option<(Address, &[u8])>
         ensures few { IfSome result (λ sent. length sent.1.now ≤ MAX_MESSAGE_BYTES) }
         ensures spells { IfSome result (λ sent. (message : Kind) × Spells message sent.1.now

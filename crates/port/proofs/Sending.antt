@@ -6,18 +6,12 @@ use Rattle.std.proofs.lemmas.Grind.{flat_map-append}
 use Rattle.std.proofs.lemmas.List.{append-nil, map_push, take_more}
 use Rattle.xid.specs.declared.refusals.Refusal.{Refusal}
 use Rattle.xid.specs.Places.{Place}
-use Rattle.xid.specs.Transactions.{TxParts}
 use Rattle.wire.specs.Grammar.{spelling}
-use Rattle.wire.specs.Messages.{message_tx}
 use Rattle.wire.specs.Notices.{notice_spelling}
-use Rattle.wire.specs.declared.message.Kind.{Kind}
-use Rattle.protocol.specs.declared.decisions.Address.{Address}
-use Rattle.protocol.specs.declared.decisions.Address.TheVariants as addresses
-use Rattle.protocol.specs.declared.decisions.Outgoing.{Outgoing}
 use Rattle.protocol.specs.declared.nodes.NodeId.{NodeId}
 use Rattle.protocol.specs.declared.nodes.NodeId.TheVariants.{A, L}
 use Rattle.protocol.specs.Effects.{Config, receivers}
-use Rattle.protocol.specs.Worlds.{Datagram, datagrams_of}
+use Rattle.protocol.specs.Worlds.{Datagram}
 use Rattle.node_core.specs.declared.config.Sizes.{Sizes}
 use Rattle.node_core.specs.Configs.{config_by}
 use Rattle.node_core.specs.Nodes.{AreSizes}
@@ -25,9 +19,10 @@ use Rattle.protocol.specs.declared.answers.Answer.TheVariants.{Refused}
 use Rattle.protocol.specs.Nodes.{Input}
 use Rattle.node_core.specs.declared.output.Output.{Output}
 use Rattle.node_core.specs.Sends.{sent}
+use Rattle.node_core.proofs.Addressed.{datagrams_as}
 use Rattle.node_core.specs.Storing.{output_of}
 use Rattle.floors.specs.Worlds.{notices_of, told_nodes}
-use Rattle.port.specs.Calls.{Sending, SendsAll, SendsTo, TellsAll, datagrams_from, datagram_for}
+use Rattle.port.specs.Calls.{Sending, SendsAll, SendsTo, TellsAll, datagrams_from}
 
 module _ {P : Type 0} (Sent : Sending P) where
   -- more of them after some
@@ -73,18 +68,7 @@ module _ {P : Type 0} (Sent : Sending P) where
       → SendsTo Sent a b bytes whos → Sent b c who bytes result → SendsTo Sent a c bytes (whos ++ who ∷ [])
   to_one bytes whos a b c who result some one = to_then bytes whos (who ∷ []) a b c some (c, result, one, refl)
 
-  -- bytes that spell a message are datagrams
-  pub sends_to : (sender : NodeId) (message : Kind) (bytes : List ℕ) → bytes ≡ spelling message → (whos : List NodeId) (a b : P)
-      → SendsTo Sent a b bytes whos → SendsAll Sent a b (map (datagram_for sender message) whos)
-  sends_to sender message bytes spelled [] a b none = none
-  sends_to sender message bytes spelled (who ∷ whos) a b (next, result, sent, rest) = (
-    next,
-    result,
-    subst (λ (xs : List ℕ). Sent a next who xs result) spelled sent,
-    sends_to sender message bytes spelled whos next b rest,
-  )
-
-  -- and those that spell a notice are notices
+  -- bytes that spell a notice are notices
   pub tells_to : (manager : ℕ) (place : Place) (bytes : List ℕ)
       → bytes ≡ notice_spelling (record { manager = manager; floor = place }) → (whos : List NodeId) (a b : P)
       → SendsTo Sent a b bytes whos
@@ -97,23 +81,7 @@ module _ {P : Type 0} (Sent : Sending P) where
     tells_to manager place bytes spelled whos next b rest,
   )
 
-receivers_as : (config : Config) (sizes : Sizes) → AreSizes config sizes → (address : Address) (tx : TxParts)
-    → receivers (config_by sizes []) address tx ≡ receivers config address tx
-receivers_as config sizes are (addresses.Node node) tx = refl
-receivers_as config sizes are addresses.Acceptors tx = ap (λ (n : ℕ). map A (range_with_len 0 n)) are.acceptors_are
-receivers_as config sizes are addresses.Leaders tx = ap (λ (n : ℕ). map L (range_with_len 0 n)) are.leaders_are
-receivers_as config sizes are addresses.Managers tx = refl
-
--- datagrams depend on the sizes of a cluster alone
-pub datagrams_as : (config : Config) (sizes : Sizes) → AreSizes config sizes → (who : NodeId) (sends : List Outgoing)
-    → flat_map (datagrams_of (config_by sizes []) who) sends ≡ flat_map (datagrams_of config who) sends
-datagrams_as config sizes are who [] = refl
-datagrams_as config sizes are who (send ∷ sends) =
-    ap (λ (rs : List NodeId). map (datagram_for who send.message) rs ++ flat_map (datagrams_of (config_by sizes []) who) sends)
-    (receivers_as config sizes are send.to (message_tx send.message))
-    ∙ ap (λ (ds : List Datagram). datagrams_of config who send ++ ds) (datagrams_as config sizes are who sends)
-
--- the same of what came of inputs
+-- datagrams of what came of inputs depend on the sizes of a cluster alone
 pub all_datagrams_as : (config : Config) (sizes : Sizes) → AreSizes config sizes → (who : NodeId) (outs : List Output)
     → flat_map (datagrams_from (config_by sizes []) who) outs ≡ flat_map (datagrams_from config who) outs
 all_datagrams_as config sizes are who [] = refl

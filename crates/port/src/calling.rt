@@ -1,6 +1,8 @@
 ghost use Rattle.std.specs.Prelude.{◌≡◌, [], length, map, IfErr, OnOk};
 ghost use Rattle.std.specs.List.{flat_map};
 ghost use Rattle.xid.specs.declared.refusals.Refusal.TheVariants.{PortFault};
+ghost use Rattle.wire.specs.declared.message.Kind.{Kind};
+ghost use Rattle.wire.specs.Grammar.{Spells};
 ghost use Rattle.stable_record.specs.Held.{IsCounted};
 ghost use Rattle.protocol.specs.declared.nodes.NodeId.{NodeId as Sender};
 ghost use Rattle.protocol.specs.Effects.{Config};
@@ -15,7 +17,7 @@ ghost use Rattle.port.specs.Calls.{Calls, Raises, SendsAll, SendsTo, Serves, Tel
 
 use crate::member::Member;
 use crate::port::{MAX_TAKEN, Port};
-use node_core::{Input, NodeSends, Output, Sizes, receiver_at, receiver_count};
+use node_core::{Input, NodeSends, Output, Receivers, Sizes};
 use protocol::{Address, Answer, Change, NodeId, Outgoing};
 use stable_record::{Record, RecordError};
 use wire::{MAX_DATAGRAM, Notice, encode};
@@ -30,17 +32,27 @@ pub struct Served {
     pub now: Option<Change>,
 }
 
-/// Sends a message to each of its receivers.
-fn send<P: Port>(port: &mut P, sizes: Sizes, outgoing: &Outgoing)
+/// Sends a message to each of its receivers, by the bytes that spell it.
+fn send<P: Port>(port: &mut P, sizes: Sizes, to: Address, bytes: &[u8])
+    requires { (message : Kind) × Spells message bytes.now }
+    ensures { (sender : Sender) (message : Kind) → Spells message bytes.now → SendsAll P.sent port.old port.new
+        (datagrams_of (config_by sizes []) sender (record { to = to; message = message })) }
+{
+    let receivers = Receivers::of(sizes, to, bytes);
+    for i in 0..receivers.count() {
+        // what isn't sent is lost, as a datagram may be
+        let _ = port.send(receivers.at(i), bytes);
+    }
+}
+
+/// Sends a message that isn't spelled yet to each of its receivers, as `send` does.
+fn spell_and_send<P: Port>(port: &mut P, sizes: Sizes, outgoing: &Outgoing)
     ensures { (sender : Sender) → SendsAll P.sent port.old port.new (datagrams_of (config_by sizes []) sender outgoing.now) }
 {
     let mut buffer = [0; MAX_DATAGRAM];
+    let _ = outgoing.message.kind();
     let len = encode(&outgoing.message, &mut buffer);
-    let bytes = &buffer[..len];
-    for i in 0..receiver_count(sizes, outgoing) {
-        // what isn't sent is lost, as a datagram may be
-        let _ = port.send(receiver_at(sizes, outgoing, i), bytes);
-    }
+    send(port, sizes, outgoing.to, &buffer[..len]);
 }
 
 /// Sends bytes to each leader.
@@ -63,30 +75,24 @@ fn send_to_acceptors<P: Port>(port: &mut P, acceptors: u8, bytes: &[u8])
     }
 }
 
-/// Sends the messages of a node one by one, as `send_all` does.
-fn send_one_by_one<P: Port>(port: &mut P, sizes: Sizes, sends: &NodeSends)
+/// Sends the messages of a node that aren't spelled yet, in their order, as `send_all` does.
+fn spell_and_send_all<P: Port>(port: &mut P, sizes: Sizes, sends: &NodeSends)
     ensures { (sender : Sender) → SendsAll P.sent port.old port.new
         (flat_map (datagrams_of (config_by sizes []) sender) (sent_by sends.now)) }
 {
     for k in 0..sends.count() {
-        let outgoing = sends.at(k);
-        send(port, sizes, &outgoing);
+        spell_and_send(port, sizes, &sends.at(k));
     }
 }
 
-/// Sends all messages that a node puts out, in their order. What an acceptor replies is spelled already, and goes to leaders; so is a vote,
-/// which goes to acceptors.
+/// Sends all messages that a node puts out, in their order.
 fn send_all<P: Port>(port: &mut P, sizes: Sizes, sends: &NodeSends)
     ensures { (sender : Sender) → SendsAll P.sent port.old port.new
         (flat_map (datagrams_of (config_by sizes []) sender) (sent_by sends.now)) }
 {
     match sends.spelled() {
-        Some((Address::Leaders, bytes)) => send_to_leaders(port, sizes.leaders, bytes),
-        Some((Address::Acceptors, bytes)) => send_to_acceptors(port, sizes.acceptors, bytes),
-        Some((Address::Node(node), bytes)) => {
-            let _ = port.send(node, bytes);
-        }
-        _ => send_one_by_one(port, sizes, sends),
+        Some((to, bytes)) => send(port, sizes, to, bytes),
+        None => spell_and_send_all(port, sizes, sends),
     }
 }
 

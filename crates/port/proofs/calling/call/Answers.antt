@@ -1,9 +1,9 @@
 use Rattle.std.proofs.Common.{List, refl, subst}
 use Rattle.protocol.specs.Worlds.{Datagram}
 use Rattle.node_core.specs.Sends.{sent}
+use Rattle.node_core.proofs.Addressed.{datagrams_as}
 use Rattle.port.specs.Calls.{SendsAll}
 use Rattle.port.proofs.Members.{member_sizes}
-use Rattle.port.proofs.Sending.{datagrams_as}
 use Rattle.port.proofs.calling.call.Goals as goal
 
 pub returns : goal.returns

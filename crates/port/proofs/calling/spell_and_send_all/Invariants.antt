@@ -5,7 +5,7 @@ use Rattle.protocol.specs.Worlds.{datagrams_of}
 use Rattle.node_core.specs.Configs.{config_by}
 use Rattle.node_core.specs.Sends.{sent}
 use Rattle.port.specs.Calls.{SendsAll}
-use Rattle.port.proofs.calling.send_one_by_one.Given as goal
+use Rattle.port.proofs.calling.spell_and_send_all.Given as goal
 
 -- so many messages were sent
 abbrev pub invariant-loop-k : goal.invariant-loop-k

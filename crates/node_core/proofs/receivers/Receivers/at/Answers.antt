@@ -1,8 +1,8 @@
 use Rattle.std.proofs.Common.{ap}
 use Rattle.protocol.specs.declared.nodes.NodeId.TheVariants.{A, L}
-use Rattle.cluster.specs.Sending.{receivers_in}
-use Rattle.cluster.proofs.Standing.{named_is, named_there}
-use Rattle.cluster.proofs.receivers.Receivers.at.Goals as goal
+use Rattle.node_core.specs.Receivers.{receivers_in}
+use Rattle.node_core.proofs.Addressed.{named_is, named_there}
+use Rattle.node_core.proofs.receivers.Receivers.at.Goals as goal
 
 pub number_below-requires : goal.number_below-requires
 number_below-requires c =

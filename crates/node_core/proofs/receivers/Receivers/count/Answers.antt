@@ -1,8 +1,8 @@
 use Rattle.std.proofs.Common.{ap}
 use Rattle.protocol.specs.declared.nodes.NodeId.TheVariants.{A, L}
-use Rattle.cluster.specs.Sending.{receivers_in}
-use Rattle.cluster.proofs.Standing.{named_count}
-use Rattle.cluster.proofs.receivers.Receivers.count.Goals as goal
+use Rattle.node_core.specs.Receivers.{receivers_in}
+use Rattle.node_core.proofs.Addressed.{named_count}
+use Rattle.node_core.proofs.receivers.Receivers.count.Goals as goal
 
 pub returns-in-Acceptors : goal.returns-in-Acceptors
 returns-in-Acceptors c =

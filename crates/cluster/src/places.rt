@@ -1,0 +1,31 @@
+//! How many nodes a cluster has, and which stands in a place.
+
+ghost use Rattle.std.specs.Prelude.{◌≡◌, ◌<◌};
+ghost use Rattle.cluster.specs.Clusters.{node_count, sized};
+ghost use Rattle.cluster.specs.Opening.{name_of};
+
+use node_core::Sizes;
+use protocol::NodeId;
+
+/// How many nodes there are.
+pub(crate) fn count_of(sizes: Sizes) -> usize
+    ensures { result ≡ node_count sizes }
+{
+    usize::from(sizes.acceptors) + usize::from(sizes.leaders) + usize::from(sizes.managers)
+}
+
+/// The node that stands in a place.
+pub(crate) fn name_at(sizes: Sizes, at: usize) -> NodeId
+    requires { at < node_count sizes }
+    ensures { result ≡ name_of (sized sizes) at }
+{
+    let acceptors = usize::from(sizes.acceptors);
+    let leaders = usize::from(sizes.leaders);
+    if at < acceptors {
+        return NodeId::A(at as u8);
+    }
+    if at < acceptors + leaders {
+        return NodeId::L((at - acceptors) as u8);
+    }
+    NodeId::R((at - acceptors - leaders) as u8)
+}

@@ -1,9 +1,0 @@
-use Rattle.node_core.proofs.Addressed.{acceptors_count, leaders_count}
-use Rattle.node_core.proofs.receivers.receiver_count.Goals as goal
-
-pub returns-in-Acceptors : goal.returns-in-Acceptors
-returns-in-Acceptors c = acceptors_count c.args.sizes c.args.outgoing.now.to _ c.in-Acceptors.is c.from.result c.from.ensures
-
-pub returns-in-Leaders : goal.returns-in-Leaders
-returns-in-Leaders c =
-    leaders_count c.args.sizes c.args.outgoing.now.to _ c.in-Leaders.is c.from-in-Leaders.result c.from-in-Leaders.ensures
