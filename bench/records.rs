@@ -12,10 +12,11 @@ mod frames;
 use anyhow::bail;
 use common::tx_of;
 use frames::count;
-use stable_record::{Entry, EntryKind, Fact, FactKind, FileRecord, Record, entries};
+use stable_record::{Entry, EntryKind, Fact, FactKind, FactView, FileRecord, Record, entries};
 use std::alloc::Global;
 use std::env;
 use std::time::Instant;
+use wire::MAX_TX_BYTES;
 use xid::{Refusal, Vote};
 
 const USAGE: &str =
@@ -25,14 +26,15 @@ const USAGE: &str =
 const FRAMES_TO_A_REPLACEMENT: u32 = 40;
 
 /// Adds the frame of a phase 2b vote.
-fn put_accept(alloc: Global, number: u32, out: &mut Vec<u8>) -> Result<(), Refusal> {
+fn put_accept(number: u32, out: &mut Vec<u8>) -> Result<(), Refusal> {
     let fact = Fact::new(FactKind::Accept {
         tx: tx_of(number, 2)?,
         instance: 1,
         ballot: 0,
         vote: Vote::Prepared,
     });
-    fact.write(alloc, out)
+    let mut buffer = [0; MAX_TX_BYTES];
+    FactView::of(fact, &mut buffer).write(out)
 }
 
 /// Adds the frame of a vote with 64 keys, each with the longest value: 16,729 bytes. `accept` is the frame of a phase 2b vote of the
@@ -53,7 +55,7 @@ fn put_long_vote(accept: &[u8], out: &mut Vec<u8>) -> Result<(), Refusal> {
 /// The frame of this number: a short one, and now and then a long one.
 fn frame_of(alloc: Global, number: u32) -> Result<Vec<u8>, Refusal> {
     let mut accept = Vec::new(alloc);
-    put_accept(alloc, number, &mut accept)?;
+    put_accept(number, &mut accept)?;
     if number % 4 < 3 {
         return Ok(accept);
     }
@@ -98,7 +100,7 @@ fn replay(rt: &HostRuntime, frames: u32, rounds: u32) -> anyhow::Result<()> {
     let alloc = rt.alloc();
     let mut bytes = Vec::new(alloc);
     for number in 0..frames {
-        put_accept(alloc, number, &mut bytes)?;
+        put_accept(number, &mut bytes)?;
     }
     let mut found: u32 = 0;
     let begin = Instant::now(rt)?;

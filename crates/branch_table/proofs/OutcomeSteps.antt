@@ -6,7 +6,7 @@ use Rattle.xid.specs.Names.{XidParts, xid_eq}
 use Rattle.stable_record.specs.declared.fact.Touched.{Touched}
 use Rattle.protocol.specs.declared.states.BranchState.{BranchState}
 use Rattle.protocol.specs.Managers.{Branch, idle_keys}
-use Rattle.branch_table.specs.Outcomes.{Looks, keys_named, looks_after}
+use Rattle.branch_table.specs.Outcomes.{HasLooked, keys_named, looks_after}
 use Rattle.branch_table.specs.TableStates.{branch_named, is_idle}
 use Rattle.branch_table.proofs.Hindered.{distinct_tail, named_absent, names, none_later}
 use Rattle.branch_table.proofs.Uses.{looks_more}
@@ -43,7 +43,8 @@ pub keys_none : (bs : List Branch) (x : XidParts) → branch_named bs x ≡ None
 keys_none bs x e = rw e refl
 
 -- the end of a branch that wasn't there
-pub looks_absent : (before after : ℕ) (keys : List Touched) → after ≡ looks_after before 1 → keys ≡ [] → Looks before after (length keys)
+pub looks_absent : (before after : ℕ) (keys : List Touched) → after ≡ looks_after before 1 → keys ≡ []
+    → HasLooked before after (length keys)
 looks_absent before after keys is none = record {
   count = 1;
   least = subst (λ (ks : List Touched). length ks ≤ 1) (sym none) (omega arith);
@@ -54,7 +55,7 @@ looks_absent before after keys is none = record {
 -- the end of a branch: one look finds it, one takes it out, and two are for each of its keys and the hold of it
 pub looks_ended : (before one two after : ℕ) (n : ℕ) → one ≡ looks_after before 1 → two ≡ looks_after one 1
     → after ≡ looks_after two (2 * n)
-    → Looks before after n
+    → HasLooked before after n
 looks_ended before one two after n is-one is-two is = record {
   count = 2 + 2 * n;
   least = omega arith;

@@ -58,7 +58,7 @@ abbrev pub looks_after : (before more : ℕ) → ℕ
 looks_after before more = min (before + more) (2 ^ 64 - 1)
 
 -- the end of a branch with this many touched keys has looked at least at each of them, and at no more than it needs
-pub record Looks (before after : ℕ) (keys : ℕ) : Type 0 where
+pub record HasLooked (before after : ℕ) (keys : ℕ) : Type 0 where
   pub count : ℕ
   pub least : keys ≤ count
   pub most : count ≤ 2 * keys + 4
@@ -68,12 +68,12 @@ pub record Looks (before after : ℕ) (keys : ℕ) : Type 0 where
 pub record Commits (old new : TableState) (x : XidParts) : Type 0 where
   pub branches : ChangesOnly old.branches new.branches x None
   pub rows : new.rows ≡ with_writes old.rows (keys_named old.branches x)
-  pub looks : Looks old.looks new.looks (length (keys_named old.branches x))
+  pub looks : HasLooked old.looks new.looks (length (keys_named old.branches x))
 
 -- the branch of x has ended without effect; where there was none, nothing but looks is another
 pub record Undoes (old new : TableState) (x : XidParts) : Type 0 where
   pub left : EndsOnly old new x None
-  pub looks : Looks old.looks new.looks (length (keys_named old.branches x))
+  pub looks : HasLooked old.looks new.looks (length (keys_named old.branches x))
 
 -- the names of the prepared branches
 abbrev pub prepared_names : List Branch → List XidParts

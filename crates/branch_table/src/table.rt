@@ -15,7 +15,7 @@ ghost use Rattle.protocol.specs.Branches.{is_write, read_of, row_at};
 ghost use Rattle.protocol.specs.Managers.{view_named};
 ghost use Rattle.branch_table.specs.Admission.{end_action, end_state, end_code, is_writing, Admits, Touches};
 ghost use Rattle.branch_table.specs.OneCall.{IsHindered};
-ghost use Rattle.branch_table.specs.Outcomes.{Looks as LooksLem, keys_named};
+ghost use Rattle.branch_table.specs.Outcomes.{HasLooked, keys_named};
 ghost use Rattle.branch_table.specs.Parts.{uses_held, uses_of};
 ghost use Rattle.branch_table.specs.TableStates.{AreTableBranches, Steps, are_rows, branch_named, first_table};
 
@@ -184,7 +184,7 @@ impl BranchTable {
     pub fn rollback(&mut self, xid: &Xid) -> Answer
         ensures steps { Steps self.old self.new xid.now actions.Rollback result }
         ensures done { result ≡ answers.Code XaCode.Ok
-            → LooksLem self.old.looks self.new.looks (length (keys_named self.old.branches xid.now)) }
+            → HasLooked self.old.looks self.new.looks (length (keys_named self.old.branches xid.now)) }
         ensures undone { result ≢ answers.Code XaCode.Ok → self.new.looks ≡ self.old.looks }
     {
         let Some(branch) = self.branches.get(xid) else {

@@ -16,8 +16,8 @@ use Rattle.wire.specs.Messages.{IsMessage}
 use Rattle.wire.proofs.DecodingLemmas.{found, spelled}
 use Rattle.protocol.specs.declared.events.Sent.{Sent}
 use Rattle.protocol.specs.declared.nodes.NodeId.{NodeId}
-use Rattle.protocol.specs.Worlds.{Datagram, numbered}
-use Rattle.network.specs.Networks.{DatagramParts, NetworkParts, StandsFor, IsKept, datagram_to}
+use Rattle.protocol.specs.Worlds.{Datagram, numbered, datagram_to}
+use Rattle.network.specs.Networks.{DatagramParts, NetworkParts, StandsFor, IsKept}
 use Rattle.network.proofs.Sent.{sent_again}
 use Rattle.network.proofs.Standing.{same_length}
 use Rattle.cluster.specs.Clusters.{listed_at, listed_from, sent_after}

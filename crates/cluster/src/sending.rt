@@ -5,9 +5,9 @@ ghost use Rattle.std.specs.List.{flat_map};
 ghost use Rattle.wire.specs.declared.message.Kind.{Kind};
 ghost use Rattle.wire.specs.Grammar.{Spells};
 ghost use Rattle.protocol.specs.declared.nodes.NodeId.{NodeId as Id};
-ghost use Rattle.protocol.specs.Worlds.{Datagram, datagrams_of};
+ghost use Rattle.protocol.specs.Worlds.{Datagram, datagrams_of, datagram_to};
 ghost use Rattle.node_core.specs.Sends.{sent as sent_by};
-ghost use Rattle.network.specs.Networks.{StandsFor, datagram_to};
+ghost use Rattle.network.specs.Networks.{StandsFor};
 ghost use Rattle.cluster.specs.Clusters.{sized};
 ghost use Rattle.cluster.specs.Sending.{HasRoom, HaveSent, KeepsRoom};
 

@@ -4,8 +4,8 @@ use Rattle.std.proofs.Common.{refl, sym, ap, ◌∙◌, subst, append_assoc}
 use Rattle.std.proofs.lemmas.List.{map_push}
 use Rattle.wire.specs.declared.message.Kind.{Kind}
 use Rattle.protocol.specs.declared.nodes.NodeId.{NodeId}
-use Rattle.protocol.specs.Worlds.{Datagram}
-use Rattle.network.specs.Networks.{NetworkParts, StandsFor, datagram_to}
+use Rattle.protocol.specs.Worlds.{Datagram, datagram_to}
+use Rattle.network.specs.Networks.{NetworkParts, StandsFor}
 
 -- the last of those sent, and what is before it
 split_sent : (f : NodeId → Datagram) (net : List Datagram) (x : NodeId) (xs : List NodeId)

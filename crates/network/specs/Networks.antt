@@ -1,9 +1,8 @@
 -- What contracts see of a network, and which datagrams of the machine it stands for.
-use Rattle.std.specs.Prelude.{◌≡◌, ℕ, suc, ◌-◌, ◌^◌, Bool, false, if◌then◌else◌, List, [], ◌∷◌, Option, Some, None}
+use Rattle.std.specs.Prelude.{◌≡◌, ℕ, suc, ◌-◌, ◌^◌, Bool, if◌then◌else◌, List, [], ◌∷◌, Option, Some, None}
 use Rattle.std.specs.List.{AllZip}
 use Rattle.std.specs.Option.{option_map}
 use Rattle.wire.specs.Grammar.{Spells}
-use Rattle.wire.specs.declared.message.Kind.{Kind}
 use Rattle.protocol.specs.declared.nodes.NodeId.{NodeId}
 use Rattle.protocol.specs.Worlds.{Datagram, datagram_at}
 use Rattle.network.specs.declared.entry.KeptDatagram.{KeptDatagram}
@@ -35,10 +34,6 @@ pub record IsKept (kept : DatagramParts) (d : Datagram) : Type 0 where
 -- a network keeps the datagrams of the machine
 pub record StandsFor (network : NetworkParts) (net : List Datagram) : Type 0 where
   pub datagrams_are : AllZip IsKept network.datagrams net
-
--- a message that was just sent to a receiver
-abbrev pub datagram_to : NodeId → Kind → NodeId → Datagram
-datagram_to sender message receiver = record { sender = sender; receiver = receiver; message = message; marked = false }
 
 -- a datagram as the code hands it out
 abbrev pub shown : KeptDatagram → DatagramParts

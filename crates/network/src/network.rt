@@ -6,8 +6,8 @@ ghost use Rattle.std.specs.Vec.{vec_len, vec_capacity};
 ghost use Rattle.xid.specs.declared.refusals.Refusal.TheVariants.{NoMemory};
 ghost use Rattle.wire.specs.declared.message.Kind.{Kind};
 ghost use Rattle.wire.specs.Grammar.{Spells};
-ghost use Rattle.protocol.specs.Worlds.{Datagram, datagram_at, mark_at};
-ghost use Rattle.network.specs.Networks.{StandsFor, Finds, most_datagrams, datagram_to, least_unmarked, shown};
+ghost use Rattle.protocol.specs.Worlds.{Datagram, datagram_at, mark_at, datagram_to};
+ghost use Rattle.network.specs.Networks.{StandsFor, Finds, most_datagrams, least_unmarked, shown};
 
 use crate::entry::{Entry, KeptDatagram, marked_front};
 use protocol::NodeId;

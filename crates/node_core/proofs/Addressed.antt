@@ -1,17 +1,16 @@
 -- How many receivers an address has, and each of them; what is sent in a cluster of some sizes. Ports and clusters need it.
-use Rattle.std.proofs.Common.{◌≡◌, ◌∙◌, ℕ, ◌+◌, ◌<◌, List, [], ◌∷◌, ◌++◌, length, map, get_or, false, refl, sym, ap, arith}
+use Rattle.std.proofs.Common.{◌≡◌, ◌∙◌, ℕ, ◌+◌, ◌<◌, List, [], ◌∷◌, ◌++◌, length, map, get_or, refl, sym, ap, arith}
 use Rattle.std.specs.List.{flat_map, range_with_len}
 use Rattle.std.proofs.lemmas.List.FromFn.{length-map-range_with_len, get_or-map-range_with_len}
 use Rattle.xid.specs.Transactions.{TxParts}
 use Rattle.wire.specs.Messages.{message_tx}
-use Rattle.wire.specs.declared.message.Kind.{Kind}
 use Rattle.protocol.specs.declared.decisions.Address.{Address}
 use Rattle.protocol.specs.declared.decisions.Address.TheVariants as addresses
 use Rattle.protocol.specs.declared.decisions.Outgoing.{Outgoing}
 use Rattle.protocol.specs.declared.nodes.NodeId.{NodeId}
 use Rattle.protocol.specs.declared.nodes.NodeId.TheVariants.{A, L}
 use Rattle.protocol.specs.Effects.{Config, receivers}
-use Rattle.protocol.specs.Worlds.{Datagram, datagrams_of}
+use Rattle.protocol.specs.Worlds.{Datagram, datagram_to, datagrams_of}
 use Rattle.node_core.specs.declared.config.Sizes.{Sizes}
 use Rattle.node_core.specs.declared.receivers.Receivers.{Receivers}
 use Rattle.node_core.specs.Configs.{config_by}
@@ -36,9 +35,6 @@ module _ (name : ℕ → NodeId) (r : Receivers) (count : ℕ) (is : receivers_i
 
 -- ---- what is sent
 
-abbrev datagram_from : NodeId → Kind → NodeId → Datagram
-datagram_from sender message receiver = record { sender = sender; receiver = receiver; message = message; marked = false }
-
 receivers_as : (config : Config) (sizes : Sizes) → AreSizes config sizes → (address : Address) (tx : TxParts)
     → receivers (config_by sizes []) address tx ≡ receivers config address tx
 receivers_as config sizes are (addresses.Node node) tx = refl
@@ -51,6 +47,6 @@ pub datagrams_as : (config : Config) (sizes : Sizes) → AreSizes config sizes �
     → flat_map (datagrams_of (config_by sizes []) who) sends ≡ flat_map (datagrams_of config who) sends
 datagrams_as config sizes are who [] = refl
 datagrams_as config sizes are who (send ∷ sends) =
-    ap (λ (rs : List NodeId). map (datagram_from who send.message) rs ++ flat_map (datagrams_of (config_by sizes []) who) sends)
+    ap (λ (rs : List NodeId). map (datagram_to who send.message) rs ++ flat_map (datagrams_of (config_by sizes []) who) sends)
     (receivers_as config sizes are send.to (message_tx send.message))
     ∙ ap (λ (ds : List Datagram). datagrams_of config who send ++ ds) (datagrams_as config sizes are who sends)

@@ -1,12 +1,11 @@
 -- What a node makes of what it is handed at its port: the step of the machine with floors, and one send for each datagram of it.
-use Rattle.std.specs.Prelude.{◌≡◌, ℕ, List, [], ◌∷◌, map, false, if◌then◌else◌, Option, Some, None, Result, Ok, Err}
+use Rattle.std.specs.Prelude.{◌≡◌, ℕ, List, [], ◌∷◌, map, if◌then◌else◌, Option, Some, None, Result, Ok, Err}
 use Rattle.std.specs.List.{flat_map, range_with_len}
 use Rattle.xid.specs.declared.refusals.Refusal.{Refusal}
 use Rattle.xid.specs.declared.refusals.Refusal.TheVariants.{NoSuch}
 use Rattle.xid.specs.Places.{Place}
 use Rattle.wire.specs.Grammar.{spelling}
 use Rattle.wire.specs.Notices.{notice_spelling}
-use Rattle.wire.specs.declared.message.Kind.{Kind}
 use Rattle.protocol.specs.declared.nodes.NodeId.TheVariants.{A, L, R}
 use Rattle.protocol.specs.declared.nodes.NodeId.{NodeId}
 use Rattle.protocol.specs.Effects.{Config}
@@ -19,10 +18,6 @@ use Rattle.floors.specs.Worlds.{Notice, is_done, notices_of}
 use Rattle.floored.specs.Nodes.{FlooredStands}
 use Rattle.port.specs.declared.calling.Served.{Served}
 use Rattle.port.specs.Members.{Item, MemberParts, RaisesMember, TakesAs, item_at}
-
--- an unmarked datagram
-abbrev pub datagram_for : NodeId → Kind → NodeId → Datagram
-datagram_for sender message receiver = record { sender = sender; receiver = receiver; message = message; marked = false }
 
 -- so many leaders
 abbrev pub leaders_below : ℕ → List NodeId

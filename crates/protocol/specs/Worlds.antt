@@ -52,10 +52,13 @@ set_node config world who node = record world { nodes = option_map_or (λ at. sl
 abbrev pub answer_result : World → Answer → StepResult
 answer_result world answer = record { world = world; answer = answer; now = None; sent = [] }
 
+-- a message that was just sent to a receiver
+abbrev pub datagram_to : NodeId → Kind → NodeId → Datagram
+datagram_to sender message receiver = record { sender = sender; receiver = receiver; message = message; marked = false }
+
 -- one datagram to each receiver
 abbrev pub datagrams_of : Config → NodeId → Outgoing → List Datagram
-datagrams_of config who send = map (λ receiver. record { sender = who; receiver = receiver; message = send.message; marked = false })
-    (receivers config send.to (message_tx send.message))
+datagrams_of config who send = map (datagram_to who send.message) (receivers config send.to (message_tx send.message))
 
 -- views by number, to compare them
 abbrev pub view_number : View → ℕ

@@ -9,7 +9,7 @@ ghost use Rattle.stable_record.specs.Grammar.{most_body, value_spelling, act_spe
 ghost use Rattle.stable_record.specs.Grammar.{rest_spelling, body_spelling, frame};
 
 use crate::entry::{Entry, EntryKind};
-use crate::fact::{Act, Fact, FactKind, Touched};
+use crate::fact::{Act, FactKind, Touched};
 use byteorder::{BigEndian, ByteOrder};
 use std::alloc::{AllocError, Global};
 use wire::{MAX_TX_BYTES, VERSION, put_tx};
@@ -243,20 +243,6 @@ impl Entry {
     {
         let mut body = room(alloc);
         put_body(&mut body, self.kind())?;
-        put_framed(alloc, &body, out)
-    }
-}
-
-impl Fact {
-    /// Writes its frame, in version 2, at the end: that of the entry that it is. At `NoMemory`, the only refusal, the content is as
-    /// it was.
-    pub fn write(&self, alloc: Global, out: &mut Vec<u8>) -> Result<(), Refusal>
-        ensures ok { OnOk result (out.new.items ≡ out.old.items ++ frame version_2 (EntryKind.Fact self.now)) }
-        ensures err { IfErr result (λ e. (e ≡ NoMemory) × (out.new.items ≡ out.old.items)) }
-        ensures valid { IsFact self.now }
-    {
-        let mut body = room(alloc);
-        put_fact(&mut body, self.kind())?;
         put_framed(alloc, &body, out)
     }
 }

@@ -1,8 +1,8 @@
 use Rattle.std.proofs.Common.{◌∙◌, ◌<◌, List, length, map, sym, subst, arith}
 use Rattle.std.proofs.lemmas.List.{take_all}
 use Rattle.protocol.specs.declared.nodes.NodeId.{NodeId}
+use Rattle.protocol.specs.Worlds.{datagram_to}
 use Rattle.node_core.specs.Receivers.{receivers_in}
-use Rattle.network.specs.Networks.{datagram_to}
 use Rattle.cluster.specs.Sending.{HasRoom, HaveSent, KeepsRoom}
 use Rattle.cluster.proofs.Sent.{room_there, room_next, room_after, next_put, count_sent}
 use Rattle.cluster.proofs.sending.send.Goals as goal

@@ -1,8 +1,8 @@
 use Rattle.std.proofs.Common.{◌≡◌, ℕ, ◌<◌, ◌+◌, ◌-◌, true, nat_lt, length, map, take}
 use Rattle.wire.specs.declared.message.Kind.{Kind}
 use Rattle.wire.specs.Grammar.{Spells}
+use Rattle.protocol.specs.Worlds.{datagram_to}
 use Rattle.node_core.specs.Receivers.{receivers_in}
-use Rattle.network.specs.Networks.{datagram_to}
 use Rattle.cluster.specs.Sending.{HasRoom, HaveSent}
 use Rattle.cluster.proofs.sending.send.Given as goal
 

@@ -2,7 +2,7 @@ use Rattle.std.proofs.Common.{◌∙◌, ◌-◌, length, List, sym, ap, subst}
 use Rattle.stable_record.specs.declared.fact.Touched.{Touched}
 use Rattle.protocol.specs.Managers.{has_key}
 use Rattle.protocol.specs.Tables.{with_writes}
-use Rattle.branch_table.specs.Outcomes.{Looks, keys_named}
+use Rattle.branch_table.specs.Outcomes.{HasLooked, keys_named}
 use Rattle.branch_table.specs.Parts.{branch_of, hold_at, table_of, uses_by, uses_held}
 use Rattle.branch_table.proofs.OutcomeSteps.{keys_found, keys_none, looks_absent, looks_ended}
 use Rattle.branch_table.proofs.TableKept.{held_there, kept_absent, kept_ended}
@@ -46,7 +46,7 @@ returns c =
     let x = c.args.xid.now in
     let keys = c.into_keys.ensures.value
     ∙ sym (keys_found c.self.inside.branches x (branch_of x c.in-Some.branch) (sym c.in-Some.ensures.value)) in
-    let looks = subst (λ (touched : List Touched). Looks c.self.inside.looks c.settle.new.looks (length touched)) keys
+    let looks = subst (λ (touched : List Touched). HasLooked c.self.inside.looks c.settle.new.looks (length touched)) keys
     (looks_ended c.self.inside.looks c.add.new.self c.add-2.new.self c.settle.new.looks (length c.into_keys.result.items) c.add.ensures
     c.add-2.ensures c.settle.ensures.looks) in
     rw (← c.self.view_is)

@@ -1,5 +1,5 @@
 use Rattle.std.proofs.Common.{◌∙◌, ◌-◌, List, length, refl, sym, ap, subst}
-use Rattle.branch_table.specs.Outcomes.{Looks, keys_named}
+use Rattle.branch_table.specs.Outcomes.{HasLooked, keys_named}
 use Rattle.branch_table.specs.Parts.{branch_of}
 use Rattle.branch_table.proofs.OutcomeSteps.{keys_found, keys_none, looks_absent, looks_ended}
 use Rattle.branch_table.proofs.TableKept.{kept_absent, kept_ended}
@@ -36,7 +36,7 @@ pub returns : goal.returns
 returns c =
     let x = c.args.xid.now in
     let keys = keys_found c.self.inside.branches x (branch_of x c.in-Some.branch) (sym c.in-Some.ensures.value) in
-    let looks = subst (λ (touched : List Touched). Looks c.self.inside.looks c.let_go.new.looks (length touched))
+    let looks = subst (λ (touched : List Touched). HasLooked c.self.inside.looks c.let_go.new.looks (length touched))
     (c.keys.ensures.value ∙ sym keys)
     (looks_ended c.self.inside.looks c.add.new.self c.add-2.new.self c.let_go.new.looks (length c.keys.result.now) c.add.ensures
     c.add-2.ensures

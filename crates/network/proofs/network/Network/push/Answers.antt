@@ -1,7 +1,8 @@
 use Rattle.std.proofs.Common.{◌≡◌, ◌∙◌, ◌<◌, false, List, length, refl, sym, ap, subst, arith, length-append}
+use Rattle.protocol.specs.Worlds.{datagram_to}
 use Rattle.network.specs.declared.entry.Entry.{Entry}
 use Rattle.network.specs.Entries.{IsNetwork}
-use Rattle.network.specs.Networks.{NetworkParts, StandsFor, datagram_to}
+use Rattle.network.specs.Networks.{NetworkParts, StandsFor}
 use Rattle.network.proofs.Places.{spelled_at_end, network_pushed, stands_pushed, count_is}
 use Rattle.network.proofs.network.Network.push.Goals as goal
 

@@ -1,9 +1,10 @@
 use Rattle.std.proofs.Common.{◌≡◌, ◌<◌, ◌≤◌, ◌+◌, ◌-◌, false, List, [], ◌∷◌, ◌++◌, length, map, refl, sym, subst, arith}
 use Rattle.std.proofs.lemmas.List.{append-nil, length-map}
 use Rattle.std.proofs.lemmas.List.Elements.{All-get_or}
+use Rattle.protocol.specs.Worlds.{datagram_to}
 use Rattle.network.specs.declared.entry.Entry.{Entry}
 use Rattle.network.specs.Entries.{kept_in, IsNetwork}
-use Rattle.network.specs.Networks.{NetworkParts, StandsFor, IsKept, datagram_to}
+use Rattle.network.specs.Networks.{NetworkParts, StandsFor, IsKept}
 use Rattle.network.proofs.Places.{network_pushed, stands_pushed, count_is, last_kept}
 use Rattle.network.proofs.network.Network.push_again.Goals as goal
 
