@@ -9,7 +9,8 @@ use Rattle.protocol.specs.Worlds.{place}
 use Rattle.node_core.specs.declared.config.Sizes.{Sizes}
 use Rattle.node_core.specs.Configs.{is_among}
 use Rattle.node_core.specs.Nodes.{AreSizes}
-use Rattle.cluster.specs.Clusters.{sized, node_count}
+use Rattle.node_core.specs.Places.{node_count}
+use Rattle.cluster.specs.Clusters.{sized}
 use Rattle.cluster.specs.Opening.{name_of}
 
 abbrev pub count_of : Config → ℕ

@@ -31,6 +31,7 @@ use Rattle.floors.specs.Worlds.{FlooredWorld, Machine, floored_step}
 use Rattle.floors.specs.Runs.{IsFlooredReachable, Opening, After, floored_opening}
 use Rattle.forgetting.specs.Above.{StandsAbove}
 use Rattle.forgetting.proofs.Left.{stands_whole}
+use Rattle.node_core.specs.Places.{node_count}
 use Rattle.floored.specs.Nodes.{FlooredParts, FlooredStands, IsFlooredOpened, IsFlooredUnopened}
 use Rattle.floored.specs.Told.{told_at}
 use Rattle.node_core.specs.declared.config.Sizes.{Sizes}
@@ -40,7 +41,7 @@ use Rattle.node_core.proofs.Loading.{read_faulted}
 use Rattle.node_core.proofs.Restarting.{opened_empty}
 use Rattle.node_core.specs.Opening.{HasFaulted, IsOpened, IsUnopened}
 use Rattle.network.specs.Networks.{NetworkParts, StandsFor}
-use Rattle.cluster.specs.Clusters.{NoticesParts, sized, node_count, cluster_of, AreTold, ClusterStands, IsSound}
+use Rattle.cluster.specs.Clusters.{NoticesParts, sized, cluster_of, AreTold, ClusterStands, IsSound}
 use Rattle.cluster.specs.Opening.{torn_node, opening_with, tears_of, NoneArmed, IsOver, IsMade, IsUnmade, name_of}
 use Rattle.cluster.specs.Opening.{IsBegun, IsUnbegun, AreBegun}
 use Rattle.cluster.proofs.Names.{count_of, name_as, name_placed, name_there}

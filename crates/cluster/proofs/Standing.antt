@@ -18,10 +18,11 @@ use Rattle.node_core.specs.declared.config.Sizes.{Sizes}
 use Rattle.node_core.specs.Nodes.{AreSizes, IsSameNode}
 use Rattle.floors.specs.Worlds.{FlooredWorld, with_entry}
 use Rattle.floors.proofs.Rising.{entry_by, entry_own}
+use Rattle.node_core.specs.Places.{node_count}
 use Rattle.floored.specs.Nodes.{FlooredParts, FlooredStands}
 use Rattle.floored.specs.Told.{told_at}
 use Rattle.network.specs.Networks.{NetworkParts, StandsFor}
-use Rattle.cluster.specs.Clusters.{ClusterParts, NoticesParts, sized, node_count, cluster_of, AreNodes, AreTold, ClusterStands}
+use Rattle.cluster.specs.Clusters.{ClusterParts, NoticesParts, sized, cluster_of, AreNodes, AreTold, ClusterStands}
 use Rattle.cluster.specs.Clusters.{IsSameCluster, IsSameFloored, StayBut}
 
 -- ---- lists, place by place

@@ -64,10 +64,6 @@ sized sizes = record {
   tables = [];
 }
 
--- how many nodes there are
-abbrev pub node_count : Sizes → ℕ
-node_count sizes = sizes.acceptors + sizes.leaders + sizes.managers
-
 -- the nodes stand in the order of their names, each with its floor, and each for the one that the machine has there
 pub record AreNodes (config : Config) (nodes : List FlooredParts) (floor : NodeId → Option Place) (states : List NodeState) : Type 0 where
   pub count : length nodes ≡ config.acceptors + config.leaders + config.managers

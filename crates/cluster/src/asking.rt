@@ -4,8 +4,9 @@ ghost use Rattle.std.specs.Prelude.{◌≡◌, length};
 ghost use Rattle.protocol.specs.Effects.{Config};
 ghost use Rattle.floors.specs.Worlds.{FlooredWorld};
 ghost use Rattle.network.specs.Networks.{NetworkParts};
+ghost use Rattle.node_core.specs.Places.{node_count};
 ghost use Rattle.cluster.specs.Asking.{ViewsIn, TablesIn};
-ghost use Rattle.cluster.specs.Clusters.{NoticesParts, cluster_of, node_count, ClusterStands};
+ghost use Rattle.cluster.specs.Clusters.{NoticesParts, cluster_of, ClusterStands};
 
 use floored::Floored;
 use node_core::{Sizes, place_of};

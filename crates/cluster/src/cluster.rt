@@ -13,11 +13,10 @@ use crate::asking::{table, view};
 use crate::handing::{Answered, happen};
 use crate::notices::Notices;
 use crate::opening::open_all;
-use crate::places::count_of;
 use crate::room::{most_sent, most_told};
 use floored::Floored;
 use network::{KeptDatagram, Network};
-use node_core::{Config, Output, Sizes};
+use node_core::{Config, Output, Sizes, node_count};
 use protocol::{Answer, Event, Row, Sent, Step, Told, View};
 use stable_record::{Record, Tear};
 use std::alloc::Global;
@@ -111,7 +110,7 @@ impl<R: Record + Drop> Cluster<R> {
         ensures err { IfErr result (λ e. IsUnmade config.now (map R.Record.held records.items) e) }
     {
         let sizes = config.sizes();
-        if records.len() != count_of(sizes) {
+        if records.len() != node_count(sizes) {
             return Err(Refusal::BadConfig);
         }
         let nodes = open_all(alloc, config, sizes, records)?;

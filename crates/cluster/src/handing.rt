@@ -11,9 +11,10 @@ ghost use Rattle.node_core.specs.declared.config.Sizes.{Sizes as ClusterSizes};
 ghost use Rattle.node_core.specs.Opening.{restart_answer};
 ghost use Rattle.node_core.specs.Sends.{sent as sent_by};
 ghost use Rattle.floors.specs.Worlds.{is_manager as is_named_manager};
+ghost use Rattle.node_core.specs.Places.{node_count};
 ghost use Rattle.floored.specs.Nodes.{FlooredParts};
 ghost use Rattle.network.specs.Networks.{NetworkParts};
-ghost use Rattle.cluster.specs.Clusters.{NoticesParts, cluster_of, node_count, sized, Happens, IsSound, Reaches};
+ghost use Rattle.cluster.specs.Clusters.{NoticesParts, cluster_of, sized, Happens, IsSound, Reaches};
 ghost use Rattle.cluster.specs.Notices.{HasToldOwn, RaisesTo, RaisesToLeast, is_in_use, replaced_at, told_count};
 ghost use Rattle.cluster.specs.Sending.{HasRoom, HaveSent};
 

@@ -6,12 +6,13 @@ ghost use Rattle.std.specs.Option.{option_map};
 ghost use Rattle.std.specs.Vec.{vec_len, vec_capacity};
 ghost use Rattle.xid.specs.declared.refusals.Refusal.TheVariants.{NoMemory};
 ghost use Rattle.floors.specs.Worlds.{notices_of};
-ghost use Rattle.cluster.specs.Clusters.{node_count, notice_at, sized};
+ghost use Rattle.node_core.specs.Places.{node_count};
+ghost use Rattle.cluster.specs.Clusters.{notice_at, sized};
 ghost use Rattle.cluster.specs.Notices.{HasHeardAt, HaveTold, forgotten_at, notice_in, shown_notice, told_count};
 
-use crate::places::{count_of, name_at};
+use crate::places::name_at;
 use floored::ToldFloors;
-use node_core::Sizes;
+use node_core::{Sizes, node_count};
 use protocol::{NodeId, Told};
 use std::alloc::Global;
 use std::marker::Model;
@@ -107,7 +108,7 @@ impl Notices {
         ensures all { IfOk result (λ n. n.all ≡ []) }
         ensures err { IfErr result (λ e. e ≡ NoMemory) }
     {
-        let told = none_told(alloc, count_of(sizes), usize::from(sizes.managers))?;
+        let told = none_told(alloc, node_count(sizes), usize::from(sizes.managers))?;
         Ok(Notices {
             told,
             all: Vec::new(alloc),

@@ -3,12 +3,12 @@
 ghost use Rattle.std.specs.Prelude.{◌≡◌, true, length, map, IfOk, IfErr};
 ghost use Rattle.node_core.specs.Configs.{is_among};
 ghost use Rattle.node_core.specs.Nodes.{AreSizes};
-ghost use Rattle.cluster.specs.Clusters.{node_count};
+ghost use Rattle.node_core.specs.Places.{node_count};
 ghost use Rattle.cluster.specs.Opening.{AreBegun, IsBegun, IsUnbegun, IsUnmade};
 
-use crate::places::{count_of, name_at};
+use crate::places::name_at;
 use floored::Floored;
-use node_core::{Config, Sizes};
+use node_core::{Config, Sizes, node_count};
 use protocol::NodeId;
 use stable_record::Record;
 use std::alloc::Global;
@@ -52,7 +52,7 @@ pub(crate) fn open_all<R: Record + Drop>(
     ensures ok { IfOk result (λ nodes. AreBegun config.now (map R.Record.held records.items) nodes.items) }
     ensures err { IfErr result (λ e. IsUnmade config.now (map R.Record.held records.items) e) }
 {
-    let mut nodes = Vec::with_capacity(alloc, count_of(sizes))?;
+    let mut nodes = Vec::with_capacity(alloc, node_count(sizes))?;
     for device in records {
         let who = name_at(sizes, nodes.len());
         let node = match open_new(alloc, config, who, device) {

@@ -1,18 +1,12 @@
-//! How many nodes a cluster has, and which stands in a place.
+//! Which node stands in a place.
 
 ghost use Rattle.std.specs.Prelude.{◌≡◌, ◌<◌};
-ghost use Rattle.cluster.specs.Clusters.{node_count, sized};
+ghost use Rattle.node_core.specs.Places.{node_count};
+ghost use Rattle.cluster.specs.Clusters.{sized};
 ghost use Rattle.cluster.specs.Opening.{name_of};
 
 use node_core::Sizes;
 use protocol::NodeId;
-
-/// How many nodes there are.
-pub(crate) fn count_of(sizes: Sizes) -> usize
-    ensures { result ≡ node_count sizes }
-{
-    usize::from(sizes.acceptors) + usize::from(sizes.leaders) + usize::from(sizes.managers)
-}
 
 /// The node that stands in a place.
 pub(crate) fn name_at(sizes: Sizes, at: usize) -> NodeId

@@ -5,13 +5,13 @@ use Rattle.std.proofs.lemmas.Bool.{eq-eqb}
 use Rattle.std.proofs.lemmas.List.{ext_get_or, get_or-replicate, get_or-set_other, get_or-set_same, length-replicate, length-set}
 use Rattle.protocol.specs.Worlds.{Datagram}
 use Rattle.floors.specs.Worlds.{Notice}
+use Rattle.node_core.specs.Places.{node_count}
 use Rattle.letters.specs.Letters.{letter_spelling}
 use Rattle.port.specs.Calls.{Sending, SendsAll, TellsAll}
 use Rattle.letter_port.specs.declared.outbox.Outbox.{Outbox}
 use Rattle.letter_port.specs.LetterPorts.{LetterParts, SendsOut}
 use Rattle.letter_port.specs.Mails.{Mail, mail_of, mail_of_notice}
 use Rattle.letter_port.specs.Outboxes.{AllGo, OutboxSent, letter_in}
-use Rattle.letter_port.specs.Places.{node_count}
 use Rattle.letter_port.proofs.Transfers.{Carried, Holds, IsSentOut, letters_none, sends_all, sent_out, tells_all}
 
 -- letters of which so many have nothing in them

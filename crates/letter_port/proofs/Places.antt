@@ -8,7 +8,8 @@ use Rattle.protocol.specs.Worlds.{place}
 use Rattle.node_core.specs.Configs.{config_by, is_among}
 use Rattle.node_core.specs.declared.config.Sizes.{Sizes}
 use Rattle.floors.specs.Worlds.{is_node}
-use Rattle.letter_port.specs.Places.{node_count, node_in}
+use Rattle.node_core.specs.Places.{node_count}
+use Rattle.letter_port.specs.Places.{node_in}
 
 if_some : (test : Bool) (x at : ℕ) → ◌≡◌ {A = Option ℕ} (if test then Some x else None) (Some at) → (test ≡ true) × (x ≡ at)
 if_some true x at e = (refl, cc)

@@ -6,13 +6,13 @@ use Rattle.protocol.specs.declared.nodes.NodeId.{NodeId}
 use Rattle.protocol.specs.declared.nodes.NodeId.TheVariants.{A, L, R}
 use Rattle.node_core.specs.Opening.{restart_answer}
 use Rattle.floors.specs.Worlds.{is_done, notices_of}
+use Rattle.node_core.specs.Places.{node_count}
 use Rattle.letters.specs.Letters.{letter_spelling}
 use Rattle.port.specs.Calls.{Raises, Sending}
 use Rattle.port.specs.Members.{MemberParts}
 use Rattle.letter_port.specs.declared.outbox.Outbox.{Outbox}
 use Rattle.letter_port.specs.LetterPorts.{LetterParts, RaisesInLetters}
 use Rattle.letter_port.specs.Outboxes.{AllGo, OutboxSent}
-use Rattle.letter_port.specs.Places.{node_count}
 use Rattle.letter_port.proofs.Emptying.{notices_out, seen_out}
 
 -- what was asked for was done, and its notices went in letters

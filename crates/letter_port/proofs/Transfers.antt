@@ -18,13 +18,14 @@ use Rattle.protocol.specs.Worlds.{Datagram, place}
 use Rattle.node_core.specs.Configs.{config_by, is_among}
 use Rattle.node_core.specs.declared.config.Sizes.{Sizes}
 use Rattle.floors.specs.Worlds.{Notice, is_node}
+use Rattle.node_core.specs.Places.{node_count}
 use Rattle.letters.specs.Letters.{IsEnclosable, enclosed, letter_spelling, letter_version}
 use Rattle.port.specs.Calls.{Sending, SendsAll, TellsAll}
 use Rattle.letter_port.specs.declared.outbox.Outbox.{Outbox}
 use Rattle.letter_port.specs.Mails.{GoesInLetters, MayBePosted, Mail, Posted, SendsLetters, can_go, mail_of, mail_of_notice, mail_to}
 use Rattle.letter_port.specs.Mails.{posted_to}
 use Rattle.letter_port.specs.Outboxes.{AllGo, Dispatched, Encloses, Loses, MakesRoom, OutboxSent, Puts, letter_in}
-use Rattle.letter_port.specs.Places.{node_count, node_in}
+use Rattle.letter_port.specs.Places.{node_in}
 use Rattle.letter_port.proofs.Places.{is_there, isnt_there, node_in_place, place_below, place_of_node, places_agree, places_differ}
 use Rattle.letter_port.proofs.Places.{same_as_itself}
 use Rattle.letter_port.proofs.Places.{same_is_one}

@@ -1,12 +1,8 @@
 -- Where the nodes of a cluster stand.
-use Rattle.std.specs.Prelude.{ℕ, ◌+◌, ◌-◌, nat_lt, if◌then◌else◌}
+use Rattle.std.specs.Prelude.{ℕ, ◌-◌, nat_lt, if◌then◌else◌}
 use Rattle.protocol.specs.declared.nodes.NodeId.TheVariants.{A, L, R}
 use Rattle.protocol.specs.declared.nodes.NodeId.{NodeId}
 use Rattle.node_core.specs.declared.config.Sizes.{Sizes}
-
--- how many nodes a cluster has
-abbrev pub node_count : Sizes → ℕ
-node_count sizes = sizes.acceptors + sizes.leaders + sizes.managers
 
 -- the node in a place: acceptors come first, then leaders, then resource managers
 abbrev pub node_in : Sizes → ℕ → NodeId

@@ -18,9 +18,9 @@ pub struct LetterPort<P> {
 
 impl<P> Model for LetterPort<P> {
     ghost use Rattle.std.specs.Prelude.{◌≡◌, replicate, []};
+    ghost use Rattle.node_core.specs.Places.{node_count};
     ghost use Rattle.letters.specs.Letters.{letter_spelling};
     ghost use Rattle.letter_port.specs.LetterPorts.{LetterParts};
-    ghost use Rattle.letter_port.specs.Places.{node_count};
 
     ghost Value = { LetterParts P };
 

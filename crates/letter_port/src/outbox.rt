@@ -1,9 +1,10 @@
 ghost use Rattle.std.specs.Prelude.{◌≡◌, ◌+◌, ◌<◌, [], length, replicate, IfOk};
+ghost use Rattle.node_core.specs.Places.{node_count};
 ghost use Rattle.letters.specs.Letters.{letter_spelling};
-ghost use Rattle.letter_port.specs.Places.{node_count, node_in};
+ghost use Rattle.letter_port.specs.Places.{node_in};
 
 use letters::{Letter, MAX_ENCLOSED};
-use node_core::{Sizes, place_of};
+use node_core::{Sizes, node_count, place_of};
 use port::{MAX_TAKEN, Port};
 use protocol::NodeId;
 use std::alloc::{AllocError, Global};
@@ -17,13 +18,6 @@ pub(crate) struct Outbox<P> {
     pub(crate) letters: Vec<Letter>,
     pub(crate) faults: u64,
     ghost complete: { length letters.items ≡ sizes.acceptors + sizes.leaders + sizes.managers },
-}
-
-/// How many nodes a cluster has.
-fn node_count(sizes: Sizes) -> usize
-    ensures { result ≡ node_count sizes }
-{
-    usize::from(sizes.acceptors) + usize::from(sizes.leaders) + usize::from(sizes.managers)
 }
 
 /// The node in a place.
@@ -56,7 +50,7 @@ fn empty_letters(alloc: Global, count: usize) -> Result<Vec<Letter>, AllocError>
 impl<P: Drop> Outbox<P> {
     ghost use Rattle.std.specs.Prelude.{◌≡◌, replicate, [], IfOk};
     ghost use Rattle.letters.specs.Letters.{letter_spelling};
-    ghost use Rattle.letter_port.specs.Places.{node_count};
+    ghost use Rattle.node_core.specs.Places.{node_count};
 
     /// One over a port, of a node of a cluster of these sizes, with no message in any letter.
     pub(crate) fn new(alloc: Global, port: P, sizes: Sizes) -> Result<Outbox<P>, AllocError>
@@ -80,7 +74,7 @@ impl<P: Port> Outbox<P> {
     ghost use Rattle.stable_record.specs.Held.{IsCounted, most_faults};
     ghost use Rattle.letters.specs.Letters.{letter_spelling};
     ghost use Rattle.letters.specs.declared.letter.TheConstants.{MAX_ENCLOSED, MAX_LETTER};
-    ghost use Rattle.letter_port.specs.Places.{node_count};
+    ghost use Rattle.node_core.specs.Places.{node_count};
     ghost use Rattle.letter_port.specs.Outboxes.{AllGo, Dispatched, MakesRoom, letter_in, outbox_count};
 
     /// Counts a fault, and answers it.

@@ -1,5 +1,10 @@
 -- Where nodes stand in a cluster.
 use Rattle.std.specs.Prelude.{ℕ, ◌+◌, nat_lt, if◌then◌else◌, Option, Some, None}
+use Rattle.node_core.specs.declared.config.Sizes.{Sizes}
+
+-- how many nodes a cluster has
+abbrev pub node_count : Sizes → ℕ
+node_count sizes = sizes.acceptors + sizes.leaders + sizes.managers
 
 -- the place of a number below a bound, after so many others
 abbrev pub placed_after : (number bound before : ℕ) → Option ℕ

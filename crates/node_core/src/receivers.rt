@@ -7,7 +7,7 @@ ghost use Rattle.wire.specs.Messages.{message_tx};
 ghost use Rattle.protocol.specs.Effects.{receivers};
 ghost use Rattle.protocol.specs.Worlds.{place};
 ghost use Rattle.node_core.specs.Configs.{config_by};
-ghost use Rattle.node_core.specs.Places.{placed_after};
+ghost use Rattle.node_core.specs.Places.{node_count, placed_after};
 ghost use Rattle.node_core.specs.Receivers.{receivers_in};
 
 use crate::config::Sizes;
@@ -37,6 +37,13 @@ fn placed(number: u8, bound: u8, before: usize) -> Option<usize>
     } else {
         None
     }
+}
+
+/// How many nodes a cluster has.
+pub fn node_count(sizes: Sizes) -> usize
+    ensures { result ≡ node_count sizes }
+{
+    usize::from(sizes.acceptors) + usize::from(sizes.leaders) + usize::from(sizes.managers)
 }
 
 /// The nodes to which a message goes.

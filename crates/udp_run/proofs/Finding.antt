@@ -17,10 +17,11 @@ use Rattle.protocol.specs.Effects.{Config}
 use Rattle.node_core.specs.declared.config.Sizes.{Sizes}
 use Rattle.node_core.specs.Configs.{are_sizes, is_config}
 use Rattle.node_core.specs.Nodes.{AreSizes}
+use Rattle.node_core.specs.Places.{node_count}
 use Rattle.port.specs.declared.addresses.Addresses.{Addresses}
 use Rattle.port.specs.declared.udp.UdpPort.{UdpPort}
 use Rattle.port.specs.Addresses.{address_of, with_address}
-use Rattle.udp_run.specs.Sites.{node_count, place_in}
+use Rattle.udp_run.specs.Sites.{place_in}
 use Rattle.udp_run.specs.Runs.{AreStanding, ArePorts, FindsEach, finding}
 use Rattle.udp_run.proofs.Reaching.{place_within}
 

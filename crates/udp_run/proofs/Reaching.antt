@@ -14,11 +14,12 @@ use Rattle.protocol.specs.declared.answers.Answer.TheVariants.{Refused}
 use Rattle.protocol.specs.declared.nodes.NodeId.{NodeId}
 use Rattle.protocol.specs.declared.nodes.NodeId.TheVariants.{A, L, R}
 use Rattle.node_core.specs.declared.config.Sizes.{Sizes}
+use Rattle.node_core.specs.Places.{node_count}
 use Rattle.port.specs.Members.{MemberParts}
 use Rattle.node_core.specs.Opening.{restart_answer}
 use Rattle.port.specs.Calls.{Sending}
 use Rattle.port.specs.declared.calling.Served.{Served}
-use Rattle.udp_run.specs.Sites.{node_count, place_in, site_of, Making, ReachesAt, Handling, HandlesIn, SendsNoise, IsSentBy}
+use Rattle.udp_run.specs.Sites.{place_in, site_of, Making, ReachesAt, Handling, HandlesIn, SendsNoise, IsSentBy}
 use Rattle.udp_run.specs.Sites.{answer_served, is_forged}
 
 below_by : (number bound before at : ℕ) (t : Bool) → nat_lt number bound ≡ t → (if t then Some (before + number) else None) ≡ Some at

@@ -16,9 +16,10 @@ use Rattle.node_core.specs.declared.config.Sizes.{Sizes}
 use Rattle.node_core.specs.Configs.{is_among}
 use Rattle.node_core.specs.Nodes.{AreSizes}
 use Rattle.node_core.specs.Opening.{IsUnopened, HasFaulted}
+use Rattle.node_core.specs.Places.{node_count}
 use Rattle.floored.specs.Nodes.{IsFlooredUnopened}
 use Rattle.port.specs.Members.{MemberParts}
-use Rattle.udp_run.specs.Sites.{node_count, place_in}
+use Rattle.udp_run.specs.Sites.{place_in}
 use Rattle.udp_run.specs.Runs.{IsOpenedOver, IsOpenedAt, AreOpened, IsRefusedOver, IsTakenUp, RefusesNode, RefusesNext, RefusesSite}
 use Rattle.udp_run.specs.Runs.{behind_floor}
 

@@ -13,6 +13,7 @@ use Rattle.protocol.specs.Effects.{Config}
 use Rattle.node_core.specs.declared.config.Sizes.{Sizes}
 use Rattle.node_core.specs.Nodes.{AreSizes}
 use Rattle.node_core.specs.Opening.{IsBad, HasFaulted}
+use Rattle.node_core.specs.Places.{node_count}
 use Rattle.floored.specs.Nodes.{IsFlooredOpened, IsFlooredUnopened}
 use Rattle.port.specs.Members.{MemberParts}
 use Rattle.port.specs.declared.addresses.Addresses.{Addresses}
@@ -26,7 +27,7 @@ use Rattle.net_script.specs.Items.{is_in_limits}
 use Rattle.net_script.specs.Scripts.{SpellsScript, IsScriptFault, IsLineOf}
 use Rattle.net_script.specs.Traces.{trace_text}
 use Rattle.cluster_run.specs.Traces.{config_of}
-use Rattle.udp_run.specs.Sites.{SiteParts, place_in, node_count}
+use Rattle.udp_run.specs.Sites.{SiteParts, place_in}
 use Rattle.udp_run.specs.Commands.{CarriesAll, is_served}
 use Rattle.udp_run.specs.NodeTables.{AreTablesOf, StopsAtTable}
 

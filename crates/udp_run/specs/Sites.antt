@@ -1,5 +1,5 @@
 -- Nodes at their ports, and what an event makes of them.
-use Rattle.std.specs.Prelude.{◌≡◌, ℕ, ◌+◌, ◌<◌, Bool, ◌||◌, MatchBool, is_some, List, [], length, slice_index_or, slice_set}
+use Rattle.std.specs.Prelude.{◌≡◌, ℕ, ◌<◌, Bool, ◌||◌, MatchBool, is_some, List, [], length, slice_index_or, slice_set}
 use Rattle.std.specs.Prelude.{Option, Some, None, Result}
 use Rattle.xid.specs.Places.{Place}
 use Rattle.xid.specs.declared.refusals.Refusal.{Refusal}
@@ -33,10 +33,6 @@ pub record SiteParts (P : Type 0) : Type 0 where
 -- a site of these parts
 abbrev pub site_of : {P : Type 0} → Sizes → List MemberParts → List P → P → SiteParts P
 site_of sizes nodes ports noise = record { sizes = sizes; nodes = nodes; ports = ports; noise = noise }
-
--- how many nodes there are
-abbrev pub node_count : Sizes → ℕ
-node_count sizes = sizes.acceptors + sizes.leaders + sizes.managers
 
 -- each place has a node and a port
 pub record IsSite {P : Type 0} (sizes : Sizes) (nodes : List MemberParts) (ports : List P) : Type 0 where

@@ -6,8 +6,9 @@ ghost use Rattle.wire.specs.Decoding.{spells_message};
 ghost use Rattle.wire.specs.Notices.{notice_at};
 ghost use Rattle.node_core.specs.Opening.{restart_answer};
 ghost use Rattle.protocol.specs.declared.nodes.NodeId.TheVariants.{R as Manager};
+ghost use Rattle.node_core.specs.Places.{node_count};
 ghost use Rattle.udp_run.specs.Sites.{AsksAt, HandlesIn, IsRestarted, IsShortened, IsSite, RaisesAt, ReachesAt, SendsNoise};
-ghost use Rattle.udp_run.specs.Sites.{answer_served, is_forged as is_sent_by_nodes, node_count, place_in, site_of};
+ghost use Rattle.udp_run.specs.Sites.{answer_served, is_forged as is_sent_by_nodes, place_in, site_of};
 
 use node_core::{Input, Sizes, place_of};
 use port::{Member, Port, Served, call};

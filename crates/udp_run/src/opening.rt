@@ -5,12 +5,13 @@ ghost use Rattle.xid.specs.declared.refusals.Refusal.TheVariants.{FileFault, NoM
 ghost use Rattle.stable_record.specs.Records.{file_held, just_opened};
 ghost use Rattle.node_core.specs.Configs.{are_sizes, is_among};
 ghost use Rattle.node_core.specs.Nodes.{AreSizes};
-ghost use Rattle.udp_run.specs.Sites.{node_count, place_in};
+ghost use Rattle.node_core.specs.Places.{node_count};
+ghost use Rattle.udp_run.specs.Sites.{place_in};
 ghost use Rattle.udp_run.specs.Runs.{AreOpened, ArePorts, AreStanding, IsOpenedOver, IsOpenedSite, finding};
 ghost use Rattle.udp_run.specs.Runs.{IsRefusedOver, IsTakenUp, RefusesNext, RefusesNode, RefusesSite};
 
 use crate::site::Site;
-use node_core::{Config, Sizes};
+use node_core::{Config, Sizes, node_count};
 use port::{Addresses, Member, UdpPort};
 use protocol::NodeId;
 use stable_record::{FileRecord, RecordError};
@@ -43,13 +44,6 @@ fn path_of(alloc: Global, folder: &str, who: NodeId) -> Result<String, Refusal>
         NodeId::R(rm) => format!(in alloc; "{folder}/r{rm}.rec")?,
     };
     Ok(path)
-}
-
-/// How many nodes there are.
-fn count_of(sizes: Sizes) -> usize
-    ensures { result ≡ node_count sizes }
-{
-    usize::from(sizes.acceptors) + usize::from(sizes.leaders) + usize::from(sizes.managers)
 }
 
 /// A node's record in the folder, which is made where there is none. Refused: its file can't be opened and read (`FileFault`), or
@@ -110,7 +104,7 @@ fn open_nodes(
     ensures err { IfErr result (λ e. (e ≡ NoMemory) ⊎ RefusesNext config.now sizes e) }
 {
     let mut nodes = Vec::new(rt.alloc());
-    for at in 0..count_of(sizes) {
+    for at in 0..node_count(sizes) {
         let who = name_at(sizes, at);
         nodes.push(open_node(rt, folder, config, who)?)?;
     }
@@ -123,7 +117,7 @@ fn bind_ports(rt: HostRuntime, sizes: Sizes) -> Result<(Vec<UdpPort>, Addresses)
     ensures ok { IfOk result (λ bound. AreStanding sizes (node_count sizes) bound.0.items bound.1) }
     ensures err { IfErr result (λ e. (e ≡ NoMemory) ⊎ (e ≡ PortFault)) }
 {
-    let count = count_of(sizes);
+    let count = node_count(sizes);
     let mut addresses = Addresses::none();
     let mut ports = Vec::new(rt.alloc());
     for at in 0..count {

@@ -12,8 +12,8 @@ invariant_of-result g c =
       length-map c.args.records.items g.R.Record.held,
       c.args.records.ok.0,
       c.len.ensures,
-      c.count_of.ensures,
-      c.if-len-count_of.false,
+      c.node_count.ensures,
+      c.if-len-node_count.false,
     ))
     c.in_ok-nodes.ensures.ok c.in-Ok.notices c.in-Ok.ensures.told c.in-Ok.ensures.all
 
@@ -26,7 +26,7 @@ returns-clause-ok g c =
       length-map c.args.records.items g.R.Record.held,
       c.args.records.ok.0,
       c.len.ensures,
-      c.count_of.ensures,
-      c.if-len-count_of.false,
+      c.node_count.ensures,
+      c.if-len-node_count.false,
     ))
     c.in_ok-nodes.ensures.ok c.in-Ok.notices c.in-Ok.ensures.told c.in-Ok.ensures.all
