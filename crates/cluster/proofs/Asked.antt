@@ -1,5 +1,5 @@
 -- A cluster is asked about a resource manager: it stays what it is.
-use Rattle.std.proofs.Common.{◌≡◌, ◌⊎◌, inl, inr, ◌∙◌, ℕ, List, get_or, set}
+use Rattle.std.proofs.Common.{◌≡◌, ◌⊎◌, inl, inr, ◌∙◌, ℕ, List, get_or, set, []}
 use Rattle.std.proofs.Common.{Option, Some, None, refl, sym, ap, subst}
 use Rattle.std.specs.Prelude.{slice_get, Result, Err}
 use Rattle.std.proofs.lemmas.List.{set-get_or}
@@ -17,9 +17,10 @@ use Rattle.node_core.specs.declared.config.Sizes.{Sizes}
 use Rattle.node_core.specs.Nodes.{IsSameNode}
 use Rattle.node_core.specs.Viewing.{SaysTable, IsUnread}
 use Rattle.floors.specs.Worlds.{FlooredWorld}
+use Rattle.node_core.specs.Configs.{config_by}
 use Rattle.floored.specs.Nodes.{FlooredParts, FlooredStands, FlooredTables, FlooredViews, SaysFlooredView}
 use Rattle.network.specs.Networks.{NetworkParts}
-use Rattle.cluster.specs.Clusters.{ClusterParts, NoticesParts, sized, cluster_of, ClusterStands, IsSameFloored, IsSound}
+use Rattle.cluster.specs.Clusters.{ClusterParts, NoticesParts, cluster_of, ClusterStands, IsSameFloored, IsSound}
 use Rattle.cluster.specs.Asking.{IsSaid, ViewsIn, TablesIn}
 use Rattle.cluster.proofs.Standing.{there, placed, found, named, floor_there, none_there, node_kept, at_place, same_but, same_floored}
 use Rattle.cluster.proofs.Standing.{others_stay, unchanged}
@@ -53,7 +54,7 @@ tabled_as old was new is rm result tables =
 
 module _ (config : Config) (world : FlooredWorld) (sizes : Sizes) (nodes : List FlooredParts) (network : NetworkParts)
     (notices : NoticesParts) (s : ClusterStands config (cluster_of sizes nodes network notices) world) (rm : ℕ)
-    (nowhere : None ≡ place (sized sizes) (R rm)) where
+    (nowhere : None ≡ place (config_by sizes []) (R rm)) where
   abbrev cluster : ClusterParts
   cluster = cluster_of sizes nodes network notices
 
@@ -84,7 +85,7 @@ module _ (config : Config) (world : FlooredWorld) (sizes : Sizes) (nodes : List 
 
 module _ (config : Config) (world : FlooredWorld) (sizes : Sizes) (nodes : List FlooredParts) (network : NetworkParts)
     (notices : NoticesParts) (s : ClusterStands config (cluster_of sizes nodes network notices) world) (rm at : ℕ)
-    (is : Some at ≡ place (sized sizes) (R rm)) (node new : FlooredParts) (read : node ≡ get_or nodes at node) where
+    (is : Some at ≡ place (config_by sizes []) (R rm)) (node new : FlooredParts) (read : node ≡ get_or nodes at node) where
   abbrev before : ClusterParts
   before = cluster_of sizes nodes network notices
 

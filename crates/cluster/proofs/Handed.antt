@@ -24,10 +24,11 @@ use Rattle.node_core.specs.declared.output.Output.{Output}
 use Rattle.node_core.specs.Sends.{sent}
 use Rattle.node_core.specs.Nodes.{AreSizes, datagram_input}
 use Rattle.floors.specs.Worlds.{FlooredWorld, nothing_told}
+use Rattle.node_core.specs.Configs.{config_by}
 use Rattle.floored.specs.Nodes.{FlooredParts, FlooredStands, FlooredStepsAs}
 use Rattle.network.specs.Networks.{DatagramParts, NetworkParts, StandsFor, Finds, IsKept}
 use Rattle.cluster.specs.declared.handing.Answered.{Answered}
-use Rattle.cluster.specs.Clusters.{ClusterParts, NoticesParts, sized, cluster_of, ClusterStands, IsSound, ReachesAs}
+use Rattle.cluster.specs.Clusters.{ClusterParts, NoticesParts, cluster_of, ClusterStands, IsSound, ReachesAs}
 use Rattle.cluster.specs.Clusters.{HappensAs, Reaches}
 use Rattle.cluster.specs.Sending.{HaveSent, HasRoom}
 use Rattle.cluster.proofs.Bounds.{count}
@@ -50,7 +51,7 @@ Stepped input node new out = (config : Config) (m : NodeState) → FlooredStands
 
 module _ (config : Config) (world : FlooredWorld) (sizes : Sizes) (nodes : List FlooredParts) (network : NetworkParts)
     (notices : NoticesParts) (s : ClusterStands config (cluster_of sizes nodes network notices) world) (who : NodeId) (at : ℕ)
-    (is : Some at ≡ place (sized sizes) who) (input : Input) (node new : FlooredParts) (out : Output)
+    (is : Some at ≡ place (config_by sizes []) who) (input : Input) (node new : FlooredParts) (out : Output)
     (read : node ≡ get_or nodes at node) (steps : Stepped input node new out) where
   by_place : Stepped input (get_or nodes at node) new out
   by_place = subst (λ (n : FlooredParts). Stepped input n new out) read steps
@@ -59,11 +60,11 @@ module _ (config : Config) (world : FlooredWorld) (sizes : Sizes) (nodes : List 
   pub fits : (n : ℕ)
       → ((config : Config) → AreSizes config sizes → (facts : List Fact) (memory : Memory)
       → count config who (effect_of config who facts memory input).sends ≤ n)
-      → length (flat_map (datagrams_of (sized sizes) who) (sent out.sends)) ≤ n
+      → length (flat_map (datagrams_of (config_by sizes []) who) (sent out.sends)) ≤ n
   fits n bound = sends_few config world sizes nodes network notices s who at (sym is) input node new out by_place n bound
 
   pub handed_on : (after : NetworkParts) (answered : Answered)
-      → HaveSent network after (flat_map (datagrams_of (sized sizes) who) (sent out.sends))
+      → HaveSent network after (flat_map (datagrams_of (config_by sizes []) who) (sent out.sends))
       → answered.answer ≡ out.reply → answered.now ≡ out.now
       → ReachesAs config world world.machine who input (cluster_of sizes nodes network notices)
       (cluster_of sizes (set nodes at new) after notices) answered
@@ -74,7 +75,7 @@ module _ (config : Config) (world : FlooredWorld) (sizes : Sizes) (nodes : List 
 
 module _ (config : Config) (world : FlooredWorld) (sizes : Sizes) (nodes : List FlooredParts) (network : NetworkParts)
     (notices : NoticesParts) (s : ClusterStands config (cluster_of sizes nodes network notices) world) (who : NodeId)
-    (none : None ≡ place (sized sizes) who) (answered : Answered)
+    (none : None ≡ place (config_by sizes []) who) (answered : Answered)
     (answer_is : answered.answer ≡ Refused refusals.NoSuch) (now_is : answered.now ≡ None) where
   abbrev cluster : ClusterParts
   cluster = cluster_of sizes nodes network notices
@@ -133,7 +134,7 @@ noise_few config who facts memory = omega arith
 -- bytes that spell no message
 pub noise_handed : (config : Config) (world : FlooredWorld) (sizes : Sizes) (nodes : List FlooredParts) (network : NetworkParts)
     (notices : NoticesParts) → ClusterStands config (cluster_of sizes nodes network notices) world → (who : NodeId) (at : ℕ)
-    → Some at ≡ place (sized sizes) who
+    → Some at ≡ place (config_by sizes []) who
     → (bytes : List ℕ) → message_at bytes ≡ None → (node new : FlooredParts) (out : Output) → node ≡ get_or nodes at node
     → Stepped (datagram_input bytes) node new out
     → (answered : Answered) → answered.answer ≡ out.reply → answered.now ≡ out.now
@@ -141,7 +142,7 @@ pub noise_handed : (config : Config) (world : FlooredWorld) (sizes : Sizes) (nod
     (cluster_of sizes (set nodes at new) network notices) answered
 noise_handed config world sizes nodes network notices s who at is bytes none node new out read steps answered answer_is now_is =
     let noise : Stepped ReceivedNoise node new out = subst (λ (i : Input). Stepped i node new out) (noise_input bytes none) steps in
-    let few : length (flat_map (datagrams_of (sized sizes) who) (sent out.sends)) ≤ 0 =
+    let few : length (flat_map (datagrams_of (config_by sizes []) who) (sent out.sends)) ≤ 0 =
     fits config world sizes nodes network notices s who at is ReceivedNoise node new out read noise 0
     (λ c are facts memory. noise_few c who facts memory) in
     handed_on config world sizes nodes network notices s who at is ReceivedNoise node new out read noise network answered
@@ -172,7 +173,7 @@ module _ (network : NetworkParts) (n k : ℕ) (kept : DatagramParts)
 -- bytes that nobody sent, but that spell a message
 pub forged_there : (config : Config) (world : FlooredWorld) (sizes : Sizes) (nodes : List FlooredParts) (network : NetworkParts)
     (notices : NoticesParts) → ClusterStands config (cluster_of sizes nodes network notices) world → (who : NodeId) (at : ℕ)
-    → Some at ≡ place (sized sizes) who
+    → Some at ≡ place (config_by sizes []) who
     → (bytes : List ℕ) (k : Kind) → Spells k bytes → (answered : Answered) → answered.answer ≡ Refused refusals.Forged → answered.now ≡ None
     → HappensAs config world (Noise who bytes) (cluster_of sizes nodes network notices) (cluster_of sizes nodes network notices) answered
 forged_there config world sizes nodes network notices s who at is bytes k spells answered answer_is now_is =
@@ -271,18 +272,18 @@ as_before config world machine who input sizes nodes a b notices new answered r 
 
 module _ (sizes : Sizes) (nodes : List FlooredParts) (network after : NetworkParts)
     (same : (net : List Datagram) → StandsFor network net → StandsFor after net)
-    (who : NodeId) (at : ℕ) (is : Some at ≡ place (sized sizes) who) (request : Request)
+    (who : NodeId) (at : ℕ) (is : Some at ≡ place (config_by sizes []) who) (request : Request)
     (node new : FlooredParts) (out : Output) (read : node ≡ get_or nodes at node) (steps : Stepped (Asked request) node new out) where
   pub ask_room : (notices : NoticesParts) → IsSound (cluster_of sizes nodes network notices) → (n : ℕ)
       → ((config : Config) → AreSizes config sizes → (facts : List Fact) (memory : Memory)
       → count config who (on_request config who facts memory request).sends ≤ n)
-      → HasRoom n after → HasRoom (length (flat_map (datagrams_of (sized sizes) who) (sent out.sends))) after
+      → HasRoom n after → HasRoom (length (flat_map (datagrams_of (config_by sizes []) who) (sent out.sends))) after
   ask_room notices sound n bound room =
-      room_less after (length (flat_map (datagrams_of (sized sizes) who) (sent out.sends))) n
+      room_less after (length (flat_map (datagrams_of (config_by sizes []) who) (sent out.sends))) n
       (fits sound.config sound.world sizes nodes network notices sound.is who at is (Asked request) node new out read steps n bound) room
 
   pub ask_made : (final : NetworkParts) (answered : Answered)
-      → HaveSent after final (flat_map (datagrams_of (sized sizes) who) (sent out.sends))
+      → HaveSent after final (flat_map (datagrams_of (config_by sizes []) who) (sent out.sends))
       → answered.answer ≡ out.reply → answered.now ≡ out.now
       → (notices : NoticesParts) (config : Config) (world : FlooredWorld)
       → ClusterStands config (cluster_of sizes nodes network notices) world
@@ -319,7 +320,7 @@ module _ (sizes : Sizes) (nodes : List FlooredParts) (network after marked : Net
       with_marked config world sizes nodes after marked notices n marks (with_network config world sizes nodes network after notices same s)
 
   -- to a node that isn't there
-  pub deliver_nowhere : place (sized sizes) first.receiver ≡ None → (answered : Answered)
+  pub deliver_nowhere : place (config_by sizes []) first.receiver ≡ None → (answered : Answered)
       → answered.answer ≡ Refused refusals.NoSuch → answered.now ≡ None
       → (notices : NoticesParts) (config : Config) (world : FlooredWorld)
       → ClusterStands config (cluster_of sizes nodes network notices) world
@@ -331,7 +332,7 @@ module _ (sizes : Sizes) (nodes : List FlooredParts) (network after marked : Net
       let receiver_is : first.receiver ≡ d.receiver = f.2.receiver_is in
       let none : node_at config world.machine d.receiver ≡ None =
       none_there config world sizes nodes network notices s d.receiver
-      (ap (λ (w : NodeId). place (sized sizes) w) (sym receiver_is) ∙ nowhere) in
+      (ap (λ (w : NodeId). place (config_by sizes []) w) (sym receiver_is) ∙ nowhere) in
       occurs_delivered config world (cluster_of sizes nodes network notices) (cluster_of sizes nodes marked notices) answered s n d f.1
       (as_before config world machine d.receiver (Received d.message) sizes nodes network network notices
       (cluster_of sizes nodes marked notices) answered
@@ -349,7 +350,7 @@ module _ (sizes : Sizes) (nodes : List FlooredParts) (network after marked : Net
       absurd (cc (e))
 
   module _ (again : DatagramParts) (finds_again : (net : List Datagram) → StandsFor after net → Finds net n (Some again))
-      (at : ℕ) (is : Some at ≡ place (sized sizes) first.receiver) (node new : FlooredParts) (out : Output)
+      (at : ℕ) (is : Some at ≡ place (config_by sizes []) first.receiver) (node new : FlooredParts) (out : Output)
       (read : node ≡ get_or nodes at node)
       (steps : Stepped (datagram_input again.bytes) node new out) where
     pub deliver_room : (notices : NoticesParts) → IsSound (cluster_of sizes nodes network notices) → (most : ℕ)
@@ -357,16 +358,16 @@ module _ (sizes : Sizes) (nodes : List FlooredParts) (network after marked : Net
         → count config first.receiver (effect_of config first.receiver facts memory (datagram_input bytes)).sends ≤ most)
         → marked.spare ≡ after.spare → marked.spare_bytes ≡ after.spare_bytes
         → HasRoom most after
-        → HasRoom (length (flat_map (datagrams_of (sized sizes) first.receiver) (sent out.sends))) marked
+        → HasRoom (length (flat_map (datagrams_of (config_by sizes []) first.receiver) (sent out.sends))) marked
     deliver_room notices sound most bound spare bytes room =
-        room_less marked (length (flat_map (datagrams_of (sized sizes) first.receiver) (sent out.sends))) most
+        room_less marked (length (flat_map (datagrams_of (config_by sizes []) first.receiver) (sent out.sends))) most
         (fits sound.config sound.world sizes nodes network notices sound.is first.receiver at is
         (datagram_input again.bytes) node new out read steps most
         (λ config are facts memory. bound config are facts memory again.bytes))
         (room_marked after marked most spare bytes room)
 
     pub deliver_made : (final : NetworkParts) (answered : Answered)
-        → HaveSent marked final (flat_map (datagrams_of (sized sizes) first.receiver) (sent out.sends))
+        → HaveSent marked final (flat_map (datagrams_of (config_by sizes []) first.receiver) (sent out.sends))
         → answered.answer ≡ out.reply → answered.now ≡ out.now
         → (notices : NoticesParts) (config : Config) (world : FlooredWorld)
         → ClusterStands config (cluster_of sizes nodes network notices) world

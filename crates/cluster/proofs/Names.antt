@@ -1,5 +1,5 @@
 -- The names of the nodes of a cluster, and the places where they stand.
-use Rattle.std.proofs.Common.{◌≡◌, ◌∙◌, ℕ, ◌+◌, ◌-◌, ◌<◌, ◌≤◌, Bool, true, false, if◌then◌else◌, Some, None, refl, sym, ap, nat_lt}
+use Rattle.std.proofs.Common.{◌≡◌, ◌∙◌, ℕ, ◌+◌, ◌-◌, ◌<◌, ◌≤◌, Bool, true, false, if◌then◌else◌, Some, None, refl, sym, ap, nat_lt, []}
 use Rattle.std.proofs.Common.{arith}
 use Rattle.std.proofs.lemmas.Bool.{lt-ltb, le-ltb, ltb-true, ltb-false}
 use Rattle.protocol.specs.declared.nodes.NodeId.{NodeId}
@@ -7,10 +7,9 @@ use Rattle.protocol.specs.declared.nodes.NodeId.TheVariants.{A, L, R}
 use Rattle.protocol.specs.Effects.{Config}
 use Rattle.protocol.specs.Worlds.{place}
 use Rattle.node_core.specs.declared.config.Sizes.{Sizes}
-use Rattle.node_core.specs.Configs.{is_among}
+use Rattle.node_core.specs.Configs.{is_among, config_by}
 use Rattle.node_core.specs.Nodes.{AreSizes}
 use Rattle.node_core.specs.Places.{node_count}
-use Rattle.cluster.specs.Clusters.{sized}
 use Rattle.cluster.specs.Opening.{name_of}
 
 abbrev pub count_of : Config → ℕ
@@ -113,7 +112,7 @@ among_placed config (A a) at e = (placed_at (nat_lt a config.acceptors) a at e).
 among_placed config (L l) at e = (placed_at (nat_lt l config.leaders) (config.acceptors + l) at e).0
 among_placed config (R rm) at e = (placed_at (nat_lt rm config.managers) (config.acceptors + config.leaders + rm) at e).0
 
-pub name_as : (config : Config) (sizes : Sizes) → AreSizes config sizes → (at : ℕ) → name_of (sized sizes) at ≡ name_of config at
+pub name_as : (config : Config) (sizes : Sizes) → AreSizes config sizes → (at : ℕ) → name_of (config_by sizes []) at ≡ name_of config at
 name_as config sizes are at =
     ap (λ (a : ℕ). if nat_lt at a then A at else if nat_lt at (a + sizes.leaders) then L (at - a) else R (at - a - sizes.leaders))
     are.acceptors_are
@@ -121,7 +120,7 @@ name_as config sizes are at =
     else R (at - config.acceptors - l)) are.leaders_are
 
 -- the next node is one of the cluster
-pub next_among : (config : Config) (sizes : Sizes) → AreSizes config sizes → (at : ℕ) (who : NodeId) → who ≡ name_of (sized sizes) at
+pub next_among : (config : Config) (sizes : Sizes) → AreSizes config sizes → (at : ℕ) (who : NodeId) → who ≡ name_of (config_by sizes []) at
     → at < node_count sizes → is_among config who ≡ true
 next_among config sizes are at who named lt =
     let few : at < count_of config = omega (arith, lt, are.acceptors_are, are.leaders_are, are.managers_are) in

@@ -36,7 +36,8 @@ use Rattle.floors.specs.Worlds.{replace_at, replace_result, step_with_floors, to
 use Rattle.floors.specs.Worlds.{with_entry, with_told_lost}
 use Rattle.floors.specs.Runs.{is_lost, passes_over}
 use Rattle.floors.proofs.Steps.{lost_event, same_event, unasked_event}
-use Rattle.cluster.specs.Clusters.{NoticesParts, sent_after, sized, told_after}
+use Rattle.node_core.specs.Configs.{config_by}
+use Rattle.cluster.specs.Clusters.{NoticesParts, sent_after, told_after}
 use Rattle.cluster.specs.Opening.{name_of}
 use Rattle.cluster.specs.Notices.{told_count}
 use Rattle.cluster.proofs.Names.{acceptor_named, leader_named}
@@ -252,8 +253,9 @@ notices_count config manager place =
     ∙ ap (λ (n : ℕ). n + length (map L (range_with_len 0 config.leaders))) (length-map-range_with_len A 0 config.acceptors)
     ∙ ap (λ (n : ℕ). config.acceptors + n) (length-map-range_with_len L 0 config.leaders)
 
-pub notices_in : (sizes : Sizes) (manager : ℕ) (place : Place) → length (notices_of (sized sizes) manager (Some place)) ≡ told_count sizes
-notices_in sizes manager place = notices_count (sized sizes) manager place
+pub notices_in : (sizes : Sizes) (manager : ℕ) (place : Place)
+    → length (notices_of (config_by sizes []) manager (Some place)) ≡ told_count sizes
+notices_in sizes manager place = notices_count (config_by sizes []) manager place
 
 module _ (config : Config) (world : FlooredWorld) where
   notices_few : (manager : ℕ) (floor : Option Place) → length (notices_of config manager floor) ≤ config.acceptors + config.leaders
@@ -313,26 +315,27 @@ told_there config i lt d = by_kind (nat_lt i config.acceptors) refl
 
 module _ (sizes : Sizes) (manager : ℕ) (place : Place) (before : List Notice) (i : ℕ) (lt : i < told_count sizes) where
   abbrev to_all : List Notice
-  to_all = notices_of (sized sizes) manager (Some place)
+  to_all = notices_of (config_by sizes []) manager (Some place)
 
   -- one more of them is told
-  pub tells_next : (now : List Notice) → now ≡ before ++ take i to_all → (who : NodeId) → who ≡ name_of (sized sizes) i
+  pub tells_next : (now : List Notice) → now ≡ before ++ take i to_all → (who : NodeId) → who ≡ name_of (config_by sizes []) i
       → now ++ record { manager = manager; receiver = who; place = place } ∷ [] ≡ before ++ take (i + 1) to_all
   tells_next now is who named =
       let told : Notice = record { manager = manager; receiver = who; place = place } in
       let f : NodeId → Notice = λ w. record { manager = manager; receiver = w; place = place } in
-      let inside : i < length (told_nodes (sized sizes)) =
-      omega (arith, lt, length-map (told_nodes (sized sizes)) f, notices_in sizes manager place) in
+      let inside : i < length (told_nodes (config_by sizes [])) =
+      omega (arith, lt, length-map (told_nodes (config_by sizes [])) f, notices_in sizes manager place) in
       let there : i < length to_all = omega (arith, lt, notices_in sizes manager place) in
       let one : get_or to_all i told ≡ told =
-      get_or-map f (told_nodes (sized sizes)) i who told inside ∙ ap f (told_there (sized sizes) i lt who ∙ sym named) in
+      get_or-map f (told_nodes (config_by sizes [])) i who told inside ∙ ap f (told_there (config_by sizes []) i lt who ∙ sym named) in
       ap (λ (ns : List Notice). ns ++ told ∷ []) is
       ∙ append_assoc before (take i to_all) (told ∷ [])
       ∙ ap (λ (ns : List Notice). before ++ ns) (sym (take_more to_all i told there ∙ ap (λ (x : Notice). take i to_all ++ x ∷ []) one))
 
 -- all of them are told
 pub tells_all : (sizes : Sizes) (manager : ℕ) (place : Place) (before : List Notice) (i : ℕ) → told_count sizes ≤ i
-    → before ++ take i (notices_of (sized sizes) manager (Some place)) ≡ before ++ notices_of (sized sizes) manager (Some place)
+    → before ++ take i (notices_of (config_by sizes []) manager (Some place))
+    ≡ before ++ notices_of (config_by sizes []) manager (Some place)
 tells_all sizes manager place before i le =
     ap (λ (ns : List Notice). before ++ ns)
-    (take_all i (notices_of (sized sizes) manager (Some place)) (omega (arith, le, notices_in sizes manager place)))
+    (take_all i (notices_of (config_by sizes []) manager (Some place)) (omega (arith, le, notices_in sizes manager place)))

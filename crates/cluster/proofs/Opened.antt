@@ -35,13 +35,13 @@ use Rattle.node_core.specs.Places.{node_count}
 use Rattle.floored.specs.Nodes.{FlooredParts, FlooredStands, IsFlooredOpened, IsFlooredUnopened}
 use Rattle.floored.specs.Told.{told_at}
 use Rattle.node_core.specs.declared.config.Sizes.{Sizes}
-use Rattle.node_core.specs.Configs.{is_among}
+use Rattle.node_core.specs.Configs.{is_among, config_by}
 use Rattle.node_core.specs.Nodes.{NodeStands, AreSizes, MeansFrom, Holds}
 use Rattle.node_core.proofs.Loading.{read_faulted}
 use Rattle.node_core.proofs.Restarting.{opened_empty}
 use Rattle.node_core.specs.Opening.{HasFaulted, IsOpened, IsUnopened}
 use Rattle.network.specs.Networks.{NetworkParts, StandsFor}
-use Rattle.cluster.specs.Clusters.{NoticesParts, sized, cluster_of, AreTold, ClusterStands, IsSound}
+use Rattle.cluster.specs.Clusters.{NoticesParts, cluster_of, AreTold, ClusterStands, IsSound}
 use Rattle.cluster.specs.Opening.{torn_node, opening_with, tears_of, NoneArmed, IsOver, IsMade, IsUnmade, name_of}
 use Rattle.cluster.specs.Opening.{IsBegun, IsUnbegun, AreBegun}
 use Rattle.cluster.proofs.Names.{count_of, name_as, name_placed, name_there}
@@ -154,7 +154,7 @@ zip_length P (x ∷ xs) [] all = absurd all
 zip_length P (x ∷ xs) (y ∷ ys) all = ap suc (zip_length P xs ys all.1)
 
 module _ (config : Config) (sizes : Sizes) (are : AreSizes config sizes) (records : List Held) (nodes : List FlooredParts) (held : Held)
-    (floored : FlooredParts) (so : AreBegun config records nodes) (who : NodeId) (named : who ≡ name_of (sized sizes) (length nodes))
+    (floored : FlooredParts) (so : AreBegun config records nodes) (who : NodeId) (named : who ≡ name_of (config_by sizes []) (length nodes))
     (begun : IsBegun config who held floored) where
   name_is : floored.node.who ≡ name_of config (length nodes)
   name_is = begun.who_is ∙ named ∙ name_as config sizes are (length nodes)
@@ -213,8 +213,8 @@ module _ {X : Type 0} (held : X → Held) (config : Config) (sizes : Sizes) (are
 
   -- and one more
   module _ (x : X) (lt : length done < length all) (read : x ≡ get_or all (length done) x) where
-    pub begun_next : (who : NodeId) → who ≡ name_of (sized sizes) (length nodes) → (node : FlooredParts) → IsBegun config who (held x) node
-        → (new : List FlooredParts) → new ≡ nodes ++ node ∷ [] → AreBegun config (map held (done ++ x ∷ [])) new
+    pub begun_next : (who : NodeId) → who ≡ name_of (config_by sizes []) (length nodes) → (node : FlooredParts)
+        → IsBegun config who (held x) node → (new : List FlooredParts) → new ≡ nodes ++ node ∷ [] → AreBegun config (map held (done ++ x ∷ [])) new
     begun_next who named node begun new new_is =
         subst (λ (ns : List FlooredParts). AreBegun config (map held (done ++ x ∷ [])) ns) (sym new_is)
         (subst (λ (records : List Held). AreBegun config records (nodes ++ node ∷ [])) (sym (map_push held done x))

@@ -27,12 +27,13 @@ use Rattle.floors.specs.Nodes.{Rise, kept_rise, on_least, on_raise}
 use Rattle.floors.specs.Worlds.{FlooredResult, FlooredWorld, Notice, floored_answer, floored_dispatch, floored_if_found, hear_at}
 use Rattle.floors.specs.Worlds.{hear_result, is_done, is_manager, least_of, least_told, notices_of, raise_result, told_nodes}
 use Rattle.floors.specs.Worlds.{told_with, with_entry, with_floors, with_rise}
+use Rattle.node_core.specs.Configs.{config_by}
 use Rattle.floored.specs.Nodes.{BefallsRise, FlooredParts, FlooredRaises, FlooredStands, on_rise}
 use Rattle.floored.specs.Told.{told_at}
 use Rattle.floored.proofs.Raising.{done_up, up_as}
 use Rattle.network.specs.Networks.{NetworkParts}
 use Rattle.cluster.specs.declared.handing.Answered.{Answered}
-use Rattle.cluster.specs.Clusters.{ClusterParts, NoticesParts, sized, cluster_of, AreTold, ClusterStands, BefallsHeard}
+use Rattle.cluster.specs.Clusters.{ClusterParts, NoticesParts, cluster_of, AreTold, ClusterStands, BefallsHeard}
 use Rattle.cluster.specs.Clusters.{BefallsRaised, IsSameFloored, StayBut, HappensAs, notice_at, place_reached}
 use Rattle.cluster.specs.Notices.{HasHeardAt, HasToldOwn, RaisesTo, RaisesToLeast, told_in}
 use Rattle.cluster.proofs.Standing.{there, placed, found, named, floor_there, nodes_put, told_put, at_place, same_but, others_stay}
@@ -52,13 +53,13 @@ rise_as (L l) other floor m place fault up =
 
 -- ---- who is told
 
-told_nodes_as : (config : Config) (sizes : Sizes) → AreSizes config sizes → told_nodes (sized sizes) ≡ told_nodes config
+told_nodes_as : (config : Config) (sizes : Sizes) → AreSizes config sizes → told_nodes (config_by sizes []) ≡ told_nodes config
 told_nodes_as config sizes are =
     ap (λ (n : ℕ). map A (range_with_len 0 n) ++ map L (range_with_len 0 sizes.leaders)) are.acceptors_are
     ∙ ap (λ (n : ℕ). map A (range_with_len 0 config.acceptors) ++ map L (range_with_len 0 n)) are.leaders_are
 
 notices_as : (config : Config) (sizes : Sizes) → AreSizes config sizes → (manager : ℕ) (floor : Option Place)
-    → notices_of (sized sizes) manager floor ≡ notices_of config manager floor
+    → notices_of (config_by sizes []) manager floor ≡ notices_of config manager floor
 notices_as config sizes are manager None = refl
 notices_as config sizes are manager (Some place) =
     ap (map (λ (who : NodeId). record { manager = manager; receiver = who; place = place })) (told_nodes_as config sizes are)
@@ -129,7 +130,7 @@ rests config nodes who (Some m) = λ at d h. (refl, refl)
 
 module _ (config : Config) (world : FlooredWorld) (sizes : Sizes) (nodes : List FlooredParts) (network : NetworkParts)
     (notices : NoticesParts) (s : ClusterStands config (cluster_of sizes nodes network notices) world) (who : NodeId) (at : ℕ)
-    (is : Some at ≡ place_of (sized sizes) who) (node new : FlooredParts) (read : node ≡ get_or nodes at node) where
+    (is : Some at ≡ place_of (config_by sizes []) who) (node new : FlooredParts) (read : node ≡ get_or nodes at node) where
   abbrev machine : World
   machine = world.machine
 
@@ -332,7 +333,7 @@ module _ (config : Config) (world : FlooredWorld) (sizes : Sizes) (nodes : List 
 
 module _ (config : Config) (world : FlooredWorld) (sizes : Sizes) (nodes : List FlooredParts) (network : NetworkParts)
     (notices : NoticesParts) (s : ClusterStands config (cluster_of sizes nodes network notices) world) (rm at : ℕ)
-    (is : Some at ≡ place_of (sized sizes) (R rm)) (node new : FlooredParts) (read : node ≡ get_or nodes at node)
+    (is : Some at ≡ place_of (config_by sizes []) (R rm)) (node new : FlooredParts) (read : node ≡ get_or nodes at node)
     (floor : Place) (result : Result (Unit {0}) Refusal) (raises : RaisesTo floor node new result) where
   abbrev state : NodeState
   state = m config world sizes nodes network notices s (R rm) at is node new read
@@ -366,7 +367,7 @@ module _ (config : Config) (world : FlooredWorld) (sizes : Sizes) (nodes : List 
     told_by (Ok done) answer_is tale none =
         let done : rise.answer ≡ Done = sym answer_is in
         let floor_is : tale.floor ≡ rise.floor = tale.own (up_then done) ∙ risen_so.floor_is in
-        let told : notices_of (sized sizes) rm tale.floor ≡ tells =
+        let told : notices_of (config_by sizes []) rm tale.floor ≡ tells =
         notices_as config sizes s.sizes_are rm tale.floor ∙ ap (notices_of config rm) floor_is
         ∙ sym (told_if rise.answer (notices_of config rm rise.floor) [] done) in (
           tale.told.told_are ∙ room_told,
@@ -418,7 +419,7 @@ module _ (config : Config) (world : FlooredWorld) (sizes : Sizes) (nodes : List 
   kept = cluster_of sizes nodes network notices
 
   -- there is no such resource manager
-  pub raised_nowhere : (rm : ℕ) (floor : Place) → None ≡ place_of (sized sizes) (R rm) → answered.answer ≡ Refused refusals.NoSuch
+  pub raised_nowhere : (rm : ℕ) (floor : Place) → None ≡ place_of (config_by sizes []) (R rm) → answered.answer ≡ Refused refusals.NoSuch
       → HappensAs config world (Raise rm floor) kept kept answered
   raised_nowhere rm floor none answer_is =
       let absent = none_there config world sizes nodes network notices s (R rm) (sym none) in
@@ -459,15 +460,15 @@ module _ (config : Config) (world : FlooredWorld) (sizes : Sizes) (nodes : List 
       by_node = ap (λ (b : Bool). if b then floored_answer world Done
           else floored_if_found world (hear_result config world notice NoFault) (node_at config world.machine notice.receiver)) other
 
-      pub heard_nowhere : None ≡ place_of (sized sizes) notice.receiver → answered.answer ≡ Refused refusals.NoSuch
+      pub heard_nowhere : None ≡ place_of (config_by sizes []) notice.receiver → answered.answer ≡ Refused refusals.NoSuch
           → HappensAs config world (Hear n) kept kept answered
       heard_nowhere none =
           heard_as (Refused refusals.NoSuch)
           (by_node ∙ ap (floored_if_found world (hear_result config world notice NoFault))
           (none_there config world sizes nodes network notices s notice.receiver (sym none)))
 
-      pub heard_down : (at : ℕ) → Some at ≡ place_of (sized sizes) notice.receiver → (node : FlooredParts) → node ≡ get_or nodes at node
-          → is_none node.node.role ≡ true → answered.answer ≡ Refused refusals.Down → HappensAs config world (Hear n) kept kept answered
+      pub heard_down : (at : ℕ) → Some at ≡ place_of (config_by sizes []) notice.receiver → (node : FlooredParts)
+          → node ≡ get_or nodes at node → is_none node.node.role ≡ true → answered.answer ≡ Refused refusals.Down → HappensAs config world (Hear n) kept kept answered
       heard_down at is node read down =
           let own = there config world sizes nodes network notices s notice.receiver at (sym is) node in
           let stands : FlooredStands config node own.0 = subst (λ (x : FlooredParts). FlooredStands config x own.0) (sym read) own.2 in

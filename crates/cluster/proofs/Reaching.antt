@@ -34,10 +34,11 @@ use Rattle.stable_record.specs.Held.{Held}
 use Rattle.xid.specs.Places.{Place}
 use Rattle.floors.specs.Nodes.{floored_node_step, is_input_below}
 use Rattle.floors.specs.Worlds.{FlooredResult, FlooredWorld, at_floored_node, floored_dispatch, step_with_floors, with_floors}
+use Rattle.node_core.specs.Configs.{config_by}
 use Rattle.floored.specs.Nodes.{FlooredDoes, FlooredParts, FlooredStands, FlooredStepsAs, IsOutput, floored_fact}
 use Rattle.network.specs.Networks.{DatagramParts, NetworkParts, StandsFor, Finds}
 use Rattle.cluster.specs.declared.handing.Answered.{Answered}
-use Rattle.cluster.specs.Clusters.{NoticesParts, sized, cluster_of, ClusterStands, ReachesAs, ComesTo, BefallsAt}
+use Rattle.cluster.specs.Clusters.{NoticesParts, cluster_of, ClusterStands, ReachesAs, ComesTo, BefallsAt}
 use Rattle.cluster.specs.Sending.{HaveSent, HasRoom}
 use Rattle.cluster.proofs.Standing.{there, placed, found, named, floor_there, node_put, at_place, same_but, same_floored, others_stay}
 use Rattle.cluster.proofs.Bounds.{count}
@@ -166,7 +167,7 @@ room_less network few many le room =
 
 module _ (config : Config) (world : FlooredWorld) (sizes : Sizes) (nodes : List FlooredParts) (network : NetworkParts)
     (notices : NoticesParts) (s : ClusterStands config (cluster_of sizes nodes network notices) world) (who : NodeId) (at : ℕ)
-    (is : place (sized sizes) who ≡ Some at) (input : Input) (d new : FlooredParts) (out : Output)
+    (is : place (config_by sizes []) who ≡ Some at) (input : Input) (d new : FlooredParts) (out : Output)
     (steps : (config : Config) (m : NodeState) → FlooredStands config (get_or nodes at d) m → FlooredStepsAs config m input
     (get_or nodes at d) new out) where
   abbrev old : FlooredParts
@@ -219,7 +220,7 @@ module _ (config : Config) (world : FlooredWorld) (sizes : Sizes) (nodes : List 
   pub sends_few : (n : ℕ)
       → ((config : Config) → AreSizes config sizes → (facts : List Fact) (memory : Memory)
       → count config who (effect_of config who facts memory input).sends ≤ n)
-      → length (flat_map (datagrams_of (sized sizes) who) (sent out.sends)) ≤ n
+      → length (flat_map (datagrams_of (config_by sizes []) who) (sent out.sends)) ≤ n
   sends_few n bound =
       subst (λ (ds : List Datagram). length ds ≤ n)
       (ap (flat_map (datagrams_of config who)) (sym shows.sends_are) ∙ sym (datagrams_as config sizes s.sizes_are who (sent out.sends)))
@@ -235,12 +236,12 @@ module _ (config : Config) (world : FlooredWorld) (sizes : Sizes) (nodes : List 
       (subst (λ (a : NodeState). Befalls (floored_fact config who floor a input) old.node.held new.node.held does.fault) m_is befalls)
 
   pub reached : (after : NetworkParts) (answered : Answered)
-      → HaveSent network after (flat_map (datagrams_of (sized sizes) who) (sent out.sends))
+      → HaveSent network after (flat_map (datagrams_of (config_by sizes []) who) (sent out.sends))
       → answered.answer ≡ out.reply → answered.now ≡ out.now
       → ReachesAs config world world.machine who input (cluster_of sizes nodes network notices)
       (cluster_of sizes (set nodes at new) after notices) answered
   reached after answered so answer_is now_is =
-      let datagrams : flat_map (datagrams_of (sized sizes) who) (sent out.sends) ≡ flat_map (datagrams_of config who) outcome.sends =
+      let datagrams : flat_map (datagrams_of (config_by sizes []) who) (sent out.sends) ≡ flat_map (datagrams_of config who) outcome.sends =
       datagrams_as config sizes s.sizes_are who (sent out.sends) ∙ ap (flat_map (datagrams_of config who)) shows.sends_are in
       let result : StepResult = outcome_result config world.machine who state.facts outcome in
       let comes : ComesTo config (cluster_of sizes (set nodes at new) after notices) answered (came_of world result) =

@@ -24,11 +24,12 @@ use Rattle.node_core.specs.Compacting.{BefallsCompact, IsRecompacted, CompactsAs
 use Rattle.node_core.specs.Opening.{BefallsRestart, restart_answer}
 use Rattle.floors.specs.Worlds.{FlooredWorld, nothing_told, with_entry}
 use Rattle.floors.proofs.Nodes.{restart_keeps, restart_silent, compact_keeps, compact_silent}
+use Rattle.node_core.specs.Configs.{config_by}
 use Rattle.floored.specs.Nodes.{FlooredCompacts, FlooredCompactsDown, FlooredCompactsUp, FlooredParts, FlooredRestarts, FlooredStands}
 use Rattle.floored.specs.Told.{told_at}
 use Rattle.network.specs.Networks.{NetworkParts, StandsFor}
 use Rattle.cluster.specs.declared.handing.Answered.{Answered}
-use Rattle.cluster.specs.Clusters.{ClusterParts, NoticesParts, sized, cluster_of, AreTold, ClusterStands, ComesTo, BefallsRestarted}
+use Rattle.cluster.specs.Clusters.{ClusterParts, NoticesParts, cluster_of, AreTold, ClusterStands, ComesTo, BefallsRestarted}
 use Rattle.cluster.specs.Clusters.{BefallsCompacted, IsMetIf, IsArmed, IsSameFloored}
 use Rattle.cluster.specs.Clusters.{StayBut, HappensAs, LeavesShorter, BefallsShorter}
 use Rattle.cluster.specs.Notices.{forgotten_at, told_in}
@@ -64,7 +65,7 @@ none_in n rm few = get_or-replicate n rm None None few
 
 module _ (config : Config) (world : FlooredWorld) (sizes : Sizes) (nodes : List FlooredParts) (network : NetworkParts)
     (notices : NoticesParts) (s : ClusterStands config (cluster_of sizes nodes network notices) world) (who : NodeId) (at : ℕ)
-    (is : Some at ≡ place (sized sizes) who) (node new : FlooredParts) (read : node ≡ get_or nodes at node) where
+    (is : Some at ≡ place (config_by sizes []) who) (node new : FlooredParts) (read : node ≡ get_or nodes at node) where
   abbrev machine : World
   machine = world.machine
 

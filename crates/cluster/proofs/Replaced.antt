@@ -19,10 +19,11 @@ use Rattle.node_core.specs.Opening.{restart_answer}
 use Rattle.floors.specs.Nodes.{Rise, is_unread, kept_rise, may_replace, not_put_in, on_replace, put_in}
 use Rattle.floors.specs.Worlds.{FlooredResult, FlooredWorld, floored_answer, floored_dispatch, floored_if_found, is_manager, is_put}
 use Rattle.floors.specs.Worlds.{nothing_told, replace_result, with_entry, with_floors, with_rise, with_told_lost}
+use Rattle.node_core.specs.Configs.{config_by}
 use Rattle.floored.specs.Nodes.{BefallsReplace, FlooredParts, FlooredReplaces, FlooredStands}
 use Rattle.network.specs.Networks.{NetworkParts}
 use Rattle.cluster.specs.declared.handing.Answered.{Answered}
-use Rattle.cluster.specs.Clusters.{ClusterParts, NoticesParts, sized, cluster_of, ClusterStands, ComesTo, BefallsReplaced}
+use Rattle.cluster.specs.Clusters.{ClusterParts, NoticesParts, cluster_of, ClusterStands, ComesTo, BefallsReplaced}
 use Rattle.cluster.specs.Clusters.{IsSameFloored, StayBut, HappensAs, place_reached}
 use Rattle.cluster.specs.Notices.{forgotten_at, is_in_use, replaced_at}
 use Rattle.cluster.proofs.Standing.{there, placed, found, named, floor_there, node_kept, nodes_put, at_place, same_but, others_stay}
@@ -57,7 +58,7 @@ in_use_is (Err e) is =
 
 module _ (config : Config) (world : FlooredWorld) (sizes : Sizes) (nodes : List FlooredParts) (network : NetworkParts)
     (notices : NoticesParts) (s : ClusterStands config (cluster_of sizes nodes network notices) world) (who : NodeId) (at : ℕ)
-    (is : Some at ≡ place_of (sized sizes) who) (node new : FlooredParts) (read : node ≡ get_or nodes at node)
+    (is : Some at ≡ place_of (config_by sizes []) who) (node new : FlooredParts) (read : node ≡ get_or nodes at node)
     (other : is_manager who ≡ false) (floor : Place) (result : Result (Unit {0}) Refusal)
     (replaces : is_manager node.node.who ≡ false → (config : Config) (m : NodeState) → FlooredStands config node m
     → FlooredReplaces config m floor node new result) where
@@ -271,7 +272,7 @@ module _ (config : Config) (world : FlooredWorld) (sizes : Sizes) (nodes : List 
   replaced_manager manager = not_replaced (ap by_kind manager)
 
   -- there is no such node
-  pub replaced_nowhere : is_manager who ≡ false → None ≡ place_of (sized sizes) who
+  pub replaced_nowhere : is_manager who ≡ false → None ≡ place_of (config_by sizes []) who
       → HappensAs config world (Replace who floor) unmoved unmoved answered
   replaced_nowhere other none =
       not_replaced (ap by_kind other

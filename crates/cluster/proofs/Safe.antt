@@ -30,8 +30,9 @@ use Rattle.floors.specs.Worlds.{FlooredWorld, FlooredResult, Machine, floored_st
 use Rattle.floors.specs.Worlds.{step_with_floors, with_floors}
 use Rattle.floors.proofs.Following.{are_runs, consistent, one_step, steps}
 use Rattle.floors.proofs.Steps.{in_machine, same_event, unasked_event}
+use Rattle.node_core.specs.Configs.{config_by}
 use Rattle.floored.specs.Nodes.{FlooredParts, FlooredStands}
-use Rattle.cluster.specs.Clusters.{ClusterParts, ClusterStands, IsSound, OccursAs, Occurs, sized}
+use Rattle.cluster.specs.Clusters.{ClusterParts, ClusterStands, IsSound, OccursAs, Occurs}
 use Rattle.cluster.specs.Headlines.{IsKept, IsWritten, IsInOrder, branch_kept, LeavesKept, IsSafeMove, MovesSafely}
 use Rattle.cluster.proofs.Standing.{is_there, none_there, place_as}
 use Rattle.cluster.proofs.Grown.{Grows, still, step_grows, none_moved, table_moves}
@@ -186,7 +187,7 @@ module _ (event : Event) (old new : ClusterParts) (step : Step) (config : Config
       one_step config world (Grows config world.machine) (still config world.machine) (step_grows config world.machine) (with_floors event)
       o.fault
 
-  table_moved : (rm : ℕ) (at : Option ℕ) → place (sized old.sizes) (R rm) ≡ at → place (sized new.sizes) (R rm) ≡ at
+  table_moved : (rm : ℕ) (at : Option ℕ) → place (config_by old.sizes []) (R rm) ≡ at → place (config_by new.sizes []) (R rm) ≡ at
       → IsKept config world.machine next.machine rm ⊎ IsWritten config world.machine next.machine rm
   table_moved rm None e f =
       none_moved config world.machine next.machine rm
@@ -214,7 +215,7 @@ module _ (event : Event) (old new : ClusterParts) (step : Step) (config : Config
         moves_find_ready (is_participant tx) (views_in config world.machine tx) (views_in config next.machine tx)
         q named_q r named_r before committed (steps config world reachable (with_floors event) o.fault tx);
     tables = λ rm.
-        table_moved rm (place (sized old.sizes) (R rm)) refl
+        table_moved rm (place (config_by old.sizes []) (R rm)) refl
         (place_as config new.sizes o.stands.sizes_are (R rm) ∙ sym (place_as config old.sizes stands.sizes_are (R rm)));
     kept = λ rm x key.
         subst (λ (s : Step). LeavesKept s rm x key (branch_kept config world.machine rm x) (branch_kept config next.machine rm x))

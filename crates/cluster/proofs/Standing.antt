@@ -19,10 +19,11 @@ use Rattle.node_core.specs.Nodes.{AreSizes, IsSameNode}
 use Rattle.floors.specs.Worlds.{FlooredWorld, with_entry}
 use Rattle.floors.proofs.Rising.{entry_by, entry_own}
 use Rattle.node_core.specs.Places.{node_count}
+use Rattle.node_core.specs.Configs.{config_by}
 use Rattle.floored.specs.Nodes.{FlooredParts, FlooredStands}
 use Rattle.floored.specs.Told.{told_at}
 use Rattle.network.specs.Networks.{NetworkParts, StandsFor}
-use Rattle.cluster.specs.Clusters.{ClusterParts, NoticesParts, sized, cluster_of, AreNodes, AreTold, ClusterStands}
+use Rattle.cluster.specs.Clusters.{ClusterParts, NoticesParts, cluster_of, AreNodes, AreTold, ClusterStands}
 use Rattle.cluster.specs.Clusters.{IsSameCluster, IsSameFloored, StayBut}
 
 -- ---- lists, place by place
@@ -98,7 +99,8 @@ unchanged old new sizes_are nodes_are = record {
 
 -- ---- sizes
 
-pub place_as : (config : Config) (sizes : Sizes) → AreSizes config sizes → (who : NodeId) → place (sized sizes) who ≡ place config who
+pub place_as : (config : Config) (sizes : Sizes) → AreSizes config sizes → (who : NodeId)
+    → place (config_by sizes []) who ≡ place config who
 place_as config sizes are (A a) = ap (λ (n : ℕ). if nat_lt a n then Some a else None) are.acceptors_are
 place_as config sizes are (L l) =
     ap (λ (n : ℕ). if nat_lt l n then Some (sizes.acceptors + l) else None) are.leaders_are
@@ -138,9 +140,9 @@ place_within config (R rm) at h =
 
 -- a place that a cluster has is one of its nodes
 pub index_fits : {X : Type 0} (sizes : Sizes) (nodes : List X) (who : NodeId) (at : ℕ) → length nodes ≡ node_count sizes
-    → place (sized sizes) who ≡ Some at → at < length nodes
+    → place (config_by sizes []) who ≡ Some at → at < length nodes
 index_fits sizes nodes who at count is =
-    let lt : at < node_count sizes = place_within (sized sizes) who at is in omega (arith, lt, count)
+    let lt : at < node_count sizes = place_within (config_by sizes []) who at is in omega (arith, lt, count)
 
 -- a floor or what was told, where one node has another entry
 module _ {X : Type 0} (table : NodeId → X) (who : NodeId) (x : X) where
@@ -165,7 +167,7 @@ module _ (config : Config) (world : FlooredWorld) (sizes : Sizes) (nodes : List 
   told_count_is =
       omega (arith, s.told_are.count, s.sizes_are.acceptors_are, s.sizes_are.leaders_are, s.sizes_are.managers_are)
 
-  module _ (who : NodeId) (at : ℕ) (is : place (sized sizes) who ≡ Some at) where
+  module _ (who : NodeId) (at : ℕ) (is : place (config_by sizes []) who ≡ Some at) where
     pub placed : place config who ≡ Some at
     placed = sym (place_as config sizes s.sizes_are who) ∙ is
 
@@ -323,18 +325,18 @@ module _ (config : Config) (world : FlooredWorld) (sizes : Sizes) (nodes : List 
         own (n ∷ ns) e lt = let m = there n in (m.0, found m.0 m.1)
 
   -- where the cluster has no such node, the world has none
-  pub none_there : (who : NodeId) → place (sized sizes) who ≡ None → node_at config world.machine who ≡ None
+  pub none_there : (who : NodeId) → place (config_by sizes []) who ≡ None → node_at config world.machine who ≡ None
   none_there who is =
       ap (λ (o : Option ℕ). option_and_then (λ (p : ℕ). slice_get states p) o)
       (sym (place_as config sizes s.sizes_are who) ∙ is)
 
   -- a node that has a place is another than one that has none
-  absent_apart : (who : NodeId) → place (sized sizes) who ≡ None → (n : NodeId) (p : ℕ) → place config n ≡ Some p → n ≡ who → ⊥
+  absent_apart : (who : NodeId) → place (config_by sizes []) who ≡ None → (n : NodeId) (p : ℕ) → place config n ≡ Some p → n ≡ who → ⊥
   absent_apart who is n p h same =
       let both : Some p ≡ None = sym h ∙ ap (place config) same ∙ sym (place_as config sizes s.sizes_are who) ∙ is in absurd (cc (both))
 
   -- no node there is told anything else where one that isn't there is
-  pub told_elsewhere : (who : NodeId) → place (sized sizes) who ≡ None → (told : ℕ → Option Place)
+  pub told_elsewhere : (who : NodeId) → place (config_by sizes []) who ≡ None → (told : ℕ → Option Place)
       → AreTold config notices.told (with_entry world.told who told)
   told_elsewhere who is told = record {
     count = s.told_are.count;

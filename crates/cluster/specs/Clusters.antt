@@ -54,16 +54,6 @@ pub record ClusterParts : Type 0 where
 abbrev pub cluster_of : Sizes → List FlooredParts → NetworkParts → NoticesParts → ClusterParts
 cluster_of sizes nodes network notices = record { sizes = sizes; nodes = nodes; network = network; notices = notices }
 
--- a cluster of these sizes, whatever its tables hold at first
-abbrev pub sized : Sizes → Config
-sized sizes = record {
-  acceptors = sizes.acceptors;
-  leaders = sizes.leaders;
-  managers = sizes.managers;
-  bundled = sizes.bundled;
-  tables = [];
-}
-
 -- the nodes stand in the order of their names, each with its floor, and each for the one that the machine has there
 pub record AreNodes (config : Config) (nodes : List FlooredParts) (floor : NodeId → Option Place) (states : List NodeState) : Type 0 where
   pub count : length nodes ≡ config.acceptors + config.leaders + config.managers

@@ -4,6 +4,7 @@ use Rattle.std.specs.Prelude.{Some, None, is_some, Result, Ok, Err}
 use Rattle.std.specs.List.{slice_set}
 use Rattle.xid.specs.Places.{Place}
 use Rattle.floors.specs.Worlds.{Notice, least_of, notices_of}
+use Rattle.node_core.specs.Configs.{config_by}
 use Rattle.floored.specs.Nodes.{FlooredParts, FlooredRaises, FlooredStands}
 use Rattle.floored.specs.Told.{HasHeard}
 use Rattle.xid.specs.declared.refusals.Refusal.{Refusal}
@@ -11,7 +12,7 @@ use Rattle.protocol.specs.declared.events.Told.{Told}
 use Rattle.protocol.specs.Effects.{Config}
 use Rattle.protocol.specs.Nodes.{NodeState}
 use Rattle.node_core.specs.declared.config.Sizes.{Sizes}
-use Rattle.cluster.specs.Clusters.{NoticesParts, sized}
+use Rattle.cluster.specs.Clusters.{NoticesParts}
 use Rattle.cluster.specs.declared.notices.KeptNotice.{KeptNotice}
 
 -- a notice as it is kept
@@ -28,7 +29,7 @@ told_count sizes = sizes.acceptors + sizes.leaders
 
 -- a resource manager's floor, if it has one, was told to all of them; what they heard before stays
 pub record HaveTold (sizes : Sizes) (manager : ℕ) (floor : Option Place) (old new : NoticesParts) : Type 0 where
-  pub all_are : new.all ≡ old.all ++ notices_of (sized sizes) manager floor
+  pub all_are : new.all ≡ old.all ++ notices_of (config_by sizes []) manager floor
   pub told_are : new.told ≡ old.told
 
 -- what was told to the node of a place

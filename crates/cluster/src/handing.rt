@@ -1,6 +1,6 @@
 //! The events of a cluster: which node one reaches, what that node is handed, and what is sent or told then.
 
-ghost use Rattle.std.specs.Prelude.{◌≡◌, ◌<◌, ◌≤◌, List, None, length, OnOk, OnErr};
+ghost use Rattle.std.specs.Prelude.{◌≡◌, ◌<◌, ◌≤◌, List, None, length, OnOk, OnErr, []};
 ghost use Rattle.std.specs.List.{flat_map};
 ghost use Rattle.wire.specs.Decoding.{message_at};
 ghost use Rattle.protocol.specs.declared.events.Event.TheVariants.{Ask, Deliver, Lose, Cut, Noise, Restart, Compact, Hear};
@@ -12,9 +12,10 @@ ghost use Rattle.node_core.specs.Opening.{restart_answer};
 ghost use Rattle.node_core.specs.Sends.{sent as sent_by};
 ghost use Rattle.floors.specs.Worlds.{is_manager as is_named_manager};
 ghost use Rattle.node_core.specs.Places.{node_count};
+ghost use Rattle.node_core.specs.Configs.{config_by};
 ghost use Rattle.floored.specs.Nodes.{FlooredParts};
 ghost use Rattle.network.specs.Networks.{NetworkParts};
-ghost use Rattle.cluster.specs.Clusters.{NoticesParts, cluster_of, sized, Happens, IsSound, Reaches};
+ghost use Rattle.cluster.specs.Clusters.{NoticesParts, cluster_of, Happens, IsSound, Reaches};
 ghost use Rattle.cluster.specs.Notices.{HasToldOwn, RaisesTo, RaisesToLeast, is_in_use, replaced_at, told_count};
 ghost use Rattle.cluster.specs.Sending.{HasRoom, HaveSent};
 
@@ -96,8 +97,8 @@ fn put_out(
     out: &mut Output,
     answered: &mut Answered,
 )
-    requires { HasRoom (length (flat_map (datagrams_of (sized sizes) who) (sent_by out.old.sends))) network.old }
-    ensures sent { HaveSent network.old network.new (flat_map (datagrams_of (sized sizes) who) (sent_by out.old.sends)) }
+    requires { HasRoom (length (flat_map (datagrams_of (config_by sizes []) who) (sent_by out.old.sends))) network.old }
+    ensures sent { HaveSent network.old network.new (flat_map (datagrams_of (config_by sizes []) who) (sent_by out.old.sends)) }
     ensures answer { answered.new.answer ≡ out.old.reply }
     ensures now { answered.new.now ≡ out.old.now }
 {

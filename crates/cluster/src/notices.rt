@@ -7,7 +7,8 @@ ghost use Rattle.std.specs.Vec.{vec_len, vec_capacity};
 ghost use Rattle.xid.specs.declared.refusals.Refusal.TheVariants.{NoMemory};
 ghost use Rattle.floors.specs.Worlds.{notices_of};
 ghost use Rattle.node_core.specs.Places.{node_count};
-ghost use Rattle.cluster.specs.Clusters.{notice_at, sized};
+ghost use Rattle.node_core.specs.Configs.{config_by};
+ghost use Rattle.cluster.specs.Clusters.{notice_at};
 ghost use Rattle.cluster.specs.Notices.{HasHeardAt, HaveTold, forgotten_at, notice_in, shown_notice, told_count};
 
 use crate::places::name_at;
@@ -77,7 +78,8 @@ fn none_told(alloc: Global, nodes: usize, managers: usize) -> Result<Vec<ToldFlo
 /// Puts a notice for each acceptor, and then for each leader, after the others. There is room for that.
 fn put_all(all: &mut Vec<KeptNotice>, sizes: Sizes, manager: u8, floor: &Floor)
     requires { vec_len all.old + told_count sizes ≤ vec_capacity all.old }
-    ensures items { map shown_notice all.new.items ≡ map shown_notice all.old.items ++ notices_of (sized sizes) manager (Some floor.now) }
+    ensures items { map shown_notice all.new.items
+        ≡ map shown_notice all.old.items ++ notices_of (config_by sizes []) manager (Some floor.now) }
     ensures len { vec_len all.new ≡ vec_len all.old + told_count sizes }
 {
     for i in 0..count_told(sizes) {

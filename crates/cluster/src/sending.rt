@@ -8,7 +8,7 @@ ghost use Rattle.protocol.specs.declared.nodes.NodeId.{NodeId as Id};
 ghost use Rattle.protocol.specs.Worlds.{Datagram, datagrams_of, datagram_to};
 ghost use Rattle.node_core.specs.Sends.{sent as sent_by};
 ghost use Rattle.network.specs.Networks.{StandsFor};
-ghost use Rattle.cluster.specs.Clusters.{sized};
+ghost use Rattle.node_core.specs.Configs.{config_by};
 ghost use Rattle.cluster.specs.Sending.{HasRoom, HaveSent, KeepsRoom};
 
 use network::Network;
@@ -40,11 +40,11 @@ fn send(network: &mut Network, sizes: Sizes, sender: NodeId, to: Address, bytes:
     requires few { length bytes.now ≤ MAX_MESSAGE_BYTES }
     requires spelled { (message : Kind) × Spells message bytes.now }
     requires room { (message : Kind) → Spells message bytes.now
-        → HasRoom (length (datagrams_of (sized sizes) sender (record { to = to; message = message }))) network.old }
+        → HasRoom (length (datagrams_of (config_by sizes []) sender (record { to = to; message = message }))) network.old }
     ensures sent { (message : Kind) → Spells message bytes.now
-        → HaveSent network.old network.new (datagrams_of (sized sizes) sender (record { to = to; message = message })) }
+        → HaveSent network.old network.new (datagrams_of (config_by sizes []) sender (record { to = to; message = message })) }
     ensures room { (message : Kind) → Spells message bytes.now
-        → KeepsRoom (length (datagrams_of (sized sizes) sender (record { to = to; message = message }))) network.old network.new }
+        → KeepsRoom (length (datagrams_of (config_by sizes []) sender (record { to = to; message = message }))) network.old network.new }
 {
     let receivers = Receivers::of(sizes, to, bytes);
     for i in 0..receivers.count() {
@@ -54,9 +54,9 @@ fn send(network: &mut Network, sizes: Sizes, sender: NodeId, to: Address, bytes:
 
 /// Sends a message that isn't spelled yet to each of its receivers, as `send` does.
 fn spell_and_send(network: &mut Network, sizes: Sizes, sender: NodeId, outgoing: &Outgoing)
-    requires { HasRoom (length (datagrams_of (sized sizes) sender outgoing.now)) network.old }
-    ensures sent { HaveSent network.old network.new (datagrams_of (sized sizes) sender outgoing.now) }
-    ensures room { KeepsRoom (length (datagrams_of (sized sizes) sender outgoing.now)) network.old network.new }
+    requires { HasRoom (length (datagrams_of (config_by sizes []) sender outgoing.now)) network.old }
+    ensures sent { HaveSent network.old network.new (datagrams_of (config_by sizes []) sender outgoing.now) }
+    ensures room { KeepsRoom (length (datagrams_of (config_by sizes []) sender outgoing.now)) network.old network.new }
 {
     let mut buffer = [0; MAX_DATAGRAM];
     let _ = outgoing.message.kind();
@@ -67,8 +67,8 @@ fn spell_and_send(network: &mut Network, sizes: Sizes, sender: NodeId, outgoing:
 /// Sends the messages of a node that aren't spelled yet, in their order, as `send_all` does.
 #[inline(never)]
 fn spell_and_send_all(network: &mut Network, sizes: Sizes, sender: NodeId, sends: &NodeSends)
-    requires { HasRoom (length (flat_map (datagrams_of (sized sizes) sender) (sent_by sends.now))) network.old }
-    ensures { HaveSent network.old network.new (flat_map (datagrams_of (sized sizes) sender) (sent_by sends.now)) }
+    requires { HasRoom (length (flat_map (datagrams_of (config_by sizes []) sender) (sent_by sends.now))) network.old }
+    ensures { HaveSent network.old network.new (flat_map (datagrams_of (config_by sizes []) sender) (sent_by sends.now)) }
 {
     for k in 0..sends.count() {
         spell_and_send(network, sizes, sender, &sends.at(k));
@@ -77,8 +77,8 @@ fn spell_and_send_all(network: &mut Network, sizes: Sizes, sender: NodeId, sends
 
 /// Sends all messages that a node puts out, in their order. There is room for that, so it takes no memory.
 pub(crate) fn send_all(network: &mut Network, sizes: Sizes, sender: NodeId, sends: &NodeSends)
-    requires { HasRoom (length (flat_map (datagrams_of (sized sizes) sender) (sent_by sends.now))) network.old }
-    ensures { HaveSent network.old network.new (flat_map (datagrams_of (sized sizes) sender) (sent_by sends.now)) }
+    requires { HasRoom (length (flat_map (datagrams_of (config_by sizes []) sender) (sent_by sends.now))) network.old }
+    ensures { HaveSent network.old network.new (flat_map (datagrams_of (config_by sizes []) sender) (sent_by sends.now)) }
 {
     if sends.count() == 0 {
         return;

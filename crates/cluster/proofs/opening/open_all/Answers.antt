@@ -1,7 +1,7 @@
-use Rattle.std.proofs.Common.{◌∙◌, ap, arith}
+use Rattle.std.proofs.Common.{◌∙◌, ap, arith, []}
 use Rattle.std.proofs.lemmas.Iterator.Adapters.{YieldsList-from_vec}
 use Rattle.std.proofs.lemmas.Iterator.Consumers.{YieldsList-turn}
-use Rattle.cluster.specs.Clusters.{sized}
+use Rattle.node_core.specs.Configs.{config_by}
 use Rattle.cluster.specs.Opening.{name_of}
 use Rattle.cluster.proofs.Names.{next_among}
 use Rattle.cluster.proofs.Opened.{count_here, begun_next, unmade_next}
@@ -55,5 +55,5 @@ loop-device-preserved g c =
     c.in-Some.device c.in-Some.is c.next.ensures.steps in
     begun_next g.R.Record.held c.args.config.now c.args.sizes c.requires.sizes c.args.records.items c.loop-device.yielded
     c.loop-device.nodes.items c.loop-device.invariant c.in-Some.device turn.0 turn.1 c.name_at-who.result
-    (c.name_at-who.ensures ∙ ap (name_of (sized c.args.sizes)) (c.len.ensures ∙ c.loop-device.nodes.ok.0)) c.in-Ok.node
+    (c.name_at-who.ensures ∙ ap (name_of (config_by c.args.sizes [])) (c.len.ensures ∙ c.loop-device.nodes.ok.0)) c.in-Ok.node
     c.in-Ok.ensures.ok c.push.new.self.items c.in_ok-push.ensures.items
