@@ -214,7 +214,8 @@ module _ {X : Type 0} (held : X → Held) (config : Config) (sizes : Sizes) (are
   -- and one more
   module _ (x : X) (lt : length done < length all) (read : x ≡ get_or all (length done) x) where
     pub begun_next : (who : NodeId) → who ≡ name_of (config_by sizes []) (length nodes) → (node : FlooredParts)
-        → IsBegun config who (held x) node → (new : List FlooredParts) → new ≡ nodes ++ node ∷ [] → AreBegun config (map held (done ++ x ∷ [])) new
+        → IsBegun config who (held x) node → (new : List FlooredParts) → new ≡ nodes ++ node ∷ []
+        → AreBegun config (map held (done ++ x ∷ [])) new
     begun_next who named node begun new new_is =
         subst (λ (ns : List FlooredParts). AreBegun config (map held (done ++ x ∷ [])) ns) (sym new_is)
         (subst (λ (records : List Held). AreBegun config records (nodes ++ node ∷ [])) (sym (map_push held done x))

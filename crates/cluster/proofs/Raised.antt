@@ -468,7 +468,8 @@ module _ (config : Config) (world : FlooredWorld) (sizes : Sizes) (nodes : List 
           (none_there config world sizes nodes network notices s notice.receiver (sym none)))
 
       pub heard_down : (at : ℕ) → Some at ≡ place_of (config_by sizes []) notice.receiver → (node : FlooredParts)
-          → node ≡ get_or nodes at node → is_none node.node.role ≡ true → answered.answer ≡ Refused refusals.Down → HappensAs config world (Hear n) kept kept answered
+          → node ≡ get_or nodes at node → is_none node.node.role ≡ true → answered.answer ≡ Refused refusals.Down
+          → HappensAs config world (Hear n) kept kept answered
       heard_down at is node read down =
           let own = there config world sizes nodes network notices s notice.receiver at (sym is) node in
           let stands : FlooredStands config node own.0 = subst (λ (x : FlooredParts). FlooredStands config x own.0) (sym read) own.2 in
