@@ -17,6 +17,7 @@ use Rattle.protocol.specs.Nodes.{NodeState, Input, RecordFails}
 use Rattle.protocol.specs.Worlds.{place, node_at}
 use Rattle.node_core.specs.Nodes.{Befalls}
 use Rattle.node_core.specs.Storing.{fact_frame}
+use Rattle.node_core.proofs.Placed.{place_within}
 use Rattle.floors.specs.Worlds.{FlooredWorld, Notice, step_with_floors}
 use Rattle.floored.specs.Nodes.{FlooredParts, floored_fact}
 use Rattle.cluster.specs.Clusters.{ClusterParts, ClusterStands, IsSameCluster, IsSameFloored, OccursAs, BefallsAt, BefallsReached}
@@ -24,7 +25,6 @@ use Rattle.cluster.specs.Clusters.{BefallsRestarted, BefallsRaised, BefallsHeard
 use Rattle.cluster.specs.Clusters.{handed, notice_at}
 use Rattle.cluster.specs.Opening.{NoneFails, IsOver, IsMade}
 use Rattle.cluster.specs.Runs.{HaveOccurred, FollowMachine, IsFirm}
-use Rattle.cluster.proofs.Standing.{place_within}
 use Rattle.cluster.proofs.Opened.{may_not}
 
 -- ---- one event after another

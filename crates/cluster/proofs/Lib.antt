@@ -1,6 +1,5 @@
 pub mod Sent
 pub mod Bounds
-pub mod Names
 pub mod Noticed
 pub mod Standing
 pub mod Reaching

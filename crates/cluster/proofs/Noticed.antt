@@ -37,10 +37,10 @@ use Rattle.floors.specs.Worlds.{with_entry, with_told_lost}
 use Rattle.floors.specs.Runs.{is_lost, passes_over}
 use Rattle.floors.proofs.Steps.{lost_event, same_event, unasked_event}
 use Rattle.node_core.specs.Configs.{config_by}
+use Rattle.node_core.specs.Places.{node_in}
 use Rattle.cluster.specs.Clusters.{NoticesParts, sent_after, told_after}
-use Rattle.cluster.specs.Opening.{name_of}
 use Rattle.cluster.specs.Notices.{told_count}
-use Rattle.cluster.proofs.Names.{acceptor_named, leader_named}
+use Rattle.node_core.proofs.Placed.{acceptor_named, leader_named}
 use Rattle.cluster.proofs.Sent.{count_after, get_dropped, sent_is}
 
 -- ---- an event
@@ -289,7 +289,7 @@ module _ (config : Config) (world : FlooredWorld) where
 
 -- the node of a place among those that are told is the one that stands there in the cluster
 told_there : (config : Config) (i : ℕ) → i < config.acceptors + config.leaders → (d : NodeId)
-    → get_or (told_nodes config) i d ≡ name_of config i
+    → get_or (told_nodes config) i d ≡ node_in config i
 told_there config i lt d = by_kind (nat_lt i config.acceptors) refl
   where
     acceptors : List NodeId
@@ -298,7 +298,7 @@ told_there config i lt d = by_kind (nat_lt i config.acceptors) refl
     leaders : List NodeId
     leaders = map L (range_with_len 0 config.leaders)
 
-    by_kind : (t : Bool) → nat_lt i config.acceptors ≡ t → get_or (acceptors ++ leaders) i d ≡ name_of config i
+    by_kind : (t : Bool) → nat_lt i config.acceptors ≡ t → get_or (acceptors ++ leaders) i d ≡ node_in config i
     by_kind true e =
         let below : i < config.acceptors = ltb-true i config.acceptors e in
         let inside : i < length acceptors = omega (arith, below, length-map-range_with_len A 0 config.acceptors) in
@@ -318,7 +318,7 @@ module _ (sizes : Sizes) (manager : ℕ) (place : Place) (before : List Notice) 
   to_all = notices_of (config_by sizes []) manager (Some place)
 
   -- one more of them is told
-  pub tells_next : (now : List Notice) → now ≡ before ++ take i to_all → (who : NodeId) → who ≡ name_of (config_by sizes []) i
+  pub tells_next : (now : List Notice) → now ≡ before ++ take i to_all → (who : NodeId) → who ≡ node_in (config_by sizes []) i
       → now ++ record { manager = manager; receiver = who; place = place } ∷ [] ≡ before ++ take (i + 1) to_all
   tells_next now is who named =
       let told : Notice = record { manager = manager; receiver = who; place = place } in

@@ -31,7 +31,8 @@ use Rattle.floors.specs.Worlds.{FlooredWorld, Machine, floored_step}
 use Rattle.floors.specs.Runs.{IsFlooredReachable, Opening, After, floored_opening}
 use Rattle.forgetting.specs.Above.{StandsAbove}
 use Rattle.forgetting.proofs.Left.{stands_whole}
-use Rattle.node_core.specs.Places.{node_count}
+use Rattle.node_core.proofs.Placed.{count_of, name_as, name_placed, name_there, place_within}
+use Rattle.node_core.specs.Places.{node_count, node_in}
 use Rattle.floored.specs.Nodes.{FlooredParts, FlooredStands, IsFlooredOpened, IsFlooredUnopened}
 use Rattle.floored.specs.Told.{told_at}
 use Rattle.node_core.specs.declared.config.Sizes.{Sizes}
@@ -42,10 +43,8 @@ use Rattle.node_core.proofs.Restarting.{opened_empty}
 use Rattle.node_core.specs.Opening.{HasFaulted, IsOpened, IsUnopened}
 use Rattle.network.specs.Networks.{NetworkParts, StandsFor}
 use Rattle.cluster.specs.Clusters.{NoticesParts, cluster_of, AreTold, ClusterStands, IsSound}
-use Rattle.cluster.specs.Opening.{torn_node, opening_with, tears_of, NoneArmed, IsOver, IsMade, IsUnmade, name_of}
+use Rattle.cluster.specs.Opening.{torn_node, opening_with, tears_of, NoneArmed, IsOver, IsMade, IsUnmade}
 use Rattle.cluster.specs.Opening.{IsBegun, IsUnbegun, AreBegun}
-use Rattle.cluster.proofs.Names.{count_of, name_as, name_placed, name_there}
-use Rattle.cluster.proofs.Standing.{place_within}
 
 nothing_stored : IsStored [] [] []
 nothing_stored = (refl, inl (omega arith))
@@ -154,19 +153,19 @@ zip_length P (x ∷ xs) [] all = absurd all
 zip_length P (x ∷ xs) (y ∷ ys) all = ap suc (zip_length P xs ys all.1)
 
 module _ (config : Config) (sizes : Sizes) (are : AreSizes config sizes) (records : List Held) (nodes : List FlooredParts) (held : Held)
-    (floored : FlooredParts) (so : AreBegun config records nodes) (who : NodeId) (named : who ≡ name_of (config_by sizes []) (length nodes))
+    (floored : FlooredParts) (so : AreBegun config records nodes) (who : NodeId) (named : who ≡ node_in (config_by sizes []) (length nodes))
     (begun : IsBegun config who held floored) where
-  name_is : floored.node.who ≡ name_of config (length nodes)
+  name_is : floored.node.who ≡ node_in config (length nodes)
   name_is = begun.who_is ∙ named ∙ name_as config sizes are (length nodes)
 
   named_now : (at : ℕ) (d : FlooredParts) → at < length (nodes ++ floored ∷ []) → (at < length nodes) ⊎ (at ≡ length nodes)
-      → (get_or (nodes ++ floored ∷ []) at d).node.who ≡ name_of config at
+      → (get_or (nodes ++ floored ∷ []) at d).node.who ≡ node_in config at
   named_now at d lt (inl before) =
       ap (λ (n : FlooredParts). n.node.who) (get_or_append_left nodes (floored ∷ []) d at before) ∙ so.named at d before
   named_now at d lt (inr last) =
       ap (λ (i : ℕ). (get_or (nodes ++ floored ∷ []) i d).node.who) last
       ∙ ap (λ (n : FlooredParts). n.node.who) (get_or-append_seam nodes floored [] d)
-      ∙ name_is ∙ ap (name_of config) (sym last)
+      ∙ name_is ∙ ap (node_in config) (sym last)
 
   tears_more : map torn_node (tears_of (records ++ held ∷ [])) ≡ map torn_node (tears_of records) ++ torn_node held.armed ∷ []
   tears_more =
@@ -213,7 +212,7 @@ module _ {X : Type 0} (held : X → Held) (config : Config) (sizes : Sizes) (are
 
   -- and one more
   module _ (x : X) (lt : length done < length all) (read : x ≡ get_or all (length done) x) where
-    pub begun_next : (who : NodeId) → who ≡ name_of (config_by sizes []) (length nodes) → (node : FlooredParts)
+    pub begun_next : (who : NodeId) → who ≡ node_in (config_by sizes []) (length nodes) → (node : FlooredParts)
         → IsBegun config who (held x) node → (new : List FlooredParts) → new ≡ nodes ++ node ∷ []
         → AreBegun config (map held (done ++ x ∷ [])) new
     begun_next who named node begun new new_is =
@@ -254,7 +253,7 @@ module _ (config : Config) where
     before = machine_of (done ++ new_node ∷ rest)
 
     abbrev who : NodeId
-    who = name_of config (length done)
+    who = node_in config (length done)
 
     placed : place config who ≡ Some (length done)
     placed = name_placed config (length done) lt

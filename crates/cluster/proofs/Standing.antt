@@ -1,11 +1,11 @@
 -- The nodes of a cluster and those of its world with floors, place by place.
-use Rattle.std.proofs.Common.{◌≡◌, ◌∙◌, inl, inr, ℕ, zero, suc, ◌+◌, ◌<◌, Bool, true, false, List, [], ◌∷◌, length}
+use Rattle.std.proofs.Common.{◌≡◌, ◌∙◌, inl, inr, ℕ, zero, suc, ◌+◌, ◌<◌, List, [], ◌∷◌, length}
 use Rattle.std.proofs.Common.{get_or, set}
 use Rattle.std.proofs.Common.{Option, Some, None, refl, sym, ap, subst, nat_lt, arith}
 use Rattle.std.specs.Prelude.{slice_get, if◌then◌else◌}
 use Rattle.std.specs.List.{AllZip, slice_set}
 use Rattle.std.specs.Option.{option_and_then, option_map_or}
-use Rattle.std.proofs.lemmas.Bool.{cases_eq, ltb-true}
+use Rattle.std.proofs.lemmas.Bool.{cases_eq}
 use Rattle.std.proofs.lemmas.List.{get_or_default, get_or-set_same, get_or-set_other, length-set}
 use Rattle.protocol.specs.declared.nodes.NodeId.{NodeId}
 use Rattle.protocol.specs.declared.nodes.NodeId.TheVariants.{A, L, R}
@@ -20,6 +20,7 @@ use Rattle.floors.specs.Worlds.{FlooredWorld, with_entry}
 use Rattle.floors.proofs.Rising.{entry_by, entry_own}
 use Rattle.node_core.specs.Places.{node_count}
 use Rattle.node_core.specs.Configs.{config_by}
+use Rattle.node_core.proofs.Placed.{place_within}
 use Rattle.floored.specs.Nodes.{FlooredParts, FlooredStands}
 use Rattle.floored.specs.Told.{told_at}
 use Rattle.network.specs.Networks.{NetworkParts, StandsFor}
@@ -111,32 +112,6 @@ place_as config sizes are (R rm) =
     ∙ ap (λ (m : ℕ). if nat_lt rm config.managers then Some (config.acceptors + m + rm) else None) are.leaders_are
 
 -- ---- places
-
-below_by : (number bound before at : ℕ) (t : Bool) → nat_lt number bound ≡ t → (if t then Some (before + number) else None) ≡ Some at
-    → at < before + bound
-below_by number bound before at true e h =
-    let lt : number < bound = ltb-true number bound e in
-    let same : before + number ≡ at = cc (h) in
-    omega (arith, lt, same)
-below_by number bound before at false e h = absurd (cc (h))
-
-first_below : (number bound at : ℕ) (t : Bool) → nat_lt number bound ≡ t → (if t then Some number else None) ≡ Some at → at < bound
-first_below number bound at true e h =
-    let lt : number < bound = ltb-true number bound e in
-    let same : number ≡ at = cc (h) in
-    omega (arith, lt, same)
-first_below number bound at false e h = absurd (cc (h))
-
-pub place_within : (config : Config) (who : NodeId) (at : ℕ) → place config who ≡ Some at
-    → at < config.acceptors + config.leaders + config.managers
-place_within config (A a) at h =
-    let lt : at < config.acceptors = first_below a config.acceptors at (nat_lt a config.acceptors) refl h in omega (arith, lt)
-place_within config (L l) at h =
-    let lt : at < config.acceptors + config.leaders =
-    below_by l config.leaders config.acceptors at (nat_lt l config.leaders) refl h in
-    omega (arith, lt)
-place_within config (R rm) at h =
-    below_by rm config.managers (config.acceptors + config.leaders) at (nat_lt rm config.managers) refl h
 
 -- a place that a cluster has is one of its nodes
 pub index_fits : {X : Type 0} (sizes : Sizes) (nodes : List X) (who : NodeId) (at : ℕ) → length nodes ≡ node_count sizes

@@ -1,16 +1,16 @@
 -- How a cluster begins: a node over each record, none of which has done anything.
-use Rattle.std.specs.Prelude.{◌≡◌, ℕ, ◌+◌, ◌-◌, ◌<◌, false, nat_lt, if◌then◌else◌, List, [], length, map, slice_index_or, Option, None}
+use Rattle.std.specs.Prelude.{◌≡◌, ℕ, ◌+◌, ◌<◌, false, List, [], length, map, slice_index_or, Option, None}
 use Rattle.std.specs.List.{All, AllZip}
 use Rattle.xid.specs.declared.refusals.Refusal.{Refusal}
 use Rattle.stable_record.specs.Held.{Held}
 use Rattle.protocol.specs.declared.nodes.NodeId.{NodeId}
-use Rattle.protocol.specs.declared.nodes.NodeId.TheVariants.{A, L, R}
 use Rattle.protocol.specs.Effects.{Config}
 use Rattle.protocol.specs.Nodes.{NodeState, new_node}
 use Rattle.floors.specs.Worlds.{FlooredWorld}
 use Rattle.floors.specs.Runs.{IsFlooredReachable, floored_opening}
 use Rattle.node_core.specs.Nodes.{NodeStands}
 use Rattle.node_core.specs.Opening.{HasFaulted}
+use Rattle.node_core.specs.Places.{node_in}
 use Rattle.floored.specs.Nodes.{FlooredParts}
 use Rattle.cluster.specs.Clusters.{ClusterParts, ClusterStands}
 
@@ -67,13 +67,6 @@ IsUnmade config records other = ⊥
 
 -- ---- node by node
 
--- the node that stands in a place
-abbrev pub name_of : Config → ℕ → NodeId
-name_of config at =
-    if nat_lt at config.acceptors then A at
-    else if nat_lt at (config.acceptors + config.leaders) then L (at - config.acceptors)
-    else R (at - config.acceptors - config.leaders)
-
 -- a node was opened over an empty record: it has no floor
 pub record IsBegun (config : Config) (who : NodeId) (held : Held) (floored : FlooredParts) : Type 0 where
   pub who_is : floored.node.who ≡ who
@@ -93,6 +86,6 @@ IsUnbegun held other = ⊥
 pub record AreBegun (config : Config) (records : List Held) (nodes : List FlooredParts) : Type 0 where
   pub empty : All (λ held. held.bytes ≡ []) records
   pub over : AllZip IsOver records nodes
-  pub named : (at : ℕ) (d : FlooredParts) → at < length nodes → (slice_index_or nodes at d).node.who ≡ name_of config at
+  pub named : (at : ℕ) (d : FlooredParts) → at < length nodes → (slice_index_or nodes at d).node.who ≡ node_in config at
   pub without_floor : All (λ floored. floored.floor ≡ None) nodes
   pub stand : AllZip (λ floored. NodeStands config floored.node) nodes (map torn_node (tears_of records))

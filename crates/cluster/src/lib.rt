@@ -8,7 +8,6 @@ mod handing;
 pub mod laws;
 mod notices;
 mod opening;
-mod places;
 mod room;
 mod sending;
 

@@ -11,9 +11,8 @@ ghost use Rattle.node_core.specs.Configs.{config_by};
 ghost use Rattle.cluster.specs.Clusters.{notice_at};
 ghost use Rattle.cluster.specs.Notices.{HasHeardAt, HaveTold, forgotten_at, notice_in, shown_notice, told_count};
 
-use crate::places::name_at;
 use floored::ToldFloors;
-use node_core::{Sizes, node_count};
+use node_core::{Sizes, node_count, node_in};
 use protocol::{NodeId, Told};
 use std::alloc::Global;
 use std::marker::Model;
@@ -85,7 +84,7 @@ fn put_all(all: &mut Vec<KeptNotice>, sizes: Sizes, manager: u8, floor: &Floor)
     for i in 0..count_told(sizes) {
         all.push_reserved(KeptNotice {
             manager,
-            receiver: name_at(sizes, i),
+            receiver: node_in(sizes, i),
             floor: *floor,
         });
     }

@@ -6,9 +6,8 @@ ghost use Rattle.node_core.specs.Nodes.{AreSizes};
 ghost use Rattle.node_core.specs.Places.{node_count};
 ghost use Rattle.cluster.specs.Opening.{AreBegun, IsBegun, IsUnbegun, IsUnmade};
 
-use crate::places::name_at;
 use floored::Floored;
-use node_core::{Config, Sizes, node_count};
+use node_core::{Config, Sizes, node_count, node_in};
 use protocol::NodeId;
 use stable_record::Record;
 use std::alloc::Global;
@@ -54,7 +53,7 @@ pub(crate) fn open_all<R: Record + Drop>(
 {
     let mut nodes = Vec::with_capacity(alloc, node_count(sizes))?;
     for device in records {
-        let who = name_at(sizes, nodes.len());
+        let who = node_in(sizes, nodes.len());
         let node = match open_new(alloc, config, who, device) {
             Ok(node) => node,
             Err(refusal) => return Err(refusal),

@@ -11,6 +11,7 @@ use Rattle.xid.specs.declared.refusals.Refusal.{Refusal}
 use Rattle.stable_record.specs.Held.{Held}
 use Rattle.stable_record.specs.Records.{fresh}
 use Rattle.protocol.specs.Vocabulary.{NodeId, R, Row}
+use Rattle.node_core.proofs.Placed.{place_within}
 use Rattle.cluster_run.specs.Running.{IsRunning}
 use Rattle.protocol.specs.Effects.{Config}
 use Rattle.protocol.specs.Nodes.{NodeState, first_rows}
@@ -24,7 +25,6 @@ use Rattle.cluster.specs.Asking.{IsSaid, TablesIn}
 use Rattle.cluster.specs.Clusters.{ClusterParts, ClusterStands}
 use Rattle.cluster.specs.Opening.{AreNew, IsMade, IsUnmade}
 use Rattle.cluster.proofs.Following.{made_firm, still_firm}
-use Rattle.cluster.proofs.Standing.{place_within}
 
 -- ---- at first
 

@@ -10,12 +10,12 @@ use Rattle.byteorder.specs.Numbers.{length-bytes_high_first}
 use Rattle.protocol.specs.declared.nodes.NodeId.{NodeId}
 use Rattle.protocol.specs.Worlds.{place}
 use Rattle.node_core.specs.Configs.{config_by}
+use Rattle.node_core.proofs.Placed.{among_placed}
 use Rattle.letters.specs.Letters.{enclosed, letter_spelling}
 use Rattle.port.specs.Calls.{Sending}
 use Rattle.letter_port.specs.declared.outbox.Outbox.{Outbox}
 use Rattle.letter_port.specs.Mails.{can_go}
 use Rattle.letter_port.specs.Outboxes.{Encloses, Loses, MakesRoom, OutboxSent, Puts, letter_in}
-use Rattle.letter_port.proofs.Places.{is_there}
 
 -- a message takes two bytes more
 pub enclosed_fits : (letter bytes : List ℕ) → length letter + (2 + length bytes) ≤ 1400 → length (letter ++ enclosed bytes) ≤ 1400
@@ -38,7 +38,7 @@ same_faults Sent at old middle (inr gone) = gone.faults
 pub may_go : {P : Type 0} (old : Outbox P) (receiver : NodeId) (bytes : List ℕ) (at : ℕ)
     → place (config_by old.sizes []) receiver ≡ Some at → length bytes ≤ 1397 → can_go old.sizes receiver bytes ≡ true
 may_go old receiver bytes at found short =
-    λ i. is_there old.sizes receiver at found i && le-leb (length bytes) 1397 short i
+    λ i. among_placed (config_by old.sizes []) receiver at found i && le-leb (length bytes) 1397 short i
 
 -- a message that was put into the letter in its receiver's place was enclosed
 pub is_enclosed : {P : Type 0} (Sent : Sending P) (old middle new : Outbox P) (receiver : NodeId) (bytes : List ℕ) (at : ℕ)

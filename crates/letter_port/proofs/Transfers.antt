@@ -18,15 +18,15 @@ use Rattle.protocol.specs.Worlds.{Datagram, place}
 use Rattle.node_core.specs.Configs.{config_by, is_among}
 use Rattle.node_core.specs.declared.config.Sizes.{Sizes}
 use Rattle.floors.specs.Worlds.{Notice, is_node}
-use Rattle.node_core.specs.Places.{node_count}
+use Rattle.node_core.specs.Places.{node_count, node_in}
+use Rattle.node_core.proofs.Placed.{name_there, among_placed, place_within, name_placed}
 use Rattle.letters.specs.Letters.{IsEnclosable, enclosed, letter_spelling, letter_version}
 use Rattle.port.specs.Calls.{Sending, SendsAll, TellsAll}
 use Rattle.letter_port.specs.declared.outbox.Outbox.{Outbox}
 use Rattle.letter_port.specs.Mails.{GoesInLetters, MayBePosted, Mail, Posted, SendsLetters, can_go, mail_of, mail_of_notice, mail_to}
 use Rattle.letter_port.specs.Mails.{posted_to}
 use Rattle.letter_port.specs.Outboxes.{AllGo, Dispatched, Encloses, Loses, MakesRoom, OutboxSent, Puts, letter_in}
-use Rattle.letter_port.specs.Places.{node_in}
-use Rattle.letter_port.proofs.Places.{is_there, isnt_there, node_in_place, place_below, place_of_node, places_agree, places_differ}
+use Rattle.letter_port.proofs.Places.{isnt_there, places_agree, places_differ}
 use Rattle.letter_port.proofs.Places.{same_as_itself}
 use Rattle.letter_port.proofs.Places.{same_is_one}
 use Rattle.letter_port.proofs.Posting.{each_then, letters_are, letters_then, mail_is, mail_then, posted_then}
@@ -54,7 +54,8 @@ holds_each : (sizes : Sizes) (letters : List (List ℕ)) (begun : Begun) → Hol
     → (who : NodeId) (x : ℕ) → place (config_by sizes []) who ≡ Some x → (test : Bool) → is_node node who ≡ test
     → letter_in (set letters at letter) x ≡ letter_spelling (begun_with node messages begun who)
 holds_each sizes letters begun holds node at found letter messages is who x there true same =
-    let lt : at < length letters = omega (arith, place_below sizes node at found, holds.long) in
+    let below : at < node_count sizes = place_within (config_by sizes []) node at found in
+    let lt : at < length letters = omega (arith, below, holds.long) in
     ap (letter_in (set letters at letter)) (places_agree sizes node who at x found there same)
     ∙ get_or-set_same letters at letter (letter_spelling []) lt ∙ is
     ∙ ap letter_spelling (sym (with_test node messages begun who true same))
@@ -77,7 +78,8 @@ pub holds_set : (sizes : Sizes) (letters : List (List ℕ)) (begun : Begun) → 
 holds_set sizes letters begun holds node at found letter messages is = record {
   long = length-set letters at letter ∙ holds.long;
   each = λ who x there. holds_each sizes letters begun holds node at found letter messages is who x there (is_node node who) refl;
-  others = λ who out. holds_others sizes begun node messages (is_there sizes node at found) holds.others who out (is_node node who) refl;
+  others = λ who out.
+      holds_others sizes begun node messages (among_placed (config_by sizes []) node at found) holds.others who out (is_node node who) refl;
 }
 
 -- a message more in a letter
@@ -135,7 +137,7 @@ module _ {P : Type 0} (Sent : Sending P) (sizes : Sizes) where
     pub after : Begun
     pub holds : Holds sizes new.letters.items after
     pub transfers : Transfers begun old.port after new.port []
-    pub here : after (node_in sizes at) ≡ []
+    pub here : after (node_in (config_by sizes []) at) ≡ []
     pub still : (who : NodeId) → begun who ≡ [] → after who ≡ []
 
   still_none : (node : NodeId) (begun : Begun) (who : NodeId) → begun who ≡ [] → (test : Bool) → is_node node who ≡ test
@@ -162,8 +164,8 @@ module _ {P : Type 0} (Sent : Sending P) (sizes : Sizes) where
       → Holds sizes old.letters.items begun → Dispatched Sent at old new → (test : Bool)
       → (length (letter_in old.letters.items at) == 1) ≡ test → Emptied at begun old new
   emptied_by at begun old new are lt holds gone true is =
-      let node : NodeId = node_in sizes at in
-      let found : place (config_by sizes []) node ≡ Some at = place_of_node sizes at lt in
+      let node : NodeId = node_in (config_by sizes []) at in
+      let found : place (config_by sizes []) node ≡ Some at = name_placed (config_by sizes []) at lt in
       let letter : letter_in old.letters.items at ≡ letter_spelling (begun node) = holds.each node at found in
       let none : begun node ≡ [] = none_in (begun node) (sym (ap length letter) ∙ eqb-true _ 1 is) in record {
         after = begun_with node [] begun;
@@ -179,8 +181,8 @@ module _ {P : Type 0} (Sent : Sending P) (sizes : Sizes) where
         still = λ who nothing. still_none node begun who nothing (is_node node who) refl;
       }
   emptied_by at begun old new are lt holds gone false is =
-      let node : NodeId = node_in sizes at in
-      let found : place (config_by sizes []) node ≡ Some at = place_of_node sizes at lt in
+      let node : NodeId = node_in (config_by sizes []) at in
+      let found : place (config_by sizes []) node ≡ Some at = name_placed (config_by sizes []) at lt in
       let letter : letter_in old.letters.items at ≡ letter_spelling (begun node) = holds.each node at found in
       let sent = rw is at gone.goes in
       let some : begun node ≢ [] =
@@ -195,8 +197,8 @@ module _ {P : Type 0} (Sent : Sending P) (sizes : Sizes) where
           sends = (
             new.port,
             sent.0,
-            subst (λ (s : Sizes). Sent old.port new.port (node_in s at) (letter_spelling (begun node)) sent.0) are
-                (subst (λ (bytes : List ℕ). Sent old.port new.port (node_in old.sizes at) bytes sent.0) letter sent.1),
+            subst (λ (s : Sizes). Sent old.port new.port (node_in (config_by s []) at) (letter_spelling (begun node)) sent.0) are
+                (subst (λ (bytes : List ℕ). Sent old.port new.port (node_in (config_by old.sizes []) at) bytes sent.0) letter sent.1),
             refl,
           );
           each = (record { some = some; short = subst (λ (bytes : List ℕ). length bytes ≤ 1400) letter gone.short }, tt);
@@ -253,7 +255,7 @@ module _ {P : Type 0} (Sent : Sending P) (sizes : Sizes) where
   encloses_by node bytes begun old new may are holds at found middle (inl same) puts =
       put node at bytes begun old new found may are holds (subst (λ (o : Outbox P). Puts at bytes o new) same puts)
   encloses_by node bytes begun old new may are holds at found middle (inr gone) puts =
-      let left = emptied at begun old middle are (place_below sizes node at found) holds gone in
+      let left = emptied at begun old middle are (place_within (config_by sizes []) node at found) holds gone in
       let last = put node at bytes left.after middle new found may (gone.sizes ∙ are) left.holds puts in record {
         sizes_are = last.sizes_are;
         after = last.after;
@@ -337,18 +339,20 @@ module _ {P : Type 0} (Sent : Sending P) (sizes : Sizes) where
     pub after : Begun
     pub holds : Holds sizes new.letters.items after
     pub transfers : Transfers begun old.port after new.port []
-    pub none : (at : ℕ) → at < count → after (node_in sizes at) ≡ []
+    pub none : (at : ℕ) → at < count → after (node_in (config_by sizes []) at) ≡ []
 
-  none_or : (count : ℕ) (after : Begun) → after (node_in sizes count) ≡ []
-      → ((at : ℕ) → at < count → after (node_in sizes at) ≡ []) → (at : ℕ) → at < suc count → (test : Bool) → (at == count) ≡ test
-      → after (node_in sizes at) ≡ []
-  none_or count after here below at lt true is = ap (λ (n : ℕ). after (node_in sizes n)) (eqb-true at count is) ∙ here
+  none_or : (count : ℕ) (after : Begun) → after (node_in (config_by sizes []) count) ≡ []
+      → ((at : ℕ) → at < count → after (node_in (config_by sizes []) at) ≡ [])
+      → (at : ℕ) → at < suc count → (test : Bool) → (at == count) ≡ test
+      → after (node_in (config_by sizes []) at) ≡ []
+  none_or count after here below at lt true is = ap (λ (n : ℕ). after (node_in (config_by sizes []) n)) (eqb-true at count is) ∙ here
   none_or count after here below at lt false is =
       let differs : at ≢ count = λ same. let no : false ≡ true = sym is ∙ eq-eqb at count same in absurd (cc) in
       below at (omega (arith, lt, differs))
 
-  none_below : (count : ℕ) (after : Begun) → after (node_in sizes count) ≡ []
-      → ((at : ℕ) → at < count → after (node_in sizes at) ≡ []) → (at : ℕ) → at < suc count → after (node_in sizes at) ≡ []
+  none_below : (count : ℕ) (after : Begun) → after (node_in (config_by sizes []) count) ≡ []
+      → ((at : ℕ) → at < count → after (node_in (config_by sizes []) at) ≡ [])
+      → (at : ℕ) → at < suc count → after (node_in (config_by sizes []) at) ≡ []
   none_below count after here below at lt = none_or count after here below at lt (at == count) refl
 
   pub all_emptied : (count : ℕ) (begun : Begun) (old new : Outbox P) → old.sizes ≡ sizes → count ≤ node_count sizes
@@ -370,7 +374,7 @@ module _ {P : Type 0} (Sent : Sending P) (sizes : Sizes) where
         after = next.after;
         holds = next.holds;
         transfers = transfers_then begun first.after next.after old.port middle.port new.port [] [] first.transfers next.transfers;
-        none = none_below count next.after next.here (λ at lt. next.still (node_in sizes at) (first.none at lt));
+        none = none_below count next.after next.here (λ at lt. next.still (node_in (config_by sizes []) at) (first.none at lt));
       }
 
   -- ---- what a group has to send goes in letters
@@ -380,16 +384,16 @@ module _ {P : Type 0} (Sent : Sending P) (sizes : Sizes) where
   letters_none = record {
     long = length-replicate (node_count sizes) (letter_spelling []);
     each = λ who at found.
-        get_or-replicate (node_count sizes) at (letter_spelling []) (letter_spelling []) (place_below sizes who at found);
+        get_or-replicate (node_count sizes) at (letter_spelling []) (letter_spelling []) (place_within (config_by sizes []) who at found);
     others = λ who out. refl;
   }
 
-  none_for : (begun : Begun) → ((at : ℕ) → at < node_count sizes → begun (node_in sizes at) ≡ [])
+  none_for : (begun : Begun) → ((at : ℕ) → at < node_count sizes → begun (node_in (config_by sizes []) at) ≡ [])
       → ((who : NodeId) → is_among (config_by sizes []) who ≡ false → begun who ≡ []) → (who : NodeId) (found : Option ℕ)
       → place (config_by sizes []) who ≡ found → begun who ≡ []
   none_for begun none others who None nowhere = others who (isnt_there sizes who nowhere)
   none_for begun none others who (Some at) found =
-      sym (ap begun (node_in_place sizes who at found)) ∙ none at (place_below sizes who at found)
+      sym (ap begun (name_there (config_by sizes []) who at found)) ∙ none at (place_within (config_by sizes []) who at found)
 
   -- what went
   pub record IsSentOut (old new : Outbox P) (mails : List Mail) : Type 0 where

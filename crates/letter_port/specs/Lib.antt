@@ -1,4 +1,3 @@
-pub mod Places
 pub mod Mails
 pub mod Outboxes
 pub mod LetterPorts

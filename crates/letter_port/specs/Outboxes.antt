@@ -6,13 +6,13 @@ use Rattle.xid.specs.declared.refusals.Refusal.TheVariants.{PortFault}
 use Rattle.protocol.specs.declared.nodes.NodeId.{NodeId}
 use Rattle.protocol.specs.Worlds.{place}
 use Rattle.node_core.specs.Configs.{config_by}
+use Rattle.node_core.specs.Places.{node_in}
 use Rattle.letters.specs.Letters.{enclosed, letter_spelling}
 use Rattle.letters.specs.declared.letter.TheConstants.{MAX_LETTER}
 use Rattle.port.specs.Calls.{Receiving, Sending}
 use Rattle.port.specs.Ports.{faults_after}
 use Rattle.letter_port.specs.declared.outbox.Outbox.{Outbox}
 use Rattle.letter_port.specs.Mails.{can_go}
-use Rattle.letter_port.specs.Places.{node_in}
 
 -- its count
 abbrev pub outbox_count : {P : Type 0} → Outbox P → ℕ
@@ -29,7 +29,8 @@ pub record Dispatched {P : Type 0} (Sent : Sending P) (at : ℕ) (old new : Outb
   pub letters : new.letters.items ≡ slice_set old.letters.items at (letter_spelling [])
   pub short : length (letter_in old.letters.items at) ≤ MAX_LETTER
   pub goes : MatchBool (length (letter_in old.letters.items at) == 1) (new.port ≡ old.port)
-      ((result : Result (Unit {0}) Refusal) × Sent old.port new.port (node_in old.sizes at) (letter_in old.letters.items at) result)
+      ((result : Result (Unit {0}) Refusal)
+      × Sent old.port new.port (node_in (config_by old.sizes []) at) (letter_in old.letters.items at) result)
 
 -- a message was put behind those that the letter in a place has
 pub record Puts {P : Type 0} (at : ℕ) (bytes : List ℕ) (old new : Outbox P) : Type 0 where

@@ -1,10 +1,9 @@
 ghost use Rattle.std.specs.Prelude.{◌≡◌, ◌+◌, ◌<◌, [], length, replicate, IfOk};
 ghost use Rattle.node_core.specs.Places.{node_count};
 ghost use Rattle.letters.specs.Letters.{letter_spelling};
-ghost use Rattle.letter_port.specs.Places.{node_in};
 
 use letters::{Letter, MAX_ENCLOSED};
-use node_core::{Sizes, node_count, place_of};
+use node_core::{Sizes, node_count, node_in, place_of};
 use port::{MAX_TAKEN, Port};
 use protocol::NodeId;
 use std::alloc::{AllocError, Global};
@@ -18,22 +17,6 @@ pub(crate) struct Outbox<P> {
     pub(crate) letters: Vec<Letter>,
     pub(crate) faults: u64,
     ghost complete: { length letters.items ≡ sizes.acceptors + sizes.leaders + sizes.managers },
-}
-
-/// The node in a place.
-fn node_in(sizes: Sizes, at: usize) -> NodeId
-    requires { at < node_count sizes }
-    ensures { result ≡ node_in sizes at }
-{
-    let (acceptors, leaders) = (usize::from(sizes.acceptors), usize::from(sizes.leaders));
-    if at < acceptors {
-        return NodeId::A(at as u8);
-    }
-    let at = at - acceptors;
-    if at < leaders {
-        return NodeId::L(at as u8);
-    }
-    NodeId::R((at - leaders) as u8)
 }
 
 /// A letter with nothing in it to each of so many nodes.

@@ -1,6 +1,7 @@
 pub mod Deciding
 pub mod Playing
 pub mod Addressed
+pub mod Placed
 pub mod Stopping
 pub mod Changes
 pub mod Steps

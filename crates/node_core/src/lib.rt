@@ -28,7 +28,7 @@ mod viewing;
 pub use config::{Config, Sizes};
 pub use node::Node;
 pub use output::{Input, Output};
-pub use receivers::{Receivers, node_count, place_of};
+pub use receivers::{Receivers, node_count, node_in, place_of};
 pub use requests::accepts_request;
 pub use role::Role;
 pub use sends::NodeSends;

@@ -1,13 +1,13 @@
 //! Where nodes stand in a cluster, and which of them an address means.
 
-ghost use Rattle.std.specs.Prelude.{◌≡◌, ◌<◌, [], length, slice_index_or};
+ghost use Rattle.std.specs.Prelude.{◌≡◌, ◌<◌, [], length, slice_index_or, Some};
 ghost use Rattle.wire.specs.declared.message.Kind.{Kind};
 ghost use Rattle.wire.specs.Grammar.{Spells};
 ghost use Rattle.wire.specs.Messages.{message_tx};
 ghost use Rattle.protocol.specs.Effects.{receivers};
 ghost use Rattle.protocol.specs.Worlds.{place};
 ghost use Rattle.node_core.specs.Configs.{config_by};
-ghost use Rattle.node_core.specs.Places.{node_count, placed_after};
+ghost use Rattle.node_core.specs.Places.{node_count, node_in, placed_after};
 ghost use Rattle.node_core.specs.Receivers.{receivers_in};
 
 use crate::config::Sizes;
@@ -44,6 +44,23 @@ pub fn node_count(sizes: Sizes) -> usize
     ensures { result ≡ node_count sizes }
 {
     usize::from(sizes.acceptors) + usize::from(sizes.leaders) + usize::from(sizes.managers)
+}
+
+/// The node in a place.
+pub fn node_in(sizes: Sizes, at: usize) -> NodeId
+    requires { at < node_count sizes }
+    ensures named { result ≡ node_in (config_by sizes []) at }
+    ensures placed { place (config_by sizes []) result ≡ Some at }
+{
+    let acceptors = usize::from(sizes.acceptors);
+    let leaders = usize::from(sizes.leaders);
+    if at < acceptors {
+        return NodeId::A(at as u8);
+    }
+    if at < acceptors + leaders {
+        return NodeId::L((at - acceptors) as u8);
+    }
+    NodeId::R((at - acceptors - leaders) as u8)
 }
 
 /// The nodes to which a message goes.

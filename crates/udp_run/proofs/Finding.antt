@@ -17,13 +17,14 @@ use Rattle.protocol.specs.Effects.{Config}
 use Rattle.node_core.specs.declared.config.Sizes.{Sizes}
 use Rattle.node_core.specs.Configs.{are_sizes, is_config}
 use Rattle.node_core.specs.Nodes.{AreSizes}
+use Rattle.node_core.specs.Configs.{config_by}
 use Rattle.node_core.specs.Places.{node_count}
+use Rattle.node_core.proofs.Placed.{place_within}
 use Rattle.port.specs.declared.addresses.Addresses.{Addresses}
 use Rattle.port.specs.declared.udp.UdpPort.{UdpPort}
 use Rattle.port.specs.Addresses.{address_of, with_address}
 use Rattle.udp_run.specs.Sites.{place_in}
 use Rattle.udp_run.specs.Runs.{AreStanding, ArePorts, FindsEach, finding}
-use Rattle.udp_run.proofs.Reaching.{place_within}
 
 -- ---- one node for each place
 
@@ -266,7 +267,7 @@ module _ (sizes : Sizes) (addresses : Addresses) (bound ports : List UdpPort)
 
   finds_each : FindsEach sizes ports addresses
   finds_each who at d placed =
-      let lt : at < node_count sizes = place_within sizes who at placed in
+      let lt : at < node_count sizes = place_within (config_by sizes []) who at placed in
       standing.found who at d lt placed ∙ ap (λ (p : UdpPort). Some p.number) (sym (read_at at d lt))
 
   pub all_find : (noise : UdpPort) → noise.addresses ≡ addresses → ArePorts sizes ports noise

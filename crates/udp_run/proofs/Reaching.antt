@@ -1,8 +1,7 @@
 -- The node of a place, and what becomes of it.
-use Rattle.std.proofs.Common.{◌≡◌, ◌≢◌, ℕ, ◌+◌, ◌<◌, Bool, true, false, List, length, get_or, set, refl, sym, ap, subst, Option, Some, None}
-use Rattle.std.proofs.Common.{Result, arith, nat_lt}
-use Rattle.std.specs.Prelude.{if◌then◌else◌, is_some, MatchBool}
-use Rattle.std.proofs.lemmas.Bool.{ltb-true}
+use Rattle.std.proofs.Common.{◌≡◌, ◌≢◌, ℕ, ◌<◌, Bool, true, false, List, length, get_or, set, refl, sym, ap, subst, Option, Some, None}
+use Rattle.std.proofs.Common.{Result, [], arith}
+use Rattle.std.specs.Prelude.{is_some, MatchBool}
 use Rattle.xid.specs.declared.refusals.Refusal.{Refusal}
 use Rattle.xid.specs.declared.refusals.Refusal.TheVariants.{Forged}
 use Rattle.wire.specs.Decoding.{message_at, spells_message}
@@ -12,9 +11,10 @@ use Rattle.wire.specs.declared.message.Kind.{Kind}
 use Rattle.wire.proofs.DecodingLemmas.{found as message_found, spelled as message_spelled}
 use Rattle.protocol.specs.declared.answers.Answer.TheVariants.{Refused}
 use Rattle.protocol.specs.declared.nodes.NodeId.{NodeId}
-use Rattle.protocol.specs.declared.nodes.NodeId.TheVariants.{A, L, R}
 use Rattle.node_core.specs.declared.config.Sizes.{Sizes}
+use Rattle.node_core.specs.Configs.{config_by}
 use Rattle.node_core.specs.Places.{node_count}
+use Rattle.node_core.proofs.Placed.{place_within}
 use Rattle.port.specs.Members.{MemberParts}
 use Rattle.node_core.specs.Opening.{restart_answer}
 use Rattle.port.specs.Calls.{Sending}
@@ -22,36 +22,11 @@ use Rattle.port.specs.declared.calling.Served.{Served}
 use Rattle.udp_run.specs.Sites.{place_in, site_of, Making, ReachesAt, Handling, HandlesIn, SendsNoise, IsSentBy}
 use Rattle.udp_run.specs.Sites.{answer_served, is_forged}
 
-below_by : (number bound before at : ℕ) (t : Bool) → nat_lt number bound ≡ t → (if t then Some (before + number) else None) ≡ Some at
-    → at < before + bound
-below_by number bound before at true e h =
-    let lt : number < bound = ltb-true number bound e in
-    let same : before + number ≡ at = cc (h) in
-    omega (arith, lt, same)
-below_by number bound before at false e h = absurd (cc (h))
-
-first_below : (number bound at : ℕ) (t : Bool) → nat_lt number bound ≡ t → (if t then Some number else None) ≡ Some at → at < bound
-first_below number bound at true e h =
-    let lt : number < bound = ltb-true number bound e in
-    let same : number ≡ at = cc (h) in
-    omega (arith, lt, same)
-first_below number bound at false e h = absurd (cc (h))
-
-pub place_within : (sizes : Sizes) (who : NodeId) (at : ℕ) → place_in sizes who ≡ Some at → at < node_count sizes
-place_within sizes (A a) at h =
-    let lt : at < sizes.acceptors = first_below a sizes.acceptors at (nat_lt a sizes.acceptors) refl h in omega (arith, lt)
-place_within sizes (L l) at h =
-    let lt : at < sizes.acceptors + sizes.leaders =
-    below_by l sizes.leaders sizes.acceptors at (nat_lt l sizes.leaders) refl h in
-    omega (arith, lt)
-place_within sizes (R rm) at h =
-    below_by rm sizes.managers (sizes.acceptors + sizes.leaders) at (nat_lt rm sizes.managers) refl h
-
 -- a place that a cluster has is one of so many
 pub place_fits : {X : Type 0} (sizes : Sizes) (xs : List X) (who : NodeId) (at : ℕ) → length xs ≡ node_count sizes
     → Some at ≡ place_in sizes who → at < length xs
 place_fits sizes xs who at count is =
-    let lt : at < node_count sizes = place_within sizes who at (sym is) in omega (arith, lt, count)
+    let lt : at < node_count sizes = place_within (config_by sizes []) who at (sym is) in omega (arith, lt, count)
 
 -- ---- what became of it
 

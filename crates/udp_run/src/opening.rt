@@ -1,38 +1,21 @@
 //! The nodes of a cluster, taken up from their records in a folder, and their sockets.
 
-ghost use Rattle.std.specs.Prelude.{◌≡◌, ◌⊎◌, ◌<◌, true, map, Some, IfOk, IfErr};
+ghost use Rattle.std.specs.Prelude.{◌≡◌, ◌⊎◌, ◌<◌, true, map, IfOk, IfErr};
 ghost use Rattle.xid.specs.declared.refusals.Refusal.TheVariants.{FileFault, NoMemory, PortFault};
 ghost use Rattle.stable_record.specs.Records.{file_held, just_opened};
 ghost use Rattle.node_core.specs.Configs.{are_sizes, is_among};
 ghost use Rattle.node_core.specs.Nodes.{AreSizes};
 ghost use Rattle.node_core.specs.Places.{node_count};
-ghost use Rattle.udp_run.specs.Sites.{place_in};
 ghost use Rattle.udp_run.specs.Runs.{AreOpened, ArePorts, AreStanding, IsOpenedOver, IsOpenedSite, finding};
 ghost use Rattle.udp_run.specs.Runs.{IsRefusedOver, IsTakenUp, RefusesNext, RefusesNode, RefusesSite};
 
 use crate::site::Site;
-use node_core::{Config, Sizes, node_count};
+use node_core::{Config, Sizes, node_count, node_in};
 use port::{Addresses, Member, UdpPort};
 use protocol::NodeId;
 use stable_record::{FileRecord, RecordError};
 use std::alloc::Global;
 use xid::Refusal;
-
-/// The node that stands in a place.
-fn name_at(sizes: Sizes, at: usize) -> NodeId
-    requires { at < node_count sizes }
-    ensures { place_in sizes result ≡ Some at }
-{
-    let acceptors = usize::from(sizes.acceptors);
-    let leaders = usize::from(sizes.leaders);
-    if at < acceptors {
-        return NodeId::A(at as u8);
-    }
-    if at < acceptors + leaders {
-        return NodeId::L((at - acceptors) as u8);
-    }
-    NodeId::R((at - acceptors - leaders) as u8)
-}
 
 /// The name of a node's file, as `a0.rec`, in a folder.
 fn path_of(alloc: Global, folder: &str, who: NodeId) -> Result<String, Refusal>
@@ -105,7 +88,7 @@ fn open_nodes(
 {
     let mut nodes = Vec::new(rt.alloc());
     for at in 0..node_count(sizes) {
-        let who = name_at(sizes, at);
+        let who = node_in(sizes, at);
         nodes.push(open_node(rt, folder, config, who)?)?;
     }
     Ok(nodes)
@@ -122,7 +105,7 @@ fn bind_ports(rt: HostRuntime, sizes: Sizes) -> Result<(Vec<UdpPort>, Addresses)
     let mut ports = Vec::new(rt.alloc());
     for at in 0..count {
         let port = UdpPort::bind(&rt)?;
-        addresses.set(name_at(sizes, at), port.number());
+        addresses.set(node_in(sizes, at), port.number());
         ports.push(port)?;
     }
     Ok((ports, addresses))

@@ -11,7 +11,7 @@ loop-i-preserved c =
       items =
           ap (map shown_notice) c.push_reserved.ensures.items ∙ map_push shown_notice c.loop-i.all.items _
           ∙ tells_next c.args.sizes c.args.manager c.args.floor.now (map shown_notice c.args.all.now.items) c.loop-i.i lt
-          (map shown_notice c.loop-i.all.items) c.loop-i.invariant.items c.name_at.result c.name_at.ensures;
+          (map shown_notice c.loop-i.all.items) c.loop-i.invariant.items c.node_in.result c.node_in.ensures.named;
       len = omega (arith, c.push_reserved.ensures.len, c.loop-i.invariant.len);
       capacity = c.push_reserved.ensures.capacity ∙ c.loop-i.invariant.capacity;
     }

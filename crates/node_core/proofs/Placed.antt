@@ -1,4 +1,4 @@
--- The names of the nodes of a cluster, and the places where they stand.
+-- The nodes of a cluster, and the places where they stand. Clusters, ports of letters and runs over sockets need it.
 use Rattle.std.proofs.Common.{◌≡◌, ◌∙◌, ℕ, ◌+◌, ◌-◌, ◌<◌, ◌≤◌, Bool, true, false, if◌then◌else◌, Some, None, refl, sym, ap, nat_lt, []}
 use Rattle.std.proofs.Common.{arith}
 use Rattle.std.proofs.lemmas.Bool.{lt-ltb, le-ltb, ltb-true, ltb-false}
@@ -9,8 +9,7 @@ use Rattle.protocol.specs.Worlds.{place}
 use Rattle.node_core.specs.declared.config.Sizes.{Sizes}
 use Rattle.node_core.specs.Configs.{is_among, config_by}
 use Rattle.node_core.specs.Nodes.{AreSizes}
-use Rattle.node_core.specs.Places.{node_count}
-use Rattle.cluster.specs.Opening.{name_of}
+use Rattle.node_core.specs.Places.{node_count, node_in}
 
 abbrev pub count_of : Config → ℕ
 count_of config = config.acceptors + config.leaders + config.managers
@@ -29,15 +28,15 @@ module _ (config : Config) (at : ℕ) where
       else if l then L (at - config.acceptors)
       else R (at - config.acceptors - config.leaders)
 
-  pub acceptor_named : at < config.acceptors → name_of config at ≡ A at
+  pub acceptor_named : at < config.acceptors → node_in config at ≡ A at
   acceptor_named lt = ap (λ (a : Bool). name_by a is_leader) (lt-ltb at config.acceptors lt)
 
-  pub leader_named : config.acceptors ≤ at → at < config.acceptors + config.leaders → name_of config at ≡ L (at - config.acceptors)
+  pub leader_named : config.acceptors ≤ at → at < config.acceptors + config.leaders → node_in config at ≡ L (at - config.acceptors)
   leader_named le lt =
       ap (λ (a : Bool). name_by a is_leader) (le-ltb at config.acceptors le)
       ∙ ap (λ (l : Bool). name_by false l) (lt-ltb at (config.acceptors + config.leaders) lt)
 
-  pub manager_named : config.acceptors + config.leaders ≤ at → name_of config at ≡ R (at - config.acceptors - config.leaders)
+  pub manager_named : config.acceptors + config.leaders ≤ at → node_in config at ≡ R (at - config.acceptors - config.leaders)
   manager_named le =
       let past : config.acceptors ≤ at = omega (arith, le) in
       ap (λ (a : Bool). name_by a is_leader) (le-ltb at config.acceptors past)
@@ -49,7 +48,7 @@ placed_at true x at e = (refl, cc (e))
 placed_at false x at e = absurd (cc (e))
 
 -- the name of a place is that of the node that stands there
-pub name_there : (config : Config) (who : NodeId) (at : ℕ) → place config who ≡ Some at → name_of config at ≡ who
+pub name_there : (config : Config) (who : NodeId) (at : ℕ) → place config who ≡ Some at → node_in config at ≡ who
 name_there config (A a) at e =
     let p = placed_at (nat_lt a config.acceptors) a at e in
     let lt : a < config.acceptors = ltb-true a config.acceptors p.0 in
@@ -88,11 +87,11 @@ module _ (config : Config) (at : ℕ) (lt : at < count_of config) where
       (lt-ltb (at - config.acceptors - config.leaders) config.managers few)
       ∙ ap (λ (n : ℕ). Some n) here
 
-  placed_as : (who : NodeId) → name_of config at ≡ who → place config who ≡ Some at → place config (name_of config at) ≡ Some at
+  placed_as : (who : NodeId) → node_in config at ≡ who → place config who ≡ Some at → place config (node_in config at) ≡ Some at
   placed_as who e h = ap (place config) e ∙ h
 
   placed_by : (a l : Bool) → nat_lt at config.acceptors ≡ a → nat_lt at (config.acceptors + config.leaders) ≡ l
-      → place config (name_of config at) ≡ Some at
+      → place config (node_in config at) ≡ Some at
   placed_by true l e f =
       let below : at < config.acceptors = ltb-true at config.acceptors e in
       placed_as (A at) (acceptor_named config at below) (acceptor_placed below)
@@ -104,15 +103,16 @@ module _ (config : Config) (at : ℕ) (lt : at < count_of config) where
       let le : config.acceptors + config.leaders ≤ at = ltb-false at (config.acceptors + config.leaders) f in
       placed_as (R (at - config.acceptors - config.leaders)) (manager_named config at le) (manager_placed le)
 
-  pub name_placed : place config (name_of config at) ≡ Some at
+  pub name_placed : place config (node_in config at) ≡ Some at
   name_placed = placed_by (nat_lt at config.acceptors) (nat_lt at (config.acceptors + config.leaders)) refl refl
 
-among_placed : (config : Config) (who : NodeId) (at : ℕ) → place config who ≡ Some at → is_among config who ≡ true
+-- a node that stands in a place is one of the cluster
+pub among_placed : (config : Config) (who : NodeId) (at : ℕ) → place config who ≡ Some at → is_among config who ≡ true
 among_placed config (A a) at e = (placed_at (nat_lt a config.acceptors) a at e).0
 among_placed config (L l) at e = (placed_at (nat_lt l config.leaders) (config.acceptors + l) at e).0
 among_placed config (R rm) at e = (placed_at (nat_lt rm config.managers) (config.acceptors + config.leaders + rm) at e).0
 
-pub name_as : (config : Config) (sizes : Sizes) → AreSizes config sizes → (at : ℕ) → name_of (config_by sizes []) at ≡ name_of config at
+pub name_as : (config : Config) (sizes : Sizes) → AreSizes config sizes → (at : ℕ) → node_in (config_by sizes []) at ≡ node_in config at
 name_as config sizes are at =
     ap (λ (a : ℕ). if nat_lt at a then A at else if nat_lt at (a + sizes.leaders) then L (at - a) else R (at - a - sizes.leaders))
     are.acceptors_are
@@ -120,9 +120,37 @@ name_as config sizes are at =
     else R (at - config.acceptors - l)) are.leaders_are
 
 -- the next node is one of the cluster
-pub next_among : (config : Config) (sizes : Sizes) → AreSizes config sizes → (at : ℕ) (who : NodeId) → who ≡ name_of (config_by sizes []) at
+pub next_among : (config : Config) (sizes : Sizes) → AreSizes config sizes → (at : ℕ) (who : NodeId) → who ≡ node_in (config_by sizes []) at
     → at < node_count sizes → is_among config who ≡ true
 next_among config sizes are at who named lt =
     let few : at < count_of config = omega (arith, lt, are.acceptors_are, are.leaders_are, are.managers_are) in
     ap (is_among config) (named ∙ name_as config sizes are at)
-    ∙ among_placed config (name_of config at) at (name_placed config at few)
+    ∙ among_placed config (node_in config at) at (name_placed config at few)
+
+-- ---- a place is one of so many
+
+below_by : (number bound before at : ℕ) (t : Bool) → nat_lt number bound ≡ t → (if t then Some (before + number) else None) ≡ Some at
+    → at < before + bound
+below_by number bound before at true e h =
+    let lt : number < bound = ltb-true number bound e in
+    let same : before + number ≡ at = cc (h) in
+    omega (arith, lt, same)
+below_by number bound before at false e h = absurd (cc (h))
+
+first_below : (number bound at : ℕ) (t : Bool) → nat_lt number bound ≡ t → (if t then Some number else None) ≡ Some at → at < bound
+first_below number bound at true e h =
+    let lt : number < bound = ltb-true number bound e in
+    let same : number ≡ at = cc (h) in
+    omega (arith, lt, same)
+first_below number bound at false e h = absurd (cc (h))
+
+pub place_within : (config : Config) (who : NodeId) (at : ℕ) → place config who ≡ Some at
+    → at < config.acceptors + config.leaders + config.managers
+place_within config (A a) at h =
+    let lt : at < config.acceptors = first_below a config.acceptors at (nat_lt a config.acceptors) refl h in omega (arith, lt)
+place_within config (L l) at h =
+    let lt : at < config.acceptors + config.leaders =
+    below_by l config.leaders config.acceptors at (nat_lt l config.leaders) refl h in
+    omega (arith, lt)
+place_within config (R rm) at h =
+    below_by rm config.managers (config.acceptors + config.leaders) at (nat_lt rm config.managers) refl h
