@@ -4,7 +4,7 @@ use Rattle.std.proofs.Common.{Option, Some, None, refl, sym, ap, subst, append_a
 use Rattle.std.specs.Prelude.{if◌then◌else◌, is_some, nat_lt, fold}
 use Rattle.std.specs.List.{AllByRecursion, IsDistinct, list_any, flat_map}
 use Rattle.std.specs.Cmp.{first_so, second_so}
-use Rattle.std.proofs.lemmas.Bool.{ltb-true, ltb-false, lt-ltb, le-ltb, eq-eqb, eqb-true, and_from, true≢false}
+use Rattle.std.proofs.lemmas.Bool.{ltb-true, ltb-false, lt-ltb, le-ltb, eqb-true, and_from, true≢false}
 use Rattle.xid.specs.Transactions.{TxParts, BranchParts, is_at, participants, rm_numbers, is_participant, tx_eq}
 use Rattle.xid.specs.declared.transaction.Vote.{Vote}
 use Rattle.xid.proofs.Deciding.{tx_self, tx_decides}
@@ -18,8 +18,9 @@ use Rattle.transactions.proofs.First.{seen_after, fold_both, fold_same, seen_all
 use Rattle.protocol.specs.declared.nodes.NodeId.TheVariants.{A}
 use Rattle.protocol.specs.Acceptors.{Slots, plays_at_acceptor, is_accepted}
 use Rattle.protocol.specs.Effects.{Config}
-use Rattle.protocol.specs.Facts.{ballot_joined, accept_of, instance_eq, slot}
+use Rattle.protocol.specs.Facts.{ballot_joined, accept_of, slot}
 use Rattle.protocol.specs.Nodes.{plays, all_play}
+use Rattle.protocol.proofs.Same.{instance_eq-same}
 use Rattle.acceptor.specs.Slots.{after_fact, raised, latest}
 use Rattle.acceptor.specs.Acceptors.{begun_in}
 use Rattle.acceptor.specs.Compaction.{accepted_ballot, accept_facts, common_ballot, common_facts, promise_facts, accepts_of, promises_of}
@@ -94,16 +95,13 @@ named_any p q tx each e = from (participants tx) (each_named tx.branches tx.bran
 abbrev some_taken : Slots → TxParts → Bool
 some_taken slots tx = list_any (λ i. taken (slots tx i)) (participants tx)
 
-instance_here : (tx : TxParts) (i : ℕ) → instance_eq tx i tx i ≡ true
-instance_here tx i = and_from (i == i) (tx_eq tx tx) (eq-eqb i i refl) (tx_self tx)
-
 promise_takes : (g : Slots) (tx : TxParts) (i b : ℕ) → plays_at_acceptor g (Fact.Promise tx i b) ≡ true
     → some_taken (λ other j. after_fact other j (g other j) (Fact.Promise tx i b)) tx ≡ true
 promise_takes g tx i b e =
     let lt = ltb-true (g tx i).mbal b (second_so (is_participant tx i) (ltb (g tx i).mbal b) e) in
     member (λ j. taken (after_fact tx j (g tx j) (Fact.Promise tx i b))) i tx.branches
     (first_so (is_participant tx i) (ltb (g tx i).mbal b) e)
-    ((λ k. nat_lt 0 (raised (g tx i).mbal (if instance_here tx i k then Some b else None)) || is_some (latest (g tx i).report None))
+    ((λ k. nat_lt 0 (raised (g tx i).mbal (if instance_eq-same tx i k then Some b else None)) || is_some (latest (g tx i).report None))
     ∙ taken_at (g tx i).mbal (g tx i).report None b (omega (arith, lt)))
 
 accept_takes : (g : Slots) (tx : TxParts) (i b : ℕ) (v : Vote) → plays_at_acceptor g (Fact.Accept tx i b v) ≡ true
@@ -112,8 +110,8 @@ accept_takes g tx i b v e =
     member (λ j. taken (after_fact tx j (g tx j) (Fact.Accept tx i b v))) i tx.branches
     (first_so (is_participant tx i) (leb (g tx i).mbal b)
     (first_so (is_participant tx i && leb (g tx i).mbal b) (not (is_accepted (g tx i) b v)) e))
-    ((λ k. nat_lt 0 (raised (g tx i).mbal (if instance_here tx i k then Some b else None))
-    || is_some (latest (g tx i).report (if instance_here tx i k then Some (b, v) else None)))
+    ((λ k. nat_lt 0 (raised (g tx i).mbal (if instance_eq-same tx i k then Some b else None))
+    || is_some (latest (g tx i).report (if instance_eq-same tx i k then Some (b, v) else None)))
     ∙ or_yes (nat_lt 0 (max (g tx i).mbal b)))
 
 all_take : (g : Slots) (tx : TxParts) (b : ℕ) → plays_at_acceptor g (Fact.PromiseAll tx b) ≡ true

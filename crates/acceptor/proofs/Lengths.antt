@@ -24,6 +24,7 @@ use Rattle.protocol.specs.Acceptors.{Slots, plays_at_acceptor, is_accepted, is_s
 use Rattle.protocol.specs.Effects.{Config}
 use Rattle.protocol.specs.Facts.{instance_eq, slot}
 use Rattle.protocol.specs.Nodes.{plays, all_play}
+use Rattle.protocol.proofs.Same.{instance_eq-same}
 use Rattle.acceptor.specs.Slots.{after_fact, raised, latest}
 use Rattle.acceptor.specs.Acceptors.{begun_in}
 use Rattle.acceptor.specs.Compaction.{accepted_ballot, accept_facts, least, least_ballot, is_promised, common_ballot, common_facts}
@@ -281,9 +282,6 @@ instances_once tx valid = IsDistinct-from_AllPairs unsigned_Decides (participant
 other_instance : (tx : TxParts) (i j : ℕ) → (j == i) ≡ false → instance_eq tx j tx i ≡ false
 other_instance tx i j e = ap (λ t. t && tx_eq tx tx) e
 
-same_instance : (tx : TxParts) (i : ℕ) → instance_eq tx i tx i ≡ true
-same_instance tx i = and_from (i == i) (tx_eq tx tx) (eq-eqb i i refl) (tx_self tx)
-
 -- nothing that is joined lowers a ballot
 raised_more : (m b : ℕ) (t : Bool) → m ≤ raised m (if t then Some b else None)
 raised_more m b true = omega arith
@@ -346,7 +344,7 @@ accept_step slots tx i b v valid le =
 
     accepted : above q (common_ballot slots tx) (after slots (Fact.Accept tx i b v) tx i) ≡ 0
     accepted =
-        subst (λ (t : Bool). above q (common_ballot slots tx) (then_at i t) ≡ 0) (sym (same_instance tx i))
+        subst (λ (t : Bool). above q (common_ballot slots tx) (then_at i t) ≡ 0) (sym (instance_eq-same tx i))
         (above_none q (common_ballot slots tx) (then_at i true) (omega (arith, le)))
 
     same_accept : (j : ℕ) → (j == i) ≡ false
@@ -357,7 +355,7 @@ accept_step slots tx i b v valid le =
 
     longer : length_of (accept_facts tx i (after slots (Fact.Accept tx i b v) tx i).report) ≡ q + 3
     longer =
-        subst (λ (t : Bool). length_of (accept_facts tx i (then_at i t).report) ≡ q + 3) (sym (same_instance tx i)) (omega arith)
+        subst (λ (t : Bool). length_of (accept_facts tx i (then_at i t).report) ≡ q + 3) (sym (instance_eq-same tx i)) (omega arith)
 
 all_step : (slots : Slots) (tx : TxParts) (b : ℕ) → is_some_below slots tx b ≡ true
     → length_of (transaction_facts (after slots (Fact.PromiseAll tx b)) tx)

@@ -5,7 +5,6 @@ use Rattle.std.specs.Prelude.{filter_map, fold}
 use Rattle.std.specs.Cmp.Lexicographic.{pointwise}
 use Rattle.std.specs.List.{cons_option, take_while}
 use Rattle.std.specs.Option.{option_map_or, option_and_then}
-use Rattle.std.proofs.lemmas.List.{append-nil, reverse-append}
 use Rattle.std.proofs.lemmas.List.Elements.{filter_map-append}
 use Rattle.std.proofs.lemmas.List.Sums.{fold-append}
 use Rattle.std.proofs.lemmas.Cmp.{nat_list_eq_equiv}
@@ -25,17 +24,13 @@ use Rattle.history.specs.LookingBack.{is_start, done_at, writes_in}
 use Rattle.history.specs.Writes.{accepted_writes, writes_of, is_committed_view, changed_to, commit_order, table_back}
 use Rattle.history.proofs.Kept.{kept_ever, voted_undone}
 use Rattle.history.proofs.Moves.{manager_in, IsMove, Quiet, Restarted, Called, Stored, event_moved}
-use Rattle.history.proofs.Runs.{IsRun, AtFirst, Then}
+use Rattle.history.proofs.Runs.{IsRun, AtFirst, Then, reverse_more}
 use Rattle.history.proofs.SerialTables as tables
 use Rattle.history.proofs.Told.{sound, told_ever}
 use Rattle.audit.specs.ToldTables.{commit_at, table_told, are_tables}
 use Rattle.audit.proofs.MachineStretches.{writes_same}
 
 -- ---- one step more
-
-reverse_more : (o : Option Change) (changes : List Change) → reverse (cons_option o changes) ≡ reverse changes ++ cons_option o []
-reverse_more None changes = sym (append-nil (reverse changes))
-reverse_more (Some change) changes = reverse-append (change ∷ []) changes
 
 abbrev commit : Change → Option TxParts
 commit = changed_to is_committed_view

@@ -12,14 +12,13 @@ use Rattle.xid.specs.Names.{XidParts}
 use Rattle.xid.specs.Transactions.{TxParts, is_participant}
 use Rattle.xid.specs.declared.codes.XaCode.TheVariants as codes
 use Rattle.xid.specs.declared.refusals.Refusal.{Refusal}
-use Rattle.xid.specs.declared.refusals.Refusal.TheVariants.{Busy, Full}
 use Rattle.xid.specs.declared.transaction.Vote.TheVariants as votes
 use Rattle.stable_record.specs.Facts.{fact_tx}
 use Rattle.stable_record.specs.declared.fact.FactKind.TheVariants as stored
 use Rattle.protocol.specs.Basics.{Act, Fact, Touched}
-use Rattle.protocol.specs.declared.states.BranchState.TheVariants.{Active, Idle, RollbackOnly, Prepared}
-use Rattle.protocol.specs.Vocabulary.{Answer, BranchState, Call, Code, Event, Ask, Get, NoValue, R, Refused, Row, Step, Change, Value, View}
-use Rattle.protocol.specs.Branches.{BranchView, by_state, get_answer, is_done, key_fits, read_of, row_at, value_after}
+use Rattle.protocol.specs.declared.states.BranchState.TheVariants.{Active, Prepared}
+use Rattle.protocol.specs.Vocabulary.{Answer, Call, Code, Event, Ask, Get, NoValue, R, Refused, Row, Step, Change, Value, View}
+use Rattle.protocol.specs.Branches.{BranchView, get_answer, is_done, key_fits, read_of, row_at, value_after}
 use Rattle.protocol.specs.Effects.{Config}
 use Rattle.protocol.specs.Facts.{view}
 use Rattle.protocol.specs.Managers.{named_answer}
@@ -46,6 +45,7 @@ use Rattle.history.proofs.Moves.{manager_in, branches_of, IsMove, Quiet, Restart
 use Rattle.history.proofs.Runs.{IsRun, AtFirst, Then, facts_in, reached}
 use Rattle.history.proofs.SerialTables.{serial_is}
 use Rattle.history.proofs.Told.{sound}
+use Rattle.history.proofs.SerialReads.{done_inside, fitting}
 use Rattle.audit.specs.Consistent.{committed_back, is_history_consistent, serial_table}
 use Rattle.audit.specs.Stretches as stretches
 use Rattle.audit.specs.Stretches.{own_act, stretch_back, stretches_back}
@@ -57,23 +57,6 @@ use Rattle.audit.proofs.MachineStretches.{own_same}
 use Rattle.audit.proofs.MachineTables.{are_so, told_back}
 
 -- ---- what a get was answered
-
-done_inside : (key : List ℕ) (s : Option BranchState) (busy room : Bool) (answer : Answer)
-    → is_done (Get key) (by_state s (Code codes.Nota) (if busy then Refused Busy else if room then answer else Refused Full)
-    (Code codes.Proto)) ≡ true
-    → by_state s (Code codes.Nota) (if busy then Refused Busy else if room then answer else Refused Full) (Code codes.Proto) ≡ answer
-done_inside key None busy room answer e = absurd (cc (e))
-done_inside key (Some Active) true room answer e = absurd (cc (e))
-done_inside key (Some Active) false true answer e = refl
-done_inside key (Some Active) false false answer e = absurd (cc (e))
-done_inside key (Some Idle) busy room answer e = absurd (cc (e))
-done_inside key (Some RollbackOnly) busy room answer e = absurd (cc (e))
-done_inside key (Some Prepared) busy room answer e = absurd (cc (e))
-
-fitting : (key : List ℕ) (fits : Bool) (inner answer : Answer) → (is_done (Get key) inner ≡ true → inner ≡ answer)
-    → is_done (Get key) (if fits then inner else Code codes.Inval) ≡ true → (if fits then inner else Code codes.Inval) ≡ answer
-fitting key true inner answer each e = each e
-fitting key false inner answer each e = absurd (cc (e))
 
 get_is : (spent : Bool) (rows : List Row) (v : BranchView) (busy : Bool) (key : List ℕ)
     → is_done (Get key) (named_answer spent rows v busy (Get key)) ≡ true

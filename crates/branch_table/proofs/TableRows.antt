@@ -21,16 +21,11 @@ use Rattle.protocol.specs.declared.rows.Row.{Row}
 use Rattle.protocol.specs.Branches.{row_at, value_after}
 use Rattle.protocol.specs.Managers.{act_on, has_key}
 use Rattle.protocol.specs.Tables.{put_row, rows_after, with_writes}
-use Rattle.protocol.proofs.TouchedKeys.{absent, tail_ascends}
+use Rattle.protocol.proofs.TouchedKeys.{absent, tail_ascends, less_from, apart_from}
 use Rattle.branch_table.specs.Parts.{act_to, no_place, place_at, table_of}
 use Rattle.branch_table.specs.declared.places.Place.{Place}
 
 -- ---- the order of keys
-
-less_from : (o : Ordering) → is_lt o ≡ true → o ≡ Less
-less_from Less e = refl
-less_from Equal e = absurd (cc (e))
-less_from Greater e = absurd (cc (e))
 
 pub later_by : (x y : List ℕ) (o : Ordering) → slice_cmp nat_cmp y x ≡ o → bytes_eq x y ≡ false → is_lt o ≡ false
     → slice_cmp nat_cmp x y ≡ Less
@@ -39,15 +34,6 @@ later_by x y Equal e apart over =
     let same : y ≡ x = (bytes_eq-Decides y x).0 (sym (is_eq-slice_cmp y x) ∙ ap is_eq e) in
     absurd (both_ways (bytes_eq x y) apart ((bytes_eq-Decides x y).1 (sym same)))
 later_by x y Greater e apart over = nat_list_cmp_total.antisymm x y ∙ ap ordering_reverse e
-
-not_itself : (key : List ℕ) → slice_cmp nat_cmp key key ≡ Less → ⊥
-not_itself key less =
-    let turned : Less ≡ Greater = sym less ∙ nat_list_cmp_total.antisymm key key ∙ ap ordering_reverse less in
-    absurd (cc (turned))
-
-apart_from : (key k : List ℕ) → slice_cmp nat_cmp key k ≡ Less → bytes_eq k key ≡ false
-apart_from key k less = false_from_ne_true (bytes_eq k key)
-    (λ e. not_itself key (subst (λ (z : List ℕ). slice_cmp nat_cmp key z ≡ Less) ((bytes_eq-Decides k key).0 e) less))
 
 -- a key comes before those of all these rows
 abbrev pub IsBefore : List ℕ → List Row → Type 0

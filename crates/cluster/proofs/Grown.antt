@@ -35,9 +35,10 @@ use Rattle.safety.specs.Standing.{facts_of, facts_at}
 use Rattle.safety.proofs.World.Growth.{same_node}
 use Rattle.safety.proofs.World.NodePlaces.{node_there, node_elsewhere}
 use Rattle.safety.proofs.World.Outcomes.{step_is}
+use Rattle.safety.proofs.World.Changes.{compact_keeps}
 use Rattle.resource_manager.proofs.More.{keys_stay, table_more}
 use Rattle.cluster.specs.Headlines.{IsKept, IsWritten}
-use Rattle.floors.proofs.Nodes.{restart_keeps, compact_keeps}
+use Rattle.floors.proofs.Nodes.{restart_keeps}
 
 -- ---- one fact more, or none
 

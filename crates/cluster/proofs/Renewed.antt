@@ -18,12 +18,13 @@ use Rattle.protocol.specs.Nodes.{NodeState, Fault, Outcome, NoFault, NoMemoryBef
 use Rattle.protocol.specs.Nodes.{compact_outcome}
 use Rattle.protocol.specs.Worlds.{World, Datagram, StepResult, place, node_at, set_node, datagrams_of, change_of, if_found}
 use Rattle.protocol.specs.Worlds.{answer_result, outcome_result}
+use Rattle.safety.proofs.World.Changes.{compact_keeps}
 use Rattle.node_core.specs.declared.config.Sizes.{Sizes}
 use Rattle.node_core.specs.Nodes.{NodeParts, NodeStands, IsSameNode}
 use Rattle.node_core.specs.Compacting.{BefallsCompact, IsRecompacted, CompactsAs}
 use Rattle.node_core.specs.Opening.{BefallsRestart, restart_answer}
 use Rattle.floors.specs.Worlds.{FlooredWorld, nothing_told, with_entry}
-use Rattle.floors.proofs.Nodes.{restart_keeps, restart_silent, compact_keeps, compact_silent}
+use Rattle.floors.proofs.Nodes.{restart_keeps, restart_silent, compact_silent}
 use Rattle.node_core.specs.Configs.{config_by}
 use Rattle.floored.specs.Nodes.{FlooredCompacts, FlooredCompactsDown, FlooredCompactsUp, FlooredParts, FlooredRestarts, FlooredStands}
 use Rattle.floored.specs.Told.{told_at}

@@ -5,16 +5,12 @@ use Rattle.std.proofs.lemmas.List.{reverse-append}
 use Rattle.protocol.specs.Vocabulary.{Step}
 use Rattle.protocol.specs.Effects.{Config}
 use Rattle.protocol.specs.Worlds.{World, Occurrence, opening, step_of, trace, world_after, world_step}
+use Rattle.floors.proofs.Following.{after_both}
 use Rattle.history.specs.Lines.{history}
 use Rattle.history.proofs.Runs.{IsRun, AtFirst, Then}
 use Rattle.cluster_run.specs.Traces.{last_world, run_history}
 use Rattle.cluster_run.proofs.Alike.{Alike}
 use Rattle.cluster_run.proofs.Floored.{follows, run_is}
-
-after_both : (config : Config) (world : World) (first second : List Occurrence)
-    → world_after config world (first ++ second) ≡ world_after config (world_after config world first) second
-after_both config world [] second = refl
-after_both config world (one ∷ first) second = after_both config (world_step config world one.event one.fault).world first second
 
 trace_both : (config : Config) (world : World) (first second : List Occurrence)
     → trace config world (first ++ second) ≡ trace config world first ++ trace config (world_after config world first) second

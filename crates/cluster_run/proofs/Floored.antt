@@ -22,6 +22,7 @@ use Rattle.protocol.specs.Nodes.{NodeState, Asked, Fault, NoMemoryBefore, Outcom
 use Rattle.protocol.specs.Worlds.{World, Datagram, Occurrence, StepResult, answer_result, change_of, datagram_at, datagrams_of, if_found}
 use Rattle.protocol.specs.Worlds.{node_at, numbered, outcome_result, step_of, view_number, with_mark, world_after, world_step}
 use Rattle.protocol.specs.declared.requests.Request.TheVariants as requests
+use Rattle.safety.proofs.World.Changes.{compact_keeps}
 use Rattle.floors.specs.Nodes.{forgotten_answer, is_free_below, kept_rise, may_replace, on_least, on_raise, risen}
 use Rattle.floors.specs.Worlds as floored
 use Rattle.floors.specs.Worlds.{FlooredEvent, FlooredResult, FlooredWorld, Machine, Notice, floored_answer, floored_if_found, floored_step}
@@ -31,7 +32,7 @@ use Rattle.floors.specs.Worlds.{on_machine, raise_result, step_with_floors, told
 use Rattle.floors.specs.Runs.{IsFlooredReachable, does_raise, does_rise, events_in_machine, floored_opening, is_lost, machine_events}
 use Rattle.floors.specs.Runs.{is_put_in, passes_over, receiver_of, with_fault}
 use Rattle.floors.specs.Runs as reachable
-use Rattle.floors.proofs.Nodes.{compact_keeps, compact_silent, restart_keeps, restart_silent}
+use Rattle.floors.proofs.Nodes.{compact_silent, restart_keeps, restart_silent}
 use Rattle.floors.proofs.Steps.{in_machine, lost_event, same_event, unasked_event}
 use Rattle.history.specs.Calls.{call_done, is_restart}
 use Rattle.history.specs.Outages as outages

@@ -2,6 +2,7 @@
 use Rattle.std.proofs.Common.{◌≡◌, ◌∙◌, ◌⊎◌, inl, inr, ℕ, zero, suc, ◌≤◌, List, [], ◌∷◌, ◌++◌, length, Some, None, refl, sym, ap}
 use Rattle.std.proofs.Common.{subst, arith}
 use Rattle.protocol.specs.Vocabulary.{Deliver, Event, Row}
+use Rattle.net_script.proofs.DraftLemmas.{trace}
 use Rattle.cluster_run.specs.Happenings.{AreUnmet, IsNext, AreNext, IsDoneBy, AreDoneBy}
 use Rattle.cluster_run.specs.Runs.{IsRun}
 use Rattle.cluster_run.specs.Traces.{config_of, IsTraceOf}
@@ -109,16 +110,13 @@ all_done config world (command ∷ commands) one other is then unmet free =
 
 -- ---- runs
 
-abbrev trace_by : Sizes → List Table → List Entry → List (List Row) → Trace
-trace_by sizes tables entries finals = record { sizes = sizes; tables = tables; entries = entries; finals = finals }
-
 one_trace : (s : Script) (happened : List Occurrence) (one other : Trace) → IsTraceOf s happened one → IsTraceOf s happened other
     → one ≡ other
 one_trace s happened one other is then =
-    ap (λ (sizes : Sizes). trace_by sizes one.tables one.entries one.finals) (is.sizes ∙ sym then.sizes)
-    ∙ ap (λ (tables : List Table). trace_by other.sizes tables one.entries one.finals) (is.tables ∙ sym then.tables)
-    ∙ ap (λ (entries : List Entry). trace_by other.sizes other.tables entries one.finals) (is.entries ∙ sym then.entries)
-    ∙ ap (λ (finals : List (List Row)). trace_by other.sizes other.tables other.entries finals) (is.finals ∙ sym then.finals)
+    ap (λ (sizes : Sizes). trace sizes one.tables one.entries one.finals) (is.sizes ∙ sym then.sizes)
+    ∙ ap (λ (tables : List Table). trace other.sizes tables one.entries one.finals) (is.tables ∙ sym then.tables)
+    ∙ ap (λ (entries : List Entry). trace other.sizes other.tables entries one.finals) (is.entries ∙ sym then.entries)
+    ∙ ap (λ (finals : List (List Row)). trace other.sizes other.tables other.entries finals) (is.finals ∙ sym then.finals)
 
 pub one_run : (bytes one other : List ℕ) (a : IsRun bytes one) (b : IsRun bytes other) → AreUnmet a.is.happened → AreUnmet b.is.happened
     → one ≡ other

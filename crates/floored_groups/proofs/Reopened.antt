@@ -28,10 +28,9 @@ use Rattle.resource_manager.specs.Compacted.{beginning_with, shorter_entries}
 use Rattle.resource_manager.specs.Left.{AreAlike}
 use Rattle.forgetting.specs.Above.{CameAlike, StandsAbove}
 use Rattle.forgetting.proofs.Coming as coming
-use Rattle.node_core.specs.declared.config.Sizes.{Sizes}
 use Rattle.node_core.specs.declared.role.Role.{Role}
 use Rattle.node_core.specs.Roles.{RoleStands}
-use Rattle.node_core.specs.Nodes.{AreSizes, HasRows, Holds, Kept, MeansFrom, NodeParts, NodeStands, RoleIs, SameState, Stands, begun}
+use Rattle.node_core.specs.Nodes.{HasRows, Holds, Kept, MeansFrom, NodeParts, NodeStands, RoleIs, SameState, Stands, begun}
 use Rattle.node_core.specs.Opening.{IsOpened, cluster_of}
 use Rattle.node_core.specs.Shorter.{shorter_record}
 use Rattle.node_core.proofs.Loading.{frames_stored, holds_again, same_holds}
@@ -41,6 +40,7 @@ use Rattle.node_core.proofs.Starting.{begun_plays, begun_rows, manager_plays}
 use Rattle.floors.specs.Worlds.{FlooredWorld, Machine}
 use Rattle.floored.specs.Nodes.{FlooredParts, FlooredStands}
 use Rattle.floored.specs.Told.{told_at}
+use Rattle.groups.proofs.Opened.{sizes_of}
 use Rattle.port.specs.Members.{MemberParts}
 use Rattle.floored_groups.specs.Runs.{IsFlooredReached, Underwent}
 use Rattle.floored_groups.specs.Processes.{GoesOn, Reopens, StandsIn}
@@ -109,18 +109,6 @@ module _ (from config : Config) where
   shorter_again (R rm) own other (Some rows) all facts alike means has same more play = refl
   shorter_again (A a) own other (Some rows) all facts alike means has same more play = absurd means
   shorter_again (L l) own other (Some rows) all facts alike means has same more play = absurd means
-
-sizes_of : (config : Config) (who : NodeId) (rows : Option (List Row)) (sizes : Sizes) → AreSizes (cluster_of config who rows) sizes
-    → AreSizes config sizes
-sizes_of config who None sizes are = are
-sizes_of config (A a) (Some rows) sizes are = are
-sizes_of config (L l) (Some rows) sizes are = are
-sizes_of config (R rm) (Some rows) sizes are = record {
-  acceptors_are = are.acceptors_are;
-  leaders_are = are.leaders_are;
-  managers_are = are.managers_are;
-  bundled_is = are.bundled_is;
-}
 
 -- ---- the node beneath
 

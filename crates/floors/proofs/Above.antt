@@ -1,11 +1,11 @@
 -- What is prepared, and every branch, is below no floor of a resource manager; and no floor of a node that wasn't replaced is above one of
 -- a resource manager.
-use Rattle.std.proofs.Common.{◌≡◌, inl, inr, ◌∙◌, ℕ, zero, suc, ◌+◌, ◌<◌, ◌≤◌, Bool, true, false, not, ◌==◌, if◌then◌else◌}
+use Rattle.std.proofs.Common.{◌≡◌, inl, inr, ◌∙◌, ℕ, zero, suc, ◌+◌, ◌<◌, Bool, true, false, not, ◌==◌, if◌then◌else◌}
 use Rattle.std.proofs.Common.{List, [], ◌∷◌, Option, Some, None, refl, sym, ap, subst, nat_lt, arith}
 use Rattle.std.specs.Prelude.{slice_get, map, length}
 use Rattle.std.specs.List.{list_all, range_with_len}
 use Rattle.std.specs.Option.{option_and_then}
-use Rattle.std.proofs.lemmas.Bool.{cond_both, and_parts, not-true, cases_eq, ltb-true, eqb-true}
+use Rattle.std.proofs.lemmas.Bool.{cond_both, and_parts, not-true, ltb-true, eqb-true}
 use Rattle.xid.specs.Transactions.{TxParts}
 use Rattle.ballot.specs.Greatest.{IsIn}
 use Rattle.wire.specs.Decoding.{spells_message}
@@ -29,6 +29,8 @@ use Rattle.protocol.specs.Worlds.{outcome_result, at_node}
 use Rattle.protocol.proofs.Lists.{all_found, filter_keeps, filter_map_gives, IsIn-append, IsIn-map, IsIn-mapped}
 use Rattle.protocol.proofs.Manager.Views.{prepared_shows}
 use Rattle.xid.specs.Places.{Place, tx_place, is_lower, is_below, is_xid_below}
+use Rattle.safety.proofs.World.Changes.{compact_keeps}
+use Rattle.progress.proofs.Accepting.{number_among}
 use Rattle.floors.specs.Nodes.{Rise, floor_after, floored_node_step, is_free_below, on_raise, on_least, may_replace, is_unread}
 use Rattle.floors.specs.Worlds.{FlooredWorld, FlooredEvent, FlooredResult, Notice, Machine, Raise, Hear, Replace, at_floored_node}
 use Rattle.floors.specs.Worlds.{is_manager, is_put}
@@ -40,7 +42,7 @@ use Rattle.floors.specs.Runs.{IsFlooredReachable, Opening, After, floored_openin
 use Rattle.xid.proofs.Places.{not_lower, not_lower_self, not_below_none}
 use Rattle.floors.proofs.Order.{higher_bound, least_is}
 use Rattle.floors.proofs.Rising.{IsRisen, raise_is, least_rise, not_sunk, entry_by, entry_own, found_after}
-use Rattle.floors.proofs.Nodes.{IsAboveFloor, kept_above, input_above, step_above, restart_keeps, restart_forgets, compact_keeps}
+use Rattle.floors.proofs.Nodes.{IsAboveFloor, kept_above, input_above, step_above, restart_keeps, restart_forgets}
 use Rattle.floors.proofs.Nodes.{compact_memory}
 
 -- ---- a node through an event
@@ -137,13 +139,6 @@ module _ (config : Config) (world : FlooredWorld) (n : NodeId) (Q : NodeState �
     event_keeps event fault = before
 
 -- ---- prepared branches
-
-number_among : (first n x : ℕ) → first ≤ x → x < first + n → IsIn (range_with_len first n) x
-number_among first zero x low high = absurd (omega arith)
-number_among first (suc n) x low high = elim (cases_eq first x) [
-  | inl e ↦ inl e
-  | inr apart ↦ inr (number_among (first + 1) n x (omega arith) (omega arith))
-]
 
 -- where a node has a transaction prepared it is a resource manager of the cluster, and there is such a node
 pub manager_inside : (config : Config) (world : World) (r : ℕ) (tx : TxParts) → views_in config world tx r ≡ views.Prepared

@@ -26,7 +26,7 @@ are_runs config _ (After world event fault reach) =
     subst (IsReachable config) (sym (in_machine config world event fault))
     (reachable_after config world.machine (are_runs config world reach) (with_fault fault (events_in_machine config world event)))
 
-after_both : (config : Config) (world : World) (first second : List Occurrence)
+pub after_both : (config : Config) (world : World) (first second : List Occurrence)
     → world_after config world (first ++ second) ≡ world_after config (world_after config world first) second
 after_both config world [] second = refl
 after_both config world (one ∷ first) second = after_both config (world_step config world one.event one.fault).world first second

@@ -2,11 +2,9 @@
 use Rattle.std.proofs.Common.{◌≡◌, ◌⊎◌, inl, inr, ◌∙◌, Bool, true, false, not, ◌&&◌, ◌||◌, if◌then◌else◌, List, [], ◌∷◌, ◌++◌, Option, Some}
 use Rattle.std.proofs.Common.{None, ℕ, is_some, refl, sym, ap, subst}
 use Rattle.std.specs.Prelude.{IfSome, map}
-use Rattle.std.specs.List.{list_any}
 use Rattle.std.specs.Option.{option_to_list}
 use Rattle.std.proofs.lemmas.Bool.{cond_both}
 use Rattle.std.proofs.lemmas.List.{append-nil}
-use Rattle.std.proofs.lemmas.List.Folds.{list_any-append}
 use Rattle.xid.specs.Names.{XidParts, xid_eq}
 use Rattle.xid.specs.Transactions.{TxParts, tx_eq, xid_at}
 use Rattle.xid.specs.declared.transaction.Vote.TheVariants as votes
@@ -37,6 +35,7 @@ use Rattle.protocol.proofs.Lists.{IsIn-mapped, IsIn-push, filter_kept}
 use Rattle.protocol.proofs.Manager.Keys.{changed_name}
 use Rattle.safety.proofs.World.Outcomes.{step_is}
 use Rattle.xid.specs.Places.{Place, is_below, is_xid_below}
+use Rattle.safety.proofs.World.Changes.{any_same}
 use Rattle.floors.specs.Nodes.{floored_node_step, is_passed_over, is_input_below, forgotten_answer}
 use Rattle.floors.proofs.About.{IsOn, effect_about, on_above}
 
@@ -98,11 +97,6 @@ module _ (config : Config) (who : NodeId) (floor : Option Place) (node : NodeSta
 or_none : (b : Bool) → (b || false) ≡ b
 or_none true = refl
 or_none false = refl
-
--- one more that doesn't pass
-any_same : (p : Fact → Bool) (facts : List Fact) (fact : Fact) → p fact ≡ false → list_any p (facts ++ fact ∷ []) ≡ list_any p facts
-any_same p facts fact e =
-    list_any-append p facts (fact ∷ []) ∙ ap (λ (b : Bool). list_any p facts || (b || false)) e ∙ or_none (list_any p facts)
 
 -- a fact of another transaction leaves the view
 view_other : (facts : List Fact) (fact : Fact) (tx : TxParts) → tx_eq tx (fact_tx fact) ≡ false
@@ -306,11 +300,6 @@ restart_silent config who node NoMemoryAt = refl
 restart_silent config who node (RecordFails whole) = refl
 restart_silent config who node fault =
     cond_both (all_play config who [] node.facts) _ _ (λ (left : Outcome). left.sends ≡ []) (λ plays. refl) (λ damaged. refl)
-
-pub compact_keeps : (node : NodeState) (fault : Fault) → (compact_outcome node fault).node.facts ≡ node.facts
-compact_keeps node NoMemoryAt = refl
-compact_keeps node (RecordFails whole) = refl
-compact_keeps node fault = refl
 
 pub compact_memory : (node : NodeState) (fault : Fault)
     → ((compact_outcome node fault).node.memory ≡ node.memory) ⊎ ((compact_outcome node fault).node.memory ≡ empty_memory)

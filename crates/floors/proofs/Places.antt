@@ -1,5 +1,5 @@
 -- Nodes in their places: one that is put back as it was changes nothing, and what holds of a node and of one put there holds after.
-use Rattle.std.proofs.Common.{◌≡◌, ℕ, zero, suc, ◌==◌, if◌then◌else◌, List, [], ◌∷◌, ◌++◌, Option, Some, None}
+use Rattle.std.proofs.Common.{◌≡◌, ℕ, zero, suc, List, [], ◌∷◌, ◌++◌, Option, Some, None}
 use Rattle.std.proofs.Common.{true, refl, sym, ap}
 use Rattle.std.proofs.Common.{append-nil, arith}
 use Rattle.std.specs.Prelude.{slice_get, length}
@@ -7,13 +7,12 @@ use Rattle.std.specs.List.{slice_set}
 use Rattle.std.specs.Option.{option_and_then, option_map_or}
 use Rattle.std.proofs.lemmas.Option.{slice_get_past}
 use Rattle.std.proofs.lemmas.Bool.{eqb-true, eq-eqb}
-use Rattle.stable_record.specs.Facts.{fact_tx}
 use Rattle.protocol.specs.Basics.{Fact}
-use Rattle.protocol.specs.Vocabulary.{NodeId, A, L, R, Answer, Change}
+use Rattle.protocol.specs.Vocabulary.{NodeId, A, L, R, Answer}
 use Rattle.protocol.specs.Effects.{Config}
-use Rattle.protocol.specs.Facts.{view}
 use Rattle.protocol.specs.Nodes.{NodeState, answer_outcome}
-use Rattle.protocol.specs.Worlds.{World, place, node_at, set_node, change_of, view_number, outcome_result, answer_result}
+use Rattle.protocol.specs.Worlds.{World, place, node_at, set_node, change_of, outcome_result, answer_result}
+use Rattle.safety.proofs.World.Changes.{change_by}
 use Rattle.floors.specs.Worlds.{is_node}
 
 -- ---- names of nodes
@@ -45,12 +44,6 @@ same_by nodes x (Some p) h = set_same nodes p x h
 -- a world of the same nodes and datagrams
 pub same_world : (a b : World) → a.nodes ≡ b.nodes → a.net ≡ b.net → a ≡ b
 same_world a b nodes net = λ i. record { nodes = nodes i; net = net i }
-
--- the change at a resource manager, by the fact that it stored
-abbrev change_by : ℕ → List Fact → List Fact → Fact → Option Change
-change_by rm before after fact =
-    if view_number (view before (fact_tx fact)) == view_number (view after (fact_tx fact)) then None
-    else Some (record { rm = rm; tx = fact_tx fact; view = view after (fact_tx fact) })
 
 -- where nothing is stored no view is changed
 unsaid : (who : NodeId) (facts : List Fact) → change_of who facts facts ≡ None

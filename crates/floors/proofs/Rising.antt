@@ -11,6 +11,7 @@ use Rattle.protocol.specs.Worlds.{node_at}
 use Rattle.ballot.specs.Greatest.{IsIn}
 use Rattle.protocol.proofs.Lists.{IsIn-after, IsIn-map}
 use Rattle.xid.specs.Places.{Place, is_lower}
+use Rattle.safety.proofs.World.Changes.{compact_keeps}
 use Rattle.floors.specs.Nodes.{Rise, kept_rise, floor_after, risen, on_raise, on_least, is_free_below, may_replace, is_unread}
 use Rattle.floors.specs.Nodes.{is_unused_above}
 use Rattle.floors.specs.Worlds.{FlooredWorld, FlooredEvent, FlooredResult, Notice, Machine, Raise, Hear, Replace, with_entry}
@@ -18,7 +19,7 @@ use Rattle.floors.specs.Worlds.{is_node, is_manager, raise_result, raise_at, flo
 use Rattle.floors.specs.Worlds.{replace_result, replace_at, floored_step, floored_answer, told_nodes, notices_of, with_rise}
 use Rattle.xid.proofs.Places.{not_lower_self, not_back, not_below_none}
 use Rattle.floors.proofs.Places.{node_is, self_node}
-use Rattle.floors.proofs.Nodes.{compact_keeps, compact_memory}
+use Rattle.floors.proofs.Nodes.{compact_memory}
 
 -- ---- one node
 

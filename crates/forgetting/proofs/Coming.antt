@@ -10,7 +10,7 @@ use Rattle.xid.specs.declared.refusals.Refusal.TheVariants.{NoSuch, Damaged}
 use Rattle.stable_record.specs.Facts.{fact_tx}
 use Rattle.stable_record.specs.Frames.{frame_length}
 use Rattle.protocol.specs.Basics.{Fact}
-use Rattle.protocol.specs.Vocabulary.{NodeId, A, L, R, Change, Done, Refused}
+use Rattle.protocol.specs.Vocabulary.{NodeId, A, L, R, Done, Refused}
 use Rattle.protocol.specs.Effects.{Config, Effect}
 use Rattle.protocol.specs.Facts.{view, with_fact}
 use Rattle.protocol.specs.Nodes.{NodeState, Memory, empty_memory, Input, Fault, NoFault, NoMemoryBefore, NoMemoryAt, RecordFails}
@@ -19,6 +19,7 @@ use Rattle.protocol.specs.Nodes.{effect_outcome, effect_of, in_memory, node_step
 use Rattle.protocol.specs.Worlds.{change_of, view_number}
 use Rattle.protocol.proofs.Manager.Played.{all_play_then}
 use Rattle.xid.specs.Places.{Place, is_below}
+use Rattle.safety.proofs.World.Changes.{change_by}
 use Rattle.floors.specs.Nodes.{is_input_below, floored_node_step, forgotten_answer}
 use Rattle.protocol.specs.Kept.{kept_memory}
 use Rattle.floors.proofs.About.{IsOn, effect_about, on_above}
@@ -43,11 +44,6 @@ play_last config who before (first ∷ facts) fact h =
     (play_last config who (before ++ first ∷ []) facts fact parts.1)
 
 -- ---- how a view changes
-
-abbrev change_by : ℕ → List Fact → List Fact → Fact → Option Change
-change_by rm before after fact =
-    if view_number (view before (fact_tx fact)) == view_number (view after (fact_tx fact)) then None
-    else Some (record { rm = rm; tx = fact_tx fact; view = view after (fact_tx fact) })
 
 no_change : (rm : ℕ) (facts : List Fact) → change_of (R rm) facts facts ≡ None
 no_change rm facts = ap (option_and_then (change_by rm facts facts)) (slice_get_past facts (length facts) (omega arith))

@@ -32,7 +32,7 @@ use Rattle.protocol.proofs.Manager.Keys.{names_name}
 use Rattle.protocol.proofs.Manager.Played.{voted_named}
 use Rattle.protocol.proofs.Manager.Views.{prepared_before, prepared_shows}
 use Rattle.protocol.proofs.Local.{acceptor_play, leader_play}
-use Rattle.progress.proofs.Slots.{greatest-append}
+use Rattle.safety.proofs.Leader.Memory.{greatest-append}
 use Rattle.resource_manager.specs.Courses.{Stored, stored_in, view_among, vote_among, is_ended_among}
 use Rattle.resource_manager.proofs.Kept.{commits_voted}
 use Rattle.resource_manager.proofs.More.{keys_stay, stored_other, table_more}

@@ -1,7 +1,7 @@
 -- Each fact that a rule of a resource manager stores changes the view of its transaction, and the step says so.
-use Rattle.std.proofs.Common.{◌≡◌, ◌∙◌, ℕ, Bool, true, false, ◌||◌, ◌==◌, if◌then◌else◌, List, [], ◌∷◌, ◌++◌, length, Option, Some, None}
+use Rattle.std.proofs.Common.{◌≡◌, ◌∙◌, ℕ, Bool, true, false, ◌||◌, ◌==◌, if◌then◌else◌, List, [], ◌∷◌, ◌++◌, length, Some, None}
 use Rattle.std.proofs.Common.{is_some, refl, ap, arith}
-use Rattle.std.specs.List.{list_any, slice_get}
+use Rattle.std.specs.List.{list_any}
 use Rattle.std.specs.Option.{option_and_then}
 use Rattle.std.proofs.lemmas.Bool.{or_parts, or_right, false_from_ne_true}
 use Rattle.std.proofs.lemmas.List.Folds.{list_any-append}
@@ -14,13 +14,15 @@ use Rattle.stable_record.specs.Facts.{fact_tx}
 use Rattle.stable_record.specs.declared.fact.FactKind.TheVariants as stored
 use Rattle.protocol.specs.Basics.{Fact}
 use Rattle.protocol.specs.declared.states.View.TheVariants as views
-use Rattle.protocol.specs.Vocabulary.{R, View, Change}
+use Rattle.protocol.specs.Vocabulary.{R, View}
 use Rattle.protocol.specs.Facts.{vote_in, is_ended, is_vote_of, is_commit_of, is_abort_of, view, is_prepared_view, is_open_view}
 use Rattle.protocol.specs.Managers.{Branch}
 use Rattle.protocol.specs.Nodes.{Input}
 use Rattle.protocol.specs.Worlds.{view_number, change_of}
 use Rattle.protocol.proofs.Manager.Views.{casts_decides, aborts_decides, prepared_shows}
 use Rattle.protocol.proofs.Manager.Effects.{IsManagerFact}
+use Rattle.protocol.proofs.Kept.Facts.{other_vote, other_commit, other_abort}
+use Rattle.safety.proofs.World.Changes.{change_by, last_is}
 use Rattle.history.specs.Lines.{view_stored, change_stored}
 
 pub or_none : (b : Bool) → (b || false) ≡ b
@@ -129,19 +131,6 @@ changes_view rm facts branches input (stored.Aborted tx) rule =
     }
 changes_view rm facts branches input fact rule = absurd rule
 
-other_vote : (tx : TxParts) (v : Vote) (fact : Fact) → tx_eq tx (fact_tx fact) ≡ false → is_vote_of tx v fact ≡ false
-other_vote tx votes.Prepared (stored.VotePrepared other keys) e = e
-other_vote tx votes.Aborted (stored.VoteAborted other) e = e
-other_vote tx v fact e = refl
-
-other_commit : (tx : TxParts) (fact : Fact) → tx_eq tx (fact_tx fact) ≡ false → is_commit_of tx fact ≡ false
-other_commit tx (stored.Committed other) e = e
-other_commit tx fact e = refl
-
-other_abort : (tx : TxParts) (fact : Fact) → tx_eq tx (fact_tx fact) ≡ false → is_abort_of tx fact ≡ false
-other_abort tx (stored.Aborted other) e = e
-other_abort tx fact e = refl
-
 -- a fact of another transaction leaves the view
 pub view_other : (facts : List Fact) (fact : Fact) (tx : TxParts) → tx_eq tx (fact_tx fact) ≡ false
     → view (facts ++ fact ∷ []) tx ≡ view facts tx
@@ -154,16 +143,6 @@ view_other facts fact tx e =
   where
     same : (a b : Bool) → b ≡ false → (a || b) ≡ a
     same a b none = ap (λ (c : Bool). a || c) none ∙ or_none a
-
-pub last_is : (before : List Fact) (fact : Fact) → slice_get (before ++ fact ∷ []) (length before) ≡ Some fact
-last_is [] fact = refl
-last_is (first ∷ before) fact = last_is before fact
-
--- the step says the change
-abbrev change_by : ℕ → List Fact → List Fact → Fact → Option Change
-change_by rm before after fact =
-    if view_number (view before (fact_tx fact)) == view_number (view after (fact_tx fact)) then None
-    else Some (record { rm = rm; tx = fact_tx fact; view = view after (fact_tx fact) })
 
 pub change_said : (rm : ℕ) (facts : List Fact) (fact : Fact) → IsViewChange facts fact
     → change_of (R rm) facts (facts ++ fact ∷ []) ≡ Some (change_stored rm fact)

@@ -110,7 +110,7 @@ looked_up_not facts t keys h e =
 
 -- ---- the answer of a get
 
-done_inside : (key : List ℕ) (s : Option BranchState) (busy room : Bool) (answer : Answer)
+pub done_inside : (key : List ℕ) (s : Option BranchState) (busy room : Bool) (answer : Answer)
     → is_done (Get key) (by_state s (Code codes.Nota) (if busy then Refused Busy else if room then answer else Refused Full)
     (Code codes.Proto)) ≡ true
     → by_state s (Code codes.Nota) (if busy then Refused Busy else if room then answer else Refused Full) (Code codes.Proto) ≡ answer
@@ -122,7 +122,7 @@ done_inside key (Some Idle) busy room answer e = absurd (cc (e))
 done_inside key (Some RollbackOnly) busy room answer e = absurd (cc (e))
 done_inside key (Some Prepared) busy room answer e = absurd (cc (e))
 
-fitting : (key : List ℕ) (fits : Bool) (inner answer : Answer) → (is_done (Get key) inner ≡ true → inner ≡ answer)
+pub fitting : (key : List ℕ) (fits : Bool) (inner answer : Answer) → (is_done (Get key) inner ≡ true → inner ≡ answer)
     → is_done (Get key) (if fits then inner else Code codes.Inval) ≡ true → (if fits then inner else Code codes.Inval) ≡ answer
 fitting key true inner answer each e = each e
 fitting key false inner answer each e = absurd (cc (e))

@@ -1,10 +1,10 @@
 -- Each node of a cluster stands in one place, and each place has one node. So what is put into the letter in a place is for its node alone.
 use Rattle.std.proofs.Common.{◌≡◌, ◌≢◌, ◌∙◌, ℕ, ◌+◌, ◌-◌, Bool, true, false, ltb, if◌then◌else◌, [], Option, Some, None}
 use Rattle.std.proofs.Common.{refl, sym, ap, eqb-true}
-use Rattle.std.proofs.lemmas.Bool.{eq-eqb}
 use Rattle.protocol.specs.declared.nodes.NodeId.{NodeId}
 use Rattle.protocol.specs.declared.nodes.NodeId.TheVariants.{A, L, R}
 use Rattle.protocol.specs.Worlds.{place}
+use Rattle.floors.proofs.Places.{self_node}
 use Rattle.node_core.specs.Configs.{config_by, is_among}
 use Rattle.node_core.specs.declared.config.Sizes.{Sizes}
 use Rattle.floors.specs.Worlds.{is_node}
@@ -20,12 +20,6 @@ pub isnt_there : (sizes : Sizes) (who : NodeId) → place (config_by sizes []) w
 isnt_there sizes (A a) e = if_none (ltb a sizes.acceptors) a e
 isnt_there sizes (L l) e = if_none (ltb l sizes.leaders) (sizes.acceptors + l) e
 isnt_there sizes (R rm) e = if_none (ltb rm sizes.managers) (sizes.acceptors + sizes.leaders + rm) e
-
--- the test finds a node the same as itself alone
-pub same_as_itself : (who : NodeId) → is_node who who ≡ true
-same_as_itself (A a) = eq-eqb a a refl
-same_as_itself (L l) = eq-eqb l l refl
-same_as_itself (R rm) = eq-eqb rm rm refl
 
 -- nodes that are the same by the test are one
 pub same_is_one : (a b : NodeId) → is_node a b ≡ true → a ≡ b
@@ -46,7 +40,7 @@ places_differ sizes a b x y at_a at_b other =
     λ same.
     let one : a ≡ b = sym (name_there (config_by sizes []) a x at_a) ∙ ap (node_in (config_by sizes [])) (sym same)
     ∙ name_there (config_by sizes []) b y at_b in
-    let both : is_node a b ≡ true = ap (is_node a) (sym one) ∙ same_as_itself a in
+    let both : is_node a b ≡ true = ap (is_node a) (sym one) ∙ self_node a in
     let no : false ≡ true = sym other ∙ both in
     absurd (cc)
 

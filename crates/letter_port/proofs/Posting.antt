@@ -3,12 +3,12 @@
 use Rattle.std.proofs.Common.{◌≡◌, ◌∙◌, Bool, true, false, ◌&&◌, if◌then◌else◌, ℕ, List, [], ◌∷◌, ◌++◌, refl, sym, ap, subst, append_assoc}
 use Rattle.std.specs.List.{AllByRecursion}
 use Rattle.protocol.specs.declared.nodes.NodeId.{NodeId}
+use Rattle.floors.proofs.Places.{self_node}
 use Rattle.node_core.specs.declared.config.Sizes.{Sizes}
 use Rattle.floors.specs.Worlds.{is_node}
 use Rattle.port.specs.Calls.{Sending}
 use Rattle.letters.specs.Letters.{IsEnclosable}
 use Rattle.letter_port.specs.Mails.{MayBePosted, IsReadAsPosted, Mail, Posted, SendsLetters, can_go, mail_to, posted_to}
-use Rattle.letter_port.proofs.Places.{same_as_itself}
 
 -- more mails after some
 pub mail_then : (sizes : Sizes) (who : NodeId) (some more : List Mail)
@@ -66,7 +66,7 @@ letters_are [] each all = tt
 letters_are (letter ∷ more) each all =
     let rest : List (List ℕ) = posted_to letter.receiver more in
     let here : AllByRecursion IsEnclosable (letter.messages ++ rest) =
-    subst (λ (test : Bool). AllByRecursion IsEnclosable ((if test then letter.messages else []) ++ rest)) (same_as_itself letter.receiver)
+    subst (λ (test : Bool). AllByRecursion IsEnclosable ((if test then letter.messages else []) ++ rest)) (self_node letter.receiver)
     (all letter.receiver) in (
       record { few = each.0.short; some = each.0.some; each = (both_of letter.messages rest here).0; is = refl },
       letters_are more each.1 (λ who.

@@ -15,6 +15,7 @@ use Rattle.wire.specs.Grammar.{spelling}
 use Rattle.wire.specs.Notices.{notice_spelling}
 use Rattle.protocol.specs.declared.nodes.NodeId.{NodeId}
 use Rattle.protocol.specs.Worlds.{Datagram, place}
+use Rattle.floors.proofs.Places.{self_node}
 use Rattle.node_core.specs.Configs.{config_by, is_among}
 use Rattle.node_core.specs.declared.config.Sizes.{Sizes}
 use Rattle.floors.specs.Worlds.{Notice, is_node}
@@ -27,7 +28,6 @@ use Rattle.letter_port.specs.Mails.{GoesInLetters, MayBePosted, Mail, Posted, Se
 use Rattle.letter_port.specs.Mails.{posted_to}
 use Rattle.letter_port.specs.Outboxes.{AllGo, Dispatched, Encloses, Loses, MakesRoom, OutboxSent, Puts, letter_in}
 use Rattle.letter_port.proofs.Places.{isnt_there, places_agree, places_differ}
-use Rattle.letter_port.proofs.Places.{same_as_itself}
 use Rattle.letter_port.proofs.Places.{same_is_one}
 use Rattle.letter_port.proofs.Posting.{each_then, letters_are, letters_then, mail_is, mail_then, posted_then}
 
@@ -177,7 +177,7 @@ module _ {P : Type 0} (Sent : Sending P) (sizes : Sizes) where
           each = tt;
           exact = λ who. exact_none node begun who none (is_node node who) refl;
         };
-        here = with_test node [] begun node true (same_as_itself node);
+        here = with_test node [] begun node true (self_node node);
         still = λ who nothing. still_none node begun who nothing (is_node node who) refl;
       }
   emptied_by at begun old new are lt holds gone false is =
@@ -204,7 +204,7 @@ module _ {P : Type 0} (Sent : Sending P) (sizes : Sizes) where
           each = (record { some = some; short = subst (λ (bytes : List ℕ). length bytes ≤ 1400) letter gone.short }, tt);
           exact = λ who. exact_one node begun who (is_node node who) refl;
         };
-        here = with_test node [] begun node true (same_as_itself node);
+        here = with_test node [] begun node true (self_node node);
         still = λ who nothing. still_none node begun who nothing (is_node node who) refl;
       }
 

@@ -1,11 +1,12 @@
 -- The first message of what is left of a letter: where one begins, and that it is one alone. What takes letters apart rests on it.
-use Rattle.std.proofs.Common.{◌≡◌, ◌∙◌, ℕ, ◌+◌, ◌/◌, ◌%◌, ◌<◌, ◌≤◌, ◌^◌, List, [], ◌∷◌, ◌++◌, length, take, drop, sym, ap, arith}
+use Rattle.std.proofs.Common.{◌≡◌, ◌∙◌, ℕ, ◌+◌, ◌<◌, ◌≤◌, ◌^◌, List, ◌++◌, length, take, drop, sym, ap, arith}
 use Rattle.std.proofs.Common.{append_assoc}
 use Rattle.std.proofs.lemmas.List.{take-append-drop, length-take, drop_at}
 use Rattle.std.proofs.Math.Seq.{take-append_seam, drop-append_seam}
 use Rattle.byteorder.specs.Endian.{big_number, big_bytes}
 use Rattle.byteorder.specs.Numbers.{big_number-reads_back, length-bytes_high_first}
 use Rattle.xid.specs.Names.{IsBytes}
+use Rattle.wire.proofs.Spelled.{two}
 use Rattle.letters.specs.Letters.{HasFirstMessage}
 
 -- what a message's length and its bytes read as
@@ -18,16 +19,6 @@ pub behind_length : (message more rest : List ℕ) → HasFirstMessage message m
 behind_length message more rest first =
     ap (drop 2) (first.is ∙ append_assoc (big_bytes 2 (length message)) message more)
     ∙ drop_at (big_bytes 2 (length message)) (message ++ more) 2 (length-bytes_high_first 2 (length message))
-
--- two bytes are those of the number that they read as
-two : (bytes : List ℕ) → IsBytes bytes → 2 ≤ length bytes → bytes ≡ big_bytes 2 (big_number 2 bytes) ++ drop 2 bytes
-two [] is le = absurd (omega arith)
-two (a ∷ []) is le = absurd (omega arith)
-two (a ∷ b ∷ rest) is le =
-    let n : ℕ = big_number 2 (a ∷ b ∷ rest) in
-    let high : n / 256 % 256 ≡ a = omega (arith, is 0, is 1) in
-    let low : n % 256 ≡ b = omega (arith, is 0, is 1) in
-    λ i. sym high i ∷ sym low i ∷ rest
 
 -- where as many bytes follow as a length says, they are the first message
 pub first_of : (rest : List ℕ) → IsBytes rest → 2 ≤ length rest → big_number 2 rest < 2 ^ 16 → big_number 2 rest ≤ length (drop 2 rest)

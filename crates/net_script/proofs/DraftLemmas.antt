@@ -28,7 +28,7 @@ use Rattle.net_script.specs.TraceReaders.{takes_sent, takes_notice, takes_table,
 use Rattle.net_script.specs.TraceReaders.{with_now, with_sent, with_notice, at_last, grown, opened, begun_with, lines_so_far}
 
 -- a trace of these parts
-abbrev trace : Sizes → List Table → List Entry → List (List Row) → Trace
+abbrev pub trace : Sizes → List Table → List Entry → List (List Row) → Trace
 trace sizes tables entries finals = record { sizes = sizes; tables = tables; entries = entries; finals = finals }
 
 -- ---- one line after another

@@ -43,7 +43,7 @@ module _ (config : Config) (at : ℕ) where
       ∙ ap (λ (l : Bool). name_by false l) (le-ltb at (config.acceptors + config.leaders) le)
 
 -- what a test of a place says
-placed_at : (t : Bool) (x at : ℕ) → (if t then Some x else None) ≡ Some at → (t ≡ true) × (x ≡ at)
+pub placed_at : (t : Bool) (x at : ℕ) → (if t then Some x else None) ≡ Some at → (t ≡ true) × (x ≡ at)
 placed_at true x at e = (refl, cc (e))
 placed_at false x at e = absurd (cc (e))
 

@@ -24,9 +24,8 @@ use Rattle.protocol.specs.Facts.{instance_eq, ballot_begun, last_ballot}
 use Rattle.protocol.specs.LeaderMemory.{LeaderMemory, StoredBallots, is_proposed, with_begun, with_met, status_of}
 use Rattle.protocol.specs.Leaders.{is_final, is_current, outcome_messages, phase_1a, on_leader_timeout}
 use Rattle.protocol.proofs.Lists.{IsIn-map}
-use Rattle.safety.proofs.Leader.Memory.{current_begun}
+use Rattle.safety.proofs.Leader.Memory.{current_begun, greatest-append}
 use Rattle.progress.proofs.Mail.{letters, letter_among}
-use Rattle.progress.proofs.Slots.{greatest-append}
 use Rattle.progress.proofs.Promising.{ask_of}
 use Rattle.progress.proofs.Accepting.{number_among}
 

@@ -1,7 +1,7 @@
 -- What was prepared isn't lost: where a majority has accepted that each participant is prepared, the outcome is committed. And where a
 -- participant hasn't voted prepared, it is aborted.
-use Rattle.std.proofs.Common.{◌≡◌, ◌∙◌, inl, inr, ℕ, zero, suc, ◌*◌, ◌<◌, ◌≤◌, Bool, true, IsTrue, List, Option, Some, None}
-use Rattle.std.proofs.Common.{sym, subst, le_trans, eq-or-lt_of_le, arith}
+use Rattle.std.proofs.Common.{◌≡◌, ◌∙◌, inl, inr, ℕ, zero, suc, ◌*◌, ◌<◌, ◌≤◌, Bool, true, IsTrue, List, Option, Some}
+use Rattle.std.proofs.Common.{sym, subst, eq-or-lt_of_le, arith}
 use Rattle.std.proofs.lemmas.Bool.{cases_lt, ltb-true}
 use Rattle.xid.specs.Transactions.{TxParts, is_participant}
 use Rattle.stable_record.specs.declared.fact.FactKind.TheVariants as stored
@@ -12,10 +12,10 @@ use Rattle.protocol.specs.Basics.{Fact}
 use Rattle.protocol.specs.Vocabulary.{NodeId, A, L, R, Stands as answers}
 use Rattle.safety.specs.Invariant.{Invariant}
 use Rattle.safety.specs.Items.{Vote, Prepared, Aborted, Item, Accepted, Voted, P1b, P2a}
-use Rattle.safety.specs.Items.{Setting, IsDecided, IsReportOfAccept, IsCovered, IsBallotAtMost}
+use Rattle.safety.specs.Items.{Setting, IsDecided, IsReportOfAccept, IsCovered}
 use Rattle.safety.specs.Items as items
 use Rattle.safety.specs.Standing.{Stands, setting, facts_at, facts_of, sent_in, HasVote}
-use Rattle.safety.proofs.Argument.Agreement.{one_proposal, decided_was_proposed, decisions_last, prepared_was_voted}
+use Rattle.safety.proofs.Argument.Agreement.{one_proposal, decided_was_proposed, decisions_last, prepared_was_voted, covered_at_most}
 use Rattle.safety.proofs.Argument.Preservation.{IsDecided-kept}
 use Rattle.safety.proofs.Leader.Heard.{committed_is, aborted_is}
 use Rattle.safety.proofs.Leader.Invariant.{IsSentItem}
@@ -34,10 +34,6 @@ use Rattle.progress.proofs.Deciding.{decides}
 use Rattle.progress.proofs.Keeping.{Keeps, TakesPart, run_keeps}
 
 -- ---- what a majority accepted is proposed in each greater ballot
-
-covered_at_most : (report : Option (ℕ × Vote)) (b top : ℕ) → IsCovered report b → IsBallotAtMost report top → b ≤ top
-covered_at_most None b top h k = absurd h
-covered_at_most (Some last) b top h k = le_trans h k
 
 module _ {Tx : Type 0} (c : Setting Tx) (Has : Item Tx → Type 0) (inv : Invariant c Has) (tx : Tx) (i b : ℕ) (v : Vote)
     (members : ℕ → Bool) (majority : IsMajority c.acceptors members)

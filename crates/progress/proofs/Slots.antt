@@ -14,10 +14,7 @@ use Rattle.stable_record.specs.declared.fact.FactKind.TheVariants as stored
 use Rattle.protocol.specs.Basics.{Fact}
 use Rattle.protocol.specs.Facts.{instance_eq, ballot_joined, accept_of, slot}
 use Rattle.protocol.proofs.Same.{instance_eq-same}
-
-pub greatest-append : (xs ys : List ℕ) → greatest (xs ++ ys) ≡ max (greatest xs) (greatest ys)
-greatest-append [] ys = omega arith
-greatest-append (x ∷ xs) ys = let rest = greatest-append xs ys in omega arith
+use Rattle.safety.proofs.Leader.Memory.{greatest-append}
 
 -- where a fact has an acceptor take part
 joined_in : (facts : List Fact) (fact : Fact) (tx : TxParts) (i : ℕ)

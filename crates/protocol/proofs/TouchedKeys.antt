@@ -17,7 +17,7 @@ use Rattle.protocol.specs.Managers.{Branch, with_touched, last_act, has_key, act
 
 -- ---- the order of keys
 
-less_from : (o : Ordering) → is_lt o ≡ true → o ≡ Less
+pub less_from : (o : Ordering) → is_lt o ≡ true → o ≡ Less
 less_from Less e = refl
 less_from Equal e = absurd (cc (e))
 less_from Greater e = absurd (cc (e))
@@ -33,12 +33,12 @@ later_by x y Greater e apart over = nat_list_cmp_total.antisymm x y ∙ ap order
 later : (x y : List ℕ) → bytes_eq x y ≡ false → is_lt (slice_cmp nat_cmp y x) ≡ false → slice_cmp nat_cmp x y ≡ Less
 later x y apart over = later_by x y (slice_cmp nat_cmp y x) refl apart over
 
-not_itself : (key : List ℕ) → slice_cmp nat_cmp key key ≡ Less → ⊥
+pub not_itself : (key : List ℕ) → slice_cmp nat_cmp key key ≡ Less → ⊥
 not_itself key less =
     let turned : Less ≡ Greater = sym less ∙ nat_list_cmp_total.antisymm key key ∙ ap ordering_reverse less in
     absurd (cc (turned))
 
-apart_from : (key k : List ℕ) → slice_cmp nat_cmp key k ≡ Less → bytes_eq k key ≡ false
+pub apart_from : (key k : List ℕ) → slice_cmp nat_cmp key k ≡ Less → bytes_eq k key ≡ false
 apart_from key k less = false_from_ne_true (bytes_eq k key)
     (λ e. not_itself key (subst (λ (z : List ℕ). slice_cmp nat_cmp key z ≡ Less) ((bytes_eq-Decides k key).0 e) less))
 

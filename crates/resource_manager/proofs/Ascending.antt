@@ -17,6 +17,7 @@ use Rattle.stable_record.specs.declared.fact.FactKind.{FactKind as Fact}
 use Rattle.stable_record.specs.declared.fact.Touched.{Touched}
 use Rattle.protocol.specs.declared.rows.Row.{Row}
 use Rattle.protocol.specs.Tables.{commit_of, keys_voted, put_row, rows_after, table, with_writes}
+use Rattle.protocol.proofs.TouchedKeys.{less_from}
 use Rattle.resource_manager.specs.Compacted.{are_ascending}
 
 abbrev cmp : List ℕ → List ℕ → Ordering
@@ -63,11 +64,6 @@ put_after key (first ∷ rows) row after less =
     (λ other. cond_both (is_lt (cmp row.key first.key)) (row ∷ first ∷ rows) (first ∷ put_row rows row) (AreAfter key)
     (λ before. (less, after)) (λ not_before. (after.0, put_after key rows row after.1 less)))
 
-is_less : (o : Ordering) → is_lt o ≡ true → o ≡ Less
-is_less Less e = refl
-is_less Equal e = absurd (cc (e))
-is_less Greater e = absurd (cc (e))
-
 put_ascends : (rows : List Row) (row : Row) → Ascend rows → Ascend (put_row rows row)
 put_ascends [] row are = (tt, tt)
 put_ascends (first ∷ rows) row are =
@@ -76,7 +72,7 @@ put_ascends (first ∷ rows) row are =
     Ascend (λ same. (subst (λ key. AreAfter key rows) (same_key first.key row.key same) are.0, are.1))
     (λ other. cond_both (is_lt (cmp row.key first.key)) (row ∷ first ∷ rows) (first ∷ put_row rows row) Ascend
     (λ before.
-    let less = is_less (cmp row.key first.key) before in ((less, after_before row.key first.key rows less are.0), are))
+    let less = less_from (cmp row.key first.key) before in ((less, after_before row.key first.key rows less are.0), are))
     (λ not_before. (
       put_after first.key rows row are.0 (less_by row.key first.key (cmp row.key first.key) refl not_before other),
       put_ascends rows row are.1,

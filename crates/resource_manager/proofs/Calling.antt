@@ -34,20 +34,12 @@ use Rattle.branch_table.specs.OneCall.{IsHindered, Answers}
 use Rattle.branch_table.specs.declared.table.Ending.{Ending}
 use Rattle.branch_table.specs.declared.table.Ending.TheVariants as endings
 use Rattle.branch_table.specs.TableStates.{TableState, Steps, branch_named, branch_done, branch_left}
+use Rattle.branch_table.proofs.Views.{none_hinders}
 use Rattle.resource_manager.specs.SpentNames.{is_spent_in}
 use Rattle.resource_manager.specs.Managers.{ManagerParts, StandsFor, IsCall, branches_in, call_effect}
 use Rattle.resource_manager.proofs.Named.{named_own, named_in, shown, view_shown}
 
 -- ---- who hinders
-
-none_hinders : (action : Action) → hinders action no_branch ≡ false
-none_hinders Start = refl
-none_hinders (Put key value) = refl
-none_hinders (Del key) = refl
-none_hinders (Get key) = refl
-none_hinders End = refl
-none_hinders EndFail = refl
-none_hinders Rollback = refl
 
 module _ (test : BranchView → Bool) (none : test no_branch ≡ false) (bs : List Branch) (x : XidParts) (once : AreNamedOnce bs) where
   abbrev is_other : Branch → Bool

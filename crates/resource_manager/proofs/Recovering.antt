@@ -31,6 +31,7 @@ use Rattle.protocol.proofs.Lists.{filter_map_gives}
 use Rattle.protocol.proofs.Manager.Apart.{named_so}
 use Rattle.protocol.proofs.Manager.Names.{distinct_filtered, named_once_filtered}
 use Rattle.protocol.proofs.Manager.Prepared.{names_held_once, prepared_or_not, votes_named}
+use Rattle.protocol.proofs.TouchedKeys.{less_from}
 use Rattle.branch_table.specs.TableStates.{AreTableBranches, is_prepared}
 use Rattle.branch_table.specs.Outcomes.{AreRecovered, prepared_names}
 use Rattle.resource_manager.specs.Managers.{ManagerParts, StandsFor, branches_in}
@@ -60,11 +61,6 @@ less_by x y Greater e over apart =
 -- of two names that differ one is before the other
 less_of : (x y : XidParts) → is_lt (xid_cmp y x) ≡ false → xid_eq x y ≡ false → xid_cmp x y ≡ Less
 less_of x y over apart = less_by x y (xid_cmp x y) refl over apart
-
-less_from : (o : Ordering) → is_lt o ≡ true → o ≡ Less
-less_from Less e = refl
-less_from Equal e = absurd (cc (e))
-less_from Greater e = absurd (cc (e))
 
 -- each is before all that follow
 abbrev IsRising : List XidParts → Type 0

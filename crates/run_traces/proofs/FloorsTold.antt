@@ -17,6 +17,7 @@ use Rattle.protocol.specs.Nodes.{NodeState, Fault, NoMemoryAt, NoMemoryBefore, O
 use Rattle.protocol.specs.Worlds.{StepResult, if_found, node_at, outcome_result, set_node}
 use Rattle.protocol.proofs.Lists.{IsIn-append, IsIn-mapped}
 use Rattle.safety.proofs.World.NodePlaces.{node_there}
+use Rattle.safety.proofs.World.Events.{slice_among as among}
 use Rattle.floors.specs.Nodes.{Rise, floor_after, is_unread, kept_rise, may_replace, not_put_in, on_least, on_raise, risen}
 use Rattle.floors.specs.Runs.{floored_opening}
 use Rattle.floors.specs.Worlds as floored
@@ -36,7 +37,6 @@ use Rattle.cluster_run.proofs.Raised.{raise_said}
 use Rattle.run_traces.proofs.AboveFloors.{step_above, step_lower}
 use Rattle.run_traces.proofs.AtMost.{IsAtMost, as_told, least_most, node_is, self_node, told_most, told_rises}
 use Rattle.run_traces.proofs.Numbered.{heard_at, told_from_both}
-use Rattle.run_traces.proofs.Steps.{among}
 use Rattle.run_traces.proofs.Up.{is_up, stays_up, up_in}
 
 -- an event tells nothing of itself

@@ -20,6 +20,7 @@ use Rattle.net_script.specs.Items as items
 use Rattle.net_script.specs.Scripts.{IsScript}
 use Rattle.net_script.specs.TraceReading.{IsTrace, IsTraceFault, RefusesTrace, SpellsTrace}
 use Rattle.net_script.proofs.ReaderLemmas.{one_text, text_has_no_fault}
+use Rattle.net_script.proofs.DraftLemmas.{trace as traced}
 use Rattle.cluster_run.specs.Runs.{IsRun}
 use Rattle.cluster_run.specs.Traces.{config_of, each_manager, last_world}
 use Rattle.run_traces.specs.Machine.{CanBeTold}
@@ -28,10 +29,6 @@ use Rattle.run_traces.proofs.Commands.{all_named}
 use Rattle.run_traces.proofs.Events.{finals_told, steps_told}
 use Rattle.run_traces.proofs.Floors.{good_opening}
 use Rattle.run_traces.proofs.Limits.{few_managers, first_keep, limited, within_limits}
-
--- the trace of some steps and last tables
-abbrev pub traced : Sizes → List Table → List Entry → List (List Row) → Trace
-traced sizes tables entries finals = record { sizes = sizes; tables = tables; entries = entries; finals = finals }
 
 module _ (bytes output : List ℕ) (run : IsRun bytes output) where
   abbrev script : Script

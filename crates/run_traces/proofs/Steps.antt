@@ -33,7 +33,7 @@ use Rattle.protocol.proofs.Lists.{IsIn-after, IsIn-joined, IsIn-mapped, all_in, 
 use Rattle.safety.specs.Forms as forms
 use Rattle.safety.proofs.WellFormed.Runs.{IsWellWorld}
 use Rattle.safety.proofs.WellFormed.Nodes.{IsInput, IsWellNode}
-use Rattle.safety.proofs.World.Events.{datagram_among}
+use Rattle.safety.proofs.World.Events.{datagram_among, slice_among}
 use Rattle.safety.proofs.World.NodePlaces.{node_there}
 use Rattle.net_script.specs.declared.values.Entry.{Entry}
 use Rattle.net_script.specs.Answers.{IsAnswer}
@@ -76,12 +76,6 @@ fact_valid (stored.VoteAborted tx) is = is
 fact_valid (stored.Committed tx) is = is
 fact_valid (stored.Aborted tx) is = is
 fact_valid (stored.PromiseAll tx b) is = is.0
-
--- what is found at a place is there
-pub among : {X : Type 0} (xs : List X) (n : ℕ) (x : X) → slice_get xs n ≡ Some x → IsIn xs x
-among [] n x h = absurd (cc (h))
-among (y ∷ xs) zero x h = inl (cc (h))
-among (y ∷ xs) (suc n) x h = inr (among xs n x h)
 
 marked_length : (net : List Datagram) (n : ℕ) → length (mark_at net n) ≡ length net
 marked_length [] n = refl
@@ -246,7 +240,7 @@ change_by rm named before after are (Some fact) e =
     (λ (o : Option Change). ForSome o IsChange) (λ same change is. absurd (cc (is)))
     (λ moved change is.
     let said : record { rm = rm; tx = tx; view = view after tx } ≡ change = cc (is) in
-    subst IsChange said (record { rm = named; tx = fact_valid fact (are fact (among after (length before) fact e)) }))
+    subst IsChange said (record { rm = named; tx = fact_valid fact (are fact (slice_among after (length before) fact e)) }))
 
 change_is : (who : NodeId) → IsNode who → (before after : List Fact) → ((fact : Fact) → IsIn after fact → IsFact fact)
     → ForSome (change_of who before after) IsChange

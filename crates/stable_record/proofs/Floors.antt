@@ -1,5 +1,5 @@
 -- A floor's frame is taken again, what is taken was spelled, and no entry's frame is one.
-use Rattle.std.proofs.Common.{◌≡◌, ◌∙◌, ℕ, zero, suc, ◌+◌, ◌<◌, ◌==◌, Bool, true, false, cond, eqb-true, List, [], ◌∷◌, ◌++◌}
+use Rattle.std.proofs.Common.{◌≡◌, ◌∙◌, ℕ, zero, suc, ◌+◌, ◌<◌, ◌==◌, true, eqb-true, List, [], ◌∷◌, ◌++◌}
 use Rattle.std.proofs.Common.{length, take}
 use Rattle.std.proofs.Common.{Option, Some, None, refl, sym, ap, subst, append_assoc, arith}
 use Rattle.std.specs.List.{slice_index_or}
@@ -15,6 +15,7 @@ use Rattle.wire.specs.Decoding.{tx_in}
 use Rattle.wire.proofs.Fields.{number_again}
 use Rattle.wire.proofs.Places.{name_again, name_spelled}
 use Rattle.wire.proofs.Spelled.{Front, some_same, step, number_spelled, byte_spelled}
+use Rattle.wire.proofs.Notices.{passes}
 use Rattle.stable_record.specs.declared.entry.EntryKind.{EntryKind as Entry}
 use Rattle.stable_record.specs.Grammar.{HasNoFrame, IsStored, IsTail}
 use Rattle.stable_record.specs.Reading.{entry_at, about_at, fact_at, body_at as entry_body_at}
@@ -102,11 +103,6 @@ pub found : (place : Place) (bytes rest : List ℕ) → IsFloored place bytes re
 found place bytes rest is = ap floor_at is.same ∙ floor_again place rest is.valid
 
 -- ---- what is taken was spelled
-
--- a test that has to be true for a reading to go on
-passes : {X : Type 0} (t : Bool) (read : Option X) (x : X) → cond t read None ≡ Some x → (t ≡ true) × (read ≡ Some x)
-passes true read x e = (refl, e)
-passes false read x e = absurd (cc)
 
 -- a body that was spelled, behind its length, with what follows it
 record Bodied (len : ℕ) (bytes : List ℕ) (x : Place × List ℕ) : Type 0 where

@@ -21,17 +21,13 @@ use Rattle.wire.specs.Reading.{◌>>=◌, byte_at, big_at, number_at, rm_at, com
 use Rattle.wire.proofs.Spelled.{Front, front_of, joined, some_same, step, unless, byte_spelled, short_spelled, number_spelled, rm_spelled}
 use Rattle.wire.proofs.Places.{bytes_front, component_few}
 use Rattle.wire.proofs.Spelled.{bytes_after, component_spelled}
+use Rattle.wire.proofs.DecodingLemmas.{kept}
 use Rattle.stable_record.specs.declared.fact.Act.{Act}
 use Rattle.stable_record.specs.declared.fact.Act.TheVariants.{Read, Del}
 use Rattle.stable_record.specs.declared.fact.Touched.{Touched}
 use Rattle.stable_record.specs.Facts.{IsKey, IsValue, IsAct, IsTouched, AreKeys, AreAscending}
 use Rattle.stable_record.specs.Grammar.{value_spelling, act_spelling, touched_spelling, keys_spelling}
 use Rattle.stable_record.specs.Reading.{value_at, key_at, act_at, touched_at, are_ascending, keys_at, leader_ballot_at}
-
--- a test that lets a reading go on was true
-pub when : {X : Type 0} (t : Bool) (x y : X) → cond t (Some x) None ≡ Some y → (t ≡ true) × (x ≡ y)
-when true x y e = (refl, cc)
-when false x y e = absurd (cc)
 
 pub value_spelled : (bytes : List ℕ) (x : List ℕ × List ℕ) → IsBytes bytes → value_at bytes ≡ Some x
     → IsValue x.0 × Front bytes (value_spelling x.0) x.1
@@ -61,7 +57,7 @@ pub key_spelled : (bytes : List ℕ) (x : List ℕ × List ℕ) → IsBytes byte
 unfolding key_at
 key_spelled bytes x is e =
     step (component_at bytes) _ e (λ key ek e.
-    let some = when (ltb 0 (length key.0)) key x e in
+    let some = kept (ltb 0 (length key.0)) key x e in
     let front = component_spelled bytes key is ek in
     let more : 0 < length key.0 = grind (arith, nat_tests, some.0) in
     let all : IsBytes (key.0 ++ key.1) = bytes_after (length key.0 ∷ []) (key.0 ++ key.1) (subst IsBytes front.same is) in
@@ -156,7 +152,7 @@ keys_spelled bytes x is e =
     step (byte_at bytes) _ e (λ count ec e.
     let few = unless (ltb most_touched count.0) _ x e in
     step (list_at touched_at count.0 count.1) _ few.1 (λ keys ek e.
-    let up = when (are_ascending keys.0) keys x e in
+    let up = kept (are_ascending keys.0) keys x e in
     let first = byte_spelled bytes count is ec in
     let all = list_spelled count.0 count.1 keys first.after ek in
     let small : count.0 ≤ most_touched = grind (arith, nat_tests, few.0) in
@@ -208,7 +204,7 @@ pub leader_ballot_spelled : (bytes : List ℕ) (x : ℕ × List ℕ) → IsBytes
 unfolding leader_ballot_at
 leader_ballot_spelled bytes x is e =
     step (number_at bytes) _ e (λ ballot eb e.
-    let some = when (ltb 0 ballot.0) ballot x e in
+    let some = kept (ltb 0 ballot.0) ballot x e in
     let more : 1 ≤ ballot.0 = grind (arith, nat_tests, some.0) in
     let is-ballot : IsLeaderBallot ballot.0 = record { some = more; fits = ballot_fits bytes ballot is eb } in
     subst (λ (x : ℕ × List ℕ). IsLeaderBallot x.0 × Front bytes (number_spelling x.0) x.1) some.1

@@ -1,6 +1,6 @@
 -- Where the ports of a cluster's nodes are found.
 use Rattle.std.proofs.Common.{◌≡◌, ◌≢◌, ◌∙◌, inl, inr, ℕ, zero, suc, ◌+◌, ◌-◌, ◌<◌, ◌≤◌, Bool, true, false, List, [], ◌∷◌, ◌++◌, length}
-use Rattle.std.proofs.Common.{get_or, set, take, drop, map, Option, Some, None, refl, sym, ap, subst, nat_lt, arith}
+use Rattle.std.proofs.Common.{get_or, set, take, drop, map, Option, Some, refl, sym, ap, subst, nat_lt, arith}
 use Rattle.std.specs.Prelude.{◌==◌, ◌&&◌, ◌||◌, if◌then◌else◌, nat_le, slice_get}
 use Rattle.std.specs.List.{list_all}
 use Rattle.std.specs.Option.{option_and_then}
@@ -19,7 +19,7 @@ use Rattle.node_core.specs.Configs.{are_sizes, is_config}
 use Rattle.node_core.specs.Nodes.{AreSizes}
 use Rattle.node_core.specs.Configs.{config_by}
 use Rattle.node_core.specs.Places.{node_count}
-use Rattle.node_core.proofs.Placed.{place_within}
+use Rattle.node_core.proofs.Placed.{place_within, placed_at}
 use Rattle.port.specs.declared.addresses.Addresses.{Addresses}
 use Rattle.port.specs.declared.udp.UdpPort.{UdpPort}
 use Rattle.port.specs.Addresses.{address_of, with_address}
@@ -27,11 +27,6 @@ use Rattle.udp_run.specs.Sites.{place_in}
 use Rattle.udp_run.specs.Runs.{AreStanding, ArePorts, FindsEach, finding}
 
 -- ---- one node for each place
-
--- what a test of a place says
-placed_at : (t : Bool) (x at : ℕ) → (if t then Some x else None) ≡ Some at → (t ≡ true) × (x ≡ at)
-placed_at true x at e = (refl, cc (e))
-placed_at false x at e = absurd (cc (e))
 
 -- the node of a place
 abbrev name_by : Bool → Bool → (at acceptors leaders : ℕ) → NodeId

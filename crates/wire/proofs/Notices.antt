@@ -37,7 +37,7 @@ found notice bytes is = ap notice_at is.spelled ∙ notice_again notice is.valid
 -- ---- what is taken was spelled
 
 -- a test that has to be true for a reading to go on
-passes : {X : Type 0} (t : Bool) (read : Option X) (x : X) → cond t read None ≡ Some x → (t ≡ true) × (read ≡ Some x)
+pub passes : {X : Type 0} (t : Bool) (read : Option X) (x : X) → cond t read None ≡ Some x → (t ≡ true) × (read ≡ Some x)
 passes true read x e = (refl, e)
 passes false read x e = absurd (cc)
 

@@ -30,7 +30,7 @@ use Rattle.safety.proofs.Leader.Heard.{reported_from}
 
 -- ---- the greatest ballot stored
 
-greatest-append : (xs ys : List ℕ) → greatest (xs ++ ys) ≡ max (greatest xs) (greatest ys)
+pub greatest-append : (xs ys : List ℕ) → greatest (xs ++ ys) ≡ max (greatest xs) (greatest ys)
 greatest-append [] ys = omega arith
 greatest-append (x ∷ xs) ys = let rest = greatest-append xs ys in omega arith
 

@@ -8,11 +8,9 @@ use Rattle.std.proofs.lemmas.List.{append-nil}
 use Rattle.std.proofs.lemmas.List.Folds.{list_any-append}
 use Rattle.std.proofs.lemmas.Option.{slice_get_past}
 use Rattle.xid.specs.Transactions.{TxParts, tx_eq}
-use Rattle.xid.specs.declared.transaction.Vote.{Vote}
 use Rattle.xid.specs.declared.transaction.Vote.TheVariants as votes
 use Rattle.xid.proofs.Deciding.{tx_decides}
 use Rattle.stable_record.specs.Facts.{fact_tx}
-use Rattle.stable_record.specs.declared.fact.FactKind.TheVariants as stored
 use Rattle.xid.specs.declared.refusals.Refusal.TheVariants.{NoSuch, Forged, NoMemory, Down}
 use Rattle.protocol.specs.Basics.{Fact}
 use Rattle.protocol.specs.declared.states.View.TheVariants as views
@@ -27,6 +25,7 @@ use Rattle.protocol.specs.Nodes.{effect_of, node_step, restart_outcome, compact_
 use Rattle.protocol.specs.Worlds.{World, StepResult, view_number, change_of, node_at, set_node, datagram_at, answer_result, outcome_result}
 use Rattle.protocol.specs.Worlds.{if_found}
 use Rattle.protocol.specs.Worlds.{at_node, dispatch, world_step}
+use Rattle.protocol.proofs.Kept.Facts.{other_vote, other_commit, other_abort}
 use Rattle.safety.specs.Changes.{SaysItsChange}
 use Rattle.safety.specs.Standing.{facts_of, facts_at}
 use Rattle.safety.proofs.World.Growth.{same_node}
@@ -41,22 +40,9 @@ or_none true = refl
 or_none false = refl
 
 -- one more that doesn't pass
-any_same : (p : Fact → Bool) (facts : List Fact) (fact : Fact) → p fact ≡ false → list_any p (facts ++ fact ∷ []) ≡ list_any p facts
+pub any_same : (p : Fact → Bool) (facts : List Fact) (fact : Fact) → p fact ≡ false → list_any p (facts ++ fact ∷ []) ≡ list_any p facts
 any_same p facts fact e =
     list_any-append p facts (fact ∷ []) ∙ ap (λ (b : Bool). list_any p facts || (b || false)) e ∙ or_none (list_any p facts)
-
-other_vote : (tx : TxParts) (v : Vote) (fact : Fact) → tx_eq tx (fact_tx fact) ≡ false → is_vote_of tx v fact ≡ false
-other_vote tx votes.Prepared (stored.VotePrepared other keys) e = e
-other_vote tx votes.Aborted (stored.VoteAborted other) e = e
-other_vote tx v fact e = refl
-
-other_commit : (tx : TxParts) (fact : Fact) → tx_eq tx (fact_tx fact) ≡ false → is_commit_of tx fact ≡ false
-other_commit tx (stored.Committed other) e = e
-other_commit tx fact e = refl
-
-other_abort : (tx : TxParts) (fact : Fact) → tx_eq tx (fact_tx fact) ≡ false → is_abort_of tx fact ≡ false
-other_abort tx (stored.Aborted other) e = e
-other_abort tx fact e = refl
 
 -- a fact of another transaction leaves the view
 view_other : (facts : List Fact) (fact : Fact) (tx : TxParts) → tx_eq tx (fact_tx fact) ≡ false → view (facts ++ fact ∷ []) tx
@@ -90,12 +76,12 @@ record SaysByFacts (who : NodeId) (before after : List Fact) (now : Option Chang
   pub said : (change : Change) → now ≡ Some change
       → (who ≡ R change.rm) × (view after change.tx ≡ change.view) × (view before change.tx ≢ change.view)
 
-last_is : (before : List Fact) (fact : Fact) → slice_get (before ++ fact ∷ []) (length before) ≡ Some fact
+pub last_is : (before : List Fact) (fact : Fact) → slice_get (before ++ fact ∷ []) (length before) ≡ Some fact
 last_is [] fact = refl
 last_is (first ∷ before) fact = last_is before fact
 
 -- the change at a resource manager, by the fact that it stored
-abbrev change_by : ℕ → List Fact → List Fact → Fact → Option Change
+abbrev pub change_by : ℕ → List Fact → List Fact → Fact → Option Change
 change_by rm before after fact =
     if view_number (view before (fact_tx fact)) == view_number (view after (fact_tx fact)) then None
     else Some (record { rm = rm; tx = fact_tx fact; view = view after (fact_tx fact) })
@@ -191,7 +177,7 @@ restart_keeps config who node (RecordFails whole) = refl
 restart_keeps config who node fault =
     cond_both (all_play config who [] node.facts) _ _ (λ (left : Outcome). left.node.facts ≡ node.facts) (λ plays. refl) (λ damaged. refl)
 
-compact_keeps : (node : NodeState) (fault : Fault) → (compact_outcome node fault).node.facts ≡ node.facts
+pub compact_keeps : (node : NodeState) (fault : Fault) → (compact_outcome node fault).node.facts ≡ node.facts
 compact_keeps node NoMemoryAt = refl
 compact_keeps node (RecordFails whole) = refl
 compact_keeps node fault = refl

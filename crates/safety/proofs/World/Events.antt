@@ -172,7 +172,7 @@ module _ (config : Config) (world : World) (safe : IsSafe config world) where
       (λ garbled. at_node_next who ReceivedNoise fault tt)
 
 -- a datagram of the net has a message that was sent
-slice_among : {X : Type 0} (xs : List X) (n : ℕ) (x : X) → slice_get xs n ≡ Some x → IsIn xs x
+pub slice_among : {X : Type 0} (xs : List X) (n : ℕ) (x : X) → slice_get xs n ≡ Some x → IsIn xs x
 slice_among [] n x h = absurd (cc (h))
 slice_among (y ∷ xs) zero x h = inl (cc (h))
 slice_among (y ∷ xs) (suc n) x h = inr (slice_among xs n x h)
