@@ -1,9 +1,8 @@
 -- A floor rises, and a notice is heard: what comes of it is what comes of it in a world with floors.
-use Rattle.std.proofs.Common.{◌≡◌, ◌∙◌, ℕ, zero, suc, ◌<◌, Bool, true, false, if◌then◌else◌, List, [], ◌++◌, length, map}
+use Rattle.std.proofs.Common.{◌≡◌, ◌∙◌, ℕ, zero, suc, ◌<◌, Bool, true, false, if◌then◌else◌, List, [], ◌++◌, length}
 use Rattle.std.proofs.Common.{get_or, set}
 use Rattle.std.proofs.Common.{Option, Some, None, refl, sym, ap, subst, arith}
 use Rattle.std.specs.Prelude.{is_none, is_some, slice_get, Result, Ok, Err, OnOk, OnErr}
-use Rattle.std.specs.List.{range_with_len}
 use Rattle.std.specs.Option.{option_and_then, option_map}
 use Rattle.std.proofs.lemmas.List.{append-nil, get_or_default}
 use Rattle.std.proofs.lemmas.List.FromFn.{fill_by_all}
@@ -20,17 +19,17 @@ use Rattle.protocol.specs.Nodes.{NodeState, Fault, NoFault, NoMemoryBefore}
 use Rattle.protocol.specs.Worlds.{World, node_at}
 use Rattle.protocol.specs.Worlds.{place as place_of}
 use Rattle.node_core.specs.declared.config.Sizes.{Sizes}
-use Rattle.node_core.specs.Nodes.{AreSizes}
 use Rattle.node_core.specs.Opening.{restart_answer}
 use Rattle.node_core.specs.declared.role.Role.{Role}
 use Rattle.floors.specs.Nodes.{Rise, kept_rise, on_least, on_raise}
 use Rattle.floors.specs.Worlds.{FlooredResult, FlooredWorld, Notice, floored_answer, floored_dispatch, floored_if_found, hear_at}
-use Rattle.floors.specs.Worlds.{hear_result, is_done, is_manager, least_of, least_told, notices_of, raise_result, told_nodes}
+use Rattle.floors.specs.Worlds.{hear_result, is_done, is_manager, least_of, least_told, notices_of, raise_result}
 use Rattle.floors.specs.Worlds.{told_with, with_entry, with_floors, with_rise}
 use Rattle.node_core.specs.Configs.{config_by}
 use Rattle.floored.specs.Nodes.{BefallsRise, FlooredParts, FlooredRaises, FlooredStands, on_rise}
 use Rattle.floored.specs.Told.{told_at}
 use Rattle.floored.proofs.Raising.{done_up, up_as}
+use Rattle.floored.proofs.Noticing.{notices_as}
 use Rattle.network.specs.Networks.{NetworkParts}
 use Rattle.cluster.specs.declared.handing.Answered.{Answered}
 use Rattle.cluster.specs.Clusters.{ClusterParts, NoticesParts, cluster_of, AreTold, ClusterStands, BefallsHeard}
@@ -52,17 +51,6 @@ rise_as (L l) other floor m place fault up =
     ap (λ (b : Bool). if b then on_least floor m (Some place) fault else kept_rise floor m (Refused refusals.Down)) up
 
 -- ---- who is told
-
-told_nodes_as : (config : Config) (sizes : Sizes) → AreSizes config sizes → told_nodes (config_by sizes []) ≡ told_nodes config
-told_nodes_as config sizes are =
-    ap (λ (n : ℕ). map A (range_with_len 0 n) ++ map L (range_with_len 0 sizes.leaders)) are.acceptors_are
-    ∙ ap (λ (n : ℕ). map A (range_with_len 0 config.acceptors) ++ map L (range_with_len 0 n)) are.leaders_are
-
-notices_as : (config : Config) (sizes : Sizes) → AreSizes config sizes → (manager : ℕ) (floor : Option Place)
-    → notices_of (config_by sizes []) manager floor ≡ notices_of config manager floor
-notices_as config sizes are manager None = refl
-notices_as config sizes are manager (Some place) =
-    ap (map (λ (who : NodeId). record { manager = manager; receiver = who; place = place })) (told_nodes_as config sizes are)
 
 -- what an answer of a rise tells
 told_if : (answer : Answer) (done refused : List Notice) → answer ≡ Done → (if is_done answer then done else refused) ≡ done

@@ -10,3 +10,4 @@ pub mod Taking
 pub mod Least
 pub mod Asked
 pub mod Replacing
+pub mod Noticing

@@ -13,10 +13,10 @@ use Rattle.node_core.specs.Configs.{config_by}
 use Rattle.floors.specs.Worlds.{notices_of}
 use Rattle.floored.specs.Nodes.{FlooredRaises, FlooredStands, on_rise}
 use Rattle.floored.proofs.Raising.{done_up, up_as}
+use Rattle.floored.proofs.Noticing.{notices_as}
 use Rattle.port.specs.Calls.{Raises, RaisesAs, Sending, TellsAll}
 use Rattle.port.specs.Members.{IsMember, MemberParts, RaisesMember}
 use Rattle.port.proofs.Members.{member_sizes}
-use Rattle.port.proofs.Sending.{notices_as}
 
 -- of a resource manager that is named so
 raised_up : (who : NodeId) (rm : ℕ) → who ≡ R rm → (floor : Option Place) (m : NodeState) (place : Place) (fault : Fault)

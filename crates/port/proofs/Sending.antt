@@ -1,7 +1,7 @@
 -- Datagrams that go out by a port, one send after another.
 use Rattle.std.proofs.Common.{◌≡◌, ◌∙◌, ℕ, ◌+◌, ◌<◌, List, [], ◌∷◌, ◌++◌, length, map, take, get_or, refl, sym, ap, subst, Result}
-use Rattle.std.proofs.Common.{Option, Some, None}
-use Rattle.std.specs.List.{flat_map, range_with_len}
+use Rattle.std.proofs.Common.{None}
+use Rattle.std.specs.List.{flat_map}
 use Rattle.std.proofs.lemmas.Grind.{flat_map-append}
 use Rattle.std.proofs.lemmas.List.{append-nil, map_push, take_more}
 use Rattle.xid.specs.declared.refusals.Refusal.{Refusal}
@@ -9,7 +9,6 @@ use Rattle.xid.specs.Places.{Place}
 use Rattle.wire.specs.Grammar.{spelling}
 use Rattle.wire.specs.Notices.{notice_spelling}
 use Rattle.protocol.specs.declared.nodes.NodeId.{NodeId}
-use Rattle.protocol.specs.declared.nodes.NodeId.TheVariants.{A, L}
 use Rattle.protocol.specs.Effects.{Config, receivers}
 use Rattle.protocol.specs.Worlds.{Datagram}
 use Rattle.node_core.specs.declared.config.Sizes.{Sizes}
@@ -21,7 +20,6 @@ use Rattle.node_core.specs.declared.output.Output.{Output}
 use Rattle.node_core.specs.Sends.{sent}
 use Rattle.node_core.proofs.Addressed.{datagrams_as}
 use Rattle.node_core.specs.Storing.{output_of}
-use Rattle.floors.specs.Worlds.{notices_of, told_nodes}
 use Rattle.port.specs.Calls.{Sending, SendsAll, SendsTo, TellsAll, datagrams_from}
 
 module _ {P : Type 0} (Sent : Sending P) where
@@ -101,16 +99,3 @@ pub nothing_sent : {P : Type 0} (Sent : Sending P) (config : Config) (who : Node
 nothing_sent Sent config who refusal inputs outs port is =
     subst (λ (ds : List Datagram). SendsAll Sent port port ds)
     (sym (ap (flat_map (datagrams_from config who)) is ∙ nothing_from config who refusal inputs)) refl
-
--- ---- notices
-
-told_nodes_as : (config : Config) (sizes : Sizes) → AreSizes config sizes → told_nodes (config_by sizes []) ≡ told_nodes config
-told_nodes_as config sizes are =
-    λ i. map A (range_with_len 0 (are.acceptors_are i)) ++ map L (range_with_len 0 (are.leaders_are i))
-
--- notices depend on the sizes of a cluster alone
-pub notices_as : (config : Config) (sizes : Sizes) → AreSizes config sizes → (manager : ℕ) (floor : Option Place)
-    → notices_of (config_by sizes []) manager floor ≡ notices_of config manager floor
-notices_as config sizes are manager None = refl
-notices_as config sizes are manager (Some place) =
-    ap (map (λ (who : NodeId). record { manager = manager; receiver = who; place = place })) (told_nodes_as config sizes are)
