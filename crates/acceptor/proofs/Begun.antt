@@ -21,6 +21,7 @@ use Rattle.protocol.specs.Effects.{Config}
 use Rattle.protocol.specs.Facts.{ballot_joined, accept_of, slot}
 use Rattle.protocol.specs.Nodes.{plays, all_play}
 use Rattle.protocol.proofs.Same.{instance_eq-same}
+use Rattle.protocol.proofs.Lists.{all_joined}
 use Rattle.acceptor.specs.Slots.{after_fact, raised, latest}
 use Rattle.acceptor.specs.Acceptors.{begun_in}
 use Rattle.acceptor.specs.Compaction.{accepted_ballot, accept_facts, common_ballot, common_facts, promise_facts, accepts_of, promises_of}
@@ -193,10 +194,6 @@ unbegun_empty facts tx i none = still_empty [] facts tx i refl (sym (first_any f
 
 -- ---- the facts of a shorter record
 
-all_both : {X : Type 0} (P : X → Type 0) (xs ys : List X) → AllByRecursion P xs → AllByRecursion P ys → AllByRecursion P (xs ++ ys)
-all_both P [] ys a b = b
-all_both P (x ∷ xs) ys a b = (a.0, all_both P xs ys a.1 b)
-
 module _ (slots : Slots) (tx : TxParts) where
   abbrev IsOf : Fact → Type 0
   IsOf fact = fact_tx fact ≡ tx
@@ -211,7 +208,7 @@ module _ (slots : Slots) (tx : TxParts) where
 
   each_of_it : (h : ℕ → List Fact) → ((i : ℕ) → AllByRecursion IsOf (h i)) → (is : List ℕ) → AllByRecursion IsOf (flat_map h is)
   each_of_it h each [] = tt
-  each_of_it h each (i ∷ is) = all_both IsOf (h i) (flat_map h is) (each i) (each_of_it h each is)
+  each_of_it h each (i ∷ is) = all_joined IsOf (h i) (flat_map h is) (each i) (each_of_it h each is)
 
   common_of_it : (b : ℕ) (t : Bool) → AllByRecursion IsOf (if t then Fact.PromiseAll tx b ∷ [] else [])
   common_of_it b true = (refl, tt)
@@ -219,9 +216,9 @@ module _ (slots : Slots) (tx : TxParts) where
 
   all_of_it : AllByRecursion IsOf (transaction_facts slots tx)
   all_of_it =
-      all_both IsOf (accepts_of slots tx) (common_facts tx (common_ballot slots tx) ++ promises_of slots tx)
+      all_joined IsOf (accepts_of slots tx) (common_facts tx (common_ballot slots tx) ++ promises_of slots tx)
       (each_of_it (λ i. accept_facts tx i (slots tx i).report) (λ i. accept_of_it i (slots tx i).report) (participants tx))
-      (all_both IsOf (common_facts tx (common_ballot slots tx)) (promises_of slots tx)
+      (all_joined IsOf (common_facts tx (common_ballot slots tx)) (promises_of slots tx)
       (common_of_it (common_ballot slots tx) (nat_lt 0 (common_ballot slots tx)))
       (each_of_it (λ i. promise_facts tx (common_ballot slots tx) i (slots tx i))
       (λ i. promise_of_it i (slots tx i).mbal

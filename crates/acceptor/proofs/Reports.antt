@@ -8,6 +8,7 @@ use Rattle.xid.specs.Transactions.{TxParts, participants}
 use Rattle.xid.specs.declared.transaction.Vote.{Vote}
 use Rattle.wire.specs.declared.items.InstanceReport.{InstanceReport}
 use Rattle.wire.specs.declared.items.InstanceAccept.{InstanceAccept}
+use Rattle.wire.proofs.Spelled.{some_same}
 use Rattle.ballot.specs.Choice.{Report}
 use Rattle.ballot.specs.declared.slot.Slot.{Slot}
 use Rattle.protocol.specs.Acceptors.{Slots, is_some_below, reports_below, report_after, accept_item}
@@ -58,14 +59,11 @@ reports_told slots tx b r some e =
 
 -- ---- an item is its instance's
 
-some_item : {X : Type 0} (x y : X) → Some x ≡ Some y → x ≡ y
-some_item x y e = cc
-
 pub own_report : (slots : Slots) (tx : TxParts) (b n : ℕ) (x : InstanceReport) → report_item slots tx b n ≡ Some x → x.instance ≡ n
 own_report slots tx b n x e = by (ltb (slots tx n).mbal b) e
   where
     by : (t : Bool) → cond t (Some (record { instance = n; report = (slots tx n).report })) None ≡ Some x → x.instance ≡ n
-    by true e = ap (λ (y : InstanceReport). y.instance) (sym (some_item _ x e))
+    by true e = ap (λ (y : InstanceReport). y.instance) (sym (some_same _ x e))
     by false e = absurd (cc (e))
 
 pub own_accept : (last : ℕ → Report) (n : ℕ) (x : InstanceAccept) → accept_item n (last n) ≡ Some x → x.instance ≡ n
@@ -73,7 +71,7 @@ own_accept last n x e = by (last n) e
   where
     by : (r : Report) → accept_item n r ≡ Some x → x.instance ≡ n
     by None e = absurd (cc (e))
-    by (Some r) e = ap (λ (y : InstanceAccept). y.instance) (sym (some_item _ x e))
+    by (Some r) e = ap (λ (y : InstanceAccept). y.instance) (sym (some_same _ x e))
 
 -- the value that is accepted now is told
 pub accept_told : (slots : Slots) (tx : TxParts) (i b : ℕ) (v : Vote)

@@ -4,18 +4,19 @@ use Rattle.std.proofs.Common.{length, get_or, take, Option, Some, None, refl, sy
 use Rattle.std.specs.Prelude.{find, filter, fold, not, slice_get}
 use Rattle.std.specs.List.{AllByRecursion, IsDistinct, list_all, position_or_len}
 use Rattle.std.specs.Option.{option_map, option_and_then, unwrap_or}
-use Rattle.std.proofs.lemmas.Bool.{ltb-true, ltb-false, false≢true}
+use Rattle.std.proofs.lemmas.Bool.{ltb-true, ltb-false}
 use Rattle.std.proofs.Math.Seq.{take-suc}
 use Rattle.std.proofs.lemmas.List.{get_or-map, length-map}
 use Rattle.std.proofs.lemmas.List.Sums.{fold-append}
 use Rattle.std.proofs.lemmas.List.Elements.{filter-append}
 use Rattle.xid.proofs.Texts.{list_all_get}
+use Rattle.transactions.proofs.Before.{turned}
 use Rattle.protocol.specs.Vocabulary.{Step, Row, View}
 use Rattle.audit.proofs.ListLemmas.{all_next, all_fails, participant_at, participants_many}
 use Rattle.std.proofs.lemmas.List.Sums.{passes_at_first, prefix_len-le-length}
 use Rattle.std.specs.Cmp.{unsigned_Decides}
 use Rattle.xid.specs.Transactions.{BranchParts, is_at, rm_numbers, xid_of, TxParts, tx_eq, participants}
-use Rattle.xid.proofs.Deciding.{tx_self, tx_decides}
+use Rattle.xid.proofs.Deciding.{tx_self}
 use Rattle.protocol.specs.Tables.{with_writes}
 use Rattle.history.specs.Lines.{view_back}
 use Rattle.history.specs.SerialOrder.{those_before, first_commits}
@@ -42,13 +43,6 @@ head_apart tx txs distinct = distinct.0
 tail_distinct : (tx : TxParts) (txs : List TxParts) → IsDistinct tx_eq (tx ∷ txs) → IsDistinct tx_eq txs
 unfolding IsDistinct
 tail_distinct tx txs distinct = distinct.1
-
-turned : (tx other : TxParts) → tx_eq tx other ≡ false → tx_eq other tx ≡ false
-turned tx other e = by (tx_eq other tx) refl
-  where
-    by : (b : Bool) → tx_eq other tx ≡ b → b ≡ false
-    by false q = refl
-    by true q = absurd (false≢true (sym e ∙ (tx_decides tx other).1 (sym ((tx_decides other tx).0 q))))
 
 pub before_is_first : (order : List TxParts) (n : ℕ) (d : TxParts) → IsDistinct tx_eq order → n < length order
     → those_before (get_or order n d) order ≡ take n order

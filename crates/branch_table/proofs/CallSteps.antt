@@ -21,7 +21,7 @@ use Rattle.protocol.specs.declared.states.BranchState.{BranchState}
 use Rattle.protocol.specs.Branches.{BranchView, no_branch, is_write, hinders_use, hinders, key_of, key_fits}
 use Rattle.protocol.specs.Branches.{value_fits, call_answer, touch_answer, is_done, by_state, rollback_answer, get_answer, read_of}
 use Rattle.protocol.specs.Managers.{Branch, act_on, has_key, last_act, view_named}
-use Rattle.protocol.proofs.TouchedKeys.{acts_touched, has_touched}
+use Rattle.protocol.proofs.TouchedKeys.{acts_touched, has_touched, untouched}
 use Rattle.branch_table.specs.OneCall.{Answers, IsHindered, SameView, view_with_act, view_after_done}
 use Rattle.branch_table.specs.TableStates.{TableState, AreHeldApart, ChangesOnly, Steps, branch_done, branch_named, can_be_rolled_back}
 use Rattle.branch_table.specs.TableStates.{in_state}
@@ -32,7 +32,6 @@ use Rattle.branch_table.specs.declared.hold.Hold.{Hold}
 use Rattle.branch_table.specs.declared.table.Ending.{Ending}
 use Rattle.branch_table.specs.declared.table.Ending.TheVariants as ending
 use Rattle.branch_table.proofs.Found.{view_of_named, view_or_none}
-use Rattle.branch_table.proofs.TableRows.{untouched}
 use Rattle.branch_table.proofs.Views.{shows_touched}
 
 -- how a branch shows that was found, or not

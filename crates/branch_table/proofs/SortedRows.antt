@@ -13,9 +13,10 @@ use Rattle.std.proofs.lemmas.Map.Keys.{IsDistinct-IsPermutation}
 use Rattle.std.proofs.lemmas.Slice.Eq.{bytes_eq-Decides}
 use Rattle.protocol.specs.declared.rows.Row.{Row}
 use Rattle.protocol.specs.Branches.{row_at}
+use Rattle.protocol.proofs.TouchedKeys.{later_by}
 use Rattle.branch_table.specs.Parts.{place_at, rows_in, table_of}
 use Rattle.branch_table.specs.declared.places.Place.{Place}
-use Rattle.branch_table.proofs.TableRows.{AscendRows, before_more, first_value, flipped, later_by, same_rows, table_ascends, table_at}
+use Rattle.branch_table.proofs.TableRows.{AscendRows, before_more, first_value, flipped, same_rows, table_ascends, table_at}
 
 abbrev Known : Type 0
 Known = List (List ℕ × Place)

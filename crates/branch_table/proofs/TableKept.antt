@@ -15,6 +15,7 @@ use Rattle.stable_record.specs.declared.fact.Touched.{Touched}
 use Rattle.protocol.specs.declared.states.BranchState.{BranchState}
 use Rattle.protocol.specs.Branches.{is_write, hinders_use}
 use Rattle.protocol.specs.Managers.{Branch, act_on, has_key, view_named, with_touched}
+use Rattle.protocol.proofs.Manager.Keys.{written_touched}
 use Rattle.branch_table.specs.OneCall.{IsHindered}
 use Rattle.branch_table.specs.Outcomes.{AreHindered, CanBePrepared, prepared_branch}
 use Rattle.branch_table.specs.TableStates.{AreHeldApart, AreTableBranches, branch_named, in_state, is_idle, with_act}
@@ -25,7 +26,6 @@ use Rattle.branch_table.specs.Parts.{uses_of}
 use Rattle.branch_table.specs.declared.hold.Hold.{Hold}
 use Rattle.branch_table.proofs.Hindered.{own_within}
 use Rattle.branch_table.proofs.PlaceTable.{Known}
-use Rattle.branch_table.proofs.TableRows.{untouched}
 use Rattle.branch_table.proofs.Found.{view_or_none}
 use Rattle.branch_table.proofs.CallSteps.{apart_after, apart_same, apart_touched, apart_without, free_of, others_shown, shown}
 use Rattle.branch_table.proofs.CallSteps.{shows_written, started_branch}
@@ -169,13 +169,6 @@ touched_in (t ∷ keys) key there = by (bytes_eq t.key key) refl (touched_in key
           found.3 ∙ sym (ap (λ b. cond b t.act (act_on keys key)) e),
         )
 
-written_there : (keys : List Touched) (key : List ℕ) → is_write (act_on keys key) ≡ true → has_key key keys ≡ true
-written_there keys key e = by (has_key key keys) refl
-  where
-    by : (h : Bool) → has_key key keys ≡ h → has_key key keys ≡ true
-    by true h = h
-    by false h = absurd (both_ways _ (ap is_write (untouched keys key h)) e)
-
 -- another branch doesn't hinder the use of a touched key
 not_hindering : (branches : List Branch) (x y : XidParts) (keys : List Touched) (key : List ℕ) (writes : Bool)
     → (AreHindered branches x keys → ⊥) → y ≢ x → has_key key keys ≡ true → is_write (act_on keys key) ≡ writes
@@ -195,7 +188,7 @@ apart_prepared old new x keys apart free is =
     apart_after (view_named old) (view_named new) x apart (others_shown old new x (Some (prepared_branch x keys)) is.only)
     (λ y differ key written.
     let acts = ap (λ v. is_write (v.act key)) (sym now) ∙ written in
-    not_hindering old x y keys key true free differ (written_there keys key acts) acts)
+    not_hindering old x y keys key true free differ (written_touched keys key acts) acts)
     (λ y differ key written. ap (λ v. v.touched key) now
     ∙ by key y differ written (has_key key keys) refl (is_write (act_on keys key)) refl)
   where

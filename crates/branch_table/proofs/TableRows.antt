@@ -9,7 +9,7 @@ use Rattle.std.specs.Ordering.{nat_cmp, is_lt, is_eq, ordering_reverse}
 use Rattle.std.specs.Str.{bytes_eq}
 use Rattle.std.specs.declared.cmp.Ordering.{Ordering}
 use Rattle.std.specs.declared.cmp.Ordering.TheVariants.{Less, Equal, Greater}
-use Rattle.std.proofs.lemmas.Bool.{cond_both, both_ways, false_from_ne_true, or_parts, not-true, not-false}
+use Rattle.std.proofs.lemmas.Bool.{cond_both, both_ways, false_from_ne_true, not-true, not-false}
 use Rattle.std.proofs.lemmas.Bool.Decides.{same_from_decides}
 use Rattle.std.proofs.lemmas.Cmp.{nat_list_cmp_total}
 use Rattle.std.proofs.lemmas.Map.Text.{is_eq-slice_cmp}
@@ -19,21 +19,13 @@ use Rattle.stable_record.specs.declared.fact.Touched.{Touched}
 use Rattle.stable_record.specs.Facts.{AreAscending}
 use Rattle.protocol.specs.declared.rows.Row.{Row}
 use Rattle.protocol.specs.Branches.{row_at, value_after}
-use Rattle.protocol.specs.Managers.{act_on, has_key}
+use Rattle.protocol.specs.Managers.{act_on}
 use Rattle.protocol.specs.Tables.{put_row, rows_after, with_writes}
-use Rattle.protocol.proofs.TouchedKeys.{absent, tail_ascends, less_from, apart_from}
+use Rattle.protocol.proofs.TouchedKeys.{absent, tail_ascends, less_from, apart_from, later_by, untouched}
 use Rattle.branch_table.specs.Parts.{act_to, no_place, place_at, table_of}
 use Rattle.branch_table.specs.declared.places.Place.{Place}
 
 -- ---- the order of keys
-
-pub later_by : (x y : List ℕ) (o : Ordering) → slice_cmp nat_cmp y x ≡ o → bytes_eq x y ≡ false → is_lt o ≡ false
-    → slice_cmp nat_cmp x y ≡ Less
-later_by x y Less e apart over = absurd (cc (over))
-later_by x y Equal e apart over =
-    let same : y ≡ x = (bytes_eq-Decides y x).0 (sym (is_eq-slice_cmp y x) ∙ ap is_eq e) in
-    absurd (both_ways (bytes_eq x y) apart ((bytes_eq-Decides x y).1 (sym same)))
-later_by x y Greater e apart over = nat_list_cmp_total.antisymm x y ∙ ap ordering_reverse e
 
 -- a key comes before those of all these rows
 abbrev pub IsBefore : List ℕ → List Row → Type 0
@@ -170,13 +162,6 @@ after_there rows key Act.Read k are = either_way (bytes_eq key k) (row_at rows k
     either_way false o = refl
 after_there rows key (Act.Put value) k are = put_there rows (record { key = key; value = value }) k are
 after_there rows key Act.Del k are = taken_there rows key k
-
--- a key that wasn't touched, or stands before those touched, is only read
-pub untouched : (us : List Touched) (key : List ℕ) → has_key key us ≡ false → act_on us key ≡ Act.Read
-untouched [] key none = refl
-untouched (u ∷ us) key none =
-    let parts = or_parts (bytes_eq u.key key) (has_key key us) none in
-    ap (λ (b : Bool). cond b u.act (act_on us key)) parts.0 ∙ untouched us key parts.1
 
 later_unread : (u : Touched) (us : List Touched) (key : List ℕ) → bytes_eq u.key key ≡ true → AreAscending (u ∷ us)
     → act_on us key ≡ Act.Read

@@ -15,12 +15,12 @@ use Rattle.stable_record.specs.Facts.{AreAscending, AreKeys, IsTouched, IsKey, I
 use Rattle.protocol.specs.declared.states.BranchState.{BranchState}
 use Rattle.protocol.specs.Branches.{is_write}
 use Rattle.protocol.specs.Managers.{Branch, act_on, has_key, last_act, with_touched}
-use Rattle.protocol.proofs.TouchedKeys.{absent, acts_touched, counts_touched, has_touched, tail_ascends}
+use Rattle.protocol.proofs.TouchedKeys.{acts_touched, counts_touched, has_touched, tail_ascends, untouched}
 use Rattle.protocol.specs.declared.requests.Action.TheVariants.{Put, Del, Get}
 use Rattle.protocol.proofs.TouchedKeys.{changed_ascends}
+use Rattle.protocol.proofs.Manager.Keys.{first_once}
 use Rattle.branch_table.specs.Outcomes.{looks_after}
 use Rattle.branch_table.specs.Parts.{free, hold_by, hold_more, hold_of, more_by, uses_by, uses_held, uses_of}
-use Rattle.branch_table.proofs.TableRows.{untouched}
 use Rattle.std.proofs.Common.{Some, Result, Ok, Err}
 use Rattle.std.specs.Prelude.{OnOk, IfErr}
 use Rattle.xid.specs.declared.refusals.Refusal.{Refusal}
@@ -85,11 +85,6 @@ more_uses false q keys key act up = ap (λ a. one (is_write a)) (acts_touched ke
 
 -- ---- one key after the other
 
--- the first key isn't among the others
-pub first_apart : (t : Touched) (keys : List Touched) → AreAscending (t ∷ keys) → has_key t.key keys ≡ false
-first_apart t [] up = refl
-first_apart t (u ∷ keys) up = absent u keys t.key up.1 up.0
-
 pub first_uses : (writes : Bool) (q : List ℕ) (t : Touched) (keys : List Touched) → AreAscending (t ∷ keys)
     → uses_by writes q (t ∷ keys) ≡ uses_by writes q keys + cond (bytes_eq t.key q) (uses_held writes (hold_by t.act)) 0
 first_uses true q t keys up = by (bytes_eq t.key q) refl
@@ -97,7 +92,7 @@ first_uses true q t keys up = by (bytes_eq t.key q) refl
     by : (b : Bool) → bytes_eq t.key q ≡ b → one (b || has_key q keys) ≡ one (has_key q keys) + cond b 1 0
     by true e =
         subst (λ (k : List ℕ). 1 ≡ one (has_key k keys) + 1) ((bytes_eq-Decides t.key q).0 e)
-        (ap (λ h. one h + 1) (sym (first_apart t keys up)))
+        (ap (λ h. one h + 1) (sym (first_once t keys up)))
     by false e = omega arith
 first_uses false q t keys up = by (bytes_eq t.key q) refl
   where
@@ -106,7 +101,7 @@ first_uses false q t keys up = by (bytes_eq t.key q) refl
     by true e =
         let same = (bytes_eq-Decides t.key q).0 e in
         let none : act_on keys q ≡ Act.Read =
-        subst (λ (k : List ℕ). act_on keys k ≡ Act.Read) same (untouched keys t.key (first_apart t keys up)) in
+        subst (λ (k : List ℕ). act_on keys k ≡ Act.Read) same (untouched keys t.key (first_once t keys up)) in
         let nothing : one (is_write (act_on keys q)) ≡ 0 = ap (λ a. one (is_write a)) none in
         omega (arith, nothing)
     by false e = omega arith

@@ -35,10 +35,10 @@ use Rattle.safety.specs.Standing.{facts_of, facts_at}
 use Rattle.safety.proofs.World.Growth.{same_node}
 use Rattle.safety.proofs.World.NodePlaces.{node_there, node_elsewhere}
 use Rattle.safety.proofs.World.Outcomes.{step_is}
-use Rattle.safety.proofs.World.Changes.{compact_keeps}
+use Rattle.safety.proofs.World.Changes.{compact_keeps, restart_keeps}
 use Rattle.resource_manager.proofs.More.{keys_stay, table_more}
+use Rattle.history.proofs.Changes.{prepared_is}
 use Rattle.cluster.specs.Headlines.{IsKept, IsWritten}
-use Rattle.floors.proofs.Nodes.{restart_keeps}
 
 -- ---- one fact more, or none
 
@@ -235,12 +235,6 @@ module _ (before : List Fact) (fact : Fact) (tx : TxParts) where
       by_view views.Aborted was there (inl h) = absurd (not_new (stored.VoteAborted tx) (λ f. absurd (cc (f))) was.2 h)
       by_view views.Aborted was there (inr h) = absurd (not_new (stored.Aborted tx) (λ f. absurd (cc (f))) was.3 h)
 
-is_prepared : (v : View) → is_prepared_view v ≡ true → v ≡ views.Prepared
-is_prepared views.Prepared e = refl
-is_prepared views.Working e = absurd (cc (e))
-is_prepared views.Committed e = absurd (cc (e))
-is_prepared views.Aborted e = absurd (cc (e))
-
 -- ---- tables
 
 -- the table by the facts of a node that is there
@@ -312,7 +306,7 @@ module _ (config : Config) (world next : World) (rm : ℕ) where
       commit tx is =
           let met : is_prepared_view (view facts tx) ≡ true =
           subst (λ (f : Fact). plays config (R rm) facts f ≡ true) is (last_plays config (R rm) [] facts fact plays_then) in
-          let prepared : view facts tx ≡ views.Prepared = is_prepared (view facts tx) met in
+          let prepared : view facts tx ≡ views.Prepared = prepared_is (view facts tx) met in
           record {
             tx = tx;
             was = prepared;

@@ -25,6 +25,7 @@ use Rattle.node_core.specs.Sends.{sent}
 use Rattle.node_core.specs.Nodes.{AreSizes, datagram_input}
 use Rattle.floors.specs.Worlds.{FlooredWorld, nothing_told}
 use Rattle.node_core.specs.Configs.{config_by}
+use Rattle.node_core.proofs.Hearing.{is_received}
 use Rattle.floored.specs.Nodes.{FlooredParts, FlooredStands, FlooredStepsAs}
 use Rattle.network.specs.Networks.{DatagramParts, NetworkParts, StandsFor, Finds, IsKept}
 use Rattle.cluster.specs.declared.handing.Answered.{Answered}
@@ -35,7 +36,7 @@ use Rattle.cluster.proofs.Bounds.{count}
 use Rattle.cluster.proofs.Sent.{none_sent}
 use Rattle.cluster.proofs.Standing.{is_there, none_there, told_elsewhere}
 use Rattle.cluster.proofs.Reaching.{reached, sends_few, room_less}
-use Rattle.cluster.proofs.Occurring.{is_received, cut_is_noise, mark_absent, occurs_asked, occurs_delivered, occurs_cut, unlost}
+use Rattle.cluster.proofs.Occurring.{cut_is_noise, mark_absent, occurs_asked, occurs_delivered, occurs_cut, unlost}
 use Rattle.cluster.proofs.Occurring.{occurs_forged, reaches_none, refused_before, not_torn, not_restarted, not_compacted, undelivered}
 use Rattle.cluster.proofs.Occurring.{uncut, not_cut}
 use Rattle.cluster.proofs.Occurring.{occurs_lost}

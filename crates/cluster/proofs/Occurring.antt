@@ -2,7 +2,7 @@
 use Rattle.std.proofs.Common.{◌≡◌, ◌∙◌, ℕ, zero, suc, ◌<◌, ◌≤◌, Bool, true, false, List, [], ◌∷◌, ◌++◌, length, take, drop}
 use Rattle.std.proofs.Common.{Option, Some, None, refl, sym, ap, subst, nat_lt, arith}
 use Rattle.std.specs.Prelude.{if◌then◌else◌, is_some}
-use Rattle.std.specs.Option.{option_map, option_map_or, option_and_then}
+use Rattle.std.specs.Option.{option_map, option_and_then}
 use Rattle.std.proofs.lemmas.Bool.{lt-ltb, le-ltb}
 use Rattle.std.proofs.lemmas.List.{take-append-drop}
 use Rattle.xid.specs.declared.refusals.Refusal.TheVariants as refusals
@@ -31,7 +31,6 @@ use Rattle.floors.specs.Worlds.{floored_step_of, machine_result, nothing_told, s
 use Rattle.floors.specs.Worlds as floored
 use Rattle.floored.specs.Nodes.{FlooredParts}
 use Rattle.node_core.specs.declared.config.Sizes.{Sizes}
-use Rattle.node_core.specs.Nodes.{datagram_input}
 use Rattle.network.specs.Networks.{NetworkParts, StandsFor}
 use Rattle.cluster.specs.declared.handing.Answered.{Answered}
 use Rattle.cluster.specs.Clusters.{ClusterParts, NoticesParts, cluster_of, ClusterStands, IsSound, IsSameCluster, ReachesAs, ComesTo}
@@ -45,9 +44,6 @@ use Rattle.cluster.proofs.Sent.{none_by}
 use Rattle.cluster.proofs.Standing.{unchanged, all_stay}
 
 -- ---- bytes
-
-pub is_received : (bytes : List ℕ) (k : Kind) → Spells k bytes → datagram_input bytes ≡ Received k
-is_received bytes k spells = ap (λ (o : Option Kind). option_map_or Received o ReceivedNoise) (message_found k bytes spells)
 
 -- fewer than all bytes of a message spell none
 pub cut_is_noise : (bytes : List ℕ) (d : Kind) (k : ℕ) → Spells d bytes → k < length bytes → message_at (take k bytes) ≡ None

@@ -20,7 +20,6 @@ use Rattle.protocol.specs.Worlds.{World, node_at}
 use Rattle.protocol.specs.Worlds.{place as place_of}
 use Rattle.node_core.specs.declared.config.Sizes.{Sizes}
 use Rattle.node_core.specs.Opening.{restart_answer}
-use Rattle.node_core.specs.declared.role.Role.{Role}
 use Rattle.floors.specs.Nodes.{Rise, kept_rise, on_least, on_raise}
 use Rattle.floors.specs.Worlds.{FlooredResult, FlooredWorld, Notice, floored_answer, floored_dispatch, floored_if_found, hear_at}
 use Rattle.floors.specs.Worlds.{hear_result, is_done, is_manager, least_of, least_told, notices_of, raise_result}
@@ -28,9 +27,11 @@ use Rattle.floors.specs.Worlds.{told_with, with_entry, with_floors, with_rise}
 use Rattle.node_core.specs.Configs.{config_by}
 use Rattle.floored.specs.Nodes.{BefallsRise, FlooredParts, FlooredRaises, FlooredStands, on_rise}
 use Rattle.floored.specs.Told.{told_at}
-use Rattle.floored.proofs.Raising.{done_up, up_as}
+use Rattle.floored.proofs.Raising.{done_up}
 use Rattle.floored.proofs.Noticing.{notices_as}
 use Rattle.network.specs.Networks.{NetworkParts}
+use Rattle.floored.proofs.Replacing.{is_up_as}
+use Rattle.floored.proofs.Seen.{is_up, is_down}
 use Rattle.cluster.specs.declared.handing.Answered.{Answered}
 use Rattle.cluster.specs.Clusters.{ClusterParts, NoticesParts, cluster_of, AreTold, ClusterStands, BefallsHeard}
 use Rattle.cluster.specs.Clusters.{BefallsRaised, IsSameFloored, StayBut, HappensAs, notice_at, place_reached}
@@ -98,16 +99,6 @@ module _ (config : Config) (world : FlooredWorld) where
       → floored_dispatch config world (with_floors (Hear n)) fault ≡ floored_answer world (Refused refusals.NoSuch)
   unheard_event zero none fault = refl
   unheard_event (suc n) none fault = ap (floored_if_found world (hear_at config world fault)) none
-
--- a role that there isn't
-none_is : (o : Option Role) → is_none o ≡ true → is_some o ≡ false
-none_is None e = refl
-none_is (Some role) e = absurd (cc (e))
-
--- and one that there is
-pub some_is : (o : Option Role) → is_none o ≡ false → is_some o ≡ true
-some_is None e = absurd (cc (e))
-some_is (Some role) e = refl
 
 -- where no node has changed, no fault was met
 rests : (config : Config) (nodes : List FlooredParts) (who : NodeId) (o : Option NodeState) → BefallsRaised config nodes nodes who o NoFault
@@ -252,8 +243,8 @@ module _ (config : Config) (world : FlooredWorld) (sizes : Sizes) (nodes : List 
 
     m_up : m.up ≡ true
     m_up =
-        sym (up_as config node m stands)
-        ∙ some_is node.node.role (sym (ap (λ (x : FlooredParts). is_none x.node.role) seen_there) ∙ not_down)
+        sym (is_up_as config node m stands)
+        ∙ is_up node.node.role (sym (ap (λ (x : FlooredParts). is_none x.node.role) seen_there) ∙ not_down)
 
     abbrev told : ℕ → Option Place
     told = told_with (world.told who) notice
@@ -342,7 +333,7 @@ module _ (config : Config) (world : FlooredWorld) (sizes : Sizes) (nodes : List 
   -- it is up where that was done
   up_then : rise.answer ≡ Done → is_some new.node.role ≡ true
   up_then done =
-      up_as config new rise.node risen_so.now_stands ∙ done_up (world.floor (R rm)) state floor risen_so.fault done
+      is_up_as config new rise.node risen_so.now_stands ∙ done_up (world.floor (R rm)) state floor risen_so.fault done
 
   module _ (room after : NoticesParts) (room_told : room.told ≡ notices.told) (room_all : room.all ≡ notices.all)
       (ok : OnOk result (HasToldOwn sizes rm new room after)) (err : OnErr result (after ≡ room)) where
@@ -461,7 +452,7 @@ module _ (config : Config) (world : FlooredWorld) (sizes : Sizes) (nodes : List 
       heard_down at is node read down =
           let own = there config world sizes nodes network notices s notice.receiver at (sym is) node in
           let stands : FlooredStands config node own.0 = subst (λ (x : FlooredParts). FlooredStands config x own.0) (sym read) own.2 in
-          let off : own.0.up ≡ false = sym (up_as config node own.0 stands) ∙ none_is node.node.role down in
+          let off : own.0.up ≡ false = sym (is_up_as config node own.0 stands) ∙ is_down node.node.role down in
           heard_as (Refused refusals.Down)
           (by_node ∙ ap (floored_if_found world (hear_result config world notice NoFault))
           (found config world sizes nodes network notices s notice.receiver at (sym is) own.0 own.1)

@@ -3,29 +3,27 @@ use Rattle.std.proofs.Common.{◌≡◌, ◌∙◌, inl, inr, ℕ, ◌<◌, Bool
 use Rattle.std.proofs.Common.{Option, Some, None, refl, sym, ap, subst, arith}
 use Rattle.std.specs.Prelude.{slice_get, replicate, Result, Ok, Err}
 use Rattle.std.specs.List.{flat_map}
-use Rattle.std.specs.Option.{option_and_then}
 use Rattle.std.proofs.lemmas.List.{append-nil, length-replicate, get_or-replicate}
-use Rattle.std.proofs.lemmas.Option.{slice_get_past}
 use Rattle.xid.specs.declared.refusals.Refusal.{Refusal}
 use Rattle.stable_record.specs.declared.fact.FactKind.{FactKind as Fact}
 use Rattle.stable_record.specs.Held.{Held, armed_with}
 use Rattle.protocol.specs.declared.answers.Answer.TheVariants.{Done, Refused}
 use Rattle.protocol.specs.declared.events.Event.TheVariants.{Tear, Restart, Compact}
 use Rattle.protocol.specs.declared.nodes.NodeId.{NodeId}
-use Rattle.protocol.specs.declared.nodes.NodeId.TheVariants.{A, L, R}
 use Rattle.protocol.specs.Effects.{Config}
 use Rattle.protocol.specs.Nodes.{NodeState, Fault, Outcome, NoFault, NoMemoryBefore, NoMemoryAt, RecordFails, restart_outcome}
 use Rattle.protocol.specs.Nodes.{compact_outcome}
 use Rattle.protocol.specs.Worlds.{World, Datagram, StepResult, place, node_at, set_node, datagrams_of, change_of, if_found}
 use Rattle.protocol.specs.Worlds.{answer_result, outcome_result}
-use Rattle.safety.proofs.World.Changes.{compact_keeps}
+use Rattle.safety.proofs.World.Changes.{compact_keeps, restart_keeps}
 use Rattle.node_core.specs.declared.config.Sizes.{Sizes}
 use Rattle.node_core.specs.Nodes.{NodeParts, NodeStands, IsSameNode}
 use Rattle.node_core.specs.Compacting.{BefallsCompact, IsRecompacted, CompactsAs}
 use Rattle.node_core.specs.Opening.{BefallsRestart, restart_answer}
 use Rattle.floors.specs.Worlds.{FlooredWorld, nothing_told, with_entry}
-use Rattle.floors.proofs.Nodes.{restart_keeps, restart_silent, compact_silent}
+use Rattle.floors.proofs.Nodes.{restart_silent, compact_silent}
 use Rattle.node_core.specs.Configs.{config_by}
+use Rattle.node_core.proofs.Changes.{unchanged}
 use Rattle.floored.specs.Nodes.{FlooredCompacts, FlooredCompactsDown, FlooredCompactsUp, FlooredParts, FlooredRestarts, FlooredStands}
 use Rattle.floored.specs.Told.{told_at}
 use Rattle.network.specs.Networks.{NetworkParts, StandsFor}
@@ -53,12 +51,6 @@ leaves_shorter from who facts m old new (RecordFails whole) (Ok done) befalls an
 leaves_shorter from who facts m old new (RecordFails whole) (Err e) befalls answer content =
     let failed : e ≡ Refusal.RecordFault = cc (answer) in
     subst (λ (r : Refusal). IsRecompacted from who facts old new (Err r)) failed content
-
--- the same facts change no view
-no_change : (who : NodeId) (facts : List Fact) → change_of who facts facts ≡ None
-no_change (R rm) facts = ap (option_and_then _) (slice_get_past facts (length facts) (omega arith))
-no_change (A a) facts = refl
-no_change (L l) facts = refl
 
 -- nothing is found in a list of nothing
 none_in : (n rm : ℕ) → rm < n → told_at (replicate n None) rm ≡ nothing_told rm
@@ -193,7 +185,7 @@ module _ (config : Config) (world : FlooredWorld) (sizes : Sizes) (nodes : List 
         record {
           answer_is =
               answer_is ∙ restarted.answer_is ∙ ap (λ (n : NodeId). (restart_outcome config n m fault).answer) who_is;
-          now_is = now_is ∙ sym (ap (change_of who m.facts) (restart_keeps config who m fault) ∙ no_change who m.facts);
+          now_is = now_is ∙ sym (ap (change_of who m.facts) (restart_keeps config who m fault) ∙ unchanged who m.facts);
           stands = record {
             sizes_are = put.sizes_are;
             nodes_are = put.nodes_are;
@@ -274,7 +266,7 @@ module _ (config : Config) (world : FlooredWorld) (sizes : Sizes) (nodes : List 
         let comes : ComesTo config after_it answered (as_floored world (Compact who) made) =
         record {
           answer_is = answer_is ∙ up.answer_is;
-          now_is = now_is ∙ sym (ap (change_of who m.facts) (compact_keeps m up.fault) ∙ no_change who m.facts);
+          now_is = now_is ∙ sym (ap (change_of who m.facts) (compact_keeps m up.fault) ∙ unchanged who m.facts);
           stands =
               node_put config world sizes nodes network notices s who at (sym is) node new left.node (here compacted.same)
               (floor_here compacted.floor_is) up.stands network

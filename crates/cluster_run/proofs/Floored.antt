@@ -1,28 +1,24 @@
 -- Beside each run with floors goes a run of the machine to the same nodes, whose steps say the same where one looks back.
 use Rattle.std.proofs.Common.{◌≡◌, ◌∙◌, ℕ, zero, suc, Bool, true, false, not, ◌&&◌, ◌==◌, if◌then◌else◌, List, [], ◌∷◌, ◌++◌, length}
-use Rattle.std.proofs.Common.{Option, Some, None, refl, sym, ap, subst, append_assoc, arith}
+use Rattle.std.proofs.Common.{Option, Some, None, refl, sym, ap, subst, append_assoc}
 use Rattle.std.specs.Prelude.{slice_get, reverse}
 use Rattle.std.specs.List.{flat_map}
-use Rattle.std.specs.Option.{option_and_then, option_map_or}
+use Rattle.std.specs.Option.{option_map_or}
 use Rattle.std.proofs.lemmas.Bool.{and_parts, both_ways, cond_both}
 use Rattle.std.proofs.lemmas.List.{append-nil, reverse-append}
-use Rattle.std.proofs.lemmas.Option.{slice_get_past}
 use Rattle.xid.specs.Names.{XidParts}
 use Rattle.xid.specs.Places.{Place, is_lower}
 use Rattle.xid.specs.declared.refusals.Refusal.TheVariants.{Busy, Down, NoMemory, NoSuch}
-use Rattle.stable_record.specs.Facts.{fact_tx}
-use Rattle.protocol.specs.Basics.{Fact}
 use Rattle.protocol.specs.declared.decisions.Outgoing.{Outgoing}
 use Rattle.protocol.specs.declared.events.Change.{Change}
 use Rattle.protocol.specs.Vocabulary.{A, Answer, Ask, Compact, Deliver, Done, End, EndFail, Event, Get, Hear, L, Lose, NodeId, Put, Del, R}
 use Rattle.protocol.specs.Vocabulary.{Raise, Refused, Replace, Request, Restart, Rollback, Start, Step}
 use Rattle.protocol.specs.Effects.{Config}
-use Rattle.protocol.specs.Facts.{view}
 use Rattle.protocol.specs.Nodes.{NodeState, Asked, Fault, NoMemoryBefore, Outcome, compact_outcome, restart_outcome}
 use Rattle.protocol.specs.Worlds.{World, Datagram, Occurrence, StepResult, answer_result, change_of, datagram_at, datagrams_of, if_found}
-use Rattle.protocol.specs.Worlds.{node_at, numbered, outcome_result, step_of, view_number, with_mark, world_after, world_step}
+use Rattle.protocol.specs.Worlds.{node_at, numbered, outcome_result, step_of, with_mark, world_after, world_step}
 use Rattle.protocol.specs.declared.requests.Request.TheVariants as requests
-use Rattle.safety.proofs.World.Changes.{compact_keeps}
+use Rattle.safety.proofs.World.Changes.{compact_keeps, restart_keeps}
 use Rattle.floors.specs.Nodes.{forgotten_answer, is_free_below, kept_rise, may_replace, on_least, on_raise, risen}
 use Rattle.floors.specs.Worlds as floored
 use Rattle.floors.specs.Worlds.{FlooredEvent, FlooredResult, FlooredWorld, Machine, Notice, floored_answer, floored_if_found, floored_step}
@@ -32,13 +28,14 @@ use Rattle.floors.specs.Worlds.{on_machine, raise_result, step_with_floors, told
 use Rattle.floors.specs.Runs.{IsFlooredReachable, does_raise, does_rise, events_in_machine, floored_opening, is_lost, machine_events}
 use Rattle.floors.specs.Runs.{is_put_in, passes_over, receiver_of, with_fault}
 use Rattle.floors.specs.Runs as reachable
-use Rattle.floors.proofs.Nodes.{compact_silent, restart_keeps, restart_silent}
+use Rattle.floors.proofs.Nodes.{compact_silent, restart_silent}
 use Rattle.floors.proofs.Steps.{in_machine, lost_event, same_event, unasked_event}
 use Rattle.history.specs.Calls.{call_done, is_restart}
 use Rattle.history.specs.Outages as outages
 use Rattle.history.specs.Outages.{is_event_at, is_outage, is_record_fault}
 use Rattle.history.proofs.Runs as machine
 use Rattle.history.proofs.Runs.{IsRun}
+use Rattle.node_core.proofs.Changes.{unchanged}
 use Rattle.cluster_run.specs.Answers.{is_event_here}
 use Rattle.cluster_run.specs.Traces.{run_history}
 use Rattle.cluster_run.proofs.Alike.{Alike, Nothing, Both, Shown, Hidden, IsQuiet}
@@ -112,17 +109,6 @@ forgotten_mute (R other) request = record { done = λ rm y. refl; restart = λ r
 forgotten_mute (A a) request = record { done = λ rm y. refl; restart = λ rm. refl }
 forgotten_mute (L l) request = record { done = λ rm y. refl; restart = λ rm. refl }
 
--- a node whose facts stay has changed no view
-same_facts : (who : NodeId) (facts : List Fact) → change_of who facts facts ≡ None
-same_facts (A a) facts = refl
-same_facts (L l) facts = refl
-same_facts (R rm) facts =
-    let none : slice_get facts (length facts) ≡ None = slice_get_past facts (length facts) (omega arith) in
-    ap (option_and_then (λ fact.
-    let tx = fact_tx fact in
-    if view_number (view facts tx) == view_number (view facts tx) then None
-    else Some (record { rm = rm; tx = tx; view = view facts tx }))) none
-
 module _ (config : Config) (world : World) where
   -- of a machine that loses a datagram
   lose_silent : (n : ℕ) (fault : Fault) → let r = world_step config world (Lose n) fault in IsSilent r.now r.sent
@@ -137,7 +123,7 @@ module _ (config : Config) (world : World) where
   outcome_silent : (who : NodeId) (node : NodeState) (outcome : Outcome) → outcome.node.facts ≡ node.facts → outcome.sends ≡ []
       → let r = outcome_result config world who node.facts outcome in IsSilent r.now r.sent
   outcome_silent who node outcome keeps silent = record {
-    now_is = ap (change_of who node.facts) keeps ∙ same_facts who node.facts;
+    now_is = ap (change_of who node.facts) keeps ∙ unchanged who node.facts;
     sent_is = ap (λ (sends : List Outgoing). flat_map (datagrams_of config who) sends) silent;
   }
 

@@ -3,10 +3,10 @@ use Rattle.std.proofs.Common.{◌≡◌, ◌⊎◌, inl, inr, ◌∙◌, ℕ, Bo
 use Rattle.std.proofs.Common.{refl, sym, ap}
 use Rattle.std.specs.Prelude.{find, reverse}
 use Rattle.std.specs.Option.{option_map_or}
-use Rattle.std.proofs.lemmas.Grind.{flat_map-append}
-use Rattle.std.proofs.lemmas.List.{append-nil, reverse-append}
+use Rattle.std.proofs.lemmas.List.{append-nil}
 use Rattle.protocol.specs.declared.events.Sent.{Sent}
 use Rattle.protocol.specs.Vocabulary.{Answer, Cut, Deliver, Event, Step}
+use Rattle.history.proofs.Datagrams.{sent_more}
 use Rattle.cluster_run.specs.Answers.{is_down, is_event_here}
 use Rattle.history.specs.Calls.{is_restart}
 use Rattle.history.specs.Outages.{is_event_at, is_manager, is_out, is_outage, is_record_fault, sent_lines}
@@ -14,21 +14,15 @@ use Rattle.cluster_run.proofs.Alike.{Alike, Nothing, Both, Shown, Hidden, IsQuie
 
 -- ---- datagrams
 
--- those of one step more
-sent_step : (step : Step) (steps : List Step) → sent_lines (reverse (step ∷ steps)) ≡ sent_lines (reverse steps) ++ step.sent
-sent_step step steps =
-    ap sent_lines (reverse-append (step ∷ []) steps) ∙ flat_map-append (λ (s : Step). s.sent) (reverse steps) (step ∷ [])
-    ∙ ap (λ (sent : List Sent). sent_lines (reverse steps) ++ sent) (append-nil step.sent)
-
 quiet_sent : (step : Step) (steps : List Step) → IsQuiet step → sent_lines (reverse (step ∷ steps)) ≡ sent_lines (reverse steps)
 quiet_sent step steps quiet =
-    sent_step step steps ∙ ap (λ (sent : List Sent). sent_lines (reverse steps) ++ sent) quiet.sent
+    sent_more step steps ∙ ap (λ (sent : List Sent). sent_lines (reverse steps) ++ sent) quiet.sent
     ∙ append-nil (sent_lines (reverse steps))
 
 same_sent : (shown machine : List Step) → Alike shown machine → sent_lines (reverse shown) ≡ sent_lines (reverse machine)
 same_sent _ _ Nothing = refl
 same_sent _ _ (Both step shown machine alike) =
-    sent_step step shown ∙ ap (λ (sent : List Sent). sent ++ step.sent) (same_sent shown machine alike) ∙ sym (sent_step step machine)
+    sent_more step shown ∙ ap (λ (sent : List Sent). sent ++ step.sent) (same_sent shown machine alike) ∙ sym (sent_more step machine)
 same_sent _ _ (Shown step shown machine quiet alike) = quiet_sent step shown quiet ∙ same_sent shown machine alike
 same_sent _ _ (Hidden step shown machine quiet alike) = same_sent shown machine alike ∙ sym (quiet_sent step machine quiet)
 
@@ -44,7 +38,8 @@ same_place shown machine alike rm event = refl
 
 -- ---- tests
 
-either : (a b : Bool) → (a || b) ≡ true → (a ≡ true) ⊎ (b ≡ true)
+-- one of two that hold
+pub either : (a b : Bool) → (a || b) ≡ true → (a ≡ true) ⊎ (b ≡ true)
 either true b e = inl refl
 either false b e = inr e
 

@@ -20,6 +20,7 @@ use Rattle.floors.specs.Worlds.{replace_result, with_entry, with_rise, with_told
 use Rattle.floors.proofs.Places.{self_node}
 use Rattle.floors.proofs.Rising.{entry_own, not_sunk, raise_is}
 use Rattle.cluster_run.specs.Answers.{is_over, may_be_raised, raised_by}
+use Rattle.cluster_run.proofs.Outages.{either}
 use Rattle.cluster_run.proofs.Floored.{IsFlooredRun, AtFirst, Then}
 
 -- ---- places
@@ -96,10 +97,6 @@ or_left false b e = absurd (cc (e))
 and_false : (a : Bool) → (a && false) ≡ false
 and_false true = refl
 and_false false = refl
-
-either : (a b : Bool) → (a || b) ≡ true → (a ≡ true) ⊎ (b ≡ true)
-either true b e = inl refl
-either false b e = inr e
 
 module _ (rm : ℕ) (steps : List Step) (floor : Option Place) (so : IsSaid rm floor steps) (step : Step) where
   abbrev raised : (Answer → Bool) → Option Place

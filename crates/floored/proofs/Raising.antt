@@ -1,21 +1,10 @@
 -- A node that is asked to raise its floor: when it is up.
-use Rattle.std.proofs.Common.{◌≡◌, ◌∙◌, Bool, true, false, not, if◌then◌else◌, Option, Some, ap, refl}
-use Rattle.std.specs.Prelude.{is_some}
+use Rattle.std.proofs.Common.{◌≡◌, Bool, true, false, not, if◌then◌else◌, Option, Some, refl}
 use Rattle.xid.specs.Places.{Place, is_lower}
 use Rattle.xid.specs.declared.refusals.Refusal.TheVariants as refusals
 use Rattle.protocol.specs.declared.answers.Answer.TheVariants.{Done, Refused}
-use Rattle.protocol.specs.Effects.{Config}
 use Rattle.protocol.specs.Nodes.{NodeState, Fault, NoFault, NoMemoryBefore, NoMemoryAt, RecordFails}
 use Rattle.floors.specs.Nodes.{Rise, is_free_below, kept_rise, on_raise, risen}
-use Rattle.floored.specs.Nodes.{FlooredParts, FlooredStands}
-use Rattle.floored.proofs.Standing.{stands_up}
-
--- a node is up where the one is for which it stands
-pub up_as : (config : Config) (floored : FlooredParts) (m : NodeState) → FlooredStands config floored m
-    → is_some floored.node.role ≡ m.up
-up_as config floored m s =
-    stands_up s.from floored.node.who floored.node.rows floored.node.held floored.node.role s.few s.is.stands
-    ∙ ap (λ (node : NodeState). node.up) s.above.node_is
 
 -- a resource manager whose rise is done is up
 module _ (floor : Option Place) (m : NodeState) (place : Place) (fault : Fault) where

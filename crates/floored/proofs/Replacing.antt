@@ -169,7 +169,7 @@ stands_down config f m none s = record {
 }
 
 -- whether it is up
-is_up_as : (config : Config) (f : FlooredParts) (m : NodeState) → FlooredStands config f m → is_some f.node.role ≡ m.up
+pub is_up_as : (config : Config) (f : FlooredParts) (m : NodeState) → FlooredStands config f m → is_some f.node.role ≡ m.up
 is_up_as config f m s =
     stands_up s.from f.node.who f.node.rows f.node.held f.node.role s.few s.is.stands
     ∙ up_alike s.from config f.node.who f.floor s.few m s.above

@@ -26,6 +26,7 @@ use Rattle.protocol.specs.Nodes.{restart_outcome}
 use Rattle.protocol.specs.Tables.{table}
 use Rattle.resource_manager.specs.Compacted.{beginning_with, shorter_entries}
 use Rattle.resource_manager.specs.Left.{AreAlike}
+use Rattle.resource_manager.proofs.Shortened.{plays_over}
 use Rattle.forgetting.specs.Above.{CameAlike, StandsAbove}
 use Rattle.forgetting.proofs.Coming as coming
 use Rattle.node_core.specs.declared.role.Role.{Role}
@@ -36,7 +37,7 @@ use Rattle.node_core.specs.Shorter.{shorter_record}
 use Rattle.node_core.proofs.Loading.{frames_stored, holds_again, same_holds}
 use Rattle.node_core.proofs.Restarting.{same_contents}
 use Rattle.node_core.proofs.Risen.{sized_alike}
-use Rattle.node_core.proofs.Starting.{begun_plays, begun_rows, manager_plays}
+use Rattle.node_core.proofs.Starting.{begun_plays, begun_rows}
 use Rattle.floors.specs.Worlds.{FlooredWorld, Machine}
 use Rattle.floored.specs.Nodes.{FlooredParts, FlooredStands}
 use Rattle.floored.specs.Told.{told_at}
@@ -104,7 +105,7 @@ module _ (from config : Config) where
   shorter_again (L l) own other None all facts alike means has same more play = refl
   shorter_again (R rm) own other None all facts alike means has same more play =
       ap (λ (c : Config). shorter_record c (R rm) (facts ++ more)) (alike_begun from config rm other alike)
-      ∙ same.shorter more (manager_plays (beginning_with config rm other) (beginning_with from rm other) rm [] (facts ++ more) ∙ play)
+      ∙ same.shorter more (plays_over (beginning_with config rm other) (beginning_with from rm other) rm [] (facts ++ more) ∙ play)
       ∙ ap (λ (rows : List Row). shorter_entries (table rows (facts ++ more)) (facts ++ more)) (own_rows from config rm own has)
   shorter_again (R rm) own other (Some rows) all facts alike means has same more play = refl
   shorter_again (A a) own other (Some rows) all facts alike means has same more play = absurd means

@@ -1,7 +1,7 @@
 -- What is prepared, and every branch, is below no floor of a resource manager; and no floor of a node that wasn't replaced is above one of
 -- a resource manager.
-use Rattle.std.proofs.Common.{◌≡◌, inl, inr, ◌∙◌, ℕ, zero, suc, ◌+◌, ◌<◌, Bool, true, false, not, ◌==◌, if◌then◌else◌}
-use Rattle.std.proofs.Common.{List, [], ◌∷◌, Option, Some, None, refl, sym, ap, subst, nat_lt, arith}
+use Rattle.std.proofs.Common.{◌≡◌, inl, inr, ◌∙◌, ℕ, ◌+◌, ◌<◌, Bool, true, false, not, ◌==◌, if◌then◌else◌}
+use Rattle.std.proofs.Common.{List, [], Option, Some, None, refl, sym, ap, subst, nat_lt, arith}
 use Rattle.std.specs.Prelude.{slice_get, map, length}
 use Rattle.std.specs.List.{list_all, range_with_len}
 use Rattle.std.specs.Option.{option_and_then}
@@ -29,7 +29,8 @@ use Rattle.protocol.specs.Worlds.{outcome_result, at_node}
 use Rattle.protocol.proofs.Lists.{all_found, filter_keeps, filter_map_gives, IsIn-append, IsIn-map, IsIn-mapped}
 use Rattle.protocol.proofs.Manager.Views.{prepared_shows}
 use Rattle.xid.specs.Places.{Place, tx_place, is_lower, is_below, is_xid_below}
-use Rattle.safety.proofs.World.Changes.{compact_keeps}
+use Rattle.safety.proofs.World.Changes.{compact_keeps, restart_keeps}
+use Rattle.safety.proofs.World.Events.{slice_among}
 use Rattle.progress.proofs.Accepting.{number_among}
 use Rattle.floors.specs.Nodes.{Rise, floor_after, floored_node_step, is_free_below, on_raise, on_least, may_replace, is_unread}
 use Rattle.floors.specs.Worlds.{FlooredWorld, FlooredEvent, FlooredResult, Notice, Machine, Raise, Hear, Replace, at_floored_node}
@@ -42,7 +43,7 @@ use Rattle.floors.specs.Runs.{IsFlooredReachable, Opening, After, floored_openin
 use Rattle.xid.proofs.Places.{not_lower, not_lower_self, not_below_none}
 use Rattle.floors.proofs.Order.{higher_bound, least_is}
 use Rattle.floors.proofs.Rising.{IsRisen, raise_is, least_rise, not_sunk, entry_by, entry_own, found_after}
-use Rattle.floors.proofs.Nodes.{IsAboveFloor, kept_above, input_above, step_above, restart_keeps, restart_forgets}
+use Rattle.floors.proofs.Nodes.{IsAboveFloor, kept_above, input_above, step_above, restart_forgets}
 use Rattle.floors.proofs.Nodes.{compact_memory}
 
 -- ---- a node through an event
@@ -469,11 +470,6 @@ replace_keeps config world above who place fault =
     (floor_after (world.floor who) place fault) (is_put fault) (unput_floor (world.floor who) place fault))
     (λ used. cond_both (is_unread node fault) _ world (IsAbove config) (λ unread. lost_above config world above who) (λ told. above))))
 
-got_in : {X : Type 0} (xs : List X) (n : ℕ) (x : X) → slice_get xs n ≡ Some x → IsIn xs x
-got_in [] n x e = absurd (cc (e))
-got_in (y ∷ xs) zero x e = let same : y ≡ x = cc (e) in inl same
-got_in (y ∷ xs) (suc n) x e = inr (got_in xs n x e)
-
 step_keeps : (config : Config) (world : FlooredWorld) → IsAbove config world → (event : FlooredEvent) (fault : Fault)
     → IsAbove config (floored_step config world event fault).world
 step_keeps config world above event NoMemoryBefore = above
@@ -481,7 +477,7 @@ step_keeps config world above (Machine event) fault = machine_above config world
 step_keeps config world above (Raise who place) fault = raise_keeps config world above who place fault
 step_keeps config world above (Hear n) fault =
     found_after world (IsAbove config) above (slice_get world.notices n) (hear_at config world fault)
-    (λ notice is. hear_keeps config world above notice (got_in world.notices n notice is) fault)
+    (λ notice is. hear_keeps config world above notice (slice_among world.notices n notice is) fault)
 step_keeps config world above (Replace who place) fault = replace_keeps config world above who place fault
 
 pub above_ever : (config : Config) (world : FlooredWorld) → IsFlooredReachable config world → IsAbove config world

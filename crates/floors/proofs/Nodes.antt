@@ -23,19 +23,18 @@ use Rattle.protocol.specs.declared.states.BranchState.{BranchState}
 use Rattle.protocol.specs.Vocabulary.{NodeId, R, Action, Start, Put, Del, Get, End, EndFail, Rollback, Refused}
 use Rattle.protocol.specs.Branches.{is_done}
 use Rattle.protocol.specs.Effects.{Config, Effect, is_inside}
-use Rattle.protocol.specs.Facts.{view, is_vote_of, is_commit_of, is_abort_of, is_open_view, is_prepared_view}
+use Rattle.protocol.specs.Facts.{view, is_open_view, is_prepared_view}
 use Rattle.protocol.specs.Tables.{table}
 use Rattle.protocol.specs.Managers.{Branch, StoredVotes, stored_votes, branch_after, branches_without, after_call, first_vote, idle_keys}
 use Rattle.protocol.specs.Managers.{on_manager_message, on_call}
 use Rattle.protocol.specs.Nodes.{NodeState, Memory, empty_memory, Input, Asked, Received, ReceivedNoise, Fault, NoMemoryAt, RecordFails}
 use Rattle.protocol.specs.Nodes.{Outcome, accepts_input, effect_of, first_rows, is_message_inside, node_step, answer_outcome, down_answer}
 use Rattle.protocol.specs.Nodes.{effect_outcome, restart_outcome, compact_outcome, all_play}
-use Rattle.protocol.proofs.Kept.Facts.{other_abort, other_commit, other_vote}
 use Rattle.protocol.proofs.Lists.{IsIn-mapped, IsIn-push, filter_kept}
 use Rattle.protocol.proofs.Manager.Keys.{changed_name}
 use Rattle.safety.proofs.World.Outcomes.{step_is}
 use Rattle.xid.specs.Places.{Place, is_below, is_xid_below}
-use Rattle.safety.proofs.World.Changes.{any_same}
+use Rattle.safety.proofs.World.Changes.{view_other}
 use Rattle.floors.specs.Nodes.{floored_node_step, is_passed_over, is_input_below, forgotten_answer}
 use Rattle.floors.proofs.About.{IsOn, effect_about, on_above}
 
@@ -97,16 +96,6 @@ module _ (config : Config) (who : NodeId) (floor : Option Place) (node : NodeSta
 or_none : (b : Bool) → (b || false) ≡ b
 or_none true = refl
 or_none false = refl
-
--- a fact of another transaction leaves the view
-view_other : (facts : List Fact) (fact : Fact) (tx : TxParts) → tx_eq tx (fact_tx fact) ≡ false
-    → view (facts ++ fact ∷ []) tx ≡ view facts tx
-view_other facts fact tx e = λ i.
-    if any_same (is_vote_of tx votes.Aborted) facts fact (other_vote tx votes.Aborted fact e) i
-    || any_same (is_abort_of tx) facts fact (other_abort tx fact e) i then views.Aborted
-    else if any_same (is_commit_of tx) facts fact (other_commit tx fact e) i then views.Committed
-    else if any_same (is_vote_of tx votes.Prepared) facts fact (other_vote tx votes.Prepared fact e) i then views.Prepared
-    else views.Working
 
 -- ---- views
 
@@ -278,13 +267,6 @@ module _ (config : Config) (rm : ℕ) (floor : Option Place) (node : NodeState) 
           (step_above input fault e)
 
 -- ---- other events keep facts
-
-pub restart_keeps : (config : Config) (who : NodeId) (node : NodeState) (fault : Fault)
-    → (restart_outcome config who node fault).node.facts ≡ node.facts
-restart_keeps config who node NoMemoryAt = refl
-restart_keeps config who node (RecordFails whole) = refl
-restart_keeps config who node fault =
-    cond_both (all_play config who [] node.facts) _ _ (λ (left : Outcome). left.node.facts ≡ node.facts) (λ plays. refl) (λ damaged. refl)
 
 pub restart_forgets : (config : Config) (who : NodeId) (node : NodeState) (fault : Fault)
     → (restart_outcome config who node fault).node.memory ≡ empty_memory

@@ -21,6 +21,7 @@ use Rattle.acceptor.proofs.Begun.{begun_taken, taken, unbegun_empty}
 use Rattle.leader.proofs.Compacting.{no_ballot, some_ballot}
 use Rattle.floors.specs.Nodes.{is_unused_above}
 use Rattle.floors.specs.Worlds.{is_manager}
+use Rattle.resource_manager.proofs.Floors.{same_test}
 use Rattle.forgetting.specs.Above.{StandsAbove}
 
 -- ---- a fact about a transaction
@@ -75,12 +76,6 @@ module _ (place : Place) where
           let found = found_above ys e in
           absurd (apart found.tx found.above found.used (none_above xs each found.tx found.above))
 
-same_tests : (a b : Bool) → (a ≡ true → b ≡ true) → (b ≡ true → a ≡ true) → a ≡ b
-same_tests true true there back = refl
-same_tests true false there back = sym (there refl)
-same_tests false true there back = back refl
-same_tests false false there back = refl
-
 -- ---- an acceptor's slots, a leader's ballots
 
 none_taken : (slots : ℕ → Slot) → ((i : ℕ) → slots i ≡ empty_slot) → (is : List ℕ) → list_any (λ i. taken (slots i)) is ≡ false
@@ -113,13 +108,13 @@ module _ (from config : Config) (floor : Option Place) (place : Place) (few all 
   pub use_known : (who : NodeId) → StandsAbove from config who floor few all → is_manager who ≡ false
       → is_unused_above place few ≡ is_unused_above place all
   use_known (A a) stands other =
-      same_tests (is_unused_above place few) (is_unused_above place all)
+      same_test (is_unused_above place few) (is_unused_above place all)
       (no_more place few.facts all.facts (λ tx above. slots_tell config a few.facts all.facts stands.all_play_too tx
       (stands.says tx (still_above tx above))))
       (no_more place all.facts few.facts (λ tx above. slots_tell from a all.facts few.facts stands.few_play tx
       (sym (stands.says tx (still_above tx above)))))
   use_known (L l) stands other =
-      same_tests (is_unused_above place few) (is_unused_above place all)
+      same_test (is_unused_above place few) (is_unused_above place all)
       (no_more place few.facts all.facts (λ tx above. ballots_tell config l few.facts all.facts stands.all_play_too tx
       (stands.says tx (still_above tx above))))
       (no_more place all.facts few.facts (λ tx above. ballots_tell from l all.facts few.facts stands.few_play tx

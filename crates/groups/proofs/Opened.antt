@@ -68,6 +68,7 @@ shorter_again config (R rm) own other (Some rows) all facts means has same more 
 shorter_again config (A a) own other (Some rows) all facts means has same more play = absurd means
 shorter_again config (L l) own other (Some rows) all facts means has same more play = absurd means
 
+-- first rows of one manager leave the sizes of a cluster
 pub sizes_of : (config : Config) (who : NodeId) (rows : Option (List Row)) (sizes : Sizes) → AreSizes (cluster_of config who rows) sizes
     → AreSizes config sizes
 sizes_of config who None sizes are = are

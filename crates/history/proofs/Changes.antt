@@ -21,7 +21,6 @@ use Rattle.protocol.specs.Nodes.{Input}
 use Rattle.protocol.specs.Worlds.{view_number, change_of}
 use Rattle.protocol.proofs.Manager.Views.{casts_decides, aborts_decides, prepared_shows}
 use Rattle.protocol.proofs.Manager.Effects.{IsManagerFact}
-use Rattle.protocol.proofs.Kept.Facts.{other_vote, other_commit, other_abort}
 use Rattle.safety.proofs.World.Changes.{change_by, last_is}
 use Rattle.history.specs.Lines.{view_stored, change_stored}
 
@@ -82,7 +81,8 @@ open_differs views.Working e = refl
 open_differs views.Prepared e = refl
 open_differs other e = absurd (cc (e))
 
-prepared_is : (v : View) → is_prepared_view v ≡ true → v ≡ views.Prepared
+-- a view that is prepared by the test is Prepared
+pub prepared_is : (v : View) → is_prepared_view v ≡ true → v ≡ views.Prepared
 prepared_is views.Prepared e = refl
 prepared_is other e = absurd (cc (e))
 
@@ -130,19 +130,6 @@ changes_view rm facts branches input (stored.Aborted tx) rule =
       differs = open_differs (view facts tx) rule.1.opens;
     }
 changes_view rm facts branches input fact rule = absurd rule
-
--- a fact of another transaction leaves the view
-pub view_other : (facts : List Fact) (fact : Fact) (tx : TxParts) → tx_eq tx (fact_tx fact) ≡ false
-    → view (facts ++ fact ∷ []) tx ≡ view facts tx
-view_other facts fact tx e =
-    view_then facts fact tx
-    ∙ (λ i. shown (same (any_vote votes.Aborted facts tx) (is_vote_of tx votes.Aborted fact) (other_vote tx votes.Aborted fact e) i)
-    (same (list_any (is_abort_of tx) facts) (is_abort_of tx fact) (other_abort tx fact e) i)
-    (same (list_any (is_commit_of tx) facts) (is_commit_of tx fact) (other_commit tx fact e) i)
-    (same (any_vote votes.Prepared facts tx) (is_vote_of tx votes.Prepared fact) (other_vote tx votes.Prepared fact e) i))
-  where
-    same : (a b : Bool) → b ≡ false → (a || b) ≡ a
-    same a b none = ap (λ (c : Bool). a || c) none ∙ or_none a
 
 pub change_said : (rm : ℕ) (facts : List Fact) (fact : Fact) → IsViewChange facts fact
     → change_of (R rm) facts (facts ++ fact ∷ []) ≡ Some (change_stored rm fact)

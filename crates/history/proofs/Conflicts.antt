@@ -32,10 +32,11 @@ use Rattle.protocol.proofs.Manager.Played.{voted_named}
 use Rattle.protocol.proofs.Manager.Prepared.{bound_apart}
 use Rattle.protocol.proofs.Manager.Views.{unended, unvoted, view_is}
 use Rattle.safety.proofs.World.Reachable.{committed_finds, consistent}
+use Rattle.safety.proofs.World.Changes.{view_other}
 use Rattle.history.specs.Lines.{change_here, change_stored, view_stored}
 use Rattle.history.specs.SerialOrder.{commit_said, with_commit, first_commits}
 use Rattle.history.specs.Writes.{is_committed_view, changed_to}
-use Rattle.history.proofs.Changes.{changes_view, view_other}
+use Rattle.history.proofs.Changes.{changes_view}
 use Rattle.history.proofs.Moves.{manager_in, branches_of, IsMove, Quiet, Restarted, Called, Stored, IsStored, event_moved}
 use Rattle.history.proofs.Runs.{IsRun, AtFirst, Then, reached, facts_in, new_manager}
 use Rattle.history.proofs.Told.{sound}

@@ -38,7 +38,8 @@ marked_lines n (d ∷ net) zero = refl
 marked_lines n (d ∷ net) (suc zero) = refl
 marked_lines n (d ∷ net) (suc (suc k)) = ap (λ (rest : List Sent). line_of n d ∷ rest) (marked_lines (suc n) net (suc k))
 
-marked_length : (net : List Datagram) (k : ℕ) → length (mark_at net k) ≡ length net
+-- a mark leaves how many datagrams there are
+pub marked_length : (net : List Datagram) (k : ℕ) → length (mark_at net k) ≡ length net
 marked_length [] k = refl
 marked_length (d ∷ net) zero = refl
 marked_length (d ∷ net) (suc zero) = refl
@@ -118,7 +119,8 @@ event_sent config world event fault = dispatch_sent config world event fault
 
 -- ---- runs
 
-sent_more : (step : Step) (before : List Step) → sent_lines (reverse (step ∷ before)) ≡ sent_lines (reverse before) ++ step.sent
+-- the datagrams of one step more
+pub sent_more : (step : Step) (before : List Step) → sent_lines (reverse (step ∷ before)) ≡ sent_lines (reverse before) ++ step.sent
 sent_more step before =
     ap sent_lines (reverse-append (step ∷ []) before) ∙ joined (reverse before)
   where

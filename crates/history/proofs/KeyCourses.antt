@@ -21,6 +21,7 @@ use Rattle.protocol.specs.Facts.{Bound, is_prepared_view, is_open_view, is_vote_
 use Rattle.protocol.specs.Managers.{Branch, act_on, has_key, view_named}
 use Rattle.protocol.specs.Nodes.{NodeState, Input}
 use Rattle.protocol.specs.Tables.{commit_of}
+use Rattle.safety.proofs.World.Changes.{view_other}
 use Rattle.branch_table.proofs.Views.{view_of}
 use Rattle.protocol.specs.Holds.{IsIn}
 use Rattle.safety.specs.Laws.{IsViewOf}
@@ -33,7 +34,7 @@ use Rattle.protocol.proofs.Manager.Views.{view_is}
 use Rattle.history.specs.Calls.{is_restart}
 use Rattle.history.specs.Lines.{change_stored}
 use Rattle.history.specs.LookingBack.{is_name_at, is_rollback, touched_keys, branch_by, done_at, actions_since}
-use Rattle.history.proofs.Changes.{changes_view, view_other, is_new_by, new_is_working}
+use Rattle.history.proofs.Changes.{changes_view, is_new_by, new_is_working}
 use Rattle.history.proofs.Conflicts.{commits_in, commit_stored, stored_commit, open_before}
 use Rattle.protocol.proofs.DoneCalls.{IsReadyFor}
 use Rattle.history.proofs.HeldOnce.{listed_or_none}

@@ -114,6 +114,7 @@ facts_are_lines config events rm =
     ∙ ap (λ (node : NodeState). map (change_stored rm) node.facts ++ changes_at rm (trace config (opening config) events))
     (sym (new_manager config rm))
 
+-- the changes of one step more, the newest last
 pub reverse_more : (o : Option Change) (changes : List Change) → reverse (cons_option o changes) ≡ reverse changes ++ cons_option o []
 reverse_more None changes = sym (append-nil (reverse changes))
 reverse_more (Some change) changes = reverse-append (change ∷ []) changes

@@ -110,6 +110,7 @@ looked_up_not facts t keys h e =
 
 -- ---- the answer of a get
 
+-- a get that is done was answered by an active branch, which nobody hindered
 pub done_inside : (key : List ℕ) (s : Option BranchState) (busy room : Bool) (answer : Answer)
     → is_done (Get key) (by_state s (Code codes.Nota) (if busy then Refused Busy else if room then answer else Refused Full)
     (Code codes.Proto)) ≡ true
@@ -122,6 +123,7 @@ done_inside key (Some Idle) busy room answer e = absurd (cc (e))
 done_inside key (Some RollbackOnly) busy room answer e = absurd (cc (e))
 done_inside key (Some Prepared) busy room answer e = absurd (cc (e))
 
+-- a get that is done has a key that fits
 pub fitting : (key : List ℕ) (fits : Bool) (inner answer : Answer) → (is_done (Get key) inner ≡ true → inner ≡ answer)
     → is_done (Get key) (if fits then inner else Code codes.Inval) ≡ true → (if fits then inner else Code codes.Inval) ≡ answer
 fitting key true inner answer each e = each e

@@ -25,7 +25,7 @@ use Rattle.protocol.specs.Holds.{IsIn}
 use Rattle.safety.specs.Laws.{IsViewOf}
 use Rattle.protocol.proofs.Lists.{filter_kept, filter_keeps, filter_map_given, found_among}
 use Rattle.protocol.proofs.Manager.Apart.{bound_is}
-use Rattle.protocol.proofs.Manager.Keys.{names_name}
+use Rattle.protocol.proofs.Manager.Keys.{names_name, written_touched}
 use Rattle.protocol.proofs.Manager.Played.{voted_named}
 use Rattle.protocol.proofs.Manager.Effects.{name_names}
 use Rattle.protocol.proofs.Manager.Views.{view_is}
@@ -37,18 +37,10 @@ use Rattle.history.proofs.Conflicts.{AreOrdered, Clash, commits_in, stored_commi
 use Rattle.history.proofs.Kept.{IsKept, kept_ever}
 use Rattle.history.proofs.Moves.{manager_in}
 use Rattle.history.proofs.Orders.{IsFirst, first_is, is_first, once_filter, first_filtered, same_order}
-use Rattle.branch_table.proofs.TableRows.{AscendRows, writes_ascend, first_ascend, keys_there, same_rows, untouched}
+use Rattle.branch_table.proofs.TableRows.{AscendRows, writes_ascend, first_ascend, keys_there, same_rows}
 use Rattle.history.proofs.Runs.{IsRun, lines_back}
 use Rattle.history.proofs.TablesBack.{IsVoteFound, vote_found, voted_found, writes_by, all_back, order_back}
 use Rattle.history.proofs.Told.{IsSound, IsTold, sound, told_ever}
-
--- a key that was written was touched
-pub written_touched : (keys : List Touched) (key : List ℕ) → is_write (act_on keys key) ≡ true → has_key key keys ≡ true
-written_touched keys key e = by_test (has_key key keys) refl
-  where
-    by_test : (b : Bool) → has_key key keys ≡ b → has_key key keys ≡ true
-    by_test true is = is
-    by_test false is = absurd (cc (ap is_write (untouched keys key is), e))
 
 only_read : (act : Act) (value : Option (List ℕ)) → is_write act ≡ false → value_after act value ≡ value
 only_read Act.Read value e = refl

@@ -1,8 +1,8 @@
 -- Tests on names, numbers and lists.
-use Rattle.std.proofs.Common.{◌≡◌, ◌∙◌, ℕ, Bool, true, false, ◌&&◌, ◌||◌, ◌==◌, List, [], ◌∷◌, Option, Some, None, sym, ap, refl, inl, inr}
+use Rattle.std.proofs.Common.{◌≡◌, ◌∙◌, ℕ, Bool, true, false, ◌&&◌, ◌||◌, ◌==◌, List, [], ◌∷◌, Option, None, sym, ap, refl, inl, inr}
 use Rattle.std.specs.Prelude.{cond, filter, filter_map}
 use Rattle.std.specs.List.{list_any, cons_option}
-use Rattle.std.proofs.lemmas.Bool.{false≢true, eqb-true, eqb-false, eq-eqb, cases_Bool}
+use Rattle.std.proofs.lemmas.Bool.{eqb-true, eqb-false, eq-eqb, cases_Bool}
 use Rattle.xid.specs.Transactions.{TxParts, tx_eq}
 use Rattle.xid.proofs.Deciding.{tx_decides}
 
@@ -28,23 +28,7 @@ nat_turned a b = elim (cases_Bool (a == b)) [
   | inr h ↦ h ∙ sym (is_false (b == a) (λ e. eqb-false a b h (sym (eqb-true b a e))))
 ]
 
--- another transaction is another the other way round, too
-pub other_turned : (a b : TxParts) → tx_eq a b ≡ false → tx_eq b a ≡ false
-other_turned a b h = is_false (tx_eq b a) (λ e. false≢true (sym h ∙ (tx_decides a b).1 (sym (same_tx b a e))))
-
-pub same_some : {X : Type 0} (x y : X) → Some x ≡ Some y → x ≡ y
-same_some x y e = ap (λ o. some_or x o) e
-  where
-    some_or : {X : Type 0} → X → Option X → X
-    some_or d None = d
-    some_or d (Some z) = z
-
 -- ---- and
-
-pub and_false_2 : (x y : Bool) → (x && (y && false)) ≡ false
-and_false_2 true true = refl
-and_false_2 true false = refl
-and_false_2 false y = refl
 
 pub and_false_3 : (x y z : Bool) → (x && y && (z && false)) ≡ false
 and_false_3 true true true = refl

@@ -9,6 +9,7 @@ use Rattle.std.proofs.lemmas.List.{append-nil}
 use Rattle.std.proofs.lemmas.List.Sums.{sum_by-cons}
 use Rattle.std.proofs.lemmas.Map.Keys.{IsDistinct-head, IsDistinct-tail}
 use Rattle.xid.specs.Transactions.{TxParts, tx_eq}
+use Rattle.transactions.proofs.Before.{turned}
 use Rattle.ballot.specs.Ballots.{owner_of}
 use Rattle.ballot.specs.Greatest.{greatest}
 use Rattle.stable_record.specs.declared.fact.FactKind.{FactKind as Fact}
@@ -25,7 +26,7 @@ use Rattle.protocol.specs.Nodes.{plays, all_play}
 use Rattle.protocol.proofs.Manager.Played.{all_play_then}
 use Rattle.leader.specs.Leaders.{LeaderParts, StandsForBallots, StandsFor, course_of, begun_in}
 use Rattle.leader.specs.Compaction.{ballot_facts, compacted, shorter_facts, IsCompacted}
-use Rattle.leader.proofs.Basics.{same_tx, tx_self, other_turned}
+use Rattle.leader.proofs.Basics.{same_tx, tx_self}
 use Rattle.leader.proofs.Leading.{greatest_with, stored_ballot}
 
 -- ---- greatest ballots, with more facts after them
@@ -152,7 +153,7 @@ module _ (config : Config) (number : ℕ) where
             → AllByRecursion (λ y. (tx_eq y tx || done y) ≡ false) ys
         still_new [] each apart = tt
         still_new (y ∷ ys) each apart = (
-          ap (λ t. t || done y) (other_turned tx y apart.0) ∙ each.0,
+          ap (λ t. t || done y) (turned tx y apart.0) ∙ each.0,
           still_new ys each.1 apart.1,
         )
 
@@ -307,7 +308,7 @@ module _ (before after : StoredBallots) (tx : TxParts) (b : ℕ)
     (others : (other : TxParts) → tx_eq other tx ≡ false → after other ≡ before other) where
   others_same : (txs : List TxParts) → AllByRecursion (λ y. tx_eq tx y ≡ false) txs → compacted txs after ≡ compacted txs before
   others_same [] each = refl
-  others_same (y ∷ ys) each = λ k. ballot_facts y (others y (other_turned tx y each.0) k) ++ others_same ys each.1 k
+  others_same (y ∷ ys) each = λ k. ballot_facts y (others y (turned tx y each.0) k) ++ others_same ys each.1 k
 
   grows : (txs : List TxParts) → IsDistinct tx_eq txs
       → length_of (compacted txs after) ≤ length_of (compacted txs before) + frame_length (Fact.Ballot tx b)

@@ -18,11 +18,12 @@ use Rattle.protocol.specs.LeaderMemory.{is_accept_of}
 use Rattle.protocol.specs.LeaderMemory.{ballot_told, is_decided, is_counted, with_heard, with_all_heard, with_met, with_begun}
 use Rattle.protocol.specs.LeaderMemory.{with_proposed, is_phase_1b}
 use Rattle.protocol.specs.PaperItems.{report_messages, accept_messages_of}
+use Rattle.protocol.proofs.Kept.Leaders.{last_false}
 use Rattle.leader.specs.declared.instance.InstanceCourse.{InstanceCourse}
 use Rattle.leader.specs.declared.proposals.Proposal.{Proposal}
 use Rattle.leader.specs.Choices.{best_of}
 use Rattle.leader.specs.Courses.{CourseParts, InstanceStands, CourseStands}
-use Rattle.leader.proofs.Basics.{same_tx, and_false_2, and_false_3, and_false_4, any_of_kept, mapped_of_kept}
+use Rattle.leader.proofs.Basics.{same_tx, and_false_3, and_false_4, any_of_kept, mapped_of_kept}
 
 -- ---- memory answers alike of an instance
 
@@ -113,7 +114,7 @@ no_reporter tx i b a m h = refl
 pub no_report : (tx : TxParts) (i b : ℕ) (m : Kind) → tx_eq tx (message_tx m) ≡ false → message_report tx i b m ≡ None
 no_report tx i b (P1b other j c report from) h =
     ap (λ t. if (b == c) && ((i == j) && t) then Some report else None) h
-    ∙ ap (λ t. if t then Some report else None) (and_false_2 (b == c) (i == j))
+    ∙ ap (λ t. if t then Some report else None) (last_false (b == c) (i == j))
 no_report tx i b m h = refl
 
 pub no_teller : (tx : TxParts) (i b : ℕ) (v : Vote) (a : ℕ) (m : Kind) → tx_eq tx (message_tx m) ≡ false → is_accept_of tx i b v a m ≡ false
@@ -124,7 +125,7 @@ no_teller tx i b v a m h = refl
 pub no_ballot : (tx : TxParts) (i : ℕ) (v : Vote) (m : Kind) → tx_eq tx (message_tx m) ≡ false → ballot_told tx i v m ≡ None
 no_ballot tx i v (P2b other j c w from) h =
     ap (λ t. if vote_eq v w && ((i == j) && t) then Some c else None) h
-    ∙ ap (λ t. if t then Some c else None) (and_false_2 (vote_eq v w) (i == j))
+    ∙ ap (λ t. if t then Some c else None) (last_false (vote_eq v w) (i == j))
 no_ballot tx i v m h = refl
 
 -- heard
@@ -217,7 +218,7 @@ one_proposed tx i b (P2a other j c v) ms = refl
 one_proposed tx i b m ms = refl
 
 pub no_proposal : (tx : TxParts) (i b : ℕ) (m : Kind) → tx_eq tx (message_tx m) ≡ false → is_proposal_of tx i b m ≡ false
-no_proposal tx i b (P2a other j c v) h = ap (λ t. (b == c) && ((i == j) && t)) h ∙ and_false_2 (b == c) (i == j)
+no_proposal tx i b (P2a other j c v) h = ap (λ t. (b == c) && ((i == j) && t)) h ∙ last_false (b == c) (i == j)
 no_proposal tx i b m h = refl
 
 -- the proposals of other transactions that are kept

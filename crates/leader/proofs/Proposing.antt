@@ -9,6 +9,7 @@ use Rattle.xid.specs.Transactions.{TxParts, BranchParts, is_participant, partici
 use Rattle.wire.specs.declared.message.Kind.{Kind}
 use Rattle.wire.specs.declared.message.Kind.TheVariants.{P2a}
 use Rattle.wire.specs.declared.items.InstanceReport.{InstanceReport}
+use Rattle.wire.proofs.Spelled.{some_same}
 use Rattle.ballot.specs.Majority.{has, is_majority}
 use Rattle.protocol.specs.declared.decisions.Address.TheVariants.{Acceptors}
 use Rattle.protocol.specs.Effects.{Config, to}
@@ -20,7 +21,7 @@ use Rattle.leader.specs.Choices.{vote_of}
 use Rattle.leader.specs.Courses.{CourseParts, InstanceStands, CourseStands, instance_proposal, proposal_at, proposals_of, with_proposals}
 use Rattle.leader.specs.Courses.{after_proposals}
 use Rattle.leader.specs.Orders.{proposal_messages, AreOf}
-use Rattle.leader.proofs.Basics.{tx_self, nat_self, nat_turned, same_some}
+use Rattle.leader.proofs.Basics.{tx_self, nat_self, nat_turned}
 use Rattle.leader.proofs.Choosing.{pick_is_best}
 use Rattle.leader.proofs.Elsewhere.{one_proposed, proposal_kinds}
 use Rattle.leader.proofs.Telling.{all_mapped, instances_kept}
@@ -153,7 +154,7 @@ row_proposed n tx b ps memory row now stands = record {
   reporters_are = stands.reporters_are;
   best_is = stands.best_is;
   proposed_is = λ c is. ap (λ t. list_any (λ p. p.instance == row.instance) ps || t) (stands.proposed_is c is)
-      ∙ proposed_more tx row.instance b c ps memory.proposed (ap (λ k. c == k) (same_some b c (sym now ∙ is)) ∙ nat_self c);
+      ∙ proposed_more tx row.instance b c ps memory.proposed (ap (λ k. c == k) (some_same b c (sym now ∙ is)) ∙ nat_self c);
   prepared_is = stands.prepared_is;
   aborted_is = stands.aborted_is;
 }

@@ -10,6 +10,7 @@ use Rattle.xid.specs.declared.transaction.Vote.{Vote}
 use Rattle.wire.specs.declared.message.Kind.{Kind}
 use Rattle.wire.specs.declared.message.Kind.TheVariants.{P1b}
 use Rattle.wire.specs.declared.items.InstanceReport.{InstanceReport}
+use Rattle.wire.proofs.Spelled.{some_same}
 use Rattle.ballot.specs.Majority.{has}
 use Rattle.ballot.specs.Choice.{Report}
 use Rattle.protocol.specs.LeaderMemory.{LeaderMemory, StoredBallots, current, has_reported, message_report, is_accept_of, with_heard}
@@ -18,7 +19,7 @@ use Rattle.protocol.specs.PaperItems.{report_messages}
 use Rattle.leader.specs.declared.instance.InstanceCourse.{InstanceCourse}
 use Rattle.leader.specs.Choices.{merged, best_of}
 use Rattle.leader.specs.Courses.{CourseParts, InstanceStands, CourseStands, joined, with_report, with_reports, after_reports}
-use Rattle.leader.proofs.Basics.{tx_self, nat_self, nat_turned, same_some}
+use Rattle.leader.proofs.Basics.{tx_self, nat_self, nat_turned}
 use Rattle.leader.proofs.Elsewhere.{SameAt, instance_same}
 use Rattle.leader.proofs.Telling.{has_joined, all_mapped, instances_kept}
 
@@ -74,7 +75,7 @@ this_instance n tx b a item memory row same now within stands = record {
 }
   where
     here : (c : ℕ) → current memory tx ≡ Some c → (c == b) ≡ true
-    here c is = ap (λ k. c == k) (same_some b c (sym now ∙ is)) ∙ nat_self c
+    here c is = ap (λ k. c == k) (some_same b c (sym now ∙ is)) ∙ nat_self c
 
     turned : (row.instance == item.instance) ≡ true
     turned = nat_turned row.instance item.instance ∙ same

@@ -4,7 +4,7 @@ use Rattle.std.proofs.Common.{get_or, replicate, Some, None, sym, ap, refl, arit
 use Rattle.std.specs.Prelude.{cond, if◌then◌else◌, filter_map, find, map}
 use Rattle.std.specs.List.{list_any, cons_option, AllByRecursion}
 use Rattle.std.specs.Option.{option_map_or}
-use Rattle.std.proofs.lemmas.Bool.{true≢false, false≢true, and_parts, eqb-true, eqb-false, cases_Bool, ltb-true, lt-ltb}
+use Rattle.std.proofs.lemmas.Bool.{true≢false, false≢true, eqb-true, eqb-false, cases_Bool, ltb-true, lt-ltb}
 use Rattle.std.proofs.lemmas.List.{length-set, get_or-set_same, get_or-set_other}
 use Rattle.xid.specs.Limits.{most_acceptors}
 use Rattle.xid.specs.Transactions.{TxParts, tx_eq}
@@ -217,9 +217,6 @@ not_key false q y z h = refl
 not_ballot : (p y z : Bool) → (p && false && y && z) ≡ false
 not_ballot true y z = refl
 not_ballot false y z = refl
-
-both_true : (y z : Bool) → (y && z) ≡ true → (y ≡ true) × (z ≡ true)
-both_true y z h = and_parts y z h
 
 -- whether what is told is of an instance and value
 abbrev is_here : TxParts → ℕ → Vote → ℕ → Vote → Bool

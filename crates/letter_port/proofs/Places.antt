@@ -1,10 +1,10 @@
 -- Each node of a cluster stands in one place, and each place has one node. So what is put into the letter in a place is for its node alone.
-use Rattle.std.proofs.Common.{◌≡◌, ◌≢◌, ◌∙◌, ℕ, ◌+◌, ◌-◌, Bool, true, false, ltb, if◌then◌else◌, [], Option, Some, None}
-use Rattle.std.proofs.Common.{refl, sym, ap, eqb-true}
+use Rattle.std.proofs.Common.{◌≡◌, ◌≢◌, ◌∙◌, ℕ, ◌+◌, Bool, true, false, ltb, if◌then◌else◌, [], Option, Some, None}
+use Rattle.std.proofs.Common.{refl, sym, ap}
 use Rattle.protocol.specs.declared.nodes.NodeId.{NodeId}
 use Rattle.protocol.specs.declared.nodes.NodeId.TheVariants.{A, L, R}
 use Rattle.protocol.specs.Worlds.{place}
-use Rattle.floors.proofs.Places.{self_node}
+use Rattle.floors.proofs.Places.{self_node, node_is}
 use Rattle.node_core.specs.Configs.{config_by, is_among}
 use Rattle.node_core.specs.declared.config.Sizes.{Sizes}
 use Rattle.floors.specs.Worlds.{is_node}
@@ -21,18 +21,6 @@ isnt_there sizes (A a) e = if_none (ltb a sizes.acceptors) a e
 isnt_there sizes (L l) e = if_none (ltb l sizes.leaders) (sizes.acceptors + l) e
 isnt_there sizes (R rm) e = if_none (ltb rm sizes.managers) (sizes.acceptors + sizes.leaders + rm) e
 
--- nodes that are the same by the test are one
-pub same_is_one : (a b : NodeId) → is_node a b ≡ true → a ≡ b
-same_is_one (A a) (A b) e = ap A (eqb-true a b e)
-same_is_one (L a) (L b) e = ap L (eqb-true a b e)
-same_is_one (R a) (R b) e = ap R (eqb-true a b e)
-same_is_one (A a) (L b) e = absurd (cc)
-same_is_one (A a) (R b) e = absurd (cc)
-same_is_one (L a) (A b) e = absurd (cc)
-same_is_one (L a) (R b) e = absurd (cc)
-same_is_one (R a) (A b) e = absurd (cc)
-same_is_one (R a) (L b) e = absurd (cc)
-
 -- two nodes don't stand in one place
 pub places_differ : (sizes : Sizes) (a b : NodeId) (x y : ℕ) → place (config_by sizes []) a ≡ Some x → place (config_by sizes []) b ≡ Some y
     → is_node a b ≡ false → y ≢ x
@@ -48,5 +36,5 @@ places_differ sizes a b x y at_a at_b other =
 pub places_agree : (sizes : Sizes) (a b : NodeId) (x y : ℕ) → place (config_by sizes []) a ≡ Some x → place (config_by sizes []) b ≡ Some y
     → is_node a b ≡ true → y ≡ x
 places_agree sizes a b x y at_a at_b same =
-    let both : ◌≡◌ {A = Option ℕ} (Some y) (Some x) = sym at_b ∙ ap (place (config_by sizes [])) (sym (same_is_one a b same)) ∙ at_a in
+    let both : ◌≡◌ {A = Option ℕ} (Some y) (Some x) = sym at_b ∙ ap (place (config_by sizes [])) (sym (node_is a b same)) ∙ at_a in
     cc (both)

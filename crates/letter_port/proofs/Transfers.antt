@@ -15,7 +15,7 @@ use Rattle.wire.specs.Grammar.{spelling}
 use Rattle.wire.specs.Notices.{notice_spelling}
 use Rattle.protocol.specs.declared.nodes.NodeId.{NodeId}
 use Rattle.protocol.specs.Worlds.{Datagram, place}
-use Rattle.floors.proofs.Places.{self_node}
+use Rattle.floors.proofs.Places.{self_node, node_is}
 use Rattle.node_core.specs.Configs.{config_by, is_among}
 use Rattle.node_core.specs.declared.config.Sizes.{Sizes}
 use Rattle.floors.specs.Worlds.{Notice, is_node}
@@ -28,7 +28,6 @@ use Rattle.letter_port.specs.Mails.{GoesInLetters, MayBePosted, Mail, Posted, Se
 use Rattle.letter_port.specs.Mails.{posted_to}
 use Rattle.letter_port.specs.Outboxes.{AllGo, Dispatched, Encloses, Loses, MakesRoom, OutboxSent, Puts, letter_in}
 use Rattle.letter_port.proofs.Places.{isnt_there, places_agree, places_differ}
-use Rattle.letter_port.proofs.Places.{same_is_one}
 use Rattle.letter_port.proofs.Posting.{each_then, letters_are, letters_then, mail_is, mail_then, posted_then}
 
 -- what was begun for each node: what its letter has
@@ -68,7 +67,7 @@ holds_others : (sizes : Sizes) (begun : Begun) (node : NodeId) (messages : List 
     → (who : NodeId) → is_among (config_by sizes []) who ≡ false → (test : Bool) → is_node node who ≡ test
     → begun_with node messages begun who ≡ []
 holds_others sizes begun node messages among others who out true same =
-    let both : true ≡ false = sym among ∙ ap (is_among (config_by sizes [])) (same_is_one node who same) ∙ out in
+    let both : true ≡ false = sym among ∙ ap (is_among (config_by sizes [])) (node_is node who same) ∙ out in
     absurd (cc)
 holds_others sizes begun node messages among others who out false other = with_test node messages begun who false other ∙ others who out
 
@@ -150,14 +149,14 @@ module _ {P : Type 0} (Sent : Sending P) (sizes : Sizes) where
       → [] ++ begun_with node [] begun who ≡ begun who ++ []
   exact_none node begun who none true is =
       with_test node [] begun who true is
-      ∙ sym (ap (λ xs. xs ++ []) (ap begun (sym (same_is_one node who is)) ∙ none))
+      ∙ sym (ap (λ xs. xs ++ []) (ap begun (sym (node_is node who is)) ∙ none))
   exact_none node begun who none false is = with_test node [] begun who false is ∙ sym (append-nil (begun who))
 
   -- where it had something, that went
   exact_one : (node : NodeId) (begun : Begun) (who : NodeId) (test : Bool) → is_node node who ≡ test
       → posted_to who (record { receiver = node; messages = begun node } ∷ []) ++ begun_with node [] begun who ≡ begun who ++ []
   exact_one node begun who true is =
-      rw (is) (append-nil (begun node ++ []) ∙ ap (λ xs. xs ++ []) (ap begun (same_is_one node who is)))
+      rw (is) (append-nil (begun node ++ []) ∙ ap (λ xs. xs ++ []) (ap begun (node_is node who is)))
   exact_one node begun who false is = rw (is) (sym (append-nil (begun who)))
 
   emptied_by : (at : ℕ) (begun : Begun) (old new : Outbox P) → old.sizes ≡ sizes → at < node_count sizes
@@ -226,7 +225,7 @@ module _ {P : Type 0} (Sent : Sending P) (sizes : Sizes) where
       → (test : Bool) → is_node node who ≡ test
       → [] ++ begun_with node (begun node ++ bytes ∷ []) begun who
       ≡ begun who ++ mail_to sizes who (record { receiver = node; bytes = bytes } ∷ [])
-  exact_put node bytes begun who may true is = rw (is, may) (ap (λ (w : NodeId). begun w ++ bytes ∷ []) (same_is_one node who is))
+  exact_put node bytes begun who may true is = rw (is, may) (ap (λ (w : NodeId). begun w ++ bytes ∷ []) (node_is node who is))
   exact_put node bytes begun who may false is = rw (is) (sym (append-nil (begun who)))
 
   put : (node : NodeId) (at : ℕ) (bytes : List ℕ) (begun : Begun) (old new : Outbox P)

@@ -11,26 +11,16 @@ use Rattle.wire.specs.Reading.{number_at}
 use Rattle.wire.specs.Versions.{version_2, version_of}
 use Rattle.wire.specs.declared.grammar.VersionNumber.{VersionNumber}
 use Rattle.wire.specs.declared.grammar.VersionNumber.TheVariants.{First, Second}
-use Rattle.wire.specs.Grammar.{number_spelling}
-use Rattle.wire.proofs.Fields.{number_again}
 use Rattle.wire.proofs.Spelled.{some_same}
 use Rattle.stable_record.specs.declared.entry.EntryKind.{EntryKind as Entry}
 use Rattle.stable_record.specs.Entries.{IsEntry, IsEntryIn}
 use Rattle.stable_record.specs.Grammar.{IsStored, IsTail, frame, body_spelling}
 use Rattle.stable_record.specs.Held.{Held, HasPut}
 use Rattle.stable_record.specs.Written.{AreWritten}
-use Rattle.stable_record.proofs.Framed.{short_tail, tail_unframed, stored_same}
-use Rattle.stable_record.proofs.Lengths.{body_few, entry_in_version_2}
+use Rattle.stable_record.proofs.Framed.{short_tail, tail_unframed, stored_same, frame_head}
+use Rattle.stable_record.proofs.Lengths.{entry_in_version_2}
 use Rattle.stable_record.proofs.Written.{adds_one}
 use Rattle.node_core.specs.Opening.{frames_of, IsReplaced, Rewrites}
-
--- what is taken at the front of a frame: the length of its body, and the body with what follows
-head_taken : (v : VersionNumber) (e : Entry) (rest : List ℕ) → IsEntryIn (version_of v) e
-    → number_at (frame (version_of v) e ++ rest) ≡ Some (length (body_spelling (version_of v) e), body_spelling (version_of v) e ++ rest)
-head_taken v e rest is =
-    let n : ℕ = length (body_spelling (version_of v) e) in
-    ap number_at (append_assoc (number_spelling n) (body_spelling (version_of v) e) rest)
-    ∙ number_again n (body_spelling (version_of v) e ++ rest) (omega (arith, body_few v e is))
 
 -- bytes hold the frames of version 2 of some entries, and then the rest, which hold the others
 pub record IsCurrentUpTo (bytes rest : List ℕ) (all : List Entry) : Type 0 where
@@ -62,7 +52,7 @@ front_of rest (e ∷ later) n body is stored =
     let framed = stored.1 in
     let V = version_of framed.version in
     let same = some_same (n, body) (length (body_spelling V e), body_spelling V e ++ stored.0)
-    (is ∙ ap number_at framed.same ∙ head_taken framed.version e stored.0 framed.valid) in
+    (is ∙ ap number_at framed.same ∙ frame_head framed.version e stored.0 framed.valid) in
     record {
       entry = e;
       later = later;
@@ -145,7 +135,7 @@ module _ (bytes rest : List ℕ) (all : List Entry) (u : IsCurrentUpTo bytes res
         let first : rest ≡ frame version_2 f.entry ++ frames_of f.later = same ∙ ap frames_of f.left_is in
         let body_2 = body_spelling version_2 f.entry ++ frames_of f.later in
         let both = some_same (n, body) (length (body_spelling version_2 f.entry), body_2)
-        (is ∙ ap number_at first ∙ head_taken Second f.entry (frames_of f.later) (entry_in_version_2 f.entry f.valid.valid)) in
+        (is ∙ ap number_at first ∙ frame_head Second f.entry (frames_of f.later) (entry_in_version_2 f.entry f.valid.valid)) in
         let two : get_or body 0 0 ≡ 2 = ap (λ (x : ℕ × List ℕ). get_or x.1 0 0) both in
         let yes : (get_or body 0 0 == 2) ≡ true = ap (λ k. k == 2) two in
         absurd (cc (not, yes))

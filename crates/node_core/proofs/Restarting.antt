@@ -19,6 +19,7 @@ use Rattle.protocol.specs.Tables.{table}
 use Rattle.resource_manager.specs.Compacted.{beginning_with, shorter_entries}
 use Rattle.resource_manager.specs.Managers as manager_specs
 use Rattle.resource_manager.specs.Managers.{ManagerParts}
+use Rattle.resource_manager.proofs.Shortened.{plays_over}
 use Rattle.node_core.specs.declared.config.Sizes.{Sizes}
 use Rattle.node_core.specs.declared.role.Role.{Role}
 use Rattle.branch_table.specs.TableStates.{are_rows}
@@ -30,7 +31,7 @@ use Rattle.node_core.specs.Nodes.{IsSized, IsAmong}
 use Rattle.node_core.specs.Opening.{IsLoaded, Loads, cluster_of, IsOpened, IsUnopened, BefallsRestart, Restarts, RestartsAs, frames_of}
 use Rattle.node_core.specs.Configs.{is_among}
 use Rattle.node_core.proofs.Loading.{both_parts, same_holds, holds_again, frames_stored, stayed_whole}
-use Rattle.node_core.proofs.Starting.{begun_rows, manager_plays}
+use Rattle.node_core.proofs.Starting.{begun_rows}
 
 module _ (config : Config) (who : NodeId) (own : List Row) (m : NodeState) (old : Held) (was : Option Role)
     (s : Stands config who own old was m) where
@@ -181,7 +182,7 @@ pub same_contents : (config other : Config) (number : ℕ) (p : ManagerParts) (f
 same_contents config other number p facts branches managers rows s = record {
   number_is = s.number_is;
   managers_are = s.managers_are ∙ sym managers;
-  played = manager_plays other config number [] facts ∙ s.played;
+  played = plays_over other config number [] facts ∙ s.played;
   apart = s.apart;
   unprepared = s.unprepared;
   stored_are = s.stored_are;
@@ -249,7 +250,7 @@ cluster_plays : (config : Config) (who : NodeId) (rows : Option (List Row)) (bef
 cluster_plays config who None before facts = refl
 cluster_plays config (A a) (Some rows) before facts = refl
 cluster_plays config (L l) (Some rows) before facts = refl
-cluster_plays config (R rm) (Some rows) before facts = manager_plays (beginning_with config rm rows) config rm before facts
+cluster_plays config (R rm) (Some rows) before facts = plays_over (beginning_with config rm rows) config rm before facts
 
 module _ (config : Config) (who : NodeId) (own : List Row) (old new : Held) (role : Role) (l : IsLoaded config who own old new role)
     (has : HasRows config who own) where

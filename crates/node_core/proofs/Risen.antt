@@ -24,13 +24,13 @@ use Rattle.resource_manager.specs.Left.{AreAlike, left_facts, left_node, manager
 use Rattle.resource_manager.specs.Managers as of_manager
 use Rattle.resource_manager.specs.Managers.{ManagerParts}
 use Rattle.resource_manager.proofs.Leaving.{all_play_left}
+use Rattle.resource_manager.proofs.Shortened.{begins_with}
 use Rattle.node_core.specs.declared.role.Role.{Role}
 use Rattle.node_core.specs.Compacting.{IsShorter, Shortens}
 use Rattle.node_core.specs.declared.config.Sizes.{Sizes}
 use Rattle.node_core.specs.Nodes.{AreSizes, IsSound, Keeps, NodeParts, Stands}
 use Rattle.node_core.specs.Raising.{Forgets, GoesOnIn, IsRaised, IsRaisedOrNot, Leaves, Raises, TellsClear, is_clear_below}
 use Rattle.node_core.specs.Roles.{RoleStands}
-use Rattle.node_core.proofs.Starting.{first_begun}
 
 -- ---- one role
 
@@ -65,7 +65,7 @@ next_of config who facts = config
 goes_on : (config : Config) (who : NodeId) (facts : List Fact) → GoesOnIn config who facts (next_of config who facts)
 goes_on config (A a) facts = record { alike = refl; begins = tt }
 goes_on config (L l) facts = record { alike = refl; begins = tt }
-goes_on config (R rm) facts = record { alike = refl; begins = first_begun config rm (table (first_rows config rm) facts) }
+goes_on config (R rm) facts = record { alike = refl; begins = begins_with config rm (table (first_rows config rm) facts) }
 
 left_plays : (place : Place) (config next : Config) (who : NodeId) (facts : List Fact) → AreAlike who next config
     → all_play config who [] facts ≡ true → all_play next who [] (left_facts who (Some place) facts) ≡ true

@@ -13,7 +13,8 @@ use Rattle.node_core.specs.Configs.{is_config, are_sizes, is_among}
 use Rattle.branch_table.specs.TableStates.{are_rows}
 use Rattle.node_core.specs.Nodes.{AreSizes, IsSized, IsAmong}
 
-odd_few : (a : ℕ) → (a == 1 || a == 3 || a == 5 || a == 7) ≡ true → a ≤ 7
+-- a cluster has at most seven acceptors
+pub odd_few : (a : ℕ) → (a == 1 || a == 3 || a == 5 || a == 7) ≡ true → a ≤ 7
 odd_few a h = grind (arith, nat_tests)
 
 positive : (n : ℕ) → nat_lt 0 n ≡ true → 0 < n

@@ -1,10 +1,9 @@
 -- What the bytes of a record say, with a snapshot in front or without one.
-use Rattle.std.proofs.Common.{◌≡◌, ◌∙◌, ℕ, suc, ◌+◌, ◌-◌, ◌≤◌, true, false, ◌&&◌, List, [], ◌∷◌, ◌++◌, length, drop, refl, sym, ap}
+use Rattle.std.proofs.Common.{◌≡◌, ◌∙◌, ℕ, ◌+◌, ◌-◌, ◌≤◌, true, false, List, [], ◌∷◌, ◌++◌, length, drop, refl, sym, ap}
 use Rattle.std.proofs.Common.{subst, length-append, arith}
-use Rattle.std.specs.Prelude.{map, replicate, unwrap_or, Option, Some, None, Result, Ok, Err}
+use Rattle.std.specs.Prelude.{map, unwrap_or, Option, Some, None, Result, Ok, Err}
 use Rattle.std.specs.List.{list_all, flat_map}
-use Rattle.std.proofs.lemmas.List.{drop_at, drop-drop, get_or-replicate}
-use Rattle.std.proofs.lemmas.Option.{unwrap_or-slice_get}
+use Rattle.std.proofs.lemmas.List.{drop_at, drop-drop}
 use Rattle.xid.specs.declared.refusals.Refusal.{Refusal}
 use Rattle.stable_record.specs.declared.entry.EntryKind.{EntryKind as Entry}
 use Rattle.stable_record.specs.declared.entry.EntryKind.TheVariants as entries
@@ -14,8 +13,9 @@ use Rattle.protocol.specs.declared.nodes.NodeId.{NodeId}
 use Rattle.protocol.specs.declared.nodes.NodeId.TheVariants.{A, L, R}
 use Rattle.protocol.specs.declared.rows.Row.{Row}
 use Rattle.protocol.specs.Effects.{Config}
-use Rattle.protocol.specs.Nodes.{plays, all_play, first_rows}
+use Rattle.protocol.specs.Nodes.{all_play}
 use Rattle.resource_manager.specs.Compacted.{beginning_with, row_entry, facts_of}
+use Rattle.resource_manager.proofs.Shortened.{begins_with, plays_over}
 use Rattle.node_core.specs.declared.config.Sizes.{Sizes}
 use Rattle.node_core.specs.declared.role.Role.{Role}
 use Rattle.node_core.specs.Nodes.{Kept, MeansFrom, Holds, begun, AreSizes, HasRows}
@@ -24,15 +24,11 @@ use Rattle.node_core.specs.Opening.{IsPlain, IsBad, IsRecordRead, Reads}
 
 -- ---- the cluster in which a table begins with the rows of a record
 
-pub first_begun : (config : Config) (rm : ℕ) (rows : List Row) → first_rows (beginning_with config rm rows) rm ≡ rows
-first_begun config rm rows =
-    unwrap_or-slice_get (replicate (suc rm) rows) rm [] ∙ get_or-replicate (suc rm) rm rows [] (omega arith)
-
 pub begun_rows : (config : Config) (who : NodeId) (own : List Row) (rows : Option (List Row))
     → HasRows (begun config who own rows) who (unwrap_or rows own)
 begun_rows config (A a) own rows = tt
 begun_rows config (L l) own rows = tt
-begun_rows config (R rm) own rows = sym (first_begun config rm (unwrap_or rows own))
+begun_rows config (R rm) own rows = sym (begins_with config rm (unwrap_or rows own))
 
 pub begun_sizes : (config : Config) (who : NodeId) (own : List Row) (rows : Option (List Row)) (sizes : Sizes) → AreSizes config sizes
     → AreSizes (begun config who own rows) sizes
@@ -45,18 +41,12 @@ begun_sizes config (R rm) own rows sizes are = record {
   bundled_is = are.bundled_is;
 }
 
-pub manager_plays : (config other : Config) (rm : ℕ) (before facts : List Fact)
-    → all_play config (R rm) before facts ≡ all_play other (R rm) before facts
-manager_plays config other rm before [] = refl
-manager_plays config other rm before (fact ∷ facts) =
-    ap (λ b. plays config (R rm) before fact && b) (manager_plays config other rm (before ++ fact ∷ []) facts)
-
 -- first contents don't matter to what plays
 pub begun_plays : (config : Config) (who : NodeId) (own : List Row) (rows : Option (List Row)) (before facts : List Fact)
     → all_play (begun config who own rows) who before facts ≡ all_play config who before facts
 begun_plays config (A a) own rows before facts = refl
 begun_plays config (L l) own rows before facts = refl
-begun_plays config (R rm) own rows before facts = manager_plays (begun config (R rm) own rows) config rm before facts
+begun_plays config (R rm) own rows before facts = plays_over (begun config (R rm) own rows) config rm before facts
 
 -- ---- entries that are facts
 
@@ -108,7 +98,7 @@ module _ (config : Config) (rm : ℕ) (own : List Row) (bytes rest : List ℕ) (
         stored = subst (IsStored bytes (entries.Snapshot ∷ (map row_entry rows ++ h.all))) (sym left)
             (s.up_to.goes h.all (drop len rest) h.goes.stored);
         means = record { later = h.all; all_is = refl; ascending = s.ascending; about = h.goes.may; facts_are = refl };
-        fits = manager_plays config from rm [] facts ∙ h.goes.fits;
+        fits = plays_over config from rm [] facts ∙ h.goes.fits;
       } in
       record {
         kept = kept;
@@ -130,7 +120,7 @@ module _ (config : Config) (rm : ℕ) (own : List Row) (bytes rest : List ℕ) (
           stored = only.1;
           may = means.about;
           fits =
-              manager_plays from config rm [] (flat_map facts_of means.later) ∙ ap (all_play config (R rm) []) (sym means.facts_are) ∙ fits;
+              plays_over from config rm [] (flat_map facts_of means.later) ∙ ap (all_play config (R rm) []) (sym means.facts_are) ∙ fits;
         },
       )
 

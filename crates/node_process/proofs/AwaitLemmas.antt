@@ -20,17 +20,10 @@ use Rattle.serving.specs.declared.words.Wish.TheVariants as wishes
 use Rattle.serving.specs.Clients.{ClientParts}
 use Rattle.serving.specs.Groups.{is_for}
 use Rattle.serving.specs.Happenings.{after_work, is_await, question, with_awaits, AwaitsBegin}
+use Rattle.serving.proofs.LifeLists.{no_await}
 use Rattle.node_process.specs.Awaiting.{once_waiting, AsksStanding, HearsAt, HearStandings, Waiting}
 
 -- ---- they begin
-
-no_await : (who : NodeId) (until : Instant) (work : Work) (stage : Stage) → is_await work ≡ false → after_work who until work stage ≡ stage
-no_await who until (works.Say (wishes.Await tx)) stage none = absurd (cc)
-no_await who until (works.Say wish) stage none = refl
-no_await who until (works.Take bytes) stage none = refl
-no_await who until (works.Ask request) stage none = refl
-no_await who until works.Untimely stage none = refl
-no_await who until works.Late stage none = refl
 
 either_way : (b : Bool) (a stage : Stage) → a ≡ stage → (if b then a else stage) ≡ stage
 either_way true a stage same = same

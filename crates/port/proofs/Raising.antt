@@ -12,8 +12,9 @@ use Rattle.node_core.specs.declared.config.Sizes.{Sizes}
 use Rattle.node_core.specs.Configs.{config_by}
 use Rattle.floors.specs.Worlds.{notices_of}
 use Rattle.floored.specs.Nodes.{FlooredRaises, FlooredStands, on_rise}
-use Rattle.floored.proofs.Raising.{done_up, up_as}
+use Rattle.floored.proofs.Raising.{done_up}
 use Rattle.floored.proofs.Noticing.{notices_as}
+use Rattle.floored.proofs.Replacing.{is_up_as}
 use Rattle.port.specs.Calls.{Raises, RaisesAs, Sending, TellsAll}
 use Rattle.port.specs.Members.{IsMember, MemberParts, RaisesMember}
 use Rattle.port.proofs.Members.{member_sizes}
@@ -47,7 +48,7 @@ module _ {P : Type 0} (Sent : Sending P) (place : Place) (who : NodeId) (rm : �
       as_manager old new before after (Ok tt) (λ config m s.
       let r : FlooredRaises config m place old.floored new.floored (Ok tt) = raises.machine config m s in
       let up : is_some new.floored.node.role ≡ true =
-      up_as config new.floored (on_rise old.floored.node.who old.floored.floor m place r.fault).node r.stands
+      is_up_as config new.floored (on_rise old.floored.node.who old.floored.floor m place r.fault).node r.stands
       ∙ raised_up old.floored.node.who rm (named ∙ sym is) old.floored.floor m place r.fault r.answer_is in
       let notices : notices_of (config_by sizes []) rm floor ≡ notices_of config rm new.floored.floor =
       ap (notices_of (config_by sizes []) rm) (own up)

@@ -1,30 +1,26 @@
 -- A leader's timeout while it is undecided: the next ballot is stored and current, and phase 1a goes out.
-use Rattle.std.proofs.Common.{◌≡◌, inl, ◌∙◌, ℕ, ◌+◌, ◌^◌, ◌<◌, ◌≤◌, max, Bool, true, false, not, ◌==◌, ◌&&◌, if◌then◌else◌}
-use Rattle.std.proofs.Common.{List, [], ◌∷◌, ◌++◌, Option, Some, None, map, filter, refl, ap, arith, nat_lt}
-use Rattle.std.specs.List.{cons_option, range_with_len}
-use Rattle.std.specs.Prelude.{filter_map}
+use Rattle.std.proofs.Common.{◌≡◌, inl, ◌∙◌, ℕ, ◌+◌, ◌^◌, ◌<◌, ◌≤◌, Bool, true, false, not, ◌==◌, ◌&&◌, if◌then◌else◌}
+use Rattle.std.proofs.Common.{List, [], ◌∷◌, Option, map, filter, refl, ap, arith, nat_lt}
+use Rattle.std.specs.List.{range_with_len}
 use Rattle.std.specs.Option.{option_map_or}
-use Rattle.std.proofs.lemmas.List.Elements.{filter_map-append}
 use Rattle.std.proofs.lemmas.Bool.{cond_both, cond-true, cond-false, and_right, or_from, eq-eqb, lt-ltb, not_from_true}
 use Rattle.std.proofs.lemmas.Bool.{not-true as not_true}
 use Rattle.xid.specs.Transactions.{TxParts, participants, tx_eq}
 use Rattle.xid.specs.declared.refusals.Refusal.TheVariants.{BadTx, NoBallot}
-use Rattle.xid.proofs.Deciding.{tx_self}
 use Rattle.wire.specs.declared.message.Kind.{Kind}
 use Rattle.wire.specs.declared.message.Kind.TheVariants as kinds
 use Rattle.wire.specs.Messages.{message_tx}
 use Rattle.ballot.specs.Ballots.{owner_of, next_of}
-use Rattle.ballot.specs.Greatest.{IsIn, greatest}
+use Rattle.ballot.specs.Greatest.{IsIn}
 use Rattle.ballot.proofs.Turns.{next_is}
 use Rattle.stable_record.specs.declared.fact.FactKind.TheVariants as stored
-use Rattle.protocol.specs.Basics.{Fact}
 use Rattle.protocol.specs.Vocabulary.{A, NodeId, Outgoing, Acceptors, Managers, Refused}
 use Rattle.protocol.specs.Effects.{Config, Effect, answer_only, sends_only, stores, to, is_inside}
-use Rattle.protocol.specs.Facts.{instance_eq, ballot_begun, last_ballot}
+use Rattle.protocol.specs.Facts.{instance_eq}
 use Rattle.protocol.specs.LeaderMemory.{LeaderMemory, StoredBallots, is_proposed, with_begun, with_met, status_of}
 use Rattle.protocol.specs.Leaders.{is_final, is_current, outcome_messages, phase_1a, on_leader_timeout}
 use Rattle.protocol.proofs.Lists.{IsIn-map}
-use Rattle.safety.proofs.Leader.Memory.{current_begun, greatest-append}
+use Rattle.safety.proofs.Leader.Memory.{current_begun}
 use Rattle.progress.proofs.Mail.{letters, letter_among}
 use Rattle.progress.proofs.Promising.{ask_of}
 use Rattle.progress.proofs.Accepting.{number_among}
@@ -41,17 +37,6 @@ pub next_turn : (leaders l last : ℕ) → l < leaders → IsNextTurn leaders l 
 next_turn leaders l last few =
     let is = next_is leaders l last few in
     record { owned = is.owned.1; above = is.greater; near = omega arith }
-
--- the last ballot once a greater one is stored
-pub last_begun : (facts : List Fact) (tx : TxParts) (b : ℕ) → last_ballot facts tx < b
-    → last_ballot (facts ++ stored.Ballot tx b ∷ []) tx ≡ b
-last_begun facts tx b up =
-    let same : ballot_begun tx (stored.Ballot tx b) ≡ Some b = cond-true (tx_eq tx tx) (Some b) None (tx_self tx) in
-    let step : last_ballot (facts ++ stored.Ballot tx b ∷ []) tx ≡ max (last_ballot facts tx) (greatest (b ∷ [])) =
-    ap greatest (filter_map-append (ballot_begun tx) facts (stored.Ballot tx b ∷ []))
-    ∙ greatest-append (filter_map (ballot_begun tx) facts) (filter_map (ballot_begun tx) (stored.Ballot tx b ∷ []))
-    ∙ ap (λ (o : Option ℕ). max (last_ballot facts tx) (greatest (cons_option o []))) same in
-    omega arith
 
 -- ---- the memory
 

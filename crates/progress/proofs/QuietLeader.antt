@@ -8,6 +8,7 @@ use Rattle.stable_record.specs.Frames.{frame_length}
 use Rattle.ballot.specs.Ballots.{next_of}
 use Rattle.protocol.specs.Basics.{Fact}
 use Rattle.protocol.specs.Vocabulary.{NodeId, A, L}
+use Rattle.safety.proofs.Leader.Memory.{last_ballot-of_new}
 use Rattle.progress.proofs.Backed.{IsBacked}
 use Rattle.safety.specs.Standing.{facts_at, facts_of}
 use Rattle.protocol.specs.Effects.{Config, Effect, is_inside}
@@ -19,7 +20,7 @@ use Rattle.protocol.specs.Worlds.{World, node_at}
 use Rattle.progress.specs.Runs.{leader_and_quorum}
 use Rattle.progress.proofs.Steps.{IsQuiet, quiet_node, armed_node, torn_facts, torn_node, torn_timeout, restarted}
 use Rattle.progress.proofs.Leading.{Comes, comes_step, comes_now, comes_goal}
-use Rattle.progress.proofs.Beginning.{begins, next_turn, last_begun}
+use Rattle.progress.proofs.Beginning.{begins, next_turn}
 use Rattle.progress.proofs.Existing.{leader_there}
 use Rattle.progress.proofs.Members.{IsFinal, not_leader}
 use Rattle.progress.proofs.Raising.{IsLeading}
@@ -59,7 +60,7 @@ module _ (config : Config) (tx : TxParts) (l : ℕ) (q : ℕ → Bool) (few : l 
       → last_ballot (torn_facts facts (stored.Ballot tx (next_of config.leaders l (last_ballot facts tx))) whole) tx ≤ m + config.leaders
   torn_last facts low true =
       let turn = next_turn config.leaders l (last_ballot facts tx) few in
-      let is = last_begun facts tx (next_of config.leaders l (last_ballot facts tx)) turn.above in
+      let is = last_ballot-of_new facts tx (next_of config.leaders l (last_ballot facts tx)) turn.above in
       omega (arith, is, turn.near, low)
   torn_last facts low false = omega arith
 

@@ -8,6 +8,7 @@ use Rattle.ballot.specs.Ballots.{next_of}
 use Rattle.ballot.specs.Greatest.{IsIn}
 use Rattle.protocol.specs.Basics.{Fact}
 use Rattle.protocol.specs.Vocabulary.{NodeId, A, L}
+use Rattle.safety.proofs.Leader.Memory.{last_ballot-of_new}
 use Rattle.progress.proofs.Backed.{IsBacked}
 use Rattle.protocol.specs.Effects.{Config, Effect, is_inside, stores}
 use Rattle.protocol.specs.Facts.{last_ballot, with_fact}
@@ -21,7 +22,7 @@ use Rattle.progress.proofs.Mail.{Letter, mail, letters}
 use Rattle.progress.proofs.Steps.{IsQuiet, IsMoved, HasStep, quiet_node, quiet_timeout, mail_stays}
 use Rattle.progress.proofs.Leading.{Comes, comes_step, comes_now, comes_goal, comes_on}
 use Rattle.progress.proofs.Promising.{ask_of}
-use Rattle.progress.proofs.Beginning.{begins, begun_current, begun_unproposed, asked_each, next_turn, last_begun}
+use Rattle.progress.proofs.Beginning.{begins, begun_current, begun_unproposed, asked_each, next_turn}
 use Rattle.progress.proofs.Members.{IsFinal, quiet_final, not_leader}
 
 -- the leader has begun ballot b, and no acceptor was touched
@@ -81,7 +82,7 @@ module _ (config : Config) (tx : TxParts) (l : ℕ) (q : ℕ → Bool) (few : l 
       facts = state.facts ++ stored.Ballot tx b ∷ [];
       memory = memory;
       leader = moved.here;
-      last = last_begun state.facts tx b
+      last = last_ballot-of_new state.facts tx b
           (subst (λ (n : ℕ). n < b) (sym state.last) (next_turn config.leaders l s few).above);
       current = begun_current tx b (with_met tx state.memory.leader);
       none = begun_unproposed tx b (with_met tx state.memory.leader);

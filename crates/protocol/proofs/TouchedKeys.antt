@@ -17,12 +17,15 @@ use Rattle.protocol.specs.Managers.{Branch, with_touched, last_act, has_key, act
 
 -- ---- the order of keys
 
+-- what is less by the test is Less
 pub less_from : (o : Ordering) → is_lt o ≡ true → o ≡ Less
 less_from Less e = refl
 less_from Equal e = absurd (cc (e))
 less_from Greater e = absurd (cc (e))
 
-later_by : (x y : List ℕ) (o : Ordering) → slice_cmp nat_cmp y x ≡ o → bytes_eq x y ≡ false → is_lt o ≡ false → slice_cmp nat_cmp x y ≡ Less
+-- of two keys that differ, the one that isn't earlier is later
+pub later_by : (x y : List ℕ) (o : Ordering) → slice_cmp nat_cmp y x ≡ o → bytes_eq x y ≡ false → is_lt o ≡ false
+    → slice_cmp nat_cmp x y ≡ Less
 later_by x y Less e apart over = absurd (cc (over))
 later_by x y Equal e apart over =
     let same : y ≡ x = (bytes_eq-Decides y x).0 (sym (is_eq-slice_cmp y x) ∙ ap is_eq e) in
@@ -38,6 +41,7 @@ not_itself key less =
     let turned : Less ≡ Greater = sym less ∙ nat_list_cmp_total.antisymm key key ∙ ap ordering_reverse less in
     absurd (cc (turned))
 
+-- an earlier key is another one
 pub apart_from : (key k : List ℕ) → slice_cmp nat_cmp key k ≡ Less → bytes_eq k key ≡ false
 apart_from key k less = false_from_ne_true (bytes_eq k key)
     (λ e. not_itself key (subst (λ (z : List ℕ). slice_cmp nat_cmp key z ≡ Less) ((bytes_eq-Decides k key).0 e) less))
@@ -105,7 +109,8 @@ counts_touched (t ∷ keys) key act ascending =
 
 -- ---- the last acts on them
 
-untouched : (keys : List Touched) (key : List ℕ) → has_key key keys ≡ false → act_on keys key ≡ Act.Read
+-- a key that is none of those touched has no act
+pub untouched : (keys : List Touched) (key : List ℕ) → has_key key keys ≡ false → act_on keys key ≡ Act.Read
 untouched [] key none = refl
 untouched (t ∷ keys) key none =
     let parts = or_parts (bytes_eq t.key key) (has_key key keys) none in

@@ -5,7 +5,7 @@ use Rattle.std.specs.List.{list_any}
 use Rattle.std.proofs.lemmas.List.Folds.{list_any-append}
 use Rattle.xid.specs.Transactions.{TxParts, tx_eq}
 use Rattle.xid.specs.declared.transaction.Vote.{Vote}
-use Rattle.xid.proofs.Deciding.{tx_decides, tx_self}
+use Rattle.xid.proofs.Deciding.{tx_decides}
 use Rattle.ballot.specs.Greatest.{IsIn}
 use Rattle.stable_record.specs.declared.fact.FactKind.{FactKind as Fact}
 use Rattle.stable_record.specs.Facts.{fact_tx}
@@ -74,16 +74,6 @@ module _ (q : TxParts → Bool) where
   any_begun facts = any_from [] facts
 
 -- ---- again
-
--- one that was seen is so once more
-pub seen_twice : (seen : List TxParts) (tx : TxParts) → seen_with (seen_with seen tx) tx ≡ seen_with seen tx
-seen_twice seen tx =
-    let there = any_seen (tx_eq tx) seen tx ∙ ap (λ t. list_any (tx_eq tx) seen || t) (tx_self tx) ∙ or_true (list_any (tx_eq tx) seen) in
-    ap (λ t. cond t (seen_with seen tx) (seen_with seen tx ++ tx ∷ [])) there
-  where
-    or_true : (a : Bool) → (a || true) ≡ true
-    or_true true = refl
-    or_true false = refl
 
 -- those that have come in an order have come in it
 tx_push : (seen txs : List TxParts) (tx : TxParts) → fold seen_with seen (txs ++ tx ∷ []) ≡ seen_with (fold seen_with seen txs) tx

@@ -189,7 +189,8 @@ not_all q (x ∷ xs) = by_test (q x) (not_all q xs)
     by_test true e = refl
     by_test false e = e
 
-same_test : (a b : Bool) → (a ≡ true → b ≡ true) → (b ≡ true → a ≡ true) → a ≡ b
+-- two tests that follow from one another are one
+pub same_test : (a b : Bool) → (a ≡ true → b ≡ true) → (b ≡ true → a ≡ true) → a ≡ b
 same_test true b to from = sym (to refl)
 same_test false true to from = from refl
 same_test false false to from = refl

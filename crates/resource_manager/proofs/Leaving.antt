@@ -27,7 +27,7 @@ use Rattle.protocol.specs.Nodes.{plays, all_play}
 use Rattle.protocol.specs.Tables.{commit_of, keys_voted, put_row, table, with_writes}
 use Rattle.protocol.proofs.Lists.{any_found, found_any, IsIn-mapped, filter_map_given}
 use Rattle.protocol.proofs.Manager.Apart.{bound_stored, stored_bound}
-use Rattle.protocol.proofs.Manager.Views.{prepared_shows}
+use Rattle.protocol.proofs.Manager.Views.{prepared_shows, committed_same}
 use Rattle.resource_manager.specs.Courses.{Stored, stored_in, view_among, vote_among, is_ended_among}
 use Rattle.resource_manager.proofs.Kept.{first_vote}
 use Rattle.resource_manager.specs.Left.{without_writes}
@@ -36,23 +36,12 @@ use Rattle.resource_manager.specs.Left.{without_writes}
 abbrev is_new_among : Stored → Bool
 is_new_among s = is_none (vote_among s) && not (is_ended_among s)
 
--- a fact that commits a transaction
-commit_is : (tx : TxParts) (fact : Fact) → is_commit_of tx fact ≡ true → fact ≡ stored.Committed tx
-commit_is tx (stored.Committed other) e = ap stored.Committed (sym ((tx_decides tx other).0 e))
-commit_is tx (stored.VotePrepared other keys) e = absurd (cc (e))
-commit_is tx (stored.VoteAborted other) e = absurd (cc (e))
-commit_is tx (stored.Aborted other) e = absurd (cc (e))
-commit_is tx (stored.Promise other i b) e = absurd (cc (e))
-commit_is tx (stored.Accept other i b v) e = absurd (cc (e))
-commit_is tx (stored.PromiseAll other b) e = absurd (cc (e))
-commit_is tx (stored.Ballot other b) e = absurd (cc (e))
-
 -- where a transaction is prepared it isn't committed
 pub uncommitted : (facts : List Fact) (tx : TxParts) → is_prepared_view (view facts tx) ≡ true → list_any (is_commit_of tx) facts ≡ false
 uncommitted facts tx prepared = false_from_ne_true (list_any (is_commit_of tx) facts)
     (λ committed.
     let found = any_found (is_commit_of tx) facts committed in
-    (prepared_shows facts tx prepared).1 (subst (IsIn facts) (commit_is tx found.element found.passes) found.among))
+    (prepared_shows facts tx prepared).1 (subst (IsIn facts) (committed_same tx found.element found.passes) found.among))
 
 module _ (whole : List Fact) where
   abbrev w : Fact → Fact

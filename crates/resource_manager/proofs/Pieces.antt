@@ -8,6 +8,7 @@ use Rattle.std.proofs.lemmas.List.Folds.{list_any-append}
 use Rattle.xid.specs.Transactions.{TxParts, tx_eq}
 use Rattle.xid.specs.declared.transaction.Vote.{Vote}
 use Rattle.xid.proofs.Deciding.{tx_decides, tx_self}
+use Rattle.transactions.proofs.First.{seen_twice}
 use Rattle.ballot.specs.Greatest.{IsIn}
 use Rattle.stable_record.specs.declared.fact.FactKind.{FactKind as Fact}
 use Rattle.stable_record.specs.declared.fact.Touched.{Touched}
@@ -19,7 +20,7 @@ use Rattle.protocol.proofs.Lists.{IsIn-joined}
 use Rattle.resource_manager.specs.declared.course.Course.{Course}
 use Rattle.resource_manager.specs.Courses.{Stored, stored_in, stored_by, is_new_course}
 use Rattle.resource_manager.specs.Compacted.{entry_of, facts_of}
-use Rattle.resource_manager.proofs.Begun.{begun_append, seen_after, seen_twice}
+use Rattle.resource_manager.proofs.Begun.{begun_append, seen_after}
 
 -- ---- the facts that stand for a transaction
 

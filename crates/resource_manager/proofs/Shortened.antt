@@ -65,7 +65,7 @@ same_entry tx Course.RolledBack keys others same = refl
 same_entry tx Course.AbortedUnvoted keys others same = refl
 
 -- the first rows of a manager in a cluster that begins with them
-begins_with : (config : Config) (number : ℕ) (rows : List Row) → first_rows (beginning_with config number rows) number ≡ rows
+pub begins_with : (config : Config) (number : ℕ) (rows : List Row) → first_rows (beginning_with config number rows) number ≡ rows
 begins_with config number rows = ap (λ (o : Option (List Row)). unwrap_or o []) (last_of number)
   where
     last_of : (n : ℕ) → slice_get (replicate (suc n) rows) n ≡ Some rows
@@ -73,7 +73,7 @@ begins_with config number rows = ap (λ (o : Option (List Row)). unwrap_or o [])
     last_of (suc n) = last_of n
 
 -- what plays doesn't ask for the first rows
-plays_over : (config over : Config) (number : ℕ) (before facts : List Fact)
+pub plays_over : (config over : Config) (number : ℕ) (before facts : List Fact)
     → all_play config (R number) before facts ≡ all_play over (R number) before facts
 plays_over config over number before [] = refl
 plays_over config over number before (fact ∷ facts) =

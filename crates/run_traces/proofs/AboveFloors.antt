@@ -30,11 +30,11 @@ use Rattle.protocol.specs.Worlds.{World, Datagram, StepResult, answer_result, at
 use Rattle.protocol.specs.Worlds.{node_at, numbered, outcome_result, set_node, view_number, with_mark}
 use Rattle.protocol.proofs.Lists.{IsIn-joined, IsIn-mapped}
 use Rattle.safety.proofs.World.Outcomes.{step_is}
-use Rattle.safety.proofs.World.Changes.{compact_keeps}
+use Rattle.safety.proofs.World.Changes.{compact_keeps, restart_keeps}
 use Rattle.floors.specs.Nodes.{floored_node_step, forgotten_answer, is_input_below, is_request_below}
 use Rattle.floors.specs.Worlds.{FlooredWorld, Machine, at_floored_node, floored_step, floored_step_of, machine_result, step_with_floors}
 use Rattle.floors.proofs.About.{IsOn, effect_about, on_above}
-use Rattle.floors.proofs.Nodes.{above_is, below_stays, compact_silent, restart_keeps, restart_silent}
+use Rattle.floors.proofs.Nodes.{above_is, below_stays, compact_silent, restart_silent}
 use Rattle.floors.proofs.Refusing.{below_silent}
 use Rattle.audit.specs.Floors.{is_call_refused, is_change_above, is_event_above, is_refused, is_request_above, is_sent_above, is_step_above}
 use Rattle.cluster_run.proofs.Floored.{IsSilent, hear_silent, raise_silent, replace_silent}

@@ -1,6 +1,6 @@
 -- One event in a world that well-formed events lead to: what came of it is what a trace may tell.
 use Rattle.std.proofs.Common.{◌≡◌, ℕ, zero, suc, ◌+◌, ◌<◌, ◌≤◌, false, not, ◌^◌, if◌then◌else◌, List, [], ◌∷◌, length}
-use Rattle.std.proofs.Common.{Option, Some, None, inl, inr, refl, sym, ap, subst, arith, nat_lt, length-append}
+use Rattle.std.proofs.Common.{Option, Some, None, inl, inr, refl, sym, subst, arith, nat_lt, length-append}
 use Rattle.std.specs.Prelude.{slice_get, ◌==◌}
 use Rattle.std.specs.List.{AllByRecursion, flat_map, range_with_len}
 use Rattle.std.specs.Option.{ForSome, option_and_then}
@@ -27,7 +27,7 @@ use Rattle.protocol.specs.Nodes.{Outcome, accepts_input, all_play, compact_outco
 use Rattle.protocol.specs.Nodes.{is_message_inside, node_step, restart_outcome}
 use Rattle.protocol.specs.Tables.{table}
 use Rattle.protocol.specs.Worlds.{World, Datagram, StepResult, node_at, set_node, answer_result, datagrams_of, view_number, change_of}
-use Rattle.protocol.specs.Worlds.{outcome_result, if_found, at_node, datagram_at, mark_at, with_mark, dispatch, world_step}
+use Rattle.protocol.specs.Worlds.{outcome_result, if_found, at_node, datagram_at, with_mark, dispatch, world_step}
 use Rattle.protocol.specs.Worlds.{numbered, step_of}
 use Rattle.protocol.proofs.Lists.{IsIn-after, IsIn-joined, IsIn-mapped, all_in, any_found, only_one}
 use Rattle.safety.specs.Forms as forms
@@ -35,6 +35,7 @@ use Rattle.safety.proofs.WellFormed.Runs.{IsWellWorld}
 use Rattle.safety.proofs.WellFormed.Nodes.{IsInput, IsWellNode}
 use Rattle.safety.proofs.World.Events.{datagram_among, slice_among}
 use Rattle.safety.proofs.World.NodePlaces.{node_there}
+use Rattle.history.proofs.Datagrams.{marked_length}
 use Rattle.net_script.specs.declared.values.Entry.{Entry}
 use Rattle.net_script.specs.Answers.{IsAnswer}
 use Rattle.net_script.specs.Events.{IsEvent, IsNode}
@@ -76,12 +77,6 @@ fact_valid (stored.VoteAborted tx) is = is
 fact_valid (stored.Committed tx) is = is
 fact_valid (stored.Aborted tx) is = is
 fact_valid (stored.PromiseAll tx b) is = is.0
-
-marked_length : (net : List Datagram) (n : ℕ) → length (mark_at net n) ≡ length net
-marked_length [] n = refl
-marked_length (d ∷ net) zero = refl
-marked_length (d ∷ net) (suc zero) = refl
-marked_length (d ∷ net) (suc (suc n)) = ap suc (marked_length net (suc n))
 
 -- ---- one input at one node
 

@@ -34,7 +34,7 @@ big_front (suc (suc zero)) xs le = absurd (omega arith)
 big_front (suc (suc (suc zero))) xs le = absurd (omega arith)
 
 -- the length and the body at the front of a frame
-frame_head : (v : VersionNumber) (e : Entry) (rest : List ℕ) → IsEntryIn (version_of v) e
+pub frame_head : (v : VersionNumber) (e : Entry) (rest : List ℕ) → IsEntryIn (version_of v) e
     → number_at (frame (version_of v) e ++ rest) ≡ Some (length (body_spelling (version_of v) e), body_spelling (version_of v) e ++ rest)
 frame_head v e rest is =
     let V = version_of v in

@@ -1,5 +1,5 @@
 -- What is taken was spelled, and its ranges and relations hold: each field of an entry from the front of bytes.
-use Rattle.std.proofs.Common.{◌≡◌, ℕ, zero, suc, ◌^◌, ◌<◌, ◌≤◌, Bool, true, false, ◌&&◌, cond, eqb, ltb, List, [], ◌∷◌, ◌++◌, length}
+use Rattle.std.proofs.Common.{◌≡◌, ℕ, zero, suc, ◌^◌, ◌<◌, ◌≤◌, Bool, true, false, cond, eqb, ltb, List, [], ◌∷◌, ◌++◌, length}
 use Rattle.std.proofs.Common.{take, drop, Some, None, refl, sym, subst, ap, arith, eqb-true}
 use Rattle.std.specs.List.{flat_map, AllByRecursion}
 use Rattle.std.specs.Cmp.Lexicographic.{slice_cmp}
@@ -22,6 +22,8 @@ use Rattle.wire.proofs.Spelled.{Front, front_of, joined, some_same, step, unless
 use Rattle.wire.proofs.Places.{bytes_front, component_few}
 use Rattle.wire.proofs.Spelled.{bytes_after, component_spelled}
 use Rattle.wire.proofs.DecodingLemmas.{kept}
+use Rattle.wire.proofs.BundleKinds.{number_fits}
+use Rattle.wire.proofs.CountedItems.{both}
 use Rattle.stable_record.specs.declared.fact.Act.{Act}
 use Rattle.stable_record.specs.declared.fact.Act.TheVariants.{Read, Del}
 use Rattle.stable_record.specs.declared.fact.Touched.{Touched}
@@ -134,10 +136,6 @@ less Less e = refl
 less Equal e = absurd (cc)
 less Greater e = absurd (cc)
 
-both : (a b : Bool) → (a && b) ≡ true → (a ≡ true) × (b ≡ true)
-both true b e = (refl, e)
-both false b e = absurd (cc)
-
 ascending_spelled : (keys : List Touched) → are_ascending keys ≡ true → AreAscending keys
 ascending_spelled [] e = tt
 ascending_spelled (first ∷ []) e = tt
@@ -182,12 +180,6 @@ fits_1 : (bytes : List ℕ) → IsBytes bytes → 1 ≤ length bytes → big_num
 fits_1 [] is le = absurd (omega arith)
 fits_1 (a ∷ rest) is le = omega (arith, is 0)
 
-pub ballot_fits : (bytes : List ℕ) (x : ℕ × List ℕ) → IsBytes bytes → number_at bytes ≡ Some x → IsBallot x.0
-ballot_fits bytes x is e =
-    let t = unless (ltb (length bytes) 4) (Some (big_number 4 bytes, drop 4 bytes)) x e in
-    let long : 4 ≤ length bytes = grind (arith, nat_tests, t.0) in
-    subst (λ (x : ℕ × List ℕ). IsBallot x.0) (some_same (big_number 4 bytes, drop 4 bytes) x t.1) (fits_4 bytes is long)
-
 pub rm_fits : (v : VersionNumber) (bytes : List ℕ) (x : ℕ × List ℕ) → IsBytes bytes → rm_at (version_of v) bytes ≡ Some x
     → x.0 < 256 ^ (version_of v).rm_width
 rm_fits First bytes x is e =
@@ -206,7 +198,7 @@ leader_ballot_spelled bytes x is e =
     step (number_at bytes) _ e (λ ballot eb e.
     let some = kept (ltb 0 ballot.0) ballot x e in
     let more : 1 ≤ ballot.0 = grind (arith, nat_tests, some.0) in
-    let is-ballot : IsLeaderBallot ballot.0 = record { some = more; fits = ballot_fits bytes ballot is eb } in
+    let is-ballot : IsLeaderBallot ballot.0 = record { some = more; fits = number_fits bytes ballot is eb } in
     subst (λ (x : ℕ × List ℕ). IsLeaderBallot x.0 × Front bytes (number_spelling x.0) x.1) some.1
     (is-ballot, number_spelled bytes ballot is eb))
 
@@ -226,5 +218,5 @@ instance_spelled v bytes x is e =
     subst (Instance_front v bytes) (some_same (rm.0, ballot.0, ballot.1) x e) (record {
       front = joined bytes (rm_spelling (version_of v) rm.0) rm.1 (number_spelling ballot.0) ballot.1 one two;
       instance = rm_fits v bytes rm is er;
-      ballot = ballot_fits rm.1 ballot one.after eb;
+      ballot = number_fits rm.1 ballot one.after eb;
     })))

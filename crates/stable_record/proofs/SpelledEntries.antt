@@ -12,6 +12,7 @@ use Rattle.wire.specs.Reading.{byte_at, instance_at, vote_at, end_at}
 use Rattle.wire.specs.Decoding.{tx_in}
 use Rattle.wire.proofs.Spelled.{Front, front_of, joined, some_same, step, byte_spelled, vote_spelled}
 use Rattle.wire.proofs.TakenTx.{in_spelled}
+use Rattle.wire.proofs.Notices.{none_left}
 use Rattle.stable_record.specs.declared.fact.FactKind.{FactKind as Fact}
 use Rattle.stable_record.specs.declared.fact.FactKind.TheVariants.{Promise, Accept, Ballot, VotePrepared, VoteAborted}
 use Rattle.stable_record.specs.declared.fact.FactKind.TheVariants.{Committed, Aborted, PromiseAll}
@@ -200,10 +201,6 @@ pub record Body (bytes : List ℕ) (e : Entry) : Type 0 where
   pub valid : IsEntryIn (version_of version) e
   pub spelled : bytes ≡ body_spelling (version_of version) e
 
-nothing_after : (bytes : List ℕ) (u : Unit {0}) → end_at bytes ≡ Some u → bytes ≡ []
-nothing_after [] u e = refl
-nothing_after (x ∷ xs) u e = absurd (cc)
-
 pub body_spelled : (bytes : List ℕ) (e : Entry) → IsBytes bytes → body_at bytes ≡ Some e → Body bytes e
 unfolding body_at
 body_spelled bytes entry is e =
@@ -213,7 +210,7 @@ body_spelled bytes entry is e =
     let two = byte_spelled number.1 code one.after ec in
     let three = entry_spelled v code.0 code.1 read two.after er in
     let fields : code.1 ≡ fields_spelling (version_of v) read.0 =
-    three.front.same ∙ ap (λ (xs : List ℕ). fields_spelling (version_of v) read.0 ++ xs) (nothing_after read.1 u eu)
+    three.front.same ∙ ap (λ (xs : List ℕ). fields_spelling (version_of v) read.0 ++ xs) (none_left read.1 u eu)
     ∙ append-nil (fields_spelling (version_of v) read.0) in
     let heads : bytes ≡ number.0 ∷ code.0 ∷ code.1 = one.same ∙ ap (λ (xs : List ℕ). number.0 ∷ xs) two.same in
     subst (Body bytes) (some_same read.0 entry e) (record {

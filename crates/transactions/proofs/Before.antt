@@ -17,7 +17,8 @@ absent_place p xs none =
     let past : ¬ (position_or_len p xs < length xs) = λ lt. true≢false (sym (present_from_place p xs lt) ∙ none) in
     omega (arith, past, prefix_len-le-length (λ x. not (p x)) xs)
 
-turned : (x y : TxParts) → tx_eq x y ≡ false → tx_eq y x ≡ false
+-- two transactions differ in either order
+pub turned : (x y : TxParts) → tx_eq x y ≡ false → tx_eq y x ≡ false
 turned x y e =
     false_from_ne_true (tx_eq y x) (λ same. true≢false (sym ((tx_decides x y).1 (sym ((tx_decides y x).0 same))) ∙ e))
 

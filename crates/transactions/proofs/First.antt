@@ -33,7 +33,7 @@ any_seen seen t x = by (list_any (tx_eq x) seen) (tx_eq t x) refl refl
     by false u e f = list_any-append (tx_eq t) seen (x ∷ []) ∙ ap (λ b. list_any (tx_eq t) seen || b) (sym (or_false (tx_eq t x)) ∙ f)
 
 -- one that was seen is so once more
-seen_twice : (seen : List TxParts) (x : TxParts) → seen_with (seen_with seen x) x ≡ seen_with seen x
+pub seen_twice : (seen : List TxParts) (x : TxParts) → seen_with (seen_with seen x) x ≡ seen_with seen x
 seen_twice seen x =
     let there = any_seen seen x x ∙ ap (λ b. list_any (tx_eq x) seen || b) (tx_self x) ∙ or_true (list_any (tx_eq x) seen) in
     ap (λ b. cond b (seen_with seen x) (seen_with seen x ++ x ∷ [])) there

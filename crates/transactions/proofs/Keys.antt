@@ -19,7 +19,7 @@ use Rattle.wire.specs.Grammar.{tx_spelling}
 use Rattle.wire.specs.Versions.{version_2}
 use Rattle.wire.specs.Decoding.{tx_in}
 use Rattle.wire.specs.declared.grammar.VersionNumber.TheVariants.{Second}
-use Rattle.wire.proofs.Fields.{tx_taken, in_version_2}
+use Rattle.wire.proofs.Fields.{tx_taken, in_version_2, some_same}
 use Rattle.wire.proofs.TakenTx.{in_again}
 use Rattle.wire.specs.Spelled.{tx_spelled, IsSpelled}
 use Rattle.wire.proofs.SpelledAgain.{spelled_is}
@@ -73,14 +73,11 @@ module _ {X : Type 0} (p : X → Bool) where
 
 -- ---- two spellings are the same where the transactions are
 
-some_pair : (x y : TxParts × List ℕ) → Some x ≡ Some y → x ≡ y
-some_pair x y e = cc
-
 one_tx : (tx other : TxParts) → IsTx tx → IsTx other → tx_spelling version_2 tx ≡ tx_spelling version_2 other → tx ≡ other
 one_tx tx other is are e =
     let one = tx_taken (tx_spelling version_2 tx) tx [] is (sym (append-nil (tx_spelling version_2 tx))) in
     let two = tx_taken (tx_spelling version_2 tx) other [] are (e ∙ sym (append-nil (tx_spelling version_2 other))) in
-    ap (λ (p : TxParts × List ℕ). p.0) (some_pair (tx, []) (other, []) (sym one ∙ two))
+    ap (λ (p : TxParts × List ℕ). p.0) (some_same (tx, []) (other, []) (sym one ∙ two))
 
 pub spelled_once : (tx other : TxParts) → IsTx tx → IsTx other
     → bytes_eq (tx_spelling version_2 tx) (tx_spelling version_2 other) ≡ tx_eq tx other
@@ -305,7 +302,7 @@ front_is bytes tx rest is e = ap (tx_in version_2) e ∙ in_again Second tx rest
 pub taken_is : (bytes : List ℕ) (tx : TxParts) (after : List ℕ) → Some (tx, after) ≡ tx_in version_2 bytes
     → (other : TxParts) (rest : List ℕ) → IsTx other → bytes ≡ tx_spelling version_2 other ++ rest → (tx ≡ other) × (after ≡ rest)
 taken_is bytes tx after got other rest is e =
-    let same = some_pair (tx, after) (other, rest) (got ∙ front_is bytes other rest is e) in
+    let same = some_same (tx, after) (other, rest) (got ∙ front_is bytes other rest is e) in
     (ap (λ (p : TxParts × List ℕ). p.0) same, ap (λ (p : TxParts × List ℕ). p.1) same)
 
 pub none_is : (bytes : List ℕ) → None ≡ tx_in version_2 bytes

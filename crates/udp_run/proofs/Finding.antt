@@ -20,6 +20,7 @@ use Rattle.node_core.specs.Nodes.{AreSizes}
 use Rattle.node_core.specs.Configs.{config_by}
 use Rattle.node_core.specs.Places.{node_count}
 use Rattle.node_core.proofs.Placed.{place_within, placed_at}
+use Rattle.node_core.proofs.Sizing.{odd_few}
 use Rattle.port.specs.declared.addresses.Addresses.{Addresses}
 use Rattle.port.specs.declared.udp.UdpPort.{UdpPort}
 use Rattle.port.specs.Addresses.{address_of, with_address}
@@ -75,9 +76,6 @@ pub record AreFew (sizes : Sizes) : Type 0 where
   pub acceptors : sizes.acceptors ≤ 7
   pub leaders : sizes.leaders ≤ 4
   pub managers : sizes.managers ≤ 64
-
-odd_few : (a : ℕ) → (a == 1 || a == 3 || a == 5 || a == 7) ≡ true → a ≤ 7
-odd_few a h = grind (arith, nat_tests)
 
 at_most : (m n : ℕ) → nat_le m n ≡ true → m ≤ n
 at_most m n h = grind (arith, nat_tests)

@@ -13,6 +13,7 @@ use Rattle.wire.proofs.Ascending.{IsFrom, from_zero, from_next, ascend_with, tai
 use Rattle.wire.proofs.Spelled.{some_same, step, unless}
 use Rattle.wire.specs.SpelledItems.{is_end, items_from, are_items}
 
+-- two tests hold where both do
 pub both : (a b : Bool) → (a && b) ≡ true → (a ≡ true) × (b ≡ true)
 both true b e = (refl, e)
 both false b e = absurd (cc (e))

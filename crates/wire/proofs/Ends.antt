@@ -1,12 +1,12 @@
 -- Where a transaction at the front of bytes ends.
-use Rattle.std.proofs.Common.{◌≡◌, ℕ, zero, suc, ◌+◌, ◌-◌, ◌<◌, ◌≤◌, false, cond, ltb, leb, eqb, List, [], ◌∷◌, ◌++◌, length, take, drop}
+use Rattle.std.proofs.Common.{◌≡◌, ℕ, zero, suc, ◌+◌, ◌-◌, ◌<◌, ◌≤◌, false, ltb, leb, eqb, List, [], ◌∷◌, ◌++◌, length, take}
 use Rattle.std.proofs.Common.{Option, Some, None, refl, sym, ap, subst, ◌∙◌, append_assoc, arith, slice_index}
 use Rattle.std.specs.List.{flat_map, All, AllByRecursion}
 use Rattle.std.specs.List.Sorted.{IsStrictlyIncreasing}
 use Rattle.std.proofs.Math.Dec.{eqb-suc-zero}
 use Rattle.std.proofs.lemmas.Bool.{le-ltb, ltb-false}
 use Rattle.std.proofs.lemmas.Bool.Decides.{nat_tests}
-use Rattle.std.proofs.lemmas.List.{length-take, length-append, take_at}
+use Rattle.std.proofs.lemmas.List.{length-append, take_at}
 use Rattle.std.proofs.lemmas.List.Concat.{flat_map-cons}
 use Rattle.std.proofs.lemmas.List.Elements.{recursion_from_All}
 use Rattle.xid.specs.Limits.{most_managers, most_component, most_branches, formats}
@@ -24,18 +24,9 @@ use Rattle.wire.proofs.Spelled.{byte_spelled, number_spelled, component_spelled,
 use Rattle.wire.proofs.Spelled as spelled
 use Rattle.wire.proofs.TakenTx.{in_spelled, in_again}
 use Rattle.wire.specs.Spelled.{manager_at, after_branches, after_tx}
+use Rattle.wire.proofs.Places.{component_few}
 
 -- ---- what was passed over is branches
-
-component_few : (bytes : List ℕ) (x : List ℕ × List ℕ) → component_at bytes ≡ Some x → length x.0 ≤ most_component
-unfolding component_at
-component_few [] x e = absurd (cc)
-component_few (n ∷ rest) x e =
-    let few = unless (ltb most_component n) (cond (ltb (length rest) n) None (Some (take n rest, drop n rest))) x e in
-    let long = unless (ltb (length rest) n) (Some (take n rest, drop n rest)) x few.1 in
-    let le : n ≤ most_component = ltb-false most_component n few.0 in
-    subst (λ (x : List ℕ × List ℕ). length x.0 ≤ most_component) (some_same (take n rest, drop n rest) x long.1)
-    (omega (arith, length-take n rest, le))
 
 bytes_front : (front rest : List ℕ) → IsBytes (front ++ rest) → (i : ℕ) → slice_index front i < 256
 bytes_front [] rest is i = omega arith

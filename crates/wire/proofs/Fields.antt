@@ -253,7 +253,8 @@ tx_valid (B1a tx ballot) is = is.0
 tx_valid (B1b tx ballot acceptor reports) is = is.0.valid
 tx_valid (B2b tx acceptor accepts) is = is.0.valid
 
-some_same : (x y : TxParts × List ℕ) → Some x ≡ Some y → x ≡ y
+-- what two that are there hold is the same, where they are
+pub some_same : (x y : TxParts × List ℕ) → Some x ≡ Some y → x ≡ y
 some_same x y e = cc
 
 -- what was taken from such bytes

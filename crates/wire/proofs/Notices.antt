@@ -59,7 +59,8 @@ headed notice (version ∷ kind ∷ fields) P e go =
       taken = two.1;
     })
 
-none_left : (bytes : List ℕ) (end : Unit {0}) → end_at bytes ≡ Some end → bytes ≡ []
+-- where bytes end there are none
+pub none_left : (bytes : List ℕ) (end : Unit {0}) → end_at bytes ≡ Some end → bytes ≡ []
 none_left [] end e = refl
 none_left (x ∷ bytes) end e = absurd (cc)
 

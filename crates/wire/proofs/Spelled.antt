@@ -64,6 +64,7 @@ one_byte (a ∷ rest) is le =
     let low : n % 256 ≡ a = omega (arith, is 0) in
     λ i. sym low i ∷ rest
 
+-- two bytes are those of their number
 pub two : (bytes : List ℕ) → IsBytes bytes → 2 ≤ length bytes → bytes ≡ big_bytes 2 (big_number 2 bytes) ++ drop 2 bytes
 two [] is le = absurd (omega arith)
 two (a ∷ []) is le = absurd (omega arith)

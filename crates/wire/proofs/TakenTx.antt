@@ -16,16 +16,12 @@ use Rattle.wire.proofs.Fields.{tx_again}
 use Rattle.wire.proofs.Spelled.{Front, some_same, step, unless, byte_spelled, number_spelled, component_spelled, branch_spelled}
 use Rattle.wire.proofs.Spelled.{list_spelled, tx_spelled}
 use Rattle.wire.proofs.DecodingLemmas.{tx_decides, kept}
+use Rattle.wire.proofs.Notices.{passes}
 
 managers_decide : (v : Version) (bs : List BranchParts) → Decides (are_managers v bs) (All (λ b. b.rm < v.most_managers) bs)
 managers_decide v bs =
     Decides-by_and (λ b. ltb b.rm v.most_managers) (λ b. b.rm < v.most_managers) (are_managers v) (λ b. Decides-ltb b.rm v.most_managers)
     refl (λ _ _. refl) bs
-
--- a reading behind a test that gave something
-outer : {X : Type 0} (t : Bool) (read : Option X) (y : X) → cond t read None ≡ Some y → (t ≡ true) × (read ≡ Some y)
-outer true read y e = (refl, e)
-outer false read y e = absurd (cc)
 
 module _ (v : Version) (bytes : List ℕ) where
   pub no_parts : tx_at v bytes ≡ None → tx_in v bytes ≡ None
@@ -83,7 +79,7 @@ pub in_spelled : (v : VersionNumber) (bytes : List ℕ) (x : TxParts × List ℕ
 unfolding tx_in
 in_spelled v bytes x is e =
     step (tx_at (version_of v) bytes) _ e (λ y ey e.
-    let one = outer (is_tx y.0) _ x e in
+    let one = passes (is_tx y.0) _ x e in
     let two = kept (are_managers (version_of v) y.0.branches) y x one.1 in
     let in-it : IsTxIn (version_of v) y.0 = record {
       valid = (tx_decides y.0).0 one.0;

@@ -27,15 +27,18 @@ use Rattle.protocol.proofs.Manager.Views.{prepared_shows}
 
 -- ---- facts of other transactions
 
+-- a fact of another transaction is no vote on this one
 pub other_vote : (tx : TxParts) (v : Vote) (fact : Fact) → tx_eq tx (fact_tx fact) ≡ false → is_vote_of tx v fact ≡ false
 other_vote tx votes.Prepared (stored.VotePrepared other keys) e = e
 other_vote tx votes.Aborted (stored.VoteAborted other) e = e
 other_vote tx v fact e = refl
 
+-- nor its commit
 pub other_commit : (tx : TxParts) (fact : Fact) → tx_eq tx (fact_tx fact) ≡ false → is_commit_of tx fact ≡ false
 other_commit tx (stored.Committed other) e = e
 other_commit tx fact e = refl
 
+-- nor its abort
 pub other_abort : (tx : TxParts) (fact : Fact) → tx_eq tx (fact_tx fact) ≡ false → is_abort_of tx fact ≡ false
 other_abort tx (stored.Aborted other) e = e
 other_abort tx fact e = refl

@@ -96,7 +96,8 @@ module _ {X : Type 0} (p : X → Bool) where
 
 -- ---- what is of another transaction
 
-last_false : (x y : Bool) → (x && (y && false)) ≡ false
+-- of three tests the last fails
+pub last_false : (x y : Bool) → (x && (y && false)) ≡ false
 last_false true true = refl
 last_false true false = refl
 last_false false y = refl

@@ -117,7 +117,7 @@ touch_of [] key e = absurd (cc (e))
 touch_of (t ∷ keys) key e = touch_by t keys key (touch_of keys key) (bytes_eq t.key key) refl e
 
 -- the first of ascending keys isn't there again
-first_once : (t : Touched) (keys : List Touched) → AreAscending (t ∷ keys) → has_key t.key keys ≡ false
+pub first_once : (t : Touched) (keys : List Touched) → AreAscending (t ∷ keys) → has_key t.key keys ≡ false
 first_once t [] ascending = refl
 first_once t (u ∷ keys) ascending = absent u keys t.key ascending.1 ascending.0
 

@@ -123,7 +123,8 @@ vote_in_after_aborted facts tx none =
 
 -- ---- outcomes
 
-committed_same : (tx : TxParts) (fact : Fact) → is_commit_of tx fact ≡ true → fact ≡ stored.Committed tx
+-- a commit of a transaction is this fact
+pub committed_same : (tx : TxParts) (fact : Fact) → is_commit_of tx fact ≡ true → fact ≡ stored.Committed tx
 committed_same tx (stored.Committed other) e = ap stored.Committed (sym ((tx_decides tx other).0 e))
 committed_same tx fact e = absurd (cc (e))
 

@@ -9,6 +9,7 @@ use Rattle.safety.specs.Invariant.{Invariant}
 in_order : (a b : ℕ) → (a < b) ⊎ ((a ≡ b) ⊎ (b < a))
 in_order a b = grind arith
 
+-- a ballot that a report covers is no greater than the greatest
 pub covered_at_most : (report : Option (ℕ × Vote)) (b top : ℕ) → IsCovered report b → IsBallotAtMost report top → b ≤ top
 covered_at_most None b top h k = absurd h
 covered_at_most (Some last) b top h k = le_trans h k

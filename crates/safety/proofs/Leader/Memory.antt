@@ -30,6 +30,7 @@ use Rattle.safety.proofs.Leader.Heard.{reported_from}
 
 -- ---- the greatest ballot stored
 
+-- the greatest of some numbers and others
 pub greatest-append : (xs ys : List ℕ) → greatest (xs ++ ys) ≡ max (greatest xs) (greatest ys)
 greatest-append [] ys = omega arith
 greatest-append (x ∷ xs) ys = let rest = greatest-append xs ys in omega arith
@@ -40,7 +41,8 @@ last_ballot-push facts fact tx =
     ap greatest (filter_map-append (ballot_begun tx) facts (fact ∷ []))
     ∙ greatest-append (filter_map (ballot_begun tx) facts) (filter_map (ballot_begun tx) (fact ∷ []))
 
-last_ballot-of_new : (facts : List Fact) (tx : TxParts) (b : ℕ) → last_ballot facts tx < b
+-- the last ballot after a greater one is that one
+pub last_ballot-of_new : (facts : List Fact) (tx : TxParts) (b : ℕ) → last_ballot facts tx < b
     → last_ballot (facts ++ stored.Ballot tx b ∷ []) tx ≡ b
 last_ballot-of_new facts tx b up =
     let same : ballot_begun tx (stored.Ballot tx b) ≡ Some b = cond-true (tx_eq tx tx) (Some b) None (tx_self tx) in

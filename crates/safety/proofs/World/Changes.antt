@@ -45,7 +45,7 @@ any_same p facts fact e =
     list_any-append p facts (fact ∷ []) ∙ ap (λ (b : Bool). list_any p facts || (b || false)) e ∙ or_none (list_any p facts)
 
 -- a fact of another transaction leaves the view
-view_other : (facts : List Fact) (fact : Fact) (tx : TxParts) → tx_eq tx (fact_tx fact) ≡ false → view (facts ++ fact ∷ []) tx
+pub view_other : (facts : List Fact) (fact : Fact) (tx : TxParts) → tx_eq tx (fact_tx fact) ≡ false → view (facts ++ fact ∷ []) tx
     ≡ view facts tx
 view_other facts fact tx e = λ i.
     if any_same (is_vote_of tx votes.Aborted) facts fact (other_vote tx votes.Aborted fact e) i
@@ -76,6 +76,7 @@ record SaysByFacts (who : NodeId) (before after : List Fact) (now : Option Chang
   pub said : (change : Change) → now ≡ Some change
       → (who ≡ R change.rm) × (view after change.tx ≡ change.view) × (view before change.tx ≢ change.view)
 
+-- the last of facts and one more is that one
 pub last_is : (before : List Fact) (fact : Fact) → slice_get (before ++ fact ∷ []) (length before) ≡ Some fact
 last_is [] fact = refl
 last_is (first ∷ before) fact = last_is before fact
@@ -170,13 +171,15 @@ possible_says who node fact left (inl same) = by_equal who node.facts left.node.
 possible_says who node fact left (inr grown) =
     by_equal who node.facts left.node.facts (node.facts ++ option_to_list fact) grown (grown_or_same who node.facts fact)
 
-restart_keeps : (config : Config) (who : NodeId) (node : NodeState) (fault : Fault) → (restart_outcome config who node fault).node.facts
+-- a restart leaves the facts
+pub restart_keeps : (config : Config) (who : NodeId) (node : NodeState) (fault : Fault) → (restart_outcome config who node fault).node.facts
     ≡ node.facts
 restart_keeps config who node NoMemoryAt = refl
 restart_keeps config who node (RecordFails whole) = refl
 restart_keeps config who node fault =
     cond_both (all_play config who [] node.facts) _ _ (λ (left : Outcome). left.node.facts ≡ node.facts) (λ plays. refl) (λ damaged. refl)
 
+-- a compaction leaves the facts
 pub compact_keeps : (node : NodeState) (fault : Fault) → (compact_outcome node fault).node.facts ≡ node.facts
 compact_keeps node NoMemoryAt = refl
 compact_keeps node (RecordFails whole) = refl

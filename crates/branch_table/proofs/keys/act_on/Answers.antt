@@ -1,7 +1,7 @@
 use Rattle.std.proofs.Common.{◌∙◌, sym}
+use Rattle.protocol.proofs.TouchedKeys.{untouched}
 use Rattle.branch_table.proofs.KeyPlaces.{act_at, found_at, is_up_to, key_placed, none_at}
 use Rattle.branch_table.proofs.Positions.{none_passes}
-use Rattle.branch_table.proofs.TableRows.{untouched}
 use Rattle.branch_table.proofs.keys.act_on.Goals as goal
 
 pub returns-in_default : goal.returns-in_default

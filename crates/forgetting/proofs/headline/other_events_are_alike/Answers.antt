@@ -2,8 +2,7 @@ use Rattle.std.specs.Prelude.{◌≡◌, true, [], List}
 use Rattle.std.proofs.Common.{sym, subst}
 use Rattle.protocol.specs.Basics.{Fact}
 use Rattle.protocol.specs.Nodes.{all_play, compact_outcome, restart_outcome}
-use Rattle.safety.proofs.World.Changes.{compact_keeps}
-use Rattle.floors.proofs.Nodes.{restart_keeps}
+use Rattle.safety.proofs.World.Changes.{compact_keeps, restart_keeps}
 use Rattle.forgetting.proofs.Coming.{came, compacted, restarted, torn}
 use Rattle.forgetting.proofs.headline.other_events_are_alike.Goals as goal
 

@@ -7,10 +7,11 @@ use Rattle.stable_record.specs.declared.fact.Touched.{Touched}
 use Rattle.protocol.specs.Managers.{has_key}
 use Rattle.protocol.specs.Tables.{rows_after, with_writes}
 use Rattle.protocol.proofs.TouchedKeys.{tail_ascends}
+use Rattle.protocol.proofs.Manager.Keys.{first_once}
 use Rattle.branch_table.specs.Outcomes.{looks_after}
 use Rattle.branch_table.specs.Parts.{CanLeave, TakesHolders, hold_at, hold_by, table_of, uses_by, uses_held}
 use Rattle.branch_table.proofs.PlaceTable.{can_leave, held_after, own_key}
-use Rattle.branch_table.proofs.Uses.{first_apart, first_uses, let_step, looks_more}
+use Rattle.branch_table.proofs.Uses.{first_uses, let_step, looks_more}
 use Rattle.branch_table.proofs.places.Places.settle.Goals as goal
 
 pub leave-requires : goal.leave-requires
@@ -51,7 +52,7 @@ loop-touched-preserved c =
           (uses_held writes (hold_by t.act)) _ (bytes_eq t.key key) (taken writes key) (first_uses writes key t rest up)
           (ap (λ (keys : List Touched). uses_held writes (hold_at before key) - uses_by writes key keys) (sym whole)
           ∙ c.loop-touched.invariant.holds writes key);
-      held = held_after before c.leave.new.self t rest (hold_by t.act) (first_apart t rest up) taken
+      held = held_after before c.leave.new.self t rest (hold_by t.act) (first_once t rest up) taken
           (subst (λ (keys : List Touched). (key : List ℕ) → has_key key keys ≡ true → 0 < (hold_at before key).touched_by) whole
           c.loop-touched.invariant.held);
       ascending = tail_ascends t rest up;
