@@ -43,6 +43,7 @@ module _ (place : Place) where
   slot_by facts tx i false absent =
       sym (unbegun_empty (kept_facts (Some place) facts) tx i (ap (list_any (tx_eq tx)) (begun_above facts) ∙ absent))
 
+  -- an acceptor with just these slots and beginnings stands for the facts that are kept
   pub stands_above : (old left : AcceptorParts) (config : Config) (number : ℕ) (facts : List Fact) → StandsFor config number old facts
       → left.number ≡ old.number → left.leaders ≡ old.leaders → left.bundled ≡ old.bundled
       → ((tx : TxParts) (i : ℕ) → slot_in left.table tx i

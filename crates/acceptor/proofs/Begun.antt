@@ -189,6 +189,7 @@ still_empty before (fact ∷ more) tx i e none =
     ∙ still_empty (before ++ fact ∷ []) more tx i
     (slot_more before fact tx i ∙ stays tx i (slot before tx i) fact parts.0 ∙ e) parts.1
 
+-- the slots of a transaction that hasn't begun are empty
 pub unbegun_empty : (facts : List Fact) (tx : TxParts) (i : ℕ) → list_any (tx_eq tx) (begun_in facts) ≡ false → slot facts tx i ≡ empty_slot
 unbegun_empty facts tx i none = still_empty [] facts tx i refl (sym (first_any fact_tx tx facts) ∙ none)
 

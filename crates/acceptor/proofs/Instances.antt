@@ -12,6 +12,7 @@ use Rattle.xid.specs.Transactions.{TxParts, BranchParts, IsTx, is_at, participan
 use Rattle.wire.specs.Messages.{AreInstances}
 use Rattle.acceptor.specs.Slots.{place_of, listed_items, with_item}
 
+-- what stands where no branch does
 abbrev pub blank : BranchParts
 blank = record { rm = 0; bqual = [] }
 
@@ -39,6 +40,7 @@ drop_step tx place lt =
     let next : suc place ≡ place + 1 = omega arith in
     drop-cons (participants tx) place 0 (omega (arith, len, lt)) ∙ (λ i. here i ∷ drop (next i) (participants tx))
 
+-- behind the last place there are no participants
 pub drop_end : (tx : TxParts) (place : ℕ) → length tx.branches ≤ place → drop place (participants tx) ≡ []
 drop_end tx place le =
     let len : length (participants tx) ≡ length tx.branches = length-map tx.branches (λ b. b.rm) in
@@ -47,32 +49,38 @@ drop_end tx place le =
 -- ---- a test of each instance
 
 module _ (tx : TxParts) (q : ℕ → Bool) (place : ℕ) where
+  -- a test of all participants goes on where one passes
   pub all_goes_on : place < length tx.branches → q (nth_branch tx place).rm ≡ true
       → list_all q (drop place (participants tx)) ≡ list_all q (participants tx)
       → list_all q (drop (place + 1) (participants tx)) ≡ list_all q (participants tx)
   all_goes_on lt passed e =
       ap (λ b. b && list_all q (drop (place + 1) (participants tx))) (sym passed) ∙ sym (ap (list_all q) (drop_step tx place lt)) ∙ e
 
+  -- it stops where one fails
   pub all_stops : place < length tx.branches → q (nth_branch tx place).rm ≡ false
       → list_all q (drop place (participants tx)) ≡ list_all q (participants tx) → false ≡ list_all q (participants tx)
   all_stops lt failed e =
       ap (λ b. b && list_all q (drop (place + 1) (participants tx))) (sym failed) ∙ sym (ap (list_all q) (drop_step tx place lt)) ∙ e
 
+  -- at the end all have passed
   pub all_ends : length tx.branches ≤ place → list_all q (drop place (participants tx)) ≡ list_all q (participants tx)
       → true ≡ list_all q (participants tx)
   all_ends le e = sym (ap (list_all q) (drop_end tx place le)) ∙ e
 
+  -- a test of any participant goes on where one fails
   pub any_goes_on : place < length tx.branches → q (nth_branch tx place).rm ≡ false
       → list_any q (drop place (participants tx)) ≡ list_any q (participants tx)
       → list_any q (drop (place + 1) (participants tx)) ≡ list_any q (participants tx)
   any_goes_on lt failed e =
       ap (λ b. b || list_any q (drop (place + 1) (participants tx))) (sym failed) ∙ sym (ap (list_any q) (drop_step tx place lt)) ∙ e
 
+  -- it stops where one passes
   pub any_stops : place < length tx.branches → q (nth_branch tx place).rm ≡ true
       → list_any q (drop place (participants tx)) ≡ list_any q (participants tx) → true ≡ list_any q (participants tx)
   any_stops lt passed e =
       ap (λ b. b || list_any q (drop (place + 1) (participants tx))) (sym passed) ∙ sym (ap (list_any q) (drop_step tx place lt)) ∙ e
 
+  -- at the end none has passed
   pub any_ends : length tx.branches ≤ place → list_any q (drop place (participants tx)) ≡ list_any q (participants tx)
       → false ≡ list_any q (participants tx)
   any_ends le e = sym (ap (list_any q) (drop_end tx place le)) ∙ e
@@ -98,6 +106,7 @@ module _ {X : Type 0} {tx : TxParts} {h : ℕ → Option X} {P : X → Type 0} {
       ap (λ (o : Option X). listed_items items ++ cons_option o (filter_map h (drop (place + 1) (participants tx)))) e
       ∙ sym (ap (λ ns. listed_items items ++ filter_map h ns) (drop_step tx place lt)) ∙ g.rest
 
+  -- the items of one participant more
   pub gathers_next : (item : Option X) → place < length tx.branches → item ≡ h (nth_branch tx place).rm → IfSome item P
       → Gathers tx h P items place → Gathers tx h P (with_item items item) (place + 1)
   gathers_next None lt e one g = record { rest = split_rest None lt e g; few = omega (arith, g.few); some = g.some; each = g.each }
@@ -111,6 +120,7 @@ module _ {X : Type 0} {tx : TxParts} {h : ℕ → Option X} {P : X → Type 0} {
         each = each_next P (listed_items items) x g.each one;
       }
 
+  -- those of all participants
   pub gathered : length tx.branches ≤ place → Gathers tx h P items place → listed_items items ≡ filter_map h (participants tx)
   gathered le g =
       sym (append-nil (listed_items items)) ∙ sym (ap (λ ns. listed_items items ++ filter_map h ns) (drop_end tx place le)) ∙ g.rest

@@ -57,6 +57,7 @@ fold_all : (f : ℕ → ℕ) (m n : ℕ) (is : List ℕ) → m ≤ fold min n (m
 fold_all f m n [] le = tt
 fold_all f m n (i ∷ is) le = (omega (arith, le, least_first f (min n (f i)) is), fold_all f m (min n (f i)) is le)
 
+-- the least of some ballots is below each
 pub least_all : (f : ℕ → ℕ) (is : List ℕ) → AllByRecursion (λ i. least (map f is) ≤ f i) is
 least_all f [] = tt
 least_all f (i ∷ is) = (least_first f (f i) is, fold_all f (fold min (f i) (map f is)) (f i) is (omega arith))
@@ -66,6 +67,7 @@ fold_more : (f h : ℕ → ℕ) (n m : ℕ) (is : List ℕ) → n ≤ m → ((i 
 fold_more f h n m [] le each = le
 fold_more f h n m (i ∷ is) le each = fold_more f h (min n (f i)) (min m (h i)) is (omega (arith, le, each i)) each
 
+-- the least of greater ballots is greater
 pub least_more : (f h : ℕ → ℕ) (is : List ℕ) → ((i : ℕ) → f i ≤ h i) → least (map f is) ≤ least (map h is)
 least_more f h [] each = omega arith
 least_more f h (i ∷ is) each = fold_more f h (f i) (h i) is (each i) each
@@ -75,6 +77,7 @@ fold_above : (f : ℕ → ℕ) (b n : ℕ) (is : List ℕ) → b ≤ n → AllBy
 fold_above f b n [] le each = le
 fold_above f b n (i ∷ is) le each = fold_above f b (min n (f i)) is (omega (arith, le, each.0)) each.1
 
+-- a ballot below each of some that there are is below their least
 pub least_above : (f : ℕ → ℕ) (b : ℕ) (p : ℕ → Bool) (is : List ℕ) → list_any p is ≡ true → AllByRecursion (λ i. b ≤ f i) is
     → b ≤ least (map f is)
 least_above f b p [] some each = absurd (true≢false (sym some))
@@ -91,6 +94,7 @@ module _ (tx : TxParts) (valid : IsTx tx) (slots : List Slot) where
       → s ≡ slot_of tx slots (nth_branch tx place).rm
   slot_there place s lt here = here ∙ ap (slot_at slots) (sym (place_of_nth tx place valid lt))
 
+  -- the least after the first instance
   pub least_begins : (s : Slot) → s ≡ slot_at slots 0
       → fold min s.mbal (map ballots (drop 1 (participants tx))) ≡ least_ballot (slots_of tx slots) tx
   least_begins s here =
@@ -98,6 +102,7 @@ module _ (tx : TxParts) (valid : IsTx tx) (slots : List Slot) where
       ap (λ (x : Slot). fold min x.mbal (map ballots (drop 1 (participants tx)))) (slot_there 0 s lt here)
       ∙ sym (ap (λ is. least (map ballots is)) (drop_step tx 0 lt))
 
+  -- after one instance more
   pub least_next : (place n : ℕ) (s : Slot) → place < length tx.branches → s ≡ slot_at slots place
       → fold min n (map ballots (drop place (participants tx))) ≡ least_ballot (slots_of tx slots) tx
       → fold min (min n s.mbal) (map ballots (drop (place + 1) (participants tx))) ≡ least_ballot (slots_of tx slots) tx
@@ -105,6 +110,7 @@ module _ (tx : TxParts) (valid : IsTx tx) (slots : List Slot) where
       ap (λ (x : Slot). fold min (min n x.mbal) (map ballots (drop (place + 1) (participants tx)))) (slot_there place s lt here)
       ∙ sym (ap (λ is. fold min n (map ballots is)) (drop_step tx place lt)) ∙ e
 
+  -- after all of them
   pub least_ends : (place n : ℕ) → length tx.branches ≤ place
       → fold min n (map ballots (drop place (participants tx))) ≡ least_ballot (slots_of tx slots) tx
       → n ≡ least_ballot (slots_of tx slots) tx

@@ -36,11 +36,13 @@ module _ {V : Type 0} (items : V → List Slot) (ts us : List TxParts) (tx : TxP
   rows : map items ws ≡ map items vs ++ items v ∷ []
   rows = ap (map items) pushed ∙ map-append items vs (v ∷ [])
 
+  -- a table with one transaction more
   pub put_parts : (row : List Slot) → items v ≡ row
       → ◌≡◌ {A = TableParts} (record { transactions = us; slots = map items ws })
       (record { transactions = ts ++ tx ∷ []; slots = map items vs ++ row ∷ [] })
   put_parts row is = λ k. record { transactions = last k; slots = (rows ∙ ap (λ (r : List Slot). map items vs ++ r ∷ []) is) k }
 
+  -- each transaction there has its slots
   pub put_table : length (items v) ≡ length tx.branches → IsTable (record { transactions = ts; slots = map items vs })
       → IsTable (record { transactions = us; slots = map items ws })
   put_table whole is =
@@ -152,6 +154,7 @@ module _ (place : Place) (table : TableParts) (begun : List TxParts) where
                 ∙ sym more;
           }
 
+      -- what is left, after one transaction more
       pub put_there : (row : List Slot) → row ≡ slots_in table tx → (number : ℕ) → number ≡ length left.transactions
           → (next : TableParts) → next ≡ record { transactions = left.transactions ++ tx ∷ []; slots = left.slots ++ row ∷ [] }
           → (more : List ℕ) → more ≡ numbered_with numbers number → HasRowsOf table (txs_above place (take (n + 1) begun)) next more
@@ -164,6 +167,7 @@ module _ (place : Place) (table : TableParts) (begun : List TxParts) where
 
 -- ---- those of an order are seen
 
+-- a transaction in a place was seen
 pub seen_at : (ts : List TxParts) → IsDistinct tx_eq ts → (places : List ℕ) (i : ℕ) → AreInside (length ts) places → i < length places
     → place_in ts (get_or (at_places ts places) i no_transaction) < length ts
 seen_at ts once [] i each less = absurd (omega (arith, less))

@@ -551,6 +551,7 @@ valid_tx (y ∷ ys) tx each there = by (tx_eq tx y) refl (λ rest. valid_tx ys t
     by true e later = subst IsTx (sym ((tx_decides tx y).0 e)) each.0
     by false e later = later (sym (ap (λ t. t || list_any (tx_eq tx) ys) e) ∙ there)
 
+-- facts about transactions that hold together do
 pub each_valid : (facts : List Fact) → AllByRecursion IsTx (begun_in facts) → AllByRecursion (λ fact. IsTx (fact_tx fact)) facts
 each_valid facts valid = rest_valid facts (λ tx there. there)
   where

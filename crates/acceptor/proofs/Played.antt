@@ -39,6 +39,7 @@ last_more None before [] = refl
 last_more (Some x) before [] = refl
 last_more o before (x ∷ xs) = last_more o (Some x) xs
 
+-- a slot after one fact more
 pub slot_more : (facts : List Fact) (fact : Fact) (tx : TxParts) (i : ℕ)
     → slot (facts ++ fact ∷ []) tx i ≡ after_fact tx i (slot facts tx i) fact
 slot_more facts fact tx i =
@@ -173,6 +174,7 @@ module _ (slots : List Slot) (i : ℕ) where
           ∙ sym (get_or_past slots (place_of tx i) empty_slot (omega (arith, whole, full)))
           ∙ sym (joins false (absent_from_place (is_at i) tx.branches full))
 
+  -- slots that a fact changes are what it makes of them
   pub leads_to : (fact : Fact) → length slots ≡ length (fact_tx fact).branches → plays_at_acceptor (slots_of (fact_tx fact) slots) fact
       ≡ true
       → slot_of (fact_tx fact) (slots_after (fact_tx fact) slots fact) i ≡ after_fact (fact_tx fact) i (slot_of (fact_tx fact) slots i) fact
@@ -198,6 +200,7 @@ module _ (slots : List Slot) (i : ℕ) where
 
 -- ---- the slots of other transactions stay
 
+-- a fact of another transaction leaves a slot
 pub stays : (tx : TxParts) (i : ℕ) (s : Slot) (fact : Fact) → tx_eq tx (fact_tx fact) ≡ false → after_fact tx i s fact ≡ s
 stays tx i s (Fact.Promise other j b) e = ap (λ t. record { mbal = raised s.mbal (cond t (Some b) None); report = s.report }) (and_false
     (i == j) e)
@@ -225,6 +228,7 @@ whole_after tx slots (Fact.Aborted other) = refl
 
 -- ---- the condition of a fact asks of its own transaction alone
 
+-- whether a fact plays is asked of its own transaction's slots
 pub plays_alone : (slots : Slots) (fact : Fact) → plays_at_acceptor (λ _. slots (fact_tx fact)) fact ≡ plays_at_acceptor slots fact
 plays_alone slots (Fact.Promise tx j b) = refl
 plays_alone slots (Fact.Accept tx j b v) = refl

@@ -17,6 +17,7 @@ module _ {X : Type 0} (f : X → X) where
   changed_suc (x ∷ xs) zero d lt = refl
   changed_suc (x ∷ xs) (suc i) d lt = ap (λ ys. f x ∷ ys) (changed_suc xs i d (omega arith))
 
+  -- one place more of a list is changed
   pub changed_next : (xs : List X) (i : ℕ) (d : X) → i < length xs → set (changed xs i) i (f (get_or (changed xs i) i d))
       ≡ changed xs (i + 1)
   changed_next xs i d lt =

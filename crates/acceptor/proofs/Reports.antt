@@ -14,6 +14,7 @@ use Rattle.ballot.specs.declared.slot.Slot.{Slot}
 use Rattle.protocol.specs.Acceptors.{Slots, is_some_below, reports_below, report_after, accept_item}
 use Rattle.acceptor.specs.Slots.{listed_items, report_item}
 
+-- nothing to report
 abbrev pub no_report : Option InstanceReport
 no_report = None
 
@@ -40,6 +41,7 @@ kept_any g p (x ∷ xs) = by (p x) (kept_any g p xs)
     by true e = sym (lt-ltb 0 _ (omega arith))
     by false e = e
 
+-- where there is an item there is something below the ballot
 pub reports_told : (slots : Slots) (tx : TxParts) (b : ℕ) (r : Option (List InstanceReport)) → IfSome r (λ items. 1 ≤ length items)
     → listed_items r ≡ filter_map (report_item slots tx b) (participants tx)
     → MatchOption r (is_some_below slots tx b ≡ false) (λ items. (is_some_below slots tx b ≡ true) × (items ≡ reports_below slots tx b))
@@ -59,6 +61,7 @@ reports_told slots tx b r some e =
 
 -- ---- an item is its instance's
 
+-- an item is of the instance that it is asked of
 pub own_report : (slots : Slots) (tx : TxParts) (b n : ℕ) (x : InstanceReport) → report_item slots tx b n ≡ Some x → x.instance ≡ n
 own_report slots tx b n x e = by (ltb (slots tx n).mbal b) e
   where
@@ -66,6 +69,7 @@ own_report slots tx b n x e = by (ltb (slots tx n).mbal b) e
     by true e = ap (λ (y : InstanceReport). y.instance) (sym (some_same _ x e))
     by false e = absurd (cc (e))
 
+-- so is one of an accept
 pub own_accept : (last : ℕ → Report) (n : ℕ) (x : InstanceAccept) → accept_item n (last n) ≡ Some x → x.instance ≡ n
 own_accept last n x e = by (last n) e
   where
@@ -82,6 +86,7 @@ accept_told slots tx i b v = ap (λ t. accept_item i (cond t (Some (b, v)) (slot
 pub no_item : (s : Slot) (b i : ℕ) → b ≤ s.mbal → None ≡ cond (ltb s.mbal b) (Some (record { instance = i; report = s.report })) no_report
 no_item s b i le = ap (λ t. cond t (Some (record { instance = i; report = s.report })) no_report) (sym (le-ltb s.mbal b le))
 
+-- an instance below the ballot has an item
 pub is_item : (s : Slot) (b i : ℕ) → s.mbal < b
     → Some (record { instance = i; report = s.report }) ≡ cond (ltb s.mbal b) (Some (record { instance = i; report = s.report })) no_report
 is_item s b i lt = ap (λ t. cond t (Some (record { instance = i; report = s.report })) no_report) (sym (lt-ltb s.mbal b lt))

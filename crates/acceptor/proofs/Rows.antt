@@ -61,6 +61,7 @@ module _ (ts : List TxParts) (tx : TxParts) (absent : place_in ts tx ≡ length 
           ap (λ slots. slot_of other slots i) (row_none other full e)
           ∙ ap (λ slots. slot_of other slots i) (sym (get_or_past rows (place_in ts other) [] (omega (arith, full, is.rows))))
 
+  -- each transaction has its slots, after one more is seen
   pub seen_table : length row ≡ length tx.branches → IsTable after
   seen_table len = record {
     rows = omega (arith, is.rows, length-append rows (row ∷ []), longer ts tx absent);
@@ -145,6 +146,7 @@ map-set f [] n x = refl
 map-set f (y ∷ xs) zero x = refl
 map-set f (y ∷ xs) (suc n) x = ap (λ ys. f y ∷ ys) (map-set f xs n x)
 
+-- the same of a table of the same parts
 pub same_table : (ts us : List TxParts) (rows sows : List (List Slot)) → ts ≡ us → rows ≡ sows → (P : TableParts → Type 0)
     → P (record { transactions = ts; slots = rows }) → P (record { transactions = us; slots = sows })
 same_table ts us rows sows e f P p = subst P (λ k. record { transactions = e k; slots = f k }) p
@@ -159,12 +161,15 @@ module _ {V : Type 0} (items : V → List Slot) (ts us : List TxParts) (tx : TxP
   rows : map items ws ≡ map items vs ++ items v ∷ []
   rows = ap (map items) pushed ∙ map-append items vs (v ∷ [])
 
+  -- a transaction that is seen again has its number
   pub saw_number : place_in ts tx ≡ place_in us tx
   saw_number = number_same ts tx absent ∙ ap (λ xs. place_in xs tx) (sym last)
 
+  -- and is there
   pub saw_seen : place_in us tx < length us
   saw_seen = subst (λ xs. place_in xs tx < length xs) (sym last) (is_seen ts tx absent)
 
+  -- each transaction has its slots after it
   pub saw_table : IsTable (record { transactions = us; slots = map items ws })
   saw_table =
       same_table _ _ _ _ (sym last) (sym rows) IsTable
@@ -189,9 +194,11 @@ module _ {V : Type 0} (items : V → List Slot) (ts : List TxParts) (vs : List V
       ∙ (λ k. set (map items vs) (number k) ((now ∙ ap (λ slots. slots_after (fact_tx fact) slots fact)
       (was ∙ ap (λ m. get_or (map items vs) m []) number)) k))
 
+  -- each has after a change of some slots
   pub wrote_table : IsTable (record { transactions = ts; slots = map items (set vs n new) })
   wrote_table = same_table ts ts _ _ refl (sym written) IsTable (changed_table ts (map items vs) fact is seen)
 
+  -- and the slots are those after the fact
   pub wrote_slots : plays_at_acceptor (slot_in (record { transactions = ts; slots = map items vs })) fact ≡ true → (other : TxParts) (i : ℕ)
       → slot_in (record { transactions = ts; slots = map items (set vs n new) }) other i
       ≡ after_fact other i (slot_in (record { transactions = ts; slots = map items vs }) other i) fact

@@ -31,6 +31,7 @@ slots_are : {config : Config} {number : ℕ} {a : AcceptorParts} {facts : List F
     ≡ slot facts
 slots_are stands = λ k tx i. stands.slots_are tx i k
 
+-- an acceptor decides by a rule of its slots
 pub decides : (a : AcceptorParts) (decision : Decision) (rule : Config → ℕ → Slots → Effect (Unit {0}))
     → ((config : Config) → a.leaders ≡ config.leaders → a.bundled ≡ config.bundled → decision
     ≡ decision_of (rule config a.number (slot_in a.table)))
@@ -63,16 +64,19 @@ accept_plays slots fact sends true true plays = tt
 accept_plays slots fact sends true false plays = plays refl refl
 accept_plays slots fact sends false u plays = tt
 
+-- a fact that phase 1a stores plays
 pub plays_1a : (tx : TxParts) (i b : ℕ) → IsMessage (P1a tx i b) → (config : Config) (number : ℕ) (slots : Slots)
     → IfSome (on_1a config number slots tx i b).fact (λ fact. plays_at_acceptor slots fact ≡ true)
 plays_1a tx i b is config number slots =
     stored_plays slots (Fact.Promise tx i b) _ (ltb (slots tx i).mbal b) (λ lt. and_from (is_participant tx i) (ltb
     (slots tx i).mbal b) is.0.named lt)
 
+-- so does one that phase 1a of all instances stores
 pub plays_b1a : (tx : TxParts) (b : ℕ) (config : Config) (number : ℕ) (slots : Slots)
     → IfSome (on_b1a config number slots tx b).fact (λ fact. plays_at_acceptor slots fact ≡ true)
 plays_b1a tx b config number slots = stored_plays slots (Fact.PromiseAll tx b) _ (is_some_below slots tx b) (λ some. some)
 
+-- and one that phase 2a does
 pub plays_2a : (tx : TxParts) (i b : ℕ) (v : Vote) → IsMessage (P2a tx i b v) → (config : Config) (number : ℕ) (slots : Slots)
     → IfSome (on_2a config number slots tx i b v).fact (λ fact. plays_at_acceptor slots fact ≡ true)
 plays_2a tx i b v is config number slots =
@@ -119,10 +123,12 @@ stands_still a table begun room same order config number facts stands = record {
 }
 
 module _ (a : AcceptorParts) (fact : Fact) where
+  -- where a fact doesn't play, it is refused as damaged
   pub is_damaged : plays_at_acceptor (slot_in a.table) fact ≡ false → (config : Config) (number : ℕ)
       → IsPlayed (acceptor_part config number) a a fact (Err Damaged)
   is_damaged e config number = (plays_for config number a fact false e, λ facts stands. stands)
 
+  -- where memory is refused, the acceptor wasn't ready, and stands for the same
   pub lacks_memory : (table : TableParts) (begun : List TxParts) (room : ℕ) → plays_at_acceptor (slot_in a.table) fact ≡ true
       → (IsSeen a.table (fact_tx fact) × (0 < a.room) → ⊥) → ((tx : TxParts) (i : ℕ) → slot_in table tx i ≡ slot_in a.table tx i)
       → begun ≡ a.begun
@@ -133,6 +139,7 @@ module _ (a : AcceptorParts) (fact : Fact) where
     λ facts stands. stands_still a table begun room same order config number facts stands,
   )
 
+  -- a fact that plays leads to the facts with it
   pub is_played : (ready table : TableParts) (begun : List TxParts) (room : ℕ) → plays_at_acceptor (slot_in a.table) fact ≡ true
       → ((tx : TxParts) (i : ℕ) → slot_in ready tx i ≡ slot_in a.table tx i)
       → ((tx : TxParts) (i : ℕ) → slot_in table tx i ≡ after_fact tx i (slot_in ready tx i) fact)

@@ -76,6 +76,7 @@ module _ (bytes grown : List ℕ) (entries : List Entry) (new : Entry) where
       ∙ ap (λ ks. ks ++ kept_in grown new ∷ [])
       (ap (λ (all : List ℕ). map (kept_in all) entries) is ∙ datagrams_grown bytes text entries within)
 
+  -- a network with one entry more keeps one datagram more
   pub stands_pushed : (text : List ℕ) → grown ≡ bytes ++ text → All (λ e. e.start + e.len ≤ length bytes) entries
       → (after : List Entry) → after ≡ entries ++ new ∷ [] → (net : List Datagram) (d : Datagram)
       → AllZip IsKept (map (kept_in bytes) entries) net → IsKept (kept_in grown new) d
@@ -125,16 +126,19 @@ module _ (bytes : List ℕ) (entries : List Entry) (front : ℕ) (is : IsNetwork
       (front_map (λ (k : DatagramParts). k.marked) (kept_in bytes) entries ∙ sym is.front_is)
       ∙ ap (λ (n : ℕ). cond (ltb front n) (Some (suc front)) None) (length-map entries (kept_in bytes))
 
+  -- the first unmarked entry has the least number
   pub least_below : front < length entries → Some (front + 1) ≡ least_unmarked net
   least_below lt =
       let next : front + 1 ≡ suc front = omega arith in
       ap (λ (n : ℕ). Some n) next ∙ sym (least ∙ ap (λ b. cond b (Some (suc front)) None) (lt-ltb front (length entries) lt))
 
+  -- where all entries are marked, no datagram is unmarked
   pub least_none : length entries ≤ front → None ≡ least_unmarked net
   least_none le = sym (least ∙ ap (λ b. cond b (Some (suc front)) None) (le-ltb front (length entries) le))
 
 -- ---- a datagram marked
 
+-- an entry that is marked
 abbrev pub marked_entry : Entry → Entry
 marked_entry e = record { start = e.start; len = e.len; sender = e.sender; receiver = e.receiver; marked = true }
 

@@ -61,11 +61,13 @@ past_end [] i le = refl
 past_end (x ∷ xs) zero le = absurd (omega arith)
 past_end (x ∷ xs) (suc i) le = past_end xs i (omega arith)
 
+-- no datagram has number 0, or a number past the last
 pub no_number : (net : List Datagram) (n : ℕ) → (n ≡ 0) ⊎ (length net < n) → datagram_at net n ≡ None
 no_number net zero none = refl
 no_number net (suc i) (inl e) = absurd (omega arith)
 no_number net (suc i) (inr lt) = past_end net i (omega arith)
 
+-- a mark there changes nothing
 pub mark_none : (net : List Datagram) (n : ℕ) → (n ≡ 0) ⊎ (length net < n) → mark_at net n ≡ net
 mark_none [] n none = refl
 mark_none (d ∷ net) zero none = refl
@@ -81,6 +83,7 @@ after_first : (b : Bool) (front count : ℕ) → cond b (option_map suc (cond (l
 after_first true front count = grind (arith, nat_tests)
 after_first false front count = grind (arith, nat_tests)
 
+-- the least unmarked datagram, by how many entries are marked in front
 pub least_is : (kept : List DatagramParts) (net : List Datagram) → AllZip IsKept kept net
     → least_unmarked net
     ≡ cond (ltb (prefix_len (λ k. k.marked) kept) (length kept)) (Some (suc (prefix_len (λ k. k.marked) kept))) None

@@ -58,6 +58,7 @@ sizes_of config floored m s = alike_sizes floored.node.who s.from config s.above
 
 module _ (sizes : Sizes) (floored : FlooredParts) (told : List (Option Place)) (is : IsMember sizes floored told) (config : Config)
     (m : NodeState) (s : FlooredStands config floored m) where
+  -- a member's sizes are those of each cluster for whose node it stands
   pub member_sizes : AreSizes config sizes
   member_sizes = subst (AreSizes config) is.sizes_are (sizes_of config floored m s)
 
@@ -91,6 +92,7 @@ cluster_sizes config (R rm) (Some rows) sizes are = record {
   bundled_is = are.bundled_is;
 }
 
+-- a node that was opened, with nothing told, is a member
 pub opened_member : (config : Config) (who : NodeId) (held : Held) (sizes : Sizes) (floored : FlooredParts) (told : List (Option Place))
     → AreSizes config sizes → IsFlooredOpened config who held floored → told ≡ replicate sizes.managers None
     → IsMember sizes floored told
@@ -112,6 +114,7 @@ opened_member config who held sizes floored told are o empty = record {
 -- ---- it stays one
 
 module _ (sizes : Sizes) (old new : FlooredParts) (told now : List (Option Place)) (is : IsMember sizes old told) where
+  -- a member stays one where it keeps its sizes and how many floors it can be told
   pub member_still : new.node.sizes ≡ old.node.sizes → length now ≡ length told → (config : Config) (m : NodeState)
       → FlooredStands config new m → IsMember sizes new now
   member_still same long config m stands = record {
@@ -129,6 +132,7 @@ compacted_by : (config : Config) (m : NodeState) (old new : FlooredParts) (resul
 compacted_by config m old new result (inl up) = (_, up.stands)
 compacted_by config m old new result (inr down) = (m, down.stands)
 
+-- after a compaction a node stands for some node of the machine
 pub compacted_stands : (config : Config) (m : NodeState) (old new : FlooredParts) (result : Result (Unit {0}) Refusal)
     → FlooredCompacts config m old new result → (now : NodeState) × FlooredStands config new now
 compacted_stands config m old new result c = compacted_by config m old new result c.comes
@@ -140,6 +144,7 @@ grouped_by : (config : Config) (who : NodeId) (floor : Option Place) (from : At)
 grouped_by config who floor from inputs new outs (Ok done) (to, runs, held, stands) = (to.state, stands)
 grouped_by config who floor from inputs new outs (Err error) (stops, down, outs_are) = (stops.to.state, stops.stands)
 
+-- so it does after a group
 pub grouped_stands : (config : Config) (m : NodeState) (inputs : List Input) (old new : FlooredParts) (outs : List Output)
     (result : Result (Unit {0}) RecordError) → FlooredGroupsAs config m inputs old new outs result
     → (now : NodeState) × FlooredStands config new now
@@ -152,6 +157,7 @@ pub record RisesStill (config : Config) (old new : FlooredParts) : Type 0 where
   pub who_is : new.node.who ≡ old.node.who
   pub sizes_are : new.node.sizes ≡ old.node.sizes
 
+-- and where its floor was to rise to the least that was told
 pub least_stands : (config : Config) (m : NodeState) (least : Option Place) (old new : FlooredParts) (result : Result (Unit {0}) Refusal)
     → FlooredStands config old m → RisesToLeast config m least old new result → RisesStill config old new
 least_stands config m None old new result s rises = record {
@@ -178,6 +184,7 @@ unopened_early config who held among = record {
 -- ---- as its callers see it
 
 module _ (floored : FlooredParts) (told : List (Option Place)) (now : MemberParts) (is : member_of floored told ≡ now) where
+  -- what a restart of the node beneath comes to at a member
   pub restarted_seen : (new : FlooredParts) (left : List (Option Place)) (result : Result (Unit {0}) Refusal)
       → ((config : Config) (m : NodeState) → FlooredStands config floored m → FlooredRestarts config m floored new result)
       → ((config : Config) (m : NodeState) → NodeStands config floored.node m → RestartsAs config m floored.node new.node result)
@@ -186,6 +193,7 @@ module _ (floored : FlooredParts) (told : List (Option Place)) (now : MemberPart
       subst (λ (x : MemberParts). RestartsMember x (member_of new left) result) is
       (record { machine = machine; node = node; told_is = forgot })
 
+  -- a compaction, in the same way
   pub compacted_seen : (new : FlooredParts) (result : Result (Unit {0}) Refusal)
       → ((config : Config) (m : NodeState) → FlooredStands config floored m → FlooredCompacts config m floored new result)
       → ((config : Config) (m : NodeState) → NodeStands config floored.node m → CompactsAs config m floored.node new.node result)
@@ -194,12 +202,14 @@ module _ (floored : FlooredParts) (told : List (Option Place)) (now : MemberPart
       subst (λ (x : MemberParts). CompactsMember x (member_of new told) result) is
       (record { machine = machine; node = node; told_is = refl })
 
+  -- a floor that was to rise
   pub raised_seen : (place : Place) (new : FlooredParts) (result : Result (Unit {0}) Refusal)
       → ((config : Config) (m : NodeState) → FlooredStands config floored m → FlooredRaises config m place floored new result)
       → RaisesMember place now (member_of new told) result
   raised_seen place new result machine =
       subst (λ (x : MemberParts). RaisesMember place x (member_of new told) result) is (record { machine = machine; told_is = refl })
 
+  -- a table that was asked for
   pub tabled_seen : (new : FlooredParts) (result : Result (List Row) Refusal)
       → ((config : Config) (m : NodeState) → FlooredStands config floored m → FlooredTables config m floored new result)
       → (config : Config) (m : NodeState) → FlooredStands config now.floored m → FlooredTables config m now.floored new result
@@ -207,6 +217,7 @@ module _ (floored : FlooredParts) (told : List (Option Place)) (now : MemberPart
       subst (λ (x : MemberParts). (config : Config) (m : NodeState) → FlooredStands config x.floored m
       → FlooredTables config m x.floored new result) is says
 
+  -- a view that was asked for
   pub viewed_seen : (tx : TxParts) (new : FlooredParts) (result : Result View Refusal)
       → ((config : Config) (m : NodeState) → FlooredStands config floored m → FlooredViews config m floored new tx result)
       → (config : Config) (m : NodeState) → FlooredStands config now.floored m → FlooredViews config m now.floored new tx result

@@ -62,6 +62,7 @@ module _ {P : Type 0} (Sent : Sending P) where
   to_then bytes [] more a b c none rest = subst (λ (p : P). SendsTo Sent p c bytes more) none rest
   to_then bytes (who ∷ whos) more a b c some rest = (some.0, some.1, some.2, to_then bytes whos more some.0 b c some.3 rest)
 
+  -- bytes to one node more
   pub to_one : (bytes : List ℕ) (whos : List NodeId) (a b c : P) (who : NodeId) (result : Result (Unit {0}) Refusal)
       → SendsTo Sent a b bytes whos → Sent b c who bytes result → SendsTo Sent a c bytes (whos ++ who ∷ [])
   to_one bytes whos a b c who result some one = to_then bytes whos (who ∷ []) a b c some (c, result, one, refl)

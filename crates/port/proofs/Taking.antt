@@ -25,9 +25,11 @@ use Rattle.port.specs.Members.{item_of, member_of, notice_in}
 -- ---- set aside
 
 module _ (floor : Option Place) (who : NodeId) (input : Handed) where
+  -- a notice is set aside
   pub aside_notice : (notice : Notice) → Some notice ≡ notice_in who input → is_aside floor (item_of who input) ≡ true
   aside_notice notice e = ap (λ (o : Option Notice). is_aside floor (option_map_or Hears o (Acts (input_of input)))) (sym e)
 
+  -- any other input is where it is below the floor
   pub aside_input : None ≡ notice_in who input → is_aside floor (item_of who input) ≡ is_input_below floor (input_of input)
   aside_input e = ap (λ (o : Option Notice). is_aside floor (option_map_or Hears o (Acts (input_of input)))) (sym e)
 
@@ -55,6 +57,7 @@ grouped_high floor (Acts input) = by (is_input_below floor input) refl
     by true e = refl
     by false e = e
 
+-- no input that stands in a group is below the floor
 pub all_high : (floor : Option Place) (items : List Item) → are_above floor (map (grouped floor) items) ≡ true
 all_high floor [] = refl
 all_high floor (item ∷ items) = λ k. not (grouped_high floor item k) && all_high floor items k
@@ -76,6 +79,7 @@ whole_grouped floor who (input ∷ inputs) none =
 
 module _ (old new : FlooredParts) (told : List (Option Place)) (now : MemberParts) (is : member_of old told ≡ now) (inputs : List Input)
     (outs : List Output) (result : Result (Unit {0}) RecordError) where
+  -- what a group of the node beneath comes to at a member
   pub group_seen : ((config : Config) (m : NodeState) → FlooredStands config old m → FlooredGroupsAs config m inputs old new outs result)
       → ((config : Config) (m : NodeState) → NodeStands config old.node m → GroupsAs config m inputs old.node new.node outs result)
       → (items : List Item) → inputs ≡ map (grouped now.floored.floor) items → TakesGroup items now (member_of new told) outs result
@@ -149,6 +153,7 @@ pub record HaveTaken (k : ℕ) (marks : List Bool) (items : List Item) (start no
   pub long : length after ≡ length before
   pub who_is : now.floored.node.who ≡ start.floored.node.who
 
+-- nothing was taken of what is set aside
 pub none_yet : (marks : List Bool) (items : List Item) (start : MemberParts) (outs : List Output)
     → HaveTaken 0 marks items start start outs outs
 none_yet marks items start outs = record { so_far = refl; rest = refl; long = refl; who_is = refl }
@@ -161,6 +166,7 @@ one_more {X} xs k x lt read = sym (take_more xs k x lt ∙ ap (λ (y : X). take 
 
 module _ (k : ℕ) (marks : List Bool) (items : List Item) (start now new : MemberParts) (before after : List Output) (mark : Bool)
     (item : Item) (was out : Output) (so : HaveTaken k marks items start now before after) where
+  -- one thing more of it was
   pub one_taken : k < length marks → k < length items → k < length before → mark ≡ get_or marks k mark → item ≡ get_or items k item
       → was ≡ get_or after k was → TakesIf mark item now new was out → new.floored.node.who ≡ now.floored.node.who
       → HaveTaken (k + 1) marks items start new before (set after k out)
@@ -183,6 +189,7 @@ module _ (k : ℕ) (marks : List Bool) (items : List Item) (start now new : Memb
         who_is = who_is ∙ so.who_is;
       }
 
+-- all of it was
 pub all_taken : (k : ℕ) (marks : List Bool) (items : List Item) (start now : MemberParts) (before after : List Output)
     → HaveTaken k marks items start now before after → length marks ≤ k → length items ≤ k → length before ≤ k
     → TakesThose marks items start now before after
@@ -227,6 +234,7 @@ pub record AreSorted (floor : Option Place) (items : List Item) (group : List Ha
   pub group_is : map input_of group ≡ map (grouped floor) items
   pub asides_are : asides ≡ map (is_aside floor) items
 
+-- the group and the marks after one input more
 pub sorted_more : (floor : Option Place) (who : NodeId) (inputs : List Handed) (k : ℕ) (input stands : Handed) (aside : Bool)
     (group more : List Handed) (asides others : List Bool) → k < length inputs → input ≡ get_or inputs k input
     → input_of stands ≡ grouped floor (item_of who input) → aside ≡ is_aside floor (item_of who input) → more ≡ group ++ stands ∷ []
@@ -244,6 +252,7 @@ sorted_more floor who inputs k input stands aside group more asides others lt re
           ∙ ap (map (is_aside floor)) next;
     }
 
+-- all inputs are handed as things
 pub all_items : (who : NodeId) (inputs : List Handed) (k : ℕ) → length inputs ≤ k
     → map (item_of who) (take k inputs) ≡ map (item_of who) inputs
 all_items who inputs k few = ap (map (item_of who)) (take_all k inputs few)
@@ -254,6 +263,7 @@ pub item_there : (who : NodeId) (inputs : List Handed) (k : ℕ) (input : Handed
 item_there who inputs k input lt read =
     ap (item_of who) read ∙ sym (get_or-map (item_of who) inputs k input (item_of who input) lt)
 
+-- where all is marked, each place is
 pub mark_there : (items : List Item) (k : ℕ) → k < length items → true ≡ get_or (map (λ item. true) items) k true
 mark_there [] k lt = absurd (omega (arith, lt))
 mark_there (item ∷ items) zero lt = refl

@@ -171,6 +171,7 @@ entry_again v (Row key value) rest is = row_again key value rest is.valid.0 is.v
 entry_again v (PastCommitted tx) rest is = rw (in_again v tx rest is.named) refl
 entry_again v (PastAborted tx) rest is = rw (in_again v tx rest is.named) refl
 
+-- the body of an entry is taken again
 pub body_again : (v : VersionNumber) (e : Entry) → IsEntryIn (version_of v) e → body_at (body_spelling (version_of v) e) ≡ Some e
 unfolding body_at
 body_again First e is =

@@ -35,6 +35,7 @@ body_has place =
     let e = length-append (number_spelling place.format) (component_spelling place.gtrid) in
     omega (arith, e, number_has_4 place.format)
 
+-- how long a floor's frame is
 pub frame_has : (place : Place) → length (floor_frame place) ≡ 11 + length place.gtrid
 unfolding floor_frame
 frame_has place =
@@ -49,6 +50,7 @@ all_fit [] h i = omega arith
 all_fit (x ∷ xs) h zero = h 0 0 (omega arith)
 all_fit (x ∷ xs) h (suc i) = all_fit xs (λ k d inside. h (suc k) d (omega (arith, inside))) i
 
+-- what was put, one part after the other, is a place
 pub place_put : (a b c d : List ℕ) (place : Place) → b ≡ a ++ number_spelling place.format → c ≡ b ++ length place.gtrid ∷ []
     → d ≡ c ++ place.gtrid → d ≡ a ++ place_spelling place
 place_put a b c d place put_b put_c put_d =
@@ -58,6 +60,7 @@ place_put a b c d place put_b put_c put_d =
     put_d ∙ ap (λ (xs : List ℕ). xs ++ place.gtrid) two ∙ append_assoc a (number ++ length place.gtrid ∷ []) place.gtrid
     ∙ ap (λ (xs : List ℕ). a ++ xs) (append_assoc number (length place.gtrid ∷ []) place.gtrid)
 
+-- and a floor's frame
 pub frame_put : (a b c d e : List ℕ) (place : Place) → b ≡ a ++ number_spelling (7 + length place.gtrid) → c ≡ b ++ 2 ∷ []
     → d ≡ c ++ 13 ∷ [] → e ≡ d ++ place_spelling place → e ≡ a ++ floor_frame place
 unfolding floor_frame
@@ -95,10 +98,12 @@ head_again place rest is =
     ap number_at (append_assoc (number_spelling n) (floor_body place) rest)
     ∙ number_again n (floor_body place ++ rest) (omega (arith, body_has place, is.few))
 
+-- a floor is taken again from the front of its frame
 pub floor_again : (place : Place) (rest : List ℕ) → IsPlace place → floor_at (floor_frame place ++ rest) ≡ Some (place, rest)
 unfolding floor_at
 floor_again place rest is = rw (head_again place rest is, body_again place rest is) refl
 
+-- bytes that begin with a floor's frame have this floor
 pub found : (place : Place) (bytes rest : List ℕ) → IsFloored place bytes rest → floor_at bytes ≡ Some (place, rest)
 found place bytes rest is = ap floor_at is.same ∙ floor_again place rest is.valid
 
@@ -125,6 +130,7 @@ body_spelled len version kind bytes x is e =
           (record { front = named.front; valid = named.valid; sized = eqb-true len (7 + length name.0.gtrid) last.0 })),
     )
 
+-- a floor that is taken stands in its frame
 pub framed : (place : Place) (bytes rest : List ℕ) → IsBytes bytes → floor_at bytes ≡ Some (place, rest) → IsFloored place bytes rest
 unfolding floor_at floor_frame
 framed place bytes rest is e =
@@ -170,6 +176,7 @@ no_entry fields = by (tx_in version_2 fields) refl
     by None e = rw e refl
     by (Some x) e = rw e refl
 
+-- a floor's frame is no entry's
 pub no_frame : (place : Place) (rest : List ℕ) → IsPlace place → HasNoFrame (floor_frame place ++ rest)
 no_frame place rest is =
     let bytes : List ℕ = floor_frame place ++ rest in

@@ -155,9 +155,11 @@ module _ (bytes : List ℕ) (n : ℕ) (rest : List ℕ) (e : number_at bytes ≡
       in-frame v f (inl z) sized few = absurd (omega (arith, z, sized))
       in-frame v f (inr big) sized few = absurd (omega (arith, big, sized, few))
 
+  -- a frame has a length above 0
   pub no_length : n ≡ 0 → HasNoFrame bytes
   no_length z = wrong_length (inl z)
 
+  -- and none that is longer than a body may be
   pub too_long : most_body < n → HasNoFrame bytes
   too_long big = wrong_length (inr big)
 
@@ -173,6 +175,7 @@ module _ (bytes : List ℕ) (n : ℕ) (rest : List ℕ) (e : number_at bytes ≡
         cut = omega (arith, short, len, head.number);
       })
 
+  -- bytes whose body is no entry's have no frame in front
   pub bad_body : n ≤ length rest → body_at (take n rest) ≡ None → HasNoFrame bytes
   bad_body whole none =
       let head = head_of bytes n rest e in
@@ -291,6 +294,7 @@ cut_stored (e ∷ es) bytes tail is =
       (later.0, framed, later.2),
     )
 
+-- bytes without their tail hold the same entries
 pub taken_stored : (entries : List Entry) (bytes tail : List ℕ) → IsStored bytes entries tail
     → IsStored (take (length bytes - length tail) bytes) entries []
 taken_stored entries bytes tail is =
@@ -382,6 +386,7 @@ split_frame bytes n rest body left entry e is whole cut after taken =
     subst (λ (xs : List ℕ). IsFramed entry bytes xs) (sym after)
     (taken_frame bytes n rest (sym e) entry is whole (ap body_at (sym cut) ∙ taken))
 
+-- the same by the length and the body that were read
 pub split_bad : (bytes : List ℕ) (n : ℕ) (rest body : List ℕ) → Some (n, rest) ≡ number_at bytes → n ≤ length rest → body ≡ take n rest
     → body_at body ≡ None → HasNoFrame bytes
 split_bad bytes n rest body e whole cut none = bad_body bytes n rest (sym e) whole (ap body_at (sym cut) ∙ none)

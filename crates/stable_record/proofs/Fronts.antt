@@ -61,6 +61,7 @@ module _ (front : List ℕ) (old new : Held) where
   put_behind next (Err Fault) h = failed_behind (front ++ next) next (drop_at front next (length front) refl) h
   put_behind next (Err Memory) h = ap (behind front) h
 
+  -- what is put behind a front keeps the front
   pub put_begins : (next : List ℕ) (result : Result (Unit {0}) RecordError) → BeginsWith front old.bytes
       → HasPut (front ++ next) old new result → BeginsWith front new.bytes
   put_begins next (Ok done) begins h = record { rest = next; same = ap (λ (r : Held). r.bytes) h }
@@ -77,6 +78,7 @@ module _ (front : List ℕ) (old new : Held) where
       ap (take (len + length front)) begins.same ∙ take_past front begins.rest len
       ∙ ap (λ (xs : List ℕ). front ++ take len xs) (sym (rest_is begins))
 
+  -- a cut behind a front is one of what stands behind it
   pub cut_behind : (len : ℕ) (result : Result (Unit {0}) RecordError) → BeginsWith front old.bytes
       → HasPut (take (len + length front) old.bytes) old new result
       → HasPut (take len (drop (length front) old.bytes)) (behind front old) (behind front new) result
@@ -84,6 +86,7 @@ module _ (front : List ℕ) (old new : Held) where
       put_behind (take len (drop (length front) old.bytes)) result
       (subst (λ (xs : List ℕ). HasPut xs old new result) (cut_is len begins) h)
 
+  -- and keeps the front
   pub cut_begins : (len : ℕ) (result : Result (Unit {0}) RecordError) → BeginsWith front old.bytes
       → HasPut (take (len + length front) old.bytes) old new result → BeginsWith front new.bytes
   cut_begins len result begins h =

@@ -38,6 +38,7 @@ put_bytes next old new (Err Memory) had put h = subst (λ (r : Held). IsBytes r.
 
 -- ---- a floor that was found
 
+-- a record that was read begins with its floor
 pub opened_fronted : (floor : Option Place) (read bytes : List ℕ) → floor ≡ floor_of read → BeginsWith (front_of (floor_of read)) read
     → IsBytes read → read ≡ bytes → IsFloor (floor_of read) → IsFronted true floor bytes
 opened_fronted floor read bytes found begins are_bytes same valid = record {
@@ -52,6 +53,7 @@ module _ (floor : Option Place) (old new : Held) (result : Result (Unit {0}) Rec
   abbrev front : List ℕ
   front = front_of floor
 
+  -- it does so after a cut behind a floor that is known
   pub cut_fronted : (is_known : Bool) (len : ℕ) → is_known ≡ true → IsFronted is_known floor old.bytes
       → HasPut (take (len + length front) old.bytes) old new result → IsFronted is_known floor new.bytes
   cut_fronted true len known fronted h = record {
@@ -63,6 +65,7 @@ module _ (floor : Option Place) (old new : Held) (result : Result (Unit {0}) Rec
   }
   cut_fronted false len known fronted h = absurd (cc (known))
 
+  -- which is a cut of what stands behind the floor
   pub cut_known : (is_known : Bool) (len : ℕ) → is_known ≡ true → IsFronted is_known floor old.bytes
       → HasPut (take (len + length front) old.bytes) old new result
       → HasPut (take len (drop (length (front_of (floor_now is_known floor old.bytes))) old.bytes))
@@ -70,6 +73,7 @@ module _ (floor : Option Place) (old new : Held) (result : Result (Unit {0}) Rec
   cut_known true len known fronted h = cut_behind front old new len result fronted.begins h
   cut_known false len known fronted h = absurd (cc (known))
 
+  -- and after a replacement behind it
   pub put_fronted : (is_known : Bool) (next : List ℕ) → is_known ≡ true → IsFronted is_known floor old.bytes → IsBytes (front ++ next)
       → HasPut (front ++ next) old new result → IsFronted is_known floor new.bytes
   put_fronted true next known fronted put h = record {
@@ -81,11 +85,13 @@ module _ (floor : Option Place) (old new : Held) (result : Result (Unit {0}) Rec
 
 -- ---- a floor that is learned
 
+-- a floor that is known is learned without a look
 pub known_learned : (is_known : Bool) (floor : Option Place) (held : Held) → is_known ≡ true → IsFloor floor
     → HasLearned (standing_behind is_known floor held) (standing_behind is_known floor held) (Ok floor)
 known_learned true floor held known valid = (refl, refl, record { valid = valid; beneath = held.nature.fronts; fronts_are = refl })
 known_learned false floor held known valid = absurd (cc (known))
 
+-- one that is read is known from then on
 pub read_learned : (is_known : Bool) (floor found : Option Place) (old new : Held) → is_known ≡ false → new ≡ old
     → found ≡ floor_of old.bytes → IsFloor found
     → HasLearned (standing_behind is_known floor old) (standing_behind true found new) (Ok found)
@@ -104,6 +110,7 @@ whole_is front held begins = ap (λ (xs : List ℕ). front ++ xs) (rest_is front
 
 module _ (floor : Option Place) (place : Place) (next : List ℕ) (old new : Held) (put : IsBytes (floor_frame place ++ next))
     (valid : IsPlace place) where
+  -- a floor that rose stands in front
   pub risen_fronted : (is_known : Bool) → is_known ≡ true → new ≡ with_bytes (floor_frame place ++ next) old
       → IsFronted is_known (Some place) new.bytes
   risen_fronted true known h = record {
@@ -116,12 +123,14 @@ module _ (floor : Option Place) (place : Place) (next : List ℕ) (old new : Hel
   failed_bytes : IsBytes old.bytes → HasFailed (floor_frame place ++ next) old new → IsBytes new.bytes
   failed_bytes had h = put_bytes (floor_frame place ++ next) old new (Err Fault) had put h
 
+  -- where the replacement failed, the old floor or the new one does, and it isn't known which
   pub failed_fronted : (is_known : Bool) → IsFronted is_known floor old.bytes → HasFailed (floor_frame place ++ next) old new
       → IsFronted false floor new.bytes
   failed_fronted is_known fronted h =
       let are_bytes = failed_bytes fronted.are_bytes h in
       record { begins = begins_with new.bytes are_bytes; are_bytes = are_bytes; valid = fronted.valid }
 
+  -- so the floor failed to rise
   pub failed_rising : (is_known : Bool) → is_known ≡ true → IsFronted is_known floor old.bytes
       → HasFailed (floor_frame place ++ next) old new
       → HasFailedToRise place next (standing_behind is_known floor old) (standing_behind false floor new)
@@ -161,6 +170,7 @@ module _ (place : Place) (next : List ℕ) (old new : BehindParts) (h : HasFaile
       sym (drop_at (front_of new.floor) new.held.bytes (length (front_of new.floor)) refl)
       ∙ (λ i. drop (length (front_of (is i))) (whole i)) ∙ drop_at (front_of floor) rest (length (front_of floor)) refl
 
+  -- what stands there then is the old record or the new one
   pub failed_either : (all : List Entry) (tail : List ℕ) → IsStored old.held.bytes all tail → IsEither place next old new
   failed_either all tail stored = by h.bytes
     where
@@ -172,6 +182,7 @@ module _ (place : Place) (next : List ℕ) (old new : BehindParts) (h : HasFaile
           let is = h.floor_is ∙ ap floor_of same ∙ ap (option_map (λ x. x.0)) (floor_again place next h.valid) in
           inr (is, behind_is (Some place) next is same)
 
+  -- and begins with the floor of that one
   pub failed_fronting : IsEither place next old new → IsFronting new.floor new.held
   failed_fronting either =
       record { valid = by either; beneath = drop 1 old.held.nature.fronts; fronts_are = ap (λ (n : Nature). n.fronts) h.nature }

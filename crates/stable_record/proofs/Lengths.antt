@@ -70,6 +70,7 @@ rest_has v (Committed tx) = refl
 rest_has v (Aborted tx) = refl
 rest_has v (PromiseAll tx ballot) = number_has_4 ballot
 
+-- a frame is its body and four bytes
 pub frame_has : (v : Version) (e : Entry) → length (frame v e) ≡ 4 + length (body_spelling v e)
 frame_has v e =
     omega (
@@ -175,6 +176,7 @@ fields_few v (Row key value) is =
 fields_few v (PastCommitted tx) is = omega (arith, tx_few v tx is)
 fields_few v (PastAborted tx) is = omega (arith, tx_few v tx is)
 
+-- no body is longer than one may be
 pub body_few : (v : VersionNumber) (e : Entry) → IsEntryIn (version_of v) e → length (body_spelling (version_of v) e) ≤ most_body
 body_few v e is = omega (arith, fields_few v e is.valid)
 

@@ -7,6 +7,7 @@ use Rattle.wire.proofs.Loop.{with_front, ends}
 use Rattle.stable_record.specs.declared.fact.Touched.{Touched}
 use Rattle.stable_record.specs.Reading.{touched_at}
 
+-- keys of which one isn't read aren't read
 pub refused : (front : List Touched) (count i : ℕ) (bytes : List ℕ) (total : Option (List Touched × List ℕ)) (e : Refusal) → i < count
     → with_front front (list_at touched_at (count - i) bytes) ≡ total
     → ((e ≡ Damaged) × (touched_at bytes ≡ None)) ⊎ (e ≡ NoMemory) → ((e ≡ Damaged) × (total ≡ None)) ⊎ (e ≡ NoMemory)

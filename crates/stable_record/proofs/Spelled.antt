@@ -31,6 +31,7 @@ use Rattle.stable_record.specs.Facts.{IsKey, IsValue, IsAct, IsTouched, AreKeys,
 use Rattle.stable_record.specs.Grammar.{value_spelling, act_spelling, touched_spelling, keys_spelling}
 use Rattle.stable_record.specs.Reading.{value_at, key_at, act_at, touched_at, are_ascending, keys_at, leader_ballot_at}
 
+-- a value that is taken was spelled there
 pub value_spelled : (bytes : List ℕ) (x : List ℕ × List ℕ) → IsBytes bytes → value_at bytes ≡ Some x
     → IsValue x.0 × Front bytes (value_spelling x.0) x.1
 unfolding value_at
@@ -143,6 +144,7 @@ ascending_spelled (first ∷ second ∷ rest) e =
     let t = both (is_lt (slice_cmp nat_cmp first.key second.key)) (are_ascending (second ∷ rest)) e in
     (less (slice_cmp nat_cmp first.key second.key) t.0, ascending_spelled (second ∷ rest) t.1)
 
+-- touched keys that are taken were
 pub keys_spelled : (bytes : List ℕ) (x : List Touched × List ℕ) → IsBytes bytes → keys_at bytes ≡ Some x
     → AreKeys x.0 × Front bytes (keys_spelling x.0) x.1
 unfolding keys_at
@@ -191,6 +193,7 @@ rm_fits Second bytes x is e =
     let long : 2 ≤ length bytes = grind (arith, nat_tests, t.0) in
     subst (λ (x : ℕ × List ℕ). x.0 < 256 ^ 2) (some_same (big_number 2 bytes, drop 2 bytes) x t.1) (fits_2 bytes is long)
 
+-- and a leader's ballot
 pub leader_ballot_spelled : (bytes : List ℕ) (x : ℕ × List ℕ) → IsBytes bytes → leader_ballot_at bytes ≡ Some x
     → IsLeaderBallot x.0 × Front bytes (number_spelling x.0) x.1
 unfolding leader_ballot_at
@@ -208,6 +211,7 @@ pub record Instance_front (v : VersionNumber) (bytes : List ℕ) (x : ℕ × ℕ
   pub instance : x.0 < 256 ^ (version_of v).rm_width
   pub ballot : IsBallot x.1
 
+-- and an instance with a ballot
 pub instance_spelled : (v : VersionNumber) (bytes : List ℕ) (x : ℕ × ℕ × List ℕ) → IsBytes bytes → instance_at (version_of v) bytes ≡ Some x
     → Instance_front v bytes x
 unfolding instance_at

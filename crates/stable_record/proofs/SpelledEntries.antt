@@ -113,6 +113,7 @@ module _ (v : VersionNumber) (tx : TxParts) (valid : IsTx tx) (bytes : List ℕ)
   as_read : (code n : ℕ) → code ≡ n → Fact_front (version_of v) n tx bytes x → Fact_front (version_of v) code tx bytes x
   as_read code n e front = subst (λ (k : ℕ). Fact_front (version_of v) k tx bytes x) (sym e) front
 
+  -- a fact that is taken was spelled there, by the number of its kind
   pub rest_cases : (code : ℕ) → fact_at (version_of v) code tx bytes ≡ Some x → Fact_front (version_of v) code tx bytes x
   unfolding fact_at
   rest_cases code e =
@@ -201,6 +202,7 @@ pub record Body (bytes : List ℕ) (e : Entry) : Type 0 where
   pub valid : IsEntryIn (version_of version) e
   pub spelled : bytes ≡ body_spelling (version_of version) e
 
+-- an entry that is taken from a body was
 pub body_spelled : (bytes : List ℕ) (e : Entry) → IsBytes bytes → body_at bytes ≡ Some e → Body bytes e
 unfolding body_at
 body_spelled bytes entry is e =

@@ -54,6 +54,7 @@ row_framed old a b c d n key value len ea eb ec ed =
 pub none_written : AreWritten [] []
 none_written = record { bytes_are = refl; stored = (refl, inl (omega arith)) }
 
+-- the frame of one entry more
 pub adds_one : (old new : List ℕ) (entry : Entry) → IsEntry entry → new ≡ old ++ frame version_2 entry → AddsEntries old new (entry ∷ [])
 adds_one old new entry valid is all h = record {
   bytes_are = is ∙ ap (λ (xs : List ℕ). xs ++ frame version_2 entry) h.bytes_are
@@ -71,6 +72,7 @@ pub facts_then : (a b c : List ℕ) (first second : List Fact) → AddsFacts a b
 facts_then a b c first second one two all h =
     subst (λ (fs : List Fact). AreWritten c (map Entry.Fact fs)) (append_assoc all first second) (two (all ++ first) (one all h))
 
+-- the frame of one fact more
 pub facts_one : (old new : List ℕ) (fact : Fact) → IsFact fact → new ≡ old ++ frame version_2 (Entry.Fact fact)
     → AddsFacts old new (fact ∷ [])
 facts_one old new fact valid is all h =
@@ -85,6 +87,7 @@ pub record HasAdded (old new : List ℕ) (rest whole : List Fact) : Type 0 where
   pub adds : AddsFacts old new put
   pub left : put ++ rest ≡ whole
 
+-- so many frames, and those of some facts more
 pub more_added : (old now new : List ℕ) (put one rest whole : List Fact) → AddsFacts old now put → AddsFacts now new one
     → (put ++ one) ++ rest ≡ whole → HasAdded old new rest whole
 more_added old now new put one rest whole before adds left = record {
